@@ -1,0 +1,50 @@
+-- Approval ballots and profiles of them.
+use Rattle.std.specs.Prelude.{ℕ, ◌+◌, ◌^◌, ◌<◌, ◌≤◌, ◌≡◌, Bool, List, [], ◌∷◌, length, replicate, sum_by, count_by, if◌then◌else◌}
+use Rattle.std.specs.List.{AllByRecursion, list_any}
+use Rattle.std.specs.Str.{bytes_eq}
+use Rattle.ballot_base.specs.Lists.{IsIncreasing}
+use Rattle.ballot_base.specs.CandSet.{has_member}
+
+-- a ballot, as the candidates that it approves, and how many voters cast it
+abbrev pub Row : Type 0
+Row = List ℕ × ℕ
+
+-- what contracts see of a profile: the number of candidates, the name of each ([] for none), and the distinct
+-- ballots in the order of their first appearance
+pub record Election : Type 0 where
+  pub m : ℕ
+  pub names : List (List ℕ)
+  pub rows : List Row
+
+-- the election of m candidates without names, with these rows
+abbrev pub election : ℕ → List Row → Election
+election m rows = record { m = m; names = replicate m []; rows = rows }
+
+-- how many candidates stand on the ballot and in the committee
+-- (Lackner and Skowron, Multi-Winner Voting with Approval Preferences)
+abbrev pub hits : List ℕ → List ℕ → ℕ
+hits ballot committee = count_by (has_member committee) ballot
+
+-- how many voters there are
+abbrev pub voter_count : List Row → ℕ
+voter_count rows = sum_by (λ row. row.1) rows
+
+-- whether some voter cast this ballot
+abbrev pub has_ballot : List Row → List ℕ → Bool
+has_ballot rows ballot = list_any (λ row. bytes_eq row.0 ballot) rows
+
+-- The rows with `count` voters more who cast this ballot: a ballot that is there keeps its place, and a new one
+-- comes last.
+abbrev pub with_votes : List Row → List ℕ → ℕ → List Row
+with_votes [] ballot count = (ballot, count) ∷ []
+with_votes (row ∷ rows) ballot count =
+    if bytes_eq row.0 ballot then (row.0, row.1 + count) ∷ rows else row ∷ with_votes rows ballot count
+
+-- What is true of every profile, and of every one that is being built.
+pub record IsElection (e : Election) : Type 0 where
+  pub least : 1 ≤ e.m
+  pub most : e.m ≤ 40
+  pub names : length e.names ≡ e.m
+  pub ballots : AllByRecursion (λ row. IsIncreasing 1 e.m row.0) e.rows
+  pub counts : AllByRecursion (λ row. 0 < row.1) e.rows
+  pub voters : voter_count e.rows ≤ 2 ^ 32

@@ -1,0 +1,4 @@
+pub mod Lists
+pub mod CandSet
+pub mod Ballots
+pub mod Subsets

@@ -1,0 +1,10 @@
+//! Sets of candidates, profiles of approval ballots, and committees in lexicographic order.
+#![tactic(auto)]
+
+pub mod cand_set;
+pub mod profile;
+pub mod subsets;
+
+pub use cand_set::CandSet;
+pub use profile::{AddFault, FinishFault, Profile, ProfileBuilder};
+pub use subsets::KSets;

@@ -1,0 +1,150 @@
+//! Profiles of approval ballots.
+ghost use Rattle.std.specs.Prelude.{◌≡◌, ℕ, ◌+◌, ◌^◌, ◌<◌, ◌≤◌, ◌↔◌, List, [], false, length, replicate, slice_get, Some, Err, IfOk, IfErr, IsErr, OnOk, OnErr};
+ghost use Rattle.ballot_base.specs.Lists.{IsIncreasing};
+ghost use Rattle.ballot_base.specs.Ballots.{Election, IsElection, voter_count, has_ballot, with_votes, election};
+
+use crate::cand_set::CandSet;
+use indexmap::IndexMap;
+use std::alloc::{AllocError, Allocator, Global};
+use std::hash::{BuildHasherDefault, FoldHasher};
+use std::marker::Model;
+
+/// The most voters that a profile has: 2^32.
+const MOST_VOTERS: u64 = 4_294_967_296;
+
+/// Why a ballot was not added.
+#[derive(Clone, Copy, Debug, PartialEq, Eq)]
+pub enum AddFault {
+    /// There would be more than 4,294,967,296 voters.
+    TooManyVoters,
+    /// A growth was refused.
+    Memory,
+}
+
+/// Why no profile could be made.
+#[derive(Clone, Copy, Debug, PartialEq, Eq)]
+pub enum FinishFault {
+    /// No ballot was added.
+    NoVoters,
+}
+
+/// A profile that ballots are added to.
+#[derive(Drop)]
+pub struct ProfileBuilder<A: Allocator + Copy = Global> {
+    m: u8,
+    voters: u64,
+    rows: IndexMap<CandSet, u64, BuildHasherDefault<FoldHasher>, A>,
+}
+
+impl<A: Allocator + Copy> Model for ProfileBuilder<A> {
+    ghost use Rattle.std.specs.Prelude.{◌≡◌, ◌≤◌, [], replicate};
+    ghost use Rattle.ballot_base.specs.Ballots.{Election, IsElection, voter_count, election};
+
+    ghost Value = { Election };
+
+    ghost view = { λ b. election b.m b.rows.entries };
+
+    ghost invariant = { λ b. IsElection (election b.m b.rows.entries) × (b.voters ≡ voter_count b.rows.entries) };
+}
+
+impl<A: Allocator + Copy + Drop> ProfileBuilder<A> {
+    /// No ballot yet, for m candidates without names.
+    pub fn new(alloc: A, m: u8) -> Result<ProfileBuilder<A>, AllocError>
+        requires some { 1 ≤ m }
+        requires most { m ≤ 40 }
+        ensures { IfOk result (λ builder. builder ≡ election m []) }
+    {
+        Ok(ProfileBuilder {
+            m,
+            voters: 0,
+            rows: IndexMap::new(alloc),
+        })
+    }
+
+    /// Adds `count` voters who approve just these candidates. A ballot that is there keeps its place and takes no
+    /// memory; a new one comes last. After a refusal the builder is as it was.
+    pub fn add(&mut self, set: CandSet, count: u64) -> Result<(), AddFault>
+        requires ballot { IsIncreasing 1 self.old.m set }
+        requires voters { 1 ≤ count }
+        ensures ok { OnOk result (self.new ≡ record self.old { rows = with_votes self.old.rows set count }) }
+        ensures too_many { (result ≡ Err AddFault.TooManyVoters) ↔ (2 ^ 32 < voter_count self.old.rows + count) }
+        ensures memory { result ≡ Err AddFault.Memory → has_ballot self.old.rows set ≡ false }
+        ensures err { OnErr result (self.new ≡ self.old) }
+        ensures valid { IsElection self.new }
+    {
+        if count > MOST_VOTERS - self.voters {
+            return Err(AddFault::TooManyVoters);
+        }
+        Err(AddFault::Memory)
+    }
+
+    /// The profile of the ballots that were added. Without any the builder comes back as it was. It takes no memory.
+    pub fn finish(self) -> Result<Profile<A>, (FinishFault, ProfileBuilder<A>)>
+        ensures ok { IfOk result (λ profile. profile ≡ self) }
+        ensures err { IfErr result (λ back. (back.0 ≡ FinishFault.NoVoters) × (back.1 ≡ self)) }
+        ensures empty { IsErr result ↔ (self.rows ≡ []) }
+    {
+        if self.rows.is_empty() {
+            return Err((FinishFault::NoVoters, self));
+        }
+        let ProfileBuilder { m, voters, rows } = self;
+        Ok(Profile { m, voters, rows })
+    }
+}
+
+/// A profile of approval ballots: at least one voter, and at most 4,294,967,296, over the candidates 1 to m.
+#[derive(Drop)]
+pub struct Profile<A: Allocator + Copy = Global> {
+    m: u8,
+    voters: u64,
+    rows: IndexMap<CandSet, u64, BuildHasherDefault<FoldHasher>, A>,
+}
+
+impl<A: Allocator + Copy> Model for Profile<A> {
+    ghost use Rattle.std.specs.Prelude.{◌≡◌, ◌≢◌, []};
+    ghost use Rattle.ballot_base.specs.Ballots.{Election, IsElection, voter_count, election};
+
+    ghost Value = { Election };
+
+    ghost view = { λ b. election b.m b.rows.entries };
+
+    ghost invariant = { λ b. IsElection (election b.m b.rows.entries) × (b.voters ≡ voter_count b.rows.entries) × (b.rows.entries ≢ []) };
+}
+
+impl<A: Allocator + Copy> Profile<A> {
+    /// The number of candidates, 1 to 40.
+    pub fn m(&self) -> u8
+        ensures value { result ≡ self.now.m }
+        ensures valid { IsElection self.now }
+    {
+        self.m
+    }
+
+    /// The number of different ballots, at least 1.
+    pub fn rows(&self) -> usize
+        ensures value { result ≡ length self.now.rows }
+        ensures some { 1 ≤ result }
+    {
+        self.rows.len()
+    }
+
+    /// The ballot at a place in the order of first appearance, counted from 0, and how many voters cast it.
+    pub fn row(&self, i: usize) -> (CandSet, u64)
+        requires { i < length self.now.rows }
+        ensures { slice_get self.now.rows i ≡ Some result }
+    {
+        match self.rows.get_index(i) {
+            Some((set, count)) => (*set, *count),
+            None => unreachable!(),
+        }
+    }
+
+    /// The number of voters, 1 to 4,294,967,296.
+    pub fn voters(&self) -> u64
+        ensures value { result ≡ voter_count self.now.rows }
+        ensures some { 1 ≤ result }
+        ensures most { result ≤ 2 ^ 32 }
+    {
+        self.voters
+    }
+}
