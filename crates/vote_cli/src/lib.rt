@@ -1,0 +1,6 @@
+//! The library behind the program `committees`: words, input, answers and statuses.
+#![tactic(auto)]
+
+pub mod device;
+
+pub use device::{Device, Sink, Source, Told};
