@@ -2,5 +2,6 @@
 #![tactic(auto)]
 
 pub mod device;
+mod printing;
 
 pub use device::{Device, Sink, Source, Told};
