@@ -1,2 +1,3 @@
 pub mod Device
 pub mod Printing
+pub mod Status

@@ -2,6 +2,9 @@
 #![tactic(auto)]
 
 pub mod device;
+mod input;
 mod printing;
+pub mod status;
 
 pub use device::{Device, Sink, Source, Told};
+pub use status::Status;

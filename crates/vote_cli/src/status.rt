@@ -1,0 +1,36 @@
+//! How a run ended.
+ghost use Rattle.std.specs.Prelude.{◌≡◌};
+ghost use Rattle.vote_cli.specs.Status.{code_of};
+
+/// How a run ended.
+#[derive(Clone, Copy, Debug, PartialEq, Eq)]
+pub enum Status {
+    /// The answer was written.
+    Answered,
+    /// A property is violated, and the report was written.
+    Violated,
+    /// The input was refused.
+    InputRefused,
+    /// The request was refused against the input.
+    RequestRefused,
+    /// A growth was refused.
+    NoMemory,
+    /// A read or a write failed.
+    DeviceFailed,
+}
+
+impl Status {
+    /// The exit status of the program. 2, for words that were refused, is the program's alone.
+    pub fn code(&self) -> u8
+        ensures { result ≡ code_of self.now }
+    {
+        match self {
+            Status::Answered => 0,
+            Status::Violated => 1,
+            Status::InputRefused => 3,
+            Status::RequestRefused => 4,
+            Status::NoMemory => 5,
+            Status::DeviceFailed => 6,
+        }
+    }
+}
