@@ -1,11 +1,15 @@
 -- A set of candidates, as the increasing list of its members.
-use Rattle.std.specs.Prelude.{◌≡◌, ℕ, ◌-◌, ◌^◌, ◌==◌, Bool, not, List, [], ◌∷◌, filter, sum_by, nat_lt, if◌then◌else◌, option_map, Option}
+use Rattle.std.specs.Prelude.{ℕ, ◌-◌, ◌^◌, ◌==◌, Bool, not, List, [], ◌∷◌, filter, sum_by, nat_lt, if◌then◌else◌}
 use Rattle.std.specs.List.{list_any, range_with_len}
 use Rattle.std.specs.Int.{bit_at}
 
--- the members of the set that a word stands for: n is one where bit n - 1 is 1
+-- those of the `count` numbers from `first` on that a word has: n is one where bit n - 1 is 1
+unfoldable pub members_among : ℕ → ℕ → ℕ → List ℕ
+members_among first count bits = filter (λ n. bit_at bits (n - 1) == 1) (range_with_len first count)
+
+-- the members of the set that a word stands for, of the numbers 1 to 40
 unfoldable pub members : ℕ → List ℕ
-members bits = filter (λ n. bit_at bits (n - 1) == 1) (range_with_len 1 40)
+members bits = members_among 1 40 bits
 
 -- the word of a list of members
 abbrev pub word_of : List ℕ → ℕ

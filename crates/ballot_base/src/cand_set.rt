@@ -9,6 +9,7 @@ use std::cmp::Ordering;
 use std::marker::Model;
 
 /// A set of candidates, numbered from 1 to 40. Contracts see the increasing list of its members.
+#[tactic(auto, using(crate::specs::Words::word_of_members))]
 #[derive(Clone, Copy, PartialEq, Eq, Hash)]
 pub struct CandSet {
     bits: u64,
@@ -17,6 +18,8 @@ pub struct CandSet {
 impl Model for CandSet {
     ghost use Rattle.std.specs.Prelude.{ℕ, ◌^◌, ◌<◌, List};
     ghost use Rattle.ballot_base.specs.CandSet.{members, word_of};
+    ghost use Rattle.std.proofs.Common.{ap};
+    ghost use Rattle.ballot_base.specs.Words.{word_of_members};
 
     ghost Value = { List ℕ };
 
@@ -26,7 +29,7 @@ impl Model for CandSet {
 
     ghost inverse = { λ set. record { bits = word_of set } };
 
-    ghost inverse_ok = { λ set h. ? };
+    ghost inverse_ok = { λ set h. ap (λ (n : ℕ). record { bits = n }) (word_of_members set.bits h) };
 }
 
 impl CandSet {

@@ -1,0 +1,131 @@
+-- The members of a word: an increasing list, in which a number stands where its bit is 1.
+use Rattle.std.proofs.Common.{◌≡◌, ℕ, zero, suc, ◌+◌, ◌-◌, ◌*◌, ◌/◌, ◌%◌, ◌^◌, ◌<◌, ◌≤◌, ◌==◌, ◌||◌, ◌⊎◌, Bool, true, false, cond, List, [], ◌∷◌, refl, sym, ap, ◌∙◌, subst, arith, inl, inr, length, filter, add-one}
+use Rattle.std.specs.List.{range_with_len}
+use Rattle.std.specs.Int.{bit_at}
+use Rattle.std.proofs.lemmas.Bool.{eq-eqb, eqb-true, ne_eqb, cases_eq, cases_order, cases_lt, cases_Bool, or_left, or_right}
+use Rattle.std.proofs.lemmas.Bool.Decides.{same_from_decides}
+use Rattle.std.specs.Bool.{Decides}
+use Rattle.std.specs.Str.{bytes_eq}
+use Rattle.std.specs.Cmp.Lexicographic.{bytes_decides}
+use Rattle.std.proofs.lemmas.List.Sums.{sum_by-cons}
+use Rattle.std.proofs.lemmas.Nat.{pow_pos, pow_below, pow-add}
+use Rattle.std.proofs.lemmas.Nat.Bits.{bit_at-zero, bit_at-pow_same, bit_at-pow_other, bit_at_cat_low, bit_at_cat_high}
+use Rattle.ballot_base.specs.Lists.{IsIncreasing}
+use Rattle.ballot_base.specs.CandSet.{members_among, members, word_of, has_member}
+use Rattle.ballot_base.specs.Words.{word_of_members}
+use Rattle.ballot_base.proofs.Increasing.{IsIncreasing-lower, has_member-below, has_member-above, has_member_head, has_member_tail, same_increasing}
+
+-- the members from a number on, by its bit
+pub members_among_yes : (first count bits : ℕ) → bit_at bits (first - 1) ≡ 1 → members_among first (suc count) bits ≡ first ∷ members_among (first + 1) count bits
+unfolding members_among
+members_among_yes first count bits h = rw (eq-eqb (bit_at bits (first - 1)) 1 h)
+
+pub members_among_no : (first count bits : ℕ) → (bit_at bits (first - 1) ≡ 1 → ⊥) → members_among first (suc count) bits ≡ members_among (first + 1) count bits
+unfolding members_among
+members_among_no first count bits h = rw (ne_eqb (bit_at bits (first - 1)) 1 h)
+
+pub members_among_none : (first bits : ℕ) → members_among first 0 bits ≡ []
+unfolding members_among
+members_among_none first bits = refl
+
+pub IsIncreasing-members_among : (first count last bits : ℕ) → first + count ≤ last + 1 → IsIncreasing first last (members_among first count bits)
+IsIncreasing-members_among first zero last bits h = rw members_among_none tt
+IsIncreasing-members_among first (suc count) last bits h =
+    let rest : IsIncreasing (first + 1) last (members_among (first + 1) count bits) = IsIncreasing-members_among (first + 1) count last bits (omega arith) in
+    elim (cases_eq (bit_at bits (first - 1)) 1) [
+      inl one ↦ rw (members_among_yes first count bits one) (omega arith, omega arith, rest)
+    | inr other ↦ rw (members_among_no first count bits other) (IsIncreasing-lower first (first + 1) last _ (omega arith) rest)
+    ]
+
+pub has_member-members_among : (first count bits n : ℕ) → first ≤ n → n < first + count → has_member (members_among first count bits) n ≡ (bit_at bits (n - 1) == 1)
+has_member-members_among first zero bits n low high = absurd (omega arith)
+has_member-members_among first (suc count) bits n low high =
+    let inc = IsIncreasing-members_among (first + 1) count (first + count) bits (omega arith) in
+    elim (cases_eq first n) [
+      inl e ↦ subst (λ k. has_member (members_among first (suc count) bits) k ≡ (bit_at bits (k - 1) == 1)) e
+        (elim (cases_eq (bit_at bits (first - 1)) 1) [
+          inl one ↦ rw (members_among_yes first count bits one, eq-eqb (bit_at bits (first - 1)) 1 one) (has_member_head first (members_among (first + 1) count bits))
+        | inr other ↦ rw (members_among_no first count bits other, ne_eqb (bit_at bits (first - 1)) 1 other) (has_member-below (first + 1) (first + count) (members_among (first + 1) count bits) first inc (omega arith))
+        ])
+    | inr d ↦
+        let rest = has_member-members_among (first + 1) count bits n (omega arith) (omega arith) in
+        elim (cases_eq (bit_at bits (first - 1)) 1) [
+          inl one ↦ rw (members_among_yes first count bits one) (has_member_tail first n (members_among (first + 1) count bits) d ∙ rest)
+        | inr other ↦ rw (members_among_no first count bits other) rest
+        ]
+    ]
+
+pub IsIncreasing-members : (bits : ℕ) → IsIncreasing 1 40 (members bits)
+unfolding members
+IsIncreasing-members bits = IsIncreasing-members_among 1 40 40 bits (omega arith)
+
+pub has_member-members : (bits n : ℕ) → 1 ≤ n → n ≤ 40 → has_member (members bits) n ≡ (bit_at bits (n - 1) == 1)
+unfolding members
+has_member-members bits n low high = has_member-members_among 1 40 bits n low (omega arith)
+
+pub members_none : members 0 ≡ []
+unfolding members members_among
+members_none = refl
+
+-- numbers above first make a multiple of 2 ^ first
+word_above : (first last : ℕ) (set : List ℕ) → IsIncreasing (first + 1) last set → (k : ℕ) × (word_of set ≡ k * 2 ^ first)
+word_above first last [] i = (0, omega arith)
+word_above first last (n ∷ rest) i =
+    let above = word_above n last rest i.2 in
+    let low : 2 ^ (n - 1) ≡ 2 ^ (n - 1 - first) * 2 ^ first = let e : n - 1 - first + first ≡ n - 1 = omega (arith, i.0) in subst (λ m. 2 ^ m ≡ 2 ^ (n - 1 - first) * 2 ^ first) e (pow-add 2 (n - 1 - first) first) in
+    let high : 2 ^ n ≡ 2 ^ (n - first) * 2 ^ first = let e : n - first + first ≡ n = omega (arith, i.0) in subst (λ m. 2 ^ m ≡ 2 ^ (n - first) * 2 ^ first) e (pow-add 2 (n - first) first) in
+    (2 ^ (n - 1 - first) + above.0 * 2 ^ (n - first),
+     sum_by-cons (λ m. 2 ^ (m - 1)) n rest ∙ (rw (above.1, low, high) (omega arith)))
+
+word_of-cons : (last n : ℕ) (rest : List ℕ) → IsIncreasing (n + 1) last rest → (k : ℕ) × (word_of (n ∷ rest) ≡ k * 2 ^ n + 2 ^ (n - 1)) × (word_of rest ≡ k * 2 ^ n)
+word_of-cons last n rest i =
+    let above = word_above n last rest i in
+    (above.0, sum_by-cons (λ m. 2 ^ (m - 1)) n rest ∙ omega (arith, above.1), above.1)
+
+pub bit_at-word_of : (first last : ℕ) (set : List ℕ) (n : ℕ) → 1 ≤ first → 1 ≤ n → IsIncreasing first last set → (bit_at (word_of set) (n - 1) == 1) ≡ has_member set n
+bit_at-word_of first last [] n f l i = rw bit_at-zero
+bit_at-word_of first last (x ∷ rest) n f l i =
+    let w = word_of-cons last x rest i.2 in
+    let below : 2 ^ (x - 1) < 2 ^ x = pow_below (x - 1) x (omega (arith, i.0)) in
+    elim (cases_order n x) [
+      inl e ↦
+        let one : bit_at (word_of (x ∷ rest)) (n - 1) ≡ 1 =
+            ap (λ m. bit_at m (n - 1)) w.1 ∙ (bit_at_cat_low w.0 x (2 ^ (x - 1)) (n - 1) (omega (arith, e, i.0)) ∙ (ap (λ m. bit_at (2 ^ (x - 1)) (m - 1)) e ∙ bit_at-pow_same (x - 1))) in
+        eq-eqb (bit_at (word_of (x ∷ rest)) (n - 1)) 1 one ∙ sym (or_left (x == n) (has_member rest n) (eq-eqb x n (sym e)))
+    | inr d ↦ elim d [
+        inl less ↦
+          let none : bit_at (word_of (x ∷ rest)) (n - 1) ≡ 0 =
+              ap (λ m. bit_at m (n - 1)) w.1 ∙ (bit_at_cat_low w.0 x (2 ^ (x - 1)) (n - 1) (omega arith) ∙ bit_at-pow_other (x - 1) (n - 1) (λ e. omega (arith, e, less, l))) in
+          ne_eqb (bit_at (word_of (x ∷ rest)) (n - 1)) 1 (λ e. omega (arith, none, e)) ∙ sym (has_member-below x last (x ∷ rest) n (omega arith, i.1, i.2) less)
+      | inr more ↦
+          let same : bit_at (word_of (x ∷ rest)) (n - 1) ≡ bit_at (word_of rest) (n - 1) =
+              ap (λ m. bit_at m (n - 1)) w.1 ∙ (bit_at_cat_high w.0 x (2 ^ (x - 1)) (n - 1) below (omega arith)
+              ∙ sym (ap (λ m. bit_at m (n - 1)) (w.2 ∙ omega arith) ∙ bit_at_cat_high w.0 x 0 (n - 1) (pow_pos x) (omega arith))) in
+          ap (λ b. b == 1) same ∙ (bit_at-word_of (x + 1) last rest n (omega arith) l i.2 ∙ sym (has_member_tail x n rest (λ e. omega (arith, e, more))))
+      ]
+    ]
+
+-- an increasing list of numbers from 1 to 40 is found back from its word
+pub members-word_of : (set : List ℕ) → IsIncreasing 1 40 set → members (word_of set) ≡ set
+members-word_of set i =
+    let inc = IsIncreasing-members (word_of set) in
+    same_increasing 1 40 (members (word_of set)) set inc i (λ n.
+      elim (cases_lt n 1) [
+        inl low ↦ has_member-below 1 40 (members (word_of set)) n inc low ∙ sym (has_member-below 1 40 set n i low)
+      | inr from ↦ elim (cases_lt 40 n) [
+          inl high ↦ has_member-above 1 40 (members (word_of set)) n inc high ∙ sym (has_member-above 1 40 set n i high)
+        | inr to ↦ has_member-members (word_of set) n from to ∙ bit_at-word_of 1 40 set n (omega arith) from i
+        ]
+      ])
+
+-- equality of the words is equality of the sets
+pub same_from_word_of : (set other : List ℕ) → IsIncreasing 1 40 set → IsIncreasing 1 40 other → word_of set ≡ word_of other → set ≡ other
+same_from_word_of set other i j e = sym (members-word_of set i) ∙ (ap members e ∙ members-word_of other j)
+
+pub Decides-word_of : (set other : List ℕ) → IsIncreasing 1 40 set → IsIncreasing 1 40 other → Decides (word_of set == word_of other) (set ≡ other)
+Decides-word_of set other i j =
+    (λ e. same_from_word_of set other i j (eqb-true (word_of set) (word_of other) e), λ e. eq-eqb (word_of set) (word_of other) (ap word_of e))
+
+pub eqb-word_of : (set other : List ℕ) → IsIncreasing 1 40 set → IsIncreasing 1 40 other → (word_of set == word_of other) ≡ bytes_eq set other
+eqb-word_of set other i j =
+    same_from_decides (word_of set == word_of other) (bytes_eq set other) (Decides-word_of set other i j) (bytes_decides set other)
