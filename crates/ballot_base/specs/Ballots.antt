@@ -31,14 +31,14 @@ voter_count rows = sum_by (λ row. row.1) rows
 
 -- whether some voter cast this ballot
 abbrev pub has_ballot : List Row → List ℕ → Bool
-has_ballot rows ballot = list_any (λ row. bytes_eq row.0 ballot) rows
+has_ballot rows ballot = list_any (λ row. bytes_eq ballot row.0) rows
 
 -- The rows with `count` voters more who cast this ballot: a ballot that is there keeps its place, and a new one
 -- comes last.
 abbrev pub with_votes : List Row → List ℕ → ℕ → List Row
 with_votes [] ballot count = (ballot, count) ∷ []
 with_votes (row ∷ rows) ballot count =
-    if bytes_eq row.0 ballot then (row.0, row.1 + count) ∷ rows else row ∷ with_votes rows ballot count
+    if bytes_eq ballot row.0 then (row.0, row.1 + count) ∷ rows else row ∷ with_votes rows ballot count
 
 -- What is true of every profile, and of every one that is being built.
 pub record IsElection (e : Election) : Type 0 where

@@ -1,5 +1,6 @@
 //! Profiles of approval ballots.
 ghost use Rattle.std.specs.Prelude.{◌≡◌, ℕ, ◌+◌, ◌^◌, ◌<◌, ◌≤◌, ◌↔◌, List, [], false, length, replicate, slice_get, Some, Err, IfOk, IfErr, IsErr, OnOk, OnErr};
+ghost use Rattle.std.specs.List.{AllByRecursion};
 ghost use Rattle.ballot_base.specs.Lists.{IsIncreasing};
 ghost use Rattle.ballot_base.specs.Ballots.{Election, IsElection, voter_count, has_ballot, with_votes, election};
 
@@ -11,6 +12,9 @@ use std::marker::Model;
 
 /// The most voters that a profile has: 2^32.
 const MOST_VOTERS: u64 = 4_294_967_296;
+
+/// The ballots in the order of their first appearance, each with its voters.
+type Rows<A> = IndexMap<CandSet, u64, BuildHasherDefault<FoldHasher>, A>;
 
 /// Why a ballot was not added.
 #[derive(Clone, Copy, Debug, PartialEq, Eq)]
@@ -33,7 +37,7 @@ pub enum FinishFault {
 pub struct ProfileBuilder<A: Allocator + Copy = Global> {
     m: u8,
     voters: u64,
-    rows: IndexMap<CandSet, u64, BuildHasherDefault<FoldHasher>, A>,
+    rows: Rows<A>,
 }
 
 impl<A: Allocator + Copy> Model for ProfileBuilder<A> {
@@ -75,7 +79,13 @@ impl<A: Allocator + Copy + Drop> ProfileBuilder<A> {
         if count > MOST_VOTERS - self.voters {
             return Err(AddFault::TooManyVoters);
         }
-        Err(AddFault::Memory)
+        match put(&mut self.rows, set, count) {
+            Ok(()) => {
+                self.voters += count;
+                Ok(())
+            }
+            Err(_) => Err(AddFault::Memory),
+        }
     }
 
     /// The profile of the ballots that were added. Without any the builder comes back as it was. It takes no memory.
@@ -92,12 +102,35 @@ impl<A: Allocator + Copy + Drop> ProfileBuilder<A> {
     }
 }
 
+/// Adds votes to the ballot's row, by one look-up.
+fn put<A: Allocator + Copy>(
+    rows: &mut Rows<A>,
+    ballot: CandSet,
+    count: u64,
+) -> Result<(), AllocError>
+    requires ballots { AllByRecursion (λ row. IsIncreasing 1 40 row.0) rows.old.entries }
+    requires ballot { IsIncreasing 1 40 ballot }
+    requires room { voter_count rows.old.entries + count ≤ 2 ^ 32 }
+    ensures ok { OnOk result (rows.new.entries ≡ with_votes rows.old.entries ballot count) }
+    ensures err { OnErr result (rows.new.entries ≡ rows.old.entries) }
+    ensures new { OnErr result (has_ballot rows.old.entries ballot ≡ false) }
+{
+    match rows.insert_full(ballot, count) {
+        Ok((place, Some(before))) => {
+            rows[place] = before + count;
+            Ok(())
+        }
+        Ok((_, None)) => Ok(()),
+        Err(_) => Err(AllocError),
+    }
+}
+
 /// A profile of approval ballots: at least one voter, and at most 4,294,967,296, over the candidates 1 to m.
 #[derive(Drop)]
 pub struct Profile<A: Allocator + Copy = Global> {
     m: u8,
     voters: u64,
-    rows: IndexMap<CandSet, u64, BuildHasherDefault<FoldHasher>, A>,
+    rows: Rows<A>,
 }
 
 impl<A: Allocator + Copy> Model for Profile<A> {

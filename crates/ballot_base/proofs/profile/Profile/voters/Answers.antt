@@ -1,0 +1,6 @@
+use Rattle.std.proofs.Common.{arith}
+use Rattle.ballot_base.proofs.Rows.{some_voter}
+use Rattle.ballot_base.proofs.profile.Profile.voters.Goals as goal
+
+pub returns-clause-some : goal.returns-clause-some
+returns-clause-some g c = rw c.self.invariant.1 (some_voter c.self.inside.rows.entries c.self.invariant.0.counts c.self.invariant.2)
