@@ -1,2 +1,3 @@
 pub mod Increasing
 pub mod Members
+pub mod FirstMember
