@@ -1,10 +1,9 @@
 -- Increasing lists: which numbers they have, and that those decide the list.
-use Rattle.std.proofs.Common.{◌≡◌, ℕ, ◌+◌, ◌<◌, ◌≤◌, ◌==◌, ◌||◌, ◌⊎◌, Bool, true, false, List, [], ◌∷◌, refl, sym, ap, ◌∙◌, arith, inl, inr, length}
-use Rattle.std.specs.Prelude.{⊤}
-use Rattle.std.proofs.lemmas.Bool.{eq-eqb, ne_eqb, cases_order, cases_lt, or_left, or_right}
-use Rattle.std.proofs.lemmas.Bool.Decides.{nat_tests}
+use Rattle.std.proofs.Common.{◌≡◌, ℕ, ◌+◌, ◌<◌, ◌≤◌, ◌==◌, ◌||◌, ◌&&◌, ◌⊎◌, Bool, true, false, cond, List, [], ◌∷◌, refl, sym, ap, ◌∙◌, arith, inl, inr, length, filter}
+use Rattle.std.proofs.lemmas.Map.Views.{any-filter_same}
+use Rattle.std.proofs.lemmas.Bool.{eq-eqb, eqb-true, ne_eqb, lt-ltb, le-ltb, cases_order, cases_lt, or_left}
 use Rattle.ballot_base.specs.Lists.{IsIncreasing}
-use Rattle.ballot_base.specs.CandSet.{has_member}
+use Rattle.ballot_base.specs.CandSet.{has_member, with_member}
 
 pub IsIncreasing-lower : (low first last : ℕ) (xs : List ℕ) → low ≤ first → IsIncreasing first last xs → IsIncreasing low last xs
 IsIncreasing-lower low first last [] h i = i
@@ -30,6 +29,15 @@ has_member_head x xs = or_left (x == x) (has_member xs x) (eq-eqb x x refl)
 pub has_member_tail : (x n : ℕ) (xs : List ℕ) → (x ≡ n → ⊥) → has_member (x ∷ xs) n ≡ has_member xs n
 has_member_tail x n xs h = rw (ne_eqb x n h)
 
+or_twice : (a b : Bool) → (a || b) ≡ (a || (a || b))
+or_twice true b = refl
+or_twice false b = refl
+
+or_turned : (a b c : Bool) → (a || (b || c)) ≡ (b || (a || c))
+or_turned true true c = refl
+or_turned true false c = refl
+or_turned false b c = refl
+
 -- two increasing lists with the same numbers are equal
 pub same_increasing : (first last : ℕ) (xs ys : List ℕ) → IsIncreasing first last xs → IsIncreasing first last ys → ((n : ℕ) → has_member xs n ≡ has_member ys n) → xs ≡ ys
 same_increasing first last [] [] i j h = refl
@@ -52,5 +60,50 @@ same_increasing first last (x ∷ xs) (y ∷ ys) i j h =
           let a : true ≡ false = sym (has_member_head x xs) ∙ (h x ∙ has_member-below y last (y ∷ ys) x (omega arith, j.1, j.2) low) in cc
       | inr high ↦
           let a : true ≡ false = sym (has_member_head y ys) ∙ (sym (h y) ∙ has_member-below x last (x ∷ xs) y (omega arith, i.1, i.2) high) in cc
+      ]
+    ]
+
+-- what a filter keeps
+pub has_member-filter : (p : ℕ → Bool) (set : List ℕ) (n : ℕ) → has_member (filter p set) n ≡ (p n && has_member set n)
+has_member-filter p set n = any-filter_same (λ x. x == n) p (p n) (λ x e. ap p (eqb-true x n e)) set
+
+pub IsIncreasing-filter : (p : ℕ → Bool) (first last : ℕ) (set : List ℕ) → IsIncreasing first last set → IsIncreasing first last (filter p set)
+IsIncreasing-filter p first last [] i = i
+IsIncreasing-filter p first last (x ∷ xs) i =
+    let rest = IsIncreasing-filter p (x + 1) last xs i.2 in
+    elim (p x) as (λ b. IsIncreasing first last (cond b (x ∷ filter p xs) (filter p xs))) [
+      true ↦ (i.0, i.1, rest)
+    | false ↦ IsIncreasing-lower first (x + 1) last (filter p xs) (omega (arith, i.0)) rest
+    ]
+
+-- what an insertion adds
+pub with_member-lt : (x : ℕ) (xs : List ℕ) (n : ℕ) → n < x → with_member (x ∷ xs) n ≡ n ∷ x ∷ xs
+with_member-lt x xs n h = rw (lt-ltb n x h)
+
+pub with_member-eq : (x : ℕ) (xs : List ℕ) (n : ℕ) → n ≡ x → with_member (x ∷ xs) n ≡ x ∷ xs
+with_member-eq x xs n h = rw (le-ltb n x (omega (arith, h)), eq-eqb n x h)
+
+pub with_member-gt : (x : ℕ) (xs : List ℕ) (n : ℕ) → x < n → with_member (x ∷ xs) n ≡ x ∷ with_member xs n
+with_member-gt x xs n h = rw (le-ltb n x (omega arith), ne_eqb n x (λ e. omega arith))
+
+pub has_member-with_member : (set : List ℕ) (n k : ℕ) → has_member (with_member set n) k ≡ ((n == k) || has_member set k)
+has_member-with_member [] n k = refl
+has_member-with_member (x ∷ xs) n k =
+    elim (cases_order n x) [
+      inl e ↦ rw (with_member-eq x xs n e, e) (or_twice (x == k) (has_member xs k))
+    | inr d ↦ elim d [
+        inl less ↦ rw (with_member-lt x xs n less)
+      | inr more ↦ rw (with_member-gt x xs n more, has_member-with_member xs n k) (or_turned (x == k) (n == k) (has_member xs k))
+      ]
+    ]
+
+pub IsIncreasing-with_member : (first last : ℕ) (set : List ℕ) (n : ℕ) → first ≤ n → n ≤ last → IsIncreasing first last set → IsIncreasing first last (with_member set n)
+IsIncreasing-with_member first last [] n l h i = (l, h, tt)
+IsIncreasing-with_member first last (x ∷ xs) n l h i =
+    elim (cases_order n x) [
+      inl e ↦ rw (with_member-eq x xs n e) i
+    | inr d ↦ elim d [
+        inl less ↦ rw (with_member-lt x xs n less) (l, h, (omega arith, i.1, i.2))
+      | inr more ↦ rw (with_member-gt x xs n more) (i.0, i.1, IsIncreasing-with_member (x + 1) last xs n (omega arith) h i.2)
       ]
     ]

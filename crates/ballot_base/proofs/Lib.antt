@@ -1,3 +1,4 @@
+pub mod FirstMember
 pub mod Increasing
 pub mod Members
 pub mod Rows

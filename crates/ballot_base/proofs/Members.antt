@@ -1,19 +1,19 @@
 -- The members of a word: an increasing list, in which a number stands where its bit is 1.
-use Rattle.std.proofs.Common.{◌≡◌, ℕ, zero, suc, ◌+◌, ◌-◌, ◌*◌, ◌/◌, ◌%◌, ◌^◌, ◌<◌, ◌≤◌, ◌==◌, ◌||◌, ◌⊎◌, Bool, true, false, cond, List, [], ◌∷◌, refl, sym, ap, ◌∙◌, subst, arith, inl, inr, length, filter, add-one}
+use Rattle.std.proofs.Common.{◌≡◌, ℕ, zero, suc, ◌+◌, ◌-◌, ◌*◌, ◌/◌, ◌%◌, ◌^◌, ◌<◌, ◌≤◌, ◌==◌, ◌||◌, ◌&&◌, ◌⊎◌, ◌≢◌, not, min, bit_and, bit_or, w64, Bool, true, false, cond, List, [], ◌∷◌, refl, sym, ap, ◌∙◌, subst, arith, inl, inr, length, filter, add-one}
 use Rattle.std.specs.List.{range_with_len}
 use Rattle.std.specs.Int.{bit_at}
-use Rattle.std.proofs.lemmas.Bool.{eq-eqb, eqb-true, ne_eqb, cases_eq, cases_order, cases_lt, cases_Bool, or_left, or_right}
+use Rattle.std.proofs.lemmas.Bool.{eq-eqb, eqb-true, ne_eqb, cases_eq, cases_order, cases_lt, cases_Bool, or_left, and_left, and_right, not_from_true}
 use Rattle.std.proofs.lemmas.Bool.Decides.{same_from_decides}
 use Rattle.std.specs.Bool.{Decides}
 use Rattle.std.specs.Str.{bytes_eq}
 use Rattle.std.specs.Cmp.Lexicographic.{bytes_decides}
 use Rattle.std.proofs.lemmas.List.Sums.{sum_by-cons}
-use Rattle.std.proofs.lemmas.Nat.{pow_pos, pow_below, pow-add}
-use Rattle.std.proofs.lemmas.Nat.Bits.{bit_at-zero, bit_at-pow_same, bit_at-pow_other, bit_at_cat_low, bit_at_cat_high}
+use Rattle.std.proofs.lemmas.Nat.{pow_pos, pow_below, pow-add, one_shl, or_lt, and_le_l}
+use Rattle.std.proofs.lemmas.Nat.Bits.{bit_at-zero, bit_at-pow_same, bit_at-pow_other, bit_at_cat_low, bit_at_cat_high, bit_at-lt, bit_at_and, bit_at_set_same, bit_at_set_other, bit_at_clear_same, bit_at_clear_other, shr_and_one}
 use Rattle.ballot_base.specs.Lists.{IsIncreasing}
-use Rattle.ballot_base.specs.CandSet.{members_among, members, word_of, has_member}
+use Rattle.ballot_base.specs.CandSet.{members_among, members, word_of, has_member, with_member, without_member, common_members}
 use Rattle.ballot_base.specs.Words.{word_of_members}
-use Rattle.ballot_base.proofs.Increasing.{IsIncreasing-lower, has_member-below, has_member-above, has_member_head, has_member_tail, same_increasing}
+use Rattle.ballot_base.proofs.Increasing.{IsIncreasing-lower, has_member-below, has_member-above, has_member_head, has_member_tail, same_increasing, has_member-filter, IsIncreasing-filter, has_member-with_member, IsIncreasing-with_member}
 
 -- the members from a number on, by its bit
 pub members_among_yes : (first count bits : ℕ) → bit_at bits (first - 1) ≡ 1 → members_among first (suc count) bits ≡ first ∷ members_among (first + 1) count bits
@@ -67,6 +67,19 @@ pub members_none : members 0 ≡ []
 unfolding members members_among
 members_none = refl
 
+-- the members are the increasing list with just the numbers whose bit is 1
+pub same_members : (bits : ℕ) (set : List ℕ) → IsIncreasing 1 40 set → ((n : ℕ) → 1 ≤ n → n ≤ 40 → (bit_at bits (n - 1) == 1) ≡ has_member set n) → members bits ≡ set
+same_members bits set i same =
+    let inc = IsIncreasing-members bits in
+    same_increasing 1 40 (members bits) set inc i (λ n.
+      elim (cases_lt n 1) [
+        inl low ↦ has_member-below 1 40 (members bits) n inc low ∙ sym (has_member-below 1 40 set n i low)
+      | inr from ↦ elim (cases_lt 40 n) [
+          inl high ↦ has_member-above 1 40 (members bits) n inc high ∙ sym (has_member-above 1 40 set n i high)
+        | inr to ↦ has_member-members bits n from to ∙ same n from to
+        ]
+      ])
+
 -- numbers above first make a multiple of 2 ^ first
 word_above : (first last : ℕ) (set : List ℕ) → IsIncreasing (first + 1) last set → (k : ℕ) × (word_of set ≡ k * 2 ^ first)
 word_above first last [] i = (0, omega arith)
@@ -107,16 +120,7 @@ bit_at-word_of first last (x ∷ rest) n f l i =
 
 -- an increasing list of numbers from 1 to 40 is found back from its word
 pub members-word_of : (set : List ℕ) → IsIncreasing 1 40 set → members (word_of set) ≡ set
-members-word_of set i =
-    let inc = IsIncreasing-members (word_of set) in
-    same_increasing 1 40 (members (word_of set)) set inc i (λ n.
-      elim (cases_lt n 1) [
-        inl low ↦ has_member-below 1 40 (members (word_of set)) n inc low ∙ sym (has_member-below 1 40 set n i low)
-      | inr from ↦ elim (cases_lt 40 n) [
-          inl high ↦ has_member-above 1 40 (members (word_of set)) n inc high ∙ sym (has_member-above 1 40 set n i high)
-        | inr to ↦ has_member-members (word_of set) n from to ∙ bit_at-word_of 1 40 set n (omega arith) from i
-        ]
-      ])
+members-word_of set i = same_members (word_of set) set i (λ n l h. bit_at-word_of 1 40 set n (omega arith) l i)
 
 -- equality of the words is equality of the sets
 pub same_from_word_of : (set other : List ℕ) → IsIncreasing 1 40 set → IsIncreasing 1 40 other → word_of set ≡ word_of other → set ≡ other
@@ -129,3 +133,67 @@ Decides-word_of set other i j =
 pub eqb-word_of : (set other : List ℕ) → IsIncreasing 1 40 set → IsIncreasing 1 40 other → (word_of set == word_of other) ≡ bytes_eq set other
 eqb-word_of set other i j =
     same_from_decides (word_of set == word_of other) (bytes_eq set other) (Decides-word_of set other i j) (bytes_decides set other)
+
+both_set : (a b : ℕ) → a < 2 → b < 2 → (min a b == 1) ≡ ((b == 1) && (a == 1))
+both_set zero zero h k = refl
+both_set zero (suc zero) h k = refl
+both_set (suc zero) zero h k = refl
+both_set (suc zero) (suc zero) h k = refl
+both_set (suc (suc a)) b h k = absurd (omega arith)
+both_set a (suc (suc b)) h k = absurd (omega arith)
+
+-- what the operations on words do to the sets
+pub has_member_by_shift : (bits n : ℕ) → 1 ≤ n → n ≤ 40 → (bit_and (bits / 2 ^ (n - 1)) 1 == 1) ≡ has_member (members bits) n
+has_member_by_shift bits n l h = ap (λ b. b == 1) (shr_and_one bits (n - 1)) ∙ sym (has_member-members bits n l h)
+
+pub has_member_outside : (bits n : ℕ) → (n ≡ 0) ⊎ (40 < n) → has_member (members bits) n ≡ false
+has_member_outside bits n (inl e) = has_member-below 1 40 (members bits) n (IsIncreasing-members bits) (omega (arith, e))
+has_member_outside bits n (inr h) = has_member-above 1 40 (members bits) n (IsIncreasing-members bits) h
+
+pub bound_of_with : (bits n : ℕ) → bits < 2 ^ 40 → 1 ≤ n → n ≤ 40 → bit_or bits (1 * 2 ^ (n - 1) % 2 ^ 64) < 2 ^ 40
+bound_of_with bits n b l h = rw (one_shl (n - 1) 64 (omega arith)) (or_lt 40 bits (2 ^ (n - 1)) b (pow_below (n - 1) 40 (omega arith)))
+
+pub members_with : (bits n : ℕ) → 1 ≤ n → n ≤ 40 → members (bit_or bits (1 * 2 ^ (n - 1) % 2 ^ 64)) ≡ with_member (members bits) n
+members_with bits n l h =
+    same_members (bit_or bits (1 * 2 ^ (n - 1) % 2 ^ 64)) (with_member (members bits) n)
+    (IsIncreasing-with_member 1 40 (members bits) n l h (IsIncreasing-members bits))
+    (λ k kl kh. rw (has_member-with_member (members bits) n k)
+      (elim (cases_eq n k) [
+        inl e ↦ eq-eqb (bit_at (bit_or bits (1 * 2 ^ (n - 1) % 2 ^ 64)) (k - 1)) 1 (rw (← e) (bit_at_set_same w64 bits (n - 1) (omega arith)))
+          ∙ sym (or_left (n == k) (has_member (members bits) k) (eq-eqb n k e))
+      | inr d ↦ rw (ne_eqb n k d) (ap (λ b. b == 1) (bit_at_set_other w64 bits (n - 1) (omega arith) (k - 1) (λ e. d (omega (arith, e)))) ∙ sym (has_member-members bits k kl kh))
+      ]))
+
+pub bound_of_and : (bits other : ℕ) → bits < 2 ^ 40 → bit_and bits other < 2 ^ 40
+bound_of_and bits other b = omega (arith, and_le_l bits other)
+
+pub members_without : (bits n : ℕ) → 1 ≤ n → n ≤ 40 → members (bit_and bits (2 ^ 64 - 1 - 1 * 2 ^ (n - 1) % 2 ^ 64)) ≡ without_member (members bits) n
+members_without bits n l h =
+    let word : ℕ = bit_and bits (2 ^ 64 - 1 - 1 * 2 ^ (n - 1) % 2 ^ 64) in
+    same_members word (without_member (members bits) n)
+    (IsIncreasing-filter (λ x. not (x == n)) 1 40 (members bits) (IsIncreasing-members bits))
+    (λ k kl kh. rw (has_member-filter (λ x. not (x == n)) (members bits) k)
+      (elim (cases_eq k n) [
+        inl e ↦ ne_eqb (bit_at word (k - 1)) 1 (λ one.
+          let none : bit_at word (k - 1) ≡ 0 = rw e (bit_at_clear_same w64 bits (n - 1) (omega arith)) in omega arith)
+          ∙ sym (and_left (not (k == n)) (has_member (members bits) k) (not_from_true (k == n) (eq-eqb k n e)))
+      | inr d ↦ rw (ne_eqb k n d) (ap (λ b. b == 1) (bit_at_clear_other w64 bits (n - 1) (omega arith) (k - 1) (omega arith) (λ e. d (omega (arith, e)))) ∙ sym (has_member-members bits k kl kh))
+      ]))
+
+pub members_without_outside : (bits n : ℕ) → (n ≡ 0) ⊎ (40 < n) → members bits ≡ without_member (members bits) n
+members_without_outside bits n out =
+    let inc = IsIncreasing-members bits in
+    same_increasing 1 40 (members bits) (without_member (members bits) n) inc
+    (IsIncreasing-filter (λ x. not (x == n)) 1 40 (members bits) inc)
+    (λ k. rw (has_member-filter (λ x. not (x == n)) (members bits) k)
+      (elim (cases_eq k n) [
+        inl e ↦ rw e (has_member_outside bits n out ∙ sym (and_right (not (n == n)) (has_member (members bits) n) (has_member_outside bits n out)))
+      | inr d ↦ rw (ne_eqb k n d)
+      ]))
+
+pub members_common : (bits other : ℕ) → members (bit_and bits other) ≡ common_members (members bits) (members other)
+members_common bits other =
+    same_members (bit_and bits other) (common_members (members bits) (members other))
+    (IsIncreasing-filter (has_member (members other)) 1 40 (members bits) (IsIncreasing-members bits))
+    (λ k kl kh. rw (has_member-filter (has_member (members other)) (members bits) k, has_member-members other k kl kh, has_member-members bits k kl kh, bit_at_and bits other (k - 1))
+      (both_set (bit_at bits (k - 1)) (bit_at other (k - 1)) (bit_at-lt bits (k - 1)) (bit_at-lt other (k - 1))))

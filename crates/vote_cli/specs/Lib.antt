@@ -1,3 +1,4 @@
 pub mod Device
 pub mod Printing
 pub mod Status
+pub mod Winners

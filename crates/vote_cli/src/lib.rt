@@ -1,6 +1,7 @@
 //! The library behind the program `committees`: words, input, answers and statuses.
 #![tactic(auto)]
 
+mod approval;
 pub mod device;
 mod input;
 mod printing;
