@@ -1,9 +1,9 @@
 -- Prints joined one behind the other.
-use Rattle.std.proofs.Common.{◌≡◌, ℕ, ◌<◌, ◌≤◌, ◌+◌, ◌-◌, Bool, true, false, not, ◌&&◌, ◌||◌, List, [], ◌∷◌, ◌++◌, Option, Some, None, Result, Ok, Err, refl, sym, ap, subst, ◌∙◌, append_assoc, append-nil, length, take, drop, take-append-drop, true≢false, arith, length-take, length-drop}
-use Rattle.std.specs.Prelude.{◌==◌, is_ok, IsErr}
+use Rattle.std.proofs.Common.{◌≡◌, ℕ, ◌<◌, ◌≤◌, ◌+◌, ◌-◌, Bool, true, false, not, ◌&&◌, ◌||◌, List, [], ◌∷◌, ◌++◌, Option, Some, None, Result, Ok, Err, refl, sym, ap, subst, ◌∙◌, append_assoc, append-nil, length, take, drop, take-append-drop, true≢false, arith, length-drop, get_or, suc}
+use Rattle.std.specs.Prelude.{◌==◌, is_ok, IsErr, flat_map}
 use Rattle.std.specs.Io.KnownBytes.{Appends, Keeps}
 use Rattle.std.proofs.KnownBytes.{Appends-nil, Appends-trans}
-use Rattle.std.proofs.Math.Seq.{take-add}
+use Rattle.std.proofs.Math.Seq.{take-add, drop-cons}
 use Rattle.std.proofs.lemmas.List.{take_rest, take_all}
 use Rattle.vote_cli.specs.Device.{is_failed_write}
 use Rattle.vote_cli.specs.Printing.{Outlet, Prints, outlet}
@@ -70,6 +70,17 @@ breaks_off {a} {b} {x} {z} y r e (Err f) was bad same first =
     let broken : Prints a b false x = subst (λ s. Prints a b (is_ok s) x) was first in
     subst (Prints a b false) (sym same) (Prints-broken y broken)
 
+-- the same behind a text that was printed before
+pub goes_on_behind : {a b c : Outlet} {done x : List ℕ} {V E : Type 0} (r : Result V E) (v : V) → r ≡ Ok v → Prints a b true done → Prints b c (is_ok r) x → Prints a c true (done ++ x)
+goes_on_behind {a} {b} {c} {done} {x} r v e first second =
+    let went : Prints b c true x = subst (λ s. Prints b c (is_ok s) x) e second in
+    Prints-then first went
+
+pub breaks_off_behind : {a b c : Outlet} {done x z : List ℕ} {V W E F : Type 0} (rest : List ℕ) (r : Result V E) (e : E) (q : Result W F) → r ≡ Err e → IsErr q
+    → done ++ (x ++ rest) ≡ z → Prints a b true done → Prints b c (is_ok r) x → Prints a c (is_ok q) z
+breaks_off_behind {a} {b} {c} {done} {x} {z} rest r e q was bad same first second =
+    breaks_off rest r e q was bad (sym same ∙ sym (append_assoc done x rest)) (Prints-then first second)
+
 -- what waited is the text in front
 pub Prints-sent : {taken : Option (List ℕ)} {after : Outlet} {waiting : List ℕ} {has_failed ok : Bool} → Prints (outlet taken [] has_failed) after ok waiting → Prints (outlet taken waiting has_failed) after ok []
 Prints-sent {taken} {after} {waiting} h = record {
@@ -86,6 +97,15 @@ pub Prints-empty : {taken taken' : Option (List ℕ)} {waiting x : List ℕ} {ha
     → Prints (outlet taken [] has_failed) (outlet taken' [] has_failed') ok x → Prints (outlet taken waiting has_failed) (outlet taken' waiting has_failed') ok x
 Prints-empty {taken} {taken'} {waiting} {x} {has_failed} {has_failed'} {ok} none h =
     subst (λ w. Prints (outlet taken w has_failed) (outlet taken' w has_failed') ok x) (sym none) h
+
+-- ---- pieces
+
+-- the pieces from one on are that piece and those behind it
+pub flat_map-drop : {X : Type 0} (f : X → List ℕ) (xs : List X) (i : ℕ) (d : X) → i < length xs → flat_map f (drop i xs) ≡ f (get_or xs i d) ++ flat_map f (drop (i + 1) xs)
+flat_map-drop f xs i d within = ap (flat_map f) (drop-cons xs i d within) ∙ ap (λ k. f (get_or xs i d) ++ flat_map f (drop k xs)) (add-one-sym i)
+  where
+    add-one-sym : (n : ℕ) → suc n ≡ n + 1
+    add-one-sym n = omega arith
 
 -- ---- the loop that writes
 

@@ -1,4 +1,4 @@
 pub mod Device
 pub mod Printing
+pub mod Request
 pub mod Status
-pub mod Winners

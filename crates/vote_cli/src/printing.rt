@@ -1,5 +1,5 @@
 //! Text on its way to a writer: what a failed write leaves is a beginning of the text, and no byte is written twice.
-ghost use Rattle.std.specs.Prelude.{◌≡◌, ℕ, ◌+◌, ◌<◌, ◌≤◌, ◌++◌, List, [], length, is_ok, true};
+ghost use Rattle.std.specs.Prelude.{◌≡◌, ℕ, ◌+◌, ◌<◌, ◌≤◌, ◌++◌, List, [], flat_map, length, is_ok, true};
 ghost use Rattle.vote_cli.specs.Printing.{Prints, outlet};
 
 use crate::device::Sink;
@@ -119,4 +119,18 @@ pub(crate) fn finish<W: Sink>(out: &mut W, waiting: &mut Waiting) -> Result<(), 
         Ok(()) => Ok(()),
         Err(_) => Err(WriteFailed),
     }
+}
+
+/// Prints the pieces, one behind the other.
+pub(crate) fn print_all<W: Sink>(
+    out: &mut W,
+    waiting: &mut Waiting,
+    pieces: &[&[u8]],
+) -> Result<(), WriteFailed>
+    ensures { Prints (outlet (W.contents out.old) waiting.old (W.has_failed out.old)) (outlet (W.contents out.new) waiting.new (W.has_failed out.new)) (is_ok result) (flat_map (λ piece. piece.now) pieces.now) }
+{
+    for piece in pieces {
+        print(out, waiting, piece)?;
+    }
+    Ok(())
 }

@@ -1,0 +1,64 @@
+//! What the words of a command line ask for.
+ghost use Rattle.std.specs.Prelude.{◌≡◌, ◌≤◌, option_map, string_bytes};
+
+use std::marker::Model;
+
+/// The rule by which committees win.
+#[derive(Clone, Copy, Debug, PartialEq, Eq)]
+pub enum Rule {
+    /// Approval voting: a committee scores one point for each approval that a voter gives to one of its members.
+    Av,
+}
+
+/// A request: the rule, the number of seats from 1 to 40, and the file to read, where one is named. Each one comes from
+/// `read_request`.
+#[derive(Debug, Drop)]
+pub struct Request {
+    rule: Rule,
+    size: u8,
+    file: Option<String>,
+}
+
+impl Model for Request {
+    ghost use Rattle.std.specs.Prelude.{◌≤◌, option_map, string_bytes};
+    ghost use Rattle.vote_cli.specs.Request.{Asked};
+
+    ghost Value = { Asked };
+
+    ghost view = { λ a. record { rule = a.rule; size = a.size; file = option_map string_bytes a.file } };
+
+    ghost invariant = { λ a. (1 ≤ a.size) × (a.size ≤ 40) };
+}
+
+impl Request {
+    pub(crate) fn new(rule: Rule, size: u8, file: Option<String>) -> Request
+        requires least { 1 ≤ size }
+        requires most { size ≤ 40 }
+        ensures { result ≡ record { rule = rule; size = size; file = option_map string_bytes file } }
+    {
+        Request { rule, size, file }
+    }
+
+    /// The rule.
+    pub fn rule(&self) -> Rule
+        ensures { result ≡ self.now.rule }
+    {
+        self.rule
+    }
+
+    /// The number of seats.
+    pub fn size(&self) -> u8
+        ensures value { result ≡ self.now.size }
+        ensures least { 1 ≤ result }
+        ensures most { result ≤ 40 }
+    {
+        self.size
+    }
+
+    /// The path of the file to read. Without one the input is standard input.
+    pub fn file(&self) -> Option<&str>
+        ensures { option_map (λ s. s.now) result ≡ self.now.file }
+    {
+        self.file.as_deref()
+    }
+}
