@@ -175,7 +175,7 @@ cmp_members a b t h u same one other =
     ∙ order_above_is b t (members_among (t + 1 + 1) (39 - t) b) h u other (word_of_members_among b (39 - t) (t + 1))
 
 -- the least place where the words differ
-lowest_difference : (a b : ℕ) → a < 2 ^ 40 → b < 2 ^ 40 → (bit_xor a b ≡ 0 → ⊥) → (trailing_zeros w64 (bit_xor a b) < 40) × ((bit_at a (trailing_zeros w64 (bit_xor a b)) + bit_at b (trailing_zeros w64 (bit_xor a b))) % 2 ≡ 1) × ((i : ℕ) → i < trailing_zeros w64 (bit_xor a b) → bit_at a i ≡ bit_at b i)
+pub lowest_difference : (a b : ℕ) → a < 2 ^ 40 → b < 2 ^ 40 → (bit_xor a b ≡ 0 → ⊥) → (trailing_zeros w64 (bit_xor a b) < 40) × ((bit_at a (trailing_zeros w64 (bit_xor a b)) + bit_at b (trailing_zeros w64 (bit_xor a b))) % 2 ≡ 1) × ((i : ℕ) → i < trailing_zeros w64 (bit_xor a b) → bit_at a i ≡ bit_at b i)
 lowest_difference a b h k ne =
     let x = xor_lt 40 a b h k in
     let z = bit_at-trailing_zeros w64 (bit_xor a b) (omega arith) (omega arith) in

@@ -1,7 +1,8 @@
 -- Increasing lists: which numbers they have, and that those decide the list.
-use Rattle.std.proofs.Common.{◌≡◌, ℕ, ◌+◌, ◌<◌, ◌≤◌, ◌==◌, ◌||◌, ◌&&◌, ◌⊎◌, Bool, true, false, cond, List, [], ◌∷◌, refl, sym, ap, ◌∙◌, arith, inl, inr, length, filter}
+use Rattle.std.proofs.Common.{◌≡◌, ℕ, ◌+◌, ◌<◌, ◌≤◌, ◌==◌, ◌||◌, ◌&&◌, ◌⊎◌, Bool, true, false, cond, List, [], ◌∷◌, refl, sym, ap, ◌∙◌, arith, inl, inr, length, filter, ◌++◌, get_or, drop, subst}
 use Rattle.std.proofs.lemmas.Map.Views.{any-filter_same}
 use Rattle.std.proofs.lemmas.Bool.{eq-eqb, eqb-true, ne_eqb, lt-ltb, le-ltb, cases_order, cases_lt, or_left}
+use Rattle.std.proofs.lemmas.List.{drop_more}
 use Rattle.ballot_base.specs.Lists.{IsIncreasing}
 use Rattle.ballot_base.specs.CandSet.{has_member, with_member}
 
@@ -107,3 +108,20 @@ IsIncreasing-with_member first last (x ∷ xs) n l h i =
       | inr more ↦ rw (with_member-gt x xs n more) (i.0, i.1, IsIncreasing-with_member (x + 1) last xs n (omega arith) h i.2)
       ]
     ]
+
+-- one more number, above all the others
+pub with_member-above : (first last : ℕ) (set : List ℕ) (n : ℕ) → IsIncreasing first last set → last < n → with_member set n ≡ set ++ n ∷ []
+with_member-above first last [] n i h = refl
+with_member-above first last (x ∷ xs) n i h =
+    with_member-gt x xs n (omega (arith, i.1)) ∙ ap (λ s. x ∷ s) (with_member-above (x + 1) last xs n i.2 h)
+
+pub IsIncreasing-push : (first last : ℕ) (set : List ℕ) (n : ℕ) → IsIncreasing first last set → first ≤ n → last < n → IsIncreasing first n (set ++ n ∷ [])
+IsIncreasing-push first last [] n i l h = (l, omega arith, tt)
+IsIncreasing-push first last (x ∷ xs) n i l h = (i.0, omega (arith, i.1), IsIncreasing-push (x + 1) last xs n i.2 (omega (arith, i.1)) h)
+
+-- the next number of a list and those behind it
+pub next_increasing : (first last : ℕ) (xs : List ℕ) (i : ℕ) → i < length xs → IsIncreasing first last (drop i xs) → (first ≤ get_or xs i 0) × (get_or xs i 0 ≤ last) × IsIncreasing (get_or xs i 0 + 1) last (drop (i + 1) xs)
+next_increasing first last xs i h inc = subst (λ s. IsIncreasing first last s) (drop_more xs i 0 h) inc
+
+pub increasing_from_next : (first last : ℕ) (xs : List ℕ) (i : ℕ) → i < length xs → first ≤ get_or xs i 0 → get_or xs i 0 ≤ last → IsIncreasing (get_or xs i 0 + 1) last (drop (i + 1) xs) → IsIncreasing first last (drop i xs)
+increasing_from_next first last xs i h l u rest = subst (λ s. IsIncreasing first last s) (sym (drop_more xs i 0 h)) (l, u, rest)
