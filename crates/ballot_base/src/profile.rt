@@ -157,6 +157,7 @@ impl<A: Allocator + Copy> Profile<A> {
     pub fn rows(&self) -> usize
         ensures value { result ≡ length self.now.rows }
         ensures some { 1 ≤ result }
+        ensures valid { IsElection self.now }
     {
         self.rows.len()
     }

@@ -1,2 +1,4 @@
+pub mod ApprovalLemmas
 pub mod InputLemmas
 pub mod PrintingLemmas
+pub mod TextLemmas

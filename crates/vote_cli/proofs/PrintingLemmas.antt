@@ -81,6 +81,14 @@ pub breaks_off_behind : {a b c : Outlet} {done x z : List ℕ} {V W E F : Type 0
 breaks_off_behind {a} {b} {c} {done} {x} {z} rest r e q was bad same first second =
     breaks_off rest r e q was bad (sym same ∙ sym (append_assoc done x rest)) (Prints-then first second)
 
+-- what a call printed that gave `Ok`
+pub Prints-first : {a b : Outlet} {x : List ℕ} {V E : Type 0} (r : Result V E) (v : V) → r ≡ Ok v → Prints a b (is_ok r) x → Prints a b true x
+Prints-first {a} {b} {x} r v e h = subst (λ s. Prints a b (is_ok s) x) e h
+
+-- a text behind what was printed before, as the last
+pub Prints-last : {a b c : Outlet} {x y z : List ℕ} {ok : Bool} → z ≡ x ++ y → Prints a b true x → Prints b c ok y → Prints a c ok z
+Prints-last {a} {b} {c} {x} {y} {z} {ok} same first second = subst (Prints a c ok) (sym same) (Prints-then first second)
+
 -- what waited is the text in front
 pub Prints-sent : {taken : Option (List ℕ)} {after : Outlet} {waiting : List ℕ} {has_failed ok : Bool} → Prints (outlet taken [] has_failed) after ok waiting → Prints (outlet taken waiting has_failed) after ok []
 Prints-sent {taken} {after} {waiting} h = record {

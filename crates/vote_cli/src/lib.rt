@@ -1,7 +1,9 @@
 //! The library behind the program `committees`: words, input, answers and statuses.
 #![tactic(auto)]
 
+mod approval;
 pub mod device;
+mod elected;
 mod input;
 mod printing;
 pub mod request;
