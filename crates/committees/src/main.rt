@@ -1,0 +1,77 @@
+//! The program `committees`: elects committees over PrefLib ballot files.
+#![tactic(auto)]
+
+use std::env;
+use std::fs::File;
+use std::io;
+use std::io::Read;
+use std::process::ExitCode;
+use vote_cli::{LineFault, Request, Told, read_request, run};
+
+/// The status of words that were refused.
+const WORDS_REFUSED: u8 = 2;
+
+/// The status of want of memory.
+const NO_MEMORY: u8 = 5;
+
+/// The status of a failed open, read or write.
+const DEVICE_FAILED: u8 = 6;
+
+fn main(rt: HostRuntime) -> ExitCode {
+    match words(&rt) {
+        Ok(words) => answer(&rt, &words),
+        Err(error) if error.kind() == io::ErrorKind::OutOfMemory => no_memory(&rt),
+        Err(_) => end(&rt, WORDS_REFUSED, "error: a word of the command line is not UTF-8 text"),
+    }
+}
+
+/// The words of the command line, the program's name first.
+fn words(rt: &HostRuntime) -> io::Result<Vec<String>> {
+    Ok(env::args(rt)?.collect(rt.alloc())?)
+}
+
+/// Answers what the words ask for.
+fn answer(rt: &HostRuntime, words: &[String]) -> ExitCode {
+    match read_request(rt.alloc(), words) {
+        Ok(request) => answer_request(rt, &request),
+        Err(LineFault::Help(text)) => match rt.print(text) {
+            Ok(()) => ExitCode::SUCCESS,
+            Err(_) => end(rt, DEVICE_FAILED, "committees: write failed"),
+        },
+        Err(LineFault::Usage(text)) => {
+            let _ = rt.eprint(text);
+            ExitCode::from(WORDS_REFUSED)
+        }
+        Err(LineFault::Memory) => no_memory(rt),
+    }
+}
+
+/// Answers over the file that the request names, or over standard input.
+fn answer_request(rt: &HostRuntime, request: &Request) -> ExitCode {
+    match request.file() {
+        None => answer_over(rt, request, rt.stdin()),
+        Some(path) => match File::open(rt, path) {
+            Ok(file) => answer_over(rt, request, file),
+            Err(_) => end(rt, DEVICE_FAILED, "committees: open failed"),
+        },
+    }
+}
+
+/// Joins a run to a reader, standard output and standard error.
+fn answer_over<R: Read + Drop>(rt: &HostRuntime, request: &Request, reader: R) -> ExitCode {
+    let mut reader = Told::new(reader);
+    let mut out = Told::new(rt.stdout());
+    let mut err = Told::new(rt.stderr());
+    let status = run(rt.alloc(), request, &mut reader, &mut out, &mut err);
+    ExitCode::from(status.code())
+}
+
+fn no_memory(rt: &HostRuntime) -> ExitCode {
+    end(rt, NO_MEMORY, "committees: memory")
+}
+
+/// Ends with this status, and a line on standard error.
+fn end(rt: &HostRuntime, status: u8, line: &str) -> ExitCode {
+    let _ = rt.eprintln(line);
+    ExitCode::from(status)
+}
