@@ -1,3 +1,4 @@
 pub mod Increasing
 pub mod Members
 pub mod FirstMember
+pub mod Committees
