@@ -2,3 +2,4 @@ pub mod Increasing
 pub mod Members
 pub mod FirstMember
 pub mod Committees
+pub mod NextSet

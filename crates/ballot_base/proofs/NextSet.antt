@@ -1,0 +1,133 @@
+-- The word of the set after another one of its size.
+use Rattle.std.proofs.Common.{◌≡◌, ℕ, zero, suc, ◌+◌, ◌-◌, ◌*◌, ◌/◌, ◌%◌, ◌^◌, ◌<◌, ◌≤◌, ◌==◌, ◌⊎◌, Bool, true, false, cond, min, max, List, [], ◌∷◌, ◌++◌, refl, sym, ap, ◌∙◌, subst, arith, inl, inr, length, filter, add-one, bit_and, bit_or, w64, append_assoc, append-nil, add-zero, zero-add}
+use Rattle.std.specs.Int.{bit_at, bit_not}
+use Rattle.std.specs.Int.Count.{count_leading_zeros}
+use Rattle.std.specs.List.{range_with_len}
+use Rattle.std.proofs.lemmas.Bool.{eqb-false, cases_eq, cases_lt}
+use Rattle.std.proofs.lemmas.List.Elements.{filter-append}
+use Rattle.std.proofs.lemmas.List.FromFn.{length-range_with_len}
+use Rattle.std.proofs.lemmas.Nat.{leading_top, pow-add, pow_pos, pow_below, or_lt, and_le_l, and_le_r}
+use Rattle.std.proofs.Math.Pow.{pow_mono}
+use Rattle.std.proofs.lemmas.Nat.Bits.{bit_at-lt, bit_at-zero, bit_at_and, bit_at_or, bit_at_not, bit_at_ones, bit_at_ones_above, bit_at_above, bit_at_cat_high, bit_at_mask_inside, bit_at_mask_below, bit_at_mask_above}
+use Rattle.ballot_base.specs.Lists.{IsIncreasing}
+use Rattle.ballot_base.specs.CandSet.{members_among, members, has_member}
+use Rattle.ballot_base.specs.Subsets.{IsLastSet, IsNextSet}
+use Rattle.ballot_base.proofs.Increasing.{has_member-above}
+use Rattle.ballot_base.proofs.Members.{members_among_yes, members_among_no, members_among_none, has_member-members}
+
+-- ---- the greatest number of a word
+pub greatest_is : (bits : ℕ) → 0 < bits → bits < 2 ^ 40 → (64 - count_leading_zeros 64 bits ≤ 40) × (bit_at bits (64 - count_leading_zeros 64 bits - 1) ≡ 1) × ((i : ℕ) → 64 - count_leading_zeros 64 bits ≤ i → bit_at bits i ≡ 0)
+greatest_is bits some most =
+    let top = leading_top 64 bits some (omega arith) in
+    let j : ℕ = top.0 in
+    let is : 64 - count_leading_zeros 64 bits ≡ suc j = omega (arith, top.1) in
+    let fits : suc j ≤ 40 = elim (cases_lt j 40) [ inl h ↦ h | inr h ↦ absurd (omega (arith, top.2, pow_mono {i = 40} {j = j} h)) ] in
+    let two : 2 ^ suc j ≡ 2 ^ j * 2 = subst (λ n. 2 ^ n ≡ 2 ^ j * 2) (add-one j) (pow-add 2 j 1) in
+    let parts : bits ≡ 1 * 2 ^ j + (bits - 2 ^ j) = omega (arith, top.2) in
+    let one : bit_at bits j ≡ 1 =
+        ap (λ n. bit_at n j) parts ∙ (bit_at_cat_high 1 j (bits - 2 ^ j) j (omega (arith, top.3, two, top.2)) (omega arith) ∙ ap (bit_at 1) (let z : j - j ≡ 0 = omega arith in z)) in
+    let back : suc j - 1 ≡ j = omega arith in
+    rw is (fits, ap (bit_at bits) back ∙ one, λ i h. bit_at_above bits (suc j) i top.3 h)
+
+-- ---- runs of members
+range-append : (a i j : ℕ) → range_with_len a (i + j) ≡ range_with_len a i ++ range_with_len (a + i) j
+range-append a zero j = rw (zero-add, add-zero)
+range-append a (suc i) j =
+    let e : a + 1 + i ≡ a + suc i = omega arith in
+    let f : suc i + j ≡ suc (i + j) = omega arith in
+    rw (f, ← e) (ap (λ s. a ∷ s) (range-append (a + 1) i j))
+
+pub members_among-append : (first i j bits : ℕ) → members_among first (i + j) bits ≡ members_among first i bits ++ members_among (first + i) j bits
+unfolding members_among
+members_among-append first i j bits =
+    ap (filter (λ n. bit_at bits (n - 1) == 1)) (range-append first i j) ∙ filter-append (λ n. bit_at bits (n - 1) == 1) (range_with_len first i) (range_with_len (first + i) j)
+
+pub members_among_full : (first count bits : ℕ) → ((n : ℕ) → first ≤ n → n < first + count → bit_at bits (n - 1) ≡ 1) → members_among first count bits ≡ range_with_len first count
+members_among_full first zero bits h = members_among_none first bits
+members_among_full first (suc count) bits h =
+    members_among_yes first count bits (h first (omega arith) (omega arith))
+    ∙ ap (λ s. first ∷ s) (members_among_full (first + 1) count bits (λ n l u. h n (omega arith) (omega arith)))
+
+pub members_among_clear : (first count bits : ℕ) → ((n : ℕ) → first ≤ n → n < first + count → bit_at bits (n - 1) ≡ 0) → members_among first count bits ≡ []
+members_among_clear first zero bits h = members_among_none first bits
+members_among_clear first (suc count) bits h =
+    members_among_no first count bits (λ e. omega (arith, e, h first (omega arith) (omega arith)))
+    ∙ members_among_clear (first + 1) count bits (λ n l u. h n (omega arith) (omega arith))
+
+pub members_among_same : (first count a b : ℕ) → ((n : ℕ) → first ≤ n → n < first + count → bit_at a (n - 1) ≡ bit_at b (n - 1)) → members_among first count a ≡ members_among first count b
+members_among_same first zero a b h = members_among_none first a ∙ sym (members_among_none first b)
+members_among_same first (suc count) a b h =
+    let rest = members_among_same (first + 1) count a b (λ n l u. h n (omega arith) (omega arith)) in
+    let here = h first (omega arith) (omega arith) in
+    elim (cases_eq (bit_at a (first - 1)) 1) [
+      inl one ↦ members_among_yes first count a one ∙ (ap (λ s. first ∷ s) rest ∙ sym (members_among_yes first count b (sym here ∙ one)))
+    | inr other ↦ members_among_no first count a other ∙ (rest ∙ sym (members_among_no first count b (λ e. other (here ∙ e))))
+    ]
+
+-- the numbers 1 to low as in b, then none, then a run, then none
+pub stacked : (a b low from run : ℕ) → low + 1 ≤ from → from + run ≤ 41 → ((n : ℕ) → 1 ≤ n → n ≤ low → bit_at a (n - 1) ≡ bit_at b (n - 1)) → ((n : ℕ) → low < n → n < from → bit_at a (n - 1) ≡ 0) → ((n : ℕ) → from ≤ n → n < from + run → bit_at a (n - 1) ≡ 1) → ((n : ℕ) → from + run ≤ n → n ≤ 40 → bit_at a (n - 1) ≡ 0) → members a ≡ members_among 1 low b ++ range_with_len from run
+unfolding members
+stacked a b low from run l h same gap full rest =
+    let g : ℕ = from - 1 - low in
+    let r : ℕ = 41 - from - run in
+    let all : low + (g + (run + r)) ≡ 40 = omega arith in
+    let at_gap : 1 + low + g ≡ from = omega arith in
+    subst (λ n. members_among 1 n a ≡ members_among 1 low b ++ range_with_len from run) all
+    (members_among-append 1 low (g + (run + r)) a
+    ∙ (rw (members_among_same 1 low a b (λ n k u. same n k (omega arith)),
+           members_among-append (1 + low) g (run + r) a,
+           members_among_clear (1 + low) g a (λ n k u. gap n (omega arith) (omega arith)),
+           at_gap,
+           members_among-append from run r a,
+           members_among_full from run a full,
+           members_among_clear (from + run) r a (λ n k u. rest n k (omega arith)),
+           append-nil)))
+
+-- ---- the two words
+-- a set that is a run up to m is the last of its size
+IsLastSet-from_run : (m from run : ℕ) (set : List ℕ) → set ≡ range_with_len from run → from + run ≡ m + 1 → IsLastSet m set
+IsLastSet-from_run m from run set e h =
+    let long : length set ≡ run = ap length e ∙ length-range_with_len from run in
+    let low : m + 1 - run ≡ from = omega arith in
+    rw (long, low) e
+
+-- a set of the numbers 1 to m has none above m
+none_above : (bits m : ℕ) → IsIncreasing 1 m (members bits) → (n : ℕ) → 1 ≤ n → m < n → n ≤ 40 → bit_at bits (n - 1) ≡ 0
+none_above bits m i n low h high =
+    let no : (bit_at bits (n - 1) == 1) ≡ false = sym (has_member-members bits n low high) ∙ has_member-above 1 m (members bits) n i h in
+    let ne : bit_at bits (n - 1) ≡ 1 → ⊥ = eqb-false (bit_at bits (n - 1)) 1 no in
+    omega (arith, ne, bit_at-lt bits (n - 1))
+
+-- the numbers 1 to m that a word has not
+absent_bit : (bits m i : ℕ) → bits < 2 ^ 40 → m ≤ 40 → i < 40 → bit_at (bit_and (2 ^ m - 1) (2 ^ 64 - 1 - bits)) i ≡ min (bit_at (2 ^ m - 1) i) (1 - bit_at bits i)
+absent_bit bits m i b h k = bit_at_and (2 ^ m - 1) (2 ^ 64 - 1 - bits) i ∙ ap (λ n. min (bit_at (2 ^ m - 1) i) n) (bit_at_not w64 bits i (omega arith) (omega arith))
+
+-- f is the greatest of them, or 0 where there is none
+record IsFree (bits m f : ℕ) : Type 0 where
+  most : f ≤ m
+  absent : 0 < f → bit_at bits (f - 1) ≡ 0
+  above : (n : ℕ) → f < n → n ≤ m → bit_at bits (n - 1) ≡ 1
+
+free_none : (bits m : ℕ) → bits < 2 ^ 40 → m ≤ 40 → bit_and (2 ^ m - 1) (2 ^ 64 - 1 - bits) ≡ 0 → IsFree bits m 0
+free_none bits m b h e = record {
+  most = omega arith;
+  absent = λ p. absurd (omega arith);
+  above = λ n l u.
+    let w = absent_bit bits m (n - 1) b h (omega arith) in
+    let z = ap (λ x. bit_at x (n - 1)) e ∙ bit_at-zero (n - 1) in
+    omega (arith, w, z, bit_at_ones m (n - 1) (omega arith), bit_at-lt bits (n - 1))
+}
+
+free_some : (bits m f : ℕ) → bits < 2 ^ 40 → m ≤ 40 → 1 ≤ f → f ≤ 40 → bit_at (bit_and (2 ^ m - 1) (2 ^ 64 - 1 - bits)) (f - 1) ≡ 1 → ((i : ℕ) → f ≤ i → bit_at (bit_and (2 ^ m - 1) (2 ^ 64 - 1 - bits)) i ≡ 0) → IsFree bits m f
+free_some bits m f b h low high here clear =
+    let w = absent_bit bits m (f - 1) b h (omega arith) in
+    record {
+      most = elim (cases_lt m f) [
+          inl over ↦ absurd (omega (arith, w, here, bit_at_ones_above m (f - 1) (omega arith)))
+        | inr within ↦ within
+        ];
+      absent = λ p. omega (arith, w, here, bit_at-lt bits (f - 1));
+      above = λ n l u.
+        let v = absent_bit bits m (n - 1) b h (omega arith) in
+        omega (arith, v, clear (n - 1) (omega arith), bit_at_ones m (n - 1) (omega arith), bit_at-lt bits (n - 1))
+    }
