@@ -131,3 +131,105 @@ free_some bits m f b h low high here clear =
         let v = absent_bit bits m (n - 1) b h (omega arith) in
         omega (arith, v, clear (n - 1) (omega arith), bit_at_ones m (n - 1) (omega arith), bit_at-lt bits (n - 1))
     }
+
+-- a set above whose free numbers all are members, and below them none, is the last
+pub last_if_none_free : (bits m : ℕ) → bits < 2 ^ 40 → m ≤ 40 → IsIncreasing 1 m (members bits) → bit_and (2 ^ m - 1) (2 ^ 64 - 1 - bits) ≡ 0 → IsLastSet m (members bits)
+last_if_none_free bits m b h i e =
+    let free = free_none bits m b h e in
+    let run : members bits ≡ range_with_len 1 m =
+        stacked bits bits 0 1 m (omega arith) (omega arith) (λ n l u. refl) (λ n l u. absurd (omega arith)) (λ n l u. free.above n (omega arith) (omega arith)) (λ n l u. none_above bits m i n (omega arith) (omega arith) u)
+        ∙ ap (λ s. s ++ range_with_len 1 m) (members_among_none 1 bits) in
+    IsLastSet-from_run m 1 m (members bits) run (omega arith)
+
+below_in : (bits k i : ℕ) → i < k → bit_at (bit_and bits (2 ^ k - 1)) i ≡ bit_at bits i
+below_in bits k i h = let e = bit_at_and bits (2 ^ k - 1) i in omega (arith, e, bit_at_ones k i h, bit_at-lt bits i)
+
+below_out : (bits k i : ℕ) → k ≤ i → bit_at (bit_and bits (2 ^ k - 1)) i ≡ 0
+below_out bits k i h = let e = bit_at_and bits (2 ^ k - 1) i in omega (arith, e, bit_at_ones_above k i h)
+
+last_if_none_below' : (bits m f : ℕ) → m ≤ 40 → 1 ≤ f → IsIncreasing 1 m (members bits) → IsFree bits m f → bit_and bits (2 ^ (f - 1) - 1) ≡ 0 → IsLastSet m (members bits)
+last_if_none_below' bits m f h low i free e =
+    let gap : (n : ℕ) → 0 < n → n < f + 1 → bit_at bits (n - 1) ≡ 0 = λ n l u.
+        elim (cases_lt n f) [
+          inl under ↦ sym (below_in bits (f - 1) (n - 1) (omega arith)) ∙ (ap (λ x. bit_at x (n - 1)) e ∙ bit_at-zero (n - 1))
+        | inr at ↦ let same : n ≡ f = omega arith in ap (λ x. bit_at bits (x - 1)) same ∙ free.absent low
+        ] in
+    let most = free.most in
+    let run : members bits ≡ range_with_len (f + 1) (m - f) =
+        stacked bits bits 0 (f + 1) (m - f) (omega arith) (omega arith) (λ n l u. refl) gap (λ n l u. free.above n (omega arith) (omega arith)) (λ n l u. none_above bits m i n (omega arith) (omega arith) u)
+        ∙ ap (λ s. s ++ range_with_len (f + 1) (m - f)) (members_among_none 1 bits) in
+    IsLastSet-from_run m (f + 1) (m - f) (members bits) run (omega arith)
+
+-- l is the greatest member below f
+record IsGrowing (bits f l : ℕ) : Type 0 where
+  low : 1 ≤ l
+  less : l < f
+  member : bit_at bits (l - 1) ≡ 1
+  gap : (n : ℕ) → l < n → n < f → bit_at bits (n - 1) ≡ 0
+
+growing_from : (bits f l : ℕ) → 1 ≤ f → 1 ≤ l → bit_at (bit_and bits (2 ^ (f - 1) - 1)) (l - 1) ≡ 1 → ((i : ℕ) → l ≤ i → bit_at (bit_and bits (2 ^ (f - 1) - 1)) i ≡ 0) → IsGrowing bits f l
+growing_from bits f l some low here clear =
+    let less : l < f = elim (cases_lt l f) [
+        inl under ↦ under
+      | inr over ↦ absurd (omega (arith, here, below_out bits (f - 1) (l - 1) (omega arith)))
+      ] in
+    record {
+      low = low;
+      less = less;
+      member = sym (below_in bits (f - 1) (l - 1) (omega arith)) ∙ here;
+      gap = λ n k u. sym (below_in bits (f - 1) (n - 1) (omega arith)) ∙ clear (n - 1) (omega arith)
+    }
+
+-- the word of the next set
+grown : ℕ → ℕ → ℕ → ℕ → ℕ
+grown bits m f l = bit_or (bit_and (bit_and bits (2 ^ (f - 1) - 1)) (2 ^ (l - 1) - 1)) (2 ^ (l + 1 + (m - f)) - 2 ^ l)
+
+grown_bit : (bits m f l i : ℕ) → bit_at (grown bits m f l) i ≡ max (bit_at (bit_and (bit_and bits (2 ^ (f - 1) - 1)) (2 ^ (l - 1) - 1)) i) (bit_at (2 ^ (l + 1 + (m - f)) - 2 ^ l) i)
+unfolding grown
+grown_bit bits m f l i = bit_at_or (bit_and (bit_and bits (2 ^ (f - 1) - 1)) (2 ^ (l - 1) - 1)) (2 ^ (l + 1 + (m - f)) - 2 ^ l) i
+
+grown_below : (bits m f l i : ℕ) → l < f → i < l - 1 → bit_at (grown bits m f l) i ≡ bit_at bits i
+grown_below bits m f l i g h =
+    omega (arith, grown_bit bits m f l i, below_in (bit_and bits (2 ^ (f - 1) - 1)) (l - 1) i h, below_in bits (f - 1) i (omega arith), bit_at_mask_below l (l + 1 + (m - f)) i (omega arith))
+
+grown_gap : (bits m f l i : ℕ) → l - 1 ≤ i → i < l → bit_at (grown bits m f l) i ≡ 0
+grown_gap bits m f l i g h =
+    omega (arith, grown_bit bits m f l i, below_out (bit_and bits (2 ^ (f - 1) - 1)) (l - 1) i g, bit_at_mask_below l (l + 1 + (m - f)) i h)
+
+grown_run : (bits m f l i : ℕ) → l ≤ i → i < l + 1 + (m - f) → bit_at (grown bits m f l) i ≡ 1
+grown_run bits m f l i g h =
+    omega (arith, grown_bit bits m f l i, below_out (bit_and bits (2 ^ (f - 1) - 1)) (l - 1) i (omega arith), bit_at_mask_inside l (l + 1 + (m - f)) i g h)
+
+grown_above : (bits m f l i : ℕ) → l + 1 + (m - f) ≤ i → bit_at (grown bits m f l) i ≡ 0
+grown_above bits m f l i g =
+    omega (arith, grown_bit bits m f l i, below_out (bit_and bits (2 ^ (f - 1) - 1)) (l - 1) i (omega arith), bit_at_mask_above l (l + 1 + (m - f)) i g)
+
+members_grown : (bits m f l : ℕ) → m ≤ 40 → f ≤ m → IsGrowing bits f l → members (grown bits m f l) ≡ members_among 1 (l - 1) bits ++ range_with_len (l + 1) (suc (m - f))
+members_grown bits m f l h most g =
+    let low = g.low in
+    let less = g.less in
+    stacked (grown bits m f l) bits (l - 1) (l + 1) (suc (m - f)) (omega arith) (omega arith)
+    (λ n k u. grown_below bits m f l (n - 1) less (omega arith))
+    (λ n k u. grown_gap bits m f l (n - 1) (omega arith) (omega arith))
+    (λ n k u. grown_run bits m f l (n - 1) (omega arith) (omega arith))
+    (λ n k u. grown_above bits m f l (n - 1) (omega arith))
+
+members_before : (bits m f l : ℕ) → m ≤ 40 → IsIncreasing 1 m (members bits) → IsFree bits m f → IsGrowing bits f l → members bits ≡ members_among 1 (l - 1) bits ++ l ∷ range_with_len (m + 1 - (m - f)) (m - f)
+members_before bits m f l h i free g =
+    let low = g.low in
+    let less = g.less in
+    let most = free.most in
+    let start : m + 1 - (m - f) ≡ f + 1 = omega arith in
+    let gap : (n : ℕ) → l < n → n < f + 1 → bit_at bits (n - 1) ≡ 0 = λ n k u.
+        elim (cases_lt n f) [
+          inl under ↦ g.gap n k under
+        | inr at ↦ let same : n ≡ f = omega arith in ap (λ x. bit_at bits (x - 1)) same ∙ free.absent (omega arith)
+        ] in
+    let runs : members bits ≡ members_among 1 l bits ++ range_with_len (f + 1) (m - f) =
+        stacked bits bits l (f + 1) (m - f) (omega arith) (omega arith) (λ n k u. refl) gap (λ n k u. free.above n (omega arith) (omega arith)) (λ n k u. none_above bits m i n (omega arith) (omega arith) u) in
+    let whole : l - 1 + 1 ≡ l = omega arith in
+    let next : 1 + (l - 1) ≡ l = omega arith in
+    let front : members_among 1 l bits ≡ members_among 1 (l - 1) bits ++ l ∷ [] =
+        subst (λ n. members_among 1 n bits ≡ members_among 1 (l - 1) bits ++ l ∷ []) whole
+        (members_among-append 1 (l - 1) 1 bits ∙ ap (λ s. members_among 1 (l - 1) bits ++ s) (rw next (members_among_full l 1 bits (λ n k u. let same : n ≡ l = omega arith in ap (λ x. bit_at bits (x - 1)) same ∙ g.member)))) in
+    rw (start, runs, front) (append_assoc (members_among 1 (l - 1) bits) (l ∷ []) (range_with_len (f + 1) (m - f)))
