@@ -103,10 +103,10 @@ absent_bit : (bits m i : ℕ) → bits < 2 ^ 40 → m ≤ 40 → i < 40 → bit_
 absent_bit bits m i b h k = bit_at_and (2 ^ m - 1) (2 ^ 64 - 1 - bits) i ∙ ap (λ n. min (bit_at (2 ^ m - 1) i) n) (bit_at_not w64 bits i (omega arith) (omega arith))
 
 -- f is the greatest of them, or 0 where there is none
-record IsFree (bits m f : ℕ) : Type 0 where
-  most : f ≤ m
-  absent : 0 < f → bit_at bits (f - 1) ≡ 0
-  above : (n : ℕ) → f < n → n ≤ m → bit_at bits (n - 1) ≡ 1
+pub record IsFree (bits m f : ℕ) : Type 0 where
+  pub most : f ≤ m
+  pub absent : 0 < f → bit_at bits (f - 1) ≡ 0
+  pub above : (n : ℕ) → f < n → n ≤ m → bit_at bits (n - 1) ≡ 1
 
 free_none : (bits m : ℕ) → bits < 2 ^ 40 → m ≤ 40 → bit_and (2 ^ m - 1) (2 ^ 64 - 1 - bits) ≡ 0 → IsFree bits m 0
 free_none bits m b h e = record {
@@ -147,8 +147,8 @@ below_in bits k i h = let e = bit_at_and bits (2 ^ k - 1) i in omega (arith, e, 
 below_out : (bits k i : ℕ) → k ≤ i → bit_at (bit_and bits (2 ^ k - 1)) i ≡ 0
 below_out bits k i h = let e = bit_at_and bits (2 ^ k - 1) i in omega (arith, e, bit_at_ones_above k i h)
 
-last_if_none_below' : (bits m f : ℕ) → m ≤ 40 → 1 ≤ f → IsIncreasing 1 m (members bits) → IsFree bits m f → bit_and bits (2 ^ (f - 1) - 1) ≡ 0 → IsLastSet m (members bits)
-last_if_none_below' bits m f h low i free e =
+last_if_none_below_free : (bits m f : ℕ) → m ≤ 40 → 1 ≤ f → IsIncreasing 1 m (members bits) → IsFree bits m f → bit_and bits (2 ^ (f - 1) - 1) ≡ 0 → IsLastSet m (members bits)
+last_if_none_below_free bits m f h low i free e =
     let gap : (n : ℕ) → 0 < n → n < f + 1 → bit_at bits (n - 1) ≡ 0 = λ n l u.
         elim (cases_lt n f) [
           inl under ↦ sym (below_in bits (f - 1) (n - 1) (omega arith)) ∙ (ap (λ x. bit_at x (n - 1)) e ∙ bit_at-zero (n - 1))
@@ -161,11 +161,11 @@ last_if_none_below' bits m f h low i free e =
     IsLastSet-from_run m (f + 1) (m - f) (members bits) run (omega arith)
 
 -- l is the greatest member below f
-record IsGrowing (bits f l : ℕ) : Type 0 where
-  low : 1 ≤ l
-  less : l < f
-  member : bit_at bits (l - 1) ≡ 1
-  gap : (n : ℕ) → l < n → n < f → bit_at bits (n - 1) ≡ 0
+pub record IsGrowing (bits f l : ℕ) : Type 0 where
+  pub low : 1 ≤ l
+  pub less : l < f
+  pub member : bit_at bits (l - 1) ≡ 1
+  pub gap : (n : ℕ) → l < n → n < f → bit_at bits (n - 1) ≡ 0
 
 growing_from : (bits f l : ℕ) → 1 ≤ f → 1 ≤ l → bit_at (bit_and bits (2 ^ (f - 1) - 1)) (l - 1) ≡ 1 → ((i : ℕ) → l ≤ i → bit_at (bit_and bits (2 ^ (f - 1) - 1)) i ≡ 0) → IsGrowing bits f l
 growing_from bits f l some low here clear =
@@ -181,7 +181,7 @@ growing_from bits f l some low here clear =
     }
 
 -- the word of the next set
-grown : ℕ → ℕ → ℕ → ℕ → ℕ
+pub grown : ℕ → ℕ → ℕ → ℕ → ℕ
 grown bits m f l = bit_or (bit_and (bit_and bits (2 ^ (f - 1) - 1)) (2 ^ (l - 1) - 1)) (2 ^ (l + 1 + (m - f)) - 2 ^ l)
 
 grown_bit : (bits m f l i : ℕ) → bit_at (grown bits m f l) i ≡ max (bit_at (bit_and (bit_and bits (2 ^ (f - 1) - 1)) (2 ^ (l - 1) - 1)) i) (bit_at (2 ^ (l + 1 + (m - f)) - 2 ^ l) i)
@@ -233,3 +233,44 @@ members_before bits m f l h i free g =
         subst (λ n. members_among 1 n bits ≡ members_among 1 (l - 1) bits ++ l ∷ []) whole
         (members_among-append 1 (l - 1) 1 bits ∙ ap (λ s. members_among 1 (l - 1) bits ++ s) (rw next (members_among_full l 1 bits (λ n k u. let same : n ≡ l = omega arith in ap (λ x. bit_at bits (x - 1)) same ∙ g.member)))) in
     rw (start, runs, front) (append_assoc (members_among 1 (l - 1) bits) (l ∷ []) (range_with_len (f + 1) (m - f)))
+
+-- ---- the same, of words that the code computes
+pub free_of : (bits m word f : ℕ) → bits < 2 ^ 40 → m ≤ 40 → word ≡ 2 ^ m - 1 → 1 ≤ f → f ≤ 40 → bit_at (bit_and word (2 ^ 64 - 1 - bits)) (f - 1) ≡ 1 → ((i : ℕ) → f ≤ i → bit_at (bit_and word (2 ^ 64 - 1 - bits)) i ≡ 0) → IsFree bits m f
+free_of bits m word f b h e low high = rw e (free_some bits m f b h low high)
+
+pub growing_of : (bits word f l : ℕ) → word ≡ 2 ^ (f - 1) - 1 → 1 ≤ f → 1 ≤ l → bit_at (bit_and bits word) (l - 1) ≡ 1 → ((i : ℕ) → l ≤ i → bit_at (bit_and bits word) i ≡ 0) → IsGrowing bits f l
+growing_of bits word f l e some low = rw e (growing_from bits f l some low)
+
+pub last_if_all : (bits m word : ℕ) → bits < 2 ^ 40 → m ≤ 40 → word ≡ 2 ^ m - 1 → IsIncreasing 1 m (members bits) → bit_and word (2 ^ 64 - 1 - bits) ≡ 0 → IsLastSet m (members bits)
+last_if_all bits m word b h e i = rw e (last_if_none_free bits m b h i)
+
+pub last_if_none_below : (bits m word f : ℕ) → m ≤ 40 → word ≡ 2 ^ (f - 1) - 1 → 1 ≤ f → IsIncreasing 1 m (members bits) → IsFree bits m f → bit_and bits word ≡ 0 → IsLastSet m (members bits)
+last_if_none_below bits m word f h e low i free = rw e (last_if_none_below_free bits m f h low i free)
+
+pub grown_is : (bits m f l below low high last : ℕ) → below ≡ 2 ^ (f - 1) - 1 → low ≡ 2 ^ (l - 1) - 1 → high ≡ 2 ^ (l + 1 + (m - f)) - 1 → last ≡ 2 ^ l - 1 → bit_or (bit_and (bit_and bits below) low) (high - last) ≡ grown bits m f l
+unfolding grown
+grown_is bits m f l below low high last d e h k =
+    let run : high - last ≡ 2 ^ (l + 1 + (m - f)) - 2 ^ l = omega (arith, h, k, pow_pos l) in
+    rw (d, e, run)
+
+pub bound_of_grown : (bits m f l : ℕ) → bits < 2 ^ 40 → m ≤ 40 → f ≤ m → l < f → grown bits m f l < 2 ^ 40
+unfolding grown
+bound_of_grown bits m f l b h most less =
+    let low : ℕ = bit_and (bit_and bits (2 ^ (f - 1) - 1)) (2 ^ (l - 1) - 1) in
+    let fits : low < 2 ^ 40 = omega (arith, and_le_l (bit_and bits (2 ^ (f - 1) - 1)) (2 ^ (l - 1) - 1), and_le_l bits (2 ^ (f - 1) - 1)) in
+    let top : 2 ^ (l + 1 + (m - f)) ≤ 2 ^ 40 = pow_mono {i = l + 1 + (m - f)} {j = 40} (omega arith) in
+    or_lt 40 low (2 ^ (l + 1 + (m - f)) - 2 ^ l) fits (omega (arith, top, pow_pos l))
+
+pub IsNextSet-grown : (bits m f l : ℕ) → m ≤ 40 → IsIncreasing 1 m (members bits) → IsFree bits m f → IsGrowing bits f l → IsNextSet m (members bits) (members (grown bits m f l))
+IsNextSet-grown bits m f l h i free g =
+    let less = g.less in
+    let most = free.most in
+    (members_among 1 (l - 1) bits, l, m - f, omega arith, members_before bits m f l h i free g, members_grown bits m f l h most g)
+
+pub members_up_to : (n : ℕ) → n ≤ 40 → members (2 ^ n - 1) ≡ range_with_len 1 n
+members_up_to n h =
+    stacked (2 ^ n - 1) (2 ^ n - 1) 0 1 n (omega arith) (omega arith) (λ k l u. refl) (λ k l u. absurd (omega arith)) (λ k l u. bit_at_ones n (k - 1) (omega arith)) (λ k l u. bit_at_ones_above n (k - 1) (omega arith))
+    ∙ ap (λ s. s ++ range_with_len 1 n) (members_among_none 1 (2 ^ n - 1))
+
+pub bound_of_up_to : (n : ℕ) → n ≤ 40 → 2 ^ n - 1 < 2 ^ 40
+bound_of_up_to n h = omega (arith, pow_mono {i = n} {j = 40} h, pow_pos n)

@@ -32,13 +32,9 @@ impl KSets {
         requires most { m ≤ 40 }
         ensures { result ≡ increasing_lists 1 m k }
     {
-        let mut first = CandSet::empty();
-        for n in 1..=k {
-            first = first.with(n);
-        }
         KSets {
             m,
-            next: Some(first),
+            next: Some(CandSet::up_to(k)),
         }
     }
 }
@@ -52,7 +48,7 @@ impl Iterator for KSets {
 
     fn next(&mut self) -> Option<CandSet> {
         let set = self.next?;
-        self.next = None;
+        self.next = set.next_of_size(self.m);
         Some(set)
     }
 }
