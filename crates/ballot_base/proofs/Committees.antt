@@ -1,5 +1,5 @@
 -- Increasing lists of one length: which they are, their order, and what comes after one of them.
-use Rattle.std.proofs.Common.{◌≡◌, ℕ, zero, suc, ◌+◌, ◌-◌, ◌<◌, ◌≤◌, ◌==◌, ◌⊎◌, ◌↔◌, Bool, true, false, cond, List, [], ◌∷◌, ◌++◌, refl, sym, ap, ◌∙◌, subst, arith, inl, inr, length, map, add-one, Contains, AllPairs, length-append, Greater}
+use Rattle.std.proofs.Common.{◌≡◌, ℕ, zero, suc, ◌+◌, ◌-◌, ◌<◌, ◌≤◌, ◌==◌, ◌⊎◌, ◌↔◌, Bool, true, false, cond, List, [], ◌∷◌, ◌++◌, refl, sym, ap, ◌∙◌, subst, arith, inl, inr, length, map, add-one, Contains, AllPairs, length-append, Greater, Option, Some, None, MatchOption}
 use Rattle.std.specs.List.{range_with_len, AllByRecursion}
 use Rattle.std.proofs.lemmas.Bool.{eq-eqb, ne_eqb, cases_eq, cases_lt, le-ltb, and_from}
 use Rattle.std.specs.Ordering.{nat_cmp, is_gt}
@@ -9,7 +9,7 @@ use Rattle.std.proofs.lemmas.List.Elements.{All-from_recursion, All-contains, Co
 use Rattle.std.proofs.lemmas.List.Kept.{AllPairs-cons}
 use Rattle.std.proofs.lemmas.List.FromFn.{length-range_with_len}
 use Rattle.ballot_base.specs.Lists.{IsIncreasing, lists_of, increasing_lists, IsLater}
-use Rattle.ballot_base.specs.Subsets.{lists_from, IsLastSet, IsNextSet}
+use Rattle.ballot_base.specs.Subsets.{lists_from, sets_from, IsPlace, IsLastSet, IsNextSet}
 use Rattle.ballot_base.proofs.Increasing.{IsIncreasing-lower}
 use Rattle.ballot_base.proofs.FirstMember.{slice_cmp_same}
 
@@ -230,3 +230,32 @@ chosen-from_contains first last size set h =
 
 pub increasing_lists-order : (first last size : ℕ) → AllPairs (λ x y. IsLater y x) (increasing_lists first last size)
 increasing_lists-order first last size = AllPairs-from_rising (increasing_lists first last size) (lists_of-rising (last + 1 - first) first size)
+
+-- ---- a place and the next one
+IsIncreasing-range : (from run last : ℕ) → from + run ≤ last + 1 → IsIncreasing from last (range_with_len from run)
+IsIncreasing-range from zero last h = tt
+IsIncreasing-range from (suc run) last h = (omega arith, omega arith, IsIncreasing-range (from + 1) run last (omega arith))
+
+pub length-increasing : (first last : ℕ) (set : List ℕ) → IsIncreasing first last set → length set ≤ last + 1 - first
+length-increasing first last [] i = omega arith
+length-increasing first last (x ∷ xs) i = omega (arith, length-increasing (x + 1) last xs i.2, i.0, i.1)
+
+IsIncreasing-grown : (first m : ℕ) (front : List ℕ) (last behind : ℕ) (rest : List ℕ) → last + behind < m → IsIncreasing first m (front ++ last ∷ rest) → IsIncreasing first m (front ++ range_with_len (last + 1) (suc behind))
+IsIncreasing-grown first m [] last behind rest h i =
+    IsIncreasing-lower first (last + 1) m (range_with_len (last + 1) (suc behind)) (omega (arith, i.0)) (IsIncreasing-range (last + 1) (suc behind) m (omega arith))
+IsIncreasing-grown first m (x ∷ front) last behind rest h i = (i.0, i.1, IsIncreasing-grown (x + 1) m front last behind rest h i.2)
+
+pub next_place : (m : ℕ) (set : List ℕ) (next : Option (List ℕ)) → m ≤ 40 → IsIncreasing 1 m set → MatchOption next (IsLastSet m set) (IsNextSet m set) → IsPlace m next × (lists_from m 1 set ≡ set ∷ sets_from m next)
+next_place m set None h i l =
+    let long = length-increasing 1 m set i in
+    (h, subst (λ s. lists_from m 1 s ≡ s ∷ []) (sym l) (lists_from-last m 1 (length set) (m + 1 - length set) (omega arith) (omega arith)))
+next_place m set (Some next) h i (front, last, behind, less, e, f) =
+    let inc = subst (λ s. IsIncreasing 1 m s) e i in
+    let step = lists_from-next m 1 m front last behind (omega arith) less inc in
+    ((h, subst (λ s. IsIncreasing 1 m s) (sym f) (IsIncreasing-grown 1 m front last behind (range_with_len (m + 1 - behind) behind) less inc)),
+     rw (e, f) step)
+
+pub first_place : (m k : ℕ) → m ≤ 40 → k ≤ m → IsPlace m (Some (range_with_len 1 k)) × (lists_from m 1 (range_with_len 1 k) ≡ increasing_lists 1 m k)
+first_place m k h l =
+    let count : m + 1 - 1 ≡ m = omega arith in
+    ((h, IsIncreasing-range 1 k m (omega arith)), rw count (lists_from-first m 1 k l))
