@@ -105,7 +105,7 @@ order_above (y ∷ ys) = Less
 nat_cmp_same : (n : ℕ) → nat_cmp n n ≡ Equal
 nat_cmp_same n = rw (le-ltb n n (omega arith), eq-eqb n n refl)
 
-slice_cmp_same : (n : ℕ) (xs ys : List ℕ) → slice_cmp nat_cmp (n ∷ xs) (n ∷ ys) ≡ slice_cmp nat_cmp xs ys
+pub slice_cmp_same : (n : ℕ) (xs ys : List ℕ) → slice_cmp nat_cmp (n ∷ xs) (n ∷ ys) ≡ slice_cmp nat_cmp xs ys
 slice_cmp_same n xs ys = ap (λ o. ordering_then o (slice_cmp nat_cmp xs ys)) (nat_cmp_same n)
 
 slice_cmp_above : (p last : ℕ) (xs ys : List ℕ) → IsIncreasing (p + 1) last ys → slice_cmp nat_cmp (p ∷ xs) ys ≡ order_above ys

@@ -1,9 +1,12 @@
 //! A set of candidates, in one word.
-ghost use Rattle.std.specs.Prelude.{◌≡◌, ℕ, ◌≤◌, ◌↔◌, List, [], ◌∷◌, length, IsTrue, MatchOption, SomeIff};
+ghost use Rattle.std.specs.Prelude.{◌≡◌, ℕ, ◌+◌, ◌-◌, ◌^◌, ◌<◌, ◌≤◌, ◌↔◌, List, [], ◌∷◌, length, IsTrue, MatchOption, SomeIff};
+ghost use Rattle.std.specs.Int.{bit_at};
+ghost use Rattle.std.specs.List.{range_with_len};
 ghost use Rattle.std.specs.Cmp.Lexicographic.{slice_cmp};
 ghost use Rattle.std.specs.Ordering.{nat_cmp};
 ghost use Rattle.ballot_base.specs.Lists.{IsIncreasing};
 ghost use Rattle.ballot_base.specs.CandSet.{has_member, with_member, without_member, common_members};
+ghost use Rattle.ballot_base.specs.Subsets.{IsLastSet, IsNextSet};
 
 use std::cmp::Ordering;
 use std::marker::Model;
@@ -143,4 +146,55 @@ impl CandSet {
             Ordering::Greater
         }
     }
+
+    /// The set of the numbers 1 to n.
+    pub(crate) fn up_to(n: u8) -> CandSet
+        requires { n ≤ 40 }
+        ensures { result ≡ range_with_len 1 n }
+    {
+        CandSet { bits: numbers_to(n) }
+    }
+
+    /// The set right after this one, in lexicographic order, of the sets of its size of the candidates 1 to m.
+    pub(crate) fn next_of_size(self, m: u8) -> Option<CandSet>
+        requires most { m ≤ 40 }
+        requires candidates { IsIncreasing 1 m self }
+        ensures { MatchOption result (IsLastSet m self) (IsNextSet m self) }
+    {
+        let absent = numbers_to(m) & !self.bits;
+        if absent == 0 {
+            return None;
+        }
+        // Above the greatest number that is no member all are members, and the next member below it grows.
+        let free = greatest(absent);
+        let below = self.bits & numbers_to(free - 1);
+        if below == 0 {
+            return None;
+        }
+        let last = greatest(below);
+        let run = numbers_to(last + 1 + (m - free)) - numbers_to(last);
+        Some(CandSet {
+            bits: below & numbers_to(last - 1) | run,
+        })
+    }
+}
+
+/// The word of the numbers 1 to n.
+fn numbers_to(n: u8) -> u64
+    requires { n ≤ 40 }
+    ensures { result ≡ 2 ^ n - 1 }
+{
+    (1 << n) - 1
+}
+
+/// The greatest number of a word.
+fn greatest(bits: u64) -> u8
+    requires some { 0 < bits }
+    requires most { bits < 2 ^ 40 }
+    ensures low { 1 ≤ result }
+    ensures high { result ≤ 40 }
+    ensures member { bit_at bits (result - 1) ≡ 1 }
+    ensures above { (i : ℕ) → result ≤ i → bit_at bits i ≡ 0 }
+{
+    64 - bits.leading_zeros() as u8
 }

@@ -3,6 +3,8 @@
 
 pub mod cand_set;
 pub mod profile;
+pub mod subsets;
 
 pub use cand_set::CandSet;
 pub use profile::{AddFault, FinishFault, Profile, ProfileBuilder};
+pub use subsets::KSets;

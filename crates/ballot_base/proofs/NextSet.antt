@@ -1,0 +1,276 @@
+-- The word of the set after another one of its size.
+use Rattle.std.proofs.Common.{◌≡◌, ℕ, zero, suc, ◌+◌, ◌-◌, ◌*◌, ◌/◌, ◌%◌, ◌^◌, ◌<◌, ◌≤◌, ◌==◌, ◌⊎◌, Bool, true, false, cond, min, max, List, [], ◌∷◌, ◌++◌, refl, sym, ap, ◌∙◌, subst, arith, inl, inr, length, filter, add-one, bit_and, bit_or, w64, append_assoc, append-nil, add-zero, zero-add}
+use Rattle.std.specs.Int.{bit_at, bit_not}
+use Rattle.std.specs.Int.Count.{count_leading_zeros}
+use Rattle.std.specs.List.{range_with_len}
+use Rattle.std.proofs.lemmas.Bool.{eqb-false, cases_eq, cases_lt}
+use Rattle.std.proofs.lemmas.List.Elements.{filter-append}
+use Rattle.std.proofs.lemmas.List.FromFn.{length-range_with_len}
+use Rattle.std.proofs.lemmas.Nat.{leading_top, pow-add, pow_pos, pow_below, or_lt, and_le_l, and_le_r}
+use Rattle.std.proofs.Math.Pow.{pow_mono}
+use Rattle.std.proofs.lemmas.Nat.Bits.{bit_at-lt, bit_at-zero, bit_at_and, bit_at_or, bit_at_not, bit_at_ones, bit_at_ones_above, bit_at_above, bit_at_cat_high, bit_at_mask_inside, bit_at_mask_below, bit_at_mask_above}
+use Rattle.ballot_base.specs.Lists.{IsIncreasing}
+use Rattle.ballot_base.specs.CandSet.{members_among, members, has_member}
+use Rattle.ballot_base.specs.Subsets.{IsLastSet, IsNextSet}
+use Rattle.ballot_base.proofs.Increasing.{has_member-above}
+use Rattle.ballot_base.proofs.Members.{members_among_yes, members_among_no, members_among_none, has_member-members}
+
+-- ---- the greatest number of a word
+pub greatest_is : (bits : ℕ) → 0 < bits → bits < 2 ^ 40 → (64 - count_leading_zeros 64 bits ≤ 40) × (bit_at bits (64 - count_leading_zeros 64 bits - 1) ≡ 1) × ((i : ℕ) → 64 - count_leading_zeros 64 bits ≤ i → bit_at bits i ≡ 0)
+greatest_is bits some most =
+    let top = leading_top 64 bits some (omega arith) in
+    let j : ℕ = top.0 in
+    let is : 64 - count_leading_zeros 64 bits ≡ suc j = omega (arith, top.1) in
+    let fits : suc j ≤ 40 = elim (cases_lt j 40) [ inl h ↦ h | inr h ↦ absurd (omega (arith, top.2, pow_mono {i = 40} {j = j} h)) ] in
+    let two : 2 ^ suc j ≡ 2 ^ j * 2 = subst (λ n. 2 ^ n ≡ 2 ^ j * 2) (add-one j) (pow-add 2 j 1) in
+    let parts : bits ≡ 1 * 2 ^ j + (bits - 2 ^ j) = omega (arith, top.2) in
+    let one : bit_at bits j ≡ 1 =
+        ap (λ n. bit_at n j) parts ∙ (bit_at_cat_high 1 j (bits - 2 ^ j) j (omega (arith, top.3, two, top.2)) (omega arith) ∙ ap (bit_at 1) (let z : j - j ≡ 0 = omega arith in z)) in
+    let back : suc j - 1 ≡ j = omega arith in
+    rw is (fits, ap (bit_at bits) back ∙ one, λ i h. bit_at_above bits (suc j) i top.3 h)
+
+-- ---- runs of members
+range-append : (a i j : ℕ) → range_with_len a (i + j) ≡ range_with_len a i ++ range_with_len (a + i) j
+range-append a zero j = rw (zero-add, add-zero)
+range-append a (suc i) j =
+    let e : a + 1 + i ≡ a + suc i = omega arith in
+    let f : suc i + j ≡ suc (i + j) = omega arith in
+    rw (f, ← e) (ap (λ s. a ∷ s) (range-append (a + 1) i j))
+
+pub members_among-append : (first i j bits : ℕ) → members_among first (i + j) bits ≡ members_among first i bits ++ members_among (first + i) j bits
+unfolding members_among
+members_among-append first i j bits =
+    ap (filter (λ n. bit_at bits (n - 1) == 1)) (range-append first i j) ∙ filter-append (λ n. bit_at bits (n - 1) == 1) (range_with_len first i) (range_with_len (first + i) j)
+
+pub members_among_full : (first count bits : ℕ) → ((n : ℕ) → first ≤ n → n < first + count → bit_at bits (n - 1) ≡ 1) → members_among first count bits ≡ range_with_len first count
+members_among_full first zero bits h = members_among_none first bits
+members_among_full first (suc count) bits h =
+    members_among_yes first count bits (h first (omega arith) (omega arith))
+    ∙ ap (λ s. first ∷ s) (members_among_full (first + 1) count bits (λ n l u. h n (omega arith) (omega arith)))
+
+pub members_among_clear : (first count bits : ℕ) → ((n : ℕ) → first ≤ n → n < first + count → bit_at bits (n - 1) ≡ 0) → members_among first count bits ≡ []
+members_among_clear first zero bits h = members_among_none first bits
+members_among_clear first (suc count) bits h =
+    members_among_no first count bits (λ e. omega (arith, e, h first (omega arith) (omega arith)))
+    ∙ members_among_clear (first + 1) count bits (λ n l u. h n (omega arith) (omega arith))
+
+pub members_among_same : (first count a b : ℕ) → ((n : ℕ) → first ≤ n → n < first + count → bit_at a (n - 1) ≡ bit_at b (n - 1)) → members_among first count a ≡ members_among first count b
+members_among_same first zero a b h = members_among_none first a ∙ sym (members_among_none first b)
+members_among_same first (suc count) a b h =
+    let rest = members_among_same (first + 1) count a b (λ n l u. h n (omega arith) (omega arith)) in
+    let here = h first (omega arith) (omega arith) in
+    elim (cases_eq (bit_at a (first - 1)) 1) [
+      inl one ↦ members_among_yes first count a one ∙ (ap (λ s. first ∷ s) rest ∙ sym (members_among_yes first count b (sym here ∙ one)))
+    | inr other ↦ members_among_no first count a other ∙ (rest ∙ sym (members_among_no first count b (λ e. other (here ∙ e))))
+    ]
+
+-- the numbers 1 to low as in b, then none, then a run, then none
+pub stacked : (a b low from run : ℕ) → low + 1 ≤ from → from + run ≤ 41 → ((n : ℕ) → 1 ≤ n → n ≤ low → bit_at a (n - 1) ≡ bit_at b (n - 1)) → ((n : ℕ) → low < n → n < from → bit_at a (n - 1) ≡ 0) → ((n : ℕ) → from ≤ n → n < from + run → bit_at a (n - 1) ≡ 1) → ((n : ℕ) → from + run ≤ n → n ≤ 40 → bit_at a (n - 1) ≡ 0) → members a ≡ members_among 1 low b ++ range_with_len from run
+unfolding members
+stacked a b low from run l h same gap full rest =
+    let g : ℕ = from - 1 - low in
+    let r : ℕ = 41 - from - run in
+    let all : low + (g + (run + r)) ≡ 40 = omega arith in
+    let at_gap : 1 + low + g ≡ from = omega arith in
+    subst (λ n. members_among 1 n a ≡ members_among 1 low b ++ range_with_len from run) all
+    (members_among-append 1 low (g + (run + r)) a
+    ∙ (rw (members_among_same 1 low a b (λ n k u. same n k (omega arith)),
+           members_among-append (1 + low) g (run + r) a,
+           members_among_clear (1 + low) g a (λ n k u. gap n (omega arith) (omega arith)),
+           at_gap,
+           members_among-append from run r a,
+           members_among_full from run a full,
+           members_among_clear (from + run) r a (λ n k u. rest n k (omega arith)),
+           append-nil)))
+
+-- ---- the two words
+-- a set that is a run up to m is the last of its size
+IsLastSet-from_run : (m from run : ℕ) (set : List ℕ) → set ≡ range_with_len from run → from + run ≡ m + 1 → IsLastSet m set
+IsLastSet-from_run m from run set e h =
+    let long : length set ≡ run = ap length e ∙ length-range_with_len from run in
+    let low : m + 1 - run ≡ from = omega arith in
+    rw (long, low) e
+
+-- a set of the numbers 1 to m has none above m
+none_above : (bits m : ℕ) → IsIncreasing 1 m (members bits) → (n : ℕ) → 1 ≤ n → m < n → n ≤ 40 → bit_at bits (n - 1) ≡ 0
+none_above bits m i n low h high =
+    let no : (bit_at bits (n - 1) == 1) ≡ false = sym (has_member-members bits n low high) ∙ has_member-above 1 m (members bits) n i h in
+    let ne : bit_at bits (n - 1) ≡ 1 → ⊥ = eqb-false (bit_at bits (n - 1)) 1 no in
+    omega (arith, ne, bit_at-lt bits (n - 1))
+
+-- the numbers 1 to m that a word has not
+absent_bit : (bits m i : ℕ) → bits < 2 ^ 40 → m ≤ 40 → i < 40 → bit_at (bit_and (2 ^ m - 1) (2 ^ 64 - 1 - bits)) i ≡ min (bit_at (2 ^ m - 1) i) (1 - bit_at bits i)
+absent_bit bits m i b h k = bit_at_and (2 ^ m - 1) (2 ^ 64 - 1 - bits) i ∙ ap (λ n. min (bit_at (2 ^ m - 1) i) n) (bit_at_not w64 bits i (omega arith) (omega arith))
+
+-- f is the greatest of them, or 0 where there is none
+pub record IsFree (bits m f : ℕ) : Type 0 where
+  pub most : f ≤ m
+  pub absent : 0 < f → bit_at bits (f - 1) ≡ 0
+  pub above : (n : ℕ) → f < n → n ≤ m → bit_at bits (n - 1) ≡ 1
+
+free_none : (bits m : ℕ) → bits < 2 ^ 40 → m ≤ 40 → bit_and (2 ^ m - 1) (2 ^ 64 - 1 - bits) ≡ 0 → IsFree bits m 0
+free_none bits m b h e = record {
+  most = omega arith;
+  absent = λ p. absurd (omega arith);
+  above = λ n l u.
+    let w = absent_bit bits m (n - 1) b h (omega arith) in
+    let z = ap (λ x. bit_at x (n - 1)) e ∙ bit_at-zero (n - 1) in
+    omega (arith, w, z, bit_at_ones m (n - 1) (omega arith), bit_at-lt bits (n - 1))
+}
+
+free_some : (bits m f : ℕ) → bits < 2 ^ 40 → m ≤ 40 → 1 ≤ f → f ≤ 40 → bit_at (bit_and (2 ^ m - 1) (2 ^ 64 - 1 - bits)) (f - 1) ≡ 1 → ((i : ℕ) → f ≤ i → bit_at (bit_and (2 ^ m - 1) (2 ^ 64 - 1 - bits)) i ≡ 0) → IsFree bits m f
+free_some bits m f b h low high here clear =
+    let w = absent_bit bits m (f - 1) b h (omega arith) in
+    record {
+      most = elim (cases_lt m f) [
+          inl over ↦ absurd (omega (arith, w, here, bit_at_ones_above m (f - 1) (omega arith)))
+        | inr within ↦ within
+        ];
+      absent = λ p. omega (arith, w, here, bit_at-lt bits (f - 1));
+      above = λ n l u.
+        let v = absent_bit bits m (n - 1) b h (omega arith) in
+        omega (arith, v, clear (n - 1) (omega arith), bit_at_ones m (n - 1) (omega arith), bit_at-lt bits (n - 1))
+    }
+
+-- a set above whose free numbers all are members, and below them none, is the last
+pub last_if_none_free : (bits m : ℕ) → bits < 2 ^ 40 → m ≤ 40 → IsIncreasing 1 m (members bits) → bit_and (2 ^ m - 1) (2 ^ 64 - 1 - bits) ≡ 0 → IsLastSet m (members bits)
+last_if_none_free bits m b h i e =
+    let free = free_none bits m b h e in
+    let run : members bits ≡ range_with_len 1 m =
+        stacked bits bits 0 1 m (omega arith) (omega arith) (λ n l u. refl) (λ n l u. absurd (omega arith)) (λ n l u. free.above n (omega arith) (omega arith)) (λ n l u. none_above bits m i n (omega arith) (omega arith) u)
+        ∙ ap (λ s. s ++ range_with_len 1 m) (members_among_none 1 bits) in
+    IsLastSet-from_run m 1 m (members bits) run (omega arith)
+
+below_in : (bits k i : ℕ) → i < k → bit_at (bit_and bits (2 ^ k - 1)) i ≡ bit_at bits i
+below_in bits k i h = let e = bit_at_and bits (2 ^ k - 1) i in omega (arith, e, bit_at_ones k i h, bit_at-lt bits i)
+
+below_out : (bits k i : ℕ) → k ≤ i → bit_at (bit_and bits (2 ^ k - 1)) i ≡ 0
+below_out bits k i h = let e = bit_at_and bits (2 ^ k - 1) i in omega (arith, e, bit_at_ones_above k i h)
+
+last_if_none_below_free : (bits m f : ℕ) → m ≤ 40 → 1 ≤ f → IsIncreasing 1 m (members bits) → IsFree bits m f → bit_and bits (2 ^ (f - 1) - 1) ≡ 0 → IsLastSet m (members bits)
+last_if_none_below_free bits m f h low i free e =
+    let gap : (n : ℕ) → 0 < n → n < f + 1 → bit_at bits (n - 1) ≡ 0 = λ n l u.
+        elim (cases_lt n f) [
+          inl under ↦ sym (below_in bits (f - 1) (n - 1) (omega arith)) ∙ (ap (λ x. bit_at x (n - 1)) e ∙ bit_at-zero (n - 1))
+        | inr at ↦ let same : n ≡ f = omega arith in ap (λ x. bit_at bits (x - 1)) same ∙ free.absent low
+        ] in
+    let most = free.most in
+    let run : members bits ≡ range_with_len (f + 1) (m - f) =
+        stacked bits bits 0 (f + 1) (m - f) (omega arith) (omega arith) (λ n l u. refl) gap (λ n l u. free.above n (omega arith) (omega arith)) (λ n l u. none_above bits m i n (omega arith) (omega arith) u)
+        ∙ ap (λ s. s ++ range_with_len (f + 1) (m - f)) (members_among_none 1 bits) in
+    IsLastSet-from_run m (f + 1) (m - f) (members bits) run (omega arith)
+
+-- l is the greatest member below f
+pub record IsGrowing (bits f l : ℕ) : Type 0 where
+  pub low : 1 ≤ l
+  pub less : l < f
+  pub member : bit_at bits (l - 1) ≡ 1
+  pub gap : (n : ℕ) → l < n → n < f → bit_at bits (n - 1) ≡ 0
+
+growing_from : (bits f l : ℕ) → 1 ≤ f → 1 ≤ l → bit_at (bit_and bits (2 ^ (f - 1) - 1)) (l - 1) ≡ 1 → ((i : ℕ) → l ≤ i → bit_at (bit_and bits (2 ^ (f - 1) - 1)) i ≡ 0) → IsGrowing bits f l
+growing_from bits f l some low here clear =
+    let less : l < f = elim (cases_lt l f) [
+        inl under ↦ under
+      | inr over ↦ absurd (omega (arith, here, below_out bits (f - 1) (l - 1) (omega arith)))
+      ] in
+    record {
+      low = low;
+      less = less;
+      member = sym (below_in bits (f - 1) (l - 1) (omega arith)) ∙ here;
+      gap = λ n k u. sym (below_in bits (f - 1) (n - 1) (omega arith)) ∙ clear (n - 1) (omega arith)
+    }
+
+-- the word of the next set
+pub grown : ℕ → ℕ → ℕ → ℕ → ℕ
+grown bits m f l = bit_or (bit_and (bit_and bits (2 ^ (f - 1) - 1)) (2 ^ (l - 1) - 1)) (2 ^ (l + 1 + (m - f)) - 2 ^ l)
+
+grown_bit : (bits m f l i : ℕ) → bit_at (grown bits m f l) i ≡ max (bit_at (bit_and (bit_and bits (2 ^ (f - 1) - 1)) (2 ^ (l - 1) - 1)) i) (bit_at (2 ^ (l + 1 + (m - f)) - 2 ^ l) i)
+unfolding grown
+grown_bit bits m f l i = bit_at_or (bit_and (bit_and bits (2 ^ (f - 1) - 1)) (2 ^ (l - 1) - 1)) (2 ^ (l + 1 + (m - f)) - 2 ^ l) i
+
+grown_below : (bits m f l i : ℕ) → l < f → i < l - 1 → bit_at (grown bits m f l) i ≡ bit_at bits i
+grown_below bits m f l i g h =
+    omega (arith, grown_bit bits m f l i, below_in (bit_and bits (2 ^ (f - 1) - 1)) (l - 1) i h, below_in bits (f - 1) i (omega arith), bit_at_mask_below l (l + 1 + (m - f)) i (omega arith))
+
+grown_gap : (bits m f l i : ℕ) → l - 1 ≤ i → i < l → bit_at (grown bits m f l) i ≡ 0
+grown_gap bits m f l i g h =
+    omega (arith, grown_bit bits m f l i, below_out (bit_and bits (2 ^ (f - 1) - 1)) (l - 1) i g, bit_at_mask_below l (l + 1 + (m - f)) i h)
+
+grown_run : (bits m f l i : ℕ) → l ≤ i → i < l + 1 + (m - f) → bit_at (grown bits m f l) i ≡ 1
+grown_run bits m f l i g h =
+    omega (arith, grown_bit bits m f l i, below_out (bit_and bits (2 ^ (f - 1) - 1)) (l - 1) i (omega arith), bit_at_mask_inside l (l + 1 + (m - f)) i g h)
+
+grown_above : (bits m f l i : ℕ) → l + 1 + (m - f) ≤ i → bit_at (grown bits m f l) i ≡ 0
+grown_above bits m f l i g =
+    omega (arith, grown_bit bits m f l i, below_out (bit_and bits (2 ^ (f - 1) - 1)) (l - 1) i (omega arith), bit_at_mask_above l (l + 1 + (m - f)) i g)
+
+members_grown : (bits m f l : ℕ) → m ≤ 40 → f ≤ m → IsGrowing bits f l → members (grown bits m f l) ≡ members_among 1 (l - 1) bits ++ range_with_len (l + 1) (suc (m - f))
+members_grown bits m f l h most g =
+    let low = g.low in
+    let less = g.less in
+    stacked (grown bits m f l) bits (l - 1) (l + 1) (suc (m - f)) (omega arith) (omega arith)
+    (λ n k u. grown_below bits m f l (n - 1) less (omega arith))
+    (λ n k u. grown_gap bits m f l (n - 1) (omega arith) (omega arith))
+    (λ n k u. grown_run bits m f l (n - 1) (omega arith) (omega arith))
+    (λ n k u. grown_above bits m f l (n - 1) (omega arith))
+
+members_before : (bits m f l : ℕ) → m ≤ 40 → IsIncreasing 1 m (members bits) → IsFree bits m f → IsGrowing bits f l → members bits ≡ members_among 1 (l - 1) bits ++ l ∷ range_with_len (m + 1 - (m - f)) (m - f)
+members_before bits m f l h i free g =
+    let low = g.low in
+    let less = g.less in
+    let most = free.most in
+    let start : m + 1 - (m - f) ≡ f + 1 = omega arith in
+    let gap : (n : ℕ) → l < n → n < f + 1 → bit_at bits (n - 1) ≡ 0 = λ n k u.
+        elim (cases_lt n f) [
+          inl under ↦ g.gap n k under
+        | inr at ↦ let same : n ≡ f = omega arith in ap (λ x. bit_at bits (x - 1)) same ∙ free.absent (omega arith)
+        ] in
+    let runs : members bits ≡ members_among 1 l bits ++ range_with_len (f + 1) (m - f) =
+        stacked bits bits l (f + 1) (m - f) (omega arith) (omega arith) (λ n k u. refl) gap (λ n k u. free.above n (omega arith) (omega arith)) (λ n k u. none_above bits m i n (omega arith) (omega arith) u) in
+    let whole : l - 1 + 1 ≡ l = omega arith in
+    let next : 1 + (l - 1) ≡ l = omega arith in
+    let front : members_among 1 l bits ≡ members_among 1 (l - 1) bits ++ l ∷ [] =
+        subst (λ n. members_among 1 n bits ≡ members_among 1 (l - 1) bits ++ l ∷ []) whole
+        (members_among-append 1 (l - 1) 1 bits ∙ ap (λ s. members_among 1 (l - 1) bits ++ s) (rw next (members_among_full l 1 bits (λ n k u. let same : n ≡ l = omega arith in ap (λ x. bit_at bits (x - 1)) same ∙ g.member)))) in
+    rw (start, runs, front) (append_assoc (members_among 1 (l - 1) bits) (l ∷ []) (range_with_len (f + 1) (m - f)))
+
+-- ---- the same, of words that the code computes
+pub free_of : (bits m word f : ℕ) → bits < 2 ^ 40 → m ≤ 40 → word ≡ 2 ^ m - 1 → 1 ≤ f → f ≤ 40 → bit_at (bit_and word (2 ^ 64 - 1 - bits)) (f - 1) ≡ 1 → ((i : ℕ) → f ≤ i → bit_at (bit_and word (2 ^ 64 - 1 - bits)) i ≡ 0) → IsFree bits m f
+free_of bits m word f b h e low high = rw e (free_some bits m f b h low high)
+
+pub growing_of : (bits word f l : ℕ) → word ≡ 2 ^ (f - 1) - 1 → 1 ≤ f → 1 ≤ l → bit_at (bit_and bits word) (l - 1) ≡ 1 → ((i : ℕ) → l ≤ i → bit_at (bit_and bits word) i ≡ 0) → IsGrowing bits f l
+growing_of bits word f l e some low = rw e (growing_from bits f l some low)
+
+pub last_if_all : (bits m word : ℕ) → bits < 2 ^ 40 → m ≤ 40 → word ≡ 2 ^ m - 1 → IsIncreasing 1 m (members bits) → bit_and word (2 ^ 64 - 1 - bits) ≡ 0 → IsLastSet m (members bits)
+last_if_all bits m word b h e i = rw e (last_if_none_free bits m b h i)
+
+pub last_if_none_below : (bits m word f : ℕ) → m ≤ 40 → word ≡ 2 ^ (f - 1) - 1 → 1 ≤ f → IsIncreasing 1 m (members bits) → IsFree bits m f → bit_and bits word ≡ 0 → IsLastSet m (members bits)
+last_if_none_below bits m word f h e low i free = rw e (last_if_none_below_free bits m f h low i free)
+
+pub grown_is : (bits m f l below low high last : ℕ) → below ≡ 2 ^ (f - 1) - 1 → low ≡ 2 ^ (l - 1) - 1 → high ≡ 2 ^ (l + 1 + (m - f)) - 1 → last ≡ 2 ^ l - 1 → bit_or (bit_and (bit_and bits below) low) (high - last) ≡ grown bits m f l
+unfolding grown
+grown_is bits m f l below low high last d e h k =
+    let run : high - last ≡ 2 ^ (l + 1 + (m - f)) - 2 ^ l = omega (arith, h, k, pow_pos l) in
+    rw (d, e, run)
+
+pub bound_of_grown : (bits m f l : ℕ) → bits < 2 ^ 40 → m ≤ 40 → f ≤ m → l < f → grown bits m f l < 2 ^ 40
+unfolding grown
+bound_of_grown bits m f l b h most less =
+    let low : ℕ = bit_and (bit_and bits (2 ^ (f - 1) - 1)) (2 ^ (l - 1) - 1) in
+    let fits : low < 2 ^ 40 = omega (arith, and_le_l (bit_and bits (2 ^ (f - 1) - 1)) (2 ^ (l - 1) - 1), and_le_l bits (2 ^ (f - 1) - 1)) in
+    let top : 2 ^ (l + 1 + (m - f)) ≤ 2 ^ 40 = pow_mono {i = l + 1 + (m - f)} {j = 40} (omega arith) in
+    or_lt 40 low (2 ^ (l + 1 + (m - f)) - 2 ^ l) fits (omega (arith, top, pow_pos l))
+
+pub IsNextSet-grown : (bits m f l : ℕ) → m ≤ 40 → IsIncreasing 1 m (members bits) → IsFree bits m f → IsGrowing bits f l → IsNextSet m (members bits) (members (grown bits m f l))
+IsNextSet-grown bits m f l h i free g =
+    let less = g.less in
+    let most = free.most in
+    (members_among 1 (l - 1) bits, l, m - f, omega arith, members_before bits m f l h i free g, members_grown bits m f l h most g)
+
+pub members_up_to : (n : ℕ) → n ≤ 40 → members (2 ^ n - 1) ≡ range_with_len 1 n
+members_up_to n h =
+    stacked (2 ^ n - 1) (2 ^ n - 1) 0 1 n (omega arith) (omega arith) (λ k l u. refl) (λ k l u. absurd (omega arith)) (λ k l u. bit_at_ones n (k - 1) (omega arith)) (λ k l u. bit_at_ones_above n (k - 1) (omega arith))
+    ∙ ap (λ s. s ++ range_with_len 1 n) (members_among_none 1 (2 ^ n - 1))
+
+pub bound_of_up_to : (n : ℕ) → n ≤ 40 → 2 ^ n - 1 < 2 ^ 40
+bound_of_up_to n h = omega (arith, pow_mono {i = n} {j = 40} h, pow_pos n)
