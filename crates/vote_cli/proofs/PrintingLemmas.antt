@@ -100,6 +100,39 @@ Prints-sent {taken} {after} {waiting} h = record {
   broken = h.broken;
 }
 
+-- where nothing waits before
+pub Prints-from_empty : {taken : Option (List ℕ)} {after : Outlet} {waiting x : List ℕ} {has_failed ok : Bool} → waiting ≡ []
+    → Prints (outlet taken waiting has_failed) after ok x → Prints (outlet taken [] has_failed) after ok x
+Prints-from_empty {taken} {after} {waiting} {x} {has_failed} {ok} none h = subst (λ w. Prints (outlet taken w has_failed) after ok x) none h
+
+-- what waits after a text that broke off does not matter
+pub Prints-dropped : {before : Outlet} {taken : Option (List ℕ)} {waiting x : List ℕ} {has_failed ok : Bool} → ok ≡ false
+    → Prints before (outlet taken waiting has_failed) ok x → Prints before (outlet taken [] has_failed) ok x
+Prints-dropped {before} {taken} {waiting} {x} {has_failed} {ok} bad h = record {
+  sent = h.sent;
+  rest = h.rest;
+  order = h.order;
+  took = h.took;
+  whole = λ e. absurd (true≢false (sym e ∙ bad));
+  broken = h.broken;
+}
+
+-- and nothing waits after one that did not, where it says so
+pub Prints-to_empty : {before : Outlet} {taken : Option (List ℕ)} {waiting x : List ℕ} {has_failed ok : Bool} → (ok ≡ true → waiting ≡ [])
+    → Prints before (outlet taken waiting has_failed) ok x → Prints before (outlet taken [] has_failed) ok x
+Prints-to_empty {before} {taken} {waiting} {x} {has_failed} {ok} none h = record {
+  sent = h.sent;
+  rest = h.rest;
+  order = h.order;
+  took = h.took;
+  whole = λ e. ((h.whole e).0 ∙ none e, (h.whole e).1);
+  broken = h.broken;
+}
+
+pub is_ok-err : {V E : Type 0} (r : Result V E) → IsErr r → is_ok r ≡ false
+is_ok-err (Ok v) bad = absurd (true≢false (sym bad))
+is_ok-err (Err e) bad = refl
+
 -- where nothing waits
 pub Prints-empty : {taken taken' : Option (List ℕ)} {waiting x : List ℕ} {has_failed has_failed' ok : Bool} → waiting ≡ []
     → Prints (outlet taken [] has_failed) (outlet taken' [] has_failed') ok x → Prints (outlet taken waiting has_failed) (outlet taken' waiting has_failed') ok x

@@ -1,13 +1,16 @@
 //! The text of an election's winners.
-ghost use Rattle.std.specs.Prelude.{◌≡◌, ℕ, [], ◌∷◌, decimal, is_ok, true};
+ghost use Rattle.std.specs.Prelude.{◌≡◌, ◌≤◌, ◌==◌, [], ◌∷◌, cond, decimal, is_ok};
 ghost use Rattle.vote_cli.specs.Printing.{Prints, outlet};
-ghost use Rattle.vote_cli.specs.Text.{line, numbers_text, following_text, head_text, rule_word};
+ghost use Rattle.vote_cli.specs.Text.{line, numbers_text, following_text, head_text, rule_word, committees_text, elected_text};
+ghost use Rattle.vote_cli.specs.Winners.{approval_value, best_value, winners};
 
+use crate::approval::{approval_score, best_score};
 use crate::device::Sink;
-use crate::printing::{Waiting, WriteFailed, print, print_all};
+use crate::printing::{Waiting, WriteFailed, finish, print, print_all};
 use crate::request::Rule;
-use ballot_base::CandSet;
+use ballot_base::{CandSet, KSets, Profile};
 use itoa::Buffer;
+use std::alloc::Allocator;
 
 /// The word of a rule.
 fn word_of(rule: Rule) -> &'static [u8]
@@ -88,4 +91,61 @@ fn print_head<W: Sink>(
         b"/1\n",
     ];
     print_all(out, waiting, &pieces)
+}
+
+/// Prints the committee where its score is the best.
+fn print_if_best<W: Sink, A: Allocator + Copy>(
+    out: &mut W,
+    waiting: &mut Waiting,
+    profile: &Profile<A>,
+    committee: CandSet,
+    best: u64,
+) -> Result<(), WriteFailed>
+    ensures { Prints (outlet (W.contents out.old) waiting.old (W.has_failed out.old)) (outlet (W.contents out.new) waiting.new (W.has_failed out.new)) (is_ok result)
+        (cond (approval_value profile.now.rows committee == best) (line (numbers_text committee)) []) }
+{
+    if approval_score(profile, committee) == best {
+        print_committee(out, waiting, committee)
+    } else {
+        Ok(())
+    }
+}
+
+/// Prints the winners.
+fn print_winners<W: Sink, A: Allocator + Copy>(
+    out: &mut W,
+    waiting: &mut Waiting,
+    profile: &Profile<A>,
+    size: u8,
+    best: u64,
+) -> Result<(), WriteFailed>
+    requires some { 1 ≤ size }
+    requires fits { size ≤ profile.now.m }
+    requires best { best ≡ best_value (approval_value profile.now.rows) profile.now.m size }
+    ensures { Prints (outlet (W.contents out.old) waiting.old (W.has_failed out.old)) (outlet (W.contents out.new) waiting.new (W.has_failed out.new)) (is_ok result)
+        (committees_text (winners (approval_value profile.now.rows) profile.now.m size)) }
+{
+    for committee in KSets::new(profile.m(), size) {
+        print_if_best(out, waiting, profile, committee, best)?;
+    }
+    Ok(())
+}
+
+/// Prints the answer, and flushes the writer.
+pub(crate) fn print_elected<W: Sink, A: Allocator + Copy>(
+    out: &mut W,
+    profile: &Profile<A>,
+    rule: Rule,
+    size: u8,
+) -> Result<(), WriteFailed>
+    requires some { 1 ≤ size }
+    requires fits { size ≤ profile.now.m }
+    ensures { Prints (outlet (W.contents out.old) [] (W.has_failed out.old)) (outlet (W.contents out.new) [] (W.has_failed out.new)) (is_ok result) (elected_text rule size profile.now) }
+{
+    let best = best_score(profile, size);
+    let mut waiting = Waiting::new();
+    print_head(out, &mut waiting, rule, size, best)?;
+    print_winners(out, &mut waiting, profile, size, best)?;
+    print(out, &mut waiting, b"end\n")?;
+    finish(out, &mut waiting)
 }
