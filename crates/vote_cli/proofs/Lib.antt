@@ -1,5 +1,12 @@
 pub mod ApprovalLemmas
 pub mod InputLemmas
+pub mod PlainBallots
+pub mod PlainExamples
+pub mod PlainFiles
+pub mod PlainLoops
+pub mod PlainNumbers
+pub mod PlainOrders
+pub mod PlainSets
 pub mod PrintingLemmas
 pub mod TextLemmas
 pub mod WinnersLemmas

@@ -1,6 +1,10 @@
+pub mod Answer
 pub mod Device
+pub mod PlainFile
+pub mod PlainParse
 pub mod Printing
+pub mod Refusals
 pub mod Request
 pub mod Status
-pub mod Winners
 pub mod Text
+pub mod Winners

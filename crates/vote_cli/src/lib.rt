@@ -5,10 +5,13 @@ mod approval;
 pub mod device;
 mod elected;
 mod input;
+mod plain_reader;
 mod printing;
 pub mod request;
 pub mod status;
+pub mod whole_run;
 
 pub use device::{Device, Sink, Source, Told};
 pub use request::{Request, Rule};
 pub use status::Status;
+pub use whole_run::run;
