@@ -1,7 +1,7 @@
 -- Increasing lists of one length: which they are, their order, and what comes after one of them.
-use Rattle.std.proofs.Common.{◌≡◌, ℕ, zero, suc, ◌+◌, ◌-◌, ◌<◌, ◌≤◌, ◌==◌, ◌⊎◌, ◌↔◌, Bool, true, false, cond, List, [], ◌∷◌, ◌++◌, refl, sym, ap, ◌∙◌, subst, arith, inl, inr, length, map, add-one, Contains, AllPairs, length-append, Greater, Option, Some, None, MatchOption}
+use Rattle.std.proofs.Common.{◌≡◌, ℕ, zero, suc, ◌+◌, ◌-◌, ◌<◌, ◌≤◌, ◌==◌, ◌⊎◌, ◌↔◌, Bool, true, false, cond, List, [], ◌∷◌, ◌++◌, refl, sym, ap, ◌∙◌, subst, arith, inl, inr, length, map, add-one, Contains, AllPairs, length-append, Greater, Option, Some, None, MatchOption, get_or}
 use Rattle.std.specs.List.{range_with_len, AllByRecursion}
-use Rattle.std.proofs.lemmas.Bool.{eq-eqb, ne_eqb, cases_eq, cases_lt, le-ltb, and_from}
+use Rattle.std.proofs.lemmas.Bool.{eq-eqb, ne_eqb, cases_eq, cases_lt, le-ltb, and_from, and_parts, false≢true}
 use Rattle.std.specs.Ordering.{nat_cmp, is_gt}
 use Rattle.std.specs.Cmp.Lexicographic.{slice_cmp}
 use Rattle.std.proofs.lemmas.List.{get_or-map, length-map}
@@ -11,7 +11,7 @@ use Rattle.std.proofs.lemmas.List.FromFn.{length-range_with_len}
 use Rattle.ballot_base.specs.Lists.{IsIncreasing, lists_of, increasing_lists, IsLater}
 use Rattle.ballot_base.specs.Subsets.{lists_from, sets_from, IsPlace, IsLastSet, IsNextSet}
 use Rattle.ballot_base.proofs.Increasing.{IsIncreasing-lower}
-use Rattle.ballot_base.proofs.FirstMember.{slice_cmp_same}
+use Rattle.ballot_base.proofs.FirstMember.{slice_cmp_same, cmp_same}
 
 -- ---- the lists from one of them on, case by case
 lists_from-here : (count first x : ℕ) (rest : List ℕ) → x ≡ first → lists_from (suc count) first (x ∷ rest) ≡ map (λ list. first ∷ list) (lists_from count (first + 1) rest) ++ lists_of count (first + 1) (suc (length rest))
@@ -230,6 +230,17 @@ chosen-from_contains first last size set h =
 
 pub increasing_lists-order : (first last size : ℕ) → AllPairs (λ x y. IsLater y x) (increasing_lists first last size)
 increasing_lists-order first last size = AllPairs-from_rising (increasing_lists first last size) (lists_of-rising (last + 1 - first) first size)
+
+IsLater-self : (x : List ℕ) → IsLater x x → ⊥
+IsLater-self x h =
+    let gt : is_gt (slice_cmp nat_cmp x x) ≡ true = (and_parts (length x == length x) (is_gt (slice_cmp nat_cmp x x)) h).1 in
+    let no : is_gt (slice_cmp nat_cmp x x) ≡ false = ap is_gt (cmp_same x) in
+    false≢true (sym no ∙ gt)
+
+pub increasing_lists-once : (first last size : ℕ) → AllPairs (λ x y. x ≡ y → ⊥) (increasing_lists first last size)
+increasing_lists-once first last size = λ i j d l h e.
+    let xs : List (List ℕ) = increasing_lists first last size in
+    IsLater-self (get_or xs j d) (subst (λ x. IsLater (get_or xs j d) x) e (increasing_lists-order first last size i j d l h))
 
 -- ---- a place and the next one
 IsIncreasing-range : (from run last : ℕ) → from + run ≤ last + 1 → IsIncreasing from last (range_with_len from run)
