@@ -3,3 +3,4 @@ pub mod Members
 pub mod FirstMember
 pub mod Committees
 pub mod NextSet
+pub mod Examples
