@@ -130,5 +130,5 @@ is_election = record {
   names = refl;
   ballots = ((lit≤ tt, lit≤ tt, (lit≤ tt, lit≤ tt, tt)), (tt, tt));
   counts = (lit≤ tt, (lit≤ tt, tt));
-  voters = lit≤ tt
+  voters = lit≤ tt;
 }
