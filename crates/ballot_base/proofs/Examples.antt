@@ -1,9 +1,9 @@
 -- Each definition, computed on a small example.
-use Rattle.std.proofs.Common.{◌≡◌, ℕ, List, [], ◌∷◌, true, false, refl, lit≤, Some, None}
+use Rattle.std.proofs.Common.{◌≡◌, List, [], ◌∷◌, true, false, refl, lit≤, Some, None}
 use Rattle.ballot_base.specs.Lists.{IsIncreasing, lists_of, increasing_lists, is_later, IsLater}
 use Rattle.ballot_base.specs.CandSet.{members_among, members, word_of, has_member, with_member, without_member, common_members}
 use Rattle.ballot_base.specs.Subsets.{lists_from, sets_from, IsPlace, IsLastSet, IsNextSet}
-use Rattle.ballot_base.specs.Ballots.{Row, Election, IsElection, election, hits, voter_count, has_ballot, with_votes}
+use Rattle.ballot_base.specs.Ballots.{Row, IsElection, election, hits, voter_count, has_ballot, with_votes}
 
 -- ---- lists
 increasing : IsIncreasing 1 4 (1 ∷ 3 ∷ [])

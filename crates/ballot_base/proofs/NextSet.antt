@@ -1,16 +1,16 @@
 -- The word of the set after another one of its size.
-use Rattle.std.proofs.Common.{◌≡◌, ℕ, zero, suc, ◌+◌, ◌-◌, ◌*◌, ◌/◌, ◌%◌, ◌^◌, ◌<◌, ◌≤◌, ◌==◌, ◌⊎◌, Bool, true, false, cond, min, max, List, [], ◌∷◌, ◌++◌, refl, sym, ap, ◌∙◌, subst, arith, inl, inr, length, filter, add-one, bit_and, bit_or, w64, append_assoc, append-nil, add-zero, zero-add}
-use Rattle.std.specs.Int.{bit_at, bit_not}
+use Rattle.std.proofs.Common.{◌≡◌, ℕ, zero, suc, ◌+◌, ◌-◌, ◌*◌, ◌^◌, ◌<◌, ◌≤◌, ◌==◌, false, min, max, List, [], ◌∷◌, ◌++◌, refl, sym, ap, ◌∙◌, subst, arith, inl, inr, length, filter, add-one, bit_and, bit_or, w64, append_assoc, append-nil, add-zero, zero-add}
+use Rattle.std.specs.Int.{bit_at}
 use Rattle.std.specs.Int.Count.{count_leading_zeros}
 use Rattle.std.specs.List.{range_with_len}
 use Rattle.std.proofs.lemmas.Bool.{eqb-false, cases_eq, cases_lt}
 use Rattle.std.proofs.lemmas.List.Elements.{filter-append}
 use Rattle.std.proofs.lemmas.List.FromFn.{length-range_with_len}
-use Rattle.std.proofs.lemmas.Nat.{leading_top, pow-add, pow_pos, pow_below, or_lt, and_le_l, and_le_r}
+use Rattle.std.proofs.lemmas.Nat.{leading_top, pow-add, pow_pos, or_lt, and_le_l}
 use Rattle.std.proofs.Math.Pow.{pow_mono}
 use Rattle.std.proofs.lemmas.Nat.Bits.{bit_at-lt, bit_at-zero, bit_at_and, bit_at_or, bit_at_not, bit_at_ones, bit_at_ones_above, bit_at_above, bit_at_cat_high, bit_at_mask_inside, bit_at_mask_below, bit_at_mask_above}
 use Rattle.ballot_base.specs.Lists.{IsIncreasing}
-use Rattle.ballot_base.specs.CandSet.{members_among, members, has_member}
+use Rattle.ballot_base.specs.CandSet.{members_among, members}
 use Rattle.ballot_base.specs.Subsets.{IsLastSet, IsNextSet}
 use Rattle.ballot_base.proofs.Increasing.{has_member-above}
 use Rattle.ballot_base.proofs.Members.{members_among_yes, members_among_no, members_among_none, has_member-members}
