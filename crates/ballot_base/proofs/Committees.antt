@@ -231,6 +231,35 @@ chosen-from_contains first last size set h =
 pub increasing_lists-order : (first last size : ℕ) → AllPairs (λ x y. IsLater y x) (increasing_lists first last size)
 increasing_lists-order first last size = AllPairs-from_rising (increasing_lists first last size) (lists_of-rising (last + 1 - first) first size)
 
+-- ---- a list with what came before it and what comes after it, as in a walk
+AllByRecursion-at : (P : List ℕ → Type 0) (before : List (List ℕ)) (set : List ℕ) (after : List (List ℕ)) → AllByRecursion P (before ++ set ∷ after) → P set
+AllByRecursion-at P [] set after h = h.0
+AllByRecursion-at P (x ∷ before) set after h = AllByRecursion-at P before set after h.1
+
+Rising-behind : (before : List (List ℕ)) (set : List ℕ) (after : List (List ℕ)) → Rising (before ++ set ∷ after) → AllByRecursion (After set) after
+unfolding Rising
+Rising-behind [] set after h = h.0
+Rising-behind (x ∷ before) set after h = Rising-behind before set after h.1
+
+Rising-ahead : (before : List (List ℕ)) (set : List ℕ) (after : List (List ℕ)) → Rising (before ++ set ∷ after) → AllByRecursion (λ x. After x set) before
+unfolding Rising
+Rising-ahead [] set after h = tt
+Rising-ahead (x ∷ before) set after h = (AllByRecursion-at (After x) before set after h.0, Rising-ahead before set after h.1)
+
+pub increasing_lists-at : (first last size : ℕ) (before : List (List ℕ)) (set : List ℕ) (after : List (List ℕ)) → increasing_lists first last size ≡ before ++ set ∷ after → IsChosen first last size set
+increasing_lists-at first last size before set after e =
+    AllByRecursion-at (IsChosen first last size) before set after (subst (λ ls. AllByRecursion (IsChosen first last size) ls) e (increasing_lists-chosen first last size))
+
+pub increasing_lists-behind : (first last size : ℕ) (before : List (List ℕ)) (set : List ℕ) (after : List (List ℕ)) → increasing_lists first last size ≡ before ++ set ∷ after → AllByRecursion (λ x. IsLater x set) after
+increasing_lists-behind first last size before set after e =
+    AllByRecursion-weaker (After set) (λ x. IsLater x set) (λ x a. IsLater-from_after set x a) after
+    (Rising-behind before set after (subst (λ ls. Rising ls) e (lists_of-rising (last + 1 - first) first size)))
+
+pub increasing_lists-ahead : (first last size : ℕ) (before : List (List ℕ)) (set : List ℕ) (after : List (List ℕ)) → increasing_lists first last size ≡ before ++ set ∷ after → AllByRecursion (λ x. IsLater set x) before
+increasing_lists-ahead first last size before set after e =
+    AllByRecursion-weaker (λ x. After x set) (λ x. IsLater set x) (λ x a. IsLater-from_after x set a) before
+    (Rising-ahead before set after (subst (λ ls. Rising ls) e (lists_of-rising (last + 1 - first) first size)))
+
 IsLater-self : (x : List ℕ) → IsLater x x → ⊥
 IsLater-self x h =
     let gt : is_gt (slice_cmp nat_cmp x x) ≡ true = (and_parts (length x == length x) (is_gt (slice_cmp nat_cmp x x)) h).1 in

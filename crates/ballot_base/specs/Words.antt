@@ -1,4 +1,4 @@
--- The word of a set and the list of its members: each is found from the other.
+-- The word of a set is found back from its members.
 use Rattle.std.proofs.Common.{◌≡◌, ℕ, zero, suc, ◌+◌, ◌-◌, ◌*◌, ◌/◌, ◌%◌, ◌^◌, ◌<◌, ◌==◌, Bool, true, false, cond, List, ◌∷◌, sym, ◌∙◌, subst, arith, add-one, filter, sum_by}
 use Rattle.std.specs.List.{range_with_len}
 use Rattle.std.specs.Int.{bit_at}
