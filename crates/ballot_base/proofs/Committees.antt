@@ -1,7 +1,7 @@
 -- Increasing lists of one length: which they are, their order, and what comes after one of them.
-use Rattle.std.proofs.Common.{◌≡◌, ℕ, zero, suc, ◌+◌, ◌-◌, ◌<◌, ◌≤◌, ◌==◌, ◌⊎◌, ◌↔◌, Bool, true, false, cond, List, [], ◌∷◌, ◌++◌, refl, sym, ap, ◌∙◌, subst, arith, inl, inr, length, map, add-one, Contains, AllPairs, length-append, Greater, Option, Some, None, MatchOption}
+use Rattle.std.proofs.Common.{◌≡◌, ℕ, zero, suc, ◌+◌, ◌-◌, ◌<◌, ◌≤◌, ◌==◌, true, false, List, [], ◌∷◌, ◌++◌, refl, sym, ap, ◌∙◌, subst, arith, inl, inr, length, map, Contains, AllPairs, length-append, Greater, Option, Some, None, MatchOption, get_or}
 use Rattle.std.specs.List.{range_with_len, AllByRecursion}
-use Rattle.std.proofs.lemmas.Bool.{eq-eqb, ne_eqb, cases_eq, cases_lt, le-ltb, and_from}
+use Rattle.std.proofs.lemmas.Bool.{eq-eqb, ne_eqb, cases_eq, cases_lt, le-ltb, and_from, and_parts, false≢true}
 use Rattle.std.specs.Ordering.{nat_cmp, is_gt}
 use Rattle.std.specs.Cmp.Lexicographic.{slice_cmp}
 use Rattle.std.proofs.lemmas.List.{get_or-map, length-map}
@@ -11,7 +11,7 @@ use Rattle.std.proofs.lemmas.List.FromFn.{length-range_with_len}
 use Rattle.ballot_base.specs.Lists.{IsIncreasing, lists_of, increasing_lists, IsLater}
 use Rattle.ballot_base.specs.Subsets.{lists_from, sets_from, IsPlace, IsLastSet, IsNextSet}
 use Rattle.ballot_base.proofs.Increasing.{IsIncreasing-lower}
-use Rattle.ballot_base.proofs.FirstMember.{slice_cmp_same}
+use Rattle.ballot_base.proofs.FirstMember.{slice_cmp_same, cmp_same}
 
 -- ---- the lists from one of them on, case by case
 lists_from-here : (count first x : ℕ) (rest : List ℕ) → x ≡ first → lists_from (suc count) first (x ∷ rest) ≡ map (λ list. first ∷ list) (lists_from count (first + 1) rest) ++ lists_of count (first + 1) (suc (length rest))
@@ -58,12 +58,12 @@ lists_from-last count first zero low h e = lists_from-empty count first
 lists_from-last zero first (suc size) low h e = absurd (omega arith)
 lists_from-last (suc count) first (suc size) low h e =
     elim (cases_eq low first) [
-      inl same ↦
-        lists_from-here count first low (range_with_len (low + 1) size) same
-        ∙ (rw (lists_from-last count (first + 1) size (low + 1) (omega arith) (omega arith), length-range_with_len, lists_of-short count (first + 1) (suc size) (omega arith), same))
-    | inr other ↦
-        lists_from-later count first low (range_with_len (low + 1) size) other
-        ∙ lists_from-last count (first + 1) (suc size) low (omega arith) (omega arith)
+      | inl same ↦
+          lists_from-here count first low (range_with_len (low + 1) size) same
+          ∙ (rw (lists_from-last count (first + 1) size (low + 1) (omega arith) (omega arith), length-range_with_len, lists_of-short count (first + 1) (suc size) (omega arith), same))
+      | inr other ↦
+          lists_from-later count first low (range_with_len (low + 1) size) other
+          ∙ lists_from-last count (first + 1) (suc size) low (omega arith) (omega arith)
     ]
 
 -- ---- one step
@@ -80,30 +80,30 @@ lists_from-next (suc count) first m [] last behind e h i =
     let top : List ℕ = range_with_len (m + 1 - behind) behind in
     let grown : List ℕ = range_with_len (last + 1 + 1) behind in
     let skip : lists_from (suc count) first ((last + 1) ∷ grown) ≡ lists_from count (first + 1) ((last + 1) ∷ grown) =
-        lists_from-later count first (last + 1) grown (λ d. omega (arith, i.0, d)) in
+    lists_from-later count first (last + 1) grown (λ d. omega (arith, i.0, d)) in
     elim (cases_eq last first) [
-      inl same ↦
-        let all : lists_from count (first + 1) ((last + 1) ∷ grown) ≡ lists_of count (first + 1) (suc behind) =
-            subst (λ n. lists_from count (first + 1) (range_with_len (n + 1) (suc behind)) ≡ lists_of count (first + 1) (suc behind)) (sym same) (lists_from-first count (first + 1) (suc behind) (omega arith)) in
-        lists_from-here count first last top same
-        ∙ (rw (lists_from-last count (first + 1) behind (m + 1 - behind) (omega arith) (omega arith), length-range_with_len, skip, all, same))
-    | inr other ↦
-        lists_from-later count first last top other
-        ∙ (lists_from-next count (first + 1) m [] last behind (omega arith) h (omega (arith, i.0, other), i.1, i.2)
-        ∙ ap (λ ls. (last ∷ top) ∷ ls) (sym skip))
+      | inl same ↦
+          let all : lists_from count (first + 1) ((last + 1) ∷ grown) ≡ lists_of count (first + 1) (suc behind) =
+          subst (λ n. lists_from count (first + 1) (range_with_len (n + 1) (suc behind)) ≡ lists_of count (first + 1) (suc behind)) (sym same) (lists_from-first count (first + 1) (suc behind) (omega arith)) in
+          lists_from-here count first last top same
+          ∙ (rw (lists_from-last count (first + 1) behind (m + 1 - behind) (omega arith) (omega arith), length-range_with_len, skip, all, same))
+      | inr other ↦
+          lists_from-later count first last top other
+          ∙ (lists_from-next count (first + 1) m [] last behind (omega arith) h (omega (arith, i.0, other), i.1, i.2)
+          ∙ ap (λ ls. (last ∷ top) ∷ ls) (sym skip))
     ]
 lists_from-next (suc count) first m (x ∷ front) last behind e h i =
     let set : List ℕ = front ++ last ∷ range_with_len (m + 1 - behind) behind in
     let next : List ℕ = front ++ range_with_len (last + 1) (suc behind) in
     elim (cases_eq x first) [
-      inl same ↦
-        let rest = lists_from-next count (first + 1) m front last behind (omega arith) h (IsIncreasing-lower (first + 1) (x + 1) m set (omega (arith, same)) i.2) in
-        lists_from-here count first x set same
-        ∙ (rw (rest, same_length front last behind (m + 1 - behind), lists_from-here count first x next same, same))
-    | inr other ↦
-        lists_from-later count first x set other
-        ∙ (lists_from-next count (first + 1) m (x ∷ front) last behind (omega arith) h (omega (arith, i.0, other), i.1, i.2)
-        ∙ ap (λ ls. (x ∷ set) ∷ ls) (sym (lists_from-later count first x next other)))
+      | inl same ↦
+          let rest = lists_from-next count (first + 1) m front last behind (omega arith) h (IsIncreasing-lower (first + 1) (x + 1) m set (omega (arith, same)) i.2) in
+          lists_from-here count first x set same
+          ∙ (rw (rest, same_length front last behind (m + 1 - behind), lists_from-here count first x next same, same))
+      | inr other ↦
+          lists_from-later count first x set other
+          ∙ (lists_from-next count (first + 1) m (x ∷ front) last behind (omega arith) h (omega (arith, i.0, other), i.1, i.2)
+          ∙ ap (λ ls. (x ∷ set) ∷ ls) (sym (lists_from-later count first x next other)))
     ]
 
 -- ---- which lists they are
@@ -143,14 +143,14 @@ lists_of-contains (suc count) first last size (x ∷ rest) h i e =
     subst (λ n. Contains (lists_of (suc count) first n) (x ∷ rest)) e
     (rw (lists_of-more count first (length rest))
     (elim (cases_eq x first) [
-      inl same ↦
-        Contains-append_left (map (λ list. first ∷ list) (lists_of count (first + 1) (length rest))) (lists_of count (first + 1) (suc (length rest))) (x ∷ rest)
-        (subst (λ n. Contains (map (λ list. first ∷ list) (lists_of count (first + 1) (length rest))) (n ∷ rest)) (sym same)
-        (Contains-map (λ list. first ∷ list) (lists_of count (first + 1) (length rest)) rest
-        (lists_of-contains count (first + 1) last (length rest) rest (omega arith) (IsIncreasing-lower (first + 1) (x + 1) last rest (omega (arith, same)) i.2) refl)))
-    | inr other ↦
-        Contains-append_right (map (λ list. first ∷ list) (lists_of count (first + 1) (length rest))) (lists_of count (first + 1) (suc (length rest))) (x ∷ rest)
-        (lists_of-contains count (first + 1) last (suc (length rest)) (x ∷ rest) (omega arith) (omega (arith, i.0, other), i.1, i.2) refl)
+      | inl same ↦
+          Contains-append_left (map (λ list. first ∷ list) (lists_of count (first + 1) (length rest))) (lists_of count (first + 1) (suc (length rest))) (x ∷ rest)
+          (subst (λ n. Contains (map (λ list. first ∷ list) (lists_of count (first + 1) (length rest))) (n ∷ rest)) (sym same)
+          (Contains-map (λ list. first ∷ list) (lists_of count (first + 1) (length rest)) rest
+          (lists_of-contains count (first + 1) last (length rest) rest (omega arith) (IsIncreasing-lower (first + 1) (x + 1) last rest (omega (arith, same)) i.2) refl)))
+      | inr other ↦
+          Contains-append_right (map (λ list. first ∷ list) (lists_of count (first + 1) (length rest))) (lists_of count (first + 1) (suc (length rest))) (x ∷ rest)
+          (lists_of-contains count (first + 1) last (suc (length rest)) (x ∷ rest) (omega arith) (omega (arith, i.0, other), i.1, i.2) refl)
     ]))
 
 -- ---- their order
@@ -195,8 +195,8 @@ lists_of-rising (suc count) first (suc size) =
     rw (lists_of-more count first size)
     (Rising-append (map (λ rest. first ∷ rest) low) high (Rising-map first low (lists_of-rising count (first + 1) size)) (lists_of-rising count (first + 1) (suc size))
     (AllByRecursion-map (IsChosen (first + 1) last size) (λ x. AllByRecursion (After x) high) (λ rest. first ∷ rest)
-      (λ x i. AllByRecursion-weaker (IsChosen (first + 1) last (suc size)) (After (first ∷ x)) (λ y c. After-head first last size x y i.1 c) high above)
-      low (lists_of-chosen count (first + 1) last size (omega arith))))
+    (λ x i. AllByRecursion-weaker (IsChosen (first + 1) last (suc size)) (After (first ∷ x)) (λ y c. After-head first last size x y i.1 c) high above)
+    low (lists_of-chosen count (first + 1) last size (omega arith))))
 
 AllPairs-from_rising : (xs : List (List ℕ)) → Rising xs → AllPairs (λ x y. IsLater y x) xs
 unfolding Rising
@@ -214,10 +214,10 @@ lists_of-none first last (suc size) = rw (lists_of-short 0 first (suc size) (ome
 pub increasing_lists-chosen : (first last size : ℕ) → AllByRecursion (IsChosen first last size) (increasing_lists first last size)
 increasing_lists-chosen first last size =
     elim (cases_lt (last + 1) first) [
-      inl none ↦
-        let e : last + 1 - first ≡ 0 = omega arith in
-        subst (λ n. AllByRecursion (IsChosen first last size) (lists_of n first size)) (sym e) (lists_of-none first last size)
-    | inr some ↦ lists_of-chosen (last + 1 - first) first last size (omega arith)
+      | inl none ↦
+          let e : last + 1 - first ≡ 0 = omega arith in
+          subst (λ n. AllByRecursion (IsChosen first last size) (lists_of n first size)) (sym e) (lists_of-none first last size)
+      | inr some ↦ lists_of-chosen (last + 1 - first) first last size (omega arith)
     ]
 
 pub increasing_lists-contains : (first last size : ℕ) (set : List ℕ) → IsChosen first last size set → Contains (increasing_lists first last size) set
@@ -230,6 +230,46 @@ chosen-from_contains first last size set h =
 
 pub increasing_lists-order : (first last size : ℕ) → AllPairs (λ x y. IsLater y x) (increasing_lists first last size)
 increasing_lists-order first last size = AllPairs-from_rising (increasing_lists first last size) (lists_of-rising (last + 1 - first) first size)
+
+-- ---- a list with what came before it and what comes after it, as in a walk
+AllByRecursion-at : (P : List ℕ → Type 0) (before : List (List ℕ)) (set : List ℕ) (after : List (List ℕ)) → AllByRecursion P (before ++ set ∷ after) → P set
+AllByRecursion-at P [] set after h = h.0
+AllByRecursion-at P (x ∷ before) set after h = AllByRecursion-at P before set after h.1
+
+Rising-behind : (before : List (List ℕ)) (set : List ℕ) (after : List (List ℕ)) → Rising (before ++ set ∷ after) → AllByRecursion (After set) after
+unfolding Rising
+Rising-behind [] set after h = h.0
+Rising-behind (x ∷ before) set after h = Rising-behind before set after h.1
+
+Rising-ahead : (before : List (List ℕ)) (set : List ℕ) (after : List (List ℕ)) → Rising (before ++ set ∷ after) → AllByRecursion (λ x. After x set) before
+unfolding Rising
+Rising-ahead [] set after h = tt
+Rising-ahead (x ∷ before) set after h = (AllByRecursion-at (After x) before set after h.0, Rising-ahead before set after h.1)
+
+pub increasing_lists-at : (first last size : ℕ) (before : List (List ℕ)) (set : List ℕ) (after : List (List ℕ)) → increasing_lists first last size ≡ before ++ set ∷ after → IsChosen first last size set
+increasing_lists-at first last size before set after e =
+    AllByRecursion-at (IsChosen first last size) before set after (subst (λ ls. AllByRecursion (IsChosen first last size) ls) e (increasing_lists-chosen first last size))
+
+pub increasing_lists-behind : (first last size : ℕ) (before : List (List ℕ)) (set : List ℕ) (after : List (List ℕ)) → increasing_lists first last size ≡ before ++ set ∷ after → AllByRecursion (λ x. IsLater x set) after
+increasing_lists-behind first last size before set after e =
+    AllByRecursion-weaker (After set) (λ x. IsLater x set) (λ x a. IsLater-from_after set x a) after
+    (Rising-behind before set after (subst (λ ls. Rising ls) e (lists_of-rising (last + 1 - first) first size)))
+
+pub increasing_lists-ahead : (first last size : ℕ) (before : List (List ℕ)) (set : List ℕ) (after : List (List ℕ)) → increasing_lists first last size ≡ before ++ set ∷ after → AllByRecursion (λ x. IsLater set x) before
+increasing_lists-ahead first last size before set after e =
+    AllByRecursion-weaker (λ x. After x set) (λ x. IsLater set x) (λ x a. IsLater-from_after x set a) before
+    (Rising-ahead before set after (subst (λ ls. Rising ls) e (lists_of-rising (last + 1 - first) first size)))
+
+IsLater-self : (x : List ℕ) → IsLater x x → ⊥
+IsLater-self x h =
+    let gt : is_gt (slice_cmp nat_cmp x x) ≡ true = (and_parts (length x == length x) (is_gt (slice_cmp nat_cmp x x)) h).1 in
+    let no : is_gt (slice_cmp nat_cmp x x) ≡ false = ap is_gt (cmp_same x) in
+    false≢true (sym no ∙ gt)
+
+pub increasing_lists-once : (first last size : ℕ) → AllPairs (λ x y. x ≡ y → ⊥) (increasing_lists first last size)
+increasing_lists-once first last size = λ i j d l h e.
+    let xs : List (List ℕ) = increasing_lists first last size in
+    IsLater-self (get_or xs j d) (subst (λ x. IsLater (get_or xs j d) x) e (increasing_lists-order first last size i j d l h))
 
 -- ---- a place and the next one
 IsIncreasing-range : (from run last : ℕ) → from + run ≤ last + 1 → IsIncreasing from last (range_with_len from run)
@@ -251,9 +291,10 @@ next_place m set None h i l =
     (h, subst (λ s. lists_from m 1 s ≡ s ∷ []) (sym l) (lists_from-last m 1 (length set) (m + 1 - length set) (omega arith) (omega arith)))
 next_place m set (Some next) h i (front, last, behind, less, e, f) =
     let inc = subst (λ s. IsIncreasing 1 m s) e i in
-    let step = lists_from-next m 1 m front last behind (omega arith) less inc in
-    ((h, subst (λ s. IsIncreasing 1 m s) (sym f) (IsIncreasing-grown 1 m front last behind (range_with_len (m + 1 - behind) behind) less inc)),
-     rw (e, f) step)
+    let step = lists_from-next m 1 m front last behind (omega arith) less inc in (
+      (h, subst (λ s. IsIncreasing 1 m s) (sym f) (IsIncreasing-grown 1 m front last behind (range_with_len (m + 1 - behind) behind) less inc)),
+      rw (e, f) step,
+    )
 
 pub first_place : (m k : ℕ) → m ≤ 40 → k ≤ m → IsPlace m (Some (range_with_len 1 k)) × (lists_from m 1 (range_with_len 1 k) ≡ increasing_lists 1 m k)
 first_place m k h l =

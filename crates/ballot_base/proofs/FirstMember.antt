@@ -1,5 +1,5 @@
 -- How many members a word has, the least of them, and the order of two words by their members.
-use Rattle.std.proofs.Common.{◌≡◌, ℕ, zero, suc, ◌+◌, ◌-◌, ◌*◌, ◌/◌, ◌%◌, ◌^◌, ◌<◌, ◌≤◌, ◌==◌, ◌⊎◌, ◌↔◌, Bool, true, false, not, cond, List, [], ◌∷◌, refl, sym, ap, ◌∙◌, subst, arith, inl, inr, length, filter, add-one, bit_and, bit_xor, w64, IsTrue, Less, Equal, Greater, nat_eq}
+use Rattle.std.proofs.Common.{◌≡◌, ℕ, zero, suc, ◌+◌, ◌-◌, ◌*◌, ◌/◌, ◌%◌, ◌^◌, ◌<◌, ◌≤◌, ◌==◌, Bool, true, false, cond, List, [], ◌∷◌, refl, sym, ap, ◌∙◌, subst, arith, inl, inr, length, add-one, bit_and, bit_xor, w64, Less, Equal, Greater}
 use Rattle.std.specs.Int.Count.{ones-ones}
 use Rattle.std.specs.Int.{bit_at, trailing_zeros}
 use Rattle.std.specs.Int.RustNames.{count_ones}
@@ -9,8 +9,8 @@ use Rattle.std.specs.declared.cmp.Ordering.{Ordering}
 use Rattle.std.proofs.lemmas.Cmp.{nat_list_cmp_total}
 use Rattle.std.proofs.lemmas.List.Sums.{sum_by-cons}
 use Rattle.std.proofs.Math.Nat.{mod-eq_of_lt}
-use Rattle.std.proofs.lemmas.Bool.{eq-eqb, eqb-true, ne_eqb, lt-ltb, le-ltb, cases_eq, cases_order, cases_lt, not-true}
-use Rattle.std.proofs.lemmas.Nat.{mod_below, mod-pow-add, shr-shr, shr_split, shr_below, shr_le, ones-le, ones_cat, ones_le_self, pow_pos, xor_lt}
+use Rattle.std.proofs.lemmas.Bool.{eq-eqb, eqb-true, ne_eqb, lt-ltb, le-ltb, cases_eq, cases_order, cases_lt}
+use Rattle.std.proofs.lemmas.Nat.{mod_below, mod-pow-add, shr-shr, shr_below, ones_cat, ones_le_self, pow_pos, xor_lt}
 use Rattle.std.proofs.lemmas.Nat.Bits.{bit_at-lt, bit_at-zero, bit_at_above, bit_at-trailing_zeros, bit_at_xor, shr_and_one, same_from_bits}
 use Rattle.ballot_base.specs.Lists.{IsIncreasing}
 use Rattle.ballot_base.specs.CandSet.{members_among, members, word_of, has_member, without_member}
@@ -32,16 +32,16 @@ length-members_among bits (suc count) a =
     let q : ℕ = bits / 2 ^ a in
     let back : a + 1 - 1 ≡ a = omega arith in
     let rest : length (members_among (a + 1 + 1) count bits) ≡ count_ones (bits / 2 ^ a / 2 % 2 ^ count) =
-        length-members_among bits count (a + 1) ∙ ap (λ n. count_ones (n % 2 ^ count)) (sym (shr-shr bits a 1)) in
+    length-members_among bits count (a + 1) ∙ ap (λ n. count_ones (n % 2 ^ count)) (sym (shr-shr bits a 1)) in
     let split : bits / 2 ^ a % 2 ^ (suc count) ≡ (bits / 2 ^ a / 2 % 2 ^ count) * 2 ^ 1 + bits / 2 ^ a % 2 =
-        subst (λ k. bits / 2 ^ a % 2 ^ k ≡ (bits / 2 ^ a / 2 % 2 ^ count) * 2 ^ 1 + bits / 2 ^ a % 2) (add-one count) (mod-pow-add (bits / 2 ^ a) count 1) in
+    subst (λ k. bits / 2 ^ a % 2 ^ k ≡ (bits / 2 ^ a / 2 % 2 ^ count) * 2 ^ 1 + bits / 2 ^ a % 2) (add-one count) (mod-pow-add (bits / 2 ^ a) count 1) in
     let low : bits / 2 ^ a % 2 < 2 = mod_below (bits / 2 ^ a) 2 (omega arith) in
     let right : count_ones (bits / 2 ^ a % 2 ^ (suc count)) ≡ count_ones (bits / 2 ^ a / 2 % 2 ^ count) + bits / 2 ^ a % 2 =
-        ap count_ones split ∙ (ones_cat 1 (bits / 2 ^ a / 2 % 2 ^ count) (bits / 2 ^ a % 2) low ∙ ap (λ n. count_ones (bits / 2 ^ a / 2 % 2 ^ count) + n) (ones_bit (bits / 2 ^ a % 2) low)) in
+    ap count_ones split ∙ (ones_cat 1 (bits / 2 ^ a / 2 % 2 ^ count) (bits / 2 ^ a % 2) low ∙ ap (λ n. count_ones (bits / 2 ^ a / 2 % 2 ^ count) + n) (ones_bit (bits / 2 ^ a % 2) low)) in
     let here : bit_at bits (a + 1 - 1) ≡ bits / 2 ^ a % 2 = ap (bit_at bits) back in
     elim (cases_eq (bit_at bits (a + 1 - 1)) 1) [
-      inl one ↦ ap length (members_among_yes (a + 1) count bits one) ∙ omega (arith, rest, right, here, one)
-    | inr other ↦ ap length (members_among_no (a + 1) count bits other) ∙ omega (arith, rest, right, here, other, low)
+      | inl one ↦ ap length (members_among_yes (a + 1) count bits one) ∙ omega (arith, rest, right, here, one)
+      | inr other ↦ ap length (members_among_no (a + 1) count bits other) ∙ omega (arith, rest, right, here, other, low)
     ]
 
 pub length-members : (bits : ℕ) → bits < 2 ^ 40 → count_ones bits ≡ length (members bits)
@@ -71,15 +71,15 @@ least_at bits t [] h u e one below =
 least_at bits t (x ∷ xs) h u e one below =
     let inc = subst (λ s. IsIncreasing 1 40 s) e (IsIncreasing-members bits) in
     let has : (n : ℕ) → 1 ≤ n → n ≤ 40 → has_member (x ∷ xs) n ≡ (bit_at bits (n - 1) == 1) =
-        λ n l k. subst (λ s. has_member s n ≡ (bit_at bits (n - 1) == 1)) e (has_member-members bits n l k) in
+    λ n l k. subst (λ s. has_member s n ≡ (bit_at bits (n - 1) == 1)) e (has_member-members bits n l k) in
     let back : t + 1 - 1 ≡ t = omega arith in
     let x_bit : bit_at bits (x - 1) ≡ 1 = eqb-true (bit_at bits (x - 1)) 1 (sym (has x inc.0 inc.1) ∙ has_member_head x xs) in
     let t_has : has_member (x ∷ xs) (t + 1) ≡ true = has (t + 1) (omega arith) (omega arith) ∙ eq-eqb (bit_at bits (t + 1 - 1)) 1 (ap (bit_at bits) back ∙ one) in
     elim (cases_order x (t + 1)) [
-      inl same ↦ subst (λ n. x ∷ xs ≡ n ∷ without_member (x ∷ xs) n) same (ap (λ s. x ∷ s) (sym (without_member_head x 40 xs inc.2)))
-    | inr d ↦ elim d [
-        inl less ↦ absurd (omega (arith, x_bit, below (x - 1) (omega (arith, less, inc.0))))
-      | inr more ↦ let f : has_member (x ∷ xs) (t + 1) ≡ false = has_member-below x 40 (x ∷ xs) (t + 1) (omega arith, inc.1, inc.2) more in cc
+      | inl same ↦ subst (λ n. x ∷ xs ≡ n ∷ without_member (x ∷ xs) n) same (ap (λ s. x ∷ s) (sym (without_member_head x 40 xs inc.2)))
+      | inr d ↦ elim d [
+        | inl less ↦ absurd (omega (arith, x_bit, below (x - 1) (omega (arith, less, inc.0))))
+        | inr more ↦ let f : has_member (x ∷ xs) (t + 1) ≡ false = has_member-below x 40 (x ∷ xs) (t + 1) (omega arith, inc.1, inc.2) more in cc
       ]
     ]
 
@@ -87,8 +87,8 @@ pub lowest_below : (bits : ℕ) → bits < 2 ^ 40 → (bits ≡ 0 → ⊥) → t
 lowest_below bits h ne =
     let z = bit_at-trailing_zeros w64 bits (omega arith) (omega arith) in
     elim (cases_lt (trailing_zeros w64 bits) 40) [
-      inl u ↦ u
-    | inr v ↦ absurd (omega (arith, z.1, bit_at_above bits 40 (trailing_zeros w64 bits) h v))
+      | inl u ↦ u
+      | inr v ↦ absurd (omega (arith, z.1, bit_at_above bits 40 (trailing_zeros w64 bits) h v))
     ]
 
 pub split_members : (bits : ℕ) → bits < 2 ^ 40 → (bits ≡ 0 → ⊥) → members bits ≡ (trailing_zeros w64 bits + 1) ∷ without_member (members bits) (trailing_zeros w64 bits + 1)
@@ -117,21 +117,21 @@ cmp_among : (a b count first p above : ℕ) → first ≤ p → p + suc above �
 cmp_among a b zero first p above l e same one other = absurd (omega arith)
 cmp_among a b (suc count) first p above l e same one other =
     elim (cases_eq first p) [
-      inl here ↦
-        let c : above ≡ count = omega arith in
-        let ya = members_among_yes first count a (rw here one) in
-        let nb = members_among_no first count b (rw here other) in
-        rw (ya, nb, c, ← here) (slice_cmp_above first (first + count) (members_among (first + 1) count a) (members_among (first + 1) count b) (IsIncreasing-members_among (first + 1) count (first + count) b (omega arith)))
-    | inr later ↦
-        let rest = cmp_among a b count (first + 1) p above (omega arith) (omega arith) (λ k lo hi. same k (omega arith) hi) one other in
-        let equal = same first (omega arith) (omega arith) in
-        elim (cases_eq (bit_at a (first - 1)) 1) [
-          inl set ↦
-            rw (members_among_yes first count a set, members_among_yes first count b (sym equal ∙ set))
-            (slice_cmp_same first (members_among (first + 1) count a) (members_among (first + 1) count b) ∙ rest)
-        | inr unset ↦
-            rw (members_among_no first count a unset, members_among_no first count b (λ s. unset (equal ∙ s))) rest
-        ]
+      | inl here ↦
+          let c : above ≡ count = omega arith in
+          let ya = members_among_yes first count a (rw here one) in
+          let nb = members_among_no first count b (rw here other) in
+          rw (ya, nb, c, ← here) (slice_cmp_above first (first + count) (members_among (first + 1) count a) (members_among (first + 1) count b) (IsIncreasing-members_among (first + 1) count (first + count) b (omega arith)))
+      | inr later ↦
+          let rest = cmp_among a b count (first + 1) p above (omega arith) (omega arith) (λ k lo hi. same k (omega arith) hi) one other in
+          let equal = same first (omega arith) (omega arith) in
+          elim (cases_eq (bit_at a (first - 1)) 1) [
+            | inl set ↦
+                rw (members_among_yes first count a set, members_among_yes first count b (sym equal ∙ set))
+                (slice_cmp_same first (members_among (first + 1) count a) (members_among (first + 1) count b) ∙ rest)
+            | inr unset ↦
+                rw (members_among_no first count a unset, members_among_no first count b (λ s. unset (equal ∙ s))) rest
+          ]
     ]
 
 same_bits : (a b : ℕ) → a < 2 → b < 2 → (a + b) % 2 ≡ 0 → a ≡ b
@@ -151,7 +151,7 @@ unfolding order_above
 order_above_is b t [] h u other w =
     let half : b / 2 ^ t / 2 ≡ b / 2 ^ (t + 1) = shr-shr b t 1 in
     let small : b / 2 ^ (t + 1) < 2 ^ (39 - t) =
-        shr_below b (39 - t) (t + 1) (let e : 39 - t + (t + 1) ≡ 40 = omega arith in subst (λ n. b < 2 ^ n) (sym e) h) in
+    shr_below b (39 - t) (t + 1) (let e : 39 - t + (t + 1) ≡ 40 = omega arith in subst (λ n. b < 2 ^ n) (sym e) h) in
     let low : b / 2 ^ (t + 1) % 2 ^ (39 - t) ≡ 0 = zero_from_product (b / 2 ^ (t + 1) % 2 ^ (39 - t)) (2 ^ (t + 1)) (pow_pos (t + 1)) (sym w) in
     let none : b / 2 ^ (t + 1) ≡ 0 = sym (mod-eq_of_lt small) ∙ low in
     let bit : b / 2 ^ t % 2 < 2 = bit_at-lt b t in
@@ -160,10 +160,10 @@ order_above_is b t [] h u other w =
 order_above_is b t (x ∷ xs) h u other w =
     let half : b / 2 ^ t / 2 ≡ b / 2 ^ (t + 1) = shr-shr b t 1 in
     let some : b / 2 ^ t ≡ 0 → ⊥ = λ z.
-        let none : b / 2 ^ (t + 1) ≡ 0 = omega arith in
-        let low : b / 2 ^ (t + 1) % 2 ^ (39 - t) ≡ 0 = ap (λ n. n % 2 ^ (39 - t)) none ∙ mod-eq_of_lt (pow_pos (39 - t)) in
-        let left : word_of (x ∷ xs) ≡ 0 = w ∙ (ap (λ n. n * 2 ^ (t + 1)) low ∙ omega arith) in
-        omega (arith, left, sum_by-cons (λ m. 2 ^ (m - 1)) x xs, pow_pos (x - 1)) in
+    let none : b / 2 ^ (t + 1) ≡ 0 = omega arith in
+    let low : b / 2 ^ (t + 1) % 2 ^ (39 - t) ≡ 0 = ap (λ n. n % 2 ^ (39 - t)) none ∙ mod-eq_of_lt (pow_pos (39 - t)) in
+    let left : word_of (x ∷ xs) ≡ 0 = w ∙ (ap (λ n. n * 2 ^ (t + 1)) low ∙ omega arith) in
+    omega (arith, left, sum_by-cons (λ m. 2 ^ (m - 1)) x xs, pow_pos (x - 1)) in
     rw (ne_eqb (b / 2 ^ t) 0 some)
 
 -- the words agree below t, and the first alone has the member t + 1
@@ -178,10 +178,11 @@ cmp_members a b t h u same one other =
 pub lowest_difference : (a b : ℕ) → a < 2 ^ 40 → b < 2 ^ 40 → (bit_xor a b ≡ 0 → ⊥) → (trailing_zeros w64 (bit_xor a b) < 40) × ((bit_at a (trailing_zeros w64 (bit_xor a b)) + bit_at b (trailing_zeros w64 (bit_xor a b))) % 2 ≡ 1) × ((i : ℕ) → i < trailing_zeros w64 (bit_xor a b) → bit_at a i ≡ bit_at b i)
 lowest_difference a b h k ne =
     let x = xor_lt 40 a b h k in
-    let z = bit_at-trailing_zeros w64 (bit_xor a b) (omega arith) (omega arith) in
-    (lowest_below (bit_xor a b) x ne,
-     sym (bit_at_xor a b (trailing_zeros w64 (bit_xor a b))) ∙ z.1,
-     λ i l. same_bits (bit_at a i) (bit_at b i) (bit_at-lt a i) (bit_at-lt b i) (sym (bit_at_xor a b i) ∙ z.2 i l))
+    let z = bit_at-trailing_zeros w64 (bit_xor a b) (omega arith) (omega arith) in (
+      lowest_below (bit_xor a b) x ne,
+      sym (bit_at_xor a b (trailing_zeros w64 (bit_xor a b))) ∙ z.1,
+      λ i l. same_bits (bit_at a i) (bit_at b i) (bit_at-lt a i) (bit_at-lt b i) (sym (bit_at_xor a b i) ∙ z.2 i l),
+    )
 
 pub cmp_self_first : (a b : ℕ) → a < 2 ^ 40 → b < 2 ^ 40 → (bit_xor a b ≡ 0 → ⊥) → bit_and (a / 2 ^ (trailing_zeros w64 (bit_xor a b))) 1 ≡ 1 → slice_cmp nat_cmp (members a) (members b) ≡ cond (b / 2 ^ (trailing_zeros w64 (bit_xor a b)) == 0) Greater Less
 cmp_self_first a b h k ne one =

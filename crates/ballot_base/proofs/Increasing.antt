@@ -1,5 +1,5 @@
 -- Increasing lists: which numbers they have, and that those decide the list.
-use Rattle.std.proofs.Common.{◌≡◌, ℕ, ◌+◌, ◌<◌, ◌≤◌, ◌==◌, ◌||◌, ◌&&◌, ◌⊎◌, Bool, true, false, cond, List, [], ◌∷◌, refl, sym, ap, ◌∙◌, arith, inl, inr, length, filter, ◌++◌, get_or, drop, subst}
+use Rattle.std.proofs.Common.{◌≡◌, ℕ, ◌+◌, ◌<◌, ◌≤◌, ◌==◌, ◌||◌, ◌&&◌, Bool, true, false, cond, List, [], ◌∷◌, refl, sym, ap, ◌∙◌, arith, inl, inr, length, filter, ◌++◌, get_or, drop, subst}
 use Rattle.std.proofs.lemmas.Map.Views.{any-filter_same}
 use Rattle.std.proofs.lemmas.Bool.{eq-eqb, eqb-true, ne_eqb, lt-ltb, le-ltb, cases_order, cases_lt, or_left}
 use Rattle.std.proofs.lemmas.List.{drop_more}
@@ -48,19 +48,19 @@ same_increasing first last (x ∷ xs) [] i j h =
     let e : true ≡ false = sym (has_member_head x xs) ∙ h x in cc
 same_increasing first last (x ∷ xs) (y ∷ ys) i j h =
     elim (cases_order x y) [
-      inl e ↦
-        let rest : (n : ℕ) → has_member xs n ≡ has_member ys n = λ n. elim (cases_lt x n) [
-            inl low ↦ sym (has_member_tail x n xs (λ d. omega (arith, d, low))) ∙ (h n ∙ has_member_tail y n ys (λ d. omega (arith, d, e, low)))
-          | inr high ↦ has_member-below (x + 1) last xs n i.2 (omega (arith, high)) ∙ sym (has_member-below (y + 1) last ys n j.2 (omega (arith, e, high)))
+      | inl e ↦
+          let rest : (n : ℕ) → has_member xs n ≡ has_member ys n = λ n. elim (cases_lt x n) [
+            | inl low ↦ sym (has_member_tail x n xs (λ d. omega (arith, d, low))) ∙ (h n ∙ has_member_tail y n ys (λ d. omega (arith, d, e, low)))
+            | inr high ↦ has_member-below (x + 1) last xs n i.2 (omega (arith, high)) ∙ sym (has_member-below (y + 1) last ys n j.2 (omega (arith, e, high)))
           ] in
-        let j' : IsIncreasing (x + 1) last ys = IsIncreasing-lower (x + 1) (y + 1) last ys (omega (arith, e)) j.2 in
-        let t : xs ≡ ys = same_increasing (x + 1) last xs ys i.2 j' rest in
-        cc
-    | inr d ↦ elim d [
-        inl low ↦
-          let a : true ≡ false = sym (has_member_head x xs) ∙ (h x ∙ has_member-below y last (y ∷ ys) x (omega arith, j.1, j.2) low) in cc
-      | inr high ↦
-          let a : true ≡ false = sym (has_member_head y ys) ∙ (sym (h y) ∙ has_member-below x last (x ∷ xs) y (omega arith, i.1, i.2) high) in cc
+          let j' : IsIncreasing (x + 1) last ys = IsIncreasing-lower (x + 1) (y + 1) last ys (omega (arith, e)) j.2 in
+          let t : xs ≡ ys = same_increasing (x + 1) last xs ys i.2 j' rest in
+          cc
+      | inr d ↦ elim d [
+        | inl low ↦
+            let a : true ≡ false = sym (has_member_head x xs) ∙ (h x ∙ has_member-below y last (y ∷ ys) x (omega arith, j.1, j.2) low) in cc
+        | inr high ↦
+            let a : true ≡ false = sym (has_member_head y ys) ∙ (sym (h y) ∙ has_member-below x last (x ∷ xs) y (omega arith, i.1, i.2) high) in cc
       ]
     ]
 
@@ -73,8 +73,8 @@ IsIncreasing-filter p first last [] i = i
 IsIncreasing-filter p first last (x ∷ xs) i =
     let rest = IsIncreasing-filter p (x + 1) last xs i.2 in
     elim (p x) as (λ b. IsIncreasing first last (cond b (x ∷ filter p xs) (filter p xs))) [
-      true ↦ (i.0, i.1, rest)
-    | false ↦ IsIncreasing-lower first (x + 1) last (filter p xs) (omega (arith, i.0)) rest
+      | true ↦ (i.0, i.1, rest)
+      | false ↦ IsIncreasing-lower first (x + 1) last (filter p xs) (omega (arith, i.0)) rest
     ]
 
 -- what an insertion adds
@@ -91,10 +91,10 @@ pub has_member-with_member : (set : List ℕ) (n k : ℕ) → has_member (with_m
 has_member-with_member [] n k = refl
 has_member-with_member (x ∷ xs) n k =
     elim (cases_order n x) [
-      inl e ↦ rw (with_member-eq x xs n e, e) (or_twice (x == k) (has_member xs k))
-    | inr d ↦ elim d [
-        inl less ↦ rw (with_member-lt x xs n less)
-      | inr more ↦ rw (with_member-gt x xs n more, has_member-with_member xs n k) (or_turned (x == k) (n == k) (has_member xs k))
+      | inl e ↦ rw (with_member-eq x xs n e, e) (or_twice (x == k) (has_member xs k))
+      | inr d ↦ elim d [
+        | inl less ↦ rw (with_member-lt x xs n less)
+        | inr more ↦ rw (with_member-gt x xs n more, has_member-with_member xs n k) (or_turned (x == k) (n == k) (has_member xs k))
       ]
     ]
 
@@ -102,10 +102,10 @@ pub IsIncreasing-with_member : (first last : ℕ) (set : List ℕ) (n : ℕ) →
 IsIncreasing-with_member first last [] n l h i = (l, h, tt)
 IsIncreasing-with_member first last (x ∷ xs) n l h i =
     elim (cases_order n x) [
-      inl e ↦ rw (with_member-eq x xs n e) i
-    | inr d ↦ elim d [
-        inl less ↦ rw (with_member-lt x xs n less) (l, h, (omega arith, i.1, i.2))
-      | inr more ↦ rw (with_member-gt x xs n more) (i.0, i.1, IsIncreasing-with_member (x + 1) last xs n (omega arith) h i.2)
+      | inl e ↦ rw (with_member-eq x xs n e) i
+      | inr d ↦ elim d [
+        | inl less ↦ rw (with_member-lt x xs n less) (l, h, (omega arith, i.1, i.2))
+        | inr more ↦ rw (with_member-gt x xs n more) (i.0, i.1, IsIncreasing-with_member (x + 1) last xs n (omega arith) h i.2)
       ]
     ]
 

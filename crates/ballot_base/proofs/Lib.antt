@@ -1,4 +1,5 @@
 pub mod Committees
+pub mod Examples
 pub mod FirstMember
 pub mod Increasing
 pub mod Members

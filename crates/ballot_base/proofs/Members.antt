@@ -1,8 +1,7 @@
 -- The members of a word: an increasing list, in which a number stands where its bit is 1.
-use Rattle.std.proofs.Common.{◌≡◌, ℕ, zero, suc, ◌+◌, ◌-◌, ◌*◌, ◌/◌, ◌%◌, ◌^◌, ◌<◌, ◌≤◌, ◌==◌, ◌||◌, ◌&&◌, ◌⊎◌, ◌≢◌, not, min, bit_and, bit_or, w64, Bool, true, false, cond, List, [], ◌∷◌, refl, sym, ap, ◌∙◌, subst, arith, inl, inr, length, filter, add-one}
-use Rattle.std.specs.List.{range_with_len}
+use Rattle.std.proofs.Common.{◌≡◌, ℕ, zero, suc, ◌+◌, ◌-◌, ◌*◌, ◌/◌, ◌%◌, ◌^◌, ◌<◌, ◌≤◌, ◌==◌, ◌&&◌, ◌⊎◌, not, min, bit_and, bit_or, w64, false, List, [], ◌∷◌, refl, sym, ap, ◌∙◌, subst, arith, inl, inr}
 use Rattle.std.specs.Int.{bit_at}
-use Rattle.std.proofs.lemmas.Bool.{eq-eqb, eqb-true, ne_eqb, cases_eq, cases_order, cases_lt, cases_Bool, or_left, and_left, and_right, not_from_true}
+use Rattle.std.proofs.lemmas.Bool.{eq-eqb, eqb-true, ne_eqb, cases_eq, cases_order, cases_lt, or_left, and_left, and_right, not_from_true}
 use Rattle.std.proofs.lemmas.Bool.Decides.{same_from_decides}
 use Rattle.std.specs.Bool.{Decides}
 use Rattle.std.specs.Str.{bytes_eq}
@@ -12,7 +11,6 @@ use Rattle.std.proofs.lemmas.Nat.{pow_pos, pow_below, pow-add, one_shl, or_lt, a
 use Rattle.std.proofs.lemmas.Nat.Bits.{bit_at-zero, bit_at-pow_same, bit_at-pow_other, bit_at_cat_low, bit_at_cat_high, bit_at-lt, bit_at_and, bit_at_set_same, bit_at_set_other, bit_at_clear_same, bit_at_clear_other, shr_and_one}
 use Rattle.ballot_base.specs.Lists.{IsIncreasing}
 use Rattle.ballot_base.specs.CandSet.{members_among, members, word_of, has_member, with_member, without_member, common_members}
-use Rattle.ballot_base.specs.Words.{word_of_members}
 use Rattle.ballot_base.proofs.Increasing.{IsIncreasing-lower, has_member-below, has_member-above, has_member_head, has_member_tail, same_increasing, has_member-filter, IsIncreasing-filter, has_member-with_member, IsIncreasing-with_member}
 
 -- the members from a number on, by its bit
@@ -33,8 +31,8 @@ IsIncreasing-members_among first zero last bits h = rw members_among_none tt
 IsIncreasing-members_among first (suc count) last bits h =
     let rest : IsIncreasing (first + 1) last (members_among (first + 1) count bits) = IsIncreasing-members_among (first + 1) count last bits (omega arith) in
     elim (cases_eq (bit_at bits (first - 1)) 1) [
-      inl one ↦ rw (members_among_yes first count bits one) (omega arith, omega arith, rest)
-    | inr other ↦ rw (members_among_no first count bits other) (IsIncreasing-lower first (first + 1) last _ (omega arith) rest)
+      | inl one ↦ rw (members_among_yes first count bits one) (omega arith, omega arith, rest)
+      | inr other ↦ rw (members_among_no first count bits other) (IsIncreasing-lower first (first + 1) last _ (omega arith) rest)
     ]
 
 pub has_member-members_among : (first count bits n : ℕ) → first ≤ n → n < first + count → has_member (members_among first count bits) n ≡ (bit_at bits (n - 1) == 1)
@@ -42,17 +40,17 @@ has_member-members_among first zero bits n low high = absurd (omega arith)
 has_member-members_among first (suc count) bits n low high =
     let inc = IsIncreasing-members_among (first + 1) count (first + count) bits (omega arith) in
     elim (cases_eq first n) [
-      inl e ↦ subst (λ k. has_member (members_among first (suc count) bits) k ≡ (bit_at bits (k - 1) == 1)) e
-        (elim (cases_eq (bit_at bits (first - 1)) 1) [
-          inl one ↦ rw (members_among_yes first count bits one, eq-eqb (bit_at bits (first - 1)) 1 one) (has_member_head first (members_among (first + 1) count bits))
-        | inr other ↦ rw (members_among_no first count bits other, ne_eqb (bit_at bits (first - 1)) 1 other) (has_member-below (first + 1) (first + count) (members_among (first + 1) count bits) first inc (omega arith))
-        ])
-    | inr d ↦
-        let rest = has_member-members_among (first + 1) count bits n (omega arith) (omega arith) in
-        elim (cases_eq (bit_at bits (first - 1)) 1) [
-          inl one ↦ rw (members_among_yes first count bits one) (has_member_tail first n (members_among (first + 1) count bits) d ∙ rest)
-        | inr other ↦ rw (members_among_no first count bits other) rest
-        ]
+      | inl e ↦ subst (λ k. has_member (members_among first (suc count) bits) k ≡ (bit_at bits (k - 1) == 1)) e
+          (elim (cases_eq (bit_at bits (first - 1)) 1) [
+            | inl one ↦ rw (members_among_yes first count bits one, eq-eqb (bit_at bits (first - 1)) 1 one) (has_member_head first (members_among (first + 1) count bits))
+            | inr other ↦ rw (members_among_no first count bits other, ne_eqb (bit_at bits (first - 1)) 1 other) (has_member-below (first + 1) (first + count) (members_among (first + 1) count bits) first inc (omega arith))
+          ])
+      | inr d ↦
+          let rest = has_member-members_among (first + 1) count bits n (omega arith) (omega arith) in
+          elim (cases_eq (bit_at bits (first - 1)) 1) [
+            | inl one ↦ rw (members_among_yes first count bits one) (has_member_tail first n (members_among (first + 1) count bits) d ∙ rest)
+            | inr other ↦ rw (members_among_no first count bits other) rest
+          ]
     ]
 
 pub IsIncreasing-members : (bits : ℕ) → IsIncreasing 1 40 (members bits)
@@ -72,13 +70,13 @@ pub same_members : (bits : ℕ) (set : List ℕ) → IsIncreasing 1 40 set → (
 same_members bits set i same =
     let inc = IsIncreasing-members bits in
     same_increasing 1 40 (members bits) set inc i (λ n.
-      elim (cases_lt n 1) [
-        inl low ↦ has_member-below 1 40 (members bits) n inc low ∙ sym (has_member-below 1 40 set n i low)
+    elim (cases_lt n 1) [
+      | inl low ↦ has_member-below 1 40 (members bits) n inc low ∙ sym (has_member-below 1 40 set n i low)
       | inr from ↦ elim (cases_lt 40 n) [
-          inl high ↦ has_member-above 1 40 (members bits) n inc high ∙ sym (has_member-above 1 40 set n i high)
+        | inl high ↦ has_member-above 1 40 (members bits) n inc high ∙ sym (has_member-above 1 40 set n i high)
         | inr to ↦ has_member-members bits n from to ∙ same n from to
-        ]
-      ])
+      ]
+    ])
 
 -- numbers above first make a multiple of 2 ^ first
 word_above : (first last : ℕ) (set : List ℕ) → IsIncreasing (first + 1) last set → (k : ℕ) × (word_of set ≡ k * 2 ^ first)
@@ -86,9 +84,10 @@ word_above first last [] i = (0, omega arith)
 word_above first last (n ∷ rest) i =
     let above = word_above n last rest i.2 in
     let low : 2 ^ (n - 1) ≡ 2 ^ (n - 1 - first) * 2 ^ first = let e : n - 1 - first + first ≡ n - 1 = omega (arith, i.0) in subst (λ m. 2 ^ m ≡ 2 ^ (n - 1 - first) * 2 ^ first) e (pow-add 2 (n - 1 - first) first) in
-    let high : 2 ^ n ≡ 2 ^ (n - first) * 2 ^ first = let e : n - first + first ≡ n = omega (arith, i.0) in subst (λ m. 2 ^ m ≡ 2 ^ (n - first) * 2 ^ first) e (pow-add 2 (n - first) first) in
-    (2 ^ (n - 1 - first) + above.0 * 2 ^ (n - first),
-     sum_by-cons (λ m. 2 ^ (m - 1)) n rest ∙ (rw (above.1, low, high) (omega arith)))
+    let high : 2 ^ n ≡ 2 ^ (n - first) * 2 ^ first = let e : n - first + first ≡ n = omega (arith, i.0) in subst (λ m. 2 ^ m ≡ 2 ^ (n - first) * 2 ^ first) e (pow-add 2 (n - first) first) in (
+      2 ^ (n - 1 - first) + above.0 * 2 ^ (n - first),
+      sum_by-cons (λ m. 2 ^ (m - 1)) n rest ∙ (rw (above.1, low, high) (omega arith)),
+    )
 
 word_of-cons : (last n : ℕ) (rest : List ℕ) → IsIncreasing (n + 1) last rest → (k : ℕ) × (word_of (n ∷ rest) ≡ k * 2 ^ n + 2 ^ (n - 1)) × (word_of rest ≡ k * 2 ^ n)
 word_of-cons last n rest i =
@@ -101,20 +100,20 @@ bit_at-word_of first last (x ∷ rest) n f l i =
     let w = word_of-cons last x rest i.2 in
     let below : 2 ^ (x - 1) < 2 ^ x = pow_below (x - 1) x (omega (arith, i.0)) in
     elim (cases_order n x) [
-      inl e ↦
-        let one : bit_at (word_of (x ∷ rest)) (n - 1) ≡ 1 =
-            ap (λ m. bit_at m (n - 1)) w.1 ∙ (bit_at_cat_low w.0 x (2 ^ (x - 1)) (n - 1) (omega (arith, e, i.0)) ∙ (ap (λ m. bit_at (2 ^ (x - 1)) (m - 1)) e ∙ bit_at-pow_same (x - 1))) in
-        eq-eqb (bit_at (word_of (x ∷ rest)) (n - 1)) 1 one ∙ sym (or_left (x == n) (has_member rest n) (eq-eqb x n (sym e)))
-    | inr d ↦ elim d [
-        inl less ↦
-          let none : bit_at (word_of (x ∷ rest)) (n - 1) ≡ 0 =
-              ap (λ m. bit_at m (n - 1)) w.1 ∙ (bit_at_cat_low w.0 x (2 ^ (x - 1)) (n - 1) (omega arith) ∙ bit_at-pow_other (x - 1) (n - 1) (λ e. omega (arith, e, less, l))) in
-          ne_eqb (bit_at (word_of (x ∷ rest)) (n - 1)) 1 (λ e. omega (arith, none, e)) ∙ sym (has_member-below x last (x ∷ rest) n (omega arith, i.1, i.2) less)
-      | inr more ↦
-          let same : bit_at (word_of (x ∷ rest)) (n - 1) ≡ bit_at (word_of rest) (n - 1) =
-              ap (λ m. bit_at m (n - 1)) w.1 ∙ (bit_at_cat_high w.0 x (2 ^ (x - 1)) (n - 1) below (omega arith)
-              ∙ sym (ap (λ m. bit_at m (n - 1)) (w.2 ∙ omega arith) ∙ bit_at_cat_high w.0 x 0 (n - 1) (pow_pos x) (omega arith))) in
-          ap (λ b. b == 1) same ∙ (bit_at-word_of (x + 1) last rest n (omega arith) l i.2 ∙ sym (has_member_tail x n rest (λ e. omega (arith, e, more))))
+      | inl e ↦
+          let one : bit_at (word_of (x ∷ rest)) (n - 1) ≡ 1 =
+          ap (λ m. bit_at m (n - 1)) w.1 ∙ (bit_at_cat_low w.0 x (2 ^ (x - 1)) (n - 1) (omega (arith, e, i.0)) ∙ (ap (λ m. bit_at (2 ^ (x - 1)) (m - 1)) e ∙ bit_at-pow_same (x - 1))) in
+          eq-eqb (bit_at (word_of (x ∷ rest)) (n - 1)) 1 one ∙ sym (or_left (x == n) (has_member rest n) (eq-eqb x n (sym e)))
+      | inr d ↦ elim d [
+        | inl less ↦
+            let none : bit_at (word_of (x ∷ rest)) (n - 1) ≡ 0 =
+            ap (λ m. bit_at m (n - 1)) w.1 ∙ (bit_at_cat_low w.0 x (2 ^ (x - 1)) (n - 1) (omega arith) ∙ bit_at-pow_other (x - 1) (n - 1) (λ e. omega (arith, e, less, l))) in
+            ne_eqb (bit_at (word_of (x ∷ rest)) (n - 1)) 1 (λ e. omega (arith, none, e)) ∙ sym (has_member-below x last (x ∷ rest) n (omega arith, i.1, i.2) less)
+        | inr more ↦
+            let same : bit_at (word_of (x ∷ rest)) (n - 1) ≡ bit_at (word_of rest) (n - 1) =
+            ap (λ m. bit_at m (n - 1)) w.1 ∙ (bit_at_cat_high w.0 x (2 ^ (x - 1)) (n - 1) below (omega arith)
+            ∙ sym (ap (λ m. bit_at m (n - 1)) (w.2 ∙ omega arith) ∙ bit_at_cat_high w.0 x 0 (n - 1) (pow_pos x) (omega arith))) in
+            ap (λ b. b == 1) same ∙ (bit_at-word_of (x + 1) last rest n (omega arith) l i.2 ∙ sym (has_member_tail x n rest (λ e. omega (arith, e, more))))
       ]
     ]
 
@@ -158,11 +157,11 @@ members_with bits n l h =
     same_members (bit_or bits (1 * 2 ^ (n - 1) % 2 ^ 64)) (with_member (members bits) n)
     (IsIncreasing-with_member 1 40 (members bits) n l h (IsIncreasing-members bits))
     (λ k kl kh. rw (has_member-with_member (members bits) n k)
-      (elim (cases_eq n k) [
-        inl e ↦ eq-eqb (bit_at (bit_or bits (1 * 2 ^ (n - 1) % 2 ^ 64)) (k - 1)) 1 (rw (← e) (bit_at_set_same w64 bits (n - 1) (omega arith)))
+    (elim (cases_eq n k) [
+      | inl e ↦ eq-eqb (bit_at (bit_or bits (1 * 2 ^ (n - 1) % 2 ^ 64)) (k - 1)) 1 (rw (← e) (bit_at_set_same w64 bits (n - 1) (omega arith)))
           ∙ sym (or_left (n == k) (has_member (members bits) k) (eq-eqb n k e))
       | inr d ↦ rw (ne_eqb n k d) (ap (λ b. b == 1) (bit_at_set_other w64 bits (n - 1) (omega arith) (k - 1) (λ e. d (omega (arith, e)))) ∙ sym (has_member-members bits k kl kh))
-      ]))
+    ]))
 
 pub bound_of_and : (bits other : ℕ) → bits < 2 ^ 40 → bit_and bits other < 2 ^ 40
 bound_of_and bits other b = omega (arith, and_le_l bits other)
@@ -173,12 +172,12 @@ members_without bits n l h =
     same_members word (without_member (members bits) n)
     (IsIncreasing-filter (λ x. not (x == n)) 1 40 (members bits) (IsIncreasing-members bits))
     (λ k kl kh. rw (has_member-filter (λ x. not (x == n)) (members bits) k)
-      (elim (cases_eq k n) [
-        inl e ↦ ne_eqb (bit_at word (k - 1)) 1 (λ one.
+    (elim (cases_eq k n) [
+      | inl e ↦ ne_eqb (bit_at word (k - 1)) 1 (λ one.
           let none : bit_at word (k - 1) ≡ 0 = rw e (bit_at_clear_same w64 bits (n - 1) (omega arith)) in omega arith)
           ∙ sym (and_left (not (k == n)) (has_member (members bits) k) (not_from_true (k == n) (eq-eqb k n e)))
       | inr d ↦ rw (ne_eqb k n d) (ap (λ b. b == 1) (bit_at_clear_other w64 bits (n - 1) (omega arith) (k - 1) (omega arith) (λ e. d (omega (arith, e)))) ∙ sym (has_member-members bits k kl kh))
-      ]))
+    ]))
 
 pub members_without_outside : (bits n : ℕ) → (n ≡ 0) ⊎ (40 < n) → members bits ≡ without_member (members bits) n
 members_without_outside bits n out =
@@ -186,14 +185,14 @@ members_without_outside bits n out =
     same_increasing 1 40 (members bits) (without_member (members bits) n) inc
     (IsIncreasing-filter (λ x. not (x == n)) 1 40 (members bits) inc)
     (λ k. rw (has_member-filter (λ x. not (x == n)) (members bits) k)
-      (elim (cases_eq k n) [
-        inl e ↦ rw e (has_member_outside bits n out ∙ sym (and_right (not (n == n)) (has_member (members bits) n) (has_member_outside bits n out)))
+    (elim (cases_eq k n) [
+      | inl e ↦ rw e (has_member_outside bits n out ∙ sym (and_right (not (n == n)) (has_member (members bits) n) (has_member_outside bits n out)))
       | inr d ↦ rw (ne_eqb k n d)
-      ]))
+    ]))
 
 pub members_common : (bits other : ℕ) → members (bit_and bits other) ≡ common_members (members bits) (members other)
 members_common bits other =
     same_members (bit_and bits other) (common_members (members bits) (members other))
     (IsIncreasing-filter (has_member (members other)) 1 40 (members bits) (IsIncreasing-members bits))
     (λ k kl kh. rw (has_member-filter (has_member (members other)) (members bits) k, has_member-members other k kl kh, has_member-members bits k kl kh, bit_at_and bits other (k - 1))
-      (both_set (bit_at bits (k - 1)) (bit_at other (k - 1)) (bit_at-lt bits (k - 1)) (bit_at-lt other (k - 1))))
+    (both_set (bit_at bits (k - 1)) (bit_at other (k - 1)) (bit_at-lt bits (k - 1)) (bit_at-lt other (k - 1))))

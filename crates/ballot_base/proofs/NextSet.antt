@@ -1,16 +1,16 @@
 -- The word of the set after another one of its size.
-use Rattle.std.proofs.Common.{◌≡◌, ℕ, zero, suc, ◌+◌, ◌-◌, ◌*◌, ◌/◌, ◌%◌, ◌^◌, ◌<◌, ◌≤◌, ◌==◌, ◌⊎◌, Bool, true, false, cond, min, max, List, [], ◌∷◌, ◌++◌, refl, sym, ap, ◌∙◌, subst, arith, inl, inr, length, filter, add-one, bit_and, bit_or, w64, append_assoc, append-nil, add-zero, zero-add}
-use Rattle.std.specs.Int.{bit_at, bit_not}
+use Rattle.std.proofs.Common.{◌≡◌, ℕ, zero, suc, ◌+◌, ◌-◌, ◌*◌, ◌^◌, ◌<◌, ◌≤◌, ◌==◌, false, min, max, List, [], ◌∷◌, ◌++◌, refl, sym, ap, ◌∙◌, subst, arith, inl, inr, length, filter, add-one, bit_and, bit_or, w64, append_assoc, append-nil, add-zero, zero-add}
+use Rattle.std.specs.Int.{bit_at}
 use Rattle.std.specs.Int.Count.{count_leading_zeros}
 use Rattle.std.specs.List.{range_with_len}
 use Rattle.std.proofs.lemmas.Bool.{eqb-false, cases_eq, cases_lt}
 use Rattle.std.proofs.lemmas.List.Elements.{filter-append}
 use Rattle.std.proofs.lemmas.List.FromFn.{length-range_with_len}
-use Rattle.std.proofs.lemmas.Nat.{leading_top, pow-add, pow_pos, pow_below, or_lt, and_le_l, and_le_r}
+use Rattle.std.proofs.lemmas.Nat.{leading_top, pow-add, pow_pos, or_lt, and_le_l}
 use Rattle.std.proofs.Math.Pow.{pow_mono}
 use Rattle.std.proofs.lemmas.Nat.Bits.{bit_at-lt, bit_at-zero, bit_at_and, bit_at_or, bit_at_not, bit_at_ones, bit_at_ones_above, bit_at_above, bit_at_cat_high, bit_at_mask_inside, bit_at_mask_below, bit_at_mask_above}
 use Rattle.ballot_base.specs.Lists.{IsIncreasing}
-use Rattle.ballot_base.specs.CandSet.{members_among, members, has_member}
+use Rattle.ballot_base.specs.CandSet.{members_among, members}
 use Rattle.ballot_base.specs.Subsets.{IsLastSet, IsNextSet}
 use Rattle.ballot_base.proofs.Increasing.{has_member-above}
 use Rattle.ballot_base.proofs.Members.{members_among_yes, members_among_no, members_among_none, has_member-members}
@@ -25,7 +25,7 @@ greatest_is bits some most =
     let two : 2 ^ suc j ≡ 2 ^ j * 2 = subst (λ n. 2 ^ n ≡ 2 ^ j * 2) (add-one j) (pow-add 2 j 1) in
     let parts : bits ≡ 1 * 2 ^ j + (bits - 2 ^ j) = omega (arith, top.2) in
     let one : bit_at bits j ≡ 1 =
-        ap (λ n. bit_at n j) parts ∙ (bit_at_cat_high 1 j (bits - 2 ^ j) j (omega (arith, top.3, two, top.2)) (omega arith) ∙ ap (bit_at 1) (let z : j - j ≡ 0 = omega arith in z)) in
+    ap (λ n. bit_at n j) parts ∙ (bit_at_cat_high 1 j (bits - 2 ^ j) j (omega (arith, top.3, two, top.2)) (omega arith) ∙ ap (bit_at 1) (let z : j - j ≡ 0 = omega arith in z)) in
     let back : suc j - 1 ≡ j = omega arith in
     rw is (fits, ap (bit_at bits) back ∙ one, λ i h. bit_at_above bits (suc j) i top.3 h)
 
@@ -60,8 +60,8 @@ members_among_same first (suc count) a b h =
     let rest = members_among_same (first + 1) count a b (λ n l u. h n (omega arith) (omega arith)) in
     let here = h first (omega arith) (omega arith) in
     elim (cases_eq (bit_at a (first - 1)) 1) [
-      inl one ↦ members_among_yes first count a one ∙ (ap (λ s. first ∷ s) rest ∙ sym (members_among_yes first count b (sym here ∙ one)))
-    | inr other ↦ members_among_no first count a other ∙ (rest ∙ sym (members_among_no first count b (λ e. other (here ∙ e))))
+      | inl one ↦ members_among_yes first count a one ∙ (ap (λ s. first ∷ s) rest ∙ sym (members_among_yes first count b (sym here ∙ one)))
+      | inr other ↦ members_among_no first count a other ∙ (rest ∙ sym (members_among_no first count b (λ e. other (here ∙ e))))
     ]
 
 -- the numbers 1 to low as in b, then none, then a run, then none
@@ -74,14 +74,16 @@ stacked a b low from run l h same gap full rest =
     let at_gap : 1 + low + g ≡ from = omega arith in
     subst (λ n. members_among 1 n a ≡ members_among 1 low b ++ range_with_len from run) all
     (members_among-append 1 low (g + (run + r)) a
-    ∙ (rw (members_among_same 1 low a b (λ n k u. same n k (omega arith)),
-           members_among-append (1 + low) g (run + r) a,
-           members_among_clear (1 + low) g a (λ n k u. gap n (omega arith) (omega arith)),
-           at_gap,
-           members_among-append from run r a,
-           members_among_full from run a full,
-           members_among_clear (from + run) r a (λ n k u. rest n k (omega arith)),
-           append-nil)))
+    ∙ (rw (
+      members_among_same 1 low a b (λ n k u. same n k (omega arith)),
+      members_among-append (1 + low) g (run + r) a,
+      members_among_clear (1 + low) g a (λ n k u. gap n (omega arith) (omega arith)),
+      at_gap,
+      members_among-append from run r a,
+      members_among_full from run a full,
+      members_among_clear (from + run) r a (λ n k u. rest n k (omega arith)),
+      append-nil,
+    )))
 
 -- ---- the two words
 -- a set that is a run up to m is the last of its size
@@ -113,9 +115,9 @@ free_none bits m b h e = record {
   most = omega arith;
   absent = λ p. absurd (omega arith);
   above = λ n l u.
-    let w = absent_bit bits m (n - 1) b h (omega arith) in
-    let z = ap (λ x. bit_at x (n - 1)) e ∙ bit_at-zero (n - 1) in
-    omega (arith, w, z, bit_at_ones m (n - 1) (omega arith), bit_at-lt bits (n - 1))
+      let w = absent_bit bits m (n - 1) b h (omega arith) in
+      let z = ap (λ x. bit_at x (n - 1)) e ∙ bit_at-zero (n - 1) in
+      omega (arith, w, z, bit_at_ones m (n - 1) (omega arith), bit_at-lt bits (n - 1));
 }
 
 free_some : (bits m f : ℕ) → bits < 2 ^ 40 → m ≤ 40 → 1 ≤ f → f ≤ 40 → bit_at (bit_and (2 ^ m - 1) (2 ^ 64 - 1 - bits)) (f - 1) ≡ 1 → ((i : ℕ) → f ≤ i → bit_at (bit_and (2 ^ m - 1) (2 ^ 64 - 1 - bits)) i ≡ 0) → IsFree bits m f
@@ -123,13 +125,13 @@ free_some bits m f b h low high here clear =
     let w = absent_bit bits m (f - 1) b h (omega arith) in
     record {
       most = elim (cases_lt m f) [
-          inl over ↦ absurd (omega (arith, w, here, bit_at_ones_above m (f - 1) (omega arith)))
+        | inl over ↦ absurd (omega (arith, w, here, bit_at_ones_above m (f - 1) (omega arith)))
         | inr within ↦ within
-        ];
+      ];
       absent = λ p. omega (arith, w, here, bit_at-lt bits (f - 1));
       above = λ n l u.
-        let v = absent_bit bits m (n - 1) b h (omega arith) in
-        omega (arith, v, clear (n - 1) (omega arith), bit_at_ones m (n - 1) (omega arith), bit_at-lt bits (n - 1))
+          let v = absent_bit bits m (n - 1) b h (omega arith) in
+          omega (arith, v, clear (n - 1) (omega arith), bit_at_ones m (n - 1) (omega arith), bit_at-lt bits (n - 1));
     }
 
 -- a set above whose free numbers all are members, and below them none, is the last
@@ -137,8 +139,8 @@ pub last_if_none_free : (bits m : ℕ) → bits < 2 ^ 40 → m ≤ 40 → IsIncr
 last_if_none_free bits m b h i e =
     let free = free_none bits m b h e in
     let run : members bits ≡ range_with_len 1 m =
-        stacked bits bits 0 1 m (omega arith) (omega arith) (λ n l u. refl) (λ n l u. absurd (omega arith)) (λ n l u. free.above n (omega arith) (omega arith)) (λ n l u. none_above bits m i n (omega arith) (omega arith) u)
-        ∙ ap (λ s. s ++ range_with_len 1 m) (members_among_none 1 bits) in
+    stacked bits bits 0 1 m (omega arith) (omega arith) (λ n l u. refl) (λ n l u. absurd (omega arith)) (λ n l u. free.above n (omega arith) (omega arith)) (λ n l u. none_above bits m i n (omega arith) (omega arith) u)
+    ∙ ap (λ s. s ++ range_with_len 1 m) (members_among_none 1 bits) in
     IsLastSet-from_run m 1 m (members bits) run (omega arith)
 
 below_in : (bits k i : ℕ) → i < k → bit_at (bit_and bits (2 ^ k - 1)) i ≡ bit_at bits i
@@ -150,14 +152,14 @@ below_out bits k i h = let e = bit_at_and bits (2 ^ k - 1) i in omega (arith, e,
 last_if_none_below_free : (bits m f : ℕ) → m ≤ 40 → 1 ≤ f → IsIncreasing 1 m (members bits) → IsFree bits m f → bit_and bits (2 ^ (f - 1) - 1) ≡ 0 → IsLastSet m (members bits)
 last_if_none_below_free bits m f h low i free e =
     let gap : (n : ℕ) → 0 < n → n < f + 1 → bit_at bits (n - 1) ≡ 0 = λ n l u.
-        elim (cases_lt n f) [
-          inl under ↦ sym (below_in bits (f - 1) (n - 1) (omega arith)) ∙ (ap (λ x. bit_at x (n - 1)) e ∙ bit_at-zero (n - 1))
-        | inr at ↦ let same : n ≡ f = omega arith in ap (λ x. bit_at bits (x - 1)) same ∙ free.absent low
-        ] in
+    elim (cases_lt n f) [
+      | inl under ↦ sym (below_in bits (f - 1) (n - 1) (omega arith)) ∙ (ap (λ x. bit_at x (n - 1)) e ∙ bit_at-zero (n - 1))
+      | inr at ↦ let same : n ≡ f = omega arith in ap (λ x. bit_at bits (x - 1)) same ∙ free.absent low
+    ] in
     let most = free.most in
     let run : members bits ≡ range_with_len (f + 1) (m - f) =
-        stacked bits bits 0 (f + 1) (m - f) (omega arith) (omega arith) (λ n l u. refl) gap (λ n l u. free.above n (omega arith) (omega arith)) (λ n l u. none_above bits m i n (omega arith) (omega arith) u)
-        ∙ ap (λ s. s ++ range_with_len (f + 1) (m - f)) (members_among_none 1 bits) in
+    stacked bits bits 0 (f + 1) (m - f) (omega arith) (omega arith) (λ n l u. refl) gap (λ n l u. free.above n (omega arith) (omega arith)) (λ n l u. none_above bits m i n (omega arith) (omega arith) u)
+    ∙ ap (λ s. s ++ range_with_len (f + 1) (m - f)) (members_among_none 1 bits) in
     IsLastSet-from_run m (f + 1) (m - f) (members bits) run (omega arith)
 
 -- l is the greatest member below f
@@ -170,14 +172,14 @@ pub record IsGrowing (bits f l : ℕ) : Type 0 where
 growing_from : (bits f l : ℕ) → 1 ≤ f → 1 ≤ l → bit_at (bit_and bits (2 ^ (f - 1) - 1)) (l - 1) ≡ 1 → ((i : ℕ) → l ≤ i → bit_at (bit_and bits (2 ^ (f - 1) - 1)) i ≡ 0) → IsGrowing bits f l
 growing_from bits f l some low here clear =
     let less : l < f = elim (cases_lt l f) [
-        inl under ↦ under
+      | inl under ↦ under
       | inr over ↦ absurd (omega (arith, here, below_out bits (f - 1) (l - 1) (omega arith)))
-      ] in
+    ] in
     record {
       low = low;
       less = less;
       member = sym (below_in bits (f - 1) (l - 1) (omega arith)) ∙ here;
-      gap = λ n k u. sym (below_in bits (f - 1) (n - 1) (omega arith)) ∙ clear (n - 1) (omega arith)
+      gap = λ n k u. sym (below_in bits (f - 1) (n - 1) (omega arith)) ∙ clear (n - 1) (omega arith);
     }
 
 -- the word of the next set
@@ -221,17 +223,17 @@ members_before bits m f l h i free g =
     let most = free.most in
     let start : m + 1 - (m - f) ≡ f + 1 = omega arith in
     let gap : (n : ℕ) → l < n → n < f + 1 → bit_at bits (n - 1) ≡ 0 = λ n k u.
-        elim (cases_lt n f) [
-          inl under ↦ g.gap n k under
-        | inr at ↦ let same : n ≡ f = omega arith in ap (λ x. bit_at bits (x - 1)) same ∙ free.absent (omega arith)
-        ] in
+    elim (cases_lt n f) [
+      | inl under ↦ g.gap n k under
+      | inr at ↦ let same : n ≡ f = omega arith in ap (λ x. bit_at bits (x - 1)) same ∙ free.absent (omega arith)
+    ] in
     let runs : members bits ≡ members_among 1 l bits ++ range_with_len (f + 1) (m - f) =
-        stacked bits bits l (f + 1) (m - f) (omega arith) (omega arith) (λ n k u. refl) gap (λ n k u. free.above n (omega arith) (omega arith)) (λ n k u. none_above bits m i n (omega arith) (omega arith) u) in
+    stacked bits bits l (f + 1) (m - f) (omega arith) (omega arith) (λ n k u. refl) gap (λ n k u. free.above n (omega arith) (omega arith)) (λ n k u. none_above bits m i n (omega arith) (omega arith) u) in
     let whole : l - 1 + 1 ≡ l = omega arith in
     let next : 1 + (l - 1) ≡ l = omega arith in
     let front : members_among 1 l bits ≡ members_among 1 (l - 1) bits ++ l ∷ [] =
-        subst (λ n. members_among 1 n bits ≡ members_among 1 (l - 1) bits ++ l ∷ []) whole
-        (members_among-append 1 (l - 1) 1 bits ∙ ap (λ s. members_among 1 (l - 1) bits ++ s) (rw next (members_among_full l 1 bits (λ n k u. let same : n ≡ l = omega arith in ap (λ x. bit_at bits (x - 1)) same ∙ g.member)))) in
+    subst (λ n. members_among 1 n bits ≡ members_among 1 (l - 1) bits ++ l ∷ []) whole
+    (members_among-append 1 (l - 1) 1 bits ∙ ap (λ s. members_among 1 (l - 1) bits ++ s) (rw next (members_among_full l 1 bits (λ n k u. let same : n ≡ l = omega arith in ap (λ x. bit_at bits (x - 1)) same ∙ g.member)))) in
     rw (start, runs, front) (append_assoc (members_among 1 (l - 1) bits) (l ∷ []) (range_with_len (f + 1) (m - f)))
 
 -- ---- the same, of words that the code computes

@@ -26,8 +26,7 @@ IsPlace m (Some set) = (m ≤ 40) × IsIncreasing 1 m set
 abbrev pub IsLastSet : ℕ → List ℕ → Type 0
 IsLastSet m set = set ≡ range_with_len (m + 1 - length set) (length set)
 
--- The set `next` comes right after `set`: behind the last number that can grow stand the greatest numbers up to m.
--- That number grows by 1, and those behind it follow at once.
+-- `next` comes right after `set`: the last number that can grow grows by 1, and those behind it follow it at once
 abbrev pub IsNextSet : ℕ → List ℕ → List ℕ → Type 0
 IsNextSet m set next =
     (front : List ℕ) × (last : ℕ) × (behind : ℕ) × (last + behind < m)

@@ -1,4 +1,4 @@
--- The word of a set and the list of its members: each is found from the other.
+-- The word of a set is found back from its members.
 use Rattle.std.proofs.Common.{◌≡◌, ℕ, zero, suc, ◌+◌, ◌-◌, ◌*◌, ◌/◌, ◌%◌, ◌^◌, ◌<◌, ◌==◌, Bool, true, false, cond, List, ◌∷◌, sym, ◌∙◌, subst, arith, add-one, filter, sum_by}
 use Rattle.std.specs.List.{range_with_len}
 use Rattle.std.specs.Int.{bit_at}
@@ -30,7 +30,7 @@ word_of_members_among bits (suc count) a =
     let halves : bits / 2 ^ (a + 1) ≡ bits / 2 ^ a / 2 = sym (shr-shr bits a 1) in
     let double : 2 ^ (a + 1) ≡ 2 ^ a * 2 = pow-add 2 a 1 in
     let split : bits / 2 ^ a % 2 ^ (suc count) ≡ (bits / 2 ^ a / 2 % 2 ^ count) * 2 + bits / 2 ^ a % 2 =
-        subst (λ k. bits / 2 ^ a % 2 ^ k ≡ (bits / 2 ^ a / 2 % 2 ^ count) * 2 + bits / 2 ^ a % 2) (add-one count) (mod-pow-add (bits / 2 ^ a) count 1) in
+    subst (λ k. bits / 2 ^ a % 2 ^ k ≡ (bits / 2 ^ a / 2 % 2 ^ count) * 2 + bits / 2 ^ a % 2) (add-one count) (mod-pow-add (bits / 2 ^ a) count 1) in
     let here = bit_term (bits / 2 ^ a % 2) (2 ^ a) (mod_below (bits / 2 ^ a) 2 (omega arith)) in
     sum_by-filter-cons (λ n. 2 ^ (n - 1)) (λ n. bit_at bits (n - 1) == 1) (a + 1) (range_with_len (a + 1 + 1) count)
     ∙ (rw (back, rest, halves, double, here) (joined (bits / 2 ^ a) (2 ^ a) (2 ^ count) (bits / 2 ^ a % 2 ^ (suc count)) split))

@@ -139,7 +139,11 @@ impl CandSet {
         // The members below the first that only one set has are the same.
         let first = differ.trailing_zeros();
         if self.bits >> first & 1 == 1 {
-            if other.bits >> first == 0 { Ordering::Greater } else { Ordering::Less }
+            if other.bits >> first == 0 {
+                Ordering::Greater
+            } else {
+                Ordering::Less
+            }
         } else if self.bits >> first == 0 {
             Ordering::Less
         } else {
@@ -152,7 +156,9 @@ impl CandSet {
         requires { n ≤ 40 }
         ensures { result ≡ range_with_len 1 n }
     {
-        CandSet { bits: numbers_to(n) }
+        CandSet {
+            bits: numbers_to(n),
+        }
     }
 
     /// The set right after this one, in lexicographic order, of the sets of its size of the candidates 1 to m.

@@ -2,6 +2,7 @@
 #![tactic(auto)]
 
 pub mod cand_set;
+pub mod laws;
 pub mod profile;
 pub mod subsets;
 

@@ -1,7 +1,5 @@
-use Rattle.std.proofs.Common.{◌∙◌, ◌/◌, ◌^◌, ◌==◌, sym, ap, arith, Less, Greater, bit_xor, w64}
+use Rattle.std.proofs.Common.{◌∙◌, ◌/◌, ◌^◌, ◌==◌, sym, arith, Less, Greater, bit_xor, w64}
 use Rattle.std.specs.Int.{trailing_zeros}
-use Rattle.std.specs.Ordering.{nat_cmp}
-use Rattle.std.specs.Cmp.Lexicographic.{slice_cmp}
 use Rattle.std.proofs.lemmas.Bool.{eq-eqb, ne_eqb, cond-true, cond-false}
 use Rattle.ballot_base.specs.CandSet.{members}
 use Rattle.ballot_base.proofs.FirstMember.{cmp_same, same_from_xor, lowest_difference, cmp_self_first, cmp_other_first}

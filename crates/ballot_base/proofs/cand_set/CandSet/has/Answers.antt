@@ -11,10 +11,10 @@ returns-then-n-le-MOST c = rw (← c.self.view_is) (has_member_by_shift c.self.i
 pub returns-else-n-le-MOST : goal.returns-else-n-le-MOST
 returns-else-n-le-MOST c =
     let out : has_member c.args.self c.args.n ≡ false =
-        rw (← c.self.view_is) (has_member_outside c.self.inside.bits c.args.n (elim c.if-n-le-MOST.either [ inl h ↦ inr h.1 | inr e ↦ inl e ])) in
+    rw (← c.self.view_is) (has_member_outside c.self.inside.bits c.args.n (elim c.if-n-le-MOST.either [ inl h ↦ inr h.1 | inr e ↦ inl e ])) in
     elim c.if-n-ne0.branch [
-      then-n-ne0 w ↦
-        let high : 40 < c.args.n = elim c.if-n-le-MOST.either [ inl h ↦ h.1 | inr e ↦ absurd (w.if-n-ne0.true e) ] in
-        w.t-4-is ∙ (lt-leb c.args.n 40 high ∙ sym out)
-    | else-n-ne0 w ↦ w.t-4-is ∙ (not_from_true (nat_eq c.args.n 0) (eq-eqb c.args.n 0 w.if-n-ne0.false) ∙ sym out)
+      | then-n-ne0 w ↦
+          let high : 40 < c.args.n = elim c.if-n-le-MOST.either [ inl h ↦ h.1 | inr e ↦ absurd (w.if-n-ne0.true e) ] in
+          w.t-4-is ∙ (lt-leb c.args.n 40 high ∙ sym out)
+      | else-n-ne0 w ↦ w.t-4-is ∙ (not_from_true (nat_eq c.args.n 0) (eq-eqb c.args.n 0 w.if-n-ne0.false) ∙ sym out)
     ]

@@ -1,4 +1,4 @@
-use Rattle.std.proofs.Common.{ℕ, ◌<◌, ◌+◌, ◌-◌, ◌^◌, sym, subst, arith}
+use Rattle.std.proofs.Common.{◌<◌, ◌+◌, ◌-◌, ◌^◌, sym, subst, arith}
 use Rattle.std.proofs.lemmas.Nat.{pow_below, and_le_l}
 use Rattle.ballot_base.specs.CandSet.{members}
 use Rattle.ballot_base.specs.Subsets.{IsNextSet}
@@ -49,7 +49,7 @@ invariant_of-result c =
     let free = free_of bits m c.numbers_to.result c.greatest-free.result c.self.invariant c.requires.most c.numbers_to.ensures f.low f.high f.member f.above in
     let growing = growing_of bits c.numbers_to-2.result c.greatest-free.result c.greatest-last.result c.numbers_to-2.ensures f.low l.low l.member l.above in
     let is = grown_is bits m c.greatest-free.result c.greatest-last.result c.numbers_to-2.result c.numbers_to-5.result c.numbers_to-3.result c.numbers_to-4.result
-        c.numbers_to-2.ensures c.numbers_to-5.ensures c.numbers_to-3.ensures c.numbers_to-4.ensures in
+    c.numbers_to-2.ensures c.numbers_to-5.ensures c.numbers_to-3.ensures c.numbers_to-4.ensures in
     subst (λ n. n < 2 ^ 40) (sym is) (bound_of_grown bits m c.greatest-free.result c.greatest-last.result c.self.invariant c.requires.most free.most growing.less)
 
 pub returns : goal.returns
@@ -62,5 +62,5 @@ returns c =
     let free = free_of bits m c.numbers_to.result c.greatest-free.result c.self.invariant c.requires.most c.numbers_to.ensures f.low f.high f.member f.above in
     let growing = growing_of bits c.numbers_to-2.result c.greatest-free.result c.greatest-last.result c.numbers_to-2.ensures f.low l.low l.member l.above in
     let is = grown_is bits m c.greatest-free.result c.greatest-last.result c.numbers_to-2.result c.numbers_to-5.result c.numbers_to-3.result c.numbers_to-4.result
-        c.numbers_to-2.ensures c.numbers_to-5.ensures c.numbers_to-3.ensures c.numbers_to-4.ensures in
+    c.numbers_to-2.ensures c.numbers_to-5.ensures c.numbers_to-3.ensures c.numbers_to-4.ensures in
     rw (← c.self.view_is) (subst (λ n. IsNextSet m (members bits) (members n)) (sym is) (IsNextSet-grown bits m c.greatest-free.result c.greatest-last.result c.requires.most inc free growing))

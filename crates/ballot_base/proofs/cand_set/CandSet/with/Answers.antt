@@ -1,4 +1,3 @@
-use Rattle.std.proofs.Common.{arith}
 use Rattle.ballot_base.proofs.Members.{bound_of_with, members_with}
 use Rattle.ballot_base.proofs.cand_set.CandSet.with.Goals as goal
 

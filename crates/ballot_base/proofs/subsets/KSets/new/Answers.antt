@@ -1,5 +1,3 @@
-use Rattle.std.proofs.Common.{◌∙◌, ap}
-use Rattle.ballot_base.specs.Subsets.{lists_from}
 use Rattle.ballot_base.proofs.Committees.{first_place}
 use Rattle.ballot_base.proofs.subsets.KSets.new.Goals as goal
 

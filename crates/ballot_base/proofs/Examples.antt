@@ -1,0 +1,134 @@
+-- Each definition, computed on a small example.
+use Rattle.std.proofs.Common.{◌≡◌, List, [], ◌∷◌, true, false, refl, lit≤, Some, None}
+use Rattle.ballot_base.specs.Lists.{IsIncreasing, lists_of, increasing_lists, is_later, IsLater}
+use Rattle.ballot_base.specs.CandSet.{members_among, members, word_of, has_member, with_member, without_member, common_members}
+use Rattle.ballot_base.specs.Subsets.{lists_from, sets_from, IsPlace, IsLastSet, IsNextSet}
+use Rattle.ballot_base.specs.Ballots.{Row, IsElection, election, hits, voter_count, has_ballot, with_votes}
+
+-- ---- lists
+increasing : IsIncreasing 1 4 (1 ∷ 3 ∷ [])
+increasing = (lit≤ tt, lit≤ tt, (lit≤ tt, lit≤ tt, tt))
+
+lists_of_two : lists_of 3 2 2 ≡ (2 ∷ 3 ∷ []) ∷ (2 ∷ 4 ∷ []) ∷ (3 ∷ 4 ∷ []) ∷ []
+unfolding lists_of
+lists_of_two = refl
+
+pairs_of_four : increasing_lists 1 4 2 ≡ (1 ∷ 2 ∷ []) ∷ (1 ∷ 3 ∷ []) ∷ (1 ∷ 4 ∷ []) ∷ (2 ∷ 3 ∷ []) ∷ (2 ∷ 4 ∷ []) ∷ (3 ∷ 4 ∷ []) ∷ []
+unfolding lists_of
+pairs_of_four = refl
+
+no_pair_of_one : increasing_lists 4 4 2 ≡ []
+unfolding lists_of
+no_pair_of_one = refl
+
+later : is_later (1 ∷ 3 ∷ []) (1 ∷ 2 ∷ []) ≡ true
+later = refl
+
+earlier : is_later (1 ∷ 2 ∷ []) (1 ∷ 3 ∷ []) ≡ false
+earlier = refl
+
+not_later_than_itself : is_later (1 ∷ 2 ∷ []) (1 ∷ 2 ∷ []) ≡ false
+not_later_than_itself = refl
+
+not_later_than_a_shorter_one : is_later (1 ∷ 2 ∷ []) (1 ∷ []) ≡ false
+not_later_than_a_shorter_one = refl
+
+is_later_list : IsLater (2 ∷ 3 ∷ []) (1 ∷ 4 ∷ [])
+is_later_list = refl
+
+-- ---- sets
+members_of_13 : members 13 ≡ 1 ∷ 3 ∷ 4 ∷ []
+unfolding members members_among
+members_of_13 = refl
+
+members_of_13_from_2 : members_among 2 2 13 ≡ 3 ∷ []
+unfolding members_among
+members_of_13_from_2 = refl
+
+word : word_of (1 ∷ 3 ∷ 4 ∷ []) ≡ 13
+word = refl
+
+is_member : has_member (1 ∷ 3 ∷ []) 3 ≡ true
+is_member = refl
+
+is_no_member : has_member (1 ∷ 3 ∷ []) 2 ≡ false
+is_no_member = refl
+
+with_a_new_one : with_member (1 ∷ 3 ∷ []) 2 ≡ 1 ∷ 2 ∷ 3 ∷ []
+with_a_new_one = refl
+
+with_a_member : with_member (1 ∷ 3 ∷ []) 3 ≡ 1 ∷ 3 ∷ []
+with_a_member = refl
+
+without_a_member : without_member (1 ∷ 3 ∷ []) 1 ≡ 3 ∷ []
+without_a_member = refl
+
+without_another : without_member (1 ∷ 3 ∷ []) 2 ≡ 1 ∷ 3 ∷ []
+without_another = refl
+
+common : common_members (1 ∷ 3 ∷ 4 ∷ []) (2 ∷ 3 ∷ 4 ∷ []) ≡ 3 ∷ 4 ∷ []
+common = refl
+
+-- ---- what is still to come
+from_a_list : lists_from 4 1 (2 ∷ 3 ∷ []) ≡ (2 ∷ 3 ∷ []) ∷ (2 ∷ 4 ∷ []) ∷ (3 ∷ 4 ∷ []) ∷ []
+unfolding lists_from lists_of
+from_a_list = refl
+
+sets_from_a_place : sets_from 3 (Some (1 ∷ 3 ∷ [])) ≡ (1 ∷ 3 ∷ []) ∷ (2 ∷ 3 ∷ []) ∷ []
+unfolding lists_from lists_of
+sets_from_a_place = refl
+
+sets_from_the_end : sets_from 3 None ≡ []
+sets_from_the_end = refl
+
+place : IsPlace 3 (Some (1 ∷ 3 ∷ []))
+place = (lit≤ tt, (lit≤ tt, lit≤ tt, (lit≤ tt, lit≤ tt, tt)))
+
+last_set : IsLastSet 4 (3 ∷ 4 ∷ [])
+last_set = refl
+
+-- behind 1 stand the greatest numbers 4 and 5
+next_set : IsNextSet 5 (1 ∷ 4 ∷ 5 ∷ []) (2 ∷ 3 ∷ 4 ∷ [])
+next_set = ([], 1, 2, lit≤ tt, refl, refl)
+
+-- ---- ballots
+two_hits : hits (1 ∷ 3 ∷ 4 ∷ []) (3 ∷ 4 ∷ 5 ∷ []) ≡ 2
+two_hits = refl
+
+-- two voters approve 1 and 3, and one voter nobody
+rows : List Row
+rows = (1 ∷ 3 ∷ [], 2) ∷ ([], 1) ∷ []
+
+three_voters : voter_count rows ≡ 3
+unfolding rows
+three_voters = refl
+
+is_cast : has_ballot rows [] ≡ true
+unfolding rows
+is_cast = refl
+
+is_not_cast : has_ballot rows (1 ∷ []) ≡ false
+unfolding rows
+is_not_cast = refl
+
+votes_for_an_old_ballot : with_votes rows (1 ∷ 3 ∷ []) 5 ≡ (1 ∷ 3 ∷ [], 7) ∷ ([], 1) ∷ []
+unfolding rows
+votes_for_an_old_ballot = refl
+
+votes_for_a_new_ballot : with_votes rows (2 ∷ []) 5 ≡ (1 ∷ 3 ∷ [], 2) ∷ ([], 1) ∷ (2 ∷ [], 5) ∷ []
+unfolding rows
+votes_for_a_new_ballot = refl
+
+example_election : election 3 rows ≡ record { m = 3; names = [] ∷ [] ∷ [] ∷ []; rows = rows }
+example_election = refl
+
+is_election : IsElection (election 3 rows)
+unfolding rows
+is_election = record {
+  least = lit≤ tt;
+  most = lit≤ tt;
+  names = refl;
+  ballots = ((lit≤ tt, lit≤ tt, (lit≤ tt, lit≤ tt, tt)), (tt, tt));
+  counts = (lit≤ tt, (lit≤ tt, tt));
+  voters = lit≤ tt;
+}
