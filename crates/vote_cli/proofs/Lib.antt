@@ -8,5 +8,6 @@ pub mod PlainNumbers
 pub mod PlainOrders
 pub mod PlainSets
 pub mod PrintingLemmas
+pub mod RunLemmas
 pub mod TextLemmas
 pub mod WinnersLemmas

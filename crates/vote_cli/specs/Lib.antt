@@ -1,5 +1,6 @@
 pub mod Answer
 pub mod Device
+pub mod Input
 pub mod PlainFile
 pub mod PlainParse
 pub mod Printing

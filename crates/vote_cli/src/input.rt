@@ -1,5 +1,6 @@
 //! The whole input of a run.
-ghost use Rattle.std.specs.Prelude.{◌≡◌, false, true, Err, IfOk, IfSome, OnOk};
+ghost use Rattle.std.specs.Prelude.{◌≡◌, IfOk, IfSome};
+ghost use Rattle.vote_cli.specs.Input.{TellsOfInput};
 
 use crate::device::Source;
 use std::alloc::Allocator;
@@ -22,8 +23,7 @@ pub(crate) fn read_to_end<A: Allocator, R: Source>(
     reader: &mut R,
 ) -> Result<Vec<u8, A>, InputFault>
     ensures bytes { IfOk result (λ input. IfSome (R.remaining reader.old) (λ bytes. input.items ≡ bytes)) }
-    ensures unfailed { OnOk result (R.has_failed reader.new ≡ R.has_failed reader.old) }
-    ensures failed { result ≡ Err InputFault.ReadFailed → R.has_failed reader.new ≡ true }
+    ensures failed { TellsOfInput (R.has_failed reader.old) (R.has_failed reader.new) result }
 {
     let mut input = Vec::new(alloc);
     let mut piece = [0; PIECE];

@@ -1,0 +1,82 @@
+-- What is known of the input and of the writers, joined to the answer.
+use Rattle.std.proofs.Common.{◌≡◌, ℕ, ◌<◌, ◌≤◌, Bool, true, false, List, [], ◌++◌, Option, Some, None, Ok, Err, IfSome, refl, sym, ap, subst, ◌∙◌, arith}
+use Rattle.std.specs.Prelude.{nat_lt, if◌then◌else◌, codes}
+use Rattle.std.specs.Io.KnownBytes.{Appends}
+use Rattle.std.proofs.KnownBytes.{Appends-nil}
+use Rattle.ballot_base.specs.Ballots.{Election}
+use Rattle.vote_cli.specs.declared.status.Status.{Status}
+use Rattle.vote_cli.specs.declared.status.Status.TheVariants as status
+use Rattle.vote_cli.specs.declared.whole_run.Refusal.{Refusal}
+use Rattle.vote_cli.specs.declared.whole_run.Refusal.TheVariants.{NotYet, SizeTooLarge, Memory, ReadFailed, WriteFailed}
+use Rattle.vote_cli.specs.Request.{Asked}
+use Rattle.vote_cli.specs.PlainFile.{ReadsPlain}
+use Rattle.vote_cli.specs.Text.{elected_text}
+use Rattle.vote_cli.specs.Answer.{Answer, Reads, Reports, Ends, answered, refused, answer_of}
+use Rattle.vote_cli.specs.Refusals.{Answers, Prepares, error_of, status_of}
+use Rattle.std.proofs.Common.{inl, inr}
+
+-- bytes that were read and refused are bytes to refuse
+pub refused_input : (known : Option (List ℕ)) (asked : Asked) (read : List ℕ) → IfSome known (λ bytes. read ≡ bytes)
+    → ((e : Election) → ReadsPlain read e → ⊥) → IfSome known (λ bytes. Reads bytes None)
+refused_input None asked read same nothing = tt
+refused_input (Some bytes) asked read same nothing = λ e reads. nothing e (subst (λ b. ReadsPlain b e) (sym same) reads)
+
+-- the answer about an election that is large enough, and about one that is not
+answer-fits : (asked : Asked) (e : Election) → asked.size ≤ e.m → answered (elected_text asked.rule asked.size e) ≡ answer_of asked (Some e)
+answer-fits asked e fits =
+    let small : nat_lt e.m asked.size ≡ false = grind arith in
+    ap (λ b. if b then refused status.RequestRefused (codes "committees: request: SizeTooLarge") else answered (elected_text asked.rule asked.size e)) (sym small)
+
+answer-large : (asked : Asked) (e : Election) → e.m < asked.size → refused status.RequestRefused (codes "committees: request: SizeTooLarge") ≡ answer_of asked (Some e)
+answer-large asked e large =
+    let big : nat_lt e.m asked.size ≡ true = grind arith in
+    ap (λ b. if b then refused status.RequestRefused (codes "committees: request: SizeTooLarge") else answered (elected_text asked.rule asked.size e)) (sym big)
+
+-- a writer of errors that was not called
+Reports-nothing : (taken : Option (List ℕ)) (has_failed : Bool) → Reports taken taken has_failed []
+Reports-nothing taken has_failed = record { beginning = ([], [], refl, Appends-nil taken); whole = λ e. Appends-nil taken }
+
+-- an answer that was written whole
+pub ends_answered : (known : Option (List ℕ)) (asked : Asked) (old new err : Option (List ℕ)) (err_failed : Bool) (done : Unit {0}) → IfSome known (λ bytes. Answers asked bytes old new (Ok done))
+    → IfSome known (λ bytes. Ends asked bytes old new err err err_failed status.Answered)
+ends_answered None asked old new err err_failed done h = tt
+ends_answered (Some bytes) asked old new err err_failed done h = record {
+  answer = answered (elected_text asked.rule asked.size h.0);
+  right = (Some h.0, h.1, answer-fits asked h.0 h.2);
+  status_is = refl;
+  text = h.3;
+  error = Reports-nothing err err_failed;
+}
+
+-- a refusal, with its line
+pub ends_refused : (known : Option (List ℕ)) (asked : Asked) (old new err err' : Option (List ℕ)) (err_failed : Bool) (refusal : Refusal) → IfSome known (λ bytes. Answers asked bytes old new (Err refusal))
+    → Reports err err' err_failed (error_of refusal) → IfSome known (λ bytes. Ends asked bytes old new err err' err_failed (status_of refusal))
+ends_refused None asked old new err err' err_failed refusal h error = tt
+ends_refused (Some bytes) asked old new err err' err_failed NotYet h error = record {
+  answer = refused status.InputRefused (codes "committees: input: NotYet");
+  right = (None, h.0, refl);
+  status_is = refl;
+  text = h.1;
+  error = error;
+}
+ends_refused (Some bytes) asked old new err err' err_failed SizeTooLarge h error = record {
+  answer = refused status.RequestRefused (codes "committees: request: SizeTooLarge");
+  right = (Some h.0, h.1, answer-large asked h.0 h.2);
+  status_is = refl;
+  text = h.3;
+  error = error;
+}
+ends_refused (Some bytes) asked old new err err' err_failed Memory h error = record { nothing = h; error = error }
+ends_refused (Some bytes) asked old new err err' err_failed ReadFailed h error = inl (record { nothing = h; error = error })
+ends_refused (Some bytes) asked old new err err' err_failed WriteFailed h error = inr (record {
+  answer = answered (elected_text asked.rule asked.size h.0);
+  right = (Some h.0, h.1, answer-fits asked h.0 h.2);
+  text = h.3;
+  error = error;
+})
+
+-- the same, with the status that was answered
+pub ends_by_refusal : (known : Option (List ℕ)) (asked : Asked) (old new err err' : Option (List ℕ)) (err_failed : Bool) (refusal : Refusal) (ended : Status) → ended ≡ status_of refusal
+    → IfSome known (λ bytes. Answers asked bytes old new (Err refusal)) → Reports err err' err_failed (error_of refusal) → IfSome known (λ bytes. Ends asked bytes old new err err' err_failed ended)
+ends_by_refusal known asked old new err err' err_failed refusal ended is h error =
+    subst (λ s. IfSome known (λ bytes. Ends asked bytes old new err err' err_failed s)) (sym is) (ends_refused known asked old new err err' err_failed refusal h error)
