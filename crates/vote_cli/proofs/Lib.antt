@@ -1,5 +1,10 @@
+pub mod Answered
 pub mod ApprovalLemmas
+pub mod GivenRequest
+pub mod GivenValues
 pub mod InputLemmas
+pub mod Places
+pub mod PlacesOfFaults
 pub mod PlainBallots
 pub mod PlainExamples
 pub mod PlainFiles
@@ -8,6 +13,10 @@ pub mod PlainNumbers
 pub mod PlainOrders
 pub mod PlainSets
 pub mod PrintingLemmas
+pub mod ProgramPlaces
+pub mod Refusals
 pub mod RunLemmas
 pub mod TextLemmas
 pub mod WinnersLemmas
+pub mod WordsExamples
+pub mod WordsLemmas

@@ -1,19 +1,17 @@
 -- Reading the lines of ballots, and whole files.
-use Rattle.std.proofs.Common.{◌≡◌, ℕ, zero, suc, ◌+◌, ◌-◌, ◌^◌, ◌<◌, ◌≤◌, ◌⊎◌, Bool, true, false, cond, ltb, List, [], ◌∷◌, ◌++◌, length, Option, Some, None, refl, sym, ap, subst, ◌∙◌, append_assoc, arith, inl, inr}
-use Rattle.std.specs.Prelude.{⊤, codes, decimal, map, fold, flat_map, sum_by, nat_eq}
-use Rattle.std.specs.List.{AllByRecursion, IsDistinct, join_with_byte}
+use Rattle.std.proofs.Common.{◌≡◌, ℕ, zero, suc, ◌+◌, ◌-◌, ◌^◌, ◌<◌, ◌≤◌, false, cond, ltb, List, [], ◌∷◌, ◌++◌, length, Option, Some, None, refl, sym, ap, subst, ◌∙◌, append_assoc, arith}
+use Rattle.std.specs.Prelude.{codes, decimal, map, fold, flat_map, sum_by}
+use Rattle.std.specs.List.{AllByRecursion, join_with_byte}
 use Rattle.std.specs.Str.{bytes_eq}
 use Rattle.std.proofs.lemmas.Bool.{ltb-false, le-ltb, cond_both}
-use Rattle.std.proofs.lemmas.List.{length-append, append-nil}
+use Rattle.std.proofs.lemmas.List.{length-append}
 use Rattle.std.proofs.lemmas.List.Sums.{sum_by-cons}
-use Rattle.std.proofs.lemmas.Fmt.{decimal_nonempty}
 use Rattle.ballot_base.specs.CandSet.{with_member}
-use Rattle.ballot_base.specs.Lists.{IsIncreasing}
-use Rattle.ballot_base.specs.Ballots.{Election, Row, election, voter_count, with_votes}
-use Rattle.vote_cli.specs.PlainFile.{Class, Ballot, CatFile, numbers_of, class_text, line, ballot_line, ballot_text, file_text, ballot_numbers, IsCatBallot, IsCatFile, approved, rows_of, election_of, ReadsPlain}
-use Rattle.vote_cli.specs.PlainParse.{◌>>=◌, after_byte, after_word, number_at, class_at, classes_at, ballot_at, ballots_at, header_at, election_at, file_at}
+use Rattle.ballot_base.specs.Ballots.{Row, voter_count, with_votes}
+use Rattle.vote_cli.specs.PlainFile.{Class, Ballot, numbers_of, class_text, ballot_line, ballot_text, IsCatBallot, approved}
+use Rattle.vote_cli.specs.PlainParse.{◌>>=◌, after_byte, after_word, number_at, class_at, classes_at, ballot_at, ballots_at}
 use Rattle.vote_cli.proofs.PlainNumbers.{bind_some, not_refused, some_is, found, number_again, number_takes}
-use Rattle.vote_cli.proofs.PlainSets.{Fresh, Fresh-append, Fresh-join, Fresh-from, Fresh-parts, IsIncreasing-fold}
+use Rattle.vote_cli.proofs.PlainSets.{Fresh, Fresh-append, Fresh-join, Fresh-from, Fresh-parts}
 use Rattle.vote_cli.proofs.PlainOrders.{rest_text, join_is, after_byte_takes, after_byte_again, after_word_takes, after_word_again, class_again, class_takes, after_class, classes_again, classes_take}
 
 -- ---- the line of a ballot
@@ -72,6 +70,32 @@ pub record ReadsBallot (m categories : ℕ) (text : List ℕ) (x : ℕ × List �
   pub set : x.1 ≡ approved b
   pub whole : text ≡ ballot_text b ++ x.2
 
+ballot_from : (m categories : ℕ) (text : List ℕ) (count : ℕ) (class : Class) (classes : List Class) (rest : List ℕ) → 1 ≤ categories → 1 ≤ count → count ≤ 2 ^ 32 → length classes ≤ categories - 1 → Fresh m [] (numbers_of class ++ flat_map numbers_of classes) → text ≡ spread count class classes rest → length text ≤ length rest + 1048577 → ReadsBallot m categories text (count, fold with_member [] (numbers_of class), rest) (ballot_of count class classes)
+ballot_from m categories text count class classes rest some low high room fresh is short =
+    let whole : text ≡ ballot_text (ballot_of count class classes) ++ rest = is ∙ sym (ballot_is count class classes rest) in
+    let parts = Fresh-parts m (numbers_of class ++ flat_map numbers_of classes) fresh in
+    let line : length (ballot_line (ballot_of count class classes)) ≤ 1048576 = omega (arith, ap length whole, length-ballot (ballot_of count class classes) rest) in
+    let good : IsCatBallot m categories (ballot_of count class classes) = record { count = low; some_class = omega arith; classes = omega arith; alternatives = parts.0; distinct = parts.1; line_length = line } in
+    record { good = good; most = high; count = refl; set = refl; whole = whole }
+
+-- a class and those after it, as they were read
+classes_from : (m k : ℕ) (order set others rest : List ℕ) → m < 2 ^ 64 → class_at m [] order ≡ Some (set, others) → classes_at k m set others ≡ Some (10 ∷ rest) → (class : Class) × (classes : List Class) × (length classes ≤ k) × Fresh m [] (numbers_of class ++ flat_map numbers_of classes) × (set ≡ fold with_member [] (numbers_of class)) × (order ≡ class_text class ++ (rest_text class_text classes ++ 10 ∷ rest))
+classes_from m k order set others rest fits e f =
+    let first = class_takes m [] order (set, others) fits e in
+    let more = classes_take k m set others (10 ∷ rest) fits f in
+    let fresh : Fresh m (fold with_member [] (numbers_of first.0)) (flat_map numbers_of more.0) = subst (λ (s : List ℕ). Fresh m s (flat_map numbers_of more.0)) first.2 more.2 in
+    (first.0, more.0, more.1, Fresh-join m [] (numbers_of first.0) (flat_map numbers_of more.0) first.1 fresh, first.2, first.3 ∙ ap (λ (t : List ℕ). class_text first.0 ++ t) more.3)
+
+-- the steps of reading a line
+steps_take : (m categories : ℕ) (text : List ℕ) (count : ℕ) (after order set others end rest : List ℕ) (x : ℕ × List ℕ × List ℕ) → m < 2 ^ 64 → 1 ≤ categories → (1 ≤ count) × (count ≤ 2 ^ 32) × (text ≡ decimal count ++ after) → after ≡ codes ": " ++ order → class_at m [] order ≡ Some (set, others) → classes_at (categories - 1) m set others ≡ Some end → end ≡ 10 ∷ rest → finish text count set rest ≡ Some x → (b : Ballot) × ReadsBallot m categories text x b
+steps_take m categories text count after order set others end rest x fits some number word first more stop last =
+    let g = not_refused (ltb (length rest + 1048577) (length text)) (Some (count, set, rest)) x last in
+    let c = classes_from m (categories - 1) order set others rest fits first (more ∙ ap found stop) in
+    let is : text ≡ spread count c.0 c.1 rest = number.2 ∙ ap (λ (t : List ℕ). decimal count ++ t) (word ∙ ap (λ (t : List ℕ). codes ": " ++ t) c.5) in
+    let read = ballot_from m categories text count c.0 c.1 rest some number.0 number.1 c.2 c.3 is (ltb-false (length rest + 1048577) (length text) g.0) in
+    let same : ◌≡◌ {A = ℕ × List ℕ × List ℕ} (count, fold with_member [] (numbers_of c.0), rest) x = ap (λ (s : List ℕ). (count, s, rest)) (sym c.4) ∙ some_is (count, set, rest) x g.1 in
+    (ballot_of count c.0 c.1, subst (λ (y : ℕ × List ℕ × List ℕ). ReadsBallot m categories text y (ballot_of count c.0 c.1)) same read)
+
 -- a ballot that is read is written so
 pub ballot_takes : (m categories : ℕ) (text : List ℕ) (x : ℕ × List ℕ × List ℕ) → m < 2 ^ 64 → 1 ≤ categories → ballot_at m categories text ≡ Some x → (b : Ballot) × ReadsBallot m categories text x b
 unfolding ballot_at
@@ -81,22 +105,7 @@ ballot_takes m categories text x fits some e =
     let a3 = bind_some (class_at m [] a2.0) (λ first. classes_at (categories - 1) m first.0 first.1 >>= λ others. after_byte 10 others >>= λ rest. finish text a1.0.0 first.0 rest) x a2.2 in
     let a4 = bind_some (classes_at (categories - 1) m a3.0.0 a3.0.1) (λ others. after_byte 10 others >>= λ rest. finish text a1.0.0 a3.0.0 rest) x a3.2 in
     let a5 = bind_some (after_byte 10 a4.0) (λ rest. finish text a1.0.0 a3.0.0 rest) x a4.2 in
-    let g = not_refused (ltb (length a5.0 + 1048577) (length text)) (Some (a1.0.0, a3.0.0, a5.0)) x a5.2 in
-    let same : ◌≡◌ {A = ℕ × List ℕ × List ℕ} (a1.0.0, a3.0.0, a5.0) x = some_is (a1.0.0, a3.0.0, a5.0) x g.1 in
-    let number = number_takes (2 ^ 32) text a1.0 (omega arith) a1.1 in
-    let word = after_word_takes (codes ": ") a1.0.1 a2.0 a2.1 in
-    let first = class_takes m [] a2.0 a3.0 fits a3.1 in
-    let others = classes_take (categories - 1) m a3.0.0 a3.0.1 a4.0 fits a4.1 in
-    let end = after_byte_takes 10 a4.0 a5.0 a5.1 in
-    let b : Ballot = ballot_of a1.0.0 first.0 others.0 in
-    let order : a2.0 ≡ class_text first.0 ++ (rest_text class_text others.0 ++ 10 ∷ a5.0) = first.3 ∙ ap (λ (t : List ℕ). class_text first.0 ++ t) (others.3 ∙ ap (λ (t : List ℕ). rest_text class_text others.0 ++ t) end) in
-    let is : text ≡ ballot_text (ballot_of a1.0.0 first.0 others.0) ++ a5.0 = number.2 ∙ ap (λ (t : List ℕ). decimal a1.0.0 ++ t) (word ∙ ap (λ (t : List ℕ). codes ": " ++ t) order) ∙ sym (ballot_is a1.0.0 first.0 others.0 a5.0) in
-    let fresh : Fresh m (fold with_member [] (numbers_of first.0)) (flat_map numbers_of others.0) = subst (λ (s : List ℕ). Fresh m s (flat_map numbers_of others.0)) first.2 others.2 in
-    let parts = Fresh-parts m (numbers_of first.0 ++ flat_map numbers_of others.0) (Fresh-join m [] (numbers_of first.0) (flat_map numbers_of others.0) first.1 fresh) in
-    let short : length (ballot_line (ballot_of a1.0.0 first.0 others.0)) ≤ 1048576 = omega (arith, ltb-false (length a5.0 + 1048577) (length text) g.0, ap length is, length-ballot (ballot_of a1.0.0 first.0 others.0) a5.0) in
-    let good : IsCatBallot m categories (ballot_of a1.0.0 first.0 others.0) = record { count = number.0; some_class = omega arith; classes = omega (arith, others.1); alternatives = parts.0; distinct = parts.1; line_length = short } in
-    let result : ReadsBallot m categories text (a1.0.0, a3.0.0, a5.0) (ballot_of a1.0.0 first.0 others.0) = record { good = good; most = number.1; count = refl; set = first.2; whole = is } in
-    (ballot_of a1.0.0 first.0 others.0, subst (λ (y : ℕ × List ℕ × List ℕ). ReadsBallot m categories text y (ballot_of a1.0.0 first.0 others.0)) same result)
+    steps_take m categories text a1.0.0 a1.0.1 a2.0 a3.0.0 a3.0.1 a4.0 a5.0 x fits some (number_takes (2 ^ 32) text a1.0 (omega arith) a1.1) (after_word_takes (codes ": ") a1.0.1 a2.0 a2.1) a3.1 a4.1 (after_byte_takes 10 a4.0 a5.0 a5.1) a5.2
 
 -- ---- ballots
 
@@ -104,8 +113,8 @@ pub voter_count-with : (rows : List Row) (set : List ℕ) (count : ℕ) → vote
 voter_count-with [] set count = omega arith
 voter_count-with (row ∷ rows) set count =
     cond_both (bytes_eq set row.0) ((row.0, row.1 + count) ∷ rows) (row ∷ with_votes rows set count) (λ (out : List Row). voter_count out ≡ voter_count (row ∷ rows) + count) (λ _.
-        omega (arith, sum_by-cons (λ (r : Row). r.1) row rows, sum_by-cons (λ (r : Row). r.1) (row.0, row.1 + count) rows)) (λ _.
-        omega (arith, sum_by-cons (λ (r : Row). r.1) row rows, sum_by-cons (λ (r : Row). r.1) row (with_votes rows set count), voter_count-with rows set count))
+    omega (arith, sum_by-cons (λ (r : Row). r.1) row rows, sum_by-cons (λ (r : Row). r.1) (row.0, row.1 + count) rows)) (λ _.
+    omega (arith, sum_by-cons (λ (r : Row). r.1) row rows, sum_by-cons (λ (r : Row). r.1) row (with_votes rows set count), voter_count-with rows set count))
 
 -- the rows with the votes of a ballot
 abbrev pub with_ballot : List Row → Ballot → List Row
@@ -160,10 +169,12 @@ ballots_take (suc k) m categories rows (c ∷ cs) out fits some within e =
     let sum = voter_count-with rows a.0.1 a.0.0 in
     let more = ballots_take k m categories (with_votes rows a.0.1 a.0.0) a.0.2 out fits some (omega (arith, sum, ltb-false _ _ g.0)) g.1 in
     let q = more.1 in
-    let same : with_votes rows a.0.1 a.0.0 ≡ with_ballot rows first.0 = ap (λ (s : List ℕ). with_votes rows s a.0.0) r.set ∙ ap (λ (n : ℕ). with_votes rows (approved first.0) n) r.count in
-    (first.0 ∷ more.0, record {
-      good = (r.good, q.good);
-      total = omega (arith, sum, q.total, r.count, sum_by-cons (λ (x : Ballot). x.count) first.0 more.0);
-      made = q.made ∙ ap (λ (s : List Row). fold with_ballot s more.0) same;
-      whole = r.whole ∙ ap (λ (t : List ℕ). ballot_text first.0 ++ t) q.whole;
-    })
+    let same : with_votes rows a.0.1 a.0.0 ≡ with_ballot rows first.0 = ap (λ (s : List ℕ). with_votes rows s a.0.0) r.set ∙ ap (λ (n : ℕ). with_votes rows (approved first.0) n) r.count in (
+      first.0 ∷ more.0,
+      record {
+        good = (r.good, q.good);
+        total = omega (arith, sum, q.total, r.count, sum_by-cons (λ (x : Ballot). x.count) first.0 more.0);
+        made = q.made ∙ ap (λ (s : List Row). fold with_ballot s more.0) same;
+        whole = r.whole ∙ ap (λ (t : List ℕ). ballot_text first.0 ++ t) q.whole;
+      },
+    )

@@ -1,10 +1,11 @@
 -- Reading whole files: what is read is a file of the format, and each such file is read.
-use Rattle.std.proofs.Common.{◌≡◌, ℕ, zero, suc, ◌+◌, ◌-◌, ◌^◌, ◌<◌, ◌≤◌, ◌≢◌, ◌⊎◌, Bool, true, false, cond, List, [], ◌∷◌, ◌++◌, length, Option, Some, None, refl, sym, ap, subst, ◌∙◌, append_assoc, arith, inl, inr}
+use Rattle.std.proofs.Common.{◌≡◌, ℕ, ◌+◌, ◌^◌, ◌≤◌, ◌≢◌, List, [], ◌∷◌, ◌++◌, length, Some, None, refl, sym, ap, subst, ◌∙◌, append_assoc, arith}
 use Rattle.std.specs.Prelude.{codes, decimal, fold, flat_map}
 use Rattle.std.specs.Str.{bytes_eq}
 use Rattle.std.proofs.lemmas.Bool.{cond_both}
-use Rattle.ballot_base.specs.Ballots.{Election, Row, election, voter_count, with_votes}
-use Rattle.vote_cli.specs.PlainFile.{Ballot, CatFile, line, ballot_text, file_text, IsCatBallot, IsCatFile, approved, rows_of, election_of, ReadsPlain}
+use Rattle.ballot_base.specs.Ballots.{Election, Row, election, with_votes}
+use Rattle.vote_cli.specs.Text.{line}
+use Rattle.vote_cli.specs.PlainFile.{Ballot, CatFile, ballot_text, file_text, IsCatFile, approved, rows_of, election_of, ReadsPlain}
 use Rattle.vote_cli.specs.PlainParse.{◌>>=◌, after_byte, after_word, number_at, ballots_at, header_at, election_at, file_at}
 use Rattle.vote_cli.proofs.PlainNumbers.{bind_some, some_is, found, number_again, number_takes}
 use Rattle.vote_cli.proofs.PlainOrders.{after_byte_takes, after_byte_again, after_word_takes, after_word_again}
@@ -26,7 +27,6 @@ spread m categories rest =
 file_is : (f : CatFile) → file_text f ≡ spread f.m f.categories (flat_map ballot_text f.ballots)
 unfolding file_text
 file_is f =
-    let rest : List ℕ = flat_map ballot_text f.ballots in
     ap (λ (t : List ℕ). first_word ++ t) (append_assoc (decimal f.m ++ 10 ∷ []) (line (codes "# NUMBER CATEGORIES: " ++ decimal f.categories)) (flat_map ballot_text f.ballots)
     ∙ append_assoc (decimal f.m) (10 ∷ []) (line (codes "# NUMBER CATEGORIES: " ++ decimal f.categories) ++ flat_map ballot_text f.ballots)
     ∙ ap (λ (t : List ℕ). decimal f.m ++ (second_word ++ t)) (append_assoc (decimal f.categories) (10 ∷ []) (flat_map ballot_text f.ballots)))

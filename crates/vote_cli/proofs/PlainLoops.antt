@@ -1,5 +1,5 @@
 -- Reading step by step, as the loops do.
-use Rattle.std.proofs.Common.{◌≡◌, ℕ, zero, suc, ◌+◌, ◌-◌, ◌^◌, ◌<◌, ◌≤◌, ◌≢◌, Bool, true, false, cond, List, [], ◌∷◌, ◌++◌, length, Option, Some, None, Bor, refl, sym, ap, ◌∙◌, arith}
+use Rattle.std.proofs.Common.{◌≡◌, ℕ, zero, suc, ◌+◌, ◌-◌, ◌^◌, ◌<◌, ◌≤◌, ◌≢◌, List, [], ◌∷◌, ◌++◌, length, Option, Some, None, Bor, refl, sym, ap, ◌∙◌, arith}
 use Rattle.std.specs.Prelude.{MatchOption, decimal, flat_map, fold}
 use Rattle.std.proofs.lemmas.Bool.{lt-ltb, le-ltb}
 use Rattle.std.proofs.lemmas.Fmt.{decimal_nonempty}
@@ -7,7 +7,7 @@ use Rattle.std.proofs.lemmas.List.{length-append}
 use Rattle.ballot_base.specs.Lists.{IsIncreasing}
 use Rattle.ballot_base.specs.CandSet.{with_member}
 use Rattle.ballot_base.specs.Ballots.{Election, IsElection, Row, election, voter_count, with_votes}
-use Rattle.vote_cli.specs.PlainFile.{Class, Ballot, numbers_of, first_numbers, IsCatBallot, approved}
+use Rattle.vote_cli.specs.PlainFile.{Class, numbers_of, first_numbers, approved}
 use Rattle.vote_cli.specs.PlainParse.{◌>>=◌, Gives, after_byte, after_word, member_at, members_at, class_at, classes_at, ballot_at, ballots_at}
 use Rattle.vote_cli.proofs.PlainSets.{Fresh, Fresh-from, Fresh-append, IsIncreasing-fold}
 use Rattle.vote_cli.proofs.PlainOrders.{after_byte_takes, after_word_takes, after_word_again, member_takes}

@@ -1,7 +1,7 @@
 -- Reading a decimal number from the left, and what a step of reading that did not fail has.
-use Rattle.std.proofs.Common.{◌≡◌, ℕ, suc, ◌+◌, ◌-◌, ◌*◌, ◌/◌, ◌%◌, ◌^◌, ◌<◌, ◌≤◌, ◌⊎◌, Bool, true, false, cond, leb, ltb, eqb, ◌&&◌, List, [], ◌∷◌, ◌++◌, length, Option, Some, None, refl, sym, ap, subst, ◌∙◌, append_assoc, arith, inl, inr}
+use Rattle.std.proofs.Common.{◌≡◌, ℕ, ◌+◌, ◌-◌, ◌*◌, ◌/◌, ◌%◌, ◌^◌, ◌<◌, ◌≤◌, ◌⊎◌, Bool, true, false, cond, leb, ltb, ◌&&◌, List, [], ◌∷◌, ◌++◌, length, Option, Some, None, refl, sym, ap, subst, ◌∙◌, append_assoc, arith, inl, inr}
 use Rattle.std.specs.Prelude.{⊤, decimal}
-use Rattle.std.proofs.lemmas.Bool.{and_parts, ltb-false, leb-true, lt-ltb, le-ltb, le-leb, lt-leb, eqb-true, ne_eqb}
+use Rattle.std.proofs.lemmas.Bool.{and_parts, ltb-false, leb-true, lt-ltb, le-ltb, le-leb, ne_eqb}
 use Rattle.std.proofs.lemmas.Fmt.{decimal_digit, decimal_step, decimal_by_steps, decimal_nonempty}
 use Rattle.std.proofs.lemmas.List.{length-append}
 use Rattle.vote_cli.specs.PlainParse.{◌>>=◌, after_byte, digits_at, number_at}
@@ -66,11 +66,11 @@ number_decimal most n fits =
     (λ k ds. 1 ≤ k → k ≤ most → (tail : List ℕ) → number_at most (ds ++ tail) ≡ digits_at most k tail)
     (λ k lt low high tail. number_first most k tail low lt)
     (λ k ds ge before low high tail.
-        let back : 10 * (k / 10) + (48 + k % 10 - 48) ≡ k = omega arith in
-        ap (number_at most) (append_assoc ds ((48 + k % 10) ∷ []) tail)
-        ∙ before (omega arith) (omega arith) ((48 + k % 10) ∷ tail)
-        ∙ digits_push most (k / 10) (48 + k % 10) tail (omega arith) (omega arith) (omega arith)
-        ∙ ap (λ (j : ℕ). digits_at most j tail) back)
+    let back : 10 * (k / 10) + (48 + k % 10 - 48) ≡ k = omega arith in
+    ap (number_at most) (append_assoc ds ((48 + k % 10) ∷ []) tail)
+    ∙ before (omega arith) (omega arith) ((48 + k % 10) ∷ tail)
+    ∙ digits_push most (k / 10) (48 + k % 10) tail (omega arith) (omega arith) (omega arith)
+    ∙ ap (λ (j : ℕ). digits_at most j tail) back)
     n
     fits
 
@@ -93,7 +93,6 @@ digits_take most value (c ∷ cs) x fits low e =
           let both = and_parts (leb 48 c) (leb c 57) p.0 in
           let above : 48 ≤ c = leb-true 48 c both.0 in
           let below : c ≤ 57 = leb-true c 57 both.1 in
-          let n : ℕ = 10 * value + (c - 48) in
           let after = digits_take most (10 * value + (c - 48)) cs x fits (omega arith) p.1 in
           let step = decimal_step (10 * value + (c - 48)) (omega arith) (omega (arith, after.0, after.1)) in
           let front : (10 * value + (c - 48)) / 10 ≡ value = omega arith in

@@ -1,12 +1,11 @@
 -- Reading classes from the left.
-use Rattle.std.proofs.Common.{◌≡◌, ℕ, zero, suc, ◌+◌, ◌-◌, ◌^◌, ◌<◌, ◌≤◌, ◌⊎◌, Bool, true, false, cond, leb, ltb, eqb, ◌&&◌, List, [], ◌∷◌, ◌++◌, length, Option, Some, None, refl, sym, ap, subst, ◌∙◌, append_assoc, arith, inl, inr}
-use Rattle.std.specs.Prelude.{⊤, decimal, map, fold, flat_map}
+use Rattle.std.proofs.Common.{◌≡◌, ℕ, zero, suc, ◌^◌, ◌<◌, ◌≤◌, ◌⊎◌, true, false, cond, eqb, List, [], ◌∷◌, ◌++◌, length, Option, Some, None, refl, sym, ap, subst, ◌∙◌, append_assoc, arith, inl, inr}
+use Rattle.std.specs.Prelude.{decimal, map, fold, flat_map}
 use Rattle.std.specs.List.{join_with_byte}
 use Rattle.std.specs.Option.{option_map_or}
 use Rattle.std.proofs.lemmas.Bool.{eqb-true, eq-eqb}
 use Rattle.std.proofs.lemmas.Fmt.{decimal_nonempty}
 use Rattle.std.proofs.lemmas.List.{length-append, append-nil}
-use Rattle.std.proofs.lemmas.List.Sums.{fold-append}
 use Rattle.ballot_base.specs.CandSet.{has_member, with_member}
 use Rattle.vote_cli.specs.PlainFile.{Class, Bare, Braced, numbers_of, class_text}
 use Rattle.vote_cli.specs.PlainParse.{◌>>=◌, after_byte, after_word, number_at, member_at, members_at, class_at, classes_at}
@@ -96,7 +95,6 @@ members_take zero m seen text x fits e = absurd cc
 members_take (suc k) m seen text x fits e =
     let a = bind_some (member_at m seen text) (λ x. option_map_or (members_at k m x.0) (after_byte 44 x.1) (after_byte 125 x.1 >>= λ rest. Some (x.0, rest))) x e in
     let t = member_takes m seen text a.0 fits a.1 in
-    let n = t.0 in
     elim (map_or_cases (members_at k m a.0.0) (after_byte 44 a.0.1) (after_byte 125 a.0.1 >>= λ rest. Some (a.0.0, rest)) x a.2) [
       | inl p ↦
           let more = members_take k m a.0.0 p.0 x fits p.2 in
@@ -138,7 +136,6 @@ class_again m seen (Bare n) tail fits fresh none =
     subst P (sym head) (member_again m seen n tail fits fresh.0 fresh.1 fresh.2 none)
 class_again m seen (Braced []) tail fits fresh none = refl
 class_again m seen (Braced (n ∷ ns)) tail fits fresh none =
-    let inside : List ℕ = members_text n ns tail in
     let first = number_again m n (rest_text decimal ns ++ 125 ∷ tail) fits fresh.0 fresh.1 (after_member ns tail) in
     let no_brace : after_byte 125 (members_text n ns tail) ≡ None = number_head m 125 (members_text n ns tail) (n, rest_text decimal ns ++ 125 ∷ tail) (omega arith) first in
     let room : length ns < length (members_text n ns tail) = members_room n ns tail (omega (arith, fresh.0, fresh.1)) fresh.0 in
@@ -194,8 +191,6 @@ classes_take (suc k) m seen text rest fits e =
           let a = bind_some (class_at m seen p.0) (λ x. classes_at k m x.0 x.1) rest p.2 in
           let first = class_takes m seen p.0 a.0 fits a.1 in
           let more = classes_take k m a.0.0 a.0.1 rest fits a.2 in
-          let class = first.0 in
-          let classes = more.0 in
           let fresh : Fresh m (fold with_member seen (numbers_of first.0)) (flat_map numbers_of more.0) = subst (λ (s : List ℕ). Fresh m s (flat_map numbers_of more.0)) first.2 more.2 in
           let whole : text ≡ rest_text class_text (first.0 ∷ more.0) ++ rest = comma ∙ ap (λ (t : List ℕ). 44 ∷ t) (first.3 ∙ ap (λ (t : List ℕ). class_text first.0 ++ t) more.3 ∙ sym (append_assoc (class_text first.0) (rest_text class_text more.0) rest)) in
           (first.0 ∷ more.0, omega (arith, more.1), Fresh-join m seen (numbers_of first.0) (flat_map numbers_of more.0) first.1 fresh, whole)

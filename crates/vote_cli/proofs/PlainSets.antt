@@ -1,5 +1,5 @@
 -- Sets that grow by one number after the other.
-use Rattle.std.proofs.Common.{◌≡◌, ℕ, ◌+◌, ◌<◌, ◌≤◌, Bool, true, false, cond, ltb, eqb, ◌||◌, List, [], ◌∷◌, ◌++◌, refl, sym, ap, ◌∙◌, arith}
+use Rattle.std.proofs.Common.{◌≡◌, ℕ, ◌+◌, ◌≤◌, Bool, true, false, cond, ltb, eqb, ◌||◌, List, [], ◌∷◌, ◌++◌, refl, sym, ap, ◌∙◌, arith}
 use Rattle.std.specs.Prelude.{⊤, fold, nat_eq}
 use Rattle.std.specs.List.{AllByRecursion, IsDistinct}
 use Rattle.std.proofs.lemmas.Bool.{or_parts, or_from, cond_both, ltb-true, ltb-false, eqb-true, eqb-false}
@@ -21,18 +21,18 @@ pub has_member-with : (set : List ℕ) (n x : ℕ) → has_member (with_member s
 has_member-with [] n x = refl
 has_member-with (y ∷ ys) n x =
     cond_both (ltb n y) (n ∷ y ∷ ys) (cond (eqb n y) (y ∷ ys) (y ∷ with_member ys n)) (λ (s : List ℕ). has_member s x ≡ (eqb n x || has_member (y ∷ ys) x)) (λ _. refl) (λ _.
-        cond_both (eqb n y) (y ∷ ys) (y ∷ with_member ys n) (λ (s : List ℕ). has_member s x ≡ (eqb n x || has_member (y ∷ ys) x)) (λ e. rw (eqb-true n y e) (or_twice (eqb y x) (has_member ys x))) (λ _.
-            ap (λ (r : Bool). eqb y x || r) (has_member-with ys n x) ∙ or_swap (eqb y x) (eqb n x) (has_member ys x)))
+    cond_both (eqb n y) (y ∷ ys) (y ∷ with_member ys n) (λ (s : List ℕ). has_member s x ≡ (eqb n x || has_member (y ∷ ys) x)) (λ e. rw (eqb-true n y e) (or_twice (eqb y x) (has_member ys x))) (λ _.
+    ap (λ (r : Bool). eqb y x || r) (has_member-with ys n x) ∙ or_swap (eqb y x) (eqb n x) (has_member ys x)))
 
 -- a set stays increasing with a number of its range
 pub IsIncreasing-with : (low high : ℕ) (set : List ℕ) (n : ℕ) → IsIncreasing low high set → low ≤ n → n ≤ high → IsIncreasing low high (with_member set n)
 IsIncreasing-with low high [] n inc a b = (a, b, tt)
 IsIncreasing-with low high (y ∷ ys) n inc a b =
     cond_both (ltb n y) (n ∷ y ∷ ys) (cond (eqb n y) (y ∷ ys) (y ∷ with_member ys n)) (IsIncreasing low high) (λ e. (a, b, (omega (arith, ltb-true n y e), inc.1, inc.2))) (λ e.
-        cond_both (eqb n y) (y ∷ ys) (y ∷ with_member ys n) (IsIncreasing low high) (λ _. inc) (λ d.
-            let ne : n ≡ y → ⊥ = eqb-false n y d in
-            let above : y + 1 ≤ n = omega (arith, ltb-false n y e, ne) in
-            (inc.0, inc.1, IsIncreasing-with (y + 1) high ys n inc.2 above b)))
+    cond_both (eqb n y) (y ∷ ys) (y ∷ with_member ys n) (IsIncreasing low high) (λ _. inc) (λ d.
+    let ne : n ≡ y → ⊥ = eqb-false n y d in
+    let above : y + 1 ≤ n = omega (arith, ltb-false n y e, ne) in
+    (inc.0, inc.1, IsIncreasing-with (y + 1) high ys n inc.2 above b)))
 
 -- each number is one of 1 to m, and stands neither in the set nor before it
 abbrev pub Fresh : ℕ → List ℕ → List ℕ → Type 0

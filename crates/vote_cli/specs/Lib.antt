@@ -9,3 +9,4 @@ pub mod Request
 pub mod Status
 pub mod Text
 pub mod Winners
+pub mod Words

@@ -1,8 +1,9 @@
 -- A part of PrefLib's `cat` format: three lines of metadata, and then a line for each ballot (PrefLib data format).
-use Rattle.std.specs.Prelude.{◌≡◌, ℕ, ◌+◌, ◌^◌, ◌≤◌, List, [], ◌∷◌, ◌++◌, length, map, fold, sum_by, flat_map, codes, decimal, nat_eq}
+use Rattle.std.specs.Prelude.{◌≡◌, ℕ, ◌^◌, ◌≤◌, List, [], ◌∷◌, ◌++◌, length, map, fold, sum_by, flat_map, codes, decimal, nat_eq}
 use Rattle.std.specs.List.{AllByRecursion, IsDistinct, join_with_byte}
 use Rattle.ballot_base.specs.CandSet.{with_member}
 use Rattle.ballot_base.specs.Ballots.{Election, Row, election, with_votes}
+use Rattle.vote_cli.specs.Text.{line}
 
 -- a class of a ballot: one number, or numbers in braces
 pub data Class : Type 0 where
@@ -38,10 +39,6 @@ class_text (Braced ns) = 123 ∷ join_with_byte 44 (map decimal ns) ++ 125 ∷ [
 -- the classes, with a comma between each two
 abbrev pub order_text : List Class → List ℕ
 order_text classes = join_with_byte 44 (map class_text classes)
-
--- a line with its end
-abbrev pub line : List ℕ → List ℕ
-line text = text ++ 10 ∷ []
 
 -- the line of a ballot, without its end
 unfoldable pub ballot_line : Ballot → List ℕ

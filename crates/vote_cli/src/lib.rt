@@ -10,8 +10,10 @@ mod printing;
 pub mod request;
 pub mod status;
 pub mod whole_run;
+pub mod words;
 
 pub use device::{Device, Sink, Source, Told};
 pub use request::{Request, Rule};
 pub use status::Status;
 pub use whole_run::run;
+pub use words::{LineFault, read_request};

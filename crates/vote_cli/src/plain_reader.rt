@@ -1,5 +1,5 @@
 //! Reading a whole input of a part of PrefLib's `cat` format.
-ghost use Rattle.std.specs.Prelude.{◌≡◌, ℕ, ◌^◌, ◌<◌, ◌≤◌, length, Some, None, Err, IfOk, OnOk};
+ghost use Rattle.std.specs.Prelude.{◌≡◌, ℕ, ◌^◌, ◌≤◌, List, length, IfOk, OnOk};
 ghost use Rattle.ballot_base.specs.Ballots.{Election, election};
 ghost use Rattle.vote_cli.specs.PlainFile.{ReadsPlain};
 ghost use Rattle.vote_cli.specs.PlainParse.{Gives, after_byte, after_word, digits_at, number_at, member_at, members_at, class_at, classes_at, ballot_at, ballots_at, header_at};
@@ -78,7 +78,8 @@ fn number(most: u64, text: &[u8]) -> Option<(u64, &[u8])>
     }
 }
 
-/// Reads a number from 1 to `m` that was not seen, and adds it to those that were.
+/// Reads a number from 1 to `m` that was not seen, and adds it to those that were. Where nothing is read here and
+/// below, the set is of no use.
 #[tactic(auto, unfolding(crate::specs::PlainParse::member_at))]
 fn member<'a>(m: u8, seen: &mut CandSet, text: &'a [u8]) -> Option<&'a [u8]>
     requires { m ≤ 40 }
@@ -117,10 +118,10 @@ fn class<'a>(m: u8, seen: &mut CandSet, text: &'a [u8]) -> Option<&'a [u8]>
     let Some(inside) = after_byte(b'{', text) else {
         return member(m, seen, text);
     };
-    match after_byte(b'}', inside) {
-        Some(rest) => Some(rest),
-        None => members(m, seen, inside),
+    if let Some(rest) = after_byte(b'}', inside) {
+        return Some(rest);
     }
+    members(m, seen, inside)
 }
 
 /// Reads at most so many classes, each of them behind a comma.
@@ -225,5 +226,72 @@ pub(crate) fn read_plain<A: Allocator + Copy + Drop>(
     match builder.finish() {
         Ok(profile) => Ok(profile),
         Err(_) => Err(PlainFault::NotYet),
+    }
+}
+
+/// The bytes of a file describe one election.
+pub(crate) fn one_election()
+    ensures { (bytes : List ℕ) (d e : Election) → ReadsPlain bytes d → ReadsPlain bytes e → d ≡ e }
+{}
+
+#[cfg(test)]
+mod tests {
+    use super::*;
+    use std::test::Fail;
+
+    #[test]
+    fn a_file_is_read(rt: HostRuntime) -> Result<(), Fail> {
+        let bytes =
+            b"# DATA TYPE: cat\n# NUMBER ALTERNATIVES: 3\n# NUMBER CATEGORIES: 2\n2: {1,2},3\n1: 3,{1,2}\n";
+        let profile = read_plain(rt.alloc(), bytes)?;
+        assert_eq!(rt; profile.m(), 3);
+        assert_eq!(rt; profile.voters(), 3);
+        assert_eq!(rt; profile.rows(), 2);
+        let (first, voters) = profile.row(0);
+        assert!(rt; first.has(1) && first.has(2) && !first.has(3));
+        assert_eq!(rt; voters, 2);
+        let (second, voters) = profile.row(1);
+        assert!(rt; !second.has(1) && !second.has(2) && second.has(3));
+        assert_eq!(rt; voters, 1);
+        Ok(())
+    }
+
+    #[test]
+    fn other_inputs_are_refused(rt: HostRuntime) {
+        let cases: [(&str, &[u8]); 8] = [
+            ("empty", b""),
+            (
+                "no end of the last line",
+                b"# DATA TYPE: cat\n# NUMBER ALTERNATIVES: 3\n# NUMBER CATEGORIES: 2\n1: 3,{1,2}",
+            ),
+            (
+                "a leading zero",
+                b"# DATA TYPE: cat\n# NUMBER ALTERNATIVES: 3\n# NUMBER CATEGORIES: 2\n1: 03,{1,2}\n",
+            ),
+            (
+                "two spaces",
+                b"# DATA TYPE: cat\n# NUMBER ALTERNATIVES: 3\n# NUMBER CATEGORIES: 2\n1:  3,{1,2}\n",
+            ),
+            (
+                "41 alternatives",
+                b"# DATA TYPE: cat\n# NUMBER ALTERNATIVES: 41\n# NUMBER CATEGORIES: 2\n1: 3,{1,2}\n",
+            ),
+            (
+                "no category",
+                b"# DATA TYPE: cat\n# NUMBER ALTERNATIVES: 3\n# NUMBER CATEGORIES: 0\n1: 3,{1,2}\n",
+            ),
+            (
+                "a number twice",
+                b"# DATA TYPE: cat\n# NUMBER ALTERNATIVES: 3\n# NUMBER CATEGORIES: 2\n1: 3,{1,3}\n",
+            ),
+            (
+                "a class too many",
+                b"# DATA TYPE: cat\n# NUMBER ALTERNATIVES: 3\n# NUMBER CATEGORIES: 2\n1: 3,{},{1,2}\n",
+            ),
+        ];
+        for (case, bytes) in cases {
+            let read = read_plain(rt.alloc(), bytes);
+            assert!(rt; matches!(&read, Err(PlainFault::NotYet)), "{case}");
+        }
     }
 }

@@ -6,12 +6,13 @@ use std::marker::Model;
 /// The rule by which committees win.
 #[derive(Clone, Copy, Debug, PartialEq, Eq)]
 pub enum Rule {
-    /// Approval voting: a committee scores one point for each approval that a voter gives to one of its members.
+    /// Approval voting: a committee scores one point for each approval that a voter gives to one
+    /// of its members.
     Av,
 }
 
-/// A request: the rule, the number of seats from 1 to 40, and the file to read, where one is named. Each one comes from
-/// `read_request`.
+/// A request: the rule, the number of seats from 1 to 40, and the file to read, where one is
+/// named. Each one comes from `read_request`.
 #[derive(Debug, Drop)]
 pub struct Request {
     rule: Rule,
@@ -25,7 +26,11 @@ impl Model for Request {
 
     ghost Value = { Asked };
 
-    ghost view = { λ a. record { rule = a.rule; size = a.size; file = option_map string_bytes a.file } };
+    ghost view = { λ a. record {
+      rule = a.rule;
+      size = a.size;
+      file = option_map string_bytes a.file;
+    } };
 
     ghost invariant = { λ a. (1 ≤ a.size) × (a.size ≤ 40) };
 }
@@ -34,7 +39,11 @@ impl Request {
     pub(crate) fn new(rule: Rule, size: u8, file: Option<String>) -> Request
         requires least { 1 ≤ size }
         requires most { size ≤ 40 }
-        ensures { result ≡ record { rule = rule; size = size; file = option_map string_bytes file } }
+        ensures { result ≡ record {
+          rule = rule;
+          size = size;
+          file = option_map string_bytes file;
+        } }
     {
         Request { rule, size, file }
     }

@@ -1,9 +1,5 @@
-use Rattle.std.proofs.Common.{ℕ, ◌<◌, ◌≤◌, length, List, sym, ap, subst, ◌∙◌, arith, refl}
-use Rattle.std.proofs.lemmas.Bool.{eqb-true, eqb-false}
+use Rattle.std.proofs.Common.{◌<◌, length, sym, ◌∙◌, arith}
 use Rattle.std.proofs.lemmas.Bool.Decides.{nat_tests}
-use Rattle.ballot_base.specs.Lists.{IsIncreasing}
-use Rattle.ballot_base.specs.Ballots.{Election, Row}
-use Rattle.vote_cli.specs.PlainParse.{ballots_at}
 use Rattle.vote_cli.proofs.PlainLoops.{ReadsLine, line_set, line_count, line_smaller, ballots_fail, ballots_many, ballots_added, ballots_end, election_with}
 use Rattle.vote_cli.proofs.plain_reader.add_ballots.Goals as goal
 

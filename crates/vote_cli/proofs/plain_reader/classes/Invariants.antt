@@ -1,4 +1,4 @@
-use Rattle.std.proofs.Common.{◌≡◌, length}
+use Rattle.std.proofs.Common.{◌≡◌}
 use Rattle.vote_cli.specs.PlainParse.{classes_at}
 use Rattle.vote_cli.proofs.plain_reader.classes.Given as goal
 

@@ -1,0 +1,107 @@
+-- Where clap takes the words of the program, they name `elect`, with its rule and its size.
+use Rattle.std.proofs.Common.{◌≡◌, ◌∙◌, ◌<◌, Bool, List, [], ◌∷◌, not, inl, inr, refl, sym, ap, codes, true, false, true≢false, arith}
+use Rattle.std.specs.Prelude.{Option, Some, None, if◌then◌else◌, is_some, option_map, pos}
+use Rattle.std.specs.Str.{bytes_eq}
+use Rattle.std.specs.Option.{option_map_or}
+use Rattle.std.proofs.lemmas.Slice.Eq.{bytes_eq-Decides}
+use Rattle.clap.specs.Words.{Row, Rule, Shape, Text, fault_of, subcommand_of, takes}
+use Rattle.clap.specs.Walk.{answers_to, finished, is_empty, nothing_held, rows_after, stop_after, walk, walk_from}
+use Rattle.clap.specs.Simple.{argument_words, built, entered, label_of, names_of, new_shape, rows_at, new_rule}
+use Rattle.clap.specs.Takes.{entered_passes, is_given, is_valid, level_passes, settle_passes, walk_passes}
+use Rattle.clap.specs.declared.builder.value_parser.ValueParser.TheVariants as parser
+use Rattle.clap.proofs.ValueTestLemmas.{accepts-Accepts}
+use Rattle.clap.proofs.WalkLemmas.{both}
+use Rattle.vote_cli.specs.Words.{HasValues, program}
+use Rattle.vote_cli.proofs.GivenValues.{Good, given_value, level_fit, or_false, walk_stops}
+use Rattle.vote_cli.proofs.Refusals.{taken_none}
+
+-- clap takes the program's words exactly where it has no refusal
+pub program_taken : (words : List Text) → takes program words ≡ is_empty (fault_of program words)
+program_taken words = taken_none program words refl refl refl
+
+abbrev first : List Shape → Shape
+first [] = new_shape []
+first (s ∷ rest) = s
+
+-- `elect` as it is built
+abbrev elect : Shape
+elect = first (built program).subs
+
+abbrev rest_shapes : List Shape → List Shape
+rest_shapes [] = []
+rest_shapes (s ∷ rest) = rest
+
+-- `help`, which clap adds
+abbrev help : Shape
+help = first (rest_shapes (built program).subs)
+
+abbrev first_rule : List Rule → Rule
+first_rule [] = new_rule []
+first_rule (a ∷ rest) = a
+
+abbrev rest_of : List Rule → List Rule
+rest_of [] = []
+rest_of (a ∷ rest) = rest
+
+abbrev rule : Rule
+rule = first_rule elect.rules
+
+abbrev size : Rule
+size = first_rule (rest_of elect.rules)
+
+elect_values : (words : List Text) → level_passes elect [] nothing_held words false ≡ true → HasValues (rows_after elect.rules [] words)
+elect_values words pass =
+    let end = (walk elect.rules [] nothing_held words).held in
+    let rows = finished elect.rules end in
+    let one : 0 < 1 = omega arith in
+    let good : Good elect.rules rows = level_fit elect [] words false
+    ((refl, inl (refl, one)), ((refl, inl (refl, one)), ((refl, inl (refl, one)), ((refl, inr refl), tt)))) (refl, (refl, (refl, (refl, tt)))) pass in
+    let walks = both (walk_passes elect [] (walk_from nothing_held) words) _ pass in
+    let settles = both (settle_passes elect.rules elect.args_override_self end) _ walks.1 in
+    let valid : is_valid elect rows false ≡ true = (both true _ settles.1).1 in
+    let given = both (is_given (codes "rule") rows) _ valid in
+    let given_size = (both (is_given (codes "size") rows) _ given.1).0 in
+    let name = given_value elect.rules rule rows good refl given.0 in
+    let digits = given_value elect.rules size rows good refl given_size in
+    let is_av : codes "av" ≡ name.0 = (bytes_eq-Decides (codes "av") name.0).0 (or_false (bytes_eq (codes "av") name.0) name.1) in
+    record {
+      rule = name.2 ∙ ap Some (sym is_av);
+      size_text = digits.0;
+      size = digits.3;
+      in_range = accepts-Accepts false (parser.Signed (pos 1) (pos 40)) digits.0 digits.1;
+    }
+
+named : (name : Text) → (answers_to name (codes "help", [])) ≡ true → not (bytes_eq name (codes "help")) ≡ true → false ≡ true
+named name e well =
+    let is : codes "help" ≡ name = (bytes_eq-Decides (codes "help") name).0 (or_false (bytes_eq (codes "help") name) e) in
+    rw (← is) at well
+
+entered_values : (stop : Option (Text × List Text)) → option_map_or (λ p. not (bytes_eq p.0 (codes "help"))) stop true ≡ true
+    → entered_passes (built program) stop ≡ true → is_some (entered (built program) stop) ≡ true
+    → (sub : Text × List Row) × (entered (built program) stop ≡ Some sub) × HasValues sub.1
+entered_values None well pass some = absurd (true≢false (sym some))
+entered_values (Some p) well pass some = go (answers_to p.0 (label_of elect)) (answers_to p.0 (label_of help)) refl pass some
+  where
+    go : (is_elect is_help : Bool) → answers_to p.0 (label_of help) ≡ is_help
+        → option_map_or (λ s. level_passes s [] nothing_held p.1 false) (if is_elect then Some elect else (if is_help then Some help else None)) true ≡ true
+        → is_some (option_map (λ s. rows_at s p.1) (if is_elect then Some elect else (if is_help then Some help else None))) ≡ true
+        → (sub : Text × List Row)
+        × (option_map (λ s. rows_at s p.1) (if is_elect then Some elect else (if is_help then Some help else None)) ≡ Some sub) × HasValues sub.1
+    go true is_help e passes there = (rows_at elect p.1, refl, elect_values p.1 passes)
+    go false true e passes there = absurd (true≢false (sym (named p.0 e well)))
+    go false false e passes there = absurd (true≢false (sym there))
+
+-- clap found a command, with the values that it requires
+pub taken_values : (words : List Text) → takes program words ≡ true
+    → (sub : Text × List Row) × (subcommand_of program words ≡ Some sub) × HasValues sub.1
+taken_values words taken =
+    let b = built program in
+    let after = argument_words program words in
+    let stop = stop_after b.top.rules (names_of b) after in
+    let parts = both (entered_passes b stop) (level_passes b.top (names_of b) nothing_held after (is_some (entered b stop))) taken in
+    let walks = both (walk_passes b.top (names_of b) (walk_from nothing_held) after) _ parts.1 in
+    let end = (walk b.top.rules (names_of b) nothing_held after).held in
+    let settles = both (settle_passes b.top.rules b.top.args_override_self end) _ walks.1 in
+    let valid : is_valid b.top (finished b.top.rules end) (is_some (entered b stop)) ≡ true = (both true _ settles.1).1 in
+    entered_values stop (walk_stops b.top refl (names_of b) (walk_from nothing_held) after walks.0 refl) parts.0
+    (both (is_some (entered b stop)) _ valid).0

@@ -1,0 +1,83 @@
+-- The program means the same to clap wherever the names of its rules lie.
+use Rattle.std.proofs.Common.{◌≡◌, ◌∙◌, List, [], ◌∷◌, map, refl, sym, ap, false}
+use Rattle.std.specs.Prelude.{Option, Some, None, option_map, is_some, find}
+use Rattle.std.specs.Borrow.{Bor}
+use Rattle.std.specs.Option.{option_map_or}
+use Rattle.clap.specs.Words.{App, Shape, Text, fault_of, subcommand_of}
+use Rattle.clap.specs.Walk.{Held, Walk, answers_to, nothing_held, stop_after, texts, walk}
+use Rattle.clap.specs.Simple.{argument_words, built, entered, label_of, names_of, rows_at}
+use Rattle.clap.specs.Faults.{built_fault, entered_fault, level_fault}
+use Rattle.clap.proofs.WalkLemmas.{find-map}
+use Rattle.vote_cli.specs.Words.{program, program_over, rule_names, shown}
+use Rattle.vote_cli.proofs.Places.{placed, rows_after_placed, walk_placed}
+use Rattle.vote_cli.proofs.PlacesOfFaults.{at_place, level_placed}
+
+-- ---- a command and its subcommands
+
+abbrev app_at : App → App
+app_at a = record { top = at_place a.top; subs = map at_place a.subs }
+
+same_labels : (subs : List Shape) → map label_of (map at_place subs) ≡ map label_of subs
+same_labels [] = refl
+same_labels (s ∷ subs) = ap (λ rest. label_of s ∷ rest) (same_labels subs)
+
+same_stop : (a : App) (h : Held) (words : List Text)
+    → (walk (app_at a).top.rules (names_of (app_at a)) h words).stopped ≡ (walk a.top.rules (names_of a) h words).stopped
+same_stop a h words = ap (λ names. (walk (map placed a.top.rules) names h words).stopped) (same_labels a.subs)
+    ∙ ap (λ (w : Walk). w.stopped) (walk_placed a.top.rules (names_of a) h words)
+
+sub_named : (subs : List Shape) (word : Text)
+    → find (λ s. answers_to word (label_of s)) (map at_place subs) ≡ option_map at_place (find (λ s. answers_to word (label_of s)) subs)
+sub_named subs word = sym (find-map (λ (s : Shape). answers_to word (label_of s)) at_place subs)
+
+rows_of_found : (o : Option Shape) (words : List Text) → option_map (λ s. rows_at s words) (option_map at_place o) ≡ option_map (λ s. rows_at s words) o
+rows_of_found None words = refl
+rows_of_found (Some s) words = ap (λ rows. Some (s.name, rows)) (rows_after_placed s.rules [] words)
+
+same_entered : (a : App) (stop : Option (Text × List Text)) → entered (app_at a) stop ≡ entered a stop
+same_entered a None = refl
+same_entered a (Some p) = ap (option_map (λ s. rows_at s p.1)) (sub_named a.subs p.0) ∙ rows_of_found _ p.1
+
+faults_of_found : (o : Option Shape) (words : List Text)
+    → option_map_or (λ s. level_fault s [] nothing_held words false []) (option_map at_place o) []
+    ≡ option_map_or (λ s. level_fault s [] nothing_held words false []) o []
+faults_of_found None words = refl
+faults_of_found (Some s) words = level_placed s [] nothing_held words false []
+
+same_entered_fault : (a : App) (stop : Option (Text × List Text)) → entered_fault (app_at a) stop ≡ entered_fault a stop
+same_entered_fault a None = refl
+same_entered_fault a (Some p) = ap (λ o. option_map_or (λ s. level_fault s [] nothing_held p.1 false []) o []) (sub_named a.subs p.0)
+    ∙ faults_of_found _ p.1
+
+same_fault : (a : App) (h : Held) (words : List Text) → built_fault (app_at a) h words ≡ built_fault a h words
+same_fault a h words =
+    let stop = same_stop a h words in
+    let end = (walk a.top.rules (names_of a) h words).stopped in
+    let has = ap is_some (ap (entered (app_at a)) stop ∙ same_entered a end) in
+    let below = ap (entered_fault (app_at a)) stop ∙ same_entered_fault a end in
+    (λ i. level_fault (at_place a.top) (same_labels a.subs i) h words (has i) (below i))
+    ∙ level_placed a.top (names_of a) h words (is_some (entered a end)) (entered_fault a end)
+
+same_sub : (a : App) (words : List Text)
+    → entered (app_at a) (stop_after (app_at a).top.rules (names_of (app_at a)) words) ≡ entered a (stop_after a.top.rules (names_of a) words)
+same_sub a words = ap (entered (app_at a)) (same_stop a nothing_held words) ∙ same_entered a (stop_after a.top.rules (names_of a) words)
+
+-- ---- the program
+
+same_shown : (names : List (Bor Text)) → map (λ x. shown x.now) names ≡ map shown (texts names)
+same_shown [] = refl
+same_shown (x ∷ names) = ap (λ rest. shown x.now ∷ rest) (same_shown names)
+
+program_at : (names : Bor (List (Bor Text))) → texts names.now ≡ rule_names → app_at (built (program_over names)) ≡ built program
+program_at names is = ap (λ (l : List (Bor Text)). built (program_over (shown l))) (same_shown names.now ∙ ap (map shown) is)
+
+pub program_fault : (names : Bor (List (Bor Text))) → texts names.now ≡ rule_names → (words : List Text) → fault_of (program_over names) words ≡ fault_of program words
+program_fault names is words =
+    let after = argument_words program words in
+    sym (same_fault (built (program_over names)) nothing_held after) ∙ ap (λ a. built_fault a nothing_held after) (program_at names is)
+
+pub program_sub : (names : Bor (List (Bor Text))) → texts names.now ≡ rule_names → (words : List Text) → subcommand_of (program_over names) words ≡ subcommand_of program words
+program_sub names is words =
+    let after = argument_words program words in
+    sym (same_sub (built (program_over names)) after)
+    ∙ ap (λ (a : App). entered a (stop_after a.top.rules (names_of a) after)) (program_at names is)

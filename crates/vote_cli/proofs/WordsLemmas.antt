@@ -1,0 +1,47 @@
+-- What the code reads of the rows that clap found.
+use Rattle.std.proofs.Common.{◌≡◌, ◌≤◌, ◌∙◌, ℕ, List, Bor, refl, sym, ap, subst, arith, rules, codes}
+use Rattle.std.specs.Prelude.{Option, Some, None, Result, Ok, IsSome, pos, option_map}
+use Rattle.std.specs.Str.Parse.{ParsesUnsigned}
+use Rattle.clap.specs.Words.{Row, Text, IsSignedIn, first_of, without_minus}
+use Rattle.clap.specs.Matches.{ReadsOne}
+use Rattle.clap.proofs.CallerReads.{signed_reads}
+use Rattle.vote_cli.specs.declared.request.Rule.{Rule}
+use Rattle.vote_cli.specs.declared.request.Rule.TheVariants.{Av}
+use Rattle.vote_cli.specs.Words.{HasValues, asked_in, number_of, rule_named}
+
+pub text_there : (o : Option (Bor Text)) (t : Text) → option_map (λ s. s.now) o ≡ Some t → IsSome o
+text_there None t e = cc
+text_there (Some s) t e = search rules
+
+pub text_is : (o : Option (Bor Text)) (s : Bor Text) (t : Text) → o ≡ Some s → option_map (λ s. s.now) o ≡ Some t → s.now ≡ t
+text_is o s t is e =
+    let same : Some s.now ≡ Some t = ap (option_map (λ s. s.now)) (sym is) ∙ e in
+    cc
+
+-- a size that passed its parser is a number from 1 to 40, the value of its digits
+pub size_read : (E : Type 0) (G : List ℕ → Result ℕ E → Type 0) (t : Text) (r : Option ℕ) → ReadsOne G (without_minus t) r
+    → ((u : List ℕ) (x : Result ℕ E) → G u x → ParsesUnsigned 8 10 u x) → IsSignedIn (pos 1) (pos 40) t
+    → (n : ℕ) × (r ≡ Some n) × (1 ≤ n) × (n ≤ 40) × (n ≡ number_of (without_minus t))
+size_read E G t r read only passed =
+    let got = signed_reads E G 8 1 40 t r read only (omega arith) passed in
+    let as_ok : G (without_minus t) (Ok got.0) = subst (ReadsOne G (without_minus t)) got.1 read in
+    (got.0, got.1, got.2, got.3, (only (without_minus t) (Ok got.0) as_ok).1)
+
+-- the same of the number that the code has
+pub size_facts : (E : Type 0) (G : List ℕ → Result ℕ E → Type 0) (t : Text) (r : Option ℕ) (m : ℕ) → ReadsOne G (without_minus t) r
+    → ((u : List ℕ) (x : Result ℕ E) → G u x → ParsesUnsigned 8 10 u x) → IsSignedIn (pos 1) (pos 40) t → r ≡ Some m
+    → (1 ≤ m) × (m ≤ 40) × (m ≡ number_of (without_minus t))
+size_facts E G t r m read only passed is =
+    let got = size_read E G t r read only passed in
+    let same : Some m ≡ Some got.0 = sym is ∙ got.1 in
+    let m_is : m ≡ got.0 = cc in
+    (rw m_is got.2, rw m_is got.3, m_is ∙ got.4)
+
+-- the request that the code makes of the values is that of the rows
+pub asked_is : (rows : List Row) (h : HasValues rows) (name : Text) (rule : Rule) (m : ℕ) (file : Option Text)
+    → name ≡ codes "av" → rule_named name ≡ Some rule → m ≡ number_of (without_minus h.size_text) → file ≡ first_of (codes "file") rows
+    → asked_in rows ≡ Some (record { rule = rule; size = m; file = file })
+asked_is rows h name rule m file named is size path =
+    let is_av : rule_named (codes "av") ≡ Some rule = rw named at is in
+    let av : Av ≡ rule = cc in
+    rw (h.rule, h.size, path, size, ← av) refl
