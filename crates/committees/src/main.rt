@@ -1,11 +1,10 @@
 //! The program `committees`: elects committees over PrefLib ballot files.
 #![tactic(auto)]
 
-use std::env;
 use std::fs::File;
-use std::io;
 use std::io::Read;
 use std::process::ExitCode;
+use std::{env, io};
 use vote_cli::{LineFault, Request, Told, read_request, run};
 
 /// The status of words that were refused.
@@ -21,7 +20,11 @@ fn main(rt: HostRuntime) -> ExitCode {
     match words(&rt) {
         Ok(words) => answer(&rt, &words),
         Err(error) if error.kind() == io::ErrorKind::OutOfMemory => no_memory(&rt),
-        Err(_) => end(&rt, WORDS_REFUSED, "error: a word of the command line is not UTF-8 text"),
+        Err(_) => end(
+            &rt,
+            WORDS_REFUSED,
+            "error: a word of the command line is not UTF-8 text",
+        ),
     }
 }
 
