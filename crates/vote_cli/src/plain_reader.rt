@@ -258,8 +258,12 @@ mod tests {
 
     #[test]
     fn other_inputs_are_refused(rt: HostRuntime) {
-        let cases: [(&str, &[u8]); 8] = [
+        let cases: [(&str, &[u8]); 9] = [
             ("empty", b""),
+            (
+                "no ballot",
+                b"# DATA TYPE: cat\n# NUMBER ALTERNATIVES: 3\n# NUMBER CATEGORIES: 2\n",
+            ),
             (
                 "no end of the last line",
                 b"# DATA TYPE: cat\n# NUMBER ALTERNATIVES: 3\n# NUMBER CATEGORIES: 2\n1: 3,{1,2}",
