@@ -1,5 +1,6 @@
 pub mod Answered
 pub mod ApprovalLemmas
+pub mod Examples
 pub mod GivenRequest
 pub mod GivenValues
 pub mod InputLemmas

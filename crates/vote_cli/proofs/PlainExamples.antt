@@ -9,14 +9,14 @@ use Rattle.vote_cli.specs.PlainParse.{after_byte, after_word, digits_at, number_
 use Rattle.vote_cli.proofs.PlainFiles.{file_takes}
 
 -- two voters approve 1 and 2, and one approves 3
-abbrev example : CatFile
+abbrev pub example : CatFile
 example = record {
   m = 3;
   categories = 2;
   ballots = record { count = 2; classes = Braced (1 ∷ 2 ∷ []) ∷ Bare 3 ∷ [] } ∷ record { count = 1; classes = Bare 3 ∷ Braced (1 ∷ 2 ∷ []) ∷ [] } ∷ [];
 }
 
-abbrev example_text : List ℕ
+abbrev pub example_text : List ℕ
 example_text =
     line (codes "# DATA TYPE: cat") ++ line (codes "# NUMBER ALTERNATIVES: 3") ++ line (codes "# NUMBER CATEGORIES: 2") ++ line (codes "2: {1,2},3") ++ line (codes "1: 3,{1,2}")
 
