@@ -1,5 +1,5 @@
 -- Each definition, computed on a small example.
-use Rattle.std.proofs.Common.{◌≡◌, ℕ, List, [], ◌∷◌, ◌++◌, true, false, Some, None, Ok, Err, inl, refl, lit≤, ap}
+use Rattle.std.proofs.Common.{◌≡◌, ℕ, List, [], ◌∷◌, ◌++◌, true, false, Some, None, Ok, Err, inl, refl, lit≤}
 use Rattle.std.specs.Prelude.{codes}
 use Rattle.std.proofs.lemmas.Bool.{both_ways}
 use Rattle.std.specs.Fmt.{digits}
@@ -16,7 +16,7 @@ use Rattle.vote_cli.specs.Status.{code_of}
 use Rattle.vote_cli.specs.Winners.{approval_value, best_value, is_unbeaten, winners}
 use Rattle.vote_cli.specs.Text.{line, numbers_text, following_text, rule_word, committees_text, head_text, elected_text}
 use Rattle.vote_cli.specs.Printing.{Prints, outlet}
-use Rattle.vote_cli.specs.Answer.{Answer, answered, refused, answer_of, Reads, IsAnswer, Reports, WritesAnswer, WritesNothing, WritesBeginning, Ends, TellsOf, memory_line, read_failed_line, write_failed_line}
+use Rattle.vote_cli.specs.Answer.{answered, refused, answer_of, Reads, IsAnswer, Reports, Ends, TellsOf, memory_line, read_failed_line, write_failed_line}
 use Rattle.vote_cli.specs.Refusals.{status_of, error_of, Prepares, TellsOfReads, TellsOfWrites, Answers}
 use Rattle.vote_cli.proofs.PlainExamples.{example_text, it_reads, no_reading}
 use Rattle.vote_cli.proofs.PlainFiles.{file_fails}

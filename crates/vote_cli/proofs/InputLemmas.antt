@@ -1,5 +1,5 @@
 -- What reads took, up to the end of the input.
-use Rattle.std.proofs.Common.{◌≡◌, ℕ, ◌<◌, List, [], ◌++◌, Option, Some, None, IfSome, refl, sym, ap, ◌∙◌, append-nil, length, take}
+use Rattle.std.proofs.Common.{◌≡◌, ℕ, ◌<◌, List, [], ◌++◌, Option, Some, None, IfSome, sym, ap, ◌∙◌, append-nil, length, take}
 use Rattle.std.specs.Io.KnownBytes.{Consumes, IsAtEnd}
 
 -- a reader that then gives nothing for a buffer with room gave all that it had

@@ -1,7 +1,6 @@
 -- What is known of the input and of the writers, joined to the answer.
-use Rattle.std.proofs.Common.{◌≡◌, ℕ, ◌<◌, ◌≤◌, Bool, true, false, List, [], ◌++◌, Option, Some, None, Ok, Err, IfSome, refl, sym, ap, subst, ◌∙◌, arith}
+use Rattle.std.proofs.Common.{◌≡◌, ℕ, ◌<◌, ◌≤◌, Bool, true, false, List, [], Option, Some, None, Ok, Err, IfSome, refl, sym, ap, subst, arith}
 use Rattle.std.specs.Prelude.{nat_lt, if◌then◌else◌, codes}
-use Rattle.std.specs.Io.KnownBytes.{Appends}
 use Rattle.std.proofs.KnownBytes.{Appends-nil}
 use Rattle.ballot_base.specs.Ballots.{Election}
 use Rattle.vote_cli.specs.declared.status.Status.{Status}
@@ -11,8 +10,8 @@ use Rattle.vote_cli.specs.declared.whole_run.Refusal.TheVariants.{NotYet, SizeTo
 use Rattle.vote_cli.specs.Request.{Asked}
 use Rattle.vote_cli.specs.PlainFile.{ReadsPlain}
 use Rattle.vote_cli.specs.Text.{elected_text}
-use Rattle.vote_cli.specs.Answer.{Answer, Reads, Reports, Ends, answered, refused, answer_of}
-use Rattle.vote_cli.specs.Refusals.{Answers, Prepares, error_of, status_of}
+use Rattle.vote_cli.specs.Answer.{Reads, Reports, Ends, answered, refused, answer_of}
+use Rattle.vote_cli.specs.Refusals.{Answers, error_of, status_of}
 use Rattle.std.proofs.Common.{inl, inr}
 
 -- bytes that were read and refused are bytes to refuse

@@ -1,5 +1,5 @@
 -- The text of lists of numbers.
-use Rattle.std.proofs.Common.{◌≡◌, ℕ, List, [], ◌∷◌, ◌++◌, refl, sym, ap, ◌∙◌, append_assoc, append-nil}
+use Rattle.std.proofs.Common.{◌≡◌, ℕ, List, [], ◌∷◌, ◌++◌, sym, ap, ◌∙◌, append_assoc, append-nil}
 use Rattle.std.specs.Prelude.{decimal, codes}
 use Rattle.ballot_base.specs.Ballots.{Election}
 use Rattle.vote_cli.specs.declared.request.Rule.{Rule}

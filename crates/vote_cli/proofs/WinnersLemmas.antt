@@ -1,5 +1,5 @@
 -- The winners are the committees with the greatest value.
-use Rattle.std.proofs.Common.{◌≡◌, ℕ, ◌≤◌, ◌==◌, ◌&&◌, Bool, true, false, cond, List, [], ◌∷◌, ◌++◌, refl, sym, ap, ◌∙◌, arith, map, filter, max, zero}
+use Rattle.std.proofs.Common.{◌≡◌, ℕ, ◌≤◌, ◌==◌, ◌&&◌, Bool, true, false, cond, List, [], ◌∷◌, ◌++◌, refl, sym, ap, ◌∙◌, arith, map, filter, max}
 use Rattle.std.specs.Prelude.{fold, flat_map, nat_le}
 use Rattle.std.specs.List.{list_all, AllByRecursion}
 use Rattle.ballot_base.specs.Lists.{increasing_lists}
@@ -58,11 +58,10 @@ least n = grind arith
 same_tests : (value : List ℕ → ℕ) (all sets : List (List ℕ)) (best : ℕ) → best ≡ greatest value 0 all → AllByRecursion (λ set. value set ≤ best) sets
     → AllByRecursion (λ set. is_unbeaten value all set ≡ (value set == best)) sets
 same_tests value all [] best is most = tt
-same_tests value all (set ∷ sets) best is most =
-    (
-      ap (λ b. b && list_all (λ other. nat_le (value other) (value set)) all) (sym (least (value set))) ∙ bounds-greatest value 0 (value set) all ∙ ap (λ b. nat_le b (value set)) (sym is) ∙ at_least_is_equal (value set) best most.0,
-      same_tests value all sets best is most.1,
-    )
+same_tests value all (set ∷ sets) best is most = (
+  ap (λ b. b && list_all (λ other. nat_le (value other) (value set)) all) (sym (least (value set))) ∙ bounds-greatest value 0 (value set) all ∙ ap (λ b. nat_le b (value set)) (sym is) ∙ at_least_is_equal (value set) best most.0,
+  same_tests value all sets best is most.1,
+)
 
 -- the winners are the committees with the best value
 pub winners-best : (value : List ℕ → ℕ) (m k : ℕ) → winners value m k ≡ filter (λ set. value set == best_value value m k) (increasing_lists 1 m k)

@@ -1,5 +1,5 @@
 -- What printing through a buffer leaves.
-use Rattle.std.specs.Prelude.{◌≡◌, ℕ, Bool, true, false, List, [], ◌++◌, Option, IsTrue, IsFalse}
+use Rattle.std.specs.Prelude.{◌≡◌, ℕ, Bool, true, false, List, ◌++◌, Option}
 use Rattle.std.specs.Io.KnownBytes.{Appends}
 
 -- a writer with a buffer before it: the bytes that it took, those that wait, and whether a call has failed

@@ -4,7 +4,6 @@ use Rattle.std.specs.List.{join_with_byte}
 use Rattle.ballot_base.specs.Ballots.{Election}
 use Rattle.vote_cli.specs.declared.request.Rule.{Rule}
 use Rattle.vote_cli.specs.declared.request.Rule.TheVariants.{Av}
-use Rattle.vote_cli.specs.Request.{Asked}
 use Rattle.vote_cli.specs.Winners.{approval_value, best_value, winners}
 
 -- a line with its end

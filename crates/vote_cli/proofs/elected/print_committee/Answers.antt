@@ -21,5 +21,5 @@ returns g c =
     let number = Prints-first c.print_number.result _ c.in_ok-print_number.was c.print_number.ensures in
     let members = goes_on_behind c.print_following.result _ c.in_ok-print_following.was number c.print_following.ensures in
     let text = committee_line c.args.committee c.in-Some.parts.0 c.in-Some.parts.1 c.in-Some.ensures.parts
-        ∙ sym (append_assoc (decimal c.in-Some.parts.0) (following_text c.in-Some.parts.1) (10 ∷ [])) in
+    ∙ sym (append_assoc (decimal c.in-Some.parts.0) (following_text c.in-Some.parts.1) (10 ∷ [])) in
     Prints-last text members c.print-2.ensures

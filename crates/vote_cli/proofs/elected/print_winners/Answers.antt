@@ -1,4 +1,4 @@
-use Rattle.std.proofs.Common.{◌≡◌, ◌==◌, ap, sym, ◌∙◌, ◌++◌, append_assoc, [], cond}
+use Rattle.std.proofs.Common.{◌==◌, ap, sym, ◌∙◌, ◌++◌, append_assoc, [], cond}
 use Rattle.std.specs.Prelude.{flat_map}
 use Rattle.ballot_base.specs.Lists.{increasing_lists}
 use Rattle.vote_cli.specs.Text.{line, numbers_text}
@@ -17,8 +17,7 @@ loop-committee-init g c =
 pub loop-committee-preserved : goal.loop-committee-preserved
 loop-committee-preserved g c =
     let value = approval_value c.args.profile.now.rows in
-    let text = λ (set : Rattle.std.specs.Prelude.List Rattle.std.specs.Prelude.ℕ). cond (value set == c.args.best) (line (numbers_text set)) [] in
-    (
+    let text = λ (set : Rattle.std.specs.Prelude.List Rattle.std.specs.Prelude.ℕ). cond (value set == c.args.best) (line (numbers_text set)) [] in (
       _,
       goes_on_behind c.print_if_best.result _ c.in_ok-print_if_best.was c.loop-committee.invariant.1 c.print_if_best.ensures,
       append_assoc c.loop-committee.invariant.0 _ _ ∙ ap (λ l. c.loop-committee.invariant.0 ++ flat_map text l) (sym c.in-Some.ensures.steps) ∙ c.loop-committee.invariant.2,

@@ -1,4 +1,4 @@
-use Rattle.std.proofs.Common.{rules, arith, refl}
+use Rattle.std.proofs.Common.{rules}
 use Rattle.vote_cli.proofs.InputLemmas.{all_read}
 use Rattle.vote_cli.proofs.input.read_to_end.Goals as goal
 

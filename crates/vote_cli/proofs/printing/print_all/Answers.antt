@@ -10,8 +10,7 @@ returns-in_err-print g c =
 
 pub loop-piece-preserved : goal.loop-piece-preserved
 loop-piece-preserved g c =
-    let split = flat_map-drop (λ piece. piece.now) c.args.pieces.now c.loop-piece.piece-index (record { ref_ptr = (0, 0); now = [] }) c.loop-piece-test.true in
-    (
+    let split = flat_map-drop (λ piece. piece.now) c.args.pieces.now c.loop-piece.piece-index (record { ref_ptr = (0, 0); now = [] }) c.loop-piece-test.true in (
       _,
       goes_on_behind c.print.result _ c.in_ok-print.was c.loop-piece.invariant.1 c.print.ensures,
       append_assoc c.loop-piece.invariant.0 _ _ ∙ ap (λ l. c.loop-piece.invariant.0 ++ l) (sym split) ∙ c.loop-piece.invariant.2,

@@ -1,6 +1,6 @@
-use Rattle.std.proofs.Common.{◌≡◌, ◌∙◌, ◌<◌, ◌-◌, arith, length, drop, take, length-drop}
+use Rattle.std.proofs.Common.{◌∙◌, ◌<◌, ◌-◌, arith, length, drop, take, length-drop}
 use Rattle.std.proofs.lemmas.List.{take_rest}
-use Rattle.vote_cli.proofs.PrintingLemmas.{took-more, within-more, unfailed-write, failed-write, Appends-kept, Appends-none, Prints-part, Prints-whole}
+use Rattle.vote_cli.proofs.PrintingLemmas.{took-more, within-more, unfailed-write, failed-write, Appends-kept, Appends-none, Prints-part}
 use Rattle.vote_cli.proofs.printing.write_whole.Goals as goal
 
 pub loop-sent-preserved : goal.loop-sent-preserved

@@ -1,4 +1,3 @@
-use Rattle.std.proofs.Common.{arith}
 use Rattle.ballot_base.proofs.Rows.{some_voter}
 use Rattle.ballot_base.proofs.profile.Profile.voters.Goals as goal
 
