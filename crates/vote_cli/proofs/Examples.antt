@@ -1,5 +1,5 @@
 -- Each definition, computed on a small example.
-use Rattle.std.proofs.Common.{◌≡◌, ℕ, List, [], ◌∷◌, ◌++◌, true, false, Some, None, Ok, Err, inl, refl, lit≤}
+use Rattle.std.proofs.Common.{◌≡◌, ℕ, List, [], ◌∷◌, ◌++◌, true, false, Some, None, Ok, Err, inl, inr, refl, lit≤}
 use Rattle.std.specs.Prelude.{codes}
 use Rattle.std.proofs.lemmas.Bool.{both_ways}
 use Rattle.std.specs.Fmt.{digits}
@@ -182,6 +182,15 @@ ends_without_memory = record { nothing = refl; error = record { beginning = (mem
 -- a read failed, and the line on it was not taken whole
 ends_unread : Ends (seats 1) [] (Some []) (Some []) (Some []) (Some (codes "committees")) true DeviceFailed
 ends_unread = inl (record { nothing = refl; error = record { beginning = (codes "committees", codes ": read failed" ++ 10 ∷ [], refl, refl); whole = λ unfailed. absurd (both_ways true unfailed refl) } })
+
+-- a write failed behind the first line
+ends_in_part : Ends (seats 1) example_text (Some []) (Some (line (codes "rule av"))) (Some []) (Some write_failed_line) false DeviceFailed
+ends_in_part = inr (record {
+  answer = answered text;
+  right = right_of_one;
+  text = (line (codes "rule av"), line (codes "size 1") ++ line (codes "score 2/1") ++ line (codes "1") ++ line (codes "2") ++ line (codes "end"), refl, refl);
+  error = record { beginning = (write_failed_line, [], refl, refl); whole = λ unfailed. refl };
+})
 
 devices_told : (TellsOf DeviceFailed false false false true) × (TellsOf Answered false false true true)
 devices_told = (refl, (refl, refl))
