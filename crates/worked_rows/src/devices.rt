@@ -1,6 +1,7 @@
 //! Devices that give and take few bytes at a time, and fail where they are told to.
 ghost use Rattle.std.specs.Prelude.{◌≡◌, None, false};
 
+use std::alloc::Global;
 use std::io;
 use std::io::ErrorKind;
 use std::marker::Model;
@@ -104,12 +105,12 @@ impl Model for Recorder {
 }
 
 impl Recorder {
-    /// Keeps what it takes in `taken`, which is empty, at most `piece` bytes a call.
-    pub fn new(taken: Vec<u8>, piece: usize, fault: Fault) -> Recorder
+    /// Took nothing yet, and takes at most `piece` bytes a call.
+    pub fn new(alloc: Global, piece: usize, fault: Fault) -> Recorder
         ensures { result ≡ false }
     {
         Recorder {
-            taken,
+            taken: Vec::new(alloc),
             piece,
             fault,
             flushes: 0,
