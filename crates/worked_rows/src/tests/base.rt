@@ -1,4 +1,5 @@
 //! Candidate sets, committees in order, and profiles.
+use super::support::add;
 use ballot_base::{AddFault, CandSet, FinishFault, KSets, ProfileBuilder};
 use std::cmp::Ordering;
 use std::test::Fail;
@@ -70,7 +71,41 @@ fn committees_in_order(rt: HostRuntime) -> Result<(), Fail> {
     }
     assert!(rt; sets.next().is_none());
     assert!(rt; sets.next().is_none());
-    assert!(rt; KSets::new(40, 40).count() == 1);
-    assert!(rt; KSets::new(40, 2).count() == 780);
+    let mut count = 0u32;
+    for set in KSets::new(40, 2) {
+        assert_eq!(rt; set.len(), 2);
+        count = count.saturating_add(1);
+    }
+    assert_eq!(rt; count, 780);
+    Ok(())
+}
+
+#[test]
+fn profiles(rt: HostRuntime) -> Result<(), Fail> {
+    let builder = ProfileBuilder::new(rt.alloc(), 40)?;
+    let Err((FinishFault::NoVoters, mut builder)) = builder.finish() else {
+        panic!(rt; "no ballot was added");
+    };
+    let pair = CandSet::of_list(&[1, 2]).ok_or("1, 2")?;
+    let single = CandSet::of_list(&[3]).ok_or("3")?;
+    add(&mut builder, pair, 2)?;
+    add(&mut builder, single, 1)?;
+    add(&mut builder, pair, 3)?;
+    add(&mut builder, CandSet::empty(), 4)?;
+    assert_eq!(rt;
+        add(&mut builder, single, 4_294_967_287),
+        Err(AddFault::TooManyVoters)
+    );
+    add(&mut builder, single, 4_294_967_286)?;
+    let Ok(profile) = builder.finish() else {
+        panic!(rt; "ballots were added");
+    };
+    assert_eq!(rt; profile.m(), 40);
+    assert_eq!(rt; profile.voters(), 4_294_967_296);
+    let wanted = [(pair, 5), (single, 4_294_967_287), (CandSet::empty(), 4)];
+    assert_eq!(rt; profile.rows(), wanted.len());
+    for (i, row) in wanted.iter().enumerate() {
+        assert!(rt; i < profile.rows() && profile.row(i) == *row, "row {i}");
+    }
     Ok(())
 }

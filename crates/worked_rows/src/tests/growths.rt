@@ -1,8 +1,11 @@
 //! Growths that are refused, one after the other.
-use super::support::{ANSWER, THREE, Wanted, assert_ended, reader, request, run_on, writer};
+ghost use Rattle.std.specs.Prelude.{◌≡◌};
+
+use super::support::{ANSWER, THREE, Wanted, add, assert_ended, reader, request, run_on, writer};
 use crate::Refusing;
-use ballot_base::{AddFault, CandSet, Profile, ProfileBuilder};
-use std::alloc::{AllocError, Allocator, Global};
+use ballot_base::{AddFault, CandSet, FinishFault, Profile, ProfileBuilder};
+use std::alloc::Allocator;
+use std::process::Abort;
 use std::test::Fail;
 
 /// More growths than any of the calls below asks for.
@@ -12,7 +15,6 @@ const MANY: u64 = 100;
 fn each_growth_of_a_run(rt: HostRuntime) -> Result<(), Fail> {
     let alloc = rt.alloc();
     let request = request(alloc, "1")?;
-    let mut refusals = 0usize;
     for n in 1..=MANY {
         let heap = Refusing::new(alloc, n);
         let ended = run_on(&heap, &request, reader(THREE), writer(alloc), writer(alloc));
@@ -22,17 +24,128 @@ fn each_growth_of_a_run(rt: HostRuntime) -> Result<(), Fail> {
                 out: ANSWER,
                 err: b"",
             };
-            assert_ended(&rt, "no refused growth", 0, &ended, wanted);
-            assert!(rt; refusals > 0, "a run takes memory");
+            assert_ended(&rt, "no growth", 0, &ended, wanted);
+            assert!(rt; n > 1, "a run takes memory");
             return Ok(());
         }
-        refusals += 1;
         let wanted = Wanted {
             status: 5,
             out: b"",
             err: b"committees: memory\n",
         };
-        assert_ended(&rt, "refused growth", refusals, &ended, wanted);
+        assert_ended(&rt, "growth", n as usize, &ended, wanted);
     }
     panic!(rt; "each run has a refused growth")
+}
+
+/// Adds, for each candidate from 1 to 9, as many voters who approve just that one. Where a growth is refused it adds
+/// them again, or leaves them out. Answers whom that was.
+fn add_nine<A: Allocator + Copy + Drop>(
+    builder: &mut ProfileBuilder<A>,
+    again: bool,
+) -> Result<Option<u8>, AddFault>
+    requires { builder.old.m ≡ 40 }
+{
+    let mut refused = None;
+    for n in 1..=9u8 {
+        let set = CandSet::empty().with(n);
+        match add(builder, set, u64::from(n)) {
+            Ok(()) => {}
+            Err(AddFault::Memory) => refused = Some(n),
+            Err(fault) => return Err(fault),
+        }
+        if again && refused == Some(n) {
+            add(builder, set, u64::from(n))?;
+        }
+    }
+    Ok(refused)
+}
+
+/// Asserts that the profile has the ballots of those nine candidates, in their order, but not of this one.
+fn assert_nine<A: Allocator + Copy + Drop>(
+    rt: &impl Abort,
+    profile: &Profile<A>,
+    left_out: Option<u8>,
+) {
+    let mut i = 0;
+    for n in 1..=9u8 {
+        if left_out == Some(n) {
+            continue;
+        }
+        assert!(rt; i < profile.rows(), "a ballot for {n}");
+        let (set, count) = profile.row(i);
+        assert!(rt; set == CandSet::empty().with(n), "the ballot for {n}");
+        assert_eq!(rt; count, u64::from(n), "the voters for {n}");
+        i += 1;
+    }
+    assert_eq!(rt; profile.rows(), i);
+    let others = u64::from(left_out.unwrap_or(0));
+    assert_eq!(rt; profile.voters() + others, 45);
+}
+
+#[test]
+fn each_growth_of_a_builder(rt: HostRuntime) -> Result<(), Fail> {
+    let alloc = rt.alloc();
+    for again in [true, false] {
+        for n in 1..=MANY {
+            let heap = Refusing::new(alloc, n);
+            let mut builder = ProfileBuilder::new(&heap, 40)?;
+            let refused = add_nine(&mut builder, again)?;
+            assert_eq!(rt; refused.is_some(), heap.has_refused(), "growth {n}");
+            let Ok(profile) = builder.finish() else {
+                panic!(rt; "no ballot after growth {n}");
+            };
+            assert_nine(&rt, &profile, if again { None } else { refused });
+            if refused.is_none() {
+                assert!(rt; n > 1, "nine ballots take memory");
+                break;
+            }
+            assert!(rt; n < MANY, "each growth is refused");
+        }
+    }
+    Ok(())
+}
+
+#[test]
+fn the_first_growth_of_a_builder(rt: HostRuntime) -> Result<(), Fail> {
+    let heap = Refusing::new(rt.alloc(), 1);
+    let mut builder = ProfileBuilder::new(&heap, 40)?;
+    let set = CandSet::empty().with(7);
+    assert_eq!(rt; add(&mut builder, set, 1), Err(AddFault::Memory));
+    let Err((fault, mut builder)) = builder.finish() else {
+        panic!(rt; "no ballot was added");
+    };
+    assert_eq!(rt; fault, FinishFault::NoVoters);
+    add(&mut builder, set, 1)?;
+    let Ok(profile) = builder.finish() else {
+        panic!(rt; "a ballot was added");
+    };
+    assert_eq!(rt; profile.rows(), 1);
+    assert_eq!(rt; profile.voters(), 1);
+    Ok(())
+}
+
+#[test]
+fn a_ballot_that_is_there(rt: HostRuntime) -> Result<(), Fail> {
+    let alloc = rt.alloc();
+    for n in 1..=MANY {
+        let heap = Refusing::new(alloc, n);
+        let mut builder = ProfileBuilder::new(&heap, 40)?;
+        let set = CandSet::empty().with(7);
+        if add(&mut builder, set, 1).is_err() {
+            add(&mut builder, set, 1)?;
+        }
+        let has_refused = heap.has_refused();
+        add(&mut builder, set, 2)?;
+        assert_eq!(rt; heap.has_refused(), has_refused, "it takes no memory");
+        let Ok(profile) = builder.finish() else {
+            panic!(rt; "a ballot was added");
+        };
+        assert_eq!(rt; profile.rows(), 1);
+        assert_eq!(rt; profile.voters(), 3);
+        if !has_refused {
+            return Ok(());
+        }
+    }
+    panic!(rt; "each builder has a refused growth")
 }

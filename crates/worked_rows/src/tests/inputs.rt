@@ -47,7 +47,13 @@ fn accepted(rt: HostRuntime) -> Result<(), Fail> {
     let cases = [
         ("40 alternatives", "40", "1", "1: 40\n", "score 1/1\n40\n"),
         ("one alternative", "1", "1", "1: 1\n", "score 1/1\n1\n"),
-        ("2^32 categories", "2", "4294967296", "1: 2\n", "score 1/1\n2\n"),
+        (
+            "2^32 categories",
+            "2",
+            "4294967296",
+            "1: 2\n",
+            "score 1/1\n2\n",
+        ),
         (
             "2^32 voters with one ballot",
             "2",
@@ -62,10 +68,34 @@ fn accepted(rt: HostRuntime) -> Result<(), Fail> {
             "4294967295: 1\n1: 2\n",
             "score 4294967295/1\n1\n",
         ),
-        ("an empty first class", "2", "2", "3: {},1\n", "score 0/1\n1\n2\n"),
-        ("an empty class alone", "2", "1", "3: {}\n", "score 0/1\n1\n2\n"),
-        ("one number in braces", "2", "1", "1: {2}\n", "score 1/1\n2\n"),
-        ("numbers that go down", "3", "1", "1: {3,1}\n", "score 1/1\n1\n3\n"),
+        (
+            "an empty first class",
+            "2",
+            "2",
+            "3: {},1\n",
+            "score 0/1\n1\n2\n",
+        ),
+        (
+            "an empty class alone",
+            "2",
+            "1",
+            "3: {}\n",
+            "score 0/1\n1\n2\n",
+        ),
+        (
+            "one number in braces",
+            "2",
+            "1",
+            "1: {2}\n",
+            "score 1/1\n2\n",
+        ),
+        (
+            "numbers that go down",
+            "3",
+            "1",
+            "1: {3,1}\n",
+            "score 1/1\n1\n3\n",
+        ),
         (
             "as many classes as categories",
             "3",
@@ -73,7 +103,13 @@ fn accepted(rt: HostRuntime) -> Result<(), Fail> {
             "1: 3,{},{1,2}\n",
             "score 1/1\n3\n",
         ),
-        ("candidates in no class", "3", "2", "1: 2\n", "score 1/1\n2\n"),
+        (
+            "candidates in no class",
+            "3",
+            "2",
+            "1: 2\n",
+            "score 1/1\n2\n",
+        ),
         (
             "a ballot on two lines",
             "2",
@@ -128,8 +164,14 @@ fn refused_headers(rt: HostRuntime) -> Result<(), Fail> {
             "a type in capitals",
             b"# DATA TYPE: CAT\n# NUMBER ALTERNATIVES: 1\n# NUMBER CATEGORIES: 1\n1: 1\n",
         ),
-        ("no type", b"# NUMBER ALTERNATIVES: 1\n# NUMBER CATEGORIES: 1\n1: 1\n"),
-        ("no categories", b"# DATA TYPE: cat\n# NUMBER ALTERNATIVES: 1\n1: 1\n"),
+        (
+            "no type",
+            b"# NUMBER ALTERNATIVES: 1\n# NUMBER CATEGORIES: 1\n1: 1\n",
+        ),
+        (
+            "no categories",
+            b"# DATA TYPE: cat\n# NUMBER ALTERNATIVES: 1\n1: 1\n",
+        ),
         (
             "another order",
             b"# NUMBER ALTERNATIVES: 1\n# DATA TYPE: cat\n# NUMBER CATEGORIES: 1\n1: 1\n",
@@ -176,7 +218,10 @@ fn refused_ballots(rt: HostRuntime) -> Result<(), Fail> {
         ("a count above 2^32", "4294967297: 1\n"),
         ("a count of twenty digits", "99999999999999999999: 1\n"),
         ("more than 2^32 voters", "4294967296: 1\n1: 2\n"),
-        ("more than 2^32 voters with one ballot", "4294967296: 1\n1: 1\n"),
+        (
+            "more than 2^32 voters with one ballot",
+            "4294967296: 1\n1: 1\n",
+        ),
         ("the number 0", "1: 0\n"),
         ("a number above the alternatives", "1: 4\n"),
         ("a number above the alternatives, in braces", "1: {1,4}\n"),

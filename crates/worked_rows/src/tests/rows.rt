@@ -1,5 +1,7 @@
 //! Worked runs of approval voting, from the words to the bytes.
-use super::support::{ANSWER, THREE, Wanted, assert_ended, read_line, reader, request, run_on, writer};
+use super::support::{
+    ANSWER, THREE, Wanted, assert_ended, read_line, reader, request, run_on, writer,
+};
 use std::test::Fail;
 use vote_cli::{Device, LineFault, Status, Told, run};
 
@@ -79,7 +81,13 @@ fn readers_and_writers_of_std(rt: HostRuntime) -> Result<(), Fail> {
     let mut told_out = Told::new(&mut out);
     let mut told_err = Told::new(&mut err);
     assert!(rt; !told_reader.failed() && !told_out.failed() && !told_err.failed());
-    let status = run(alloc, &request, &mut told_reader, &mut told_out, &mut told_err);
+    let status = run(
+        alloc,
+        &request,
+        &mut told_reader,
+        &mut told_out,
+        &mut told_err,
+    );
     assert_eq!(rt; status, Status::Answered);
     assert!(rt; !told_reader.failed() && !told_out.failed() && !told_err.failed());
     assert_eq!(rt; out.as_slice(), ANSWER);

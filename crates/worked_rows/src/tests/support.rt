@@ -1,12 +1,16 @@
 //! What the tests share: requests from words, and runs that leave plain data.
+ghost use Rattle.std.specs.Prelude.{◌≡◌, ◌≤◌};
+
 use crate::{Fault, Recorder, SliceReader};
+use ballot_base::{AddFault, CandSet, ProfileBuilder};
 use std::alloc::{AllocError, Allocator, Global};
 use std::process::Abort;
 use std::test::Fail;
 use vote_cli::{LineFault, Request, Status, read_request, run};
 
 /// Three candidates and two ballots: two voters approve 1 and 2, and one voter approves 3.
-pub static THREE: &[u8] = b"# DATA TYPE: cat\n# NUMBER ALTERNATIVES: 3\n# NUMBER CATEGORIES: 2\n2: {1,2},3\n1: 3,{1,2}\n";
+pub static THREE: &[u8] =
+    b"# DATA TYPE: cat\n# NUMBER ALTERNATIVES: 3\n# NUMBER CATEGORIES: 2\n2: {1,2},3\n1: 3,{1,2}\n";
 
 /// The answer to it by approval voting, for one seat.
 pub static ANSWER: &[u8] = b"rule av\nsize 1\nscore 2/1\n1\n2\nend\n";
@@ -67,7 +71,34 @@ pub struct Wanted<'a> {
 
 /// Asserts that the run left this. The number tells cases of one name apart.
 pub fn assert_ended(rt: &impl Abort, case: &str, number: usize, ended: &Ended, wanted: Wanted<'_>) {
-    assert_eq!(rt; ended.status.code(), wanted.status, "the status of {case} {number}");
-    assert_eq!(rt; ended.out.taken(), wanted.out, "the output of {case} {number}");
-    assert_eq!(rt; ended.err.taken(), wanted.err, "the errors of {case} {number}");
+    assert_eq!(rt;
+        ended.status.code(),
+        wanted.status,
+        "the status of {case} {number}"
+    );
+    assert_eq!(rt;
+        ended.out.taken(),
+        wanted.out,
+        "the output of {case} {number}"
+    );
+    assert_eq!(rt;
+        ended.err.taken(),
+        wanted.err,
+        "the errors of {case} {number}"
+    );
+}
+
+/// Adds voters with one ballot over 40 candidates.
+pub fn add<A: Allocator + Copy + Drop>(
+    builder: &mut ProfileBuilder<A>,
+    set: CandSet,
+    count: u64,
+) -> Result<(), AddFault>
+    requires alternatives { builder.old.m ≡ 40 }
+    requires voters { 1 ≤ count }
+    ensures { builder.new.m ≡ 40 }
+{
+    // The length tells that the members are candidates from 1 to 40.
+    let _ = set.len();
+    builder.add(set, count)
 }
