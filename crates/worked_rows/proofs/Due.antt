@@ -1,4 +1,4 @@
--- A call of `is_due`: what the caller hands it, and what comes back. Assumes `Logic`.
+-- A call of `is_due`: what the caller hands it, and what comes back.
 --     Left                   what the counter is to the logic
 --     Due, due_at            the contract of `is_due`, and what it is called with: a `&` to the counter, for some lifetime
 --     goes_in, comes_out     the counter's `&` and the token of its lifetime go in; the token and a truth value come out

@@ -1,7 +1,7 @@
 -- `allocate` of `Refusing` meets the contract of an allocator, over any allocator H.
 -- The walk has one call and one branch ahead of H's own `allocate`. The handle is shared, so both of its fields are had through a `&`, the counter for
 -- `is_due` and H for the call that is passed on. Where the growth is due the answer is `Err`, which is made of nothing. Else the answer is H's: a block
--- comes with the right to free it, and that right is the handle's own by the definition of `dealloc_token`. Assumes `Logic`.
+-- comes with the right to free it, and that right is the handle's own by the definition of `dealloc_token`.
 use Rattle.std.proofs.Common.{◌≡◌, ℕ, ◌+◌, Bool, true, false, [], ◌∷◌, Ok, Err, refl, w64}
 use Rattle.std.proofs.raw_atomic.Walks.{proved}
 use Rattle.std.proofs.VecSteps.Shapes.{after}

@@ -1,6 +1,6 @@
 -- `deallocate` of `Refusing` meets the contract of an allocator, over any allocator H.
 -- The walk is one call: the right to free a block is H's own, so the block goes back to H, through a `&` to that field of the shared handle. Nothing is
--- counted. A null pointer owns no block, so there is one to hand over. Assumes `Logic`.
+-- counted. A null pointer owns no block, so there is one to hand over.
 use Rattle.std.proofs.Common.{◌≡◌, ℕ, ◌+◌, List, [], ◌∷◌, refl, w64}
 use Rattle.std.proofs.raw_atomic.Walks.{proved}
 use Rattle.std.proofs.alloc.Calls.{Al, α, seen, token, Gives, at_gives, Gives-goes, Gives-Gives}
