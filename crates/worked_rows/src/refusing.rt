@@ -9,7 +9,8 @@ use std::cell::Cell;
 pub struct Refusing<H: Allocator = Global> {
     /// How many growths there are up to the one that is refused, and 0 once it was.
     left: Cell<u64>,
-    heap: H,
+    /// The allocator that the other calls are passed on to.
+    pub heap: H,
 }
 
 impl<H: Allocator> Refusing<H> {
