@@ -1,0 +1,176 @@
+//! Devices that give and take few bytes at a time, and fail where they are told to.
+ghost use Rattle.std.specs.Prelude.{◌≡◌, None, false};
+
+use std::alloc::Global;
+use std::io;
+use std::io::ErrorKind;
+use std::marker::Model;
+use vote_cli::{Device, Sink, Source};
+
+/// A reader over bytes. Contracts see whether a call has failed.
+#[derive(Drop)]
+pub struct SliceReader<'a> {
+    rest: &'a [u8],
+    piece: usize,
+    /// How many calls there are up to the one that fails, and 0 where none is to.
+    left: u64,
+    has_failed: bool,
+}
+
+impl<'a> Model for SliceReader<'a> {
+    ghost use Rattle.std.specs.Prelude.{Bool};
+
+    ghost Value = { Bool };
+
+    ghost view = { λ reader. reader.has_failed };
+}
+
+impl<'a> SliceReader<'a> {
+    /// Gives at most `piece` bytes a call, and never fails.
+    pub fn new(bytes: &'a [u8], piece: usize) -> SliceReader<'a>
+        ensures { result ≡ false }
+    {
+        SliceReader::failing(bytes, piece, 0)
+    }
+
+    /// Gives at most `piece` bytes a call. The call of the number `fails`, counted from 1, is an error, and those
+    /// after it are not.
+    pub fn failing(bytes: &'a [u8], piece: usize, fails: u64) -> SliceReader<'a>
+        ensures { result ≡ false }
+    {
+        SliceReader {
+            rest: bytes,
+            piece,
+            left: fails,
+            has_failed: false,
+        }
+    }
+}
+
+impl<'a> Device for SliceReader<'a> {
+    ghost has_failed = { λ reader. reader };
+
+    fn failed(&self) -> bool {
+        self.has_failed
+    }
+}
+
+impl<'a> Source for SliceReader<'a> {
+    ghost remaining = { λ _. None };
+
+    fn read(&mut self, buf: &mut [u8]) -> io::Result<usize> {
+        let is_due = self.left == 1;
+        self.left = self.left.saturating_sub(1);
+        if is_due {
+            self.has_failed = true;
+            return Err(io::Error::from(ErrorKind::Other));
+        }
+        let count = self.rest.len().min(self.piece).min(buf.len());
+        let (given, rest) = self.rest.split_at(count);
+        buf[..count].copy_from_slice(given);
+        self.rest = rest;
+        Ok(count)
+    }
+}
+
+/// What is wrong with a writer. It shows in one call, and the calls after it are sound.
+#[derive(Clone, Copy, Debug, PartialEq, Eq)]
+pub enum Fault {
+    /// Nothing.
+    Sound,
+    /// A write is an error, once so many bytes were taken.
+    ErrorAfter(usize),
+    /// A write takes no byte, once so many were taken.
+    ZeroAfter(usize),
+    /// The flush is an error.
+    AtFlush,
+}
+
+/// A writer that keeps what it took, and counts its flushes. Contracts see whether a call has failed.
+#[derive(Drop)]
+pub struct Recorder {
+    taken: Vec<u8>,
+    piece: usize,
+    fault: Fault,
+    flushes: u64,
+    has_failed: bool,
+}
+
+impl Model for Recorder {
+    ghost use Rattle.std.specs.Prelude.{Bool};
+
+    ghost Value = { Bool };
+
+    ghost view = { λ writer. writer.has_failed };
+}
+
+impl Recorder {
+    /// Took nothing yet, and takes at most `piece` bytes a call.
+    pub fn new(alloc: Global, piece: usize, fault: Fault) -> Recorder
+        ensures { result ≡ false }
+    {
+        Recorder {
+            taken: Vec::new(alloc),
+            piece,
+            fault,
+            flushes: 0,
+            has_failed: false,
+        }
+    }
+
+    /// The bytes that it took.
+    pub fn taken(&self) -> &[u8] {
+        self.taken.as_slice()
+    }
+
+    /// How often it was flushed.
+    pub fn flushes(&self) -> u64 {
+        self.flushes
+    }
+
+    /// How many bytes more it takes before its fault shows.
+    fn room(&self) -> usize {
+        match self.fault {
+            Fault::ErrorAfter(most) | Fault::ZeroAfter(most) => {
+                most.saturating_sub(self.taken.len())
+            }
+            Fault::Sound | Fault::AtFlush => usize::MAX,
+        }
+    }
+}
+
+impl Device for Recorder {
+    ghost has_failed = { λ writer. writer };
+
+    fn failed(&self) -> bool {
+        self.has_failed
+    }
+}
+
+impl Sink for Recorder {
+    ghost contents = { λ _. None };
+
+    fn write(&mut self, buf: &[u8]) -> io::Result<usize> {
+        let count = buf.len().min(self.piece).min(self.room());
+        if count > 0 && self.taken.extend_from_slice(&buf[..count]).is_ok() {
+            return Ok(count);
+        }
+        let takes_none = buf.is_empty() || matches!(self.fault, Fault::ZeroAfter(_));
+        self.has_failed = self.has_failed || !buf.is_empty();
+        self.fault = Fault::Sound;
+        if takes_none {
+            return Ok(0);
+        }
+        Err(io::Error::from(ErrorKind::Other))
+    }
+
+    fn flush(&mut self) -> io::Result<()> {
+        self.flushes = self.flushes.saturating_add(1);
+        if self.fault != Fault::AtFlush {
+            return Ok(());
+        }
+        self.has_failed = true;
+        self.fault = Fault::Sound;
+        Err(io::Error::from(ErrorKind::Other))
+    }
+}

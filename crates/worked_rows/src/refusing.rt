@@ -1,0 +1,53 @@
+//! An allocator that refuses one growth.
+ghost use Rattle.std.specs.Prelude.{◌≤◌};
+
+use std::alloc::{AllocError, Allocator, Global};
+use std::cell::Cell;
+
+/// An allocator that refuses one growth and passes every other call on. A `&` to it is an allocator too.
+#[derive(Drop)]
+pub struct Refusing<H: Allocator = Global> {
+    /// How many growths there are up to the one that is refused, and 0 once it was.
+    left: Cell<u64>,
+    /// The allocator that the other calls are passed on to.
+    pub heap: H,
+}
+
+impl<H: Allocator> Refusing<H> {
+    /// Refuses the growth of this number, counted from 1.
+    pub fn new(heap: H, refused: u64) -> Refusing<H>
+        requires { 1 ≤ refused }
+    {
+        Refusing {
+            left: Cell::new(refused),
+            heap,
+        }
+    }
+
+    /// Whether the growth was asked for, and refused.
+    pub fn has_refused(&self) -> bool {
+        self.left.get() == 0
+    }
+}
+
+/// Counts a growth, and says whether it is the one to refuse.
+fn is_due(left: &Cell<u64>) -> bool {
+    let n = left.get();
+    left.set(n.saturating_sub(1));
+    n == 1
+}
+
+unsafe impl<H: Allocator> Allocator for Refusing<H> {
+    ghost dealloc_token = { λ handle ty ptr. H.dealloc_token handle.heap ty ptr };
+
+    fn allocate(&self, size: usize, align: usize) -> Result<*mut u8, AllocError> {
+        if is_due(&self.left) {
+            return Err(AllocError);
+        }
+        self.heap.allocate(size, align)
+    }
+
+    unsafe fn deallocate(&self, ptr: *mut u8, size: usize, align: usize) {
+        self.heap.deallocate(ptr, size, align);
+    }
+}

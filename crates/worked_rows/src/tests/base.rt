@@ -1,0 +1,111 @@
+//! Candidate sets, committees in order, and profiles.
+use super::support::add;
+use ballot_base::{AddFault, CandSet, FinishFault, KSets, ProfileBuilder};
+use std::cmp::Ordering;
+use std::test::Fail;
+
+#[test]
+fn sets_of_lists(rt: HostRuntime) -> Result<(), Fail> {
+    let lists: [&[u8]; 5] = [&[], &[1], &[40], &[1, 3], &[2, 3, 5, 40]];
+    for list in lists {
+        let set = CandSet::of_list(list).ok_or("a set")?;
+        assert_eq!(rt; set.len() as usize, list.len(), "{list:?}");
+        assert_eq!(rt; set.is_empty(), list.is_empty(), "{list:?}");
+        for n in 0..=255u8 {
+            assert_eq!(rt; set.has(n), list.contains(&n), "{n} in {list:?}");
+        }
+    }
+    let lists: [&[u8]; 6] = [&[0], &[41], &[0, 1], &[1, 3, 3], &[3, 1], &[40, 41]];
+    for list in lists {
+        assert!(rt; CandSet::of_list(list).is_none(), "{list:?}");
+    }
+    Ok(())
+}
+
+#[test]
+fn changed_sets(rt: HostRuntime) -> Result<(), Fail> {
+    let set = CandSet::of_list(&[1, 3]).ok_or("1, 3")?;
+    assert!(rt; Some(set.with(2)) == CandSet::of_list(&[1, 2, 3]));
+    assert!(rt; set.with(3) == set);
+    assert!(rt; Some(set.without(3)) == CandSet::of_list(&[1]));
+    assert!(rt; set.without(2) == set);
+    let other = CandSet::of_list(&[3, 4]).ok_or("3, 4")?;
+    assert!(rt; Some(set.common(other)) == CandSet::of_list(&[3]));
+    assert!(rt; set.common(CandSet::empty()).is_empty());
+    let (first, others) = set.split_first().ok_or("a member")?;
+    assert_eq!(rt; first, 1);
+    assert!(rt; Some(others) == CandSet::of_list(&[3]));
+    assert!(rt; CandSet::empty().split_first().is_none());
+    Ok(())
+}
+
+#[test]
+fn lexicographic_order(rt: HostRuntime) -> Result<(), Fail> {
+    let lists: [&[u8]; 9] = [
+        &[],
+        &[1],
+        &[1, 2],
+        &[1, 2, 4],
+        &[1, 3],
+        &[1, 39],
+        &[1, 40],
+        &[2],
+        &[40],
+    ];
+    for (i, first) in lists.iter().enumerate() {
+        for (j, second) in lists.iter().enumerate() {
+            let a = CandSet::of_list(first).ok_or("a set")?;
+            let b = CandSet::of_list(second).ok_or("a set")?;
+            assert!(rt; a.cmp_lex(b) == i.cmp(&j), "{first:?} and {second:?}");
+        }
+    }
+    Ok(())
+}
+
+#[test]
+fn committees_in_order(rt: HostRuntime) -> Result<(), Fail> {
+    let wanted: [[u8; 2]; 6] = [[1, 2], [1, 3], [1, 4], [2, 3], [2, 4], [3, 4]];
+    let mut sets = KSets::new(4, 2);
+    for list in wanted {
+        assert!(rt; sets.next() == CandSet::of_list(&list), "{list:?}");
+    }
+    assert!(rt; sets.next().is_none());
+    assert!(rt; sets.next().is_none());
+    let mut count = 0u32;
+    for set in KSets::new(40, 2) {
+        assert_eq!(rt; set.len(), 2);
+        count = count.saturating_add(1);
+    }
+    assert_eq!(rt; count, 780);
+    Ok(())
+}
+
+#[test]
+fn profiles(rt: HostRuntime) -> Result<(), Fail> {
+    let builder = ProfileBuilder::new(rt.alloc(), 40)?;
+    let Err((FinishFault::NoVoters, mut builder)) = builder.finish() else {
+        panic!(rt; "no ballot was added");
+    };
+    let pair = CandSet::of_list(&[1, 2]).ok_or("1, 2")?;
+    let single = CandSet::of_list(&[3]).ok_or("3")?;
+    add(&mut builder, pair, 2)?;
+    add(&mut builder, single, 1)?;
+    add(&mut builder, pair, 3)?;
+    add(&mut builder, CandSet::empty(), 4)?;
+    assert_eq!(rt;
+        add(&mut builder, single, 4_294_967_287),
+        Err(AddFault::TooManyVoters)
+    );
+    add(&mut builder, single, 4_294_967_286)?;
+    let Ok(profile) = builder.finish() else {
+        panic!(rt; "ballots were added");
+    };
+    assert_eq!(rt; profile.m(), 40);
+    assert_eq!(rt; profile.voters(), 4_294_967_296);
+    let wanted = [(pair, 5), (single, 4_294_967_287), (CandSet::empty(), 4)];
+    assert_eq!(rt; profile.rows(), wanted.len());
+    for (i, row) in wanted.iter().enumerate() {
+        assert!(rt; i < profile.rows() && profile.row(i) == *row, "row {i}");
+    }
+    Ok(())
+}

@@ -1,0 +1,177 @@
+//! Reads and writes that fail.
+use super::support::{ANSWER, THREE, Wanted, assert_ended, reader, request, run_on, writer};
+use crate::{Fault, Recorder, SliceReader};
+use std::alloc::Global;
+use std::fmt::Write;
+use std::test::Fail;
+
+static READ_FAILED: &[u8] = b"committees: read failed\n";
+
+static WRITE_FAILED: &[u8] = b"committees: write failed\n";
+
+#[test]
+fn each_read_fails_in_turn(rt: HostRuntime) -> Result<(), Fail> {
+    let alloc = rt.alloc();
+    let request = request(alloc, "1")?;
+    // The bytes of `THREE` in pieces of 16, and a read that finds the end.
+    let reads = THREE.len().div_ceil(16) + 1;
+    for call in 1..=reads {
+        let reader = SliceReader::failing(THREE, 16, call as u64);
+        let ended = run_on(alloc, &request, reader, writer(alloc), writer(alloc));
+        let wanted = Wanted {
+            status: 6,
+            out: b"",
+            err: READ_FAILED,
+        };
+        assert_ended(&rt, "read", call, &ended, wanted);
+    }
+    let reader = SliceReader::failing(THREE, 16, reads as u64 + 1);
+    let ended = run_on(alloc, &request, reader, writer(alloc), writer(alloc));
+    let wanted = Wanted {
+        status: 0,
+        out: ANSWER,
+        err: b"",
+    };
+    assert_ended(&rt, "no read", 0, &ended, wanted);
+    Ok(())
+}
+
+#[test]
+fn a_read_fails_in_a_refused_input(rt: HostRuntime) -> Result<(), Fail> {
+    let alloc = rt.alloc();
+    let request = request(alloc, "1")?;
+    let reader = SliceReader::failing(b"# NUMBER ALTERNATIVES: 0\n\n", 8, 4);
+    let ended = run_on(alloc, &request, reader, writer(alloc), writer(alloc));
+    let wanted = Wanted {
+        status: 6,
+        out: b"",
+        err: READ_FAILED,
+    };
+    assert_ended(&rt, "a refused input", 0, &ended, wanted);
+    Ok(())
+}
+
+#[test]
+fn one_byte_a_call(rt: HostRuntime) -> Result<(), Fail> {
+    let alloc = rt.alloc();
+    let request = request(alloc, "1")?;
+    let reader = SliceReader::new(THREE, 1);
+    let out = Recorder::new(alloc, 1, Fault::Sound);
+    let ended = run_on(alloc, &request, reader, out, writer(alloc));
+    let wanted = Wanted {
+        status: 0,
+        out: ANSWER,
+        err: b"",
+    };
+    assert_ended(&rt, "one byte a call", 0, &ended, wanted);
+    assert_eq!(rt; ended.out.flushes(), 1);
+    Ok(())
+}
+
+#[test]
+fn each_byte_of_the_output_is_not_taken(rt: HostRuntime) -> Result<(), Fail> {
+    let alloc = rt.alloc();
+    let request = request(alloc, "1")?;
+    for taken in 0..ANSWER.len() {
+        let wanted = Wanted {
+            status: 6,
+            out: &ANSWER[..taken],
+            err: WRITE_FAILED,
+        };
+        let cases = [
+            ("an error", usize::MAX, Fault::ErrorAfter(taken)),
+            ("an error, one byte a call", 1, Fault::ErrorAfter(taken)),
+            ("no byte", usize::MAX, Fault::ZeroAfter(taken)),
+            ("no byte, one byte a call", 1, Fault::ZeroAfter(taken)),
+        ];
+        for (case, piece, fault) in cases {
+            let out = Recorder::new(alloc, piece, fault);
+            let ended = run_on(alloc, &request, reader(THREE), out, writer(alloc));
+            assert_ended(&rt, case, taken, &ended, wanted);
+        }
+    }
+    Ok(())
+}
+
+/// The answer for two seats where nobody approves of 40 candidates: each pair of them.
+fn pairs(alloc: Global) -> Result<String, Fail> {
+    let mut text = String::from_str(alloc, "rule av\nsize 2\nscore 0/1\n")?;
+    for first in 1..=40u8 {
+        for second in 1..=40u8 {
+            if first < second {
+                writeln!(text, "{first},{second}")?;
+            }
+        }
+    }
+    text.push_str("end\n")?;
+    Ok(text)
+}
+
+#[test]
+fn an_answer_in_several_writes(rt: HostRuntime) -> Result<(), Fail> {
+    let alloc = rt.alloc();
+    let request = request(alloc, "2")?;
+    let bytes =
+        b"# DATA TYPE: cat\n# NUMBER ALTERNATIVES: 40\n# NUMBER CATEGORIES: 1\n1: {}\n".as_slice();
+    let answer = pairs(alloc)?;
+    let answer = answer.as_bytes();
+    assert_eq!(rt; answer.len(), 4358);
+    let ended = run_on(alloc, &request, reader(bytes), writer(alloc), writer(alloc));
+    let wanted = Wanted {
+        status: 0,
+        out: answer,
+        err: b"",
+    };
+    assert_ended(&rt, "all pairs", 0, &ended, wanted);
+    assert_eq!(rt; ended.out.flushes(), 1);
+    for taken in (0..answer.len()).step_by(97) {
+        let out = Recorder::new(alloc, 1000, Fault::ErrorAfter(taken));
+        let ended = run_on(alloc, &request, reader(bytes), out, writer(alloc));
+        let wanted = Wanted {
+            status: 6,
+            out: &answer[..taken],
+            err: WRITE_FAILED,
+        };
+        assert_ended(&rt, "pairs", taken, &ended, wanted);
+    }
+    Ok(())
+}
+
+#[test]
+fn the_flush_fails(rt: HostRuntime) -> Result<(), Fail> {
+    let alloc = rt.alloc();
+    let request = request(alloc, "1")?;
+    let out = Recorder::new(alloc, usize::MAX, Fault::AtFlush);
+    let ended = run_on(alloc, &request, reader(THREE), out, writer(alloc));
+    let wanted = Wanted {
+        status: 6,
+        out: ANSWER,
+        err: WRITE_FAILED,
+    };
+    assert_ended(&rt, "the flush", 0, &ended, wanted);
+    assert_eq!(rt; ended.out.flushes(), 1);
+    Ok(())
+}
+
+#[test]
+fn each_byte_of_the_errors_is_not_taken(rt: HostRuntime) -> Result<(), Fail> {
+    let alloc = rt.alloc();
+    let request = request(alloc, "4")?;
+    let line = b"committees: request: SizeTooLarge\n".as_slice();
+    for taken in 0..line.len() {
+        for fault in [
+            Fault::ErrorAfter(taken),
+            Fault::ZeroAfter(taken),
+            Fault::AtFlush,
+        ] {
+            let err = Recorder::new(alloc, usize::MAX, fault);
+            let ended = run_on(alloc, &request, reader(THREE), writer(alloc), err);
+            assert_eq!(rt; ended.status.code(), 4, "{fault:?}");
+            assert!(rt; ended.out.taken().is_empty(), "{fault:?}");
+            assert!(rt; line.starts_with(ended.err.taken()), "{fault:?}");
+            let is_whole = ended.err.taken().len() == line.len();
+            assert_eq!(rt; is_whole, fault == Fault::AtFlush, "{fault:?}");
+        }
+    }
+    Ok(())
+}
