@@ -3,7 +3,7 @@ use Rattle.std.proofs.Common.{◌≡◌, List, [], ◌∷◌, true, false, refl,
 use Rattle.ballot_base.specs.Lists.{IsIncreasing, lists_of, increasing_lists, is_later, IsLater}
 use Rattle.ballot_base.specs.CandSet.{members_among, members, word_of, has_member, with_member, without_member, common_members}
 use Rattle.ballot_base.specs.Subsets.{lists_from, sets_from, IsPlace, IsLastSet, IsNextSet}
-use Rattle.ballot_base.specs.Ballots.{Row, IsElection, election, hits, voter_count, has_ballot, with_votes}
+use Rattle.ballot_base.specs.Ballots.{Row, IsElection, election, name_of, hits, voter_count, has_ballot, with_votes}
 
 -- ---- lists
 increasing : IsIncreasing 1 4 (1 ∷ 3 ∷ [])
@@ -119,10 +119,17 @@ votes_for_a_new_ballot : with_votes rows (2 ∷ []) 5 ≡ (1 ∷ 3 ∷ [], 2) �
 unfolding rows
 votes_for_a_new_ballot = refl
 
-example_election : election 3 rows ≡ record { m = 3; names = [] ∷ [] ∷ [] ∷ []; rows = rows }
+example_election : election 3 ([] ∷ [] ∷ [] ∷ []) rows ≡ record { m = 3; names = [] ∷ [] ∷ [] ∷ []; rows = rows }
 example_election = refl
 
-is_election : IsElection (election 3 rows)
+-- candidate 1 has a name and candidate 2 has none
+first_name : name_of (election 2 ((82 ∷ []) ∷ [] ∷ []) rows) 1 ≡ Some (82 ∷ [])
+first_name = refl
+
+second_name : name_of (election 2 ((82 ∷ []) ∷ [] ∷ []) rows) 2 ≡ None
+second_name = refl
+
+is_election : IsElection (election 3 ([] ∷ [] ∷ [] ∷ []) rows)
 unfolding rows
 is_election = record {
   least = lit≤ tt;

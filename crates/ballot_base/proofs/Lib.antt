@@ -3,5 +3,6 @@ pub mod Examples
 pub mod FirstMember
 pub mod Increasing
 pub mod Members
+pub mod Names
 pub mod NextSet
 pub mod Rows

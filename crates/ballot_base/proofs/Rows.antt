@@ -128,9 +128,9 @@ ballots-higher m [] most all = tt
 ballots-higher m (row ∷ rows) most all = (IsIncreasing-higher 1 m 40 row.0 most all.0, ballots-higher m rows most all.1)
 
 -- an election with votes added
-pub IsElection-with_votes : (m : ℕ) (rows : List Row) (ballot : List ℕ) (count : ℕ) → IsElection (election m rows) → IsIncreasing 1 m ballot → 1 ≤ count
-    → voter_count rows + count ≤ 2 ^ 32 → IsElection (election m (with_votes rows ballot count))
-IsElection-with_votes m rows ballot count valid own some room = record {
+pub IsElection-with_votes : (m : ℕ) (names : List (List ℕ)) (rows : List Row) (ballot : List ℕ) (count : ℕ) → IsElection (election m names rows) → IsIncreasing 1 m ballot → 1 ≤ count
+    → voter_count rows + count ≤ 2 ^ 32 → IsElection (election m names (with_votes rows ballot count))
+IsElection-with_votes m names rows ballot count valid own some room = record {
   least = valid.least;
   most = valid.most;
   names = valid.names;

@@ -1,5 +1,5 @@
 -- Approval ballots and profiles of them.
-use Rattle.std.specs.Prelude.{ℕ, ◌+◌, ◌^◌, ◌<◌, ◌≤◌, ◌≡◌, Bool, List, [], ◌∷◌, length, replicate, sum_by, count_by, if◌then◌else◌}
+use Rattle.std.specs.Prelude.{ℕ, ◌+◌, ◌^◌, ◌<◌, ◌≤◌, ◌≡◌, ◌-◌, Bool, List, [], ◌∷◌, length, map, sum_by, count_by, Option, Some, None, slice_get, unwrap_or, Vec, if◌then◌else◌}
 use Rattle.std.specs.List.{AllByRecursion, list_any}
 use Rattle.std.specs.Str.{bytes_eq}
 use Rattle.ballot_base.specs.Lists.{IsIncreasing}
@@ -16,9 +16,21 @@ pub record Election : Type 0 where
   pub names : List (List ℕ)
   pub rows : List Row
 
--- the election of m candidates without names, with these rows
-abbrev pub election : ℕ → List Row → Election
-election m rows = record { m = m; names = replicate m []; rows = rows }
+-- the election of m candidates with these names and these rows
+abbrev pub election : ℕ → List (List ℕ) → List Row → Election
+election m names rows = record { m = m; names = names; rows = rows }
+
+-- the name of a candidate, if there is one
+abbrev pub name_of : Election → ℕ → Option (List ℕ)
+name_of e n = some_name (unwrap_or (slice_get e.names (n - 1)) [])
+  where
+    some_name : List ℕ → Option (List ℕ)
+    some_name [] = None
+    some_name (b ∷ bytes) = Some (b ∷ bytes)
+
+-- the bytes of names
+abbrev pub texts : {A : Type 0} → List (Vec ℕ A) → List (List ℕ)
+texts names = map (λ name. name.items) names
 
 -- how many candidates stand on the ballot and in the committee
 -- (Lackner and Skowron, Multi-Winner Voting with Approval Preferences)

@@ -1,8 +1,8 @@
 //! Profiles of approval ballots.
-ghost use Rattle.std.specs.Prelude.{◌≡◌, ℕ, ◌+◌, ◌^◌, ◌<◌, ◌≤◌, ◌↔◌, List, [], false, length, replicate, slice_get, Some, Err, IfOk, IfErr, IsErr, OnOk, OnErr};
+ghost use Rattle.std.specs.Prelude.{◌≡◌, ℕ, ◌+◌, ◌^◌, ◌<◌, ◌≤◌, ◌↔◌, List, [], false, length, replicate, slice_get, Some, Err, IfOk, IfErr, IsErr, OnOk, OnErr, option_map, slice_set, take, ◌-◌};
 ghost use Rattle.std.specs.List.{AllByRecursion};
 ghost use Rattle.ballot_base.specs.Lists.{IsIncreasing};
-ghost use Rattle.ballot_base.specs.Ballots.{Election, IsElection, voter_count, has_ballot, with_votes, election};
+ghost use Rattle.ballot_base.specs.Ballots.{Election, IsElection, voter_count, has_ballot, with_votes, election, name_of, texts};
 
 use crate::cand_set::CandSet;
 use indexmap::IndexMap;
@@ -16,7 +16,10 @@ const MOST_VOTERS: u64 = 4_294_967_296;
 /// The ballots in the order of their first appearance, each with its voters.
 type Rows<A> = IndexMap<CandSet, u64, BuildHasherDefault<FoldHasher>, A>;
 
-/// Why a ballot was not added.
+/// The name of each candidate, empty where there is none.
+type Names<A> = Vec<Vec<u8, A>, A>;
+
+/// Why a ballot or a name was not added.
 #[derive(Clone, Copy, Debug, PartialEq, Eq)]
 pub enum AddFault {
     /// There would be more than 4,294,967,296 voters.
@@ -36,19 +39,20 @@ pub enum FinishFault {
 #[derive(Drop)]
 pub struct ProfileBuilder<A: Allocator + Copy = Global> {
     m: u8,
+    names: Names<A>,
     voters: u64,
     rows: Rows<A>,
 }
 
 impl<A: Allocator + Copy> Model for ProfileBuilder<A> {
     ghost use Rattle.std.specs.Prelude.{◌≡◌, ◌≤◌, [], replicate};
-    ghost use Rattle.ballot_base.specs.Ballots.{Election, IsElection, voter_count, election};
+    ghost use Rattle.ballot_base.specs.Ballots.{Election, IsElection, voter_count, election, texts};
 
     ghost Value = { Election };
 
-    ghost view = { λ b. election b.m b.rows.entries };
+    ghost view = { λ b. election b.m (texts b.names.items) b.rows.entries };
 
-    ghost invariant = { λ b. IsElection (election b.m b.rows.entries) × (b.voters ≡ voter_count b.rows.entries) };
+    ghost invariant = { λ b. IsElection (election b.m (texts b.names.items) b.rows.entries) × (b.voters ≡ voter_count b.rows.entries) };
 }
 
 impl<A: Allocator + Copy + Drop> ProfileBuilder<A> {
@@ -56,13 +60,43 @@ impl<A: Allocator + Copy + Drop> ProfileBuilder<A> {
     pub fn new(alloc: A, m: u8) -> Result<ProfileBuilder<A>, AllocError>
         requires some { 1 ≤ m }
         requires most { m ≤ 40 }
-        ensures { IfOk result (λ builder. builder ≡ election m []) }
+        ensures { IfOk result (λ builder. builder ≡ election m (replicate m []) []) }
     {
         Ok(ProfileBuilder {
             m,
+            names: no_names(alloc, m)?,
             voters: 0,
             rows: IndexMap::new(alloc),
         })
+    }
+
+    /// Gives a candidate a name, in place of the one before; an empty name is none. After a refusal, which is `Memory`,
+    /// the builder is as it was.
+    pub fn set_name(&mut self, n: u8, name: &[u8]) -> Result<(), AddFault>
+        requires low { 1 ≤ n }
+        requires high { n ≤ self.old.m }
+        ensures ok { OnOk result (self.new ≡ record self.old { names = slice_set self.old.names (n - 1) name.now }) }
+        ensures err { IfErr result (λ fault. (fault ≡ AddFault.Memory) × (self.new ≡ self.old)) }
+        ensures valid { IsElection self.new }
+    {
+        let alloc = *self.names.allocator();
+        let Ok(name) = Vec::from_slice(alloc, name) else {
+            return Err(AddFault::Memory);
+        };
+        self.names[usize::from(n) - 1] = name;
+        Ok(())
+    }
+
+    /// Leaves the candidates 1 to m alone. It takes no memory.
+    pub fn narrow(&mut self, m: u8)
+        requires some { 1 ≤ m }
+        requires most { m ≤ self.old.m }
+        requires no_ballot { self.old.rows ≡ [] }
+        ensures narrowed { self.new ≡ election m (take m self.old.names) [] }
+        ensures valid { IsElection self.new }
+    {
+        self.names.truncate(usize::from(m));
+        self.m = m;
     }
 
     /// Adds `count` voters who approve just these candidates. A ballot that is there keeps its place and takes no
@@ -97,9 +131,30 @@ impl<A: Allocator + Copy + Drop> ProfileBuilder<A> {
         if self.rows.is_empty() {
             return Err((FinishFault::NoVoters, self));
         }
-        let ProfileBuilder { m, voters, rows } = self;
-        Ok(Profile { m, voters, rows })
+        let ProfileBuilder {
+            m,
+            names,
+            voters,
+            rows,
+        } = self;
+        Ok(Profile {
+            m,
+            names,
+            voters,
+            rows,
+        })
     }
+}
+
+/// m empty names.
+fn no_names<A: Allocator + Copy + Drop>(alloc: A, m: u8) -> Result<Names<A>, AllocError>
+    ensures { IfOk result (λ names. texts names.items ≡ replicate m []) }
+{
+    let mut names = Vec::with_capacity(alloc, usize::from(m))?;
+    for _ in 0..m {
+        names.push(Vec::new(alloc))?;
+    }
+    Ok(names)
 }
 
 /// Adds votes to the ballot's row, by one look-up.
@@ -129,19 +184,20 @@ fn put<A: Allocator + Copy>(
 #[derive(Drop)]
 pub struct Profile<A: Allocator + Copy = Global> {
     m: u8,
+    names: Names<A>,
     voters: u64,
     rows: Rows<A>,
 }
 
 impl<A: Allocator + Copy> Model for Profile<A> {
     ghost use Rattle.std.specs.Prelude.{◌≡◌, ◌≢◌, []};
-    ghost use Rattle.ballot_base.specs.Ballots.{Election, IsElection, voter_count, election};
+    ghost use Rattle.ballot_base.specs.Ballots.{Election, IsElection, voter_count, election, texts};
 
     ghost Value = { Election };
 
-    ghost view = { λ b. election b.m b.rows.entries };
+    ghost view = { λ b. election b.m (texts b.names.items) b.rows.entries };
 
-    ghost invariant = { λ b. IsElection (election b.m b.rows.entries) × (b.voters ≡ voter_count b.rows.entries) × (b.rows.entries ≢ []) };
+    ghost invariant = { λ b. IsElection (election b.m (texts b.names.items) b.rows.entries) × (b.voters ≡ voter_count b.rows.entries) × (b.rows.entries ≢ []) };
 }
 
 impl<A: Allocator + Copy> Profile<A> {
@@ -151,6 +207,16 @@ impl<A: Allocator + Copy> Profile<A> {
         ensures valid { IsElection self.now }
     {
         self.m
+    }
+
+    /// The name of a candidate, where it has one: bytes that may be no text.
+    pub fn name(&self, n: u8) -> Option<&[u8]>
+        requires low { 1 ≤ n }
+        requires high { n ≤ self.now.m }
+        ensures { option_map (λ name. name.now) result ≡ name_of self.now n }
+    {
+        let name = &self.names[usize::from(n) - 1];
+        if name.is_empty() { None } else { Some(name) }
     }
 
     /// The number of different ballots, at least 1.

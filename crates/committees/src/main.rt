@@ -45,6 +45,7 @@ fn answer(rt: &HostRuntime, words: &[String]) -> ExitCode {
             let _ = rt.eprint(text);
             ExitCode::from(WORDS_REFUSED)
         }
+        Err(LineFault::TwoPicks) => end(rt, WORDS_REFUSED, "committees: words: TwoPicks"),
         Err(LineFault::Memory) => no_memory(rt),
     }
 }

@@ -16,17 +16,24 @@ use Rattle.vote_cli.specs.Status.{code_of}
 use Rattle.vote_cli.specs.Winners.{approval_value, best_value, is_unbeaten, winners}
 use Rattle.vote_cli.specs.Text.{line, numbers_text, following_text, rule_word, committees_text, head_text, elected_text}
 use Rattle.vote_cli.specs.Printing.{Prints, outlet}
-use Rattle.vote_cli.specs.Answer.{answered, refused, answer_of, Reads, IsAnswer, Reports, Ends, TellsOf, memory_line, read_failed_line, write_failed_line}
-use Rattle.vote_cli.specs.Refusals.{status_of, error_of, Prepares, TellsOfReads, TellsOfWrites, Answers}
-use Rattle.vote_cli.proofs.PlainExamples.{example_text, it_reads, no_reading}
-use Rattle.vote_cli.proofs.PlainFiles.{file_fails}
+use Rattle.vote_cli.specs.Answer.{answered, refused, answer_of, IsAnswer, Reports, Ends, TellsOf, memory_line, read_failed_line, write_failed_line}
+use Rattle.vote_cli.specs.Refusals.{IsRefusal, status_of, error_of, Prepares, TellsOfReads, TellsOfWrites, Answers}
+use Rattle.vote_cli.specs.FaultText.{fault_text, fault_word, place_text}
+use Rattle.preflib_text.specs.declared.fault.FaultName.TheVariants as name
+use Rattle.preflib_text.specs.declared.pick.Pick.{Pick}
+use Rattle.preflib_text.specs.declared.pick.Way.TheVariants.{Usual}
+use Rattle.preflib_text.specs.Lines.{pieces_of, without_return, trim_start}
+use Rattle.preflib_text.specs.Reading.{Reads, at_end, at_line}
+use Rattle.preflib_text.specs.BallotTokens.{ballot_of, order_at, tokens_after}
+use Rattle.preflib_text.specs.Metadata.{words_of}
+use Rattle.preflib_text.proofs.BallotLines.{ballot_of_reads}
 
 -- two voters approve 1 and 2, and one approves 3
 abbrev rows : List Row
 rows = (1 ∷ 2 ∷ [], 2) ∷ (3 ∷ [], 1) ∷ []
 
 abbrev three : Election
-three = election 3 rows
+three = election 3 ([] ∷ [] ∷ [] ∷ []) rows
 
 -- ---- winners
 scores : (approval_value rows (1 ∷ []) ≡ 2) × (approval_value rows (3 ∷ []) ≡ 1) × (approval_value rows (1 ∷ 2 ∷ []) ≡ 4) × (approval_value rows (2 ∷ 3 ∷ []) ≡ 3)
@@ -92,17 +99,20 @@ unfolding digits lists_of
 elected_pair = refl
 
 -- ---- answers
-abbrev seats : ℕ → Asked
-seats size = record { rule = Av; size = size; file = None }
+abbrev usual : Pick
+usual = record { kind = None; ending = None; way = Usual }
 
-answer_to_one : answer_of (seats 1) (Some three) ≡ record { text = text; status = Answered; error = [] }
+abbrev seats : ℕ → Asked
+seats size = record { rule = Av; size = size; pick = usual; file = None }
+
+answer_to_one : answer_of (seats 1) (Ok three) ≡ record { text = text; status = Answered; error = [] }
 unfolding digits lists_of
 answer_to_one = refl
 
-answer_to_four : answer_of (seats 4) (Some three) ≡ record { text = []; status = RequestRefused; error = line (codes "committees: request: SizeTooLarge") }
+answer_to_four : answer_of (seats 4) (Ok three) ≡ record { text = []; status = RequestRefused; error = line (codes "committees: request: SizeTooLarge") }
 answer_to_four = refl
 
-answer_to_no_election : answer_of (seats 1) None ≡ record { text = []; status = InputRefused; error = line (codes "committees: input: NotYet") }
+answer_to_no_election : answer_of (seats 1) (Err (at_end name.NoAlternatives)) ≡ record { text = []; status = InputRefused; error = line (codes "committees: input: NoAlternatives") }
 answer_to_no_election = refl
 
 no_refusal : answered (codes "a") ≡ record { text = codes "a"; status = Answered; error = [] }
@@ -111,15 +121,29 @@ no_refusal = refl
 a_refusal : refused InputRefused (codes "a") ≡ record { text = []; status = InputRefused; error = line (codes "a") }
 a_refusal = refl
 
+-- what is said of a fault of a line, and of one of the end
+fault_texts : (fault_text (at_line 20 name.BadBallot) ≡ codes "committees: input line 20: BadBallot") × (fault_text (at_end name.NoVoters) ≡ codes "committees: input: NoVoters")
+unfolding digits
+fault_texts = (refl, refl)
+
+fault_parts : (place_text (Some 7) ≡ codes " line 7: ") × (place_text None ≡ codes ": ") × (fault_word name.PickMisfit ≡ codes "PickMisfit")
+unfolding digits
+fault_parts = (refl, refl, refl)
+
 -- the bytes of a file, and no bytes
-pub reads_three : Reads example_text (Some three)
-reads_three = it_reads
+abbrev example_text : List ℕ
+example_text = line (codes "# DATA TYPE: cat") ++ line (codes "# NUMBER ALTERNATIVES: 3") ++ line (codes "# NUMBER CATEGORIES: 2") ++ line (codes "2: {1,2},3") ++ line (codes "1: 3,{1,2}")
 
-pub reads_nothing : Reads [] None
-reads_nothing = file_fails [] no_reading.0
+pub reads_three : Reads example_text usual (Ok three)
+unfolding pieces_of without_return trim_start words_of tokens_after order_at
+reads_three = (ballot_of, ballot_of_reads, refl)
 
-right_answer : IsAnswer (seats 4) example_text (answer_of (seats 4) (Some three))
-right_answer = (Some three, reads_three, refl)
+pub reads_nothing : Reads [] usual (Err (at_end name.NoAlternatives))
+unfolding pieces_of
+reads_nothing = (ballot_of, ballot_of_reads, refl)
+
+right_answer : IsAnswer (seats 4) example_text (answer_of (seats 4) (Ok three))
+right_answer = (Ok three, reads_three, refl)
 
 lines : (memory_line ≡ codes "committees: memory" ++ 10 ∷ []) × (read_failed_line ≡ codes "committees: read failed" ++ 10 ∷ [])
     × (write_failed_line ≡ codes "committees: write failed" ++ 10 ∷ [])
@@ -156,24 +180,27 @@ printed_in_part = record { sent = 1 ∷ []; rest = 2 ∷ 3 ∷ []; order = refl;
 status_codes : (code_of Answered ≡ 0) × (code_of Violated ≡ 1) × (code_of InputRefused ≡ 3) × (code_of RequestRefused ≡ 4) × (code_of NoMemory ≡ 5) × (code_of DeviceFailed ≡ 6)
 status_codes = (refl, refl, refl, refl, refl, refl)
 
-refusals : (status_of refusal.NotYet ≡ InputRefused) × (status_of refusal.WriteFailed ≡ DeviceFailed) × (error_of refusal.NotYet ≡ (answer_of (seats 1) None).error)
+refusals : (status_of (refusal.Input (at_end name.NoAlternatives)) ≡ InputRefused) × (status_of refusal.WriteFailed ≡ DeviceFailed) × (error_of (refusal.Input (at_end name.NoAlternatives)) ≡ (answer_of (seats 1) (Err (at_end name.NoAlternatives))).error)
 refusals = (refl, refl, refl)
+
+refusals_of_faults : (IsRefusal (at_line 4 name.BadCount) (refusal.Input (at_line 4 name.BadCount))) × (IsRefusal (at_line 4 name.Memory) refusal.Memory)
+refusals_of_faults = ((refl, λ same. let h : name.BadCount ≡ name.Memory = same in cc), refl)
 
 -- ---- what a run leaves
 right_of_one : IsAnswer (seats 1) example_text (answered text)
 unfolding digits lists_of
-right_of_one = (Some three, reads_three, refl)
+right_of_one = (Ok three, reads_three, refl)
 
 ends_answered : Ends (seats 1) example_text (Some []) (Some text) (Some []) (Some []) false Answered
 ends_answered = record { answer = answered text; right = right_of_one; status_is = refl; text = refl; error = record { beginning = ([], [], refl, refl); whole = λ unfailed. refl } }
 
-ends_refused : Ends (seats 1) [] (Some []) (Some []) (Some []) (Some (line (codes "committees: input: NotYet"))) false InputRefused
+ends_refused : Ends (seats 1) [] (Some []) (Some []) (Some []) (Some (line (codes "committees: input: NoAlternatives"))) false InputRefused
 ends_refused = record {
-  answer = answer_of (seats 1) None;
-  right = (None, reads_nothing, refl);
+  answer = answer_of (seats 1) (Err (at_end name.NoAlternatives));
+  right = (Err (at_end name.NoAlternatives), reads_nothing, refl);
   status_is = refl;
   text = refl;
-  error = record { beginning = (line (codes "committees: input: NotYet"), [], refl, refl); whole = λ unfailed. refl };
+  error = record { beginning = (line (codes "committees: input: NoAlternatives"), [], refl, refl); whole = λ unfailed. refl };
 }
 
 ends_without_memory : Ends (seats 1) [] (Some []) (Some []) (Some []) (Some memory_line) false NoMemory
@@ -198,7 +225,7 @@ devices_told = (refl, (refl, refl))
 refusals_told : (TellsOfReads {T = ℕ} false true (Err refusal.ReadFailed)) × (TellsOfReads {T = ℕ} false false (Err refusal.Memory)) × (TellsOfWrites {T = ℕ} false true (Err refusal.WriteFailed)) × (TellsOfWrites {T = ℕ} false false (Ok 1))
 refusals_told = (refl, refl, refl, refl)
 
-prepared : (Prepares (seats 1) example_text (Ok three)) × (Prepares (seats 4) example_text (Err refusal.SizeTooLarge)) × (Prepares (seats 1) [] (Err refusal.NotYet)) × (Prepares (seats 1) [] (Err refusal.Memory))
+prepared : (Prepares (seats 1) example_text (Ok three)) × (Prepares (seats 4) example_text (Err refusal.SizeTooLarge)) × (Prepares (seats 1) [] (Err (refusal.Input (at_end name.NoAlternatives)))) × (Prepares (seats 1) [] (Err refusal.Memory))
 prepared = (reads_three, (three, reads_three, lit≤ tt), reads_nothing, tt)
 
 answers_four : Answers (seats 4) example_text (Some []) (Some []) (Err refusal.SizeTooLarge)

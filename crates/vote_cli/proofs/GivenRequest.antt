@@ -1,18 +1,21 @@
 -- Where clap takes the words of the program, they name `elect`, with its rule and its size.
-use Rattle.std.proofs.Common.{◌≡◌, ◌∙◌, ◌<◌, Bool, List, [], ◌∷◌, not, inl, inr, refl, sym, ap, codes, true, false, true≢false, arith}
+use Rattle.std.proofs.Common.{◌≡◌, ◌⊎◌, subst, ◌∙◌, ◌<◌, Bool, List, [], ◌∷◌, not, inl, inr, refl, sym, ap, codes, true, false, true≢false, arith}
 use Rattle.std.specs.Prelude.{Option, Some, None, if◌then◌else◌, is_some, option_map, pos}
 use Rattle.std.specs.Str.{bytes_eq}
 use Rattle.std.specs.Option.{option_map_or}
 use Rattle.std.proofs.lemmas.Slice.Eq.{bytes_eq-Decides}
 use Rattle.clap.specs.Words.{Row, Rule, Shape, Text, fault_of, subcommand_of, takes}
-use Rattle.clap.specs.Walk.{answers_to, finished, is_empty, nothing_held, rows_after, stop_after, walk, walk_from}
+use Rattle.clap.specs.Walk.{answers_to, finished, one_of, reading_by, is_empty, nothing_held, rows_after, stop_after, walk, walk_from}
 use Rattle.clap.specs.Simple.{argument_words, built, entered, label_of, names_of, new_shape, rows_at, new_rule}
-use Rattle.clap.specs.Takes.{entered_passes, is_given, is_valid, level_passes, settle_passes, walk_passes}
+use Rattle.clap.specs.Values.{read_as, reading_of}
+use Rattle.clap.specs.ValueTests.{accepts}
+use Rattle.clap.specs.Facts.{parser_of_value}
+use Rattle.clap.specs.Takes.{value_passes, entered_passes, is_given, is_valid, level_passes, settle_passes, walk_passes}
 use Rattle.clap.specs.declared.builder.value_parser.ValueParser.TheVariants as parser
 use Rattle.clap.proofs.ValueTestLemmas.{accepts-Accepts}
 use Rattle.clap.proofs.WalkLemmas.{both}
-use Rattle.vote_cli.specs.Words.{HasValues, program}
-use Rattle.vote_cli.proofs.GivenValues.{Good, given_value, level_fit, or_false, walk_stops}
+use Rattle.vote_cli.specs.Words.{HasValues, IsCount, program}
+use Rattle.vote_cli.proofs.GivenValues.{Good, any_value, given_value, level_fit, or_false, walk_stops}
 use Rattle.vote_cli.proofs.Refusals.{taken_none}
 
 -- clap takes the program's words exactly where it has no refusal
@@ -49,13 +52,32 @@ rule = first_rule elect.rules
 abbrev size : Rule
 size = first_rule (rest_of elect.rules)
 
+abbrev category : Rule
+category = first_rule (rest_of (rest_of (rest_of elect.rules)))
+
+abbrev set_size : Rule
+set_size = first_rule (rest_of (rest_of (rest_of (rest_of elect.rules))))
+
+abbrev classes : Rule
+classes = first_rule (rest_of (rest_of (rest_of (rest_of (rest_of elect.rules)))))
+
+-- an option for a number has none, or one from 1 to 1,000,000
+count_is : (a : Rule) (rows : List Row) → a.parser ≡ Some (parser.Signed (pos 1) (pos 1000000))
+    → (one_of a.id rows ≡ None) ⊎ ((v : Text) × (value_passes a v ≡ true) × (one_of a.id rows ≡ Some (read_as (reading_by a) v)))
+    → IsCount (one_of a.id rows)
+count_is a rows is (inl none) = subst IsCount (sym none) tt
+count_is a rows is (inr (v, pass, one)) =
+    subst IsCount (sym (one ∙ ap (λ p. Some (read_as (reading_of (parser_of_value p)) v)) is))
+    (v, refl, accepts-Accepts a.ignore_case (parser.Signed (pos 1) (pos 1000000)) v (subst (λ p. accepts a.ignore_case (parser_of_value p) v ≡ true) is pass))
+
 elect_values : (words : List Text) → level_passes elect [] nothing_held words false ≡ true → HasValues (rows_after elect.rules [] words)
 elect_values words pass =
     let end = (walk elect.rules [] nothing_held words).held in
     let rows = finished elect.rules end in
     let one : 0 < 1 = omega arith in
     let good : Good elect.rules rows = level_fit elect [] words false
-    ((refl, inl (refl, one)), ((refl, inl (refl, one)), ((refl, inl (refl, one)), ((refl, inr refl), tt)))) (refl, (refl, (refl, (refl, tt)))) pass in
+    ((refl, inl (refl, one)), ((refl, inl (refl, one)), ((refl, inl (refl, one)), ((refl, inl (refl, one)), ((refl, inl (refl, one)), ((refl, inl (refl, one)), ((refl, inl (refl, one)), ((refl, inr refl), tt))))))))
+    (refl, (refl, (refl, (refl, (refl, (refl, (refl, (refl, tt)))))))) pass in
     let walks = both (walk_passes elect [] (walk_from nothing_held) words) _ pass in
     let settles = both (settle_passes elect.rules elect.args_override_self end) _ walks.1 in
     let valid : is_valid elect rows false ≡ true = (both true _ settles.1).1 in
@@ -69,6 +91,9 @@ elect_values words pass =
       size_text = digits.0;
       size = digits.3;
       in_range = accepts-Accepts false (parser.Signed (pos 1) (pos 40)) digits.0 digits.1;
+      category = count_is category rows refl (any_value elect.rules category rows good refl);
+      set_size = count_is set_size rows refl (any_value elect.rules set_size rows good refl);
+      classes = count_is classes rows refl (any_value elect.rules classes rows good refl);
     }
 
 named : (name : Text) → (answers_to name (codes "help", [])) ≡ true → not (bytes_eq name (codes "help")) ≡ true → false ≡ true

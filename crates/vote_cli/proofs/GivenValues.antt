@@ -337,6 +337,28 @@ given_value c a rows good own given = go (find (λ r. bytes_eq r.id a.id) rows) 
         let got = read r r.values refl (there.0 a (ap (arg_by_id c) id ∙ own)) in
         (got.0, got.1, ap (option_and_then (λ (x : Row). slice_get x.values 0)) e ∙ got.2, ap (option_and_then row_text) e ∙ got.3)
 
+-- an argument has no value, or one that passed
+pub any_value : (c : List Rule) (a : Rule) (rows : List Row) → Good c rows → arg_by_id c a.id ≡ Some a
+    → (one_of a.id rows ≡ None) ⊎ ((v : Text) × (value_passes a v ≡ true) × (one_of a.id rows ≡ Some (read_as (reading_by a) v)))
+any_value c a rows good own = go (find (λ r. bytes_eq r.id a.id) rows) refl
+  where
+    read : (r : Row) (values : List Text) → r.values ≡ values → FitsBy a r → (v : Text) × (value_passes a v ≡ true) × (row_text r ≡ Some (read_as (reading_by a) v))
+    read r [] is fits =
+        let some : 0 < length {A = Text} [] = subst (λ vs. 0 < length vs) is fits.0 in
+        absurd (omega arith)
+    read r (v ∷ vs) is fits =
+        let passes = both (value_passes a v) (values_pass a vs) (subst (λ xs. values_pass a xs ≡ true) is fits.1) in
+        (v, passes.0, rw (is, fits.2) refl)
+
+    go : (o : Option Row) → find (λ r. bytes_eq r.id a.id) rows ≡ o
+        → (one_of a.id rows ≡ None) ⊎ ((v : Text) × (value_passes a v ≡ true) × (one_of a.id rows ≡ Some (read_as (reading_by a) v)))
+    go None e = inl (ap (option_and_then row_text) e)
+    go (Some r) e =
+        let there = each_found (Fits c) (λ (x : Row). bytes_eq x.id a.id) rows good r e in
+        let id : r.id ≡ a.id = (bytes_eq-Decides r.id a.id).0 there.1 in
+        let got = read r r.values refl (there.0 a (ap (arg_by_id c) id ∙ own)) in
+        inr (got.0, got.1, ap (option_and_then row_text) e ∙ got.2)
+
 -- ---- the subcommand at which a walk stops
 
 abbrev is_no_help : Step → Bool

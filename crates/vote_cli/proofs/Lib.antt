@@ -6,13 +6,6 @@ pub mod GivenValues
 pub mod InputLemmas
 pub mod Places
 pub mod PlacesOfFaults
-pub mod PlainBallots
-pub mod PlainExamples
-pub mod PlainFiles
-pub mod PlainLoops
-pub mod PlainNumbers
-pub mod PlainOrders
-pub mod PlainSets
 pub mod PrintingLemmas
 pub mod ProgramPlaces
 pub mod Refusals

@@ -8,7 +8,7 @@ use Rattle.clap.specs.Walk.{Held, Walk, answers_to, nothing_held, stop_after, te
 use Rattle.clap.specs.Simple.{argument_words, built, entered, label_of, names_of, rows_at}
 use Rattle.clap.specs.Faults.{built_fault, entered_fault, level_fault}
 use Rattle.clap.proofs.WalkLemmas.{find-map}
-use Rattle.vote_cli.specs.Words.{program, program_over, rule_names, shown}
+use Rattle.vote_cli.specs.Words.{kind_names, program, program_over, rule_names, shown}
 use Rattle.vote_cli.proofs.Places.{placed, rows_after_placed, walk_placed}
 use Rattle.vote_cli.proofs.PlacesOfFaults.{at_place, level_placed}
 
@@ -68,16 +68,20 @@ same_shown : (names : List (Bor Text)) → map (λ x. shown x.now) names ≡ map
 same_shown [] = refl
 same_shown (x ∷ names) = ap (λ rest. shown x.now ∷ rest) (same_shown names)
 
-program_at : (names : Bor (List (Bor Text))) → texts names.now ≡ rule_names → app_at (built (program_over names)) ≡ built program
-program_at names is = ap (λ (l : List (Bor Text)). built (program_over (shown l))) (same_shown names.now ∙ ap (map shown) is)
+shown_is : (names : Bor (List (Bor Text))) (values : List Text) → texts names.now ≡ values → shown (map (λ x. shown x.now) names.now) ≡ shown (map shown values)
+shown_is names values is = ap shown (same_shown names.now ∙ ap (map shown) is)
 
-pub program_fault : (names : Bor (List (Bor Text))) → texts names.now ≡ rule_names → (words : List Text) → fault_of (program_over names) words ≡ fault_of program words
-program_fault names is words =
-    let after = argument_words program words in
-    sym (same_fault (built (program_over names)) nothing_held after) ∙ ap (λ a. built_fault a nothing_held after) (program_at names is)
+module _ (rules kinds : Bor (List (Bor Text))) (rules_are : texts rules.now ≡ rule_names) (kinds_are : texts kinds.now ≡ kind_names) where
+  program_at : app_at (built (program_over rules kinds)) ≡ built program
+  program_at = λ i. built (program_over (shown_is rules rule_names rules_are i) (shown_is kinds kind_names kinds_are i))
 
-pub program_sub : (names : Bor (List (Bor Text))) → texts names.now ≡ rule_names → (words : List Text) → subcommand_of (program_over names) words ≡ subcommand_of program words
-program_sub names is words =
-    let after = argument_words program words in
-    sym (same_sub (built (program_over names)) after)
-    ∙ ap (λ (a : App). entered a (stop_after a.top.rules (names_of a) after)) (program_at names is)
+  pub program_fault : (words : List Text) → fault_of (program_over rules kinds) words ≡ fault_of program words
+  program_fault words =
+      let after = argument_words program words in
+      sym (same_fault (built (program_over rules kinds)) nothing_held after) ∙ ap (λ a. built_fault a nothing_held after) program_at
+
+  pub program_sub : (words : List Text) → subcommand_of (program_over rules kinds) words ≡ subcommand_of program words
+  program_sub words =
+      let after = argument_words program words in
+      sym (same_sub (built (program_over rules kinds)) after)
+      ∙ ap (λ (a : App). entered a (stop_after a.top.rules (names_of a) after)) program_at

@@ -6,27 +6,21 @@ use Rattle.ballot_base.specs.Ballots.{Election}
 use Rattle.vote_cli.specs.declared.status.Status.{Status}
 use Rattle.vote_cli.specs.declared.status.Status.TheVariants as status
 use Rattle.vote_cli.specs.declared.whole_run.Refusal.{Refusal}
-use Rattle.vote_cli.specs.declared.whole_run.Refusal.TheVariants.{NotYet, SizeTooLarge, Memory, ReadFailed, WriteFailed}
+use Rattle.vote_cli.specs.declared.whole_run.Refusal.TheVariants.{Input, SizeTooLarge, Memory, ReadFailed, WriteFailed}
 use Rattle.vote_cli.specs.Request.{Asked}
-use Rattle.vote_cli.specs.PlainFile.{ReadsPlain}
+use Rattle.vote_cli.specs.FaultText.{fault_text}
 use Rattle.vote_cli.specs.Text.{elected_text}
-use Rattle.vote_cli.specs.Answer.{Reads, Reports, Ends, answered, refused, answer_of}
+use Rattle.vote_cli.specs.Answer.{Reports, Ends, answered, refused, answer_of}
 use Rattle.vote_cli.specs.Refusals.{Answers, error_of, status_of}
 use Rattle.std.proofs.Common.{inl, inr}
 
--- bytes that were read and refused are bytes to refuse
-pub refused_input : (known : Option (List ℕ)) (asked : Asked) (read : List ℕ) → IfSome known (λ bytes. read ≡ bytes)
-    → ((e : Election) → ReadsPlain read e → ⊥) → IfSome known (λ bytes. Reads bytes None)
-refused_input None asked read same nothing = tt
-refused_input (Some bytes) asked read same nothing = λ e reads. nothing e (subst (λ b. ReadsPlain b e) (sym same) reads)
-
 -- the answer about an election that is large enough, and about one that is not
-answer-fits : (asked : Asked) (e : Election) → asked.size ≤ e.m → answered (elected_text asked.rule asked.size e) ≡ answer_of asked (Some e)
+answer-fits : (asked : Asked) (e : Election) → asked.size ≤ e.m → answered (elected_text asked.rule asked.size e) ≡ answer_of asked (Ok e)
 answer-fits asked e fits =
     let small : nat_lt e.m asked.size ≡ false = grind arith in
     ap (λ b. if b then refused status.RequestRefused (codes "committees: request: SizeTooLarge") else answered (elected_text asked.rule asked.size e)) (sym small)
 
-answer-large : (asked : Asked) (e : Election) → e.m < asked.size → refused status.RequestRefused (codes "committees: request: SizeTooLarge") ≡ answer_of asked (Some e)
+answer-large : (asked : Asked) (e : Election) → e.m < asked.size → refused status.RequestRefused (codes "committees: request: SizeTooLarge") ≡ answer_of asked (Ok e)
 answer-large asked e large =
     let big : nat_lt e.m asked.size ≡ true = grind arith in
     ap (λ b. if b then refused status.RequestRefused (codes "committees: request: SizeTooLarge") else answered (elected_text asked.rule asked.size e)) (sym big)
@@ -41,7 +35,7 @@ pub ends_answered : (known : Option (List ℕ)) (asked : Asked) (old new err : O
 ends_answered None asked old new err err_failed done h = tt
 ends_answered (Some bytes) asked old new err err_failed done h = record {
   answer = answered (elected_text asked.rule asked.size h.0);
-  right = (Some h.0, h.1, answer-fits asked h.0 h.2);
+  right = (Ok h.0, h.1, answer-fits asked h.0 h.2);
   status_is = refl;
   text = h.3;
   error = Reports-nothing err err_failed;
@@ -51,16 +45,16 @@ ends_answered (Some bytes) asked old new err err_failed done h = record {
 pub ends_refused : (known : Option (List ℕ)) (asked : Asked) (old new err err' : Option (List ℕ)) (err_failed : Bool) (refusal : Refusal) → IfSome known (λ bytes. Answers asked bytes old new (Err refusal))
     → Reports err err' err_failed (error_of refusal) → IfSome known (λ bytes. Ends asked bytes old new err err' err_failed (status_of refusal))
 ends_refused None asked old new err err' err_failed refusal h error = tt
-ends_refused (Some bytes) asked old new err err' err_failed NotYet h error = record {
-  answer = refused status.InputRefused (codes "committees: input: NotYet");
-  right = (None, h.0, refl);
+ends_refused (Some bytes) asked old new err err' err_failed (Input fault) h error = record {
+  answer = refused status.InputRefused (fault_text fault);
+  right = (Err fault, h.0, refl);
   status_is = refl;
   text = h.1;
   error = error;
 }
 ends_refused (Some bytes) asked old new err err' err_failed SizeTooLarge h error = record {
   answer = refused status.RequestRefused (codes "committees: request: SizeTooLarge");
-  right = (Some h.0, h.1, answer-large asked h.0 h.2);
+  right = (Ok h.0, h.1, answer-large asked h.0 h.2);
   status_is = refl;
   text = h.3;
   error = error;
@@ -69,7 +63,7 @@ ends_refused (Some bytes) asked old new err err' err_failed Memory h error = rec
 ends_refused (Some bytes) asked old new err err' err_failed ReadFailed h error = inl (record { nothing = h; error = error })
 ends_refused (Some bytes) asked old new err err' err_failed WriteFailed h error = inr (record {
   answer = answered (elected_text asked.rule asked.size h.0);
-  right = (Some h.0, h.1, answer-fits asked h.0 h.2);
+  right = (Ok h.0, h.1, answer-fits asked h.0 h.2);
   text = h.3;
   error = error;
 })

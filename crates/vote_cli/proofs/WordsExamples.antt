@@ -6,21 +6,30 @@ use Rattle.clap.proofs.OnLiterals.{clap_on_literals}
 use Rattle.clap.specs.declared.error.kind.ErrorKind.TheVariants as kind
 use Rattle.vote_cli.specs.declared.request.Rule.TheVariants.{Av}
 use Rattle.vote_cli.specs.Request.{Asked}
-use Rattle.vote_cli.specs.Words.{program, request_of}
+use Rattle.preflib_text.specs.declared.pick.Kind.{Kind}
+use Rattle.preflib_text.specs.declared.pick.Kind.TheVariants.{Cat, Soc, Soi, Toc, Toi}
+use Rattle.preflib_text.specs.declared.pick.Way.{Way}
+use Rattle.preflib_text.specs.declared.pick.Way.TheVariants.{Usual, Category, SetSize, Classes}
+use Rattle.vote_cli.specs.Endings.{behind_last, kind_in_path}
+use Rattle.vote_cli.specs.Words.{HasTwoPicks, program, request_of, way_by}
 
 -- `committees elect` and these words
 abbrev elect_words : List Text → List Text
 elect_words rest = codes "committees" ∷ codes "elect" ∷ rest
 
+-- approval voting, for a file of this type and this ending, in this way
+abbrev asked : ℕ → Option Kind → Option Kind → Way → Option Text → Option Asked
+asked size kind ending way file = Some (record { rule = Av; size = size; pick = record { kind = kind; ending = ending; way = way }; file = file })
+
 abbrev av : ℕ → Option Text → Option Asked
-av size file = Some (record { rule = Av; size = size; file = file })
+av size file = asked size None None Usual file
 
 standard_input : request_of (elect_words (codes "--rule" ∷ codes "av" ∷ codes "--size" ∷ codes "1" ∷ [])) ≡ av 1 None
 unfolding clap_on_literals
 standard_input = refl
 
-file_named : request_of (elect_words (codes "--size" ∷ codes "40" ∷ codes "a.cat" ∷ codes "--rule=av" ∷ [])) ≡ av 40 (Some (codes "a.cat"))
-unfolding clap_on_literals
+file_named : request_of (elect_words (codes "--size" ∷ codes "40" ∷ codes "a.cat" ∷ codes "--rule=av" ∷ [])) ≡ asked 40 None (Some Cat) Usual (Some (codes "a.cat"))
+unfolding clap_on_literals behind_last
 file_named = refl
 
 leading_zero : request_of (elect_words (codes "--rule" ∷ codes "av" ∷ codes "--size=07" ∷ [])) ≡ av 7 None
@@ -28,7 +37,7 @@ unfolding clap_on_literals
 leading_zero = refl
 
 empty_file : request_of (elect_words (codes "--rule" ∷ codes "av" ∷ codes "--size" ∷ codes "2" ∷ [] ∷ [])) ≡ av 2 (Some [])
-unfolding clap_on_literals
+unfolding clap_on_literals behind_last
 empty_file = refl
 
 too_large : request_of (elect_words (codes "--rule" ∷ codes "av" ∷ codes "--size" ∷ codes "41" ∷ [])) ≡ None
@@ -70,3 +79,58 @@ no_words = refl
 help_asked : fault_of program (elect_words (codes "--help" ∷ [])) ≡ kind.DisplayHelp ∷ []
 unfolding clap_on_literals
 help_asked = refl
+
+-- ---- how the file is read
+
+-- approval voting for one seat, with these words more
+abbrev one_seat : List Text → List Text
+one_seat rest = elect_words (codes "--rule" ∷ codes "av" ∷ codes "--size" ∷ codes "1" ∷ rest)
+
+kind_named : request_of (one_seat (codes "--kind" ∷ codes "soi" ∷ codes "a.toc" ∷ [])) ≡ asked 1 (Some Soi) (Some Toc) Usual (Some (codes "a.toc"))
+unfolding clap_on_literals behind_last
+kind_named = refl
+
+kind_in_capitals : fault_of program (one_seat (codes "--kind" ∷ codes "SOI" ∷ [])) ≡ kind.InvalidValue ∷ []
+unfolding clap_on_literals
+kind_in_capitals = refl
+
+second_category : request_of (one_seat (codes "--category" ∷ codes "2" ∷ [])) ≡ asked 1 None None (Category 2) None
+unfolding clap_on_literals
+second_category = refl
+
+largest_size : request_of (one_seat (codes "--setsize=1000000" ∷ [])) ≡ asked 1 None None (SetSize 1000000) None
+unfolding clap_on_literals
+largest_size = refl
+
+three_classes : request_of (one_seat (codes "--classes" ∷ codes "03" ∷ [])) ≡ asked 1 None None (Classes 3) None
+unfolding clap_on_literals
+three_classes = refl
+
+no_class : fault_of program (one_seat (codes "--classes" ∷ codes "0" ∷ [])) ≡ kind.ValueValidation ∷ []
+unfolding clap_on_literals
+no_class = refl
+
+too_many_classes : fault_of program (one_seat (codes "--classes" ∷ codes "1000001" ∷ [])) ≡ kind.ValueValidation ∷ []
+unfolding clap_on_literals
+too_many_classes = refl
+
+two_ways : HasTwoPicks (one_seat (codes "--classes" ∷ codes "1" ∷ codes "--setsize" ∷ codes "1" ∷ []))
+unfolding clap_on_literals
+two_ways = (refl, refl)
+
+no_request_of_two_ways : request_of (one_seat (codes "--category" ∷ codes "1" ∷ codes "--setsize" ∷ codes "1" ∷ [])) ≡ None
+unfolding clap_on_literals
+no_request_of_two_ways = refl
+
+ways : (way_by None None None ≡ Some Usual) × (way_by (Some 2) None None ≡ Some (Category 2)) × (way_by None (Some 2) (Some 2) ≡ None)
+ways = (refl, refl, refl)
+
+-- the ending of a path
+behind_the_last : behind_last 46 (codes "a.b.c") ≡ Some (codes "c")
+unfolding behind_last
+behind_the_last = refl
+
+endings : (kind_in_path (codes "a/b.SOC") ≡ Some Soc) × (kind_in_path (codes "a.soc/b") ≡ None) × (kind_in_path (codes ".toi") ≡ Some Toi)
+    × (kind_in_path (codes "a.soc.txt") ≡ None) × (kind_in_path [] ≡ None)
+unfolding behind_last
+endings = (refl, refl, refl, refl, refl)

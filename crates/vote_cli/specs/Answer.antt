@@ -1,13 +1,15 @@
 -- The answer to a request and an input, and what a run leaves.
-use Rattle.std.specs.Prelude.{◌≡◌, ◌⊎◌, ◌||◌, ℕ, Bool, true, false, List, [], Option, None, Some, codes, nat_lt, if◌then◌else◌}
+use Rattle.std.specs.Prelude.{◌≡◌, ◌⊎◌, ◌||◌, ℕ, Bool, true, false, List, [], Option, Result, Ok, Err, codes, nat_lt, if◌then◌else◌}
 use Rattle.std.specs.Io.KnownBytes.{Appends}
 use Rattle.ballot_base.specs.Ballots.{Election}
 use Rattle.vote_cli.specs.declared.status.Status.{Status}
 use Rattle.vote_cli.specs.declared.status.Status.TheVariants.{Answered, InputRefused, RequestRefused, NoMemory, DeviceFailed}
 use Rattle.vote_cli.specs.Request.{Asked}
 use Rattle.vote_cli.specs.Device.{AppendsBeginning}
-use Rattle.vote_cli.specs.PlainFile.{ReadsPlain}
+use Rattle.preflib_text.specs.declared.fault.ReadFault.{ReadFault}
+use Rattle.preflib_text.specs.Reading.{Reads}
 use Rattle.vote_cli.specs.Text.{line, elected_text}
+use Rattle.vote_cli.specs.FaultText.{fault_text}
 
 -- the text, the status, and the error line with its end, or nothing where there is none
 pub record Answer : Type 0 where
@@ -23,21 +25,16 @@ answered text = record { text = text; status = Answered; error = [] }
 abbrev pub refused : Status → List ℕ → Answer
 refused status error = record { text = []; status = status; error = line error }
 
--- the answer to a request about what was read: an election, or nothing where the input is refused
-abbrev pub answer_of : Asked → Option Election → Answer
-answer_of asked None = refused InputRefused (codes "committees: input: NotYet")
-answer_of asked (Some election) = if nat_lt election.m asked.size
+-- the answer to a request about what was read: an election, or the first fault of the input
+abbrev pub answer_of : Asked → Result Election ReadFault → Answer
+answer_of asked (Err fault) = refused InputRefused (fault_text fault)
+answer_of asked (Ok election) = if nat_lt election.m asked.size
     then refused RequestRefused (codes "committees: request: SizeTooLarge")
     else answered (elected_text asked.rule asked.size election)
 
--- what is read of the bytes: the election that they spell, or nothing where they spell none
-abbrev pub Reads : List ℕ → Option Election → Type 0
-Reads bytes (Some election) = ReadsPlain bytes election
-Reads bytes None = (election : Election) → ReadsPlain bytes election → ⊥
-
 -- the answer to a request and the bytes of an input
 abbrev pub IsAnswer : Asked → List ℕ → Answer → Type 0
-IsAnswer asked bytes answer = (read : Option Election) × Reads bytes read × (answer ≡ answer_of asked read)
+IsAnswer asked bytes answer = (read : Result Election ReadFault) × Reads bytes asked.pick read × (answer ≡ answer_of asked read)
 
 -- ---- what a run leaves
 

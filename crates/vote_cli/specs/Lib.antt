@@ -1,8 +1,8 @@
 pub mod Answer
 pub mod Device
+pub mod Endings
+pub mod FaultText
 pub mod Input
-pub mod PlainFile
-pub mod PlainParse
 pub mod Printing
 pub mod Refusals
 pub mod Request

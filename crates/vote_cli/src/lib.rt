@@ -4,8 +4,9 @@
 mod approval;
 pub mod device;
 mod elected;
+mod ending;
+mod fault_text;
 mod input;
-mod plain_reader;
 mod printing;
 pub mod request;
 pub mod status;

@@ -134,3 +134,12 @@ pub(crate) fn print_all<W: Sink>(
     }
     Ok(())
 }
+
+/// Writes the pieces, one behind the other, and takes no memory for them.
+pub(crate) fn write_pieces<W: Sink>(out: &mut W, pieces: &[&[u8]]) -> Result<(), WriteFailed>
+    ensures { Prints (outlet (W.contents out.old) [] (W.has_failed out.old)) (outlet (W.contents out.new) [] (W.has_failed out.new)) (is_ok result) (flat_map (λ piece. piece.now) pieces.now) }
+{
+    let mut waiting = Waiting::new();
+    print_all(out, &mut waiting, pieces)?;
+    waiting.send(out)
+}

@@ -1,6 +1,8 @@
 //! What the words of a command line ask for.
 ghost use Rattle.std.specs.Prelude.{◌≡◌, ◌≤◌, option_map, string_bytes};
+ghost use Rattle.preflib_text.specs.BallotMarks.{HasNumber};
 
+use preflib_text::Pick;
 use std::marker::Model;
 
 /// The rule by which committees win.
@@ -11,17 +13,19 @@ pub enum Rule {
     Av,
 }
 
-/// A request: the rule, the number of seats from 1 to 40, and the file to read, where one is
-/// named. Each one comes from `read_request`.
+/// A request: the rule, the number of seats from 1 to 40, how the file is read, and the file to
+/// read, where one is named. Each one comes from `read_request`.
 #[derive(Debug, Drop)]
 pub struct Request {
     rule: Rule,
     size: u8,
+    pick: Pick,
     file: Option<String>,
 }
 
 impl Model for Request {
     ghost use Rattle.std.specs.Prelude.{◌≤◌, option_map, string_bytes};
+    ghost use Rattle.preflib_text.specs.BallotMarks.{HasNumber};
     ghost use Rattle.vote_cli.specs.Request.{Asked};
 
     ghost Value = { Asked };
@@ -29,23 +33,31 @@ impl Model for Request {
     ghost view = { λ a. record {
       rule = a.rule;
       size = a.size;
+      pick = a.pick;
       file = option_map string_bytes a.file;
     } };
 
-    ghost invariant = { λ a. (1 ≤ a.size) × (a.size ≤ 40) };
+    ghost invariant = { λ a. (1 ≤ a.size) × (a.size ≤ 40) × HasNumber a.pick.way };
 }
 
 impl Request {
-    pub(crate) fn new(rule: Rule, size: u8, file: Option<String>) -> Request
+    pub(crate) fn new(rule: Rule, size: u8, pick: Pick, file: Option<String>) -> Request
         requires least { 1 ≤ size }
         requires most { size ≤ 40 }
+        requires way { HasNumber pick.way }
         ensures { result ≡ record {
           rule = rule;
           size = size;
+          pick = pick;
           file = option_map string_bytes file;
         } }
     {
-        Request { rule, size, file }
+        Request {
+            rule,
+            size,
+            pick,
+            file,
+        }
     }
 
     /// The rule.
@@ -62,6 +74,14 @@ impl Request {
         ensures most { result ≤ 40 }
     {
         self.size
+    }
+
+    /// How the file is read.
+    pub fn pick(&self) -> Pick
+        ensures value { result ≡ self.now.pick }
+        ensures way { HasNumber result.way }
+    {
+        self.pick
     }
 
     /// The path of the file to read. Without one the input is standard input.

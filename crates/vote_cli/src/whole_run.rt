@@ -1,23 +1,25 @@
 //! A whole run, from the bytes of the input to the bytes of the answer.
-ghost use Rattle.std.specs.Prelude.{◌≡◌, ◌≢◌, ◌≤◌, Err, IfOk, IfSome};
+ghost use Rattle.std.specs.Prelude.{◌≡◌, ◌≢◌, ◌≤◌, [], Err, IfOk, IfSome, is_ok};
 ghost use Rattle.vote_cli.specs.Answer.{Ends, Reports, TellsOf};
-ghost use Rattle.vote_cli.specs.Refusals.{Answers, Prepares, TellsOfReads, TellsOfWrites, error_of, status_of};
+ghost use Rattle.vote_cli.specs.Refusals.{Answers, IsRefusal, Prepares, TellsOfReads, TellsOfWrites, error_of, status_of};
+ghost use Rattle.vote_cli.specs.Printing.{Prints, outlet};
 
 use crate::device::{Sink, Source};
 use crate::elected::print_elected;
+use crate::fault_text::write_fault;
 use crate::input::{InputFault, read_to_end};
-use crate::plain_reader::{PlainFault, read_plain};
-use crate::printing::write_whole;
+use crate::printing::{WriteFailed, write_whole};
 use crate::request::Request;
 use crate::status::Status;
 use ballot_base::Profile;
+use preflib_text::{FaultName, ReadFault, read_profile};
 use std::alloc::Allocator;
 
 /// Why a run ends with no answer, or with a part of one.
 #[derive(Clone, Copy, Debug, PartialEq, Eq)]
 enum Refusal {
-    /// The input is in no format that is read so far.
-    NotYet,
+    /// The input has a fault.
+    Input(ReadFault),
     /// There are fewer candidates than seats.
     SizeTooLarge,
     /// A growth was refused.
@@ -33,24 +35,34 @@ impl Refusal {
         ensures { result ≡ status_of self }
     {
         match self {
-            Refusal::NotYet => Status::InputRefused,
+            Refusal::Input(_) => Status::InputRefused,
             Refusal::SizeTooLarge => Status::RequestRefused,
             Refusal::Memory => Status::NoMemory,
             Refusal::ReadFailed | Refusal::WriteFailed => Status::DeviceFailed,
         }
     }
 
-    /// The line on the errors, with its end.
-    fn line(self) -> &'static [u8]
-        ensures { result.now ≡ error_of self }
+    /// Writes the line on the errors.
+    fn write<E: Sink>(self, err: &mut E) -> Result<(), WriteFailed>
+        ensures { Prints (outlet (E.contents err.old) [] (E.has_failed err.old)) (outlet (E.contents err.new) [] (E.has_failed err.new)) (is_ok result) (error_of self) }
     {
         match self {
-            Refusal::NotYet => b"committees: input: NotYet\n",
-            Refusal::SizeTooLarge => b"committees: request: SizeTooLarge\n",
-            Refusal::Memory => b"committees: memory\n",
-            Refusal::ReadFailed => b"committees: read failed\n",
-            Refusal::WriteFailed => b"committees: write failed\n",
+            Refusal::Input(fault) => write_fault(err, fault),
+            Refusal::SizeTooLarge => write_whole(err, b"committees: request: SizeTooLarge\n"),
+            Refusal::Memory => write_whole(err, b"committees: memory\n"),
+            Refusal::ReadFailed => write_whole(err, b"committees: read failed\n"),
+            Refusal::WriteFailed => write_whole(err, b"committees: write failed\n"),
         }
+    }
+}
+
+/// The refusal of an input with a fault.
+fn refusal_of(fault: ReadFault) -> Refusal
+    ensures { IsRefusal fault result }
+{
+    match fault.name {
+        FaultName::Memory => Refusal::Memory,
+        _ => Refusal::Input(fault),
     }
 }
 
@@ -70,10 +82,9 @@ fn prepare<A: Allocator + Copy + Drop, R: Source>(
         Err(InputFault::Memory) => return Err(Refusal::Memory),
         Err(InputFault::ReadFailed) => return Err(Refusal::ReadFailed),
     };
-    let profile = match read_plain(alloc, &input) {
+    let profile = match read_profile(alloc, &input, &request.pick()) {
         Ok(profile) => profile,
-        Err(PlainFault::NotYet) => return Err(Refusal::NotYet),
-        Err(PlainFault::Memory) => return Err(Refusal::Memory),
+        Err(fault) => return Err(refusal_of(fault)),
     };
     if request.size() > profile.m() {
         return Err(Refusal::SizeTooLarge);
@@ -104,7 +115,7 @@ fn refuse<E: Sink>(err: &mut E, refusal: Refusal) -> Status
     ensures status { result ≡ status_of refusal }
     ensures error { Reports (E.contents err.old) (E.contents err.new) (E.has_failed err.new) (error_of refusal) }
 {
-    let _ = write_whole(err, refusal.line());
+    let _ = refusal.write(err);
     refusal.status()
 }
 
@@ -130,3 +141,6 @@ pub fn run<A: Allocator + Copy + Drop, R: Source, W: Sink, E: Sink>(
         Err(refusal) => refuse(err, refusal),
     }
 }
+
+#[cfg(test)]
+mod tests;

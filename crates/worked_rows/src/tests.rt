@@ -3,5 +3,8 @@ mod base;
 mod failures;
 mod growths;
 mod inputs;
+mod names;
+mod refusals;
 mod rows;
 mod support;
+mod ways;

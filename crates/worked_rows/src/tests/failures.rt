@@ -1,8 +1,11 @@
 //! Reads and writes that fail.
-use super::support::{ANSWER, THREE, Wanted, assert_ended, reader, request, run_on, writer};
+use super::support::{
+    ANSWER, THREE, Wanted, assert_ended, reader, refused, request, run_on, writer,
+};
 use crate::{Fault, Recorder, SliceReader};
 use std::alloc::Global;
 use std::fmt::Write;
+use std::process::Abort;
 use std::test::Fail;
 
 static READ_FAILED: &[u8] = b"committees: read failed\n";
@@ -153,11 +156,17 @@ fn the_flush_fails(rt: HostRuntime) -> Result<(), Fail> {
     Ok(())
 }
 
-#[test]
-fn each_byte_of_the_errors_is_not_taken(rt: HostRuntime) -> Result<(), Fail> {
-    let alloc = rt.alloc();
-    let request = request(alloc, "4")?;
-    let line = b"committees: request: SizeTooLarge\n".as_slice();
+/// Asserts that the status and the output stay, and that a beginning of the line is taken, wherever a write of the
+/// errors fails.
+fn assert_keeps_status(
+    rt: &impl Abort,
+    alloc: Global,
+    words: &str,
+    bytes: &[u8],
+    status: u8,
+    line: &[u8],
+) -> Result<(), Fail> {
+    let request = request(alloc, words)?;
     for taken in 0..line.len() {
         for fault in [
             Fault::ErrorAfter(taken),
@@ -165,13 +174,48 @@ fn each_byte_of_the_errors_is_not_taken(rt: HostRuntime) -> Result<(), Fail> {
             Fault::AtFlush,
         ] {
             let err = Recorder::new(alloc, usize::MAX, fault);
-            let ended = run_on(alloc, &request, reader(THREE), writer(alloc), err);
-            assert_eq!(rt; ended.status.code(), 4, "{fault:?}");
+            let ended = run_on(alloc, &request, reader(bytes), writer(alloc), err);
+            assert_eq!(rt; ended.status.code(), status, "{fault:?}");
             assert!(rt; ended.out.taken().is_empty(), "{fault:?}");
-            assert!(rt; line.starts_with(ended.err.taken()), "{fault:?}");
-            let is_whole = ended.err.taken().len() == line.len();
-            assert_eq!(rt; is_whole, fault == Fault::AtFlush, "{fault:?}");
+            let kept = if fault == Fault::AtFlush {
+                line.len()
+            } else {
+                taken
+            };
+            assert_eq!(rt; ended.err.taken(), &line[..kept], "{fault:?}");
         }
+    }
+    Ok(())
+}
+
+#[test]
+fn each_byte_of_the_errors_is_not_taken(rt: HostRuntime) -> Result<(), Fail> {
+    let alloc = rt.alloc();
+    let line = b"committees: request: SizeTooLarge\n".as_slice();
+    assert_keeps_status(&rt, alloc, "4", THREE, 4, line)?;
+    let line = b"committees: input line 12: BadNumber\n".as_slice();
+    assert_keeps_status(
+        &rt,
+        alloc,
+        "1",
+        b"\n\n\n\n\n\n\n\n\n\n\n# NUMBER ALTERNATIVES: 0",
+        3,
+        line,
+    )?;
+    let line = b"committees: input: NoAlternatives\n".as_slice();
+    assert_keeps_status(&rt, alloc, "1", b"", 3, line)
+}
+
+#[test]
+fn errors_in_pieces(rt: HostRuntime) -> Result<(), Fail> {
+    let alloc = rt.alloc();
+    let request = request(alloc, "1")?;
+    for piece in 1..=45 {
+        let err = Recorder::new(alloc, piece, Fault::Sound);
+        let bytes = b"\n\n\n\n\n\n\n\n\n\n\n# NUMBER ALTERNATIVES: 0".as_slice();
+        let ended = run_on(alloc, &request, reader(bytes), writer(alloc), err);
+        let wanted = refused(3, b"committees: input line 12: BadNumber\n");
+        assert_ended(&rt, "pieces", piece, &ended, wanted);
     }
     Ok(())
 }

@@ -1,41 +1,176 @@
 //! Growths that are refused, one after the other.
 ghost use Rattle.std.specs.Prelude.{◌≡◌};
 
-use super::support::{ANSWER, THREE, Wanted, add, assert_ended, reader, request, run_on, writer};
+use super::support::{
+    ANSWER, THREE, add, answered, assert_ended, name_in, reader, refused, request, run_on,
+    set_name, writer,
+};
 use crate::Refusing;
 use ballot_base::{AddFault, CandSet, FinishFault, Profile, ProfileBuilder};
-use std::alloc::Allocator;
+use preflib_text::{FaultName, ReadFault, read_profile};
+use std::alloc::{Allocator, Global};
 use std::process::Abort;
 use std::test::Fail;
 
 /// More growths than any of the calls below asks for.
 const MANY: u64 = 100;
 
-#[test]
-fn each_growth_of_a_run(rt: HostRuntime) -> Result<(), Fail> {
-    let alloc = rt.alloc();
+/// A file with names, and what comes of it.
+#[derive(Clone, Copy)]
+struct File {
+    kind: &'static str,
+    bytes: &'static [u8],
+    /// The answer for one seat.
+    answer: &'static [u8],
+    /// The lines that take memory: the first, where the builder is made, those of names, and those of new ballots.
+    growing: &'static [u64],
+    voters: u64,
+}
+
+static FILES: [File; 5] = [
+    File {
+        kind: "cat",
+        bytes: b"# DATA TYPE: cat\n# ALTERNATIVE NAME 9: Nobody\n# NUMBER ALTERNATIVES: 3\n# ALTERNATIVE NAME 1: Ada\n# NUMBER CATEGORIES: 2\n# ALTERNATIVE NAME 3: Cy\n2: {1,2},3\n1: 3,{1,2}\n2: {1,2}\n",
+        answer: b"rule av\nsize 1\nscore 4/1\n1\n2\nend\n",
+        growing: &[1, 2, 4, 6, 7, 8],
+        voters: 5,
+    },
+    File {
+        kind: "soc",
+        bytes: b"# ALTERNATIVE NAME 2: Bo\n# DATA TYPE: soc\n# NUMBER ALTERNATIVES: 3\n2: 1,2,3\n1: 3,1,2\n",
+        answer: b"rule av\nsize 1\nscore 2/1\n1\nend\n",
+        growing: &[1, 4, 5],
+        voters: 3,
+    },
+    File {
+        kind: "soi",
+        bytes: b"# NUMBER ALTERNATIVES: 3\n# DATA TYPE: soi\n# ALTERNATIVE NAME 2: Bo\n2: 2\n4: 2,3\n1:\n1: 3,1\n",
+        answer: b"rule av\nsize 1\nscore 6/1\n2\nend\n",
+        growing: &[1, 3, 4, 6, 7],
+        voters: 8,
+    },
+    File {
+        kind: "toc",
+        bytes: b"# DATA TYPE: toc\n# NUMBER ALTERNATIVES: 3\n# ALTERNATIVE NAME 1: Ada\n\n2: {1,3},2\n1: 2,{1,3}\n# ALTERNATIVE NAME 2: Bo\n",
+        answer: b"rule av\nsize 1\nscore 2/1\n1\n3\nend\n",
+        growing: &[1, 3, 5, 6],
+        voters: 3,
+    },
+    File {
+        kind: "toi",
+        bytes: b"# ALTERNATIVE NAME 3: Cy\n# ALTERNATIVE NAME 3: Di\n# DATA TYPE: toi\n# NUMBER ALTERNATIVES: 3\n1: {},{2}\n2: {2,3}\n",
+        answer: b"rule av\nsize 1\nscore 3/1\n2\nend\n",
+        growing: &[1, 2, 5, 6],
+        voters: 3,
+    },
+];
+
+static MEMORY: &[u8] = b"committees: memory\n";
+
+/// Asserts that a run over these bytes answers just where no growth is refused. The run takes memory so often at least.
+fn assert_growths_of_run(
+    rt: &impl Abort,
+    alloc: Global,
+    case: &str,
+    bytes: &[u8],
+    answer: &[u8],
+    least: u64,
+) -> Result<(), Fail> {
     let request = request(alloc, "1")?;
     for n in 1..=MANY {
         let heap = Refusing::new(alloc, n);
-        let ended = run_on(&heap, &request, reader(THREE), writer(alloc), writer(alloc));
+        let ended = run_on(&heap, &request, reader(bytes), writer(alloc), writer(alloc));
         if !heap.has_refused() {
-            let wanted = Wanted {
-                status: 0,
-                out: ANSWER,
-                err: b"",
-            };
-            assert_ended(&rt, "no growth", 0, &ended, wanted);
-            assert!(rt; n > 1, "a run takes memory");
+            assert_ended(rt, case, 0, &ended, answered(answer));
+            assert!(rt; n > least, "{case} takes memory");
             return Ok(());
         }
-        let wanted = Wanted {
-            status: 5,
-            out: b"",
-            err: b"committees: memory\n",
-        };
-        assert_ended(&rt, "growth", n as usize, &ended, wanted);
+        assert_ended(rt, case, n as usize, &ended, refused(5, MEMORY));
     }
     panic!(rt; "each run has a refused growth")
+}
+
+#[test]
+fn each_growth_of_a_run(rt: HostRuntime) -> Result<(), Fail> {
+    let alloc = rt.alloc();
+    // The bytes, the names and the rows take memory.
+    assert_growths_of_run(&rt, alloc, "no name", THREE, ANSWER, 3)?;
+    for file in &FILES {
+        // A name does too.
+        assert_growths_of_run(&rt, alloc, file.kind, file.bytes, file.answer, 4)?;
+    }
+    Ok(())
+}
+
+/// Asserts that a file is read just where no growth is refused, and that each growth is refused at a line that takes
+/// memory, the later ones at no earlier line.
+fn assert_growths_of_reading(rt: &impl Abort, alloc: Global, file: File) -> Result<(), Fail> {
+    let kind = file.kind;
+    let request = request(alloc, "1")?;
+    let mut last = 1;
+    for n in 1..=MANY {
+        let heap = Refusing::new(alloc, n);
+        let read = read_profile(&heap, file.bytes, &request.pick());
+        if !heap.has_refused() {
+            assert_eq!(rt; read?.voters(), file.voters, "{kind}");
+            assert!(rt; n > 3, "{kind} takes memory");
+            return Ok(());
+        }
+        let Err(fault) = read else {
+            panic!(rt; "{kind} is read without growth {n}");
+        };
+        assert_eq!(rt; fault.name, FaultName::Memory, "{kind}, growth {n}");
+        let line = fault.line.ok_or("a line")?;
+        assert!(rt;
+            file.growing.contains(&line),
+            "{kind}, growth {n}: line {line}"
+        );
+        assert!(rt;
+            last <= line,
+            "{kind}, growth {n}: line {line} behind {last}"
+        );
+        last = line;
+    }
+    panic!(rt; "each reading has a refused growth")
+}
+
+#[test]
+fn each_growth_of_a_reading(rt: HostRuntime) -> Result<(), Fail> {
+    for file in &FILES {
+        assert_growths_of_reading(&rt, rt.alloc(), *file)?;
+    }
+    Ok(())
+}
+
+#[test]
+fn the_first_growth_of_a_reading(rt: HostRuntime) -> Result<(), Fail> {
+    let alloc = rt.alloc();
+    let request = request(alloc, "1")?;
+    let cases: [(&[u8], FaultName, Option<u64>); 7] = [
+        (b"", FaultName::NoAlternatives, None),
+        (b"\xEF\xBB\xBF", FaultName::NoAlternatives, None),
+        (b"x\n", FaultName::NoAlternatives, None),
+        (
+            b"# NUMBER ALTERNATIVES: 41\n",
+            FaultName::TooManyCandidates,
+            Some(1),
+        ),
+        (b"\n", FaultName::Memory, Some(1)),
+        (b"# NUMBER ALTERNATIVES: 3", FaultName::Memory, Some(1)),
+        (
+            b"# DATA TYPE: cat\n# NUMBER ALTERNATIVES: 41\n",
+            FaultName::Memory,
+            Some(1),
+        ),
+    ];
+    for (bytes, name, line) in cases {
+        let heap = Refusing::new(alloc, 1);
+        let Err(fault) = read_profile(&heap, bytes, &request.pick()) else {
+            panic!(rt; "no profile takes no memory");
+        };
+        assert_eq!(rt; fault, ReadFault { name, line }, "{bytes:?}");
+    }
+    Ok(())
 }
 
 /// Adds, for each candidate from 1 to 9, as many voters who approve just that one. Where a growth is refused it adds
@@ -94,7 +229,10 @@ fn each_growth_of_a_builder(rt: HostRuntime) -> Result<(), Fail> {
     for again in [true, false] {
         for n in 1..=MANY {
             let heap = Refusing::new(alloc, n);
-            let mut builder = ProfileBuilder::new(&heap, 40)?;
+            let Ok(mut builder) = ProfileBuilder::new(&heap, 40) else {
+                assert!(rt; n == 1 && heap.has_refused(), "growth {n}");
+                continue;
+            };
             let refused = add_nine(&mut builder, again)?;
             assert_eq!(rt; refused.is_some(), heap.has_refused(), "growth {n}");
             let Ok(profile) = builder.finish() else {
@@ -102,7 +240,7 @@ fn each_growth_of_a_builder(rt: HostRuntime) -> Result<(), Fail> {
             };
             assert_nine(&rt, &profile, if again { None } else { refused });
             if refused.is_none() {
-                assert!(rt; n > 1, "nine ballots take memory");
+                assert!(rt; n > 2, "nine ballots take memory");
                 break;
             }
             assert!(rt; n < MANY, "each growth is refused");
@@ -112,8 +250,9 @@ fn each_growth_of_a_builder(rt: HostRuntime) -> Result<(), Fail> {
 }
 
 #[test]
-fn the_first_growth_of_a_builder(rt: HostRuntime) -> Result<(), Fail> {
-    let heap = Refusing::new(rt.alloc(), 1);
+fn the_first_ballot_of_a_builder(rt: HostRuntime) -> Result<(), Fail> {
+    // The first growth is the builder's own.
+    let heap = Refusing::new(rt.alloc(), 2);
     let mut builder = ProfileBuilder::new(&heap, 40)?;
     let set = CandSet::empty().with(7);
     assert_eq!(rt; add(&mut builder, set, 1), Err(AddFault::Memory));
@@ -127,5 +266,106 @@ fn the_first_growth_of_a_builder(rt: HostRuntime) -> Result<(), Fail> {
     };
     assert_eq!(rt; profile.rows(), 1);
     assert_eq!(rt; profile.voters(), 1);
+    Ok(())
+}
+
+/// Names, with their candidates. Some come in place of earlier ones.
+static NAMES: [(u8, &[u8]); 6] = [
+    (1, b"Red"),
+    (2, b"Blue"),
+    (40, b"Green"),
+    (1, b"Rose"),
+    (2, b"Navy"),
+    (40, b""),
+];
+
+/// Adds three voters, and then gives those names. Where a growth is refused for a name it gives the name again, or
+/// leaves it out. Answers the place of the name that a growth was refused for.
+fn add_names<A: Allocator + Copy + Drop>(
+    builder: &mut ProfileBuilder<A>,
+    again: bool,
+) -> Result<Option<usize>, AddFault>
+    requires { builder.old.m ≡ 40 }
+{
+    let set = CandSet::empty().with(7);
+    if add(builder, set, 3).is_err() {
+        add(builder, set, 3)?;
+    }
+    let mut refused = None;
+    for i in 0..NAMES.len() {
+        let (n, name) = NAMES[i];
+        let n = n.clamp(1, 40);
+        if set_name(builder, n, name).is_err() {
+            refused = Some(i);
+            if again {
+                set_name(builder, n, name)?;
+            }
+        }
+    }
+    Ok(refused)
+}
+
+/// The names of candidates 1, 2 and 40 where the name at this place was left out.
+fn names_without(left_out: Option<usize>) -> [Option<&'static [u8]>; 3] {
+    match left_out {
+        Some(3) => [Some(b"Red"), Some(b"Navy"), None],
+        Some(4) => [Some(b"Rose"), Some(b"Blue"), None],
+        Some(5) => [Some(b"Rose"), Some(b"Navy"), Some(b"Green")],
+        _ => [Some(b"Rose"), Some(b"Navy"), None],
+    }
+}
+
+/// Asserts that the profile has those three voters, and names without the one at this place.
+fn assert_names<A: Allocator + Copy + Drop>(
+    rt: &impl Abort,
+    profile: &Profile<A>,
+    left_out: Option<usize>,
+) {
+    assert_eq!(rt; profile.m(), 40);
+    assert_eq!(rt; profile.rows(), 1);
+    assert!(rt; profile.row(0) == (CandSet::empty().with(7), 3));
+    assert_eq!(rt; profile.voters(), 3);
+    let names = names_without(left_out);
+    assert!(rt;
+        name_in(profile, 1) == names[0],
+        "candidate 1 without {left_out:?}"
+    );
+    assert!(rt;
+        name_in(profile, 2) == names[1],
+        "candidate 2 without {left_out:?}"
+    );
+    assert!(rt;
+        name_in(profile, 40) == names[2],
+        "candidate 40 without {left_out:?}"
+    );
+    for n in 3..40u8 {
+        assert!(rt; name_in(profile, n).is_none(), "candidate {n}");
+    }
+}
+
+#[test]
+fn each_growth_of_names(rt: HostRuntime) -> Result<(), Fail> {
+    let alloc = rt.alloc();
+    for again in [true, false] {
+        let mut refusals = 0u32;
+        for n in 2..=MANY {
+            let heap = Refusing::new(alloc, n);
+            let mut builder = ProfileBuilder::new(&heap, 40)?;
+            let refused = add_names(&mut builder, again)?;
+            let Ok(profile) = builder.finish() else {
+                panic!(rt; "no ballot after growth {n}");
+            };
+            assert_names(&rt, &profile, if again { None } else { refused });
+            if !heap.has_refused() {
+                break;
+            }
+            if refused.is_some() {
+                refusals = refusals.saturating_add(1);
+            }
+            assert!(rt; n < MANY, "each growth is refused");
+        }
+        // The empty name takes no memory.
+        assert_eq!(rt; refusals, 5);
+    }
     Ok(())
 }

@@ -46,7 +46,7 @@ fn approval_voting(rt: HostRuntime) -> Result<(), Fail> {
             Wanted {
                 status: 3,
                 out: b"",
-                err: b"committees: input: NotYet\n",
+                err: b"committees: input: NoAlternatives\n",
             },
         ),
     ];

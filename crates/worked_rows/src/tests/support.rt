@@ -2,7 +2,7 @@
 ghost use Rattle.std.specs.Prelude.{◌≡◌, ◌≤◌};
 
 use crate::{Fault, Recorder, SliceReader};
-use ballot_base::{AddFault, CandSet, ProfileBuilder};
+use ballot_base::{AddFault, CandSet, Profile, ProfileBuilder};
 use std::alloc::{AllocError, Allocator, Global};
 use std::process::Abort;
 use std::test::Fail;
@@ -24,10 +24,10 @@ pub fn read_line(alloc: Global, line: &str) -> Result<Result<Request, LineFault>
     Ok(read_request(alloc, words.as_slice()))
 }
 
-/// The request of approval voting for this many seats.
-pub fn request(alloc: Global, size: &str) -> Result<Request, Fail> {
+/// The request of approval voting for so many seats. More words may follow the number.
+pub fn request(alloc: Global, words: &str) -> Result<Request, Fail> {
     let mut line = String::from_str(alloc, "committees elect --rule av --size ")?;
-    line.push_str(size)?;
+    line.push_str(words)?;
     Ok(read_line(alloc, line.as_str())??)
 }
 
@@ -69,6 +69,75 @@ pub struct Wanted<'a> {
     pub err: &'a [u8],
 }
 
+/// A run that answers, with these bytes.
+pub fn answered(out: &[u8]) -> Wanted<'_> {
+    Wanted {
+        status: 0,
+        out,
+        err: b"",
+    }
+}
+
+/// A run that answers nothing, with this line on the errors.
+pub fn refused(status: u8, err: &[u8]) -> Wanted<'_> {
+    Wanted {
+        status,
+        out: b"",
+        err,
+    }
+}
+
+/// Asserts what the words from the number of seats on leave over these bytes.
+pub fn assert_runs(
+    rt: &impl Abort,
+    alloc: Global,
+    case: &str,
+    words: &str,
+    bytes: &[u8],
+    wanted: Wanted<'_>,
+) -> Result<(), Fail> {
+    let request = request(alloc, words)?;
+    let ended = run_on(alloc, &request, reader(bytes), writer(alloc), writer(alloc));
+    assert_ended(rt, case, 0, &ended, wanted);
+    Ok(())
+}
+
+/// Asserts that the election of one candidate, with these words, prints these lines between its head and its end.
+pub fn assert_elects(
+    rt: &impl Abort,
+    alloc: Global,
+    case: &str,
+    options: &str,
+    bytes: &[u8],
+    lines: &str,
+) -> Result<(), Fail> {
+    let mut words = String::from_str(alloc, "1 ")?;
+    words.push_str(options)?;
+    let mut answer = String::from_str(alloc, "rule av\nsize 1\n")?;
+    answer.push_str(lines)?;
+    answer.push_str("end\n")?;
+    let wanted = answered(answer.as_bytes());
+    assert_runs(rt, alloc, case, words.as_str(), bytes, wanted)
+}
+
+/// Asserts that the election of one candidate, with these words, ends with this fault of the input.
+pub fn assert_refuses(
+    rt: &impl Abort,
+    alloc: Global,
+    case: &str,
+    options: &str,
+    bytes: &[u8],
+    fault: &str,
+) -> Result<(), Fail> {
+    let mut words = String::from_str(alloc, "1 ")?;
+    words.push_str(options)?;
+    let mut line = String::from_str(alloc, "committees: input")?;
+    line.push_str(fault)?;
+    line.push_str("\n")?;
+    let wanted = refused(3, line.as_bytes());
+    assert_runs(rt, alloc, case, words.as_str(), bytes, wanted)
+}
+
 /// Asserts that the run left this. The number tells cases of one name apart.
 pub fn assert_ended(rt: &impl Abort, case: &str, number: usize, ended: &Ended, wanted: Wanted<'_>) {
     assert_eq!(rt;
@@ -101,4 +170,26 @@ pub fn add<A: Allocator + Copy + Drop>(
     // The length tells that the members are candidates from 1 to 40.
     let _ = set.len();
     builder.add(set, count)
+}
+
+/// Gives a candidate a name, of 40.
+pub fn set_name<A: Allocator + Copy + Drop>(
+    builder: &mut ProfileBuilder<A>,
+    n: u8,
+    name: &[u8],
+) -> Result<(), AddFault>
+    requires alternatives { builder.old.m ≡ 40 }
+    requires low { 1 ≤ n }
+    requires high { n ≤ 40 }
+    ensures { builder.new.m ≡ 40 }
+{
+    builder.set_name(n, name)
+}
+
+/// The name of a candidate, where the profile has the candidate and the name.
+pub fn name_in<A: Allocator + Copy>(profile: &Profile<A>, n: u8) -> Option<&[u8]> {
+    if n == 0 || n > profile.m() {
+        return None;
+    }
+    profile.name(n)
 }

@@ -36,14 +36,16 @@ new-requires-clause-least c = (size_is c).0
 pub new-requires-clause-most : goal.new-requires-clause-most
 new-requires-clause-most c = (size_is c).1
 
-pub returns : goal.returns
-returns c =
+pub returns-clause-ok : goal.returns-clause-ok
+returns-clause-ok c =
     let f = found_of c.args.elect.now in
     let named : c.unwrap.result.now ≡ codes "av" = text_is c.get_str.result c.unwrap.result (codes "av") c.unwrap.ensures
     (c.get_str.ensures ∙ first_value-rows f (codes "rule") ∙ c.requires.rule) in
     let one = c.get_one.ensures.value _ (one_text-rows f (codes "size") ∙ c.requires.size) in
     let size = size_facts _ (λ bs r. ParsesUnsigned 8 10 bs r × ExplainsUnsignedError 10 bs r × HasUnsignedDigitsIfOk bs r)
     c.requires.size_text c.get_one.result c.unwrap-size.result one (λ u x g. g.0) c.requires.in_range c.unwrap-size.ensures in
-    let path = c.in_ok-file.ensures ∙ c.get_str-2.ensures ∙ first_value-rows f (codes "file") in
-    rw c.new.ensures (asked_is (rows_of f) c.requires c.unwrap.result.now c.unwrap-rule.result c.unwrap-size.result _ named
-    (sym c.rule_named.ensures ∙ c.unwrap-rule.ensures) size.2 path)
+    let kind = c.get_str-2.ensures ∙ first_value-rows f (codes "kind") in
+    let path = c.in_ok-file.ensures ∙ c.get_str-4.ensures ∙ first_value-rows f (codes "file") in
+    let ending = c.get_str-3.ensures ∙ first_value-rows f (codes "file") in
+    rw c.new.ensures (asked_is (rows_of f) c.requires c.unwrap.result.now c.unwrap-rule.result c.unwrap-size.result c.in-Some.way c.pick_of-pick.result _ _ _ named
+    (sym c.rule_named.ensures ∙ c.unwrap-rule.ensures) size.2 c.in-Some.ensures.value kind path ending c.pick_of-pick.ensures)

@@ -12,4 +12,4 @@ returns c =
     let bare = ap app_of_fields c.subcommand_required.ensures
     ∙ ap (λ (a : App). record a { top = record a.top { subcommand_required = true } }) about in
     IfOk-weaker c.subcommand.result _ IsProgram
-    (λ r h. (elect.0, elect.1, h.shape elect.3 ∙ ap₂ with_subcommand bare elect.2)) c.subcommand.ensures
+    (λ r h. (elect.0, elect.1, elect.2, elect.3, h.shape elect.5 ∙ ap₂ with_subcommand bare elect.4)) c.subcommand.ensures

@@ -1,0 +1,29 @@
+-- Names of candidates: what a write of one name, and fewer candidates, make of an election.
+use Rattle.std.proofs.Common.{◌≡◌, ℕ, ◌-◌, ◌+◌, List, [], ◌∷◌, ◌++◌, refl, sym, ap, ◌∙◌, subst, map, take, replicate, append-nil}
+use Rattle.std.specs.Prelude.{Vec, slice_set}
+use Rattle.std.proofs.lemmas.List.{map-append, map-set, replicate-append-replicate, take-map}
+use Rattle.ballot_base.specs.Ballots.{Election, Row, election, texts}
+
+module _ {A : Type 0} where
+  -- one name more, and it is empty
+  pub texts-push : (names more : List (Vec ℕ A)) (name : Vec ℕ A) (n : ℕ) → texts names ≡ replicate n [] → more ≡ names ++ name ∷ [] → name.items ≡ [] → texts more ≡ replicate (n + 1) []
+  texts-push names more name n before pushed empty =
+      ap texts pushed ∙ map-append (λ (v : Vec ℕ A). v.items) names (name ∷ []) ∙ ap (λ l. l ++ name.items ∷ []) before ∙ ap (λ t. replicate n [] ++ t ∷ []) empty
+      ∙ replicate-append-replicate n 1 []
+
+  -- a name in the place of another
+  pub election-named : (m k n : ℕ) (names : List (Vec ℕ A)) (rows : List Row) (e : Election) (name : Vec ℕ A) (text : List ℕ) → election m (texts names) rows ≡ e → k ≡ n → name.items ≡ text
+      → election m (texts (slice_set names (k - 1) name)) rows ≡ record e { names = slice_set e.names (n - 1) text }
+  election-named m k n names rows e name text view place is =
+      let names_are : texts (slice_set names (k - 1) name) ≡ slice_set (texts names) (n - 1) text =
+      map-set (λ (v : Vec ℕ A). v.items) names (k - 1) name ∙ ap (λ i. slice_set (texts names) (i - 1) name.items) place ∙ ap (slice_set (texts names) (n - 1)) is in
+      subst (λ (f : Election). election m (texts (slice_set names (k - 1) name)) rows ≡ record f { names = slice_set f.names (n - 1) text }) view (ap (λ l. election m l rows) names_are)
+
+  -- fewer candidates
+  pub election-narrowed : (m k fewer : ℕ) (names kept : List (Vec ℕ A)) (rows : List Row) (e : Election) → election m (texts names) rows ≡ e → kept ≡ take k names → k ≡ fewer → e.rows ≡ []
+      → election fewer (texts kept) rows ≡ election fewer (take fewer e.names) []
+  election-narrowed m k fewer names kept rows e view cut place none =
+      let rows_are : rows ≡ [] = ap (λ (f : Election). f.rows) view ∙ none in
+      let names_are : texts kept ≡ take fewer e.names =
+      ap texts cut ∙ sym (take-map (λ (v : Vec ℕ A). v.items) k names) ∙ ap (λ i. take i (texts names)) place ∙ ap (λ (f : Election). take fewer f.names) view in
+      ap (λ l. election fewer l rows) names_are ∙ ap (election fewer (take fewer e.names)) rows_are

@@ -1,0 +1,383 @@
+-- The notes and the profile after some lines, and after one more.
+use Rattle.std.proofs.Common.{◌≡◌, ◌≢◌, ℕ, ◌+◌, ◌^◌, ◌≤◌, ◌&&◌, ◌||◌, Bool, true, false, not, cond, List, [], ◌∷◌, ◌++◌, refl, sym, ap, subst, ◌∙◌, arith, length, map, take, sum_by, Option, Some, None, option_map, unwrap_or, is_some, Result, Ok, Err, IfSome, replicate}
+use Rattle.std.specs.Prelude.{nat_lt, nat_le}
+use Rattle.std.specs.List.{list_any}
+use Rattle.std.proofs.lemmas.List.{append_assoc}
+use Rattle.std.proofs.lemmas.List.FromFn.{take-map-range_with_len}
+use Rattle.ballot_base.specs.Ballots.{Election, Row, election, with_votes, voter_count}
+use Rattle.preflib_text.specs.declared.pick.Kind.{Kind}
+use Rattle.preflib_text.specs.declared.pick.Pick.{Pick}
+use Rattle.preflib_text.specs.declared.fault.FaultName.{FaultName}
+use Rattle.preflib_text.specs.declared.fault.FaultName.TheVariants.{LongLine, BadNumber, TooManyCandidates, NoAlternatives, NoKind, NoVoters, PickMisfit, TooManyVoters}
+use Rattle.preflib_text.specs.declared.notes.Notes.{Notes}
+use Rattle.preflib_text.specs.Lines.{is_ballot_line, lines_of, pieces_of, without_return}
+use Rattle.preflib_text.specs.Metadata.{Told, TypeIs, AlternativesAre, CategoriesAre, NameIs, Nothing, told_of, number_of}
+use Rattle.preflib_text.specs.Approvals.{way_for, approved}
+use Rattle.preflib_text.specs.BallotTokens.{ballot_of}
+use Rattle.preflib_text.specs.Reading.{Cast, or_else, fault_if, told_before, kind_or_usual, is_fitting, ballot_fault, alternatives_in, categories_in, casts_in, votes_in, rows_in, election_in, line_fault, told_fault, first_fault, end_fault, at_line, cast_fault, kind_fault, ballot_line_fault, number_fault, kind_or, kind_by}
+use Rattle.preflib_text.specs.Notes.{NoEffect, Names, Casts, fresh_notes, first_kind, told_error, told_notes, told_effect, cast_error, kind_error, alternatives_error, ballot_error, cast_effect, line_error, line_notes, line_effect, effect_error, with_effect, end_error, is_empty}
+use Rattle.preflib_text.proofs.ToldSteps.{IsTold, told-step, told_before-kept, told_before-more}
+use Rattle.preflib_text.proofs.ProfileSteps.{last_name, last_names, last_names-told, last_names-kept, name_value-other, casts_in-other, casts_in-ballot, casts_in-none, votes_in-ballot, rows_of, rows_of-push, with_votes-some, voters-more}
+
+-- whether a ballot is among the lines
+abbrev pub has_ballot : List (List ℕ) → Bool
+has_ballot lines = list_any is_ballot_line lines
+
+-- the profile where a ballot was read
+abbrev pub IsBegun : Pick → List (List ℕ) → Notes → Election → Type 0
+IsBegun pick before notes e = (m : ℕ) × (notes.alternatives ≡ Some m)
+    × (e ≡ election m (last_names (told_before before) m) (rows_of (way_for (kind_or_usual notes.kind) pick.way) (casts_in pick ballot_of before))) × (e.rows ≢ [])
+
+-- what the notes and the profile are after these lines
+pub record IsAfter (pick : Pick) (before : List (List ℕ)) (notes : Notes) (e : Election) : Type 0 where
+  pub told : IsTold pick (told_before before) notes
+  pub ballots : notes.has_ballot ≡ has_ballot before
+  pub opened : notes.has_ballot ≡ false → e ≡ election 40 (last_names (told_before before) 40) []
+  pub begun : notes.has_ballot ≡ true → IsBegun pick before notes e
+  pub votes : voter_count e.rows ≡ votes_in pick ballot_of before
+
+-- ---- before the first line
+
+pub is_after-none : (pick : Pick) → IsAfter pick [] (fresh_notes pick) (election 40 (replicate 40 []) [])
+is_after-none pick = record {
+  told = record { alternatives = refl; categories = refl; kind = by pick.kind pick.ending; no_alternatives = λ h. refl; no_categories = λ h. refl; sound = tt };
+  ballots = refl;
+  opened = λ h. refl;
+  begun = λ h. absurd (cc);
+  votes = refl;
+}
+  where
+    by : (kind ending : Option Kind) → kind_or NoKind (first_kind kind ending) ≡ kind_by kind None ending
+    by (Some kind) ending = refl
+    by None ending = refl
+
+-- ---- the faults of a line
+
+or_else-none : {X : Type 0} (o : Option X) → or_else o None ≡ o
+or_else-none None = refl
+or_else-none (Some x) = refl
+
+or_else-assoc : {X : Type 0} (a b c : Option X) → or_else (or_else a b) c ≡ or_else a (or_else b c)
+or_else-assoc None b c = refl
+or_else-assoc (Some x) b c = refl
+
+cast_error-is : (pick : Pick) (before : List (List ℕ)) (kind : Kind) (m : ℕ) (notes : Notes) (e : Election) (cast : Option Cast) → IsAfter pick before notes e
+    → or_else (cast_error kind m notes.categories cast) (effect_error e (cast_effect pick notes cast)) ≡ cast_fault pick ballot_of before kind m cast
+cast_error-is pick before kind m notes e None is = refl
+cast_error-is pick before kind m notes e (Some cast) is =
+    ap (λ c. or_else (ballot_fault kind m c cast.count cast.classes) (fault_if (nat_lt (2 ^ 32) (voter_count e.rows + cast.count)) TooManyVoters)) is.told.categories
+    ∙ ap (λ n. or_else (ballot_fault kind m (categories_in before) cast.count cast.classes) (fault_if (nat_lt (2 ^ 32) (n + cast.count)) TooManyVoters)) is.votes
+
+kind_error-is : (pick : Pick) (before : List (List ℕ)) (line : List ℕ) (m : ℕ) (notes : Notes) (e : Election) (kind : Result Kind FaultName) → IsAfter pick before notes e
+    → or_else (kind_error pick notes m (ballot_of line) kind) (effect_error e (cast_effect pick notes (ballot_of line))) ≡ kind_fault pick ballot_of before m line kind
+kind_error-is pick before line m notes e (Err name) is = refl
+kind_error-is pick before line m notes e (Ok kind) is =
+    or_else-assoc (fault_if (not (is_fitting kind notes.categories pick.way)) PickMisfit) (cast_error kind m notes.categories (ballot_of line)) (effect_error e (cast_effect pick notes (ballot_of line)))
+    ∙ ap (or_else (fault_if (not (is_fitting kind notes.categories pick.way)) PickMisfit)) (cast_error-is pick before kind m notes e (ballot_of line) is)
+    ∙ ap (λ c. or_else (fault_if (not (is_fitting kind c pick.way)) PickMisfit) (cast_fault pick ballot_of before kind m (ballot_of line))) is.told.categories
+
+ballot_error-is : (pick : Pick) (before : List (List ℕ)) (line : List ℕ) (notes : Notes) (e : Election) → IsAfter pick before notes e
+    → or_else (ballot_error pick notes (ballot_of line)) (effect_error e (cast_effect pick notes (ballot_of line))) ≡ ballot_line_fault pick ballot_of before line (alternatives_in before)
+ballot_error-is pick before line notes e is = by notes.alternatives ∙ ap (ballot_line_fault pick ballot_of before line) is.told.alternatives
+  where
+    by : (m : Option ℕ) → or_else (alternatives_error pick notes (ballot_of line) m) (effect_error e (cast_effect pick notes (ballot_of line))) ≡ ballot_line_fault pick ballot_of before line m
+    by None = refl
+    by (Some m) = kind_error-is pick before line m notes e notes.kind is ∙ ap (kind_fault pick ballot_of before m line) is.told.kind
+
+told_error-is : (pick : Pick) (before : List (List ℕ)) (notes : Notes) (e : Election) (told : Told) → IsAfter pick before notes e → told_error notes told ≡ told_fault before told
+told_error-is pick before notes e (TypeIs value) is = refl
+told_error-is pick before notes e (AlternativesAre value) is = ap (λ o. number_fault (Some TooManyCandidates) 40 o (number_of value)) is.told.alternatives
+told_error-is pick before notes e (CategoriesAre value) is = ap (λ o. number_fault (Some BadNumber) (2 ^ 32) o (number_of value)) is.told.categories
+told_error-is pick before notes e (NameIs n value) is = refl
+told_error-is pick before notes e Nothing is = refl
+
+pub told_effect-fine : (e : Election) (told : Told) → effect_error e (told_effect told) ≡ None
+told_effect-fine e (TypeIs value) = refl
+told_effect-fine e (AlternativesAre value) = refl
+told_effect-fine e (CategoriesAre value) = refl
+told_effect-fine e (NameIs n value) = by (nat_le 1 n && nat_le n 40)
+  where
+    by : (t : Bool) → effect_error e (cond t (Names n value) NoEffect) ≡ None
+    by true = refl
+    by false = refl
+told_effect-fine e Nothing = refl
+
+-- the refusals are the faults
+pub line_error-is : (pick : Pick) (before : List (List ℕ)) (line : List ℕ) (notes : Notes) (e : Election) → IsAfter pick before notes e
+    → or_else (line_error pick notes line) (effect_error e (line_effect pick notes line)) ≡ line_fault pick ballot_of before line
+line_error-is pick before line notes e is =
+    or_else-assoc (fault_if (nat_lt 1048576 (length line)) LongLine) _ (effect_error e (line_effect pick notes line))
+    ∙ ap (or_else (fault_if (nat_lt 1048576 (length line)) LongLine)) (by (is_ballot_line line) ∙ by_ballots)
+  where
+    other : (t : Bool) → or_else (cond t None (told_error notes (told_of line))) (effect_error e (cond t NoEffect (told_effect (told_of line)))) ≡ cond t None (told_fault before (told_of line))
+    other true = refl
+    other false = ap (or_else (told_error notes (told_of line))) (told_effect-fine e (told_of line)) ∙ or_else-none (told_error notes (told_of line)) ∙ told_error-is pick before notes e (told_of line) is
+
+    by : (t : Bool) → or_else (cond t (ballot_error pick notes (ballot_of line)) (cond notes.has_ballot None (told_error notes (told_of line)))) (effect_error e (cond t (cast_effect pick notes (ballot_of line)) (cond notes.has_ballot NoEffect (told_effect (told_of line)))))
+        ≡ cond t (ballot_line_fault pick ballot_of before line (alternatives_in before)) (cond notes.has_ballot None (told_fault before (told_of line)))
+    by true = ballot_error-is pick before line notes e is
+    by false = other notes.has_ballot
+
+    by_ballots : cond (is_ballot_line line) (ballot_line_fault pick ballot_of before line (alternatives_in before)) (cond notes.has_ballot None (told_fault before (told_of line)))
+        ≡ cond (is_ballot_line line) (ballot_line_fault pick ballot_of before line (alternatives_in before)) (cond (has_ballot before) None (told_fault before (told_of line)))
+    by_ballots = ap (λ t. cond (is_ballot_line line) (ballot_line_fault pick ballot_of before line (alternatives_in before)) (cond t None (told_fault before (told_of line)))) is.ballots
+
+-- ---- a line more
+
+-- whether a ballot is among them then
+has_ballot-more : (before : List (List ℕ)) (line : List ℕ) → has_ballot (before ++ line ∷ []) ≡ (has_ballot before || is_ballot_line line)
+has_ballot-more [] line = or_false (is_ballot_line line)
+  where
+    or_false : (t : Bool) → (t || false) ≡ t
+    or_false true = refl
+    or_false false = refl
+has_ballot-more (first ∷ before) line = ap (λ t. is_ballot_line first || t) (has_ballot-more before line) ∙ by (is_ballot_line first)
+  where
+    by : (t : Bool) → (t || (has_ballot before || is_ballot_line line)) ≡ ((t || has_ballot before) || is_ballot_line line)
+    by true = refl
+    by false = refl
+
+-- the notes with a ballot are otherwise the same
+told-ballot : (pick : Pick) (tolds : List Told) (notes : Notes) → IsTold pick tolds notes → IsTold pick tolds (record notes { has_ballot = true })
+told-ballot pick tolds notes is = record { alternatives = is.alternatives; categories = is.categories; kind = is.kind; no_alternatives = is.no_alternatives; no_categories = is.no_categories; sound = is.sound }
+
+-- the names that a line before the first ballot leaves
+names_told : (tolds : List Told) (told : Told) → with_effect (election 40 (last_names tolds 40) []) (told_effect told) ≡ election 40 (last_names (tolds ++ told ∷ []) 40) []
+names_told tolds (TypeIs value) = ap (λ l. election 40 l []) (last_names-kept tolds (TypeIs value) 40 (λ k low high. refl))
+names_told tolds (AlternativesAre value) = ap (λ l. election 40 l []) (last_names-kept tolds (AlternativesAre value) 40 (λ k low high. refl))
+names_told tolds (CategoriesAre value) = ap (λ l. election 40 l []) (last_names-kept tolds (CategoriesAre value) 40 (λ k low high. refl))
+names_told tolds Nothing = ap (λ l. election 40 l []) (last_names-kept tolds Nothing 40 (λ k low high. refl))
+names_told tolds (NameIs n value) = by (nat_le 1 n && nat_le n 40) refl
+  where
+    by : (t : Bool) → (nat_le 1 n && nat_le n 40) ≡ t → with_effect (election 40 (last_names tolds 40) []) (cond t (Names n value) NoEffect) ≡ election 40 (last_names (tolds ++ NameIs n value ∷ []) 40) []
+    by true e = ap (λ l. election 40 l []) (last_names-told tolds n 40 value (grind arith) (grind arith))
+    by false e = ap (λ l. election 40 l []) (last_names-kept tolds (NameIs n value) 40 (λ k low high. name_value-other n k value (λ same. absurd (grind arith))))
+
+-- what is told leaves the ballots
+told_notes-ballots : (pick : Pick) (notes : Notes) (told : Told) → (told_notes pick notes told).has_ballot ≡ notes.has_ballot
+told_notes-ballots pick notes (TypeIs value) = refl
+told_notes-ballots pick notes (AlternativesAre value) = refl
+told_notes-ballots pick notes (CategoriesAre value) = refl
+told_notes-ballots pick notes (NameIs n value) = refl
+told_notes-ballots pick notes Nothing = refl
+
+told_effect-rows : (e : Election) (told : Told) → (with_effect e (told_effect told)).rows ≡ e.rows
+told_effect-rows e (TypeIs value) = refl
+told_effect-rows e (AlternativesAre value) = refl
+told_effect-rows e (CategoriesAre value) = refl
+told_effect-rows e Nothing = refl
+told_effect-rows e (NameIs n value) = by (nat_le 1 n && nat_le n 40)
+  where
+    by : (t : Bool) → (with_effect e (cond t (Names n value) NoEffect)).rows ≡ e.rows
+    by true = refl
+    by false = refl
+
+-- no ballot, before the first ballot
+after-told : (pick : Pick) (before : List (List ℕ)) (line : List ℕ) (notes : Notes) (e : Election) → IsAfter pick before notes e → notes.has_ballot ≡ false → is_ballot_line line ≡ false
+    → told_error notes (told_of line) ≡ None → IsAfter pick (before ++ line ∷ []) (told_notes pick notes (told_of line)) (with_effect e (told_effect (told_of line)))
+after-told pick before line notes e is none other fine =
+    let no_ballot : has_ballot before ≡ false = sym is.ballots ∙ none in
+    let tolds : told_before before ++ told_of line ∷ [] ≡ told_before (before ++ line ∷ []) = sym (told_before-more before line no_ballot other) in
+    let still : (told_notes pick notes (told_of line)).has_ballot ≡ false = told_notes-ballots pick notes (told_of line) ∙ none in
+    let none_yet : has_ballot (before ++ line ∷ []) ≡ false = has_ballot-more before line ∙ ap (λ t. t || is_ballot_line line) no_ballot ∙ other in
+    record {
+      told = subst (λ t. IsTold pick t (told_notes pick notes (told_of line))) tolds (told-step pick (told_before before) notes (told_of line) is.told fine);
+      ballots = still ∙ sym none_yet;
+      opened = λ h. ap (λ f. with_effect f (told_effect (told_of line))) (is.opened none) ∙ names_told (told_before before) (told_of line) ∙ ap (λ t. election 40 (last_names t 40) []) tolds;
+      begun = λ h. false_true still h;
+      votes = ap voter_count (told_effect-rows e (told_of line)) ∙ is.votes ∙ sym (ap (λ c. sum_by (λ (x : Cast). x.count) c) (casts_in-other pick ballot_of before line other));
+    }
+  where
+    false_true : {t : Bool} {X : Type 0} → t ≡ false → t ≡ true → X
+    false_true h i = absurd (cc)
+
+-- no ballot, behind the first ballot
+after-skipped : (pick : Pick) (before : List (List ℕ)) (line : List ℕ) (notes : Notes) (e : Election) → IsAfter pick before notes e → notes.has_ballot ≡ true → is_ballot_line line ≡ false
+    → IsAfter pick (before ++ line ∷ []) notes e
+after-skipped pick before line notes e is some other =
+    let ballot : has_ballot before ≡ true = sym is.ballots ∙ some in
+    let more : (has_ballot before || is_ballot_line line) ≡ true = ap (λ t. t || is_ballot_line line) ballot in
+    let tolds : told_before before ≡ told_before (before ++ line ∷ []) = sym (told_before-kept before line more) in
+    let casts : casts_in pick ballot_of before ≡ casts_in pick ballot_of (before ++ line ∷ []) = sym (casts_in-other pick ballot_of before line other) in
+    let (m, alternatives, profile, rows) = is.begun some in
+    record {
+      told = subst (λ t. IsTold pick t notes) tolds is.told;
+      ballots = some ∙ sym (has_ballot-more before line ∙ more);
+      opened = λ h. false_true some h;
+      begun = λ h. (
+        m,
+        alternatives,
+        profile ∙ ap (λ t. election m (last_names t m) (rows_of (way_for (kind_or_usual notes.kind) pick.way) (casts_in pick ballot_of before))) tolds
+            ∙ ap (λ c. election m (last_names (told_before (before ++ line ∷ [])) m) (rows_of (way_for (kind_or_usual notes.kind) pick.way) c)) casts,
+        rows,
+      );
+      votes = is.votes ∙ ap (λ c. sum_by (λ (x : Cast). x.count) c) casts;
+    }
+  where
+    false_true : {t : Bool} {X : Type 0} → t ≡ true → t ≡ false → X
+    false_true h i = absurd (cc)
+
+-- what a ballot line without a fault is
+abbrev pub IsCast : Pick → List (List ℕ) → List ℕ → Notes → Type 0
+IsCast pick before line notes = (m : ℕ) × (kind : Kind) × (cast : Cast) × (notes.alternatives ≡ Some m) × (notes.kind ≡ Ok kind) × (ballot_of line ≡ Some cast) × (ballot_fault kind m notes.categories cast.count cast.classes ≡ None)
+
+is_cast : (pick : Pick) (before : List (List ℕ)) (line : List ℕ) (notes : Notes) → ballot_error pick notes (ballot_of line) ≡ None → IsCast pick before line notes
+is_cast pick before line notes fine = of_number notes.alternatives refl fine
+  where
+    of_cast : (m : ℕ) (kind : Kind) (cast : Option Cast) → notes.alternatives ≡ Some m → notes.kind ≡ Ok kind → ballot_of line ≡ cast → (t : Bool)
+        → or_else (cond (not t) (Some PickMisfit) None) (cast_error kind m notes.categories cast) ≡ None → IsCast pick before line notes
+    of_cast m kind cast a k c false h = absurd (cc)
+    of_cast m kind None a k c true h = absurd (cc)
+    of_cast m kind (Some cast) a k c true h = (m, kind, cast, a, k, c, h)
+
+    of_kind : (m : ℕ) (kind : Result Kind FaultName) → notes.alternatives ≡ Some m → notes.kind ≡ kind → kind_error pick notes m (ballot_of line) kind ≡ None → IsCast pick before line notes
+    of_kind m (Err name) a k h = absurd (cc)
+    of_kind m (Ok kind) a k h = of_cast m kind (ballot_of line) a k refl (is_fitting kind notes.categories pick.way) h
+
+    of_number : (number : Option ℕ) → notes.alternatives ≡ number → alternatives_error pick notes (ballot_of line) number ≡ None → IsCast pick before line notes
+    of_number None a h = absurd (cc)
+    of_number (Some m) a h = of_kind m notes.kind a refl h
+
+cast_effect-is : (pick : Pick) (line : List ℕ) (notes : Notes) (cast : Cast) → ballot_of line ≡ Some cast → cast_effect pick notes (ballot_of line) ≡ cast_effect pick notes (Some cast)
+cast_effect-is pick line notes cast is = ap (cast_effect pick notes) is
+
+-- the first ballot
+after-first : (pick : Pick) (before : List (List ℕ)) (line : List ℕ) (notes : Notes) (e : Election) → IsAfter pick before notes e → notes.has_ballot ≡ false → is_ballot_line line ≡ true → IsCast pick before line notes
+    → IsAfter pick (before ++ line ∷ []) (record notes { has_ballot = true }) (with_effect e (cast_effect pick notes (ballot_of line)))
+after-first pick before line notes e is none ballot (m, kind, cast, alternatives, known, read, fine) =
+    let no_ballot : has_ballot before ≡ false = sym is.ballots ∙ none in
+    let more : (has_ballot before || is_ballot_line line) ≡ true = ap (λ t. t || is_ballot_line line) no_ballot ∙ ballot in
+    let tolds : told_before before ≡ told_before (before ++ line ∷ []) = sym (told_before-kept before line more) in
+    let way = way_for (kind_or_usual notes.kind) pick.way in
+    let casts : casts_in pick ballot_of (before ++ line ∷ []) ≡ cast ∷ [] = casts_in-ballot pick ballot_of before line cast ballot read ∙ ap (λ c. c ++ cast ∷ []) (casts_in-none pick ballot_of before no_ballot) in
+    let rows : with_votes [] (approved way cast.classes) cast.count ≡ rows_of way (casts_in pick ballot_of (before ++ line ∷ [])) = sym (ap (rows_of way) casts) in
+    let effect : with_effect e (cast_effect pick notes (ballot_of line)) ≡ election m (last_names (told_before before) m) (with_votes [] (approved way cast.classes) cast.count) =
+    ap (with_effect e) (cast_effect-is pick line notes cast read ∙ ap (λ t. Casts (cond t None notes.alternatives) (approved way cast.classes) cast.count) none ∙ ap (λ o. Casts o (approved way cast.classes) cast.count) alternatives)
+    ∙ ap (λ f. election m (take m f.names) (with_votes [] (approved way cast.classes) cast.count)) (is.opened none)
+    ∙ ap (λ l. election m l (with_votes [] (approved way cast.classes) cast.count)) (take-map-range_with_len (last_name (told_before before)) 1 40 m (most m alternatives)) in
+    record {
+      told = subst (λ t. IsTold pick t (record notes { has_ballot = true })) tolds (told-ballot pick (told_before before) notes is.told);
+      ballots = sym (has_ballot-more before line ∙ more);
+      opened = λ h. absurd (cc);
+      begun = λ h. (
+        m,
+        alternatives,
+        effect ∙ ap (λ t. election m (last_names t m) (with_votes [] (approved way cast.classes) cast.count)) tolds ∙ ap (election m (last_names (told_before (before ++ line ∷ [])) m)) rows,
+        λ empty. with_votes-some [] (approved way cast.classes) cast.count (sym (ap (λ (f : Election). f.rows) effect) ∙ empty),
+      );
+      votes = ap (λ (f : Election). voter_count f.rows) effect ∙ sym (ap (λ c. sum_by (λ (x : Cast). x.count) c) casts);
+    }
+  where
+    most : (m : ℕ) → notes.alternatives ≡ Some m → m ≤ 40
+    most m a = (subst (λ o. IfSome o (λ n. (1 ≤ n) × (n ≤ 40))) a is.told.sound).1
+
+-- a ballot behind others
+after-ballot : (pick : Pick) (before : List (List ℕ)) (line : List ℕ) (notes : Notes) (e : Election) → IsAfter pick before notes e → notes.has_ballot ≡ true → is_ballot_line line ≡ true → IsCast pick before line notes
+    → IsAfter pick (before ++ line ∷ []) (record notes { has_ballot = true }) (with_effect e (cast_effect pick notes (ballot_of line)))
+after-ballot pick before line notes e is some ballot (m, kind, cast, alternatives, known, read, fine) =
+    let (count, number, profile, rows) = is.begun some in
+    let more : (has_ballot before || is_ballot_line line) ≡ true = ap (λ t. t || is_ballot_line line) (sym is.ballots ∙ some) in
+    let tolds : told_before before ≡ told_before (before ++ line ∷ []) = sym (told_before-kept before line more) in
+    let way = way_for (kind_or_usual notes.kind) pick.way in
+    let casts : casts_in pick ballot_of (before ++ line ∷ []) ≡ casts_in pick ballot_of before ++ cast ∷ [] = casts_in-ballot pick ballot_of before line cast ballot read in
+    let pushed : with_votes (rows_of way (casts_in pick ballot_of before)) (approved way cast.classes) cast.count ≡ rows_of way (casts_in pick ballot_of (before ++ line ∷ [])) =
+    sym (rows_of-push way (casts_in pick ballot_of before) cast) ∙ ap (rows_of way) (sym casts) in
+    let effect : with_effect e (cast_effect pick notes (ballot_of line)) ≡ record e { rows = with_votes e.rows (approved way cast.classes) cast.count } =
+    ap (with_effect e) (cast_effect-is pick line notes cast read ∙ ap (λ t. Casts (cond t None notes.alternatives) (approved way cast.classes) cast.count) some) in
+    record {
+      told = subst (λ t. IsTold pick t (record notes { has_ballot = true })) tolds (told-ballot pick (told_before before) notes is.told);
+      ballots = sym (has_ballot-more before line ∙ more);
+      opened = λ h. absurd (cc);
+      begun = λ h. (
+        count,
+        number,
+        effect ∙ ap (λ (f : Election). record f { rows = with_votes f.rows (approved way cast.classes) cast.count }) profile
+            ∙ ap (λ t. election count (last_names t count) (with_votes (rows_of way (casts_in pick ballot_of before)) (approved way cast.classes) cast.count)) tolds
+            ∙ ap (election count (last_names (told_before (before ++ line ∷ [])) count)) pushed,
+        λ empty. with_votes-some e.rows (approved way cast.classes) cast.count (sym (ap (λ (f : Election). f.rows) effect) ∙ empty),
+      );
+      votes = ap (λ (f : Election). voter_count f.rows) effect ∙ voters-more e.rows (approved way cast.classes) cast.count ∙ ap (λ n. n + cast.count) is.votes
+          ∙ sym (votes_in-ballot pick ballot_of before line cast ballot read);
+    }
+
+or_else-first : {X : Type 0} (a b : Option X) → or_else a b ≡ None → a ≡ None
+or_else-first None b h = refl
+or_else-first (Some x) b h = absurd (cc)
+
+pub or_else-second : {X : Type 0} (a b : Option X) → or_else a b ≡ None → b ≡ None
+or_else-second None b h = h
+or_else-second (Some x) b h = absurd (cc)
+
+-- a line without a fault
+pub after-line : (pick : Pick) (before : List (List ℕ)) (line : List ℕ) (notes : Notes) (e : Election) → IsAfter pick before notes e → line_error pick notes line ≡ None
+    → IsAfter pick (before ++ line ∷ []) (line_notes pick notes line) (with_effect e (line_effect pick notes line))
+after-line pick before line notes e is fine = by (is_ballot_line line) notes.has_ballot refl refl (or_else-second (fault_if (nat_lt 1048576 (length line)) LongLine) _ fine)
+  where
+    by : (b s : Bool) → is_ballot_line line ≡ b → notes.has_ballot ≡ s → cond b (ballot_error pick notes (ballot_of line)) (cond s None (told_error notes (told_of line))) ≡ None
+        → IsAfter pick (before ++ line ∷ []) (cond b (record notes { has_ballot = true }) (cond s notes (told_notes pick notes (told_of line)))) (with_effect e (cond b (cast_effect pick notes (ballot_of line)) (cond s NoEffect (told_effect (told_of line)))))
+    by true false f g h = after-first pick before line notes e is g f (is_cast pick before line notes h)
+    by true true f g h = after-ballot pick before line notes e is g f (is_cast pick before line notes h)
+    by false true f g h = after-skipped pick before line notes e is g f
+    by false false f g h = after-told pick before line notes e is g f h
+
+-- ---- the end
+
+pub end_error-is : (pick : Pick) (lines : List (List ℕ)) (notes : Notes) (e : Election) → IsAfter pick lines notes e → end_error notes e ≡ end_fault lines
+end_error-is pick lines notes e is =
+    ap (λ o. or_else (fault_if (not (is_some o)) NoAlternatives) (fault_if (is_empty e.rows) NoVoters)) is.told.alternatives
+    ∙ ap (λ t. or_else (fault_if (not (is_some (alternatives_in lines))) NoAlternatives) (fault_if t NoVoters)) (by notes.has_ballot refl)
+  where
+    none : (rows : List Row) → rows ≡ [] → is_empty rows ≡ true
+    none [] h = refl
+    none (row ∷ rows) h = absurd (cc)
+
+    some : (rows : List Row) → rows ≢ [] → is_empty rows ≡ false
+    some [] h = absurd (h refl)
+    some (row ∷ rows) h = refl
+
+    by : (t : Bool) → notes.has_ballot ≡ t → is_empty e.rows ≡ not (has_ballot lines)
+    by true h = some e.rows ((is.begun h).3) ∙ sym (ap not (sym is.ballots ∙ h))
+    by false h = none e.rows (ap (λ (f : Election). f.rows) (is.opened h)) ∙ sym (ap not (sym is.ballots ∙ h))
+
+-- where a ballot was read the profile is that of the lines
+pub election_in-is : (pick : Pick) (lines : List (List ℕ)) (notes : Notes) (e : Election) → IsAfter pick lines notes e → end_error notes e ≡ None → e ≡ election_in pick ballot_of lines
+election_in-is pick lines notes e is fine = by notes.has_ballot refl
+  where
+    by : (t : Bool) → notes.has_ballot ≡ t → e ≡ election_in pick ballot_of lines
+    by true h =
+        let (m, number, profile, rows) = is.begun h in
+        profile ∙ ap (λ k. election m (last_names (told_before lines) m) (rows_of (way_for (kind_or_usual k) pick.way) (casts_in pick ballot_of lines))) is.told.kind
+        ∙ ap (λ n. election n (last_names (told_before lines) n) (rows_in pick ballot_of lines)) (ap (λ o. unwrap_or o 0) (sym number ∙ is.told.alternatives))
+    by false h =
+        let empty : e.rows ≡ [] = ap (λ (f : Election). f.rows) (is.opened h) in
+        absurd (no_voters e.rows empty (or_else-second (fault_if (not (is_some notes.alternatives)) NoAlternatives) (fault_if (is_empty e.rows) NoVoters) fine))
+      where
+        no_voters : (rows : List Row) → rows ≡ [] → fault_if (is_empty rows) NoVoters ≡ None → ⊥
+        no_voters [] g i = absurd (cc)
+        no_voters (row ∷ rows) g i = absurd (cc)
+
+-- ---- all lines
+
+-- lines without a fault before others
+abbrev pub IsFine : Pick → List (List ℕ) → Type 0
+IsFine pick before = (more : List (List ℕ)) → first_fault pick ballot_of [] (before ++ more) ≡ first_fault pick ballot_of before more
+
+pub is_fine-none : (pick : Pick) → IsFine pick []
+is_fine-none pick more = refl
+
+pub is_fine-more : (pick : Pick) (before : List (List ℕ)) (line : List ℕ) → IsFine pick before → line_fault pick ballot_of before line ≡ None → IsFine pick (before ++ line ∷ [])
+is_fine-more pick before line fine none more =
+    ap (first_fault pick ballot_of []) (append_assoc before (line ∷ []) more) ∙ fine (line ∷ more)
+    ∙ ap (λ o. or_else (option_map (at_line (length before + 1)) o) (first_fault pick ballot_of (before ++ line ∷ []) more)) none
+
+-- the first line with a fault
+pub fault_at : (pick : Pick) (before : List (List ℕ)) (line : List ℕ) (more : List (List ℕ)) (name : FaultName) → IsFine pick before → line_fault pick ballot_of before line ≡ Some name
+    → first_fault pick ballot_of [] (before ++ line ∷ more) ≡ Some (at_line (length before + 1) name)
+fault_at pick before line more name fine fault =
+    fine (line ∷ more) ∙ ap (λ o. or_else (option_map (at_line (length before + 1)) o) (first_fault pick ballot_of (before ++ line ∷ []) more)) fault
+
+-- a place in an input: the lines before it, none with a fault, and what was made of them
+pub record IsAt (pick : Pick) (bytes : List ℕ) (rest : List ℕ) (notes : Notes) (e : Election) (before : List (List ℕ)) : Type 0 where
+  pub lines : lines_of bytes ≡ before ++ map without_return (pieces_of rest)
+  pub fine : IsFine pick before
+  pub after : IsAfter pick before notes e

@@ -1,0 +1,17 @@
+pub mod CutLemmas
+pub mod MetadataLemmas
+pub mod NoteLemmas
+pub mod ToldSteps
+pub mod ProfileSteps
+pub mod After
+pub mod BallotTexts
+pub mod BallotWritten
+pub mod BallotRead
+pub mod BallotSteps
+pub mod BallotSets
+pub mod BallotTaken
+pub mod BallotFaults
+pub mod BallotLines
+pub mod BallotExamples
+pub mod ReadingExamples
+pub mod ReadLemmas

@@ -1,0 +1,11 @@
+pub mod Cuts
+pub mod Lines
+pub mod Ballot
+pub mod Approvals
+pub mod Metadata
+pub mod Tells
+pub mod Reading
+pub mod Notes
+pub mod BallotTokens
+pub mod BallotMarks
+pub mod BallotReading

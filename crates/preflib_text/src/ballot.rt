@@ -1,0 +1,306 @@
+//! Reading one line of a ballot: a count, a colon and an order.
+ghost use Rattle.std.specs.Prelude.{◌≡◌, ℕ, ◌+◌, ◌^◌, ◌<◌, ◌≤◌, length, List, [], ◌∷◌, Some, None, MatchOption, IfOk, IfErr};
+ghost use Rattle.std.specs.Option.{option_map};
+ghost use Rattle.ballot_base.specs.Lists.{IsIncreasing};
+ghost use Rattle.preflib_text.specs.Ballot.{IsBallotLine};
+ghost use Rattle.preflib_text.specs.BallotTokens.{token_of, tokens_after, tokens_of, capped, IsFirstToken, next_place, is_end, order_at, ballot_of};
+ghost use Rattle.preflib_text.specs.BallotMarks.{HasNumber, no_marks, with_classes, with_read};
+ghost use Rattle.preflib_text.specs.BallotReading.{HasMarks, IsGoodBallot, IsBallotFault};
+
+use crate::approvals::{MOST_VOTERS, Marks};
+use crate::fault::FaultName;
+use crate::pick::{Kind, Way};
+use ballot_base::CandSet;
+
+/// What larger numbers are read as: no number that is asked for is above `MOST_VOTERS`.
+const ABOVE: u64 = MOST_VOTERS + 1;
+
+/// A part of a ballot line.
+#[derive(Clone, Copy)]
+enum Token {
+    Number(u64),
+    Colon,
+    Comma,
+    Open,
+    Close,
+    Other,
+}
+
+/// A place in an order, by what may come next.
+#[derive(Clone, Copy)]
+enum Place {
+    /// Behind the colon.
+    Order,
+    /// Behind a comma between classes.
+    Class,
+    /// Behind a class.
+    Between,
+    /// Behind an opening brace.
+    Opened,
+    /// Behind a comma between braces.
+    Inner,
+    /// Behind a number between braces.
+    Listed,
+}
+
+impl Place {
+    /// The place behind a token, if it may come here. Its number, or the end of its class, goes into the marks.
+    fn after(self, token: Token, marks: &mut Marks, m: u8, way: Way) -> Option<Place>
+        requires candidates { m ≤ 40 }
+        requires classes { marks.old.classes + 1 < 2 ^ 64 }
+        requires numbers { marks.old.before + marks.old.numbers + 1 < 2 ^ 64 }
+        ensures place { result ≡ next_place self token }
+        ensures marks { marks.new ≡ with_read m way self token marks.old }
+    {
+        match token {
+            Token::Number(n) => self.after_number(n, marks, m, way),
+            Token::Open => match self {
+                Place::Order | Place::Class => Some(Place::Opened),
+                _ => None,
+            },
+            Token::Close => match self {
+                Place::Opened | Place::Listed => {
+                    marks.end_class();
+                    Some(Place::Between)
+                }
+                _ => None,
+            },
+            Token::Comma => match self {
+                Place::Between => Some(Place::Class),
+                Place::Listed => Some(Place::Inner),
+                _ => None,
+            },
+            Token::Colon | Token::Other => None,
+        }
+    }
+
+    /// The place behind a number, if it may come here.
+    fn after_number(self, n: u64, marks: &mut Marks, m: u8, way: Way) -> Option<Place>
+        requires candidates { m ≤ 40 }
+        requires classes { marks.old.classes + 1 < 2 ^ 64 }
+        requires numbers { marks.old.before + marks.old.numbers + 1 < 2 ^ 64 }
+        ensures place { result ≡ next_place self (Token.Number n) }
+        ensures marks { marks.new ≡ with_read m way self (Token.Number n) marks.old }
+    {
+        match self {
+            Place::Order | Place::Class => {
+                marks.add_number(m, way, n);
+                marks.end_class();
+                Some(Place::Between)
+            }
+            Place::Opened | Place::Inner => {
+                marks.add_number(m, way, n);
+                Some(Place::Listed)
+            }
+            Place::Between | Place::Listed => None,
+        }
+    }
+
+    /// Whether an order may end here.
+    fn is_end(self) -> bool
+        ensures { result ≡ is_end self }
+    {
+        matches!(self, Place::Order | Place::Between)
+    }
+}
+
+/// A ballot line that was read.
+#[derive(Clone, Copy)]
+struct Line {
+    count: u64,
+    marks: Marks,
+}
+
+/// How many voters cast a ballot, and the candidates whom it approves.
+#[derive(Clone, Copy)]
+pub(crate) struct Ballot {
+    pub(crate) count: u64,
+    pub(crate) approved: CandSet,
+}
+
+/// The number that begins with this digit and goes on with those at the front of the text, and the text behind them.
+/// Of a number above `MOST_VOTERS` it is `ABOVE`.
+#[tactic(auto, unfolding(crate::specs::BallotTokens::tokens_after))]
+fn digits(first: u64, text: &[u8]) -> (u64, &[u8])
+    requires { first ≤ 9 }
+    ensures number { (n : ℕ) × (result.0 ≡ capped n) × (tokens_after (Some first) text.now ≡ Token.Number n ∷ tokens_of result.1.now) }
+    ensures shorter { length result.1.now ≤ length text.now }
+{
+    let mut value = first;
+    let mut rest = text;
+    while let [digit @ b'0'..=b'9', after @ ..] = rest {
+        value = (10 * value + u64::from(*digit - b'0')).min(ABOVE);
+        rest = after;
+    }
+    (value, rest)
+}
+
+/// The token of a byte that is neither a blank nor a digit.
+fn mark(byte: u8) -> Token
+    ensures { result ≡ token_of byte }
+{
+    match byte {
+        b':' => Token::Colon,
+        b',' => Token::Comma,
+        b'{' => Token::Open,
+        b'}' => Token::Close,
+        _ => Token::Other,
+    }
+}
+
+/// The first token, and the text behind it. A number is read as `digits` says.
+#[tactic(auto, unfolding(crate::specs::BallotTokens::tokens_after))]
+fn next_token(text: &[u8]) -> Option<(Token, &[u8])>
+    ensures { MatchOption result (tokens_of text.now ≡ []) (λ x. IsFirstToken text.now x.0 x.1.now) }
+{
+    let mut rest = text;
+    while let [byte, after @ ..] = rest {
+        match byte {
+            b' ' | b'\t' => rest = after,
+            b'0'..=b'9' => {
+                let (n, after) = digits(u64::from(*byte - b'0'), after);
+                return Some((Token::Number(n), after));
+            }
+            _ => return Some((mark(*byte), after)),
+        }
+    }
+    None
+}
+
+/// The marks of the classes of an order.
+fn read_order(text: &[u8], m: u8, way: Way) -> Option<Marks>
+    requires { m ≤ 40 }
+    ensures { result ≡ option_map (with_classes m way no_marks) (order_at Place.Order (tokens_of text.now)) }
+{
+    let mut marks = Marks::new();
+    let mut place = Place::Order;
+    let mut rest = text;
+    while let Some((token, after)) = next_token(rest) {
+        place = place.after(token, &mut marks, m, way)?;
+        rest = after;
+    }
+    place.is_end().then_some(marks)
+}
+
+/// The count and the marks of a line, if it has the shape of a ballot line.
+fn read_line(line: &[u8], m: u8, way: Way) -> Option<Line>
+    requires { m ≤ 40 }
+    ensures { MatchOption result (ballot_of line.now ≡ None) (λ read. HasMarks m way line.now read.count read.marks) }
+{
+    let (first, rest) = next_token(line)?;
+    let Token::Number(count) = first else {
+        return None;
+    };
+    let (second, order) = next_token(rest)?;
+    let Token::Colon = second else {
+        return None;
+    };
+    let marks = read_order(order, m, way)?;
+    Some(Line { count, marks })
+}
+
+/// Reads the line of a ballot, without its end. A line of another shape has the fault `BadBallot`.
+pub(crate) fn read_ballot(
+    line: &[u8],
+    kind: Kind,
+    m: u8,
+    categories: Option<u64>,
+    way: Way,
+) -> Result<Ballot, FaultName>
+    requires candidates { m ≤ 40 }
+    requires way { HasNumber way }
+    ensures ok { IfOk result (λ ballot. IsGoodBallot line.now kind m categories way ballot.count ballot.approved) }
+    ensures candidates { IfOk result (λ ballot. IsIncreasing 1 m ballot.approved) }
+    ensures voters { IfOk result (λ ballot. (1 ≤ ballot.count) × (ballot.count ≤ 2 ^ 32)) }
+    ensures err { IfErr result (λ fault. IsBallotFault line.now kind m categories fault) }
+{
+    let Some(read) = read_line(line, m, way) else {
+        return Err(FaultName::BadBallot);
+    };
+    match read.marks.fault(kind, m, categories, read.count) {
+        Some(fault) => Err(fault),
+        None => Ok(Ballot {
+            count: read.count,
+            approved: read.marks.approved,
+        }),
+    }
+}
+
+/// A ballot line has one count and one list of classes.
+pub fn one_ballot_line()
+    ensures { (line : List ℕ) (c d : ℕ) (cs ds : List (List ℕ)) → IsBallotLine line c cs → IsBallotLine line d ds → (c ≡ d) × (cs ≡ ds) }
+{}
+
+#[cfg(test)]
+mod tests {
+    use super::*;
+    use std::test::Fail;
+
+    #[test]
+    fn ballots_are_read(rt: HostRuntime) -> Result<(), Fail> {
+        let cases: [(&[u8], Kind, Way, u64, &[u8]); 8] = [
+            (b"2: {1,2},3", Kind::Cat, Way::Category(1), 2, &[1, 2]),
+            (b"2: {1,2},3", Kind::Cat, Way::Category(3), 2, &[]),
+            (
+                b"0001:\t4 , { 2 ,3 }\t,1",
+                Kind::Toi,
+                Way::SetSize(2),
+                1,
+                &[2, 3, 4],
+            ),
+            (b"7:{},{4},{},1", Kind::Toi, Way::Classes(2), 7, &[4]),
+            (b"7:{},{4},{},1", Kind::Toi, Way::SetSize(1), 7, &[4]),
+            (
+                b"4294967296:{3},1,2,4",
+                Kind::Soc,
+                Way::SetSize(3),
+                4294967296,
+                &[1, 2, 3],
+            ),
+            (b"5:", Kind::Soi, Way::SetSize(1), 5, &[]),
+            (b" 5 : \t", Kind::Cat, Way::Category(1), 5, &[]),
+        ];
+        for (line, kind, way, count, approved) in cases {
+            let ballot = read_ballot(line, kind, 4, Some(4), way)?;
+            assert_eq!(rt; ballot.count, count);
+            assert!(rt; CandSet::of_list(approved) == Some(ballot.approved));
+        }
+        Ok(())
+    }
+
+    #[test]
+    fn faults_are_named(rt: HostRuntime) {
+        let cases: [(&[u8], Kind, FaultName); 22] = [
+            (b"", Kind::Toi, FaultName::BadBallot),
+            (b"3", Kind::Toi, FaultName::BadBallot),
+            (b": 1", Kind::Toi, FaultName::BadBallot),
+            (b"1 2: 1", Kind::Toi, FaultName::BadBallot),
+            (b"3: 1 2", Kind::Toi, FaultName::BadBallot),
+            (b"3: 1,", Kind::Toi, FaultName::BadBallot),
+            (b"3: ,1", Kind::Toi, FaultName::BadBallot),
+            (b"3: {1,}", Kind::Toi, FaultName::BadBallot),
+            (b"3: {,}", Kind::Toi, FaultName::BadBallot),
+            (b"3: {1", Kind::Toi, FaultName::BadBallot),
+            (b"3: 1}", Kind::Toi, FaultName::BadBallot),
+            (b"3: {{1}}", Kind::Toi, FaultName::BadBallot),
+            (b"0: 9,x", Kind::Toi, FaultName::BadBallot),
+            (b"0: 9", Kind::Toi, FaultName::BadCount),
+            (b"4294967297: 9", Kind::Toi, FaultName::BadCount),
+            (b"18446744073709551617: 9", Kind::Toi, FaultName::BadCount),
+            (b"1: 1,5,1", Kind::Soc, FaultName::NoSuchCandidate),
+            (b"1: 1,{1},5", Kind::Soc, FaultName::RepeatedCandidate),
+            (
+                b"1: 18446744073709551617",
+                Kind::Toi,
+                FaultName::NoSuchCandidate,
+            ),
+            (b"1: {1,2}", Kind::Soc, FaultName::NotStrict),
+            (b"1: 1,2,3", Kind::Soc, FaultName::Incomplete),
+            (b"1: 1,2,3", Kind::Cat, FaultName::TooManyClasses),
+        ];
+        for (line, kind, fault) in cases {
+            let read = read_ballot(line, kind, 4, Some(2), Way::Usual);
+            assert_eq!(rt; read.err(), Some(fault));
+        }
+    }
+}

@@ -1,0 +1,20 @@
+//! Reads ballot files of PrefLib: complete, incomplete, strict and weak rankings, and categories.
+#![tactic(auto)]
+
+mod approvals;
+mod ballot;
+pub mod fault;
+mod lines;
+mod metadata;
+mod notes;
+pub mod pick;
+mod reader;
+
+pub use ballot::one_ballot_line;
+pub use fault::{FaultName, ReadFault};
+pub use metadata::kind_of;
+pub use pick::{Kind, Pick, Way};
+pub use reader::{one_outcome, read_profile};
+
+#[cfg(test)]
+mod tests;

@@ -1,0 +1,171 @@
+//! What a metadata line tells.
+ghost use Rattle.std.specs.Prelude.{◌≡◌, ℕ, ◌==◌, true, false, List, [], ◌∷◌, option_map, MatchOption};
+ghost use Rattle.std.specs.List.{list_any, before_first, after_first};
+ghost use Rattle.preflib_text.specs.Metadata.{words_of, number_of, told_by, told_of, kind_of};
+ghost use Rattle.preflib_text.specs.BallotTokens.{capped};
+ghost use Rattle.preflib_text.specs.Tells.{words_with, digits_after, meant, capped_told};
+
+use crate::lines::{trim, trim_start};
+use crate::pick::Kind;
+use bstr::ByteSlice;
+
+/// What larger numbers are read as: no number that is asked for is above 2^32.
+const ABOVE: u64 = 4_294_967_297;
+
+/// What a metadata line tells.
+#[derive(Clone, Copy)]
+pub(crate) enum Told<'a> {
+    Type(&'a [u8]),
+    Alternatives(&'a [u8]),
+    Categories(&'a [u8]),
+    Name(u64, &'a [u8]),
+    Nothing,
+}
+
+/// A metadata line, cut at its first colon.
+#[derive(Clone, Copy)]
+struct Entry<'a> {
+    key: &'a [u8],
+    value: &'a [u8],
+}
+
+/// A word and the bytes after it.
+#[derive(Clone, Copy)]
+struct Word<'a> {
+    word: &'a [u8],
+    rest: &'a [u8],
+}
+
+/// The number that goes on with these digits.
+#[tactic(auto, unfolding(crate::specs::Tells::digits_after))]
+fn digits_after(first: u64, text: &[u8]) -> Option<u64>
+    requires { first ≡ capped first }
+    ensures { result ≡ digits_after first text.now }
+{
+    let mut value = first;
+    let mut rest = text;
+    while let [byte, after @ ..] = rest {
+        if !byte.is_ascii_digit() {
+            return None;
+        }
+        value = (10 * value + u64::from(*byte - b'0')).min(ABOVE);
+        rest = after;
+    }
+    Some(value)
+}
+
+/// The number that digits stand for. Of a number above 2^32 it is `ABOVE`.
+pub(crate) fn number_of(text: &[u8]) -> Option<u64>
+    ensures { result ≡ option_map capped (number_of text.now) }
+{
+    if text.is_empty() {
+        return None;
+    }
+    digits_after(0, text)
+}
+
+/// The first word, and the bytes after it. Where there is none the word is empty.
+fn first_word(text: &[u8]) -> Word<'_>
+    ensures word { words_of text.now ≡ words_with result.word.now (words_of result.rest.now) }
+    ensures end { result.word.now ≡ [] → result.rest.now ≡ [] }
+{
+    let text = trim_start(text);
+    match text.find_byteset(b" \t") {
+        Some(at) => Word {
+            word: &text[..at],
+            rest: &text[at..],
+        },
+        None => Word {
+            word: text,
+            rest: &[],
+        },
+    }
+}
+
+/// A text before and after its first colon.
+fn cut_at_colon(text: &[u8]) -> Option<Entry<'_>>
+    ensures { MatchOption result (list_any (λ b. b == 58) text.now ≡ false) (λ e. (list_any (λ b. b == 58) text.now ≡ true) × (e.key.now ≡ before_first (λ b. b == 58) text.now) × (e.value.now ≡ after_first (λ b. b == 58) text.now)) }
+{
+    let at = text.find_byte(b':')?;
+    Some(Entry {
+        key: &text[..at],
+        value: &text[at + 1..],
+    })
+}
+
+/// What a key of at most two words tells.
+fn told_by_two<'a>(first: &[u8], second: &[u8], value: &'a [u8]) -> Told<'a>
+    ensures { meant result ≡ told_by (record { key = words_with first.now (words_with second.now []); value = value.now }) }
+{
+    if first.eq_ignore_ascii_case(b"DATA") && second.eq_ignore_ascii_case(b"TYPE") {
+        return Told::Type(value);
+    }
+    if first.eq_ignore_ascii_case(b"NUMBER") && second.eq_ignore_ascii_case(b"ALTERNATIVES") {
+        return Told::Alternatives(value);
+    }
+    if first.eq_ignore_ascii_case(b"NUMBER") && second.eq_ignore_ascii_case(b"CATEGORIES") {
+        return Told::Categories(value);
+    }
+    Told::Nothing
+}
+
+/// What a key of three words tells.
+fn told_by_three<'a>(first: &[u8], second: &[u8], third: &[u8], value: &'a [u8]) -> Told<'a>
+    ensures { meant result ≡ capped_told (told_by (record { key = first.now ∷ second.now ∷ third.now ∷ []; value = value.now })) }
+{
+    if !(first.eq_ignore_ascii_case(b"ALTERNATIVE") && second.eq_ignore_ascii_case(b"NAME")) {
+        return Told::Nothing;
+    }
+    match number_of(third) {
+        Some(number) => Told::Name(number, value),
+        None => Told::Nothing,
+    }
+}
+
+/// What a key tells.
+fn told_by<'a>(key: &[u8], value: &'a [u8]) -> Told<'a>
+    ensures { meant result ≡ capped_told (told_by (record { key = words_of key.now; value = value.now })) }
+{
+    let first = first_word(key);
+    let second = first_word(first.rest);
+    let third = first_word(second.rest);
+    if third.word.is_empty() {
+        told_by_two(first.word, second.word, value)
+    } else if first_word(third.rest).word.is_empty() {
+        told_by_three(first.word, second.word, third.word, value)
+    } else {
+        Told::Nothing
+    }
+}
+
+/// What a metadata line tells.
+pub(crate) fn told_of(line: &[u8]) -> Told<'_>
+    ensures { meant result ≡ capped_told (told_of line.now) }
+{
+    let [b'#', text @ ..] = trim_start(line) else {
+        return Told::Nothing;
+    };
+    match cut_at_colon(text) {
+        Some(entry) => told_by(entry.key, trim(entry.value)),
+        None => Told::Nothing,
+    }
+}
+
+/// The type of this name, in letters of any case.
+pub fn kind_of(text: &[u8]) -> Option<Kind>
+    ensures { result ≡ kind_of text.now }
+{
+    if text.eq_ignore_ascii_case(b"cat") {
+        Some(Kind::Cat)
+    } else if text.eq_ignore_ascii_case(b"soc") {
+        Some(Kind::Soc)
+    } else if text.eq_ignore_ascii_case(b"soi") {
+        Some(Kind::Soi)
+    } else if text.eq_ignore_ascii_case(b"toc") {
+        Some(Kind::Toc)
+    } else if text.eq_ignore_ascii_case(b"toi") {
+        Some(Kind::Toi)
+    } else {
+        None
+    }
+}

@@ -1,0 +1,40 @@
+//! What of a file is taken as approvals.
+
+/// The type of a ballot file, as PrefLib names it.
+#[derive(Clone, Copy, Debug, PartialEq, Eq)]
+pub enum Kind {
+    /// Categories.
+    Cat,
+    /// Strict and complete rankings.
+    Soc,
+    /// Strict and incomplete rankings.
+    Soi,
+    /// Complete rankings with ties.
+    Toc,
+    /// Incomplete rankings with ties.
+    Toi,
+}
+
+/// Which candidates of a ballot are approved. The numbers are at least 1.
+#[derive(Clone, Copy, Debug, PartialEq, Eq)]
+pub enum Way {
+    /// The first category of a `cat` file, and the first class of a ranking that has a candidate.
+    Usual,
+    /// This category of a `cat` file, counted from 1.
+    Category(u32),
+    /// The fewest first classes of a ranking that have so many candidates together, or all.
+    SetSize(u32),
+    /// So many first classes of a ranking, or all.
+    Classes(u32),
+}
+
+/// How a file is read.
+#[derive(Clone, Copy, Debug, PartialEq, Eq)]
+pub struct Pick {
+    /// The type of the file, where the reader is told.
+    pub kind: Option<Kind>,
+    /// The type that the file's name ends in. It serves where nothing else tells the type.
+    pub ending: Option<Kind>,
+    /// Which candidates are approved.
+    pub way: Way,
+}

@@ -1,0 +1,187 @@
+//! Reading a whole ballot file.
+ghost use Rattle.std.specs.Prelude.{◌≡◌, ◌⊎◌, ℕ, ◌^◌, ◌<◌, ◌≤◌, ◌+◌, true, false, List, [], ◌∷◌, map, Some, None, unwrap_or, Result, Ok, Err, nat_lt, MatchResult, IfOk, IfErr, OnOk};
+ghost use Rattle.ballot_base.specs.Lists.{IsIncreasing};
+ghost use Rattle.ballot_base.specs.Ballots.{Election, with_votes, voter_count};
+ghost use Rattle.preflib_text.specs.Lines.{pieces_of, without_return};
+ghost use Rattle.preflib_text.specs.BallotMarks.{HasNumber};
+ghost use Rattle.preflib_text.specs.Reading.{Reads, RunsShort, fault_if, or_else, at_end, at_line};
+ghost use Rattle.preflib_text.specs.Notes.{Casts, IsSound, MayCome, Names, Refuses, fresh_notes, line_effect, line_error, line_notes, effect_error, effect_of, end_error, with_effect};
+
+use crate::ballot::Ballot;
+use crate::fault::{FaultName, ReadFault};
+use crate::lines::{first_line, without_mark};
+use crate::notes::{Notes, Step, Vote};
+use crate::pick::Pick;
+use ballot_base::{AddFault, CandSet, Profile, ProfileBuilder};
+use std::alloc::Allocator;
+
+/// Adds a ballot.
+fn add_ballot<A: Allocator + Copy + Drop>(
+    builder: &mut ProfileBuilder<A>,
+    ballot: Ballot,
+) -> Result<(), FaultName>
+    requires set { IsIncreasing 1 builder.old.m ballot.approved }
+    requires count { 1 ≤ ballot.count }
+    ensures { MatchResult result (λ _. (fault_if (nat_lt (2 ^ 32) (voter_count builder.old.rows + ballot.count)) FaultName.TooManyVoters ≡ None) × (builder.new ≡ record builder.old { rows = with_votes builder.old.rows ballot.approved ballot.count })) (λ name. Refuses (fault_if (nat_lt (2 ^ 32) (voter_count builder.old.rows + ballot.count)) FaultName.TooManyVoters) name) }
+{
+    match builder.add(ballot.approved, ballot.count) {
+        Ok(()) => Ok(()),
+        Err(AddFault::TooManyVoters) => Err(FaultName::TooManyVoters),
+        Err(AddFault::Memory) => Err(FaultName::Memory),
+    }
+}
+
+/// Adds a ballot. The first one settles the number of candidates.
+fn add_vote<A: Allocator + Copy + Drop>(
+    builder: &mut ProfileBuilder<A>,
+    vote: Vote,
+) -> Result<(), FaultName>
+    requires { MayCome builder.old (Casts vote.first vote.ballot.approved vote.ballot.count) }
+    ensures { MatchResult result (λ _. (effect_error builder.old (Casts vote.first vote.ballot.approved vote.ballot.count) ≡ None) × (builder.new ≡ with_effect builder.old (Casts vote.first vote.ballot.approved vote.ballot.count))) (λ name. Refuses (effect_error builder.old (Casts vote.first vote.ballot.approved vote.ballot.count)) name) }
+{
+    match vote.first {
+        Some(m) => {
+            builder.narrow(m);
+            add_ballot(builder, vote.ballot)
+        }
+        None => add_ballot(builder, vote.ballot),
+    }
+}
+
+/// Gives a candidate a name.
+fn set_name<A: Allocator + Copy + Drop>(
+    builder: &mut ProfileBuilder<A>,
+    number: u8,
+    name: &[u8],
+) -> Result<(), FaultName>
+    requires { MayCome builder.old (Names number name.now) }
+    ensures { MatchResult result (λ _. builder.new ≡ with_effect builder.old (Names number name.now)) (λ name. name ≡ FaultName.Memory) }
+{
+    match builder.set_name(number, name) {
+        Ok(()) => Ok(()),
+        Err(_) => Err(FaultName::Memory),
+    }
+}
+
+/// Does to the profile what a line does.
+fn apply<A: Allocator + Copy + Drop>(
+    builder: &mut ProfileBuilder<A>,
+    step: &Step<'_>,
+) -> Result<(), FaultName>
+    requires { MayCome builder.old (effect_of step.now) }
+    ensures { MatchResult result (λ _. (effect_error builder.old (effect_of step.now) ≡ None) × (builder.new ≡ with_effect builder.old (effect_of step.now))) (λ name. Refuses (effect_error builder.old (effect_of step.now)) name) }
+{
+    match step {
+        Step::Nothing => Ok(()),
+        Step::Name(number, name) => set_name(builder, *number, name),
+        Step::Ballot(vote) => add_vote(builder, *vote),
+    }
+}
+
+/// The profile of the lines, or the fault of the end.
+fn finish<A: Allocator + Copy + Drop>(
+    builder: ProfileBuilder<A>,
+    notes: &Notes,
+) -> Result<Profile<A>, ReadFault>
+    ensures { MatchResult result (λ profile. (end_error notes.now builder ≡ None) × (profile ≡ builder)) (λ fault. (end_error notes.now builder ≡ Some fault.name) × (fault.line ≡ None)) }
+{
+    if notes.alternatives.is_none() {
+        return Err(ReadFault {
+            name: FaultName::NoAlternatives,
+            line: None,
+        });
+    }
+    match builder.finish() {
+        Ok(profile) => Ok(profile),
+        Err(_) => Err(ReadFault {
+            name: FaultName::NoVoters,
+            line: None,
+        }),
+    }
+}
+
+/// Reads a line, and does to the profile what it does.
+fn take_line<A: Allocator + Copy + Drop>(
+    builder: &mut ProfileBuilder<A>,
+    notes: &mut Notes,
+    pick: &Pick,
+    line: &[u8],
+) -> Result<(), FaultName>
+    requires way { HasNumber pick.now.way }
+    requires notes { IsSound notes.old }
+    requires opened { notes.old.has_ballot ≡ false → (builder.old.m ≡ 40) × (builder.old.rows ≡ []) }
+    requires begun { notes.old.has_ballot ≡ true → notes.old.alternatives ≡ Some builder.old.m }
+    ensures ok { OnOk result ((line_error pick.now notes.old line.now ≡ None) × (effect_error builder.old (line_effect pick.now notes.old line.now) ≡ None) × (notes.new ≡ line_notes pick.now notes.old line.now) × (builder.new ≡ with_effect builder.old (line_effect pick.now notes.old line.now))) }
+    ensures err { IfErr result (λ name. Refuses (or_else (line_error pick.now notes.old line.now) (effect_error builder.old (line_effect pick.now notes.old line.now))) name) }
+{
+    match notes.take_line(pick, line) {
+        Ok(step) => apply(builder, &step),
+        Err(name) => Err(name),
+    }
+}
+
+/// The fault of a line. The want of a number of alternatives has no line.
+fn fault_of_line(number: u64, name: FaultName) -> ReadFault
+    ensures { result ≡ at_line number name }
+{
+    let line = match name {
+        FaultName::NoAlternatives => None,
+        _ => Some(number),
+    };
+    ReadFault { name, line }
+}
+
+/// The fault where there was no memory for any profile: that of the first line or, without a line, of the end.
+fn fault_without_memory(pick: &Pick, text: &[u8]) -> ReadFault
+    requires { HasNumber pick.now.way }
+    ensures none { text.now ≡ [] → result ≡ at_end FaultName.NoAlternatives }
+    ensures some { (line : List ℕ) (lines : List (List ℕ)) → map without_return (pieces_of text.now) ≡ line ∷ lines → result ≡ at_line 1 (unwrap_or (line_error pick.now (fresh_notes pick.now) line) FaultName.Memory) }
+{
+    if text.is_empty() {
+        return ReadFault {
+            name: FaultName::NoAlternatives,
+            line: None,
+        };
+    }
+    let name = match Notes::new(pick).take_line(pick, first_line(text).line) {
+        Ok(_) => FaultName::Memory,
+        Err(name) => name,
+    };
+    fault_of_line(1, name)
+}
+
+/// Reads a ballot file: the whole profile of its ballots, or its first fault.
+///
+/// Numbers in the file may have any count of digits. A candidate without a name has none in the profile. Memory is
+/// answered with the number of the line where it ran out, and no line up to it has a fault then.
+/// Format: PrefLib, <https://preflib.github.io/PrefLib-Jekyll/format>.
+pub fn read_profile<A: Allocator + Copy + Drop>(
+    alloc: A,
+    bytes: &[u8],
+    pick: &Pick,
+) -> Result<Profile<A>, ReadFault>
+    requires { HasNumber pick.now.way }
+    ensures ok { IfOk result (λ profile. Reads bytes.now pick.now (Ok profile)) }
+    ensures err { IfErr result (λ fault. Reads bytes.now pick.now (Err fault) ⊎ RunsShort bytes.now pick.now fault) }
+{
+    let mut rest = without_mark(bytes);
+    let Ok(mut builder) = ProfileBuilder::new(alloc, CandSet::MOST) else {
+        return Err(fault_without_memory(pick, rest));
+    };
+    let mut notes = Notes::new(pick);
+    let mut number = 0;
+    while !rest.is_empty() {
+        let cut = first_line(rest);
+        number += 1;
+        if let Err(name) = take_line(&mut builder, &mut notes, pick, cut.line) {
+            return Err(fault_of_line(number, name));
+        }
+        rest = cut.rest;
+    }
+    finish(builder, &notes)
+}
+
+/// An input has one outcome under one pick: a profile, or a fault.
+pub fn one_outcome()
+    ensures { (bytes : List ℕ) (pick : Pick) (a b : Result Election ReadFault) → Reads bytes pick a → Reads bytes pick b → a ≡ b }
+{}
