@@ -1,9 +1,12 @@
 -- Each definition, computed on a small example.
-use Rattle.std.proofs.Common.{◌≡◌, List, [], ◌∷◌, true, false, refl, lit≤, Some, None}
+use Rattle.std.proofs.Common.{◌≡◌, List, [], ◌∷◌, true, false, refl, lit≤, Some, None, replicate}
 use Rattle.ballot_base.specs.Lists.{IsIncreasing, lists_of, increasing_lists, is_later, IsLater}
 use Rattle.ballot_base.specs.CandSet.{members_among, members, word_of, has_member, with_member, without_member, common_members}
 use Rattle.ballot_base.specs.Subsets.{lists_from, sets_from, IsPlace, IsLastSet, IsNextSet}
 use Rattle.ballot_base.specs.Ballots.{Row, IsElection, election, name_of, hits, voter_count, has_ballot, with_votes}
+use Rattle.ballot_base.specs.CommonMultiple.{least_multiple, common_multiple}
+use Rattle.ballot_base.specs.Increments.{increment, denominator, increments}
+use Rattle.ballot_base.specs.declared.increments.ThieleRule.TheVariants.{Av, Pav, Cc, Geom2, Geom3, Geom4}
 
 -- ---- lists
 increasing : IsIncreasing 1 4 (1 ∷ 3 ∷ [])
@@ -139,3 +142,67 @@ is_election = record {
   counts = (lit≤ tt, (lit≤ tt, tt));
   voters = lit≤ tt;
 }
+
+-- ---- multiples
+multiple_of_4_and_6 : least_multiple 4 6 ≡ 12
+multiple_of_4_and_6 = refl
+
+multiple_of_none : common_multiple 0 ≡ 1
+unfolding common_multiple
+multiple_of_none = refl
+
+multiple_of_10 : common_multiple 10 ≡ 2520
+unfolding common_multiple
+multiple_of_10 = refl
+
+multiple_of_20 : common_multiple 20 ≡ 232792560
+unfolding common_multiple
+multiple_of_20 = refl
+
+multiple_of_40 : common_multiple 40 ≡ 5342931457063200
+unfolding common_multiple
+multiple_of_40 = refl
+
+-- ---- increments
+quarter : increment Geom4 3 2 ≡ 4
+quarter = refl
+
+av_of_2 : increments Av 2 ≡ 1 ∷ 1 ∷ replicate 38 0
+unfolding increments
+av_of_2 = refl
+
+av_denominator : denominator Av 2 ≡ 1
+av_denominator = refl
+
+pav_of_3 : increments Pav 3 ≡ 6 ∷ 3 ∷ 2 ∷ replicate 37 0
+unfolding increments common_multiple
+pav_of_3 = refl
+
+pav_denominator : denominator Pav 3 ≡ 6
+unfolding common_multiple
+pav_denominator = refl
+
+cc_of_3 : increments Cc 3 ≡ 1 ∷ replicate 39 0
+unfolding increments
+cc_of_3 = refl
+
+cc_denominator : denominator Cc 3 ≡ 1
+cc_denominator = refl
+
+geom2_of_3 : increments Geom2 3 ≡ 4 ∷ 2 ∷ 1 ∷ replicate 37 0
+unfolding increments
+geom2_of_3 = refl
+
+geom2_denominator : denominator Geom2 3 ≡ 4
+geom2_denominator = refl
+
+geom3_of_3 : increments Geom3 3 ≡ 9 ∷ 3 ∷ 1 ∷ replicate 37 0
+unfolding increments
+geom3_of_3 = refl
+
+geom3_denominator : denominator Geom3 3 ≡ 9
+geom3_denominator = refl
+
+geom4_of_2 : increments Geom4 2 ≡ 4 ∷ 1 ∷ replicate 38 0
+unfolding increments
+geom4_of_2 = refl

@@ -2,7 +2,9 @@ pub mod Committees
 pub mod Examples
 pub mod FirstMember
 pub mod Increasing
+pub mod LeastMultiples
 pub mod Members
 pub mod Names
 pub mod NextSet
 pub mod Rows
+pub mod WeightLemmas

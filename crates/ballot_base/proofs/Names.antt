@@ -1,5 +1,5 @@
 -- Names of candidates: what a write of one name, and fewer candidates, make of an election.
-use Rattle.std.proofs.Common.{◌≡◌, ℕ, ◌-◌, ◌+◌, List, [], ◌∷◌, ◌++◌, refl, sym, ap, ◌∙◌, subst, map, take, replicate, append-nil}
+use Rattle.std.proofs.Common.{◌≡◌, ℕ, ◌-◌, ◌+◌, List, [], ◌∷◌, ◌++◌, sym, ap, ◌∙◌, subst, take, replicate}
 use Rattle.std.specs.Prelude.{Vec, slice_set}
 use Rattle.std.proofs.lemmas.List.{map-append, map-set, replicate-append-replicate, take-map}
 use Rattle.ballot_base.specs.Ballots.{Election, Row, election, texts}

@@ -1,6 +1,6 @@
-use Rattle.std.proofs.Common.{◌≡◌, ◌+◌, ◌≤◌, ◌^◌, ℕ, arith, sym, ◌∙◌, ap, subst}
+use Rattle.std.proofs.Common.{◌+◌, ◌≤◌, ◌^◌, arith, sym, ◌∙◌, ap, subst}
 use Rattle.ballot_base.specs.Lists.{IsIncreasing}
-use Rattle.ballot_base.specs.Ballots.{IsElection, election, texts, voter_count, Election, with_votes}
+use Rattle.ballot_base.specs.Ballots.{IsElection, election, texts, voter_count, Election}
 use Rattle.ballot_base.proofs.Increasing.{IsIncreasing-higher}
 use Rattle.ballot_base.proofs.Rows.{ballots-higher, voter_count-with_votes, IsElection-with_votes}
 use Rattle.ballot_base.proofs.profile.ProfileBuilder.add.Goals as goal

@@ -1,0 +1,82 @@
+//! Thiele's rules and their increments.
+ghost use Rattle.std.specs.Prelude.{◌≡◌, ◌<◌, ◌≤◌, ◌^◌};
+ghost use Rattle.ballot_base.specs.Increments.{increment, denominator, increments};
+
+use crate::multiples::common_multiple;
+
+/// A rule that gives a committee, for each voter, an increment for each member whom the voter approves
+/// (Lackner and Skowron, Multi-Winner Voting with Approval Preferences, Thiele methods). The j-th such member adds:
+#[derive(Clone, Copy, Debug, PartialEq, Eq)]
+pub enum ThieleRule {
+    /// Approval voting: 1.
+    Av,
+    /// Proportional approval voting: 1/j.
+    Pav,
+    /// Chamberlin-Courant: 1 for the first member, and nothing for the others.
+    Cc,
+    /// Geometric: 1/2^(j-1).
+    Geom2,
+    /// Geometric: 1/3^(j-1).
+    Geom3,
+    /// Geometric: 1/4^(j-1).
+    Geom4,
+}
+
+/// The increments of a rule as whole numbers over one denominator, which is not reduced.
+#[derive(Clone, Copy, Debug, PartialEq, Eq)]
+pub struct Increments {
+    /// What the j-th member adds times the denominator, at j - 1; 0 past the size of a committee.
+    pub w: [u128; 40],
+    /// The common denominator, at least 1.
+    pub denom: u128,
+}
+
+impl Increments {
+    /// The increments for committees of k, 1 to 40. It takes no memory.
+    pub fn of(rule: ThieleRule, k: u8) -> Increments
+        requires some { 1 ≤ k }
+        requires most { k ≤ 40 }
+        ensures weights { result.w ≡ increments rule k }
+        ensures denominator { result.denom ≡ denominator rule k }
+    {
+        let denom = denominator(rule, k);
+        let mut w = [0; 40];
+        for j in 0..k {
+            w[usize::from(j)] = increment(rule, k, denom, j + 1);
+        }
+        Increments { w, denom }
+    }
+}
+
+/// The common denominator of the increments for committees of k.
+fn denominator(rule: ThieleRule, k: u8) -> u128
+    requires some { 1 ≤ k }
+    requires most { k ≤ 40 }
+    ensures { result ≡ denominator rule k }
+{
+    match rule {
+        ThieleRule::Av | ThieleRule::Cc => 1,
+        ThieleRule::Pav => common_multiple(k),
+        ThieleRule::Geom2 => 2u128.pow(u32::from(k - 1)),
+        ThieleRule::Geom3 => 3u128.pow(u32::from(k - 1)),
+        ThieleRule::Geom4 => 4u128.pow(u32::from(k - 1)),
+    }
+}
+
+/// What the j-th member adds, times the denominator.
+fn increment(rule: ThieleRule, k: u8, denom: u128, j: u8) -> u128
+    requires denominator { denom ≡ denominator rule k }
+    requires some { 1 ≤ j }
+    requires within { j ≤ k }
+    requires most { k ≤ 40 }
+    ensures { result ≡ increment rule k j }
+{
+    match rule {
+        ThieleRule::Av => 1,
+        ThieleRule::Pav => denom / u128::from(j),
+        ThieleRule::Cc => u128::from(j == 1),
+        ThieleRule::Geom2 => 2u128.pow(u32::from(k - j)),
+        ThieleRule::Geom3 => 3u128.pow(u32::from(k - j)),
+        ThieleRule::Geom4 => 4u128.pow(u32::from(k - j)),
+    }
+}
