@@ -1,0 +1,154 @@
+-- Distances of ballots and committees: by their sizes, and that none exceeds the number of candidates.
+use Rattle.std.proofs.Common.{◌≡◌, ℕ, zero, suc, ◌+◌, ◌*◌, ◌<◌, ◌≤◌, ◌∙◌, ◌&&◌, ◌||◌, ◌==◌, Bool, true, false, cond, List, [], ◌∷◌, ◌++◌, ◌⊎◌, Some, not, filter, fold, max, refl, sym, ap, subst, arith, length, take, get_or, slice_get, count_by, inl, inr}
+use Rattle.std.specs.List.{AllByRecursion}
+use Rattle.std.specs.Ordering.{ord_max, nat_cmp}
+use Rattle.std.proofs.lemmas.Bool.Decides.{nat_tests}
+use Rattle.std.proofs.lemmas.Bool.{cases_order}
+use Rattle.std.proofs.lemmas.List.{take_more}
+use Rattle.std.proofs.lemmas.List.Sums.{fold-append, sum_by-cons, length-filter, count_by-le-length}
+use Rattle.std.proofs.lemmas.Option.{get_or_from_slice_get, slice_get_within}
+use Rattle.ballot_base.specs.Lists.{IsIncreasing}
+use Rattle.ballot_base.specs.CandSet.{has_member, common_members}
+use Rattle.ballot_base.specs.Ballots.{Row}
+use Rattle.ballot_base.proofs.Increasing.{IsIncreasing-filter, has_member-filter, has_member_head, same_increasing}
+use Rattle.ballot_base.proofs.Committees.{length-increasing}
+use Rattle.tie_walk.specs.Values.{distance, greatest_distance}
+
+-- those that pass a test and those that do not
+count-not : (p : ℕ → Bool) (xs : List ℕ) → count_by p xs + count_by (λ n. not (p n)) xs ≡ length xs
+count-not p [] = refl
+count-not p (x ∷ xs) =
+    let yes : count_by p (x ∷ xs) ≡ cond (p x) 1 0 + count_by p xs = sum_by-cons (λ n. cond (p n) 1 0) x xs in
+    let no' : count_by (λ n. not (p n)) (x ∷ xs) ≡ cond (not (p x)) 1 0 + count_by (λ n. not (p n)) xs = sum_by-cons (λ n. cond (not (p n)) 1 0) x xs in
+    let one : cond (p x) 1 0 + cond (not (p x)) 1 0 ≡ 1 = elim (p x) as (λ b. cond b 1 0 + cond (not b) 1 0 ≡ 1) [ true ↦ refl | false ↦ refl ] in
+    omega (arith, yes, no', one, count-not p xs)
+
+and-turned : (a b : Bool) → (a && b) ≡ (b && a)
+and-turned true true = refl
+and-turned true false = refl
+and-turned false true = refl
+and-turned false false = refl
+
+-- the common members, either way
+pub common-turned : (first last : ℕ) (xs ys : List ℕ) → IsIncreasing first last xs → IsIncreasing first last ys → common_members xs ys ≡ common_members ys xs
+common-turned first last xs ys i j =
+    same_increasing first last (common_members xs ys) (common_members ys xs) (IsIncreasing-filter (has_member ys) first last xs i) (IsIncreasing-filter (has_member xs) first last ys j)
+    (λ n. has_member-filter (has_member ys) xs n ∙ and-turned (has_member ys n) (has_member xs n) ∙ sym (has_member-filter (has_member xs) ys n))
+
+-- both sizes have the common members and those who stand in one alone
+pub distance-sizes : (first last : ℕ) (xs ys : List ℕ) → IsIncreasing first last xs → IsIncreasing first last ys
+    → distance xs ys + 2 * length (common_members xs ys) ≡ length xs + length ys
+distance-sizes first last xs ys i j =
+    let turned : length (common_members xs ys) ≡ length (common_members ys xs) = ap length (common-turned first last xs ys i j) in
+    omega (
+      arith,
+      turned,
+      length-filter (has_member ys) xs,
+      length-filter (has_member xs) ys,
+      count-not (has_member ys) xs,
+      count-not (has_member xs) ys,
+    )
+
+pub common-least : (xs ys : List ℕ) → length (common_members xs ys) ≤ length xs
+common-least xs ys = omega (arith, length-filter (has_member ys) xs, count_by-le-length (has_member ys) xs)
+
+pub common-least_right : (first last : ℕ) (xs ys : List ℕ) → IsIncreasing first last xs → IsIncreasing first last ys → length (common_members xs ys) ≤ length ys
+common-least_right first last xs ys i j = omega (arith, ap length (common-turned first last xs ys i j), common-least ys xs)
+
+-- ---- no distance exceeds the number of candidates
+
+-- an increasing list begins with its least number, or does not have it
+begins : (first last : ℕ) (xs : List ℕ) → IsIncreasing first last xs → IsIncreasing (first + 1) last xs ⊎ ((rest : List ℕ) × (xs ≡ first ∷ rest) × IsIncreasing (first + 1) last rest)
+begins first last [] i = inl tt
+begins first last (x ∷ xs) i = elim (cases_order first x) [
+  | inl same ↦ inr (xs, ap (λ n. n ∷ xs) (sym same), subst (λ n. IsIncreasing (n + 1) last xs) (sym same) i.2)
+  | inr d ↦ elim d [ inl less ↦ inl (omega arith, i.1, i.2) | inr more ↦ absurd (omega (arith, i.0)) ]
+]
+
+AreDisjoint : List ℕ → List ℕ → Type 0
+AreDisjoint xs ys = (k : ℕ) → has_member xs k ≡ true → has_member ys k ≡ false
+
+or-false : (a b : Bool) → (a || b) ≡ false → b ≡ false
+or-false true b h = absurd (cc)
+or-false false b h = h
+
+or-true : (a b : Bool) → b ≡ true → (a || b) ≡ true
+or-true true b h = refl
+or-true false b h = h
+
+-- two lists of numbers from first on with nothing in common
+disjoint-fit : (n first last : ℕ) → first + n ≡ last + 1 → (xs ys : List ℕ) → IsIncreasing first last xs → IsIncreasing first last ys → AreDisjoint xs ys → length xs + length ys ≤ n
+unfolding AreDisjoint
+disjoint-fit zero first last e xs ys i j apart = omega (arith, length-increasing first last xs i, length-increasing first last ys j)
+disjoint-fit (suc n) first last e xs ys i j apart =
+    elim (begins first last xs i) [
+      | inl x ↦ elim (begins first last ys j) [
+        | inl y ↦ omega (arith, disjoint-fit n (first + 1) last (omega (arith, e)) xs ys x y apart)
+        | inr y ↦
+            let less : AreDisjoint xs y.0 = λ k h. or-false (first == k) (has_member y.0 k) (subst (λ l. has_member l k ≡ false) y.1 (apart k h)) in
+            omega (arith, ap length y.1, disjoint-fit n (first + 1) last (omega (arith, e)) xs y.0 x y.2 less)
+      ]
+      | inr x ↦ elim (begins first last ys j) [
+        | inl y ↦
+            let less : AreDisjoint x.0 ys = λ k h. apart k (subst (λ l. has_member l k ≡ true) (sym x.1) (or-true (first == k) (has_member x.0 k) h)) in
+            omega (arith, ap length x.1, disjoint-fit n (first + 1) last (omega (arith, e)) x.0 ys x.2 y less)
+        | inr y ↦
+            let here : has_member ys first ≡ true = subst (λ l. has_member l first ≡ true) (sym y.1) (has_member_head first y.0) in
+            let there : has_member ys first ≡ false = apart first (subst (λ l. has_member l first ≡ true) (sym x.1) (has_member_head first x.0)) in
+            absurd (cc)
+      ]
+    ]
+
+only-one : (a b : Bool) → (not b && a) ≡ true → (not a && b) ≡ false
+only-one true b h = refl
+only-one false true h = absurd (cc)
+only-one false false h = refl
+
+pub distance-most : (m : ℕ) (ballot committee : List ℕ) → IsIncreasing 1 m ballot → IsIncreasing 1 m committee → distance ballot committee ≤ m
+unfolding AreDisjoint
+distance-most m ballot committee i j =
+    let of_ballot : List ℕ = filter (λ n. not (has_member committee n)) ballot in
+    let of_committee : List ℕ = filter (λ n. not (has_member ballot n)) committee in
+    let apart : AreDisjoint of_ballot of_committee = λ k h.
+    has_member-filter (λ n. not (has_member ballot n)) committee k
+    ∙ only-one (has_member ballot k) (has_member committee k) (sym (has_member-filter (λ n. not (has_member committee n)) ballot k) ∙ h) in
+    omega (
+      arith,
+      disjoint-fit m 1 m (omega arith) of_ballot of_committee (IsIncreasing-filter (λ n. not (has_member committee n)) 1 m ballot i)
+          (IsIncreasing-filter (λ n. not (has_member ballot n)) 1 m committee j) apart,
+      length-filter (λ n. not (has_member committee n)) ballot,
+      length-filter (λ n. not (has_member ballot n)) committee,
+    )
+
+-- ---- the greatest
+
+pub greatest-more : (rows : List Row) (committee : List ℕ) (i : ℕ) (row : Row) → slice_get rows i ≡ Some row
+    → greatest_distance (take (i + 1) rows) committee ≡ max (greatest_distance (take i rows) committee) (distance row.0 committee)
+greatest-more rows committee i row found =
+    let here : get_or rows i row ≡ row = get_or_from_slice_get rows i row row found in
+    let within : i < length rows = slice_get_within rows i row found in
+    ap (λ l. greatest_distance l committee) (take_more rows i row within ∙ ap (λ (r : Row). take i rows ++ r ∷ []) here)
+    ∙ fold-append (λ greatest (r : Row). max greatest (distance r.0 committee)) 0 (take i rows) (row ∷ [])
+
+pub greatest_distance-most : (m : ℕ) (rows : List Row) (committee : List ℕ) → AllByRecursion (λ (row : Row). IsIncreasing 1 m row.0) rows → IsIncreasing 1 m committee → greatest_distance rows committee ≤ m
+greatest_distance-most m rows committee all j = from 0 rows (omega arith) all
+  where
+    from : (low : ℕ) (rest : List Row) → low ≤ m → AllByRecursion (λ (row : Row). IsIncreasing 1 m row.0) rest → fold (λ greatest (row : Row). max greatest (distance row.0 committee)) low rest ≤ m
+    from low [] h each = h
+    from low (row ∷ rest) h each = from (max low (distance row.0 committee)) rest (omega (arith, distance-most m row.0 committee each.0 j)) each.1
+
+-- the candidates of a ballot that was found are those of all
+pub ballot-found : (m : ℕ) (rows : List Row) (i : ℕ) (row : Row) → AllByRecursion (λ (r : Row). IsIncreasing 1 m r.0) rows → slice_get rows i ≡ Some row → IsIncreasing 1 m row.0
+ballot-found m [] i row all found = absurd (cc)
+ballot-found m (r ∷ rows) zero row all found = let same : r ≡ row = cc in subst (λ (x : Row). IsIncreasing 1 m x.0) same all.0
+ballot-found m (r ∷ rows) (suc i) row all found = ballot-found m rows i row all.1 found
+
+-- the maximum of two numbers as their method has it
+pub ord_max-max : (a b : ℕ) → ord_max nat_cmp a b ≡ max a b
+ord_max-max a b = grind (arith, nat_tests)
+
+-- a row more, as the code takes it
+pub greatest-step : (rows : List Row) (committee : List ℕ) (i : ℕ) (row : Row) (greatest far more : ℕ) → slice_get rows i ≡ Some row → more ≡ ord_max nat_cmp greatest far → far ≡ distance row.0 committee
+    → greatest ≡ greatest_distance (take i rows) committee → more ≡ greatest_distance (take (i + 1) rows) committee
+greatest-step rows committee i row greatest far more found e f is =
+    e ∙ ord_max-max greatest far ∙ ap (λ n. max n far) is ∙ ap (λ n. max (greatest_distance (take i rows) committee) n) f ∙ sym (greatest-more rows committee i row found)

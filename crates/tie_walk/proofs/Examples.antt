@@ -1,0 +1,39 @@
+-- Each definition, computed on a small example: the value of a committee is the sum of its members modulo 4.
+use Rattle.std.proofs.Common.{◌≡◌, ℕ, ◌%◌, List, [], ◌∷◌, true, false, refl}
+use Rattle.std.specs.Prelude.{sum}
+use Rattle.ballot_base.specs.Lists.{increasing_lists, lists_of}
+use Rattle.tie_walk.specs.Winners.{Winning, best_value, is_unbeaten, winners}
+
+abbrev sum_of_four : List ℕ → ℕ
+sum_of_four set = sum set % 4
+
+-- the values of the six pairs of four candidates are 3, 0, 1, 1, 2 and 3
+greatest_of_pairs : best_value sum_of_four 4 2 ≡ 3
+unfolding lists_of
+greatest_of_pairs = refl
+
+two_winners : winners sum_of_four 4 2 ≡ (1 ∷ 2 ∷ []) ∷ (3 ∷ 4 ∷ []) ∷ []
+unfolding lists_of
+two_winners = refl
+
+-- 3 and 1 exceed the value 0 of 1 and 3
+beaten : is_unbeaten sum_of_four (increasing_lists 1 4 2) (1 ∷ 3 ∷ []) ≡ false
+unfolding lists_of
+beaten = refl
+
+unbeaten : is_unbeaten sum_of_four (increasing_lists 1 4 2) (1 ∷ 2 ∷ []) ≡ true
+unfolding lists_of
+unbeaten = refl
+
+-- all committees tie where each has the same value
+all_tie : winners (λ _. 0) 3 2 ≡ (1 ∷ 2 ∷ []) ∷ (1 ∷ 3 ∷ []) ∷ (2 ∷ 3 ∷ []) ∷ []
+unfolding lists_of
+all_tie = refl
+
+-- the walk of that election behind its first winner
+behind_the_first : Winning ℕ
+behind_the_first = record { tally = 4; m = 4; k = 2; best = 3; left = (3 ∷ 4 ∷ []) ∷ [] }
+
+one_is_left : behind_the_first.left ≡ (3 ∷ 4 ∷ []) ∷ []
+unfolding behind_the_first
+one_is_left = refl

@@ -1,0 +1,118 @@
+-- Sums over the rows of a profile, of the voters of each times what one of them gives.
+use Rattle.std.proofs.Common.{◌≡◌, ℕ, ◌+◌, ◌*◌, ◌/◌, ◌<◌, ◌≤◌, ◌^◌, ◌==◌, ◌∙◌, List, [], ◌∷◌, Some, not, cond, filter, refl, ap, arith, length, take, get_or, slice_get, sum, sum_by}
+use Rattle.std.proofs.Math.Nat.{mul-le-mul}
+use Rattle.std.specs.List.{AllByRecursion}
+use Rattle.std.proofs.lemmas.List.Sums.{sum_by-cons, sum_by_more, sum_by_more_le, length-filter, count_by-le-length}
+use Rattle.std.proofs.lemmas.Option.{get_or_from_slice_get, slice_get_within}
+use Rattle.std.proofs.lemmas.Bool.{ne_eqb}
+use Rattle.ballot_base.specs.Lists.{IsIncreasing}
+use Rattle.ballot_base.specs.CandSet.{has_member, common_members}
+use Rattle.ballot_base.specs.CommonMultiple.{common_multiple}
+use Rattle.ballot_base.specs.Ballots.{Row, Election, IsElection, hits, voter_count}
+use Rattle.ballot_base.proofs.Committees.{length-increasing}
+use Rattle.ballot_base.proofs.LeastMultiples.{common_multiple_most}
+use Rattle.tie_walk.specs.Values.{thiele_value, satisfaction_value}
+use Rattle.tie_walk.specs.Tables.{prefix_sums, parts}
+use Rattle.tie_walk.proofs.TableLemmas.{prefix_sums-at, parts-at, parts-most}
+
+-- the candidates of each ballot are 1 to m
+abbrev pub AreBallots : ℕ → List Row → Type 0
+AreBallots m rows = AllByRecursion (λ (row : Row). IsIncreasing 1 m row.0) rows
+
+-- the common members are the hits
+pub length-common : (ballot committee : List ℕ) → length (common_members ballot committee) ≡ hits ballot committee
+length-common ballot committee = length-filter (has_member committee) ballot
+
+pub hits-most : (m : ℕ) (ballot committee : List ℕ) → m ≤ 40 → IsIncreasing 1 m ballot → hits ballot committee ≤ 40
+hits-most m ballot committee most h = omega (arith, length-increasing 1 m ballot h, count_by-le-length (has_member committee) ballot)
+
+module _ (worth : Row → ℕ) where
+  -- a row more
+  pub rows-more : (rows : List Row) (i : ℕ) (row : Row) → slice_get rows i ≡ Some row
+      → sum_by (λ (r : Row). r.1 * worth r) (take (i + 1) rows) ≡ sum_by (λ (r : Row). r.1 * worth r) (take i rows) + row.1 * worth row
+  rows-more rows i row found =
+      let here : get_or rows i row ≡ row = get_or_from_slice_get rows i row row found in
+      let within : i < length rows = slice_get_within rows i row found in
+      rw here at (sum_by_more (λ (r : Row). r.1 * worth r) rows i row within)
+
+  rows-most : (m most : ℕ) (rows : List Row) → AreBallots m rows → ((r : Row) → IsIncreasing 1 m r.0 → worth r ≤ most)
+      → sum_by (λ (r : Row). r.1 * worth r) rows ≤ voter_count rows * most
+  rows-most m most [] all each = omega arith
+  rows-most m most (row ∷ rows) all each =
+      let product : row.1 * worth row ≤ row.1 * most = mul-le-mul {n₁ = row.1} (omega arith) (each row all.0) in
+      let split : voter_count (row ∷ rows) * most ≡ row.1 * most + voter_count rows * most = ap (λ n. n * most) (sum_by-cons (λ (r : Row). r.1) row rows) ∙ omega arith in
+      omega (arith, product, split, sum_by-cons (λ (r : Row). r.1 * worth r) row rows, rows-most m most rows all.1 each)
+
+  -- the sum so far and the next row's voters
+  pub rows-bound : (e : Election) (most i : ℕ) (row : Row) → IsElection e → ((r : Row) → IsIncreasing 1 e.m r.0 → worth r ≤ most) → slice_get e.rows i ≡ Some row
+      → sum_by (λ (r : Row). r.1 * worth r) (take i e.rows) + row.1 * worth row ≤ 2 ^ 32 * most
+  rows-bound e most i row valid each found =
+      let here : get_or e.rows i row ≡ row = get_or_from_slice_get e.rows i row row found in
+      let within : i < length e.rows = slice_get_within e.rows i row found in
+      let part = rw here at (sum_by_more_le (λ (r : Row). r.1 * worth r) e.rows i row within) in
+      let product : voter_count e.rows * most ≤ 2 ^ 32 * most = mul-le-mul {m₁ = most} valid.voters (omega arith) in
+      omega (arith, part, product, rows-most e.m most e.rows valid.ballots each)
+
+-- by a table of the sums of increments
+pub thiele_value-by_sums : (m : ℕ) (weights sums : List ℕ) (rows : List Row) (committee : List ℕ) → m ≤ 40 → AreBallots m rows → sums ≡ prefix_sums weights
+    → sum_by (λ (r : Row). r.1 * get_or sums (hits r.0 committee) 0) rows ≡ thiele_value weights rows committee
+thiele_value-by_sums m weights sums [] committee most all is = refl
+thiele_value-by_sums m weights sums (row ∷ rows) committee most all is =
+    let here : row.1 * get_or sums (hits row.0 committee) 0 ≡ row.1 * sum (take (hits row.0 committee) weights) =
+    ap (λ s. row.1 * get_or s (hits row.0 committee) 0) is ∙ ap (λ n. row.1 * n) (prefix_sums-at weights (hits row.0 committee) (hits-most m row.0 committee most all.0)) in
+    omega (
+      arith,
+      here,
+      thiele_value-by_sums m weights sums rows committee most all.1 is,
+      sum_by-cons (λ (r : Row). r.1 * get_or sums (hits r.0 committee) 0) row rows,
+      sum_by-cons (λ (r : Row). r.1 * sum (take (hits r.0 committee) weights)) row rows,
+    )
+
+-- by a table of the parts of a whole
+pub satisfaction_value-by_parts : (m n : ℕ) (shares : List ℕ) (rows : List Row) (committee : List ℕ) → m ≤ 40 → AreBallots m rows → shares ≡ parts (common_multiple n)
+    → sum_by (λ (r : Row). r.1 * (hits r.0 committee * get_or shares (length r.0) 0)) rows ≡ satisfaction_value n rows committee
+satisfaction_value-by_parts m n shares [] committee most all is = refl
+satisfaction_value-by_parts m n shares (([], voters) ∷ rows) committee most all is =
+    omega (
+      arith,
+      satisfaction_value-by_parts m n shares rows committee most all.1 is,
+      sum_by-cons (λ (r : Row). r.1 * (hits r.0 committee * get_or shares (length r.0) 0)) ([], voters) rows,
+    )
+satisfaction_value-by_parts m n shares ((x ∷ ballot, voters) ∷ rows) committee most all is =
+    let own : List ℕ = x ∷ ballot in
+    let row : Row = (x ∷ ballot, voters) in
+    let here : get_or shares (length own) 0 ≡ common_multiple n / length own =
+    ap (λ s. get_or s (length own) 0) is ∙ parts-at (common_multiple n) (length own) (omega arith) (omega (arith, length-increasing 1 m own all.0)) in
+    let product : voters * (hits own committee * get_or shares (length own) 0) ≡ voters * hits own committee * (common_multiple n / length own) =
+    ap (λ k. voters * (hits own committee * k)) here ∙ omega arith in
+    let kept : List Row = filter (λ (r : Row). not (length r.0 == 0)) rows in
+    let whole : satisfaction_value n (row ∷ rows) committee ≡ voters * hits own committee * (common_multiple n / length own) + satisfaction_value n rows committee =
+    ap (λ b. sum_by (λ (r : Row). r.1 * hits r.0 committee * (common_multiple n / length r.0)) (cond (not b) (row ∷ kept) kept)) (ne_eqb (length own) 0 (λ e. omega (arith, e)))
+    ∙ sum_by-cons (λ (r : Row). r.1 * hits r.0 committee * (common_multiple n / length r.0)) row kept in
+    let made : sum_by (λ (r : Row). r.1 * (hits r.0 committee * get_or shares (length r.0) 0)) (row ∷ rows) ≡ voters * (hits own committee * get_or shares (length own) 0)
+    + sum_by (λ (r : Row). r.1 * (hits r.0 committee * get_or shares (length r.0) 0)) rows =
+    sum_by-cons (λ (r : Row). r.1 * (hits r.0 committee * get_or shares (length r.0) 0)) row rows in
+    omega (arith, product, made, whole, satisfaction_value-by_parts m n shares rows committee most all.1 is)
+
+-- a product with an element of a table
+pub product-same : (table : List ℕ) (a b i j : ℕ) → a ≡ b → i ≡ j → a * get_or table i 0 ≡ b * get_or table j 0
+product-same table a b i j e f = ap (λ n. n * get_or table i 0) e ∙ ap (λ k. b * get_or table k 0) f
+
+-- ---- what a row gives for its shares
+
+-- more candidates than are approved share no more than the whole
+pub share-most : (m n : ℕ) (shares ballot committee : List ℕ) → m ≤ 40 → n ≤ 40 → IsIncreasing 1 m ballot → shares ≡ parts (common_multiple n)
+    → hits ballot committee * get_or shares (length ballot) 0 ≤ 40 * 5342931457063200
+share-most m n shares ballot committee most few h is =
+    let share : get_or shares (length ballot) 0 ≤ 5342931457063200 =
+    omega (arith, ap (λ s. get_or s (length ballot) 0) is, parts-most (common_multiple n) (length ballot), common_multiple_most n few) in
+    mul-le-mul (hits-most m ballot committee most h) share
+
+-- a row has no more voters than there are
+pub votes-hits-most : (e : Election) (i : ℕ) (row : Row) (committee : List ℕ) → IsElection e → slice_get e.rows i ≡ Some row → row.1 * hits row.0 committee ≤ 40 * 2 ^ 32
+votes-hits-most e i row committee valid found =
+    omega (arith, rows-bound (λ (r : Row). hits r.0 committee) e 40 i row valid (λ r h. hits-most e.m r.0 committee valid.most h) found)
+
+-- the code's product is the row's
+pub share-product : (shares : List ℕ) (votes hit share at h n : ℕ) → hit ≡ votes * h → share ≡ get_or shares at 0 → at ≡ n → hit * share ≡ votes * (h * get_or shares n 0)
+share-product shares votes hit share at h n e f k = ap (λ x. x * share) e ∙ ap (λ x. votes * h * x) (f ∙ ap (λ i. get_or shares i 0) k) ∙ omega arith

@@ -1,0 +1,9 @@
+use Rattle.std.proofs.Common.{◌≡◌, ℕ, ◌≤◌, length, take, get_or, sum}
+use Rattle.tie_walk.proofs.thiele.prefix_sums.Given as goal
+
+-- the sums up to that of the first x stand
+abbrev pub invariant-loop-x : goal.invariant-loop-x
+invariant-loop-x l = record {
+  long : length l.sums ≡ 41;
+  made : (i : ℕ) → i ≤ l.x → get_or l.sums i 0 ≡ sum (take i l.w);
+}

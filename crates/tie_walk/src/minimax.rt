@@ -1,0 +1,69 @@
+//! The values of minimax approval voting.
+ghost use Rattle.std.specs.Prelude.{◌≡◌, ◌≤◌};
+ghost use Rattle.ballot_base.specs.Lists.{IsIncreasing};
+ghost use Rattle.tie_walk.specs.Values.{distance, greatest_distance, closeness};
+
+use crate::tally::Tally;
+use ballot_base::{CandSet, Profile};
+use std::alloc::{Allocator, Global};
+use std::marker::Model;
+
+/// The values under minimax approval voting: how far the greatest distance from a voter's ballot is below the number
+/// of candidates. Contracts see the election.
+#[derive(Drop)]
+pub struct MinimaxTally<'a, A: Allocator + Copy = Global> {
+    profile: &'a Profile<A>,
+}
+
+impl<'a, A: Allocator + Copy> Model for MinimaxTally<'a, A> {
+    ghost use Rattle.ballot_base.specs.Ballots.{Election};
+
+    ghost Value = { Election };
+
+    ghost view = { λ t. t.profile.now };
+}
+
+impl<'a, A: Allocator + Copy> MinimaxTally<'a, A> {
+    /// The values of sets of the profile's candidates. It takes no memory.
+    pub fn new(profile: &'a Profile<A>) -> MinimaxTally<'a, A>
+        ensures { result ≡ profile.now }
+    {
+        MinimaxTally { profile }
+    }
+}
+
+impl<'a, A: Allocator + Copy> Tally for MinimaxTally<'a, A> {
+    ghost candidates = { λ tally. tally.m };
+
+    ghost value_of = { λ tally set. closeness tally.m tally.rows set };
+
+    fn m(&self) -> u8 {
+        self.profile.m()
+    }
+
+    fn value(&self, set: CandSet) -> u128 {
+        u128::from(self.profile.m() - farthest(self.profile, set))
+    }
+}
+
+/// The greatest distance of a ballot from the committee.
+fn farthest<A: Allocator + Copy>(profile: &Profile<A>, committee: CandSet) -> u8
+    requires { IsIncreasing 1 profile.now.m committee }
+    ensures value { result ≡ greatest_distance profile.now.rows committee }
+    ensures most { result ≤ profile.now.m }
+{
+    let mut greatest = 0;
+    for i in 0..profile.rows() {
+        let (ballot, _) = profile.row(i);
+        greatest = greatest.max(distance(ballot, committee));
+    }
+    greatest
+}
+
+/// How many candidates stand in exactly one of the two.
+fn distance(ballot: CandSet, committee: CandSet) -> u8
+    ensures { result ≡ distance ballot committee }
+{
+    let common = ballot.common(committee).len();
+    ballot.len() - common + (committee.len() - common)
+}
