@@ -5,7 +5,8 @@ use Rattle.std.proofs.lemmas.Bool.{both_ways}
 use Rattle.std.specs.Fmt.{digits}
 use Rattle.ballot_base.specs.Lists.{lists_of}
 use Rattle.ballot_base.specs.Ballots.{Election, Row, election}
-use Rattle.vote_cli.specs.declared.request.Rule.TheVariants.{Av}
+use Rattle.ballot_base.specs.declared.increments.ThieleRule.TheVariants.{Av, Geom3}
+use Rattle.vote_cli.specs.declared.request.Rule.TheVariants.{Thiele, Satisfaction, Minimax}
 use Rattle.vote_cli.specs.declared.status.Status.TheVariants.{Answered, Violated, InputRefused, RequestRefused, NoMemory, DeviceFailed}
 use Rattle.vote_cli.specs.declared.input.InputFault.TheVariants as fault
 use Rattle.vote_cli.specs.declared.whole_run.Refusal.TheVariants as refusal
@@ -13,7 +14,7 @@ use Rattle.vote_cli.specs.Request.{Asked}
 use Rattle.vote_cli.specs.Device.{is_failed_write, AppendsBeginning}
 use Rattle.vote_cli.specs.Input.{TellsOfInput}
 use Rattle.vote_cli.specs.Status.{code_of}
-use Rattle.vote_cli.specs.Winners.{approval_value, best_value, is_unbeaten, winners}
+use Rattle.ballot_base.specs.Increments.{increments}
 use Rattle.vote_cli.specs.Text.{line, numbers_text, following_text, rule_word, committees_text, head_text, elected_text}
 use Rattle.vote_cli.specs.Printing.{Prints, outlet}
 use Rattle.vote_cli.specs.Answer.{answered, refused, answer_of, IsAnswer, Reports, Ends, TellsOf, memory_line, read_failed_line, write_failed_line}
@@ -35,31 +36,6 @@ rows = (1 ∷ 2 ∷ [], 2) ∷ (3 ∷ [], 1) ∷ []
 abbrev three : Election
 three = election 3 ([] ∷ [] ∷ [] ∷ []) rows
 
--- ---- winners
-scores : (approval_value rows (1 ∷ []) ≡ 2) × (approval_value rows (3 ∷ []) ≡ 1) × (approval_value rows (1 ∷ 2 ∷ []) ≡ 4) × (approval_value rows (2 ∷ 3 ∷ []) ≡ 3)
-scores = (refl, refl, refl, refl)
-
-best_of_one : best_value (approval_value rows) 3 1 ≡ 2
-unfolding lists_of
-best_of_one = refl
-
-best_of_two : best_value (approval_value rows) 3 2 ≡ 4
-unfolding lists_of
-best_of_two = refl
-
-unbeaten : (is_unbeaten (approval_value rows) ((1 ∷ []) ∷ (2 ∷ []) ∷ (3 ∷ []) ∷ []) (2 ∷ []) ≡ true)
-    × (is_unbeaten (approval_value rows) ((1 ∷ []) ∷ (2 ∷ []) ∷ (3 ∷ []) ∷ []) (3 ∷ []) ≡ false)
-unbeaten = (refl, refl)
-
--- both winners of a tie stand there
-winners_of_one : winners (approval_value rows) 3 1 ≡ (1 ∷ []) ∷ (2 ∷ []) ∷ []
-unfolding lists_of
-winners_of_one = refl
-
-winners_of_two : winners (approval_value rows) 3 2 ≡ (1 ∷ 2 ∷ []) ∷ []
-unfolding lists_of
-winners_of_two = refl
-
 -- ---- texts
 a_line : line (codes "end") ≡ codes "end" ++ 10 ∷ []
 a_line = refl
@@ -75,10 +51,11 @@ following : following_text (20 ∷ 3 ∷ []) ≡ codes ",20,3"
 unfolding digits
 following = refl
 
-word_of_av : rule_word Av ≡ codes "av"
-word_of_av = refl
+rule_words : (rule_word (Thiele Av) ≡ codes "av") × (rule_word (Thiele Geom3) ≡ codes "geom3") × (rule_word Satisfaction ≡ codes "sav")
+    × (rule_word Minimax ≡ codes "minimax")
+rule_words = (refl, refl, refl, refl)
 
-head : head_text Av 1 2 ≡ codes "rule av" ++ 10 ∷ codes "size 1" ++ 10 ∷ codes "score 2/1" ++ 10 ∷ []
+head : head_text (Thiele Av) 3 1 2 ≡ codes "rule av" ++ 10 ∷ codes "size 1" ++ 10 ∷ codes "score 2/1" ++ 10 ∷ []
 unfolding digits
 head = refl
 
@@ -90,12 +67,12 @@ committees = refl
 abbrev text : List ℕ
 text = line (codes "rule av") ++ line (codes "size 1") ++ line (codes "score 2/1") ++ line (codes "1") ++ line (codes "2") ++ line (codes "end")
 
-elected : elected_text Av 1 three ≡ text
-unfolding digits lists_of
+elected : elected_text (Thiele Av) 1 three ≡ text
+unfolding digits lists_of increments
 elected = refl
 
-elected_pair : elected_text Av 2 three ≡ line (codes "rule av") ++ line (codes "size 2") ++ line (codes "score 4/1") ++ line (codes "1,2") ++ line (codes "end")
-unfolding digits lists_of
+elected_pair : elected_text (Thiele Av) 2 three ≡ line (codes "rule av") ++ line (codes "size 2") ++ line (codes "score 4/1") ++ line (codes "1,2") ++ line (codes "end")
+unfolding digits lists_of increments
 elected_pair = refl
 
 -- ---- answers
@@ -103,10 +80,10 @@ abbrev usual : Pick
 usual = record { kind = None; ending = None; way = Usual }
 
 abbrev seats : ℕ → Asked
-seats size = record { rule = Av; size = size; pick = usual; file = None }
+seats size = record { rule = Thiele Av; size = size; pick = usual; file = None }
 
 answer_to_one : answer_of (seats 1) (Ok three) ≡ record { text = text; status = Answered; error = [] }
-unfolding digits lists_of
+unfolding digits lists_of increments
 answer_to_one = refl
 
 answer_to_four : answer_of (seats 4) (Ok three) ≡ record { text = []; status = RequestRefused; error = line (codes "committees: request: SizeTooLarge") }
@@ -188,7 +165,7 @@ refusals_of_faults = ((refl, λ same. let h : name.BadCount ≡ name.Memory = sa
 
 -- ---- what a run leaves
 right_of_one : IsAnswer (seats 1) example_text (answered text)
-unfolding digits lists_of
+unfolding digits lists_of increments
 right_of_one = (Ok three, reads_three, refl)
 
 ends_answered : Ends (seats 1) example_text (Some []) (Some text) (Some []) (Some []) false Answered

@@ -1,8 +1,13 @@
 -- Where clap takes the words of the program, they name `elect`, with its rule and its size.
-use Rattle.std.proofs.Common.{◌≡◌, ◌⊎◌, subst, ◌∙◌, ◌<◌, Bool, List, [], ◌∷◌, not, inl, inr, refl, sym, ap, codes, true, false, true≢false, arith}
+use Rattle.std.proofs.Common.{◌≡◌, ◌⊎◌, subst, ◌∙◌, ◌<◌, Bool, List, [], ◌∷◌, map, not, inl, inr, refl, sym, ap, codes, true, false, true≢false, arith}
 use Rattle.std.specs.Prelude.{Option, Some, None, if◌then◌else◌, is_some, option_map, pos}
+use Rattle.std.specs.Borrow.{Bor}
+use Rattle.std.specs.List.{list_any}
+use Rattle.std.specs.Map.{keys_of, lookup}
 use Rattle.std.specs.Str.{bytes_eq}
-use Rattle.std.specs.Option.{option_map_or}
+use Rattle.std.specs.Option.{IsSome, option_map_or}
+use Rattle.std.proofs.lemmas.Cmp.{nat_list_eq_equiv}
+use Rattle.std.proofs.lemmas.Map.Made.{is_some-lookup}
 use Rattle.std.proofs.lemmas.Slice.Eq.{bytes_eq-Decides}
 use Rattle.clap.specs.Words.{Row, Rule, Shape, Text, fault_of, subcommand_of, takes}
 use Rattle.clap.specs.Walk.{answers_to, finished, one_of, reading_by, is_empty, nothing_held, rows_after, stop_after, walk, walk_from}
@@ -13,8 +18,8 @@ use Rattle.clap.specs.Facts.{parser_of_value}
 use Rattle.clap.specs.Takes.{value_passes, entered_passes, is_given, is_valid, level_passes, settle_passes, walk_passes}
 use Rattle.clap.specs.declared.builder.value_parser.ValueParser.TheVariants as parser
 use Rattle.clap.proofs.ValueTestLemmas.{accepts-Accepts}
-use Rattle.clap.proofs.WalkLemmas.{both}
-use Rattle.vote_cli.specs.Words.{HasValues, IsCount, program}
+use Rattle.clap.proofs.WalkLemmas.{both, list_any-map}
+use Rattle.vote_cli.specs.Words.{HasValues, IsCount, program, rules_by_name, shown}
 use Rattle.vote_cli.proofs.GivenValues.{Good, any_value, given_value, level_fit, or_false, walk_stops}
 use Rattle.vote_cli.proofs.Refusals.{taken_none}
 
@@ -70,6 +75,14 @@ count_is a rows is (inr (v, pass, one)) =
     subst IsCount (sym (one ∙ ap (λ p. Some (read_as (reading_of (parser_of_value p)) v)) is))
     (v, refl, accepts-Accepts a.ignore_case (parser.Signed (pos 1) (pos 1000000)) v (subst (λ p. accepts a.ignore_case (parser_of_value p) v ≡ true) is pass))
 
+-- a text that is among the keys of a list finds a value there
+named_there : {X : Type 0} (entries : List (Text × X)) (text : Text)
+    → list_any (λ (name : Bor Text). bytes_eq name.now text) (map shown (keys_of entries)) ≡ true
+    → IsSome (lookup (bytes_eq text) entries)
+named_there entries text passes =
+    is_some-lookup (bytes_eq text) entries ∙ (λ i. list_any (λ name. nat_list_eq_equiv.symm text name i) (keys_of entries))
+    ∙ list_any-map (λ (name : Bor Text). bytes_eq name.now text) shown (keys_of entries) ∙ passes
+
 elect_values : (words : List Text) → level_passes elect [] nothing_held words false ≡ true → HasValues (rows_after elect.rules [] words)
 elect_values words pass =
     let end = (walk elect.rules [] nothing_held words).held in
@@ -85,9 +98,10 @@ elect_values words pass =
     let given_size = (both (is_given (codes "size") rows) _ given.1).0 in
     let name = given_value elect.rules rule rows good refl given.0 in
     let digits = given_value elect.rules size rows good refl given_size in
-    let is_av : codes "av" ≡ name.0 = (bytes_eq-Decides (codes "av") name.0).0 (or_false (bytes_eq (codes "av") name.0) name.1) in
     record {
-      rule = name.2 ∙ ap Some (sym is_av);
+      rule_text = name.0;
+      rule = name.2;
+      named = named_there rules_by_name name.0 name.1;
       size_text = digits.0;
       size = digits.3;
       in_range = accepts-Accepts false (parser.Signed (pos 1) (pos 40)) digits.0 digits.1;

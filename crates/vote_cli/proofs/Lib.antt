@@ -1,5 +1,4 @@
 pub mod Answered
-pub mod ApprovalLemmas
 pub mod Examples
 pub mod GivenRequest
 pub mod GivenValues
@@ -11,6 +10,5 @@ pub mod ProgramPlaces
 pub mod Refusals
 pub mod RunLemmas
 pub mod TextLemmas
-pub mod WinnersLemmas
 pub mod WordsExamples
 pub mod WordsLemmas

@@ -1,6 +1,7 @@
 -- What is known of the input and of the writers, joined to the answer.
-use Rattle.std.proofs.Common.{◌≡◌, ℕ, ◌<◌, ◌≤◌, Bool, true, false, List, [], Option, Some, None, Ok, Err, IfSome, refl, sym, ap, subst, arith}
+use Rattle.std.proofs.Common.{◌≡◌, ℕ, ◌<◌, ◌≤◌, Bool, true, false, List, [], Option, Some, None, Ok, Err, IfSome, refl, sym, ap, subst, arith, ◌∙◌, ◌++◌, append-nil}
 use Rattle.std.specs.Prelude.{nat_lt, if◌then◌else◌, codes}
+use Rattle.std.specs.Io.KnownBytes.{Appends}
 use Rattle.std.proofs.KnownBytes.{Appends-nil}
 use Rattle.ballot_base.specs.Ballots.{Election}
 use Rattle.vote_cli.specs.declared.status.Status.{Status}
@@ -11,7 +12,9 @@ use Rattle.vote_cli.specs.Request.{Asked}
 use Rattle.vote_cli.specs.FaultText.{fault_text}
 use Rattle.vote_cli.specs.Text.{elected_text}
 use Rattle.vote_cli.specs.Answer.{Reports, Ends, answered, refused, answer_of}
-use Rattle.vote_cli.specs.Refusals.{Answers, error_of, status_of}
+use Rattle.vote_cli.specs.Refusals.{Answers, Prepares, error_of, status_of}
+use Rattle.vote_cli.specs.Printing.{Prints, outlet}
+use Rattle.vote_cli.specs.declared.request.Rule.{Rule}
 use Rattle.std.proofs.Common.{inl, inr}
 
 -- the answer about an election that is large enough, and about one that is not
@@ -28,6 +31,18 @@ answer-large asked e large =
 -- a writer of errors that was not called
 Reports-nothing : (taken : Option (List ℕ)) (has_failed : Bool) → Reports taken taken has_failed []
 Reports-nothing taken has_failed = record { beginning = ([], [], refl, Appends-nil taken); whole = λ e. Appends-nil taken }
+
+-- a text that was printed with nothing left waiting
+Prints-all : {old new : Option (List ℕ)} {had_failed has_failed : Bool} {text : List ℕ} → Prints (outlet old [] had_failed) (outlet new [] has_failed) true text → Appends old new text
+Prints-all {old} {new} h = subst (Appends old new) (sym (append-nil h.sent) ∙ ap (λ rest. h.sent ++ rest) (sym (h.whole refl).0) ∙ h.order) h.took
+
+-- the text of an election that was printed is the answer
+pub answers_printed : (known : Option (List ℕ)) (asked : Asked) (e : Election) (old new : Option (List ℕ)) (had_failed has_failed : Bool) (rule : Rule) (size : ℕ) (done : Unit {0}) → rule ≡ asked.rule → size ≡ asked.size
+    → asked.size ≤ e.m → IfSome known (λ bytes. Prepares asked bytes (Ok e)) → Prints (outlet old [] had_failed) (outlet new [] has_failed) true (elected_text rule size e)
+    → IfSome known (λ bytes. Answers asked bytes old new (Ok done))
+answers_printed None asked e old new had_failed has_failed rule size done rule_is size_is fits reads printed = tt
+answers_printed (Some bytes) asked e old new had_failed has_failed rule size done rule_is size_is fits reads printed =
+    (e, reads, fits, subst (Appends old new) (λ i. elected_text (rule_is i) (size_is i) e) (Prints-all printed))
 
 -- an answer that was written whole
 pub ends_answered : (known : Option (List ℕ)) (asked : Asked) (old new err : Option (List ℕ)) (err_failed : Bool) (done : Unit {0}) → IfSome known (λ bytes. Answers asked bytes old new (Ok done))

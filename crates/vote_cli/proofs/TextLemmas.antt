@@ -1,10 +1,12 @@
 -- The text of lists of numbers.
-use Rattle.std.proofs.Common.{◌≡◌, ℕ, List, [], ◌∷◌, ◌++◌, sym, ap, ◌∙◌, append_assoc, append-nil}
+use Rattle.std.proofs.Common.{◌≡◌, ℕ, List, [], ◌∷◌, ◌++◌, refl, sym, ap, ap₂, ◌∙◌, append_assoc, append-nil}
 use Rattle.std.specs.Prelude.{decimal, codes}
-use Rattle.ballot_base.specs.Ballots.{Election}
 use Rattle.vote_cli.specs.declared.request.Rule.{Rule}
-use Rattle.vote_cli.specs.Winners.{approval_value, best_value, winners}
-use Rattle.vote_cli.specs.Text.{line, numbers_text, following_text, head_text, committees_text, elected_text}
+use Rattle.tie_walk.specs.Winners.{best_value, winners}
+use Rattle.vote_cli.specs.Text.{line, numbers_text, following_text, head_text, committees_text, text_by, elected_text}
+use Rattle.ballot_base.specs.Ballots.{Election}
+use Rattle.tie_walk.specs.Values.{closeness}
+use Rattle.vote_cli.specs.declared.request.Rule.TheVariants.{Minimax}
 
 -- numbers with commas between them are the first, and the others with a comma before each
 pub numbers_text-cons : (n : ℕ) (ns : List ℕ) → numbers_text (n ∷ ns) ≡ decimal n ++ following_text ns
@@ -17,9 +19,14 @@ pub committee_line : (committee : List ℕ) (first : ℕ) (others : List ℕ) �
 committee_line committee first others parts =
     ap (λ c. line (numbers_text c)) parts ∙ ap (λ l. l ++ 10 ∷ []) (numbers_text-cons first others) ∙ append_assoc (decimal first) (following_text others) (10 ∷ [])
 
--- the text of an election, from its first lines on
-pub elected_parts : (rule : Rule) (size best : ℕ) (e : Election) → best ≡ best_value (approval_value e.rows) e.m size
-    → elected_text rule size e ≡ head_text rule size best ++ (committees_text (winners (approval_value e.rows) e.m size) ++ line (codes "end"))
-elected_parts rule size best e is =
-    ap (λ n. (head_text rule size n ++ committees_text (winners (approval_value e.rows) e.m size)) ++ line (codes "end")) (sym is)
-    ∙ append_assoc (head_text rule size best) (committees_text (winners (approval_value e.rows) e.m size)) (line (codes "end"))
+-- the text of winners, from its first lines on
+pub text_parts : (value : List ℕ → ℕ) (rule : Rule) (candidates m size best : ℕ) (left : List (List ℕ)) → m ≡ candidates → best ≡ best_value value m size → left ≡ winners value m size
+    → text_by value rule candidates size ≡ head_text rule m size best ++ (committees_text left ++ line (codes "end"))
+text_parts value rule candidates m size best left same is those =
+    ap (λ n. text_by value rule n size) (sym same)
+    ∙ ap₂ (λ n sets. (head_text rule m size n ++ committees_text sets) ++ line (codes "end")) (sym is) (sym those)
+    ∙ append_assoc (head_text rule m size best) (committees_text left) (line (codes "end"))
+
+-- the text of an election by minimax
+pub minimax_text : (rule : Rule) (size : ℕ) (e tally : Election) → rule ≡ Minimax → tally ≡ e → text_by (closeness tally.m tally.rows) rule tally.m size ≡ elected_text rule size e
+minimax_text rule size e tally is same = rw (is, same) refl

@@ -1,17 +1,21 @@
 -- `request_of` and clap's kinds of refusal, computed.
-use Rattle.std.proofs.Common.{◌≡◌, refl, List, [], ◌∷◌, codes, ℕ}
+use Rattle.std.proofs.Common.{◌≡◌, refl, List, [], ◌∷◌, codes, inl, map, ℕ}
 use Rattle.std.specs.Prelude.{Option, Some, None}
+use Rattle.std.specs.Map.{values_of}
 use Rattle.clap.specs.Words.{Text, fault_of}
 use Rattle.clap.proofs.OnLiterals.{clap_on_literals}
 use Rattle.clap.specs.declared.error.kind.ErrorKind.TheVariants as kind
-use Rattle.vote_cli.specs.declared.request.Rule.TheVariants.{Av}
+use Rattle.ballot_base.specs.declared.increments.ThieleRule.TheVariants.{Av, Geom3}
+use Rattle.vote_cli.specs.declared.request.Rule.{Rule}
+use Rattle.vote_cli.specs.declared.request.Rule.TheVariants.{Thiele, Satisfaction, Minimax}
 use Rattle.vote_cli.specs.Request.{Asked}
 use Rattle.preflib_text.specs.declared.pick.Kind.{Kind}
 use Rattle.preflib_text.specs.declared.pick.Kind.TheVariants.{Cat, Soc, Soi, Toc, Toi}
 use Rattle.preflib_text.specs.declared.pick.Way.{Way}
 use Rattle.preflib_text.specs.declared.pick.Way.TheVariants.{Usual, Category, SetSize, Classes}
 use Rattle.vote_cli.specs.Endings.{behind_last, kind_in_path}
-use Rattle.vote_cli.specs.Words.{HasTwoPicks, program, request_of, way_by}
+use Rattle.vote_cli.specs.Text.{rule_word}
+use Rattle.vote_cli.specs.Words.{HasTwoPicks, IsMisused, program, request_of, rule_named, rule_names, rules_by_name, way_by}
 
 -- `committees elect` and these words
 abbrev elect_words : List Text → List Text
@@ -19,7 +23,7 @@ elect_words rest = codes "committees" ∷ codes "elect" ∷ rest
 
 -- approval voting, for a file of this type and this ending, in this way
 abbrev asked : ℕ → Option Kind → Option Kind → Way → Option Text → Option Asked
-asked size kind ending way file = Some (record { rule = Av; size = size; pick = record { kind = kind; ending = ending; way = way }; file = file })
+asked size kind ending way file = Some (record { rule = Thiele Av; size = size; pick = record { kind = kind; ending = ending; way = way }; file = file })
 
 abbrev av : ℕ → Option Text → Option Asked
 av size file = asked size None None Usual file
@@ -79,6 +83,35 @@ no_words = refl
 help_asked : fault_of program (elect_words (codes "--help" ∷ [])) ≡ kind.DisplayHelp ∷ []
 unfolding clap_on_literals
 help_asked = refl
+
+-- ---- the rules
+
+-- two seats by a rule
+abbrev two_seats : Rule → Option Asked
+two_seats rule = Some (record { rule = rule; size = 2; pick = record { kind = None; ending = None; way = Usual }; file = None })
+
+geometric_rule : request_of (elect_words (codes "--rule" ∷ codes "geom3" ∷ codes "--size" ∷ codes "2" ∷ [])) ≡ two_seats (Thiele Geom3)
+unfolding clap_on_literals
+geometric_rule = refl
+
+satisfaction : request_of (elect_words (codes "--size" ∷ codes "2" ∷ codes "--rule=sav" ∷ [])) ≡ two_seats Satisfaction
+unfolding clap_on_literals
+satisfaction = refl
+
+no_rule_of_that_name : IsMisused (elect_words (codes "--rule" ∷ codes "seqpav" ∷ codes "--size" ∷ codes "2" ∷ []))
+unfolding clap_on_literals
+no_rule_of_that_name = (refl, (kind.InvalidValue, inl refl, λ e. cc, λ e. cc))
+
+rules_of_names : (rule_named (codes "geom3") ≡ Some (Thiele Geom3)) × (rule_named (codes "minimax") ≡ Some Minimax) × (rule_named (codes "SAV") ≡ None)
+    × (rule_named [] ≡ None)
+rules_of_names = (refl, refl, refl, refl)
+
+eight_names : rule_names ≡ codes "av" ∷ codes "pav" ∷ codes "cc" ∷ codes "geom2" ∷ codes "geom3" ∷ codes "geom4" ∷ codes "sav" ∷ codes "minimax" ∷ []
+eight_names = refl
+
+-- the name of a rule is the word that is printed of it
+names_are_words : map rule_word (values_of rules_by_name) ≡ rule_names
+names_are_words = refl
 
 -- ---- how the file is read
 

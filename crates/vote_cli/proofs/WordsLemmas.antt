@@ -6,7 +6,6 @@ use Rattle.clap.specs.Words.{Row, Text, IsSignedIn, first_of, without_minus}
 use Rattle.clap.specs.Matches.{ReadsOne}
 use Rattle.clap.proofs.CallerReads.{signed_reads}
 use Rattle.vote_cli.specs.declared.request.Rule.{Rule}
-use Rattle.vote_cli.specs.declared.request.Rule.TheVariants.{Av}
 use Rattle.preflib_text.specs.declared.pick.Pick.{Pick}
 use Rattle.preflib_text.specs.declared.pick.Way.{Way}
 use Rattle.preflib_text.specs.Metadata.{kind_of}
@@ -53,11 +52,10 @@ count_read E G (Some digits) r none value only (t, same, passed) =
 
 -- the request that the code makes of the values is that of the rows
 pub asked_is : (rows : List Row) (h : HasValues rows) (name : Text) (rule : Rule) (m : ℕ) (way : Way) (pick : Pick) (kind file path : Option Text)
-    → name ≡ codes "av" → rule_named name ≡ Some rule → m ≡ number_of (without_minus h.size_text) → Some way ≡ way_in rows
+    → name ≡ h.rule_text → rule_named name ≡ Some rule → m ≡ number_of (without_minus h.size_text) → Some way ≡ way_in rows
     → kind ≡ first_of (codes "kind") rows → file ≡ first_of (codes "file") rows → path ≡ first_of (codes "file") rows
     → pick ≡ record { kind = option_and_then kind_of kind; ending = option_and_then kind_in_path path; way = way }
     → asked_in rows ≡ Some (record { rule = rule; size = m; pick = pick; file = file })
 asked_is rows h name rule m way pick kind file path named is size ways kinds files paths picked =
-    let is_av : rule_named (codes "av") ≡ Some rule = rw named at is in
-    let av : Av ≡ rule = cc in
-    rw (h.rule, h.size, ← ways, picked, kinds, files, paths, size, ← av) refl
+    let known : rule_named h.rule_text ≡ Some rule = ap rule_named (sym named) ∙ is in
+    rw (h.rule, h.size, ← ways, picked, kinds, files, paths, size, known) refl

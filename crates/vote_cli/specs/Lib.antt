@@ -8,5 +8,4 @@ pub mod Refusals
 pub mod Request
 pub mod Status
 pub mod Text
-pub mod Winners
 pub mod Words

@@ -1,10 +1,15 @@
 -- The text of an answer.
-use Rattle.std.specs.Prelude.{ℕ, List, ◌∷◌, [], ◌++◌, map, codes, decimal, flat_map}
+use Rattle.std.specs.Prelude.{ℕ, ◌-◌, List, ◌∷◌, [], ◌++◌, map, codes, decimal, flat_map}
 use Rattle.std.specs.List.{join_with_byte}
 use Rattle.ballot_base.specs.Ballots.{Election}
 use Rattle.vote_cli.specs.declared.request.Rule.{Rule}
-use Rattle.vote_cli.specs.declared.request.Rule.TheVariants.{Av}
-use Rattle.vote_cli.specs.Winners.{approval_value, best_value, winners}
+use Rattle.ballot_base.specs.CommonMultiple.{common_multiple}
+use Rattle.ballot_base.specs.Increments.{increments, denominator}
+use Rattle.ballot_base.specs.declared.increments.ThieleRule.{ThieleRule}
+use Rattle.ballot_base.specs.declared.increments.ThieleRule.TheVariants.{Av, Pav, Cc, Geom2, Geom3, Geom4}
+use Rattle.tie_walk.specs.Values.{thiele_value, satisfaction_value, closeness}
+use Rattle.tie_walk.specs.Winners.{best_value, winners}
+use Rattle.vote_cli.specs.declared.request.Rule.TheVariants.{Thiele, Satisfaction, Minimax}
 
 -- a line with its end
 abbrev pub line : List ℕ → List ℕ
@@ -18,25 +23,59 @@ numbers_text numbers = join_with_byte 44 (map decimal numbers)
 abbrev pub following_text : List ℕ → List ℕ
 following_text numbers = flat_map (λ n. 44 ∷ decimal n) numbers
 
+-- the word of a Thiele rule
+abbrev pub thiele_word : ThieleRule → List ℕ
+thiele_word Av = codes "av"
+thiele_word Pav = codes "pav"
+thiele_word Cc = codes "cc"
+thiele_word Geom2 = codes "geom2"
+thiele_word Geom3 = codes "geom3"
+thiele_word Geom4 = codes "geom4"
+
 -- the word of a rule
 abbrev pub rule_word : Rule → List ℕ
-rule_word Av = codes "av"
+rule_word (Thiele rule) = thiele_word rule
+rule_word Satisfaction = codes "sav"
+rule_word Minimax = codes "minimax"
+
+-- the value by which a rule compares committees of this size: the score times its denominator; for minimax, the
+-- number of candidates less the greatest distance
+abbrev pub value_by : Rule → ℕ → Election → List ℕ → ℕ
+value_by (Thiele rule) size election = thiele_value (increments rule size) election.rows
+value_by Satisfaction size election = satisfaction_value election.m election.rows
+value_by Minimax size election = closeness election.m election.rows
 
 -- the winning committees, one a line
 abbrev pub committees_text : List (List ℕ) → List ℕ
 committees_text committees = flat_map (λ committee. line (numbers_text committee)) committees
 
--- the lines before the winners: the rule, the size, and the score of the winners over its denominator
-abbrev pub head_text : Rule → ℕ → ℕ → List ℕ
-head_text rule size best =
-    line (codes "rule " ++ rule_word rule)
-    ++ line (codes "size " ++ decimal size)
-    ++ line (codes "score " ++ decimal best ++ codes "/1")
+-- a score over its denominator, which is not reduced
+abbrev pub score_text : ℕ → ℕ → List ℕ
+score_text score denominator = codes "score " ++ decimal score ++ 47 ∷ decimal denominator
 
--- what is printed of an election: those lines, each winning committee, and the last line
-abbrev pub elected_text : Rule → ℕ → Election → List ℕ
-elected_text rule size election =
-    let value = approval_value election.rows in
-    head_text rule size (best_value value election.m size)
-    ++ committees_text (winners value election.m size)
+-- what is said of the best value of a committee of this size, of m candidates: its score over the denominator, or
+-- its distance
+abbrev pub best_text : Rule → ℕ → ℕ → ℕ → List ℕ
+best_text (Thiele rule) m size best = score_text best (denominator rule size)
+best_text Satisfaction m size best = score_text best (common_multiple m)
+best_text Minimax m size best = codes "distance " ++ decimal (m - best)
+
+-- the lines of the rule and the size
+abbrev pub rule_lines : Rule → ℕ → List ℕ
+rule_lines rule size = line (codes "rule " ++ rule_word rule) ++ line (codes "size " ++ decimal size)
+
+-- the lines before the winners: the rule, the size, and the score or the distance of the winners
+abbrev pub head_text : Rule → ℕ → ℕ → ℕ → List ℕ
+head_text rule m size best = rule_lines rule size ++ line (best_text rule m size best)
+
+-- what is printed where committees of this size, of m candidates, have these values: those lines, each winning
+-- committee, and the last line
+abbrev pub text_by : (List ℕ → ℕ) → Rule → ℕ → ℕ → List ℕ
+text_by value rule m size =
+    head_text rule m size (best_value value m size)
+    ++ committees_text (winners value m size)
     ++ line (codes "end")
+
+-- what is printed of an election
+abbrev pub elected_text : Rule → ℕ → Election → List ℕ
+elected_text rule size election = text_by (value_by rule size election) rule election.m size

@@ -1,6 +1,8 @@
 -- What the words of a command line ask for, by clap's published meaning of a command.
 use Rattle.std.specs.Prelude.{◌≡◌, ◌≢◌, ◌⊎◌, ⊤, ℕ, true, false, List, [], ◌∷◌, map, Option, Some, None}
 use Rattle.std.specs.Prelude.{codes, if◌then◌else◌, option_and_then, option_map, pos}
+use Rattle.std.specs.Map.{keys_of, lookup}
+use Rattle.std.specs.Option.{IsSome}
 use Rattle.std.specs.Borrow.{Bor}
 use Rattle.std.specs.Str.{bytes_eq}
 use Rattle.std.specs.Str.Parse.{digits_value, without_leading_plus}
@@ -15,13 +17,14 @@ use Rattle.clap.specs.declared.builder.command.Command.TheViews.{out-Command as 
 use Rattle.clap.specs.declared.builder.value_parser.ValueParser.TheVariants as parser
 use Rattle.clap.specs.declared.error.kind.ErrorKind.{ErrorKind}
 use Rattle.clap.specs.declared.error.kind.ErrorKind.TheVariants as kind
+use Rattle.ballot_base.specs.declared.increments.ThieleRule.TheVariants.{Av, Pav, Cc, Geom2, Geom3, Geom4}
 use Rattle.preflib_text.specs.declared.pick.Way.{Way}
 use Rattle.preflib_text.specs.declared.pick.Way.TheVariants.{Usual, Category, SetSize, Classes}
 use Rattle.preflib_text.specs.Metadata.{kind_of}
 use Rattle.vote_cli.specs.Endings.{kind_in_path}
 use Rattle.vote_cli.specs.Request.{Asked}
 use Rattle.vote_cli.specs.declared.request.Rule.{Rule}
-use Rattle.vote_cli.specs.declared.request.Rule.TheVariants.{Av}
+use Rattle.vote_cli.specs.declared.request.Rule.TheVariants.{Thiele, Satisfaction, Minimax}
 use Rattle.vote_cli.specs.declared.words.LineFault.{LineFault}
 use Rattle.vote_cli.specs.declared.words.LineFault.TheVariants.{Help, Usage, TwoPicks, Memory}
 
@@ -31,9 +34,16 @@ use Rattle.vote_cli.specs.declared.words.LineFault.TheVariants.{Help, Usage, Two
 abbrev pub Names : Type 0
 Names = Bor (List (Bor Text))
 
+-- the rules by their names (Lackner and Skowron, Multi-Winner Voting with Approval Preferences; the names are the
+-- project's own)
+abbrev pub rules_by_name : List (Text × Rule)
+rules_by_name = (codes "av", Thiele Av) ∷ (codes "pav", Thiele Pav) ∷ (codes "cc", Thiele Cc)
+    ∷ (codes "geom2", Thiele Geom2) ∷ (codes "geom3", Thiele Geom3) ∷ (codes "geom4", Thiele Geom4)
+    ∷ (codes "sav", Satisfaction) ∷ (codes "minimax", Minimax) ∷ []
+
 -- the names of the rules
 abbrev pub rule_names : List Text
-rule_names = codes "av" ∷ []
+rule_names = keys_of rules_by_name
 
 -- `--rule RULE`, which is required and takes one of the names
 abbrev pub rule_option : Names → Argument
@@ -103,7 +113,7 @@ program = program_over (shown (map shown rule_names)) (shown (map shown kind_nam
 
 -- the rule of a name
 abbrev pub rule_named : Text → Option Rule
-rule_named name = if bytes_eq name (codes "av") then Some Av else None
+rule_named name = lookup (bytes_eq name) rules_by_name
 
 -- the value of a number's digits, of which the first may be zeros
 abbrev pub number_of : Text → ℕ
@@ -208,7 +218,9 @@ IsCount (Some digits) = (text : Text) × (digits ≡ without_minus text) × IsSi
 
 -- the values passed their parsers
 pub record HasValues (rows : List Row) : Type 0 where
-  pub rule : first_of (codes "rule") rows ≡ Some (codes "av")
+  pub rule_text : Text
+  pub rule : first_of (codes "rule") rows ≡ Some rule_text
+  pub named : IsSome (rule_named rule_text)
   pub size_text : Text
   pub size : one_of (codes "size") rows ≡ Some (without_minus size_text)
   pub in_range : IsSignedIn (pos 1) (pos 40) size_text

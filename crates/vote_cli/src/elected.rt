@@ -1,23 +1,38 @@
 //! The text of an election's winners.
-ghost use Rattle.std.specs.Prelude.{◌≡◌, ◌≤◌, ◌==◌, [], ◌∷◌, cond, decimal, is_ok};
+ghost use Rattle.std.specs.Prelude.{◌≡◌, ◌≤◌, [], ◌∷◌, decimal, is_ok};
 ghost use Rattle.vote_cli.specs.Printing.{Prints, outlet};
-ghost use Rattle.vote_cli.specs.Text.{line, numbers_text, following_text, head_text, rule_word, committees_text, elected_text};
-ghost use Rattle.vote_cli.specs.Winners.{approval_value, best_value, winners};
+ghost use Rattle.vote_cli.specs.Text.{line, numbers_text, following_text, best_text, score_text, rule_lines, head_text, rule_word, thiele_word, committees_text, text_by, elected_text};
 
-use crate::approval::{approval_score, best_score};
 use crate::device::Sink;
 use crate::printing::{Waiting, WriteFailed, finish, print, print_all};
 use crate::request::Rule;
-use ballot_base::{CandSet, KSets, Profile};
+use ballot_base::{CandSet, Increments, Profile, ThieleRule, common_multiple};
 use itoa::Buffer;
 use std::alloc::Allocator;
+use tie_walk::{MinimaxTally, SavTally, Tally, ThieleTally, Winners};
+
+/// The word of a Thiele rule.
+fn thiele_word_of(rule: ThieleRule) -> &'static [u8]
+    ensures { result.now ≡ thiele_word rule }
+{
+    match rule {
+        ThieleRule::Av => b"av",
+        ThieleRule::Pav => b"pav",
+        ThieleRule::Cc => b"cc",
+        ThieleRule::Geom2 => b"geom2",
+        ThieleRule::Geom3 => b"geom3",
+        ThieleRule::Geom4 => b"geom4",
+    }
+}
 
 /// The word of a rule.
 fn word_of(rule: Rule) -> &'static [u8]
     ensures { result.now ≡ rule_word rule }
 {
     match rule {
-        Rule::Av => b"av",
+        Rule::Thiele(thiele) => thiele_word_of(thiele),
+        Rule::Satisfaction => b"sav",
+        Rule::Minimax => b"minimax",
     }
 }
 
@@ -69,66 +84,122 @@ fn print_committee<W: Sink>(
     print(out, waiting, b"\n")
 }
 
-/// Prints the lines before the winners.
-fn print_head<W: Sink>(
+/// Prints a score over its denominator, on a line.
+fn print_score<W: Sink>(
+    out: &mut W,
+    waiting: &mut Waiting,
+    score: u128,
+    denominator: u128,
+) -> Result<(), WriteFailed>
+    ensures { Prints (outlet (W.contents out.old) waiting.old (W.has_failed out.old)) (outlet (W.contents out.new) waiting.new (W.has_failed out.new)) (is_ok result) (line (score_text score denominator)) }
+{
+    let mut score_digits = Buffer::new();
+    let mut denominator_digits = Buffer::new();
+    let pieces = [
+        b"score ".as_slice(),
+        score_digits.format(score).as_bytes(),
+        b"/",
+        denominator_digits.format(denominator).as_bytes(),
+        b"\n",
+    ];
+    print_all(out, waiting, &pieces)
+}
+
+/// Prints the best value of the committees of `size` of `m` candidates, on a line.
+fn print_best<W: Sink>(
+    out: &mut W,
+    waiting: &mut Waiting,
+    rule: Rule,
+    m: u8,
+    size: u8,
+    best: u128,
+) -> Result<(), WriteFailed>
+    requires some { 1 ≤ size }
+    requires fits { size ≤ m }
+    requires most { m ≤ 40 }
+    ensures { Prints (outlet (W.contents out.old) waiting.old (W.has_failed out.old)) (outlet (W.contents out.new) waiting.new (W.has_failed out.new)) (is_ok result) (line (best_text rule m size best)) }
+{
+    match rule {
+        Rule::Thiele(thiele) => print_score(out, waiting, best, Increments::of(thiele, size).denom),
+        Rule::Satisfaction => print_score(out, waiting, best, common_multiple(m)),
+        Rule::Minimax => {
+            let mut digits = Buffer::new();
+            let distance = digits.format(u128::from(m).saturating_sub(best));
+            print_all(out, waiting, &[b"distance ", distance.as_bytes(), b"\n"])
+        }
+    }
+}
+
+/// Prints the lines of the rule and the size.
+fn print_rule<W: Sink>(
     out: &mut W,
     waiting: &mut Waiting,
     rule: Rule,
     size: u8,
-    best: u64,
 ) -> Result<(), WriteFailed>
-    ensures { Prints (outlet (W.contents out.old) waiting.old (W.has_failed out.old)) (outlet (W.contents out.new) waiting.new (W.has_failed out.new)) (is_ok result) (head_text rule size best) }
+    ensures { Prints (outlet (W.contents out.old) waiting.old (W.has_failed out.old)) (outlet (W.contents out.new) waiting.new (W.has_failed out.new)) (is_ok result) (rule_lines rule size) }
 {
     let mut size_digits = Buffer::new();
-    let mut best_digits = Buffer::new();
     let pieces = [
         b"rule ".as_slice(),
         word_of(rule),
         b"\nsize ",
         size_digits.format(size).as_bytes(),
-        b"\nscore ",
-        best_digits.format(best).as_bytes(),
-        b"/1\n",
+        b"\n",
     ];
     print_all(out, waiting, &pieces)
 }
 
-/// Prints the committee where its score is the best.
-fn print_if_best<W: Sink, A: Allocator + Copy>(
+/// Prints the lines before the winners.
+fn print_head<W: Sink>(
     out: &mut W,
     waiting: &mut Waiting,
-    profile: &Profile<A>,
-    committee: CandSet,
-    best: u64,
-) -> Result<(), WriteFailed>
-    ensures { Prints (outlet (W.contents out.old) waiting.old (W.has_failed out.old)) (outlet (W.contents out.new) waiting.new (W.has_failed out.new)) (is_ok result)
-        (cond (approval_value profile.now.rows committee == best) (line (numbers_text committee)) []) }
-{
-    if approval_score(profile, committee) == best {
-        print_committee(out, waiting, committee)
-    } else {
-        Ok(())
-    }
-}
-
-/// Prints the winners.
-fn print_winners<W: Sink, A: Allocator + Copy>(
-    out: &mut W,
-    waiting: &mut Waiting,
-    profile: &Profile<A>,
+    rule: Rule,
+    m: u8,
     size: u8,
-    best: u64,
+    best: u128,
 ) -> Result<(), WriteFailed>
     requires some { 1 ≤ size }
-    requires fits { size ≤ profile.now.m }
-    requires best { best ≡ best_value (approval_value profile.now.rows) profile.now.m size }
-    ensures { Prints (outlet (W.contents out.old) waiting.old (W.has_failed out.old)) (outlet (W.contents out.new) waiting.new (W.has_failed out.new)) (is_ok result)
-        (committees_text (winners (approval_value profile.now.rows) profile.now.m size)) }
+    requires fits { size ≤ m }
+    requires most { m ≤ 40 }
+    ensures { Prints (outlet (W.contents out.old) waiting.old (W.has_failed out.old)) (outlet (W.contents out.new) waiting.new (W.has_failed out.new)) (is_ok result) (head_text rule m size best) }
 {
-    for committee in KSets::new(profile.m(), size) {
-        print_if_best(out, waiting, profile, committee, best)?;
+    print_rule(out, waiting, rule, size)?;
+    print_best(out, waiting, rule, m, size, best)
+}
+
+/// Prints the winners that are still to come.
+fn print_winners<W: Sink, T: Tally>(
+    out: &mut W,
+    waiting: &mut Waiting,
+    winners: Winners<'_, T>,
+) -> Result<(), WriteFailed>
+    ensures { Prints (outlet (W.contents out.old) waiting.old (W.has_failed out.old)) (outlet (W.contents out.new) waiting.new (W.has_failed out.new)) (is_ok result) (committees_text winners.entry.left) }
+{
+    for committee in winners {
+        print_committee(out, waiting, committee)?;
     }
     Ok(())
+}
+
+/// Prints the answer of a tally, and flushes the writer.
+fn print_by<W: Sink, T: Tally>(
+    out: &mut W,
+    tally: &T,
+    rule: Rule,
+    size: u8,
+) -> Result<(), WriteFailed>
+    requires some { 1 ≤ size }
+    requires fits { size ≤ T.candidates tally.now }
+    ensures { Prints (outlet (W.contents out.old) [] (W.has_failed out.old)) (outlet (W.contents out.new) [] (W.has_failed out.new)) (is_ok result) (text_by (T.value_of tally.now) rule (T.candidates tally.now) size) }
+{
+    let m = tally.m();
+    let winners = Winners::new(tally, m, size, None);
+    let mut waiting = Waiting::new();
+    print_head(out, &mut waiting, rule, m, size, winners.best())?;
+    print_winners(out, &mut waiting, winners)?;
+    print(out, &mut waiting, b"end\n")?;
+    finish(out, &mut waiting)
 }
 
 /// Prints the answer, and flushes the writer.
@@ -140,12 +211,12 @@ pub(crate) fn print_elected<W: Sink, A: Allocator + Copy>(
 ) -> Result<(), WriteFailed>
     requires some { 1 ≤ size }
     requires fits { size ≤ profile.now.m }
+    requires most { size ≤ 40 }
     ensures { Prints (outlet (W.contents out.old) [] (W.has_failed out.old)) (outlet (W.contents out.new) [] (W.has_failed out.new)) (is_ok result) (elected_text rule size profile.now) }
 {
-    let best = best_score(profile, size);
-    let mut waiting = Waiting::new();
-    print_head(out, &mut waiting, rule, size, best)?;
-    print_winners(out, &mut waiting, profile, size, best)?;
-    print(out, &mut waiting, b"end\n")?;
-    finish(out, &mut waiting)
+    match rule {
+        Rule::Thiele(thiele) => print_by(out, &ThieleTally::new(profile, thiele, size), rule, size),
+        Rule::Satisfaction => print_by(out, &SavTally::new(profile), rule, size),
+        Rule::Minimax => print_by(out, &MinimaxTally::new(profile), rule, size),
+    }
 }

@@ -1,7 +1,6 @@
 //! The library behind the program `committees`: words, input, answers and statuses.
 #![tactic(auto)]
 
-mod approval;
 pub mod device;
 mod elected;
 mod ending;

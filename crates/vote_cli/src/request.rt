@@ -2,15 +2,24 @@
 ghost use Rattle.std.specs.Prelude.{◌≡◌, ◌≤◌, option_map, string_bytes};
 ghost use Rattle.preflib_text.specs.BallotMarks.{HasNumber};
 
+use ballot_base::ThieleRule;
 use preflib_text::Pick;
 use std::marker::Model;
 
-/// The rule by which committees win.
+/// The rule by which committees win (Lackner and Skowron, Multi-Winner Voting with Approval
+/// Preferences).
 #[derive(Clone, Copy, Debug, PartialEq, Eq)]
 pub enum Rule {
-    /// Approval voting: a committee scores one point for each approval that a voter gives to one
-    /// of its members.
-    Av,
+    /// A rule of Thiele: a voter gives a committee the first increments of the rule, as many as
+    /// the voter approves of its members. The greatest sum over the voters wins.
+    Thiele(ThieleRule),
+    /// Satisfaction approval voting: a voter gives a committee the part of the approved candidates
+    /// that are its members. The greatest sum over the voters wins.
+    Satisfaction,
+    /// Minimax approval voting: the distance of a voter and a committee is the number of candidates
+    /// that stand in exactly one of the voter's approvals and the committee. The least greatest
+    /// distance wins, however many voters have it.
+    Minimax,
 }
 
 /// A request: the rule, the number of seats from 1 to 40, how the file is read, and the file to

@@ -11,6 +11,7 @@ ghost use Rattle.vote_cli.specs.Words.{rule_names, rule_option, size_option, way
 
 use crate::ending::kind_in_path;
 use crate::request::{Request, Rule};
+use ballot_base::ThieleRule;
 use clap::error::ErrorKind;
 use clap::{Arg, ArgMatches, Command, Error, value_parser};
 use preflib_text::{Pick, Way, kind_of};
@@ -41,7 +42,9 @@ impl From<AllocError> for LineFault {
 }
 
 /// The values of `--rule`.
-static RULES: [&str; 1] = ["av"];
+static RULES: [&str; 8] = [
+    "av", "pav", "cc", "geom2", "geom3", "geom4", "sav", "minimax",
+];
 
 /// The values of `--kind`.
 static KINDS: [&str; 5] = ["cat", "soc", "soi", "toc", "toi"];
@@ -246,7 +249,14 @@ fn rule_named(name: &str) -> Option<Rule>
     ensures { result ≡ rule_named name.now }
 {
     match name {
-        "av" => Some(Rule::Av),
+        "av" => Some(Rule::Thiele(ThieleRule::Av)),
+        "pav" => Some(Rule::Thiele(ThieleRule::Pav)),
+        "cc" => Some(Rule::Thiele(ThieleRule::Cc)),
+        "geom2" => Some(Rule::Thiele(ThieleRule::Geom2)),
+        "geom3" => Some(Rule::Thiele(ThieleRule::Geom3)),
+        "geom4" => Some(Rule::Thiele(ThieleRule::Geom4)),
+        "sav" => Some(Rule::Satisfaction),
+        "minimax" => Some(Rule::Minimax),
         _ => None,
     }
 }

@@ -6,5 +6,6 @@ mod inputs;
 mod names;
 mod refusals;
 mod rows;
+mod scores;
 mod support;
 mod ways;

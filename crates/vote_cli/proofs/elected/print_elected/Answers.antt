@@ -1,43 +1,8 @@
-use Rattle.std.proofs.Common.{sym, [], ◌∙◌, ◌++◌, append_assoc, append-nil}
-use Rattle.std.specs.Prelude.{codes}
-use Rattle.vote_cli.specs.Text.{line, committees_text, head_text}
-use Rattle.vote_cli.specs.Winners.{approval_value, winners}
-use Rattle.vote_cli.proofs.TextLemmas.{elected_parts}
-use Rattle.vote_cli.proofs.PrintingLemmas.{breaks_off, breaks_off_behind, goes_on_behind, is_ok-err, Prints-dropped, Prints-first, Prints-from_empty, Prints-last, Prints-to_empty}
+use Rattle.std.proofs.Common.{subst}
+use Rattle.vote_cli.specs.Printing.{Prints}
+use Rattle.vote_cli.proofs.TextLemmas.{minimax_text}
 use Rattle.vote_cli.proofs.elected.print_elected.Goals as goal
 
-pub returns-in_err-print_head : goal.returns-in_err-print_head
-returns-in_err-print_head g c =
-    let parts = elected_parts c.args.rule c.args.size c.best_score-best.result c.args.profile.now c.best_score-best.ensures in
-    Prints-dropped (is_ok-err c.from_residual.result c.from_residual.ensures.0)
-    (breaks_off _ c.print_head.result _ c.from_residual.result c.in_err-print_head.was c.from_residual.ensures.0 parts (Prints-from_empty c.new-waiting.ensures c.print_head.ensures))
-
-pub returns-in_err-print_winners : goal.returns-in_err-print_winners
-returns-in_err-print_winners g c =
-    let parts = elected_parts c.args.rule c.args.size c.best_score-best.result c.args.profile.now c.best_score-best.ensures in
-    let head = Prints-first c.print_head.result _ c.in_ok-print_head.was (Prints-from_empty c.new-waiting.ensures c.print_head.ensures) in
-    Prints-dropped (is_ok-err c.from_residual-in_err-print_winners.result c.from_residual-in_err-print_winners.ensures.0)
-    (breaks_off_behind (line (codes "end")) c.print_winners.result _ c.from_residual-in_err-print_winners.result c.in_err-print_winners.was c.from_residual-in_err-print_winners.ensures.0
-    (sym parts) head c.print_winners.ensures)
-
-pub returns-in_err-print : goal.returns-in_err-print
-returns-in_err-print g c =
-    let parts = elected_parts c.args.rule c.args.size c.best_score-best.result c.args.profile.now c.best_score-best.ensures in
-    let first = head_text c.args.rule c.args.size c.best_score-best.result in
-    let middle = committees_text (winners (approval_value c.args.profile.now.rows) c.args.profile.now.m c.args.size) in
-    let head = Prints-first c.print_head.result _ c.in_ok-print_head.was (Prints-from_empty c.new-waiting.ensures c.print_head.ensures) in
-    let body = goes_on_behind c.print_winners.result _ c.in_ok-print_winners.was head c.print_winners.ensures in
-    Prints-dropped (is_ok-err c.from_residual-in_err-print.result c.from_residual-in_err-print.ensures.0)
-    (breaks_off_behind [] c.print.result _ c.from_residual-in_err-print.result c.in_err-print.was c.from_residual-in_err-print.ensures.0
-    (append_assoc first middle (line (codes "end")) ∙ sym parts) body c.print.ensures)
-
-pub returns : goal.returns
-returns g c =
-    let parts = elected_parts c.args.rule c.args.size c.best_score-best.result c.args.profile.now c.best_score-best.ensures in
-    let first = head_text c.args.rule c.args.size c.best_score-best.result in
-    let middle = committees_text (winners (approval_value c.args.profile.now.rows) c.args.profile.now.m c.args.size) in
-    let head = Prints-first c.print_head.result _ c.in_ok-print_head.was (Prints-from_empty c.new-waiting.ensures c.print_head.ensures) in
-    let body = goes_on_behind c.print_winners.result _ c.in_ok-print_winners.was head c.print_winners.ensures in
-    let all = goes_on_behind c.print.result _ c.in_ok-print.was body c.print.ensures in
-    Prints-to_empty c.finish.ensures.none
-    (Prints-last (parts ∙ sym (append_assoc first middle (line (codes "end"))) ∙ sym (append-nil ((first ++ middle) ++ line (codes "end")))) all c.finish.ensures.printed)
+pub returns-in-Minimax : goal.returns-in-Minimax
+returns-in-Minimax g c =
+    subst (Prints _ _ _) (minimax_text c.args.rule c.args.size c.args.profile.now c.new-in-Minimax.result c.in-Minimax.is c.new-in-Minimax.ensures) c.print_by-in-Minimax.ensures

@@ -7,14 +7,14 @@ use Rattle.vote_cli.proofs.WordsLemmas.{asked_is, size_facts, size_read, text_is
 use Rattle.vote_cli.proofs.words.asked.Goals as goal
 
 pub unwrap-requires : goal.unwrap-requires
-unwrap-requires c = text_there c.get_str.result (codes "av")
+unwrap-requires c = text_there c.get_str.result c.requires.rule_text
     (c.get_str.ensures ∙ first_value-rows (found_of c.args.elect.now) (codes "rule") ∙ c.requires.rule)
 
 pub unwrap-rule-requires : goal.unwrap-rule-requires
 unwrap-rule-requires c =
-    let named : c.unwrap.result.now ≡ codes "av" = text_is c.get_str.result c.unwrap.result (codes "av") c.unwrap.ensures
+    let named : c.unwrap.result.now ≡ c.requires.rule_text = text_is c.get_str.result c.unwrap.result c.requires.rule_text c.unwrap.ensures
     (c.get_str.ensures ∙ first_value-rows (found_of c.args.elect.now) (codes "rule") ∙ c.requires.rule) in
-    rw (c.rule_named.ensures, named) refl
+    rw (c.rule_named.ensures, named) c.requires.named
 
 pub unwrap-size-requires : goal.unwrap-size-requires
 unwrap-size-requires c =
@@ -39,7 +39,7 @@ new-requires-clause-most c = (size_is c).1
 pub returns-clause-ok : goal.returns-clause-ok
 returns-clause-ok c =
     let f = found_of c.args.elect.now in
-    let named : c.unwrap.result.now ≡ codes "av" = text_is c.get_str.result c.unwrap.result (codes "av") c.unwrap.ensures
+    let named : c.unwrap.result.now ≡ c.requires.rule_text = text_is c.get_str.result c.unwrap.result c.requires.rule_text c.unwrap.ensures
     (c.get_str.ensures ∙ first_value-rows f (codes "rule") ∙ c.requires.rule) in
     let one = c.get_one.ensures.value _ (one_text-rows f (codes "size") ∙ c.requires.size) in
     let size = size_facts _ (λ bs r. ParsesUnsigned 8 10 bs r × ExplainsUnsignedError 10 bs r × HasUnsignedDigitsIfOk bs r)
