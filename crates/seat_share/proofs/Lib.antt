@@ -1,0 +1,12 @@
+pub mod AwardLemmas
+pub mod ChoiceSteps
+pub mod Chosen
+pub mod ClaimLemmas
+pub mod Examples
+pub mod FairChoices
+pub mod LawLemmas
+pub mod Members
+pub mod Order
+pub mod QuotaLemmas
+pub mod ShareLemmas
+pub mod Threshold

@@ -1,0 +1,150 @@
+-- From votes to parties, and from parties to an allocation.
+use Rattle.std.proofs.Common.{◌≡◌, ℕ, zero, suc, ◌+◌, ◌-◌, ◌*◌, ◌^◌, ◌<◌, ◌≤◌, Bool, true, false, cond, List, [], ◌∷◌, ◌++◌, refl, sym, ap, ap₂, subst, ◌∙◌, arith, map, sum, sum_by, count_by, length, take, set, get_or, Option, Some, None, is_some, true≢false, ◌==◌}
+use Rattle.std.specs.Prelude.{nat_lt}
+use Rattle.seat_share.specs.declared.method.ShareFault.TheVariants.{NoParties, TooManyParties, NoVotes, TooManyVotes}
+use Rattle.seat_share.specs.Faults.{first_fault}
+use Rattle.std.specs.List.{AllByRecursion}
+use Rattle.std.proofs.lemmas.List.Sums.{sum_by-cons}
+use Rattle.std.proofs.lemmas.List.{take_more, length-append}
+use Rattle.seat_share.specs.declared.contender.Contender.{Contender}
+use Rattle.seat_share.specs.declared.method.Method.{Method}
+use Rattle.seat_share.specs.Quotients.{Quotient}
+use Rattle.seat_share.specs.Claims.{claim}
+use Rattle.seat_share.specs.Allocations.{allocations}
+use Rattle.seat_share.specs.Choices.{Standing, choices}
+use Rattle.seat_share.specs.Standings.{Stands, IsChoosing, MoreAreTied, AreWithin, standing, standings, allocation, choices_from, votes_of, seats_of, tied_count}
+use Rattle.seat_share.proofs.Threshold.{impossible}
+use Rattle.seat_share.proofs.Chosen.{sure_seats}
+use Rattle.seat_share.proofs.FairChoices.{fair-choices}
+
+module _ {X : Type 0} where
+  pub all-at : (P : X → Type 0) (xs : List X) (i : ℕ) (d : X) → i < length xs → AllByRecursion P xs → P (get_or xs i d)
+  all-at P [] i d less all = impossible (omega (arith, less))
+  all-at P (x ∷ xs) zero d less all = all.0
+  all-at P (x ∷ xs) (suc i) d less all = all-at P xs i d (omega (arith, less)) all.1
+
+  pub all-set : (P : X → Type 0) (xs : List X) (i : ℕ) (y : X) → AllByRecursion P xs → P y → AllByRecursion P (set xs i y)
+  all-set P [] i y all h = tt
+  all-set P (x ∷ xs) zero y all h = (h, all.1)
+  all-set P (x ∷ xs) (suc i) y all h = (all.0, all-set P xs i y all.1 h)
+
+  pub all-take : (P : X → Type 0) (xs : List X) (n : ℕ) → AllByRecursion P xs → AllByRecursion P (take n xs)
+  all-take P xs zero all = tt
+  all-take P [] (suc n) all = tt
+  all-take P (x ∷ xs) (suc n) all = (all.0, all-take P xs n all.1)
+
+  take-set : (xs : List X) (i : ℕ) (y : X) → i < length xs → take (suc i) (set xs i y) ≡ take i xs ++ y ∷ []
+  take-set [] i y less = impossible (omega (arith, less))
+  take-set (x ∷ xs) zero y less = refl
+  take-set (x ∷ xs) (suc i) y less = ap (λ l. x ∷ l) (take-set xs i y (omega (arith, less)))
+
+  map-push : {Y : Type 0} (f : X → Y) (xs : List X) (x : X) → map f (xs ++ x ∷ []) ≡ map f xs ++ f x ∷ []
+  map-push f [] x = refl
+  map-push f (y ∷ ys) x = ap (λ l. f y ∷ l) (map-push f ys x)
+
+-- one more party has its votes
+pub votes-more : (votes : List ℕ) (cs : List Contender) (i : ℕ) (c : Contender) → i < length votes → i < length cs → c.votes ≡ get_or votes i 0
+    → votes_of (take i cs) ≡ take i votes → votes_of (take (i + 1) (set cs i c)) ≡ take (i + 1) votes
+votes-more votes cs i c within room is so_far =
+    let next : i + 1 ≡ suc i = omega arith in
+    ap (λ n. votes_of (take n (set cs i c))) next ∙ ap votes_of (take-set cs i c room) ∙ map-push (λ (d : Contender). d.votes) (take i cs) c
+    ∙ ap₂ (λ l n. l ++ n ∷ []) so_far is ∙ sym (take_more votes i 0 within)
+
+-- one more party has its seats
+pub seats-more : (cs : List Contender) (list : List ℕ) (i seats : ℕ) (d : Contender) → i < length cs → i < length list → seats ≡ (get_or cs i d).seats + cond (get_or cs i d).has_more 1 0
+    → take i list ≡ allocation (take i cs) → take (i + 1) (set list i seats) ≡ allocation (take (i + 1) cs)
+seats-more cs list i seats d within room is so_far =
+    let next : i + 1 ≡ suc i = omega arith in
+    ap (λ n. take n (set list i seats)) next ∙ take-set list i seats room ∙ ap₂ (λ l n. l ++ n ∷ []) so_far is
+    ∙ sym (ap allocation (take_more cs i d within) ∙ map-push (λ (c : Contender). c.seats + cond c.has_more 1 0) (take i cs) (get_or cs i d))
+
+-- ---- the choices
+sure-sum : (cs : List Contender) → sure_seats (standings cs) ≡ seats_of cs
+sure-sum [] = refl
+sure-sum (c ∷ cs) = ap (λ n. c.seats + n) (sure-sum cs) ∙ sym (sum_by-cons (λ (d : Contender). d.seats) c cs)
+
+-- parties that stand at a threshold have the fair allocations for their choices
+pub chosen-fair : (method : Method) (total most more left : ℕ) (low : Quotient) (old : List ℕ) (cs new : List Contender) → 0 < total → total ≡ sum old → votes_of cs ≡ old
+    → AllByRecursion (λ (c : Contender). Stands (claim method total most) most low c.votes c.seats c.is_tied) cs
+    → seats_of cs + more ≡ most → more ≤ tied_count cs → left ≡ more - tied_count cs → choices_from new ≡ choices (standings cs) (more - left)
+    → choices_from new ≡ allocations method old most
+chosen-fair method total most more left low old cs new some is votes stand given enough rest first =
+    let same : total ≡ sum (votes_of cs) = is ∙ ap sum (sym votes) in
+    let all : more - left ≡ more = omega (arith, enough, rest) in
+    let those = subst (λ t. AllByRecursion (λ (c : Contender). Stands (claim method t most) most low c.votes c.seats c.is_tied) cs) same stand in
+    let somebody : 0 < sum (votes_of cs) = omega (arith, some, same) in
+    first ∙ ap (choices (standings cs)) all
+    ∙ sym (fair-choices method cs most low somebody those more (ap (λ n. n + more) (sure-sum cs) ∙ given) enough)
+    ∙ ap (λ l. allocations method l most) votes
+
+-- what standings say of seats
+few-standings : (old new : List Contender) → standings new ≡ standings old → AllByRecursion (λ (c : Contender). c.seats ≤ 10000) old → AllByRecursion (λ (c : Contender). c.seats ≤ 10000) new
+few-standings [] [] same all = tt
+few-standings [] (d ∷ ds) same all = impossible (omega (arith, ap length same))
+few-standings (c ∷ cs) [] same all = tt
+few-standings (c ∷ cs) (d ∷ ds) same all =
+    let here : d.seats ≡ c.seats = ap (λ (l : List Standing). head_seats l) same in
+    (omega (arith, here, all.0), few-standings cs ds (ap tail_of same) all.1)
+  where
+    head_seats : List Standing → ℕ
+    head_seats [] = 0
+    head_seats (s ∷ ss) = s.0
+
+    tail_of : List Standing → List Standing
+    tail_of [] = []
+    tail_of (s ∷ ss) = ss
+
+few-within : (most : ℕ) (cs : List Contender) → most ≤ 10000 → seats_of cs ≤ most → AllByRecursion (λ (c : Contender). c.seats ≤ 10000) cs
+few-within most [] hm fits = tt
+few-within most (c ∷ cs) hm fits =
+    let split = sum_by-cons (λ (d : Contender). d.seats) c cs in
+    (omega (arith, hm, fits, split), few-within most cs hm (omega (arith, fits, split)))
+
+pub choosing : (most more : ℕ) (cs new : List Contender) → most ≤ 10000 → seats_of cs + more ≡ most → standings new ≡ standings cs → MoreAreTied new → IsChoosing new
+choosing most more cs new hm given same tied = record {
+  more = tied;
+  seats = few-standings cs new same (few-within most cs hm (omega (arith, given)));
+}
+
+-- votes that are at most 2^32 together are so one by one
+pub few-votes : (cs : List Contender) (votes : List ℕ) → votes_of cs ≡ votes → sum votes ≤ 2 ^ 32 → AllByRecursion (λ (c : Contender). c.votes ≤ 2 ^ 32) cs
+few-votes cs votes same most = go cs (omega (arith, ap sum same, most))
+  where
+    go : (ds : List Contender) → sum (votes_of ds) ≤ 2 ^ 32 → AllByRecursion (λ (c : Contender). c.votes ≤ 2 ^ 32) ds
+    go [] h = tt
+    go (d ∷ ds) h =
+        let split = sum_by-cons (λ x. x) d.votes (votes_of ds) in
+        (omega (arith, h, split), go ds (omega (arith, h, split)))
+
+if-none : {X : Type 0} (b : Bool) (x : X) (rest : Option X) → cond b (Some x) rest ≡ None → (b ≡ false) × (rest ≡ None)
+if-none true x rest h = impossible (no-some x h)
+  where
+    no-some : {Y : Type 0} (y : Y) → Some y ≡ None → ⊥
+    no-some y e = true≢false (ap is_some e)
+if-none false x rest h = (refl, h)
+
+not-more : (a b : ℕ) → nat_lt a b ≡ false → b ≤ a
+not-more a b h = grind arith
+
+-- votes without a fault
+pub votes-fit : (votes : List ℕ) (seats : ℕ) → first_fault votes seats ≡ None → sum votes ≤ 2 ^ 32
+votes-fit votes seats h =
+    let parties = if-none (length votes == 0) NoParties _ h in
+    let few = if-none (nat_lt 40 (length votes)) TooManyParties _ parties.1 in
+    let some = if-none (sum votes == 0) NoVotes _ few.1 in
+    let most = if-none (nat_lt (2 ^ 32) (sum votes)) TooManyVotes _ some.1 in
+    not-more (2 ^ 32) (sum votes) most.0
+
+take-front : {X : Type 0} (xs ys : List X) (n : ℕ) → length xs ≡ n → take n (xs ++ ys) ≡ xs
+take-front [] ys zero h = refl
+take-front [] ys (suc n) h = impossible (omega (arith, h))
+take-front (x ∷ xs) ys zero h = impossible (omega (arith, h))
+take-front (x ∷ xs) ys (suc n) h = ap (λ l. x ∷ l) (take-front xs ys n (omega (arith, h)))
+
+pub long-enough : {X : Type 0} (xs ys : List X) (n : ℕ) → length xs ≡ n → n ≤ length (xs ++ ys)
+long-enough xs ys n h = omega (arith, h, length-append xs ys)
+
+-- after a step the parties are still choosing
+pub still-choosing : (count : ℕ) (old new behind : List Contender) → length new ≡ count → IsChoosing old → standings new ≡ standings old → MoreAreTied new → IsChoosing (take count (new ++ behind))
+still-choosing count old new behind long choosing same tied =
+    subst IsChoosing (sym (take-front new behind count long)) (record { more = tied; seats = few-standings old new same choosing.seats })

@@ -1,0 +1,86 @@
+-- How parties stand when all seats but those of a tie are given.
+use Rattle.std.specs.Prelude.{◌≡◌, ℕ, zero, suc, ◌+◌, ◌-◌, ◌<◌, ◌≤◌, Bool, true, false, List, [], ◌∷◌, ◌++◌, map, sum_by, count_by, length, cond, if◌then◌else◌, Option, Some, None, ◌^◌}
+use Rattle.std.specs.List.{AllByRecursion}
+use Rattle.seat_share.specs.declared.award.Claimant.{Claimant}
+use Rattle.seat_share.specs.declared.contender.Contender.{Contender}
+use Rattle.seat_share.specs.Quotients.{Quotient, is_at_least}
+use Rattle.seat_share.specs.Choices.{Standing, choices}
+
+-- A party at a threshold: each of its certain seats was claimed above it, it claims none of more seats above it, and it
+-- is tied where its next claim is just there. A party without votes has no seat and is not tied.
+pub record Stands (claim : ℕ → ℕ → Quotient) (most : ℕ) (low : Quotient) (votes sure : ℕ) (tied : Bool) : Type 0 where
+  pub above : 0 < votes → 0 < sure → is_at_least low (claim votes (sure - 1)) ≡ false
+  pub below : 0 < votes → is_at_least low (claim votes sure) ≡ true
+  pub tie : 0 < votes → tied ≡ is_at_least (claim votes sure) low
+  pub none : votes ≡ 0 → (sure ≡ 0) × (tied ≡ false)
+  pub fits : sure ≤ most
+
+-- While seats are given, one after the other: each seat that was given was claimed at the threshold or above it, and no
+-- party claims more above it. A party without votes has no seat.
+pub record Keeps (claim : ℕ → ℕ → Quotient) (most : ℕ) (low : Quotient) (votes seats : ℕ) : Type 0 where
+  pub given : 0 < votes → 0 < seats → is_at_least (claim votes (seats - 1)) low ≡ true
+  pub next : 0 < votes → is_at_least low (claim votes seats) ≡ true
+  pub none : votes ≡ 0 → seats ≡ 0
+
+-- the certain seats of a party, and whether it is tied
+abbrev pub standing : Contender → Standing
+standing c = (c.seats, c.is_tied)
+
+abbrev pub standings : List Contender → List Standing
+standings cs = map standing cs
+
+-- how many parties are tied, and how many have one more seat in the allocation that comes next
+abbrev pub tied_count : List Contender → ℕ
+tied_count cs = count_by (λ c. c.is_tied) cs
+
+abbrev pub more_count : List Contender → ℕ
+more_count cs = count_by (λ c. c.has_more) cs
+
+-- the allocation that comes next
+abbrev pub allocation : List Contender → List ℕ
+allocation cs = map (λ c. c.seats + cond c.has_more 1 0) cs
+
+-- the choices with one seat less
+abbrev pub choices_less : List Standing → ℕ → List (List ℕ)
+choices_less ss zero = []
+choices_less ss (suc more) = choices ss more
+
+-- the allocations from the next one on
+unfoldable pub choices_from : List Contender → List (List ℕ)
+choices_from [] = [] ∷ []
+choices_from (c ∷ rest) =
+    if c.has_more then map (λ others. (c.seats + 1) ∷ others) (choices_from rest)
+    else map (λ others. c.seats ∷ others) (choices_from rest)
+    ++ (if c.is_tied then map (λ others. (c.seats + 1) ∷ others) (choices_less (standings rest) (more_count rest)) else [])
+
+-- only tied parties have one more
+abbrev pub MoreAreTied : List Contender → Type 0
+MoreAreTied cs = AllByRecursion (λ c. c.has_more ≡ true → c.is_tied ≡ true) cs
+
+-- A party with votes, by its place, and a claim that is its own and at least that of each party with votes; none where no
+-- party has votes.
+abbrev pub IsGreatest : (ℕ → ℕ → Quotient) → List Contender → Option Claimant → Type 0
+IsGreatest claim cs None = AllByRecursion (λ c. c.votes ≡ 0) cs
+IsGreatest claim cs (Some first) =
+    (before : List Contender) × (c : Contender) × (after : List Contender) × (cs ≡ before ++ c ∷ after) × (length before ≡ first.place)
+    × (0 < c.votes) × (first.quotient ≡ claim c.votes c.seats) × AllByRecursion (λ d. 0 < d.votes → is_at_least first.quotient (claim d.votes d.seats) ≡ true) cs
+
+-- each party has at most so many votes and seats
+abbrev pub AreWithin : ℕ → List Contender → Type 0
+AreWithin most cs = AllByRecursion (λ c. (c.votes ≤ 2 ^ 32) × (c.seats ≤ most)) cs
+
+abbrev pub votes_of : List Contender → List ℕ
+votes_of cs = map (λ c. c.votes) cs
+
+abbrev pub seats_of : List Contender → ℕ
+seats_of cs = sum_by (λ c. c.seats) cs
+
+-- the allocations from the next one on, or none
+abbrev pub allocations_left : Bool → List Contender → List (List ℕ)
+allocations_left false cs = []
+allocations_left true cs = choices_from cs
+
+-- what is true of parties whose ties are chosen
+pub record IsChoosing (cs : List Contender) : Type 0 where
+  pub more : MoreAreTied cs
+  pub seats : AllByRecursion (λ c. c.seats ≤ 10000) cs

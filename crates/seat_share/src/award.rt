@@ -1,0 +1,97 @@
+//! Seats that are given one after the other, and the ties for the last of them.
+ghost use Rattle.std.specs.Prelude.{◌≡◌, ◌+◌, ◌^◌, ◌≤◌, ◌<◌, ◌++◌, ◌∷◌, ℕ, List, [], length, sum, true, false, Some};
+ghost use Rattle.std.specs.List.{AllByRecursion};
+ghost use Rattle.seat_share.specs.Quotients.{Quotient};
+ghost use Rattle.seat_share.specs.Claims.{claim};
+ghost use Rattle.seat_share.specs.Standings.{Stands, Keeps, IsGreatest, AreWithin, votes_of, seats_of, tied_count};
+
+use crate::claims::{Contest, Quotient};
+use crate::contender::Contender;
+
+/// A party, by its place, and its claim to one more seat.
+#[derive(Clone, Copy, Debug)]
+struct Claimant {
+    place: usize,
+    quotient: Quotient,
+}
+
+/// A party whose claim to one more seat is greatest, where a party has votes.
+fn first_claimant(contest: Contest, parties: &[Contender]) -> Option<Claimant>
+    requires { AreWithin contest.seats parties.now }
+    ensures greatest { IsGreatest (claim contest.method contest.votes contest.seats) parties.now result }
+{
+    let mut best = None;
+    for place in 0..parties.len() {
+        let party = parties[place];
+        if party.votes > 0 {
+            let quotient = contest.claim(party.votes, party.seats);
+            best = Some(greater(best, Claimant { place, quotient }));
+        }
+    }
+    best
+}
+
+/// The one with the greater claim: the best so far, or else the later one.
+fn greater(best: Option<Claimant>, later: Claimant) -> Claimant
+    ensures { (claims : ℕ → ℕ → Quotient) (before : List Contender) (c : Contender) → length before ≡ later.place → 0 < c.votes
+        → later.quotient ≡ claims c.votes c.seats → IsGreatest claims before best → IsGreatest claims (before ++ c ∷ []) (Some result) }
+{
+    match best {
+        Some(first) if first.quotient.is_at_least(later.quotient) => first,
+        _ => later,
+    }
+}
+
+/// Gives all seats, one after the other, each to a party with a greatest claim to one more. Answers the last claim that
+/// was met.
+pub(crate) fn award(contest: Contest, parties: &mut [Contender]) -> Quotient
+    requires votes { AllByRecursion (λ c. c.votes ≤ 2 ^ 32) parties.old }
+    requires fresh { AllByRecursion (λ c. c.seats ≡ 0) parties.old }
+    requires total { contest.votes ≡ sum (votes_of parties.old) }
+    requires some { 0 < contest.votes }
+    ensures kept { AllByRecursion (λ c. Keeps (claim contest.method contest.votes contest.seats) contest.seats result c.votes c.seats) parties.new }
+    ensures votes { votes_of parties.new ≡ votes_of parties.old }
+    ensures seats { seats_of parties.new ≡ contest.seats }
+    ensures within { AreWithin contest.seats parties.new }
+{
+    let mut low = Quotient::greatest();
+    for _given in 0..contest.seats {
+        match first_claimant(contest, parties) {
+            Some(first) => {
+                parties[first.place].seats += 1;
+                low = first.quotient;
+            }
+            None => unreachable!(),
+        }
+    }
+    low
+}
+
+/// Takes back the seats that were met at the threshold itself, and marks the parties that are tied there. Answers how
+/// many seats were taken back.
+pub(crate) fn settle(contest: Contest, low: Quotient, parties: &mut [Contender]) -> usize
+    requires few { length parties.old ≤ 40 }
+    requires within { AreWithin contest.seats parties.old }
+    requires some { 0 < contest.votes }
+    requires kept { AllByRecursion (λ c. Keeps (claim contest.method contest.votes contest.seats) contest.seats low c.votes c.seats) parties.old }
+    ensures stand { AllByRecursion (λ c. Stands (claim contest.method contest.votes contest.seats) contest.seats low c.votes c.seats c.is_tied) parties.new }
+    ensures votes { votes_of parties.new ≡ votes_of parties.old }
+    ensures seats { seats_of parties.new + result ≡ seats_of parties.old }
+    ensures ties { result ≤ tied_count parties.new }
+{
+    let Some((first, rest)) = parties.split_first_mut() else {
+        return 0;
+    };
+    let more = settle(contest, low, rest);
+    if first.votes == 0 {
+        first.is_tied = false;
+        return more;
+    }
+    if first.seats > 0 && low.is_at_least(contest.claim(first.votes, first.seats - 1)) {
+        first.seats -= 1;
+        first.is_tied = true;
+        return more + 1;
+    }
+    first.is_tied = contest.claim(first.votes, first.seats).is_at_least(low);
+    more
+}

@@ -1,0 +1,85 @@
+//! What parties claim their next seat by.
+ghost use Rattle.std.specs.Prelude.{◌≡◌, ◌^◌, ◌≤◌, ◌+◌, ◌*◌};
+ghost use Rattle.seat_share.specs.Quotients.{is_at_least};
+ghost use Rattle.seat_share.specs.Claims.{claim};
+
+use crate::method::Method;
+use std::marker::Model;
+
+/// What is divided, and what it is divided by, which may be 0.
+#[derive(Clone, Copy, Debug)]
+pub(crate) struct Quotient {
+    dividend: u128,
+    divisor: u128,
+}
+
+impl Model for Quotient {
+    ghost use Rattle.std.specs.Prelude.{ℕ, ◌^◌, ◌≤◌};
+
+    ghost Value = { ℕ × ℕ };
+
+    ghost view = { λ q. (q.dividend, q.divisor) };
+
+    ghost inverse = { λ value. record {
+      dividend = value.0;
+      divisor = value.1;
+    } };
+
+    ghost invariant = { λ q. (q.dividend ≤ 2 ^ 64) × (q.divisor ≤ 2 ^ 28) };
+}
+
+impl Quotient {
+    /// A quotient that no claim exceeds.
+    pub(crate) fn greatest() -> Quotient
+        ensures { result ≡ (2 ^ 64, 0) }
+    {
+        Quotient {
+            dividend: 1 << 64,
+            divisor: 0,
+        }
+    }
+
+    /// Whether it is at least the other.
+    pub(crate) fn is_at_least(self, other: Quotient) -> bool
+        ensures { result ≡ is_at_least self other }
+    {
+        if self.divisor == 0 {
+            return other.divisor != 0 || other.dividend <= self.dividend;
+        }
+        other.divisor != 0 && other.dividend * self.divisor <= self.dividend * other.divisor
+    }
+}
+
+/// A method, all votes, and the seats that are shared out.
+#[derive(Clone, Copy, Debug)]
+pub(crate) struct Contest {
+    pub(crate) method: Method,
+    pub(crate) votes: u64,
+    pub(crate) seats: u16,
+    ghost few_votes: { votes ≤ 2 ^ 32 },
+    ghost few_seats: { seats ≤ 10000 },
+}
+
+impl Contest {
+    /// The claim of a party with these votes and these seats to its next one.
+    pub(crate) fn claim(self, votes: u64, seats: u16) -> Quotient
+        requires votes { votes ≤ 2 ^ 32 }
+        requires seats { seats ≤ self.seats }
+        ensures value { result ≡ claim self.method self.votes self.seats votes seats }
+    {
+        let all = u128::from(self.votes);
+        let left = u128::from(self.seats - seats);
+        let most = u128::from(self.seats);
+        let votes = u128::from(votes);
+        let seats = u128::from(seats);
+        let (dividend, divisor) = match self.method {
+            Method::Hamilton => (votes * most + left * all, 1),
+            Method::Dhondt => (votes, seats + 1),
+            Method::SainteLague => (votes, 2 * seats + 1),
+            Method::Huntington => (votes * votes, seats * (seats + 1)),
+            Method::Adams => (votes, seats),
+            Method::Dean => (votes * (2 * seats + 1), 2 * seats * (seats + 1)),
+        };
+        Quotient { dividend, divisor }
+    }
+}
