@@ -13,7 +13,7 @@ use std::marker::Model;
 
 /// A set of candidates, numbered from 1 to 40. Contracts see the increasing list of its members.
 #[tactic(auto, using(crate::specs::Words::word_of_members))]
-#[derive(Clone, Copy, PartialEq, Eq, Hash)]
+#[derive(Clone, Copy, Debug, PartialEq, Eq, Hash)]
 pub struct CandSet {
     bits: u64,
 }

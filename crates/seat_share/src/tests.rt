@@ -93,9 +93,7 @@ fn assert_table(rt: &impl Abort, alloc: Global, table: &str) -> Result<(), Fail>
             panic!(rt; "{line}");
         };
         for allocation in allocations.split(' ') {
-            let Some(next) = shares.next() else {
-                panic!(rt; "{line}: no {allocation}");
-            };
+            let next = shares.next().ok_or("an allocation is missing")?;
             assert_eq!(rt;
                 text_of(alloc, next.seats())?.as_str(),
                 allocation,
@@ -122,10 +120,13 @@ fn tables(rt: HostRuntime) -> Result<(), Fail> {
 fn ties_of_many(rt: HostRuntime) -> Result<(), Fail> {
     let alloc = rt.alloc();
     let sixteen = [1; 16];
-    let Ok(shares) = Shares::new(&sixteen, Method::Adams, 8, None) else {
+    let Ok(mut shares) = Shares::new(&sixteen, Method::Adams, 8, None) else {
         panic!(rt; "sixteen parties");
     };
-    assert_eq!(rt; shares.count(), 12870);
+    for _ in 0..12870 {
+        assert!(rt; shares.next().is_some());
+    }
+    assert!(rt; shares.next().is_none());
     let forty = [1; 40];
     let Ok(mut shares) = Shares::new(&forty, Method::Dean, 20, None) else {
         panic!(rt; "forty parties");

@@ -1,0 +1,109 @@
+-- The first violation of several pairs, and of one.
+use Rattle.std.proofs.Common.{◌≡◌, ℕ, zero, suc, ◌*◌, ◌+◌, ◌-◌, ◌≤◌, ◌++◌, Bool, true, false, cond, List, [], ◌∷◌, Option, Some, None, refl, sym, ap, ◌∙◌, arith, length, sum}
+use Rattle.std.specs.Prelude.{find, is_some, option_map, nat_le, flat_map}
+use Rattle.std.specs.Bool.{then_some}
+use Rattle.std.specs.Option.{option_or}
+use Rattle.std.proofs.lemmas.List.Folds.{find-append}
+use Rattle.ballot_base.specs.Lists.{IsIncreasing, increasing_lists, lists_of}
+use Rattle.ballot_base.specs.Ballots.{Election, voter_count}
+use Rattle.group_check.specs.declared.property.Property.{Property}
+use Rattle.group_check.specs.declared.property.Property.TheVariants.{Jr, Pjr, Ejr}
+use Rattle.group_check.specs.contracts.property.Property.{the_type}
+use denote.Enum.Bare.{sameb}
+use Rattle.group_check.specs.declared.property.Violation.{Violation}
+use Rattle.group_check.specs.Report.{supporters, pair_breaks, violation_of, lists_within}
+use Rattle.group_check.specs.Checking.{greatest_level, IsChoice, IsSecond, first_of, pairs_of}
+use Rattle.group_check.proofs.BreakLemmas.{pair_breaks-is}
+
+-- the violation of these voters
+abbrev pub violation_with : Property → List ℕ → ℕ → List ℕ → List ℕ → ℕ → Violation
+violation_with property committee level shared within voters = record {
+  property = property;
+  committee = committee;
+  level = level;
+  shared = shared;
+  within = within;
+  voters = voters;
+}
+
+then_some-find : {X : Type 0} {Y : Type 0} (f : X → Y) (b : Bool) (x : X) → then_some b (f x) ≡ option_map f (cond b (Some x) None)
+then_some-find f true x = refl
+then_some-find f false x = refl
+
+-- all voters behind T and U, counted
+pub counted_is : (property : Property) (e : Election) (committee : List ℕ) (level : ℕ) (shared within : List ℕ)
+    → IsIncreasing 1 e.m committee → 1 ≤ level → level ≤ greatest_level property committee → IsChoice e.m level shared → IsSecond property e.m level within
+    → (seats voters all size : ℕ) → seats ≡ level → all ≡ voter_count e.rows → voters ≡ sum (supporters property e committee level (shared, within)) → size ≡ length committee
+    → then_some (nat_le (seats * all) (voters * size)) (violation_with property committee level shared within voters) ≡ first_of property e committee level ((shared, within) ∷ [])
+counted_is property e committee level shared within i least most choice second seats voters all size a b c d =
+    let large = pair_breaks-is property e committee level shared within i least most choice second in
+    rw (a, b, c, d, ← large) (then_some-find (violation_of property e committee level) (pair_breaks property e committee level (shared, within)) (shared, within))
+
+option_map-or : {X : Type 0} {Y : Type 0} (f : X → Y) (a b : Option X) → option_map f (option_or a b) ≡ option_or (option_map f a) (option_map f b)
+option_map-or f None b = refl
+option_map-or f (Some x) b = refl
+
+pub first_of-append : (property : Property) (e : Election) (committee : List ℕ) (level : ℕ) (pairs more : List (List ℕ × List ℕ))
+    → first_of property e committee level (pairs ++ more) ≡ option_or (first_of property e committee level pairs) (first_of property e committee level more)
+first_of-append property e committee level pairs more =
+    let test = pair_breaks property e committee level in
+    ap (option_map (violation_of property e committee level)) (find-append test pairs more)
+    ∙ option_map-or (violation_of property e committee level) (find test pairs) (find test more)
+
+-- what was found comes first
+pub found_first : {X : Type 0} (found first : Option X) (rest : Option X) → found ≡ first → is_some found ≡ true → found ≡ option_or first rest
+found_first None first rest e some = absurd (never some)
+  where
+    never : false ≡ true → ⊥
+    never h = cc
+found_first (Some x) first rest e some = ap (λ o. option_or o rest) e
+
+-- where nothing was found, the rest decides
+pub none_first : {X : Type 0} (found first : Option X) (rest : Option X) → found ≡ first → is_some found ≡ false → rest ≡ option_or first rest
+none_first None first rest e some = ap (λ o. option_or o rest) e
+none_first (Some x) first rest e some = absurd (never some)
+  where
+    never : true ≡ false → ⊥
+    never h = cc
+
+-- a nonempty committee has room for the greatest level
+pub greatest_level-le : (property : Property) (committee : List ℕ) → (committee ≡ [] → ⊥) → greatest_level property committee ≤ length committee
+greatest_level-le Jr [] some = absurd (some refl)
+greatest_level-le Jr (x ∷ xs) some = omega arith
+greatest_level-le Pjr committee some = omega arith
+greatest_level-le Ejr committee some = omega arith
+
+-- the pairs of the first T come first
+pub first_of-step : (property : Property) (e : Election) (committee : List ℕ) (level : ℕ) (lists sets : List (List ℕ)) (shared : List ℕ) (rest : List (List ℕ)) → sets ≡ shared ∷ rest
+    → option_or (first_of property e committee level (pairs_of shared lists)) (first_of property e committee level (flat_map (λ first. pairs_of first lists) rest))
+    ≡ first_of property e committee level (flat_map (λ first. pairs_of first lists) sets)
+first_of-step property e committee level lists sets shared rest steps =
+    rw steps (sym (first_of-append property e committee level (pairs_of shared lists) (flat_map (λ first. pairs_of first lists) rest)))
+
+-- ---- where U is empty
+
+empty_alone : (m : ℕ) → increasing_lists 1 m 0 ≡ [] ∷ []
+unfolding lists_of
+empty_alone zero = refl
+empty_alone (suc m) = alone (suc m + 1 - 1)
+  where
+    alone : (count : ℕ) → lists_of count 1 0 ≡ [] ∷ []
+    alone zero = refl
+    alone (suc count) = refl
+
+-- at level 1 the only list U is the empty one
+pub lists_within-one : (property : Property) (m : ℕ) (committee : List ℕ) (level : ℕ) → 1 ≤ level → level ≤ 1 → lists_within property m committee level ≡ [] ∷ []
+lists_within-one Jr m committee level least most = refl
+lists_within-one Pjr m committee level least most =
+    let none : level - 1 ≡ 0 = omega arith in
+    rw (none, empty_alone m) refl
+lists_within-one Ejr m committee level least most = refl
+
+-- and so it is for the properties without U
+pub lists_within-other : (property : Property) (m : ℕ) (committee : List ℕ) (level : ℕ) → sameb the_type property Pjr ≡ false → lists_within property m committee level ≡ [] ∷ []
+lists_within-other Jr m committee level other = refl
+lists_within-other Pjr m committee level other = absurd (never other)
+  where
+    never : sameb the_type Pjr Pjr ≡ false → ⊥
+    never e = cc
+lists_within-other Ejr m committee level other = refl

@@ -1,0 +1,219 @@
+-- Each definition, computed on small examples.
+use Rattle.std.proofs.Common.{◌≡◌, zero, suc, [], ◌∷◌, true, false, Some, None, refl, lit≤, arith}
+use Rattle.ballot_base.specs.Lists.{lists_of}
+use Rattle.ballot_base.specs.Ballots.{Election, election}
+use Rattle.group_check.specs.declared.property.Property.TheVariants.{Jr, Pjr, Ejr}
+use Rattle.group_check.specs.Groups.{IsGroup, ballots_of, common_candidates, represented, is_cohesive, all_below, breaks, Breaks, SomeGroupBreaks, HasProperty}
+use Rattle.group_check.specs.Report.{includes, is_behind, is_in_group, group_of, supporters, lists_within, pairs_at, pair_breaks, violation_of, first_violation, IsReport}
+use Rattle.group_check.specs.Checking.{greatest_level, IsChoice, IsSecond, first_of, pairs_of}
+use Rattle.group_check.proofs.BreakLemmas.{no_group, above_greatest}
+
+-- ---- three voters approve 1 and 2, and one approves 3 and 4; the committee has 3 and 4
+divided : Election
+divided = election 4 ([] ∷ [] ∷ [] ∷ [] ∷ []) ((1 ∷ 2 ∷ [], 3) ∷ (3 ∷ 4 ∷ [], 1) ∷ [])
+
+-- two of the three voters are a group
+part : IsGroup divided.rows (2 ∷ 0 ∷ [])
+unfolding divided
+part = (lit≤ tt, (lit≤ tt, tt))
+
+their_ballots : ballots_of divided.rows (2 ∷ 0 ∷ []) ≡ (1 ∷ 2 ∷ []) ∷ []
+unfolding divided
+their_ballots = refl
+
+all_ballots : ballots_of divided.rows (1 ∷ 1 ∷ []) ≡ (1 ∷ 2 ∷ []) ∷ (3 ∷ 4 ∷ []) ∷ []
+unfolding divided
+all_ballots = refl
+
+their_common : common_candidates 4 ((1 ∷ 2 ∷ 3 ∷ []) ∷ (1 ∷ 2 ∷ 4 ∷ []) ∷ []) ≡ 1 ∷ 2 ∷ []
+their_common = refl
+
+nobodys_common : common_candidates 2 [] ≡ 1 ∷ 2 ∷ []
+nobodys_common = refl
+
+their_represented : represented ((1 ∷ 2 ∷ 3 ∷ []) ∷ (1 ∷ 2 ∷ []) ∷ []) (3 ∷ 4 ∷ []) ≡ 3 ∷ []
+their_represented = refl
+
+-- two of four voters may claim one of two seats, and one may not
+two_are_cohesive : is_cohesive divided 2 1 (2 ∷ 0 ∷ []) ≡ true
+unfolding divided
+two_are_cohesive = refl
+
+one_is_too_few : is_cohesive divided 2 1 (1 ∷ 0 ∷ []) ≡ false
+unfolding divided
+one_is_too_few = refl
+
+nothing_in_common : is_cohesive divided 2 1 (3 ∷ 1 ∷ []) ≡ false
+unfolding divided
+nothing_in_common = refl
+
+none_below : all_below 1 (3 ∷ 4 ∷ []) ((1 ∷ 2 ∷ []) ∷ (3 ∷ 4 ∷ []) ∷ []) ≡ false
+none_below = refl
+
+two_break : Breaks Jr divided (3 ∷ 4 ∷ []) 1 (2 ∷ 0 ∷ [])
+unfolding divided
+two_break = refl
+
+-- with 1 in the committee they do not
+two_are_represented : breaks Jr divided (1 ∷ 4 ∷ []) 1 (2 ∷ 0 ∷ []) ≡ false
+unfolding divided
+two_are_represented = refl
+
+-- JR knows level 1 alone
+not_at_level_two : breaks Jr divided (3 ∷ 4 ∷ []) 2 (3 ∷ 0 ∷ []) ≡ false
+unfolding divided
+not_at_level_two = refl
+
+some_break : SomeGroupBreaks Jr divided (3 ∷ 4 ∷ []) 1
+some_break = (2 ∷ 0 ∷ [], part, two_break)
+
+first_jr : first_violation Jr divided (3 ∷ 4 ∷ []) 1 ≡ Some (record { property = Jr; committee = 3 ∷ 4 ∷ []; level = 1; shared = 1 ∷ []; within = []; voters = 3 })
+unfolding divided lists_of
+first_jr = refl
+
+first_pjr : first_violation Pjr divided (3 ∷ 4 ∷ []) 1 ≡ Some (record { property = Pjr; committee = 3 ∷ 4 ∷ []; level = 1; shared = 1 ∷ []; within = []; voters = 3 })
+unfolding divided lists_of
+first_pjr = refl
+
+its_group_breaks : Breaks Jr divided (3 ∷ 4 ∷ []) 1 (3 ∷ 0 ∷ [])
+unfolding divided
+its_group_breaks = refl
+
+approves_one : is_in_group (record { property = Jr; committee = 3 ∷ 4 ∷ []; level = 1; shared = 1 ∷ []; within = []; voters = 3 }) (1 ∷ 2 ∷ []) ≡ true
+approves_one = refl
+
+report : IsReport Jr divided (3 ∷ 4 ∷ []) (record { property = Jr; committee = 3 ∷ 4 ∷ []; level = 1; shared = 1 ∷ []; within = []; voters = 3 })
+unfolding divided
+report = record {
+  low = lit≤ tt;
+  high = lit≤ tt;
+  breaks = its_group_breaks;
+  least = λ level from to some. omega (arith, from, to);
+  first = first_jr;
+}
+
+-- ---- one voter approves 1, 2 and 3, and one approves 1, 2 and 4; the committee has 3 and 4
+split : Election
+split = election 4 ([] ∷ [] ∷ [] ∷ [] ∷ []) ((1 ∷ 2 ∷ 3 ∷ [], 1) ∷ (1 ∷ 2 ∷ 4 ∷ [], 1) ∷ [])
+
+-- together they approve two members, and each approves one
+two_represented : breaks Pjr split (3 ∷ 4 ∷ []) 2 (1 ∷ 1 ∷ []) ≡ false
+unfolding split
+two_represented = refl
+
+each_has_one : breaks Ejr split (3 ∷ 4 ∷ []) 2 (1 ∷ 1 ∷ []) ≡ true
+unfolding split
+each_has_one = refl
+
+no_ejr_at_one : first_violation Ejr split (3 ∷ 4 ∷ []) 1 ≡ None
+unfolding split lists_of
+no_ejr_at_one = refl
+
+ejr_at_two : first_violation Ejr split (3 ∷ 4 ∷ []) 2 ≡ Some (record { property = Ejr; committee = 3 ∷ 4 ∷ []; level = 2; shared = 1 ∷ 2 ∷ []; within = []; voters = 2 })
+unfolding split lists_of
+ejr_at_two = refl
+
+no_pjr_at_one : first_violation Pjr split (3 ∷ 4 ∷ []) 1 ≡ None
+unfolding split lists_of
+no_pjr_at_one = refl
+
+no_pjr_at_two : first_violation Pjr split (3 ∷ 4 ∷ []) 2 ≡ None
+unfolding split lists_of
+no_pjr_at_two = refl
+
+-- so the committee has PJR and lacks EJR
+split_has_pjr : HasProperty Pjr split (3 ∷ 4 ∷ [])
+unfolding split
+split_has_pjr zero least most some = omega (arith, least)
+split_has_pjr (suc zero) least most some = no_group Pjr split (3 ∷ 4 ∷ []) 1 (lit≤ tt, lit≤ tt, (lit≤ tt, lit≤ tt, tt)) (lit≤ tt) (lit≤ tt) no_pjr_at_one some
+split_has_pjr (suc (suc zero)) least most some = no_group Pjr split (3 ∷ 4 ∷ []) 2 (lit≤ tt, lit≤ tt, (lit≤ tt, lit≤ tt, tt)) (lit≤ tt) (lit≤ tt) no_pjr_at_two some
+split_has_pjr (suc (suc (suc level))) least most some = omega (arith, most)
+
+-- ---- two voters approve 1, 2 and 3; the committee has 3 and 4
+alike : Election
+alike = election 4 ([] ∷ [] ∷ [] ∷ [] ∷ []) ((1 ∷ 2 ∷ 3 ∷ [], 2) ∷ [])
+
+pjr_with_one_member : first_violation Pjr alike (3 ∷ 4 ∷ []) 2 ≡ Some (record { property = Pjr; committee = 3 ∷ 4 ∷ []; level = 2; shared = 1 ∷ 2 ∷ []; within = 3 ∷ []; voters = 2 })
+unfolding alike lists_of
+pjr_with_one_member = refl
+
+ejr_of_both : first_violation Ejr alike (3 ∷ 4 ∷ []) 2 ≡ Some (record { property = Ejr; committee = 3 ∷ 4 ∷ []; level = 2; shared = 1 ∷ 2 ∷ []; within = []; voters = 2 })
+unfolding alike lists_of
+ejr_of_both = refl
+
+no_jr : first_violation Jr alike (3 ∷ 4 ∷ []) 1 ≡ None
+unfolding alike lists_of
+no_jr = refl
+
+-- so the committee has JR and lacks EJR
+alike_has_jr : HasProperty Jr alike (3 ∷ 4 ∷ [])
+unfolding alike
+alike_has_jr zero least most some = omega (arith, least)
+alike_has_jr (suc zero) least most some = no_group Jr alike (3 ∷ 4 ∷ []) 1 (lit≤ tt, lit≤ tt, (lit≤ tt, lit≤ tt, tt)) (lit≤ tt) (lit≤ tt) no_jr some
+alike_has_jr (suc (suc level)) least most some = above_greatest Jr alike (3 ∷ 4 ∷ []) (suc (suc level)) most (omega arith) some
+
+-- ---- T and U
+included : includes (1 ∷ 2 ∷ 3 ∷ []) (1 ∷ 3 ∷ []) ≡ true
+included = refl
+
+not_included : includes (1 ∷ 2 ∷ []) (1 ∷ 3 ∷ []) ≡ false
+not_included = refl
+
+behind_one_and_two : is_behind Pjr (3 ∷ 4 ∷ []) 2 (1 ∷ 2 ∷ [], 3 ∷ []) (1 ∷ 2 ∷ 3 ∷ []) ≡ true
+behind_one_and_two = refl
+
+not_behind_four : is_behind Pjr (3 ∷ 4 ∷ []) 2 (1 ∷ 2 ∷ [], 4 ∷ []) (1 ∷ 2 ∷ 3 ∷ []) ≡ false
+not_behind_four = refl
+
+behind_by_number : is_behind Ejr (3 ∷ 4 ∷ []) 2 (1 ∷ 2 ∷ [], []) (1 ∷ 2 ∷ 3 ∷ []) ≡ true
+behind_by_number = refl
+
+not_behind_by_number : is_behind Jr (3 ∷ 4 ∷ []) 1 (1 ∷ [], []) (1 ∷ 2 ∷ 3 ∷ []) ≡ false
+not_behind_by_number = refl
+
+large_ballots : group_of (includes (1 ∷ 2 ∷ 3 ∷ [])) ((1 ∷ [], 5) ∷ (4 ∷ [], 6) ∷ []) ≡ 5 ∷ 0 ∷ []
+large_ballots = refl
+
+who_supports : supporters Jr divided (3 ∷ 4 ∷ []) 1 (1 ∷ [], []) ≡ 3 ∷ 0 ∷ []
+unfolding divided
+who_supports = refl
+
+members_alone : lists_within Pjr 4 (3 ∷ 4 ∷ []) 2 ≡ (3 ∷ []) ∷ (4 ∷ []) ∷ []
+unfolding lists_of
+members_alone = refl
+
+empty_alone : lists_within Ejr 4 (3 ∷ 4 ∷ []) 2 ≡ [] ∷ []
+empty_alone = refl
+
+pairs_in_order : pairs_at Pjr 3 (2 ∷ 3 ∷ []) 2 ≡
+    (1 ∷ 2 ∷ [], 2 ∷ []) ∷ (1 ∷ 2 ∷ [], 3 ∷ []) ∷ (1 ∷ 3 ∷ [], 2 ∷ []) ∷ (1 ∷ 3 ∷ [], 3 ∷ []) ∷ (2 ∷ 3 ∷ [], 2 ∷ []) ∷ (2 ∷ 3 ∷ [], 3 ∷ []) ∷ []
+unfolding lists_of
+pairs_in_order = refl
+
+it_breaks : pair_breaks Pjr alike (3 ∷ 4 ∷ []) 2 (1 ∷ 2 ∷ [], 3 ∷ []) ≡ true
+unfolding alike
+it_breaks = refl
+
+it_is_violated : violation_of Pjr alike (3 ∷ 4 ∷ []) 2 (1 ∷ 2 ∷ [], 3 ∷ []) ≡ record { property = Pjr; committee = 3 ∷ 4 ∷ []; level = 2; shared = 1 ∷ 2 ∷ []; within = 3 ∷ []; voters = 2 }
+unfolding alike
+it_is_violated = refl
+
+-- ---- the steps of the search
+one_level : greatest_level Jr (3 ∷ 4 ∷ []) ≡ 1
+one_level = refl
+
+two_levels : greatest_level Pjr (3 ∷ 4 ∷ []) ≡ 2
+two_levels = refl
+
+choice : IsChoice 4 2 (1 ∷ 3 ∷ [])
+choice = ((lit≤ tt, lit≤ tt, (lit≤ tt, lit≤ tt, tt)), refl)
+
+second : IsSecond Pjr 4 2 (3 ∷ [])
+second = ((lit≤ tt, lit≤ tt, tt), refl)
+
+pairs_of_one : pairs_of (1 ∷ 2 ∷ []) ((3 ∷ []) ∷ (4 ∷ []) ∷ []) ≡ (1 ∷ 2 ∷ [], 3 ∷ []) ∷ (1 ∷ 2 ∷ [], 4 ∷ []) ∷ []
+pairs_of_one = refl
+
+none_of_these : first_of Pjr alike (3 ∷ 4 ∷ []) 2 ((1 ∷ 2 ∷ [], 4 ∷ []) ∷ []) ≡ None
+unfolding alike
+none_of_these = refl

@@ -1,0 +1,99 @@
+-- Extended justified representation implies proportional justified representation, and that implies the plain one.
+use Rattle.std.proofs.Common.{◌≡◌, ℕ, zero, suc, ◌<◌, ◌≤◌, ◌==◌, ◌||◌, Bool, true, false, cond, List, [], ◌∷◌, refl, sym, ap, ◌∙◌, arith, length, filter}
+use Rattle.std.specs.Prelude.{nat_lt, count_by}
+use Rattle.std.specs.List.{list_any, AllByRecursion}
+use Rattle.std.proofs.lemmas.Bool.{and_from, and_parts, lt-ltb, ltb-true, eqb-true}
+use Rattle.std.proofs.lemmas.List.Sums.{length-filter, sum_by-cons}
+use Rattle.ballot_base.specs.Lists.{IsIncreasing}
+use Rattle.ballot_base.specs.CandSet.{has_member}
+use Rattle.ballot_base.specs.Ballots.{Row, Election, IsElection, hits}
+use Rattle.ballot_base.proofs.Increasing.{IsIncreasing-filter, has_member-filter, has_member_head}
+use Rattle.group_check.specs.declared.property.Property.TheVariants.{Jr, Pjr, Ejr}
+use Rattle.group_check.specs.Groups.{ballots_of, represented, is_cohesive, all_below, HasProperty}
+use Rattle.group_check.proofs.SetLemmas.{length-within, length-common}
+use Rattle.group_check.proofs.BreakLemmas.{and_middle}
+use Rattle.group_check.proofs.TestLemmas.{both_at}
+
+-- the ballots of a group are those of rows
+ballots-increasing : (m : ℕ) (rows : List Row) (group : List ℕ) → AllByRecursion (λ (row : Row). IsIncreasing 1 m row.0) rows → AllByRecursion (λ ballot. IsIncreasing 1 m ballot) (ballots_of rows group)
+ballots-increasing m [] group all = tt
+ballots-increasing m (row ∷ rows) [] all = tt
+ballots-increasing m (row ∷ rows) (zero ∷ group) all = ballots-increasing m rows group all.1
+ballots-increasing m (row ∷ rows) (suc n ∷ group) all = (all.0, ballots-increasing m rows group all.1)
+
+-- whoever approves members of the committee has them among those represented
+hits-le-represented : (m : ℕ) (ballots : List (List ℕ)) (committee ballot : List ℕ) → IsIncreasing 1 m committee → IsIncreasing 1 m ballot
+    → ((n : ℕ) → has_member ballot n ≡ true → list_any (λ b. has_member b n) ballots ≡ true) → hits ballot committee ≤ length (represented ballots committee)
+hits-le-represented m ballots committee ballot i j among =
+    let some = λ (n : ℕ). list_any (λ b. has_member b n) ballots in
+    let few = length-within 1 m (filter (has_member ballot) committee) (represented ballots committee) (IsIncreasing-filter (has_member ballot) 1 m committee i) (IsIncreasing-filter some 1 m committee i)
+    (λ n h.
+    let split = and_parts (has_member ballot n) (has_member committee n) (sym (has_member-filter (has_member ballot) committee n) ∙ h) in
+    has_member-filter some committee n ∙ and_from (some n) (has_member committee n) (among n split.0) split.1) in
+    omega (arith, few, length-filter (has_member committee) ballot, length-common 1 m ballot committee j i)
+
+or_here : (a b : Bool) → a ≡ true → (a || b) ≡ true
+or_here true b h = refl
+or_here false b h = cc
+
+or_there : (a b : Bool) → b ≡ true → (a || b) ≡ true
+or_there true b h = refl
+or_there false b h = h
+
+below_from_few : (m level : ℕ) (all ballots : List (List ℕ)) (committee : List ℕ) → IsIncreasing 1 m committee → AllByRecursion (λ ballot. IsIncreasing 1 m ballot) ballots
+    → ((n : ℕ) → list_any (λ b. has_member b n) ballots ≡ true → list_any (λ b. has_member b n) all ≡ true) → length (represented all committee) < level → all_below level committee ballots ≡ true
+below_from_few m level all [] committee i inc among few = refl
+below_from_few m level all (ballot ∷ ballots) committee i inc among few =
+    let most = hits-le-represented m all committee ballot i inc.0 (λ n h. among n (or_here (has_member ballot n) (list_any (λ b. has_member b n) ballots) h)) in
+    and_from (nat_lt (hits ballot committee) level) (all_below level committee ballots) (lt-ltb (hits ballot committee) level (omega (arith, most, few)))
+    (below_from_few m level all ballots committee i inc.1 (λ n h. among n (or_there (has_member ballot n) (list_any (λ b. has_member b n) ballots) h)) few)
+
+pub ejr-pjr : (e : Election) (committee : List ℕ) → IsElection e → IsIncreasing 1 e.m committee → HasProperty Ejr e committee → HasProperty Pjr e committee
+ejr-pjr e committee valid i has level least most some =
+    let group = some.0 in
+    let ballots = ballots_of e.rows group in
+    let cohesive = is_cohesive e (length committee) level group in
+    let parts = and_parts cohesive (nat_lt (length (represented ballots committee)) level) some.2 in
+    let few = ltb-true (length (represented ballots committee)) level parts.1 in
+    let below = below_from_few e.m level ballots ballots committee i (ballots-increasing e.m e.rows group valid.ballots) (λ n h. h) few in
+    has level least most (group, some.1, and_from cohesive (all_below level committee ballots) parts.0 below)
+
+abbrev as_number : Bool → ℕ
+as_number b = cond b 1 0
+
+-- where no ballot approves a member of the committee, none is represented
+none_counted : (p : ℕ → Bool) (xs : List ℕ) (n : ℕ) → count_by p xs < 1 → has_member xs n ≡ true → p n ≡ true → ⊥
+none_counted p [] n few h k = absurd (never h)
+  where
+    never : false ≡ true → ⊥
+    never e = cc
+none_counted p (x ∷ xs) n few h k =
+    let counted = sum_by-cons (λ (y : ℕ). cond (p y) 1 0) x xs in
+    cases (x == n) refl (omega (arith, counted, few)) (none_counted p xs n (omega (arith, counted, few))) h
+  where
+    cases : (b : Bool) → (x == n) ≡ b → as_number (p x) < 1 → (has_member xs n ≡ true → p n ≡ true → ⊥) → (b || has_member xs n) ≡ true → ⊥
+    cases true e here later h =
+        let one = ap as_number (ap p (eqb-true x n e) ∙ k) in omega (arith, one, here)
+    cases false e here later h = later h k
+
+nothing_kept : (p : ℕ → Bool) (xs : List ℕ) → ((n : ℕ) → has_member xs n ≡ true → p n ≡ true → ⊥) → length (filter p xs) ≡ 0
+nothing_kept p [] none = refl
+nothing_kept p (x ∷ xs) none =
+    cases (p x) refl (nothing_kept p xs (λ n h. none n (or_there (x == n) (has_member xs n) h)))
+  where
+    cases : (b : Bool) → p x ≡ b → length (filter p xs) ≡ 0 → length (cond b (x ∷ filter p xs) (filter p xs)) ≡ 0
+    cases true e rest = absurd (none x (has_member_head x xs) e)
+    cases false e rest = rest
+
+pub pjr-jr : (e : Election) (committee : List ℕ) → HasProperty Pjr e committee → HasProperty Jr e committee
+pjr-jr e committee has level least most some =
+    let group = some.0 in
+    let ballots = ballots_of e.rows group in
+    let cohesive = is_cohesive e (length committee) level group in
+    let parts = and_middle (level == 1) cohesive (all_below 1 committee ballots) some.2 in
+    let one : level ≡ 1 = eqb-true level 1 parts.0 in
+    let some_approves = λ (n : ℕ). list_any (λ b. has_member b n) ballots in
+    let none : length (represented ballots committee) ≡ 0 = nothing_kept some_approves committee (λ n h k.
+    let found = both_at (λ b. nat_lt (hits b committee) 1) (λ b. has_member b n) ballots parts.2 k in
+    none_counted (has_member committee) found.0 n (ltb-true (hits found.0 committee) 1 found.1) found.2 h) in
+    has level least most (group, some.1, and_from cohesive (nat_lt (length (represented ballots committee)) level) parts.1 (lt-ltb (length (represented ballots committee)) level (omega (arith, none, one))))

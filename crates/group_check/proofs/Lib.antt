@@ -1,0 +1,10 @@
+pub mod BreakLemmas
+pub mod CountedLemmas
+pub mod Examples
+pub mod GroupLemmas
+pub mod LawLemmas
+pub mod PropertyLemmas
+pub mod ReportLemmas
+pub mod SetLemmas
+pub mod TestLemmas
+pub mod VoterLemmas

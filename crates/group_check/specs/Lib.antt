@@ -1,0 +1,3 @@
+pub mod Groups
+pub mod Report
+pub mod Checking

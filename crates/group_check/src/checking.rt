@@ -1,0 +1,181 @@
+//! The search for a violation.
+ghost use Rattle.std.specs.Prelude.{◌≡◌, ◌≢◌, ◌-◌, ◌^◌, ◌≤◌, ◌↔◌, [], ◌∷◌, None, IfSome, length, filter, sum};
+ghost use Rattle.ballot_base.specs.Lists.{IsIncreasing};
+ghost use Rattle.group_check.specs.Groups.{HasProperty};
+ghost use Rattle.group_check.specs.Report.{IsReport, first_violation, lists_within, is_in_group, group_of, includes};
+ghost use Rattle.group_check.specs.Checking.{greatest_level, IsChoice, IsSecond, first_of, pairs_of};
+
+use crate::property::{Property, Violation, includes};
+use ballot_base::{CandSet, KSets, Profile};
+use std::alloc::Allocator;
+
+/// The group that shows that the committee lacks the property, if it lacks it: at the least level at which some group
+/// breaks the property, all voters behind the first candidates that show it. It takes no memory.
+pub fn find_violation<A: Allocator + Copy>(
+    profile: &Profile<A>,
+    committee: CandSet,
+    property: Property,
+) -> Option<Violation>
+    requires some { committee ≢ [] }
+    requires candidates { IsIncreasing 1 profile.now.m committee }
+    ensures none { (result ≡ None) ↔ HasProperty property profile.now committee }
+    ensures some { IfSome result (λ report. IsReport property profile.now committee report) }
+{
+    for level in 1..=greatest_level(property, committee) {
+        let found = first_at(profile, committee, property, level);
+        if found.is_some() {
+            return found;
+        }
+    }
+    None
+}
+
+/// The greatest level at which a group can break the property.
+fn greatest_level(property: Property, committee: CandSet) -> u8
+    ensures { result ≡ greatest_level property committee }
+{
+    match property {
+        Property::Jr => 1,
+        Property::Pjr | Property::Ejr => committee.len(),
+    }
+}
+
+/// The first violation at a level.
+fn first_at<A: Allocator + Copy>(
+    profile: &Profile<A>,
+    committee: CandSet,
+    property: Property,
+    level: u8,
+) -> Option<Violation>
+    requires some { committee ≢ [] }
+    requires candidates { IsIncreasing 1 profile.now.m committee }
+    requires least { 1 ≤ level }
+    requires most { level ≤ greatest_level property committee }
+    ensures { result ≡ first_violation property profile.now committee level }
+{
+    for shared in KSets::new(profile.m(), level) {
+        let found = first_behind(profile, committee, property, level, shared);
+        if found.is_some() {
+            return found;
+        }
+    }
+    None
+}
+
+/// The first violation at a level with these candidates.
+fn first_behind<A: Allocator + Copy>(
+    profile: &Profile<A>,
+    committee: CandSet,
+    property: Property,
+    level: u8,
+    shared: CandSet,
+) -> Option<Violation>
+    requires candidates { IsIncreasing 1 profile.now.m committee }
+    requires least { 1 ≤ level }
+    requires most { level ≤ greatest_level property committee }
+    requires shared { IsChoice profile.now.m level shared }
+    ensures { result ≡ first_of property profile.now committee level (pairs_of shared (lists_within property profile.now.m committee level)) }
+{
+    if property == Property::Pjr && level > 1 {
+        first_within(profile, committee, level, shared)
+    } else {
+        counted(
+            profile,
+            committee,
+            property,
+            level,
+            shared,
+            CandSet::empty(),
+        )
+    }
+}
+
+/// The first violation of proportional justified representation at a level above 1 with these candidates.
+fn first_within<A: Allocator + Copy>(
+    profile: &Profile<A>,
+    committee: CandSet,
+    level: u8,
+    shared: CandSet,
+) -> Option<Violation>
+    requires candidates { IsIncreasing 1 profile.now.m committee }
+    requires least { 2 ≤ level }
+    requires most { level ≤ length committee }
+    requires shared { IsChoice profile.now.m level shared }
+    ensures { result ≡ first_of Property.Pjr profile.now committee level (pairs_of shared (lists_within Property.Pjr profile.now.m committee level)) }
+{
+    for within in KSets::new(profile.m(), level - 1) {
+        let found = counted_inside(profile, committee, level, shared, within);
+        if found.is_some() {
+            return found;
+        }
+    }
+    None
+}
+
+/// The violation of proportional justified representation with all voters behind these candidates, if the second ones
+/// are members of the committee and the voters are enough for the level.
+fn counted_inside<A: Allocator + Copy>(
+    profile: &Profile<A>,
+    committee: CandSet,
+    level: u8,
+    shared: CandSet,
+    within: CandSet,
+) -> Option<Violation>
+    requires candidates { IsIncreasing 1 profile.now.m committee }
+    requires least { 1 ≤ level }
+    requires most { level ≤ length committee }
+    requires shared { IsChoice profile.now.m level shared }
+    requires within { IsChoice profile.now.m (level - 1) within }
+    ensures { result ≡ first_of Property.Pjr profile.now committee level (pairs_of shared (filter (includes committee) (within ∷ []))) }
+{
+    if includes(committee, within) {
+        counted(profile, committee, Property::Pjr, level, shared, within)
+    } else {
+        None
+    }
+}
+
+/// The violation with all voters behind these candidates, if they are enough for the level.
+fn counted<A: Allocator + Copy>(
+    profile: &Profile<A>,
+    committee: CandSet,
+    property: Property,
+    level: u8,
+    shared: CandSet,
+    within: CandSet,
+) -> Option<Violation>
+    requires candidates { IsIncreasing 1 profile.now.m committee }
+    requires least { 1 ≤ level }
+    requires most { level ≤ greatest_level property committee }
+    requires shared { IsChoice profile.now.m level shared }
+    requires within { IsSecond property profile.now.m level within }
+    ensures { result ≡ first_of property profile.now committee level ((shared, within) ∷ []) }
+{
+    let mut violation = Violation {
+        property,
+        committee,
+        level,
+        shared,
+        within,
+        voters: 0,
+    };
+    violation.voters = voters_behind(profile, &violation);
+    let due = u64::from(level) * profile.voters();
+    let is_large = violation.voters * u64::from(committee.len()) >= due;
+    is_large.then_some(violation)
+}
+
+/// How many voters belong to the group of a violation.
+fn voters_behind<A: Allocator + Copy>(profile: &Profile<A>, violation: &Violation) -> u64
+    ensures group { result ≡ sum (group_of (is_in_group violation.now) profile.now.rows) }
+    ensures most { result ≤ 2 ^ 32 }
+{
+    let mut voters = 0;
+    for i in 0..profile.rows() {
+        let (ballot, count) = profile.row(i);
+        if violation.contains(ballot) {
+            voters += count;
+        }
+    }
+    voters
+}

@@ -1,0 +1,12 @@
+//! Whether a committee represents its voters: justified representation and its stronger forms.
+#![tactic(auto)]
+
+mod checking;
+pub mod laws;
+pub mod property;
+
+pub use checking::find_violation;
+pub use property::{Property, Violation};
+
+#[cfg(test)]
+mod tests;

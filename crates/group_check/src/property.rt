@@ -1,0 +1,59 @@
+//! Properties of committees, and violations of them.
+ghost use Rattle.std.specs.Prelude.{◌≡◌};
+ghost use Rattle.group_check.specs.Report.{is_in_group, includes};
+
+use ballot_base::CandSet;
+
+/// A property of committees: each large group of voters who agree on enough candidates is represented. Each is
+/// stronger than the one before it.
+#[derive(Clone, Copy, Debug, PartialEq, Eq)]
+pub enum Property {
+    /// Justified representation: a group of n/k voters with a candidate in common has a member who approves a member
+    /// of the committee (Aziz, Brill, Conitzer, Elkind, Freeman and Walsh).
+    Jr,
+    /// Proportional justified representation: a group of l · n/k voters with l candidates in common approves, together,
+    /// l members of the committee (Sanchez-Fernandez and others).
+    Pjr,
+    /// Extended justified representation: a group of l · n/k voters with l candidates in common has a member who
+    /// approves l members of the committee (Aziz, Brill, Conitzer, Elkind, Freeman and Walsh).
+    Ejr,
+}
+
+/// A group of voters that breaks a property.
+#[derive(Clone, Copy, Debug, PartialEq, Eq)]
+pub struct Violation {
+    /// The property that the group breaks.
+    pub property: Property,
+    /// The committee that lacks the property.
+    pub committee: CandSet,
+    /// The level l, from 1 to the size of the committee: how many members the group could claim.
+    pub level: u8,
+    /// The l candidates that each of the group's voters approves.
+    pub shared: CandSet,
+    /// The l - 1 members of the committee in which all those lie that the group's voters approve. Empty unless the
+    /// property is `Pjr`.
+    pub within: CandSet,
+    /// How many voters the group has.
+    pub voters: u64,
+}
+
+impl Violation {
+    /// Whether a voter with this ballot belongs to the group.
+    pub fn contains(&self, ballot: CandSet) -> bool
+        ensures { result ≡ is_in_group self.now ballot }
+    {
+        let approved = ballot.common(self.committee);
+        let is_below = match self.property {
+            Property::Jr | Property::Ejr => approved.len() < self.level,
+            Property::Pjr => includes(self.within, approved),
+        };
+        includes(ballot, self.shared) && is_below
+    }
+}
+
+/// Whether the set has all members of the other.
+pub(crate) fn includes(set: CandSet, other: CandSet) -> bool
+    ensures { result ≡ includes set other }
+{
+    other.common(set).len() == other.len()
+}
