@@ -11,16 +11,16 @@ use Rattle.tie_walk.specs.Winners.{best_value, is_unbeaten, winners}
 use Rattle.tie_walk.proofs.WinnersLemmas.{greatest, values-greatest, winners-best}
 
 -- ---- what a filter keeps
-Contains-from_filter : {X : Type 0} (p : X → Bool) (xs : List X) (x : X) → Contains (filter p xs) x → Contains xs x
+pub Contains-from_filter : {X : Type 0} (p : X → Bool) (xs : List X) (x : X) → Contains (filter p xs) x → Contains xs x
 Contains-from_filter p xs x c = All-contains (Contains xs) (filter p xs) x (All-filter p (Contains xs) xs (All-contains_itself xs)) c
 
-passes-from_filter : {X : Type 0} (p : X → Bool) (xs : List X) (x : X) → Contains (filter p xs) x → p x ≡ true
+pub passes-from_filter : {X : Type 0} (p : X → Bool) (xs : List X) (x : X) → Contains (filter p xs) x → p x ≡ true
 passes-from_filter p xs x c = All-contains (λ y. p y ≡ true) (filter p xs) x (filter_passes p xs) c
 
 Contains-later : {X : Type 0} (x y : X) (xs : List X) → Contains xs y → Contains (x ∷ xs) y
 Contains-later x y xs c = (suc c.0, omega (arith, c.1), c.2)
 
-Contains-filter : {X : Type 0} (p : X → Bool) (xs : List X) (x : X) → Contains xs x → p x ≡ true → Contains (filter p xs) x
+pub Contains-filter : {X : Type 0} (p : X → Bool) (xs : List X) (x : X) → Contains xs x → p x ≡ true → Contains (filter p xs) x
 Contains-filter p [] x c passes = absurd (omega (arith, c.1))
 Contains-filter p (y ∷ ys) x (zero, inside, is) passes =
     let first : p y ≡ true = ap p is ∙ passes in
@@ -50,7 +50,7 @@ no_greater_value value m k set c =
     let bound : List ℕ → Type 0 = λ (other : List ℕ). value other ≤ greatest value 0 all in
     All-contains bound all set (All-from_recursion bound all (values-greatest value 0 all)) c
 
-IsIncreasing-range : (from run last : ℕ) → from + run ≤ last + 1 → IsIncreasing from last (range_with_len from run)
+pub IsIncreasing-range : (from run last : ℕ) → from + run ≤ last + 1 → IsIncreasing from last (range_with_len from run)
 IsIncreasing-range from zero last h = tt
 IsIncreasing-range from (suc run) last h = (omega arith, omega arith, IsIncreasing-range (from + 1) run last (omega arith))
 

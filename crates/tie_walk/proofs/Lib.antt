@@ -1,7 +1,16 @@
+pub mod Choices
 pub mod Distances
 pub mod Examples
 pub mod LawLemmas
+pub mod LevelLemmas
+pub mod OrderLemmas
 pub mod RowSums
+pub mod SequenceExamples
+pub mod SequenceLaws
+pub mod SequenceLemmas
+pub mod StepLemmas
 pub mod TableLemmas
+pub mod TotalLemmas
 pub mod ValueExamples
 pub mod WinnersLemmas
+pub mod WorthLemmas

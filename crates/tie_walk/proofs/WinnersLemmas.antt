@@ -11,21 +11,21 @@ and-assoc : (a b c : Bool) → (a && (b && c)) ≡ ((a && b) && c)
 and-assoc true b c = refl
 and-assoc false b c = refl
 
-module _ (value : List ℕ → ℕ) where
+module _ {X : Type 0} (value : X → ℕ) where
   -- the greatest of a number and the values
-  abbrev pub greatest : ℕ → List (List ℕ) → ℕ
+  abbrev pub greatest : ℕ → List X → ℕ
   greatest low sets = fold max low (map value sets)
 
-  pub low-greatest : (low : ℕ) (sets : List (List ℕ)) → low ≤ greatest low sets
+  pub low-greatest : (low : ℕ) (sets : List X) → low ≤ greatest low sets
   low-greatest low [] = omega arith
   low-greatest low (set ∷ sets) = omega (arith, low-greatest (max low (value set)) sets)
 
-  pub values-greatest : (low : ℕ) (sets : List (List ℕ)) → AllByRecursion (λ set. value set ≤ greatest low sets) sets
+  pub values-greatest : (low : ℕ) (sets : List X) → AllByRecursion (λ set. value set ≤ greatest low sets) sets
   values-greatest low [] = tt
   values-greatest low (set ∷ sets) = (omega (arith, low-greatest (max low (value set)) sets), values-greatest (max low (value set)) sets)
 
   -- a bound of all is a bound of the greatest
-  pub bounds-greatest : (low bound : ℕ) (sets : List (List ℕ)) → (nat_le low bound && list_all (λ set. nat_le (value set) bound) sets) ≡ nat_le (greatest low sets) bound
+  pub bounds-greatest : (low bound : ℕ) (sets : List X) → (nat_le low bound && list_all (λ set. nat_le (value set) bound) sets) ≡ nat_le (greatest low sets) bound
   bounds-greatest low bound [] = grind arith
   bounds-greatest low bound (set ∷ sets) =
       let more = bounds-greatest (max low (value set)) bound sets in
@@ -38,10 +38,10 @@ same_filter p q [] same = refl
 same_filter p q (x ∷ xs) same = ap (λ b. cond b (x ∷ filter p xs) (filter p xs)) same.0 ∙ ap (λ l. cond (q x) (x ∷ l) l) (same_filter p q xs same.1)
 
 -- a number that is no greater than another is at least it exactly where the two are equal
-at_least_is_equal : (n best : ℕ) → n ≤ best → nat_le best n ≡ (n == best)
+pub at_least_is_equal : (n best : ℕ) → n ≤ best → nat_le best n ≡ (n == best)
 at_least_is_equal n best most = grind arith
 
-least : (n : ℕ) → nat_le 0 n ≡ true
+pub least : (n : ℕ) → nat_le 0 n ≡ true
 least n = grind arith
 
 same_tests : (value : List ℕ → ℕ) (all sets : List (List ℕ)) (best : ℕ) → best ≡ greatest value 0 all → AllByRecursion (λ set. value set ≤ best) sets

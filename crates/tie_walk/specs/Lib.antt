@@ -1,3 +1,5 @@
+pub mod Sequences
+pub mod Steps
 pub mod Tables
 pub mod Values
 pub mod Winners

@@ -1,15 +1,18 @@
-//! Committees that win: what gives a committee its value, and all committees of the greatest value.
+//! Committees that win: what gives a committee its value, all committees of the greatest value, and all committees of
+//! the sequential rules.
 #![tactic(auto)]
 
 pub mod laws;
 pub mod minimax;
 pub mod satisfaction;
+pub mod sequential;
 pub mod tally;
 pub mod thiele;
 pub mod winners;
 
 pub use minimax::MinimaxTally;
 pub use satisfaction::SavTally;
+pub use sequential::{SeqRule, SeqWinners};
 pub use tally::Tally;
 pub use thiele::ThieleTally;
 pub use winners::Winners;

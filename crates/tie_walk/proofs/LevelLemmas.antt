@@ -1,0 +1,182 @@
+-- The levels of the sequential rules: what they have, and that the last one has the winners.
+use Rattle.std.proofs.Common.{◌≡◌, ℕ, zero, suc, ◌+◌, ◌-◌, ◌≤◌, ◌==◌, ◌++◌, Bool, true, false, not, cond, List, [], ◌∷◌, refl, sym, ap, ◌∙◌, subst, arith, inl, inr, map, filter, Contains}
+use Rattle.std.specs.List.{flat_map, range_with_len, AllByRecursion}
+use Rattle.std.specs.List.Sorted.{IsStrictlySortedBy}
+use Rattle.std.specs.Cmp.Lexicographic.{slice_cmp}
+use Rattle.std.specs.Ordering.{nat_cmp}
+use Rattle.std.proofs.lemmas.Bool.{cases_lt, and_parts}
+use Rattle.std.proofs.lemmas.List.Elements.{recursion_from_All, All-weaker, All-contains_itself, Contains-append_cases}
+use Rattle.ballot_base.specs.Lists.{IsIncreasing}
+use Rattle.ballot_base.specs.CandSet.{has_member, with_member}
+use Rattle.ballot_base.specs.Ballots.{Row}
+use Rattle.ballot_base.proofs.Increasing.{IsIncreasing-higher, IsIncreasing-filter, IsIncreasing-with_member, has_member-below, has_member-above, has_member-filter, with_member-above}
+use Rattle.tie_walk.specs.Steps.{is_open, change, open_candidates, is_choice, changes, IsNextLevel, start, follows, IsReached, IsLevel}
+use Rattle.tie_walk.specs.declared.sequential.Step.{Step}
+use Rattle.tie_walk.specs.declared.sequential.Step.TheVariants.{Grow, Shrink}
+use Rattle.tie_walk.proofs.StepLemmas.{range-more}
+use Rattle.tie_walk.proofs.LawLemmas.{passes-from_filter, Contains-filter, IsIncreasing-range}
+use Rattle.tie_walk.proofs.Choices.{AreCandidates, Contains-map, Contains-flat_map, Contains-range, reached_none, reached_start, reached_more, reached_last}
+
+-- ---- the set of all candidates
+
+pub with-next : (all : List ℕ) (c : ℕ) → 1 ≤ c → all ≡ range_with_len 1 (c - 1) → with_member all c ≡ range_with_len 1 (c + 1 - 1)
+with-next all c low is =
+    let e : c + 1 - 1 ≡ suc (c - 1) = omega arith in
+    ap (λ l. with_member l c) is ∙ with_member-above 1 (c - 1) (range_with_len 1 (c - 1)) c (IsIncreasing-range 1 (c - 1) (c - 1) (omega arith)) (omega arith)
+    ∙ sym (ap (range_with_len 1) e ∙ range-more 1 (c - 1) c (omega arith))
+
+-- ---- what a change makes of a set
+
+change-increasing : (step : Step) (m : ℕ) (set : List ℕ) (c : ℕ) → 1 ≤ c → c ≤ m → IsIncreasing 1 m set → IsIncreasing 1 m (change step set c)
+change-increasing Grow m set c low high up = IsIncreasing-with_member 1 m set c low high up
+change-increasing Shrink m set c low high up = IsIncreasing-filter (λ x. not (x == c)) 1 m set up
+
+changes-among : (step : Step) (m : ℕ) (set numbers : List ℕ) (test : ℕ → Bool) → IsIncreasing 1 m set → AllByRecursion (λ c. (1 ≤ c) × (c ≤ m)) numbers
+    → AllByRecursion (λ s. IsIncreasing 1 m s) (map (change step set) (filter test numbers))
+changes-among step m set [] test up all = tt
+changes-among step m set (c ∷ numbers) test up all =
+    let rest = changes-among step m set numbers test up all.1 in
+    elim (test c) as (λ b. AllByRecursion (λ s. IsIncreasing 1 m s) (map (change step set) (cond b (c ∷ filter test numbers) (filter test numbers)))) [
+      | true ↦ (change-increasing step m set c all.0.0 all.0.1 up, rest)
+      | false ↦ rest
+    ]
+
+range-candidates : (a n m : ℕ) → 1 ≤ a → a + n ≤ m + 1 → AllByRecursion (λ c. (1 ≤ c) × (c ≤ m)) (range_with_len a n)
+range-candidates a zero m low high = tt
+range-candidates a (suc n) m low high = ((low, omega arith), range-candidates (a + 1) n m (omega arith) (omega arith))
+
+changes-increasing : (step : Step) (weights : List ℕ) (m : ℕ) (rows : List Row) (set : List ℕ) → IsIncreasing 1 m set → AllByRecursion (λ s. IsIncreasing 1 m s) (changes step weights m rows set)
+unfolding changes
+changes-increasing step weights m rows set up = changes-among step m set (range_with_len 1 m) (is_choice step weights m rows set) up (range-candidates 1 m m (omega arith) (omega arith))
+
+append-all : (P : List ℕ → Type 0) (xs ys : List (List ℕ)) → AllByRecursion P xs → AllByRecursion P ys → AllByRecursion P (xs ++ ys)
+append-all P [] ys a b = b
+append-all P (x ∷ xs) ys a b = (a.0, append-all P xs ys a.1 b)
+
+pub next-increasing : (step : Step) (weights : List ℕ) (m : ℕ) (rows : List Row) (level : List (List ℕ)) → AllByRecursion (λ s. IsIncreasing 1 m s) level
+    → AllByRecursion (λ s. IsIncreasing 1 m s) (flat_map (changes step weights m rows) level)
+next-increasing step weights m rows [] all = tt
+next-increasing step weights m rows (set ∷ level) all =
+    append-all (λ s. IsIncreasing 1 m s) (changes step weights m rows set) (flat_map (changes step weights m rows) level) (changes-increasing step weights m rows set all.0) (next-increasing step weights m rows level all.1)
+
+pub all-to_40 : (m : ℕ) (sets : List (List ℕ)) → m ≤ 40 → AllByRecursion (λ s. IsIncreasing 1 m s) sets → AllByRecursion (λ s. IsIncreasing 1 40 s) sets
+all-to_40 m [] most all = tt
+all-to_40 m (set ∷ sets) most all = (IsIncreasing-higher 1 m 40 set most all.0, all-to_40 m sets most all.1)
+
+-- ---- choices are candidates
+
+Contains-later : {X : Type 0} (x y : X) (xs : List X) → Contains xs y → Contains (x ∷ xs) y
+Contains-later x y xs c = (suc c.0, omega (arith, c.1), c.2)
+
+Contains-from_map : {X Y : Type 0} (f : X → Y) (xs : List X) (y : Y) → Contains (map f xs) y → (x : X) × Contains xs x × (f x ≡ y)
+Contains-from_map f [] y c = absurd (omega (arith, c.1))
+Contains-from_map f (x ∷ xs) y (zero, inside, is) = (x, (0, omega arith, refl), is)
+Contains-from_map f (x ∷ xs) y (suc i, inside, is) =
+    let rest = Contains-from_map f xs y (i, omega (arith, inside), is) in
+    (rest.0, Contains-later x rest.0 xs rest.1, rest.2)
+
+Contains-from_flat_map : {X Y : Type 0} (f : X → List Y) (xs : List X) (y : Y) → Contains (flat_map f xs) y → (x : X) × Contains xs x × Contains (f x) y
+Contains-from_flat_map f [] y c = absurd (omega (arith, c.1))
+Contains-from_flat_map f (x ∷ xs) y c = elim (Contains-append_cases (f x) (flat_map f xs) y c) [
+  | inl here ↦ (x, (0, omega arith, refl), here)
+  | inr later ↦
+      let rest = Contains-from_flat_map f xs y later in
+      (rest.0, Contains-later x rest.0 xs rest.1, rest.2)
+]
+
+pub both_false : (b : Bool) → b ≡ false → b ≡ true → ⊥
+both_false b left right = let e : false ≡ true = sym left ∙ right in cc
+
+pub in_bounds : (m : ℕ) (set : List ℕ) (c : ℕ) → IsIncreasing 1 m set → has_member set c ≡ true → (1 ≤ c) × (c ≤ m)
+in_bounds m set c up inside =
+    let low : 1 ≤ c = elim (cases_lt c 1) [
+      | inl below ↦ absurd (both_false (has_member set c) (has_member-below 1 m set c up below) inside)
+      | inr fine ↦ fine
+    ] in
+    let high : c ≤ m = elim (cases_lt m c) [
+      | inl above ↦ absurd (both_false (has_member set c) (has_member-above 1 m set c up above) inside)
+      | inr fine ↦ fine
+    ] in
+    (low, high)
+
+module _ (step : Step) (weights : List ℕ) (m : ℕ) (rows : List Row) where
+  pub choice-parts : (set : List ℕ) (c : ℕ) → is_choice step weights m rows set c ≡ true → ((1 ≤ c) × (c ≤ m)) × (is_open step set c ≡ true)
+  choice-parts set c is =
+      let all = open_candidates step m set in
+      let inside = (and_parts (has_member all c) _ is).0 in
+      let parts = and_parts (is_open step set c) (has_member (range_with_len 1 m) c) (sym (has_member-filter (is_open step set) (range_with_len 1 m) c) ∙ inside) in
+      (in_bounds m (range_with_len 1 m) c (IsIncreasing-range 1 m m (omega arith)) parts.1, parts.0)
+
+  pub followed-candidates : (set list : List ℕ) → follows (is_choice step weights m rows) (change step) set list ≡ true → AreCandidates m list
+  followed-candidates set [] made = tt
+  followed-candidates set (c ∷ list) made =
+      let parts = and_parts (is_choice step weights m rows set c) (follows (is_choice step weights m rows) (change step) (change step set c) list) made in
+      ((choice-parts set c parts.0).0, followed-candidates (change step set c) list parts.1)
+
+  start-increasing : IsIncreasing 1 m (start step m)
+  start-increasing = by_step step
+    where
+      by_step : (s : Step) → IsIncreasing 1 m (start s m)
+      by_step Grow = tt
+      by_step Shrink = IsIncreasing-range 1 m m (omega arith)
+
+  pub reached-increasing : (size : ℕ) (set : List ℕ) → IsReached (is_choice step weights m rows) (change step) (start step m) size set → IsIncreasing 1 m set
+  reached-increasing zero set r = subst (λ s. IsIncreasing 1 m s) (sym (reached_start (is_choice step weights m rows) (change step) (start step m) set r)) start-increasing
+  reached-increasing (suc size) set r =
+      let last = reached_last (is_choice step weights m rows) (change step) (start step m) size set (subst (λ n. IsReached (is_choice step weights m rows) (change step) (start step m) n set) (omega arith) r) in
+      let candidate = (choice-parts last.old last.choice last.allowed).0 in
+      subst (λ s. IsIncreasing 1 m s) last.is (change-increasing step m last.old last.choice candidate.0 candidate.1 (reached-increasing size last.old last.reached))
+
+  -- ---- the next level
+
+  changes-parts : (set made : List ℕ) → Contains (changes step weights m rows set) made → (c : ℕ) × (is_choice step weights m rows set c ≡ true) × (change step set c ≡ made)
+  unfolding changes
+  changes-parts set made inside =
+      let some = Contains-from_map (change step set) (filter (is_choice step weights m rows set) (range_with_len 1 m)) made inside in
+      (some.0, passes-from_filter (is_choice step weights m rows set) (range_with_len 1 m) some.0 some.1, some.2)
+
+  changes-contains : (set : List ℕ) (c : ℕ) → is_choice step weights m rows set c ≡ true → Contains (changes step weights m rows set) (change step set c)
+  unfolding changes
+  changes-contains set c is =
+      let candidate = (choice-parts set c is).0 in
+      Contains-map (change step set) (filter (is_choice step weights m rows set) (range_with_len 1 m)) c
+      (Contains-filter (is_choice step weights m rows set) (range_with_len 1 m) c (Contains-range m c candidate.0 candidate.1) is)
+
+  pub level-increasing : (size : ℕ) (sets : List (List ℕ)) → IsLevel step weights m rows size sets → AllByRecursion (λ s. IsIncreasing 1 m s) sets
+  level-increasing size sets level =
+      recursion_from_All (λ s. IsIncreasing 1 m s) sets
+      (All-weaker (Contains sets) (λ s. IsIncreasing 1 m s) (λ s inside. reached-increasing size s ((level.members s).0 inside)) sets (All-contains_itself sets))
+
+  pub level-next : (size : ℕ) (sets next : List (List ℕ)) → IsLevel step weights m rows size sets → IsNextLevel step weights m rows sets next → IsLevel step weights m rows (size + 1) next
+  level-next size sets next level made = record {
+    order = made.order;
+    members = λ set. (
+      λ inside.
+          let some = Contains-from_flat_map (changes step weights m rows) sets set ((made.members set).0 inside) in
+          let parts = changes-parts some.0 set some.2 in
+          subst (λ s. IsReached (is_choice step weights m rows) (change step) (start step m) (size + 1) s) parts.2
+          (reached_more (is_choice step weights m rows) (change step) (start step m) size some.0 parts.0 ((level.members some.0).0 some.1) parts.1),
+      λ reached.
+          let last = reached_last (is_choice step weights m rows) (change step) (start step m) size set reached in
+          let here : Contains (changes step weights m rows last.old) set = subst (λ s. Contains (changes step weights m rows last.old) s) last.is (changes-contains last.old last.choice last.allowed) in
+          (made.members set).1 (Contains-flat_map (changes step weights m rows) sets last.old set ((level.members last.old).1 last.reached) here),
+    );
+  }
+
+  pub level-first : (sets : List (List ℕ)) → sets ≡ start step m ∷ [] → IsLevel step weights m rows 0 sets
+  unfolding IsStrictlySortedBy
+  level-first sets is = record {
+    order = subst (λ l. IsStrictlySortedBy (slice_cmp nat_cmp) l) (sym is) (tt, tt);
+    members = λ set. (
+      λ inside.
+          subst (λ s. IsReached (is_choice step weights m rows) (change step) (start step m) 0 s) (only (start step m) set (subst (λ l. Contains l set) is inside))
+          (reached_none (is_choice step weights m rows) (change step) (start step m)),
+      λ reached.
+          let same = reached_start (is_choice step weights m rows) (change step) (start step m) set reached in
+          subst (λ l. Contains l set) (sym is) (0, omega arith, sym same),
+    );
+  }
+    where
+      only : (one set : List ℕ) → Contains (one ∷ []) set → one ≡ set
+      only one set (zero, inside, same) = same
+      only one set (suc i, inside, same) = absurd (omega (arith, inside))

@@ -1,0 +1,131 @@
+-- Each definition, computed on a small example.
+use Rattle.std.proofs.Common.{◌≡◌, [], ◌∷◌, true, false, refl}
+use Rattle.ballot_base.specs.Lists.{lists_of}
+use Rattle.ballot_base.specs.Ballots.{Election, election}
+use Rattle.ballot_base.specs.CommonMultiple.{common_multiple}
+use Rattle.ballot_base.specs.Increments.{increments}
+use Rattle.ballot_base.specs.declared.increments.ThieleRule.TheVariants.{Pav, Cc}
+use Rattle.tie_walk.specs.Sequences.{weight, supporters, gain, loss, others, is_grown, is_shrunk, sequences, sequential_winners}
+use Rattle.tie_walk.specs.Steps.{is_no_better, open_candidates, change, start, better, worst, worth, hits_of, is_choice, changes, follows}
+use Rattle.tie_walk.specs.declared.sequential.Step.TheVariants.{Grow, Shrink}
+use Rattle.tie_walk.specs.declared.sequential.SeqRule.TheVariants.{SeqPav, SeqCc, RevSeqPav}
+
+-- of the candidates 1 to 4, three voters approve 1 and 2, and one voter 3 and 4
+pairs : Election
+pairs = election 4 ([] ∷ [] ∷ [] ∷ [] ∷ []) ((1 ∷ 2 ∷ [], 3) ∷ (3 ∷ 4 ∷ [], 1) ∷ [])
+
+-- of the candidates 1 to 3, two voters approve 1 and 2, two 1 and 3, one 2 and one 3
+chain : Election
+chain = election 3 ([] ∷ [] ∷ [] ∷ []) ((1 ∷ 2 ∷ [], 2) ∷ (1 ∷ 3 ∷ [], 2) ∷ (2 ∷ [], 1) ∷ (3 ∷ [], 1) ∷ [])
+
+weights_of_four : (weight (increments Pav 4) 0 ≡ 0) × (weight (increments Pav 4) 1 ≡ 12) × (weight (increments Pav 4) 3 ≡ 4)
+unfolding increments common_multiple
+weights_of_four = (refl, refl, refl)
+
+supporters_of_one : supporters pairs.rows 1 ≡ (1 ∷ 2 ∷ [], 3) ∷ []
+unfolding pairs
+supporters_of_one = refl
+
+-- a second hit of three voters is 3 · 12/2
+second_gain : gain (increments Pav 4) pairs.rows (1 ∷ []) 2 ≡ 18
+unfolding pairs increments common_multiple
+second_gain = refl
+
+first_gain : gain (increments Pav 4) pairs.rows (1 ∷ []) 3 ≡ 12
+unfolding pairs increments common_multiple
+first_gain = refl
+
+loss_of_all : loss (increments Pav 4) pairs.rows (1 ∷ 2 ∷ 3 ∷ 4 ∷ []) 3 ≡ 6
+unfolding pairs increments common_multiple
+loss_of_all = refl
+
+others_of_four : others 4 (2 ∷ 3 ∷ []) ≡ 1 ∷ 4 ∷ []
+others_of_four = refl
+
+grown : is_grown (increments Pav 4) 4 pairs.rows [] (2 ∷ 1 ∷ []) ≡ true
+unfolding pairs increments common_multiple
+grown = refl
+
+-- 2 gains more than 3 does
+not_grown : is_grown (increments Pav 4) 4 pairs.rows [] (1 ∷ 3 ∷ []) ≡ false
+unfolding pairs increments common_multiple
+not_grown = refl
+
+-- no one is chosen twice
+not_twice : is_grown (increments Cc 4) 4 pairs.rows [] (1 ∷ 1 ∷ []) ≡ false
+unfolding pairs increments
+not_twice = refl
+
+shrunk : is_shrunk (increments Pav 4) pairs.rows (1 ∷ 2 ∷ 3 ∷ 4 ∷ []) (4 ∷ []) ≡ true
+unfolding pairs increments common_multiple
+shrunk = refl
+
+not_shrunk : is_shrunk (increments Pav 4) pairs.rows (1 ∷ 2 ∷ 3 ∷ 4 ∷ []) (1 ∷ []) ≡ false
+unfolding pairs increments common_multiple
+not_shrunk = refl
+
+sequences_of_two : sequences 2 2 ≡ (1 ∷ 1 ∷ []) ∷ (1 ∷ 2 ∷ []) ∷ (2 ∷ 1 ∷ []) ∷ (2 ∷ 2 ∷ []) ∷ []
+sequences_of_two = refl
+
+-- ---- winners of the pairs
+seqpav_of_pairs : sequential_winners SeqPav pairs 2 ≡ (1 ∷ 2 ∷ []) ∷ []
+unfolding pairs increments common_multiple lists_of
+seqpav_of_pairs = refl
+
+seqcc_of_pairs : sequential_winners SeqCc pairs 2 ≡ (1 ∷ 3 ∷ []) ∷ (1 ∷ 4 ∷ []) ∷ (2 ∷ 3 ∷ []) ∷ (2 ∷ 4 ∷ []) ∷ []
+unfolding pairs increments lists_of
+seqcc_of_pairs = refl
+
+revseqpav_of_pairs : sequential_winners RevSeqPav pairs 3 ≡ (1 ∷ 2 ∷ 3 ∷ []) ∷ (1 ∷ 2 ∷ 4 ∷ []) ∷ []
+unfolding pairs increments common_multiple lists_of
+revseqpav_of_pairs = refl
+
+-- no one is taken out of all
+revseqpav_of_all : sequential_winners RevSeqPav pairs 4 ≡ (1 ∷ 2 ∷ 3 ∷ 4 ∷ []) ∷ []
+unfolding pairs increments common_multiple lists_of
+revseqpav_of_all = refl
+
+-- ---- winners of the chain
+seqpav_of_chain : sequential_winners SeqPav chain 2 ≡ (1 ∷ 2 ∷ []) ∷ (1 ∷ 3 ∷ []) ∷ []
+unfolding chain increments common_multiple lists_of
+seqpav_of_chain = refl
+
+revseqpav_of_chain : sequential_winners RevSeqPav chain 2 ≡ (1 ∷ 2 ∷ []) ∷ (1 ∷ 3 ∷ []) ∷ (2 ∷ 3 ∷ []) ∷ []
+unfolding chain increments common_multiple lists_of
+revseqpav_of_chain = refl
+
+seqcc_of_chain : sequential_winners SeqCc chain 2 ≡ (1 ∷ 2 ∷ []) ∷ (1 ∷ 3 ∷ []) ∷ []
+unfolding chain increments lists_of
+seqcc_of_chain = refl
+
+-- ---- steps
+open_of_two : (open_candidates Grow 4 (2 ∷ 3 ∷ []) ≡ 1 ∷ 4 ∷ []) × (open_candidates Shrink 4 (2 ∷ 3 ∷ []) ≡ 2 ∷ 3 ∷ [])
+open_of_two = (refl, refl)
+
+changed : (change Grow (1 ∷ 3 ∷ []) 2 ≡ 1 ∷ 2 ∷ 3 ∷ []) × (change Shrink (1 ∷ 3 ∷ []) 3 ≡ 1 ∷ [])
+changed = (refl, refl)
+
+started : (start Grow 3 ≡ []) × (start Shrink 3 ≡ 1 ∷ 2 ∷ 3 ∷ [])
+started = (refl, refl)
+
+better_of_two : (better Grow 3 5 ≡ 5) × (better Shrink 3 5 ≡ 3) × (worst Grow ≡ 0) × (is_no_better Grow 3 5 ≡ true) × (is_no_better Shrink 3 5 ≡ false)
+better_of_two = (refl, refl, refl, refl, refl)
+
+worth_of_three : (worth Grow (increments Pav 4) pairs.rows (1 ∷ []) 3 ≡ 12) × (worth Shrink (increments Pav 4) pairs.rows (1 ∷ 2 ∷ 3 ∷ 4 ∷ []) 3 ≡ 6)
+unfolding pairs increments common_multiple
+worth_of_three = (refl, refl)
+
+places_of_hits : (hits_of Grow 2 ≡ 3) × (hits_of Shrink 2 ≡ 2)
+places_of_hits = (refl, refl)
+
+choice : is_choice Grow (increments Pav 4) 4 pairs.rows (1 ∷ []) 2 ≡ true
+unfolding pairs increments common_multiple
+choice = refl
+
+changes_of_one : changes Grow (increments Cc 4) 4 pairs.rows (1 ∷ []) ≡ (1 ∷ 3 ∷ []) ∷ (1 ∷ 4 ∷ []) ∷ []
+unfolding pairs increments changes
+changes_of_one = refl
+
+-- any choice may be made here, and each adds a candidate
+followed : follows (λ set c. true) (change Grow) [] (2 ∷ 1 ∷ []) ≡ true
+followed = refl

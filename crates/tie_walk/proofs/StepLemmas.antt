@@ -1,0 +1,162 @@
+-- The best candidates of a set, found one by one.
+use Rattle.std.proofs.Common.{◌≡◌, ℕ, zero, suc, ◌+◌, ◌-◌, ◌<◌, ◌≤◌, ◌^◌, ◌==◌, ◌&&◌, ◌++◌, Bool, true, false, cond, List, [], ◌∷◌, refl, sym, ap, ◌∙◌, arith, inl, inr, map, filter, min}
+use Rattle.std.specs.Prelude.{fold, nat_le}
+use Rattle.std.specs.List.{list_all, range_with_len, AllByRecursion}
+use Rattle.std.proofs.lemmas.Bool.{cases_Bool, eqb-true, eq-eqb, or_left, or_cases, and_left}
+use Rattle.std.proofs.lemmas.List.Elements.{filter-append}
+use Rattle.std.proofs.lemmas.List.Sums.{fold-append}
+use Rattle.ballot_base.specs.CandSet.{has_member}
+use Rattle.ballot_base.specs.Ballots.{Row}
+use Rattle.ballot_base.proofs.Increasing.{has_member-filter}
+use Rattle.tie_walk.specs.Steps.{is_open, change, worth, is_no_better, better, worst, open_candidates, is_choice, changes}
+use Rattle.tie_walk.specs.declared.sequential.Step.{Step}
+use Rattle.tie_walk.specs.declared.sequential.Step.TheVariants.{Grow, Shrink}
+use Rattle.tie_walk.proofs.WinnersLemmas.{greatest, values-greatest, bounds-greatest, same_filter, at_least_is_equal, least}
+
+-- ---- the numbers of a range, one by one
+
+pub range-more : (a n j : ℕ) → a + n ≡ j → range_with_len a (suc n) ≡ range_with_len a n ++ j ∷ []
+range-more a zero j e = ap (λ x. x ∷ []) (omega (arith, e))
+range-more a (suc n) j e = ap (λ l. a ∷ l) (range-more (a + 1) n j (omega (arith, e)))
+
+range-next : (c : ℕ) → 1 ≤ c → range_with_len 1 (c + 1 - 1) ≡ range_with_len 1 (c - 1) ++ c ∷ []
+range-next c low =
+    let e : c + 1 - 1 ≡ suc (c - 1) = omega arith in
+    ap (range_with_len 1) e ∙ range-more 1 (c - 1) c (omega arith)
+
+pub filter-next : (p : ℕ → Bool) (c : ℕ) → 1 ≤ c → filter p (range_with_len 1 (c + 1 - 1)) ≡ filter p (range_with_len 1 (c - 1)) ++ cond (p c) (c ∷ []) []
+filter-next p c low = ap (filter p) (range-next c low) ∙ filter-append p (range_with_len 1 (c - 1)) (c ∷ [])
+
+map-push : {X Y : Type 0} (f : X → Y) (xs ys : List X) → map f (xs ++ ys) ≡ map f xs ++ map f ys
+map-push f [] ys = refl
+map-push f (x ∷ xs) ys = ap (λ l. f x ∷ l) (map-push f xs ys)
+
+pub best-taken : (f : ℕ → ℕ → ℕ) (low : ℕ) (w : ℕ → ℕ) (p : ℕ → Bool) (c : ℕ) → 1 ≤ c → p c ≡ true
+    → fold f low (map w (filter p (range_with_len 1 (c + 1 - 1)))) ≡ f (fold f low (map w (filter p (range_with_len 1 (c - 1))))) (w c)
+best-taken f low w p c start is =
+    let kept = filter p (range_with_len 1 (c - 1)) in
+    ap (λ l. fold f low (map w l)) (filter-next p c start ∙ ap (λ b. kept ++ cond b (c ∷ []) []) is)
+    ∙ ap (fold f low) (map-push w kept (c ∷ [])) ∙ fold-append f low (map w kept) (w c ∷ [])
+
+append_none : {X : Type 0} (xs : List X) → xs ++ [] ≡ xs
+append_none [] = refl
+append_none (x ∷ xs) = ap (λ l. x ∷ l) (append_none xs)
+
+pub filter-left : (p : ℕ → Bool) (c : ℕ) → 1 ≤ c → p c ≡ false → filter p (range_with_len 1 (c + 1 - 1)) ≡ filter p (range_with_len 1 (c - 1))
+filter-left p c low is =
+    filter-next p c low ∙ ap (λ b. filter p (range_with_len 1 (c - 1)) ++ cond b (c ∷ []) []) is ∙ append_none (filter p (range_with_len 1 (c - 1)))
+
+pub map-taken : {X : Type 0} (f : ℕ → X) (p : ℕ → Bool) (c : ℕ) → 1 ≤ c → p c ≡ true
+    → map f (filter p (range_with_len 1 (c + 1 - 1))) ≡ map f (filter p (range_with_len 1 (c - 1))) ++ f c ∷ []
+map-taken f p c low is =
+    ap (map f) (filter-next p c low ∙ ap (λ b. filter p (range_with_len 1 (c - 1)) ++ cond b (c ∷ []) []) is)
+    ∙ map-push f (filter p (range_with_len 1 (c - 1))) (c ∷ [])
+
+pub has_member-range : (a n c : ℕ) → a ≤ c → c < a + n → has_member (range_with_len a n) c ≡ true
+has_member-range a zero c low high = absurd (omega arith)
+has_member-range a (suc n) c low high = elim (cases_Bool (a == c)) [
+  | inl same ↦ or_left (a == c) (has_member (range_with_len (a + 1) n) c) same
+  | inr other ↦
+      let next : a + 1 ≤ c = grind (arith, eq-eqb) in
+      rw other (has_member-range (a + 1) n c next (omega arith))
+]
+
+all_range : (P : ℕ → Type 0) (a n : ℕ) → ((c : ℕ) → a ≤ c → c < a + n → P c) → AllByRecursion P (range_with_len a n)
+all_range P a zero each = tt
+all_range P a (suc n) each = (each a (omega arith) (omega arith), all_range P (a + 1) n (λ c low high. each c (omega arith) (omega arith)))
+
+at_member : (P : ℕ → Type 0) (xs : List ℕ) (c : ℕ) → AllByRecursion P xs → has_member xs c ≡ true → P c
+at_member P [] c all is = elim (true_is_not (sym is)) [ ]
+  where
+    true_is_not : true ≡ false → ⊥
+    true_is_not e = cc
+at_member P (x ∷ xs) c all is = elim (or_cases (x == c) (has_member xs c) is) [
+  | inl same ↦ subst_at (eqb-true x c same) all.0
+  | inr later ↦ at_member P xs c all.1 later
+]
+  where
+    subst_at : x ≡ c → P x → P c
+    subst_at e h = rw (← e) h
+
+-- ---- the least of a number and the values
+
+module _ {X : Type 0} (value : X → ℕ) where
+  abbrev pub lowest : ℕ → List X → ℕ
+  lowest high xs = fold min high (map value xs)
+
+  pub lowest-high : (high : ℕ) (xs : List X) → lowest high xs ≤ high
+  lowest-high high [] = omega arith
+  lowest-high high (x ∷ xs) = omega (arith, lowest-high (min high (value x)) xs)
+
+  pub values-lowest : (high : ℕ) (xs : List X) → AllByRecursion (λ x. lowest high xs ≤ value x) xs
+  values-lowest high [] = tt
+  values-lowest high (x ∷ xs) = (omega (arith, lowest-high (min high (value x)) xs), values-lowest (min high (value x)) xs)
+
+  pub bounds-lowest : (high bound : ℕ) (xs : List X) → (nat_le bound high && list_all (λ x. nat_le bound (value x)) xs) ≡ nat_le bound (lowest high xs)
+  bounds-lowest high bound [] = grind arith
+  bounds-lowest high bound (x ∷ xs) =
+      let more = bounds-lowest (min high (value x)) bound xs in
+      let split : nat_le bound (min high (value x)) ≡ (nat_le bound high && nat_le bound (value x)) = grind arith in
+      and-assoc (nat_le bound high) (nat_le bound (value x)) (list_all (λ y. nat_le bound (value y)) xs)
+      ∙ ap (λ b. b && list_all (λ y. nat_le bound (value y)) xs) (sym split) ∙ more
+    where
+      and-assoc : (a b c : Bool) → (a && (b && c)) ≡ ((a && b) && c)
+      and-assoc true b c = refl
+      and-assoc false b c = refl
+
+at_most_is_equal : (n best : ℕ) → best ≤ n → nat_le n best ≡ (n == best)
+at_most_is_equal n best h = grind arith
+
+no_more : (n most : ℕ) → n ≤ most → nat_le n most ≡ true
+no_more n most h = grind arith
+
+-- ---- the best candidates
+
+-- a candidate has the best worth where no other one is better
+pub best-is : (step : Step) (w : ℕ → ℕ) (xs : List ℕ) (c : ℕ) → has_member xs c ≡ true → w c ≤ 2 ^ 128 - 1
+    → (w c == fold (better step) (worst step) (map w xs)) ≡ list_all (λ d. is_no_better step (w d) (w c)) xs
+best-is Grow w xs c inside fits =
+    let best = greatest w 0 xs in
+    sym (at_least_is_equal (w c) best (at_member (λ d. w d ≤ best) xs c (values-greatest w 0 xs) inside))
+    ∙ sym (bounds-greatest w 0 (w c) xs) ∙ ap (λ b. b && list_all (λ d. nat_le (w d) (w c)) xs) (least (w c))
+best-is Shrink w xs c inside fits =
+    let high = 2 ^ 128 - 1 in
+    let best = lowest w high xs in
+    sym (at_most_is_equal (w c) best (at_member (λ d. best ≤ w d) xs c (values-lowest w high xs) inside))
+    ∙ sym (bounds-lowest w high (w c) xs) ∙ ap (λ b. b && list_all (λ d. nat_le (w c) (w d)) xs) (no_more (w c) high fits)
+
+list_all-same : {X : Type 0} (p q : X → Bool) (xs : List X) → ((x : X) → p x ≡ q x) → list_all p xs ≡ list_all q xs
+list_all-same p q [] same = refl
+list_all-same p q (x ∷ xs) same = ap (λ b. b && list_all p xs) (same x) ∙ ap (λ b. q x && b) (list_all-same p q xs same)
+
+module _ (step : Step) (weights : List ℕ) (m : ℕ) (rows : List Row) (set : List ℕ) (w : ℕ → ℕ) (best : ℕ) where
+  choice-is : ((c : ℕ) → w c ≡ worth step weights rows set c) → ((c : ℕ) → w c ≤ 2 ^ 128 - 1) → best ≡ fold (better step) (worst step) (map w (open_candidates step m set))
+      → (c : ℕ) → 1 ≤ c → c < 1 + m → (is_open step set c && (w c == best)) ≡ is_choice step weights m rows set c
+  choice-is are fit is c low high =
+      let all = open_candidates step m set in
+      let member : has_member all c ≡ is_open step set c = has_member-filter (is_open step set) (range_with_len 1 m) c ∙ ap (λ b. is_open step set c && b) (has_member-range 1 m c low high) ∙ and-true (is_open step set c) in
+      elim (cases_Bool (is_open step set c)) [
+        | inl open' ↦
+            let inside : has_member all c ≡ true = member ∙ open' in
+            let here : (w c == best) ≡ list_all (λ d. is_no_better step (worth step weights rows set d) (worth step weights rows set c)) all =
+            ap (λ n. w c == n) is ∙ best-is step w all c inside (fit c)
+            ∙ list_all-same (λ d. is_no_better step (w d) (w c)) (λ d. is_no_better step (worth step weights rows set d) (worth step weights rows set c)) all
+            (λ d. ap (λ n. is_no_better step n (w c)) (are d) ∙ ap (λ n. is_no_better step (worth step weights rows set d) n) (are c)) in
+            ap (λ b. b && (w c == best)) (sym member) ∙ ap (λ b. has_member all c && b) here
+        | inr shut ↦
+            and_left (is_open step set c) (w c == best) shut
+            ∙ sym (and_left (has_member all c) (list_all (λ d. is_no_better step (worth step weights rows set d) (worth step weights rows set c)) all) (member ∙ shut))
+      ]
+    where
+      and-true : (b : Bool) → (b && true) ≡ b
+      and-true true = refl
+      and-true false = refl
+
+  -- the candidates with the best worth are the choices
+  pub changes-made : ((c : ℕ) → w c ≡ worth step weights rows set c) → ((c : ℕ) → w c ≤ 2 ^ 128 - 1) → best ≡ fold (better step) (worst step) (map w (open_candidates step m set))
+      → map (change step set) (filter (λ c. is_open step set c && w c == best) (range_with_len 1 m)) ≡ changes step weights m rows set
+  unfolding changes
+  changes-made are fit is =
+      ap (map (change step set))
+      (same_filter (λ c. is_open step set c && w c == best) (is_choice step weights m rows set) (range_with_len 1 m)
+      (all_range (λ c. (is_open step set c && (w c == best)) ≡ is_choice step weights m rows set c) 1 m (choice-is are fit is)))

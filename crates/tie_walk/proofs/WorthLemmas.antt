@@ -1,0 +1,68 @@
+-- What a set gains by a candidate, or loses with one, over the rows.
+use Rattle.std.proofs.Common.{◌≡◌, ℕ, zero, suc, ◌+◌, ◌*◌, ◌≤◌, ◌^◌, ◌∙◌, Bool, true, false, cond, List, [], ◌∷◌, Some, refl, arith, take, get_or, slice_get, sum_by, replicate}
+use Rattle.std.proofs.lemmas.List.Sums.{sum_by-cons}
+use Rattle.ballot_base.specs.CandSet.{has_member}
+use Rattle.ballot_base.specs.Ballots.{Row, Election, IsElection, hits}
+use Rattle.tie_walk.specs.Sequences.{weight, supporters}
+use Rattle.tie_walk.specs.Steps.{worth, hits_of}
+use Rattle.tie_walk.specs.declared.sequential.Step.{Step}
+use Rattle.tie_walk.specs.declared.sequential.Step.TheVariants.{Grow, Shrink}
+use Rattle.tie_walk.proofs.RowSums.{rows-more, rows-bound}
+
+-- what a voter of the row gives
+abbrev pub share : Step → List ℕ → List ℕ → ℕ → Row → ℕ
+share step weights set c row = cond (has_member row.0 c) (weight weights (hits_of step (hits row.0 set))) 0
+
+-- the sum over the rows so far
+abbrev pub partial : Step → List ℕ → List ℕ → ℕ → List Row → ℕ
+partial step weights set c rows = sum_by (λ (row : Row). row.1 * share step weights set c row) rows
+
+product-of-part : (b : Bool) (n w : ℕ) → n * cond b w 0 ≡ cond b (n * w) 0
+product-of-part true n w = refl
+product-of-part false n w = omega arith
+
+supported : (f : Row → ℕ) (c : ℕ) (rows : List Row) → sum_by (λ (row : Row). row.1 * cond (has_member row.0 c) (f row) 0) rows ≡ sum_by (λ (row : Row). row.1 * f row) (supporters rows c)
+supported f c [] = refl
+supported f c (row ∷ rows) =
+    let rest = supported f c rows in
+    sum_by-cons (λ (r : Row). r.1 * cond (has_member r.0 c) (f r) 0) row rows
+    ∙ (elim (has_member row.0 c) as (λ b. row.1 * cond b (f row) 0 + sum_by (λ (r : Row). r.1 * cond (has_member r.0 c) (f r) 0) rows ≡ sum_by (λ (r : Row). r.1 * f r) (cond b (row ∷ supporters rows c) (supporters rows c))) [
+      | true ↦ omega (arith, rest, sum_by-cons (λ (r : Row). r.1 * f r) row (supporters rows c))
+      | false ↦ omega (arith, rest)
+    ])
+
+pub worth-whole : (step : Step) (weights : List ℕ) (rows : List Row) (set : List ℕ) (c : ℕ) → partial step weights set c rows ≡ worth step weights rows set c
+worth-whole Grow weights rows set c = supported (λ (row : Row). weight weights (hits row.0 set + 1)) c rows
+worth-whole Shrink weights rows set c = supported (λ (row : Row). weight weights (hits row.0 set)) c rows
+
+weight-most : (weights : List ℕ) (j most : ℕ) → ((i : ℕ) → get_or weights i 0 ≤ most) → weight weights j ≤ most
+weight-most weights zero most all = omega arith
+weight-most weights (suc j) most all = all j
+
+share-most : (step : Step) (weights set : List ℕ) (c most : ℕ) (row : Row) → ((i : ℕ) → get_or weights i 0 ≤ most) → share step weights set c row ≤ most
+share-most step weights set c most row all =
+    elim (has_member row.0 c) as (λ b. cond b (weight weights (hits_of step (hits row.0 set))) 0 ≤ most) [
+      | true ↦ weight-most weights (hits_of step (hits row.0 set)) most all
+      | false ↦ omega arith
+    ]
+
+module _ (step : Step) (weights set : List ℕ) where
+  pub partial-more : (rows : List Row) (i c : ℕ) (row : Row) → slice_get rows i ≡ Some row
+      → partial step weights set c (take (i + 1) rows) ≡ partial step weights set c (take i rows) + cond (has_member row.0 c) (row.1 * weight weights (hits_of step (hits row.0 set))) 0
+  partial-more rows i c row found =
+      omega (arith, rows-more (share step weights set c) rows i row found, product-of-part (has_member row.0 c) row.1 (weight weights (hits_of step (hits row.0 set))))
+
+  pub partial-bound : (e : Election) (i c : ℕ) (row : Row) → IsElection e → ((j : ℕ) → get_or weights j 0 ≤ 2 ^ 78) → slice_get e.rows i ≡ Some row
+      → partial step weights set c (take i e.rows) ≤ 2 ^ 110
+  partial-bound e i c row valid all found =
+      omega (arith, rows-bound (share step weights set c) e (2 ^ 78) i row valid (λ r h. share-most step weights set c (2 ^ 78) r all) found)
+
+  pub row-bound : (e : Election) (i : ℕ) (row : Row) → IsElection e → ((j : ℕ) → get_or weights j 0 ≤ 2 ^ 78) → slice_get e.rows i ≡ Some row
+      → row.1 * weight weights (hits_of step (hits row.0 set)) ≤ 2 ^ 110
+  row-bound e i row valid all found =
+      omega (arith, rows-bound (λ (r : Row). weight weights (hits_of step (hits r.0 set))) e (2 ^ 78) i row valid (λ r h. weight-most weights (hits_of step (hits r.0 set)) (2 ^ 78) all) found)
+
+pub no_total : (n i : ℕ) → get_or {A = ℕ} (replicate n 0) i 0 ≡ 0
+no_total zero i = refl
+no_total (suc n) zero = refl
+no_total (suc n) (suc i) = no_total n i
