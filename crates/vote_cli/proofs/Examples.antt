@@ -6,7 +6,9 @@ use Rattle.std.specs.Fmt.{digits}
 use Rattle.ballot_base.specs.Lists.{lists_of}
 use Rattle.ballot_base.specs.Ballots.{Election, Row, election}
 use Rattle.ballot_base.specs.declared.increments.ThieleRule.TheVariants.{Av, Geom3}
-use Rattle.vote_cli.specs.declared.request.Rule.TheVariants.{Thiele, Satisfaction, Minimax}
+use Rattle.vote_cli.specs.declared.request.Rule.TheVariants.{Scored, Sequential}
+use Rattle.tie_walk.specs.declared.sequential.SeqRule.TheVariants.{SeqPav, RevSeqPav}
+use Rattle.vote_cli.specs.declared.request.ScoredRule.TheVariants.{Thiele, Satisfaction, Minimax}
 use Rattle.vote_cli.specs.declared.status.Status.TheVariants.{Answered, Violated, InputRefused, RequestRefused, NoMemory, DeviceFailed}
 use Rattle.vote_cli.specs.declared.input.InputFault.TheVariants as fault
 use Rattle.vote_cli.specs.declared.whole_run.Refusal.TheVariants as refusal
@@ -15,6 +17,7 @@ use Rattle.vote_cli.specs.Device.{is_failed_write, AppendsBeginning}
 use Rattle.vote_cli.specs.Input.{TellsOfInput}
 use Rattle.vote_cli.specs.Status.{code_of}
 use Rattle.ballot_base.specs.Increments.{increments}
+use Rattle.ballot_base.specs.CommonMultiple.{common_multiple}
 use Rattle.vote_cli.specs.Text.{line, numbers_text, following_text, rule_word, committees_text, head_text, elected_text}
 use Rattle.vote_cli.specs.Printing.{Prints, outlet}
 use Rattle.vote_cli.specs.Answer.{answered, refused, answer_of, IsAnswer, Reports, Ends, TellsOf, memory_line, read_failed_line, write_failed_line}
@@ -51,9 +54,9 @@ following : following_text (20 ∷ 3 ∷ []) ≡ codes ",20,3"
 unfolding digits
 following = refl
 
-rule_words : (rule_word (Thiele Av) ≡ codes "av") × (rule_word (Thiele Geom3) ≡ codes "geom3") × (rule_word Satisfaction ≡ codes "sav")
-    × (rule_word Minimax ≡ codes "minimax")
-rule_words = (refl, refl, refl, refl)
+rule_words : (rule_word (Scored (Thiele Av)) ≡ codes "av") × (rule_word (Scored (Thiele Geom3)) ≡ codes "geom3") × (rule_word (Scored Satisfaction) ≡ codes "sav")
+    × (rule_word (Scored Minimax) ≡ codes "minimax") × (rule_word (Sequential RevSeqPav) ≡ codes "revseqpav")
+rule_words = (refl, refl, refl, refl, refl)
 
 head : head_text (Thiele Av) 3 1 2 ≡ codes "rule av" ++ 10 ∷ codes "size 1" ++ 10 ∷ codes "score 2/1" ++ 10 ∷ []
 unfolding digits
@@ -67,20 +70,26 @@ committees = refl
 abbrev text : List ℕ
 text = line (codes "rule av") ++ line (codes "size 1") ++ line (codes "score 2/1") ++ line (codes "1") ++ line (codes "2") ++ line (codes "end")
 
-elected : elected_text (Thiele Av) 1 three ≡ text
+elected : elected_text (Scored (Thiele Av)) 1 three ≡ text
 unfolding digits lists_of increments
 elected = refl
 
-elected_pair : elected_text (Thiele Av) 2 three ≡ line (codes "rule av") ++ line (codes "size 2") ++ line (codes "score 4/1") ++ line (codes "1,2") ++ line (codes "end")
+elected_pair : elected_text (Scored (Thiele Av)) 2 three ≡ line (codes "rule av") ++ line (codes "size 2") ++ line (codes "score 4/1") ++ line (codes "1,2") ++ line (codes "end")
 unfolding digits lists_of increments
 elected_pair = refl
+
+-- two seats by sequential proportional approval voting: each pair is reached, 1 and 2 in two ways
+elected_in_turn : elected_text (Sequential SeqPav) 2 three
+    ≡ line (codes "rule seqpav") ++ line (codes "size 2") ++ line (codes "1,2") ++ line (codes "1,3") ++ line (codes "2,3") ++ line (codes "end")
+unfolding digits lists_of increments common_multiple
+elected_in_turn = refl
 
 -- ---- answers
 abbrev usual : Pick
 usual = record { kind = None; ending = None; way = Usual }
 
 abbrev seats : ℕ → Asked
-seats size = record { rule = Thiele Av; size = size; pick = usual; file = None }
+seats size = record { rule = Scored (Thiele Av); size = size; pick = usual; file = None }
 
 answer_to_one : answer_of (seats 1) (Ok three) ≡ record { text = text; status = Answered; error = [] }
 unfolding digits lists_of increments

@@ -1,5 +1,5 @@
 -- What is known of the input and of the writers, joined to the answer.
-use Rattle.std.proofs.Common.{◌≡◌, ℕ, ◌<◌, ◌≤◌, Bool, true, false, List, [], Option, Some, None, Ok, Err, IfSome, refl, sym, ap, subst, arith, ◌∙◌, ◌++◌, append-nil}
+use Rattle.std.proofs.Common.{◌≡◌, ℕ, ◌<◌, ◌≤◌, Bool, true, false, List, [], Option, Some, None, Ok, Err, IfSome, Result, is_ok, refl, sym, ap, subst, arith, ◌∙◌, ◌++◌, append-nil}
 use Rattle.std.specs.Prelude.{nat_lt, if◌then◌else◌, codes}
 use Rattle.std.specs.Io.KnownBytes.{Appends}
 use Rattle.std.proofs.KnownBytes.{Appends-nil}
@@ -12,8 +12,10 @@ use Rattle.vote_cli.specs.Request.{Asked}
 use Rattle.vote_cli.specs.FaultText.{fault_text}
 use Rattle.vote_cli.specs.Text.{elected_text}
 use Rattle.vote_cli.specs.Answer.{Reports, Ends, answered, refused, answer_of}
-use Rattle.vote_cli.specs.Refusals.{Answers, Prepares, error_of, status_of}
-use Rattle.vote_cli.specs.Printing.{Prints, outlet}
+use Rattle.vote_cli.specs.Refusals.{Answers, IsWritten, Prepares, error_of, status_of}
+use Rattle.vote_cli.specs.declared.printing.WriteFailed.{WriteFailed as Broken}
+use Rattle.vote_cli.specs.Device.{AppendsBeginning}
+use Rattle.vote_cli.specs.Printing.{Outlet, Prints, outlet}
 use Rattle.vote_cli.specs.declared.request.Rule.{Rule}
 use Rattle.std.proofs.Common.{inl, inr}
 
@@ -43,6 +45,26 @@ pub answers_printed : (known : Option (List ℕ)) (asked : Asked) (e : Election)
 answers_printed None asked e old new had_failed has_failed rule size done rule_is size_is fits reads printed = tt
 answers_printed (Some bytes) asked e old new had_failed has_failed rule size done rule_is size_is fits reads printed =
     (e, reads, fits, subst (Appends old new) (λ i. elected_text (rule_is i) (size_is i) e) (Prints-all printed))
+
+-- the same text in other words
+pub printed_as : {a b : Outlet} {ok : Bool} {x y : List ℕ} → x ≡ y → Prints a b ok x → Prints a b ok y
+printed_as {a} {b} {ok} {x} {y} same h = subst (Prints a b ok) same h
+
+-- what was printed of the text of an election, whole or not
+pub answers_written : (known : Option (List ℕ)) (asked : Asked) (e : Election) (old new : Option (List ℕ)) (had_failed has_failed : Bool) (rule : Rule) (size : ℕ) (printed : Result (Unit {0}) Broken) (result : Result (Unit {0}) Refusal)
+    → IsWritten printed result → rule ≡ asked.rule → size ≡ asked.size → asked.size ≤ e.m → IfSome known (λ bytes. Prepares asked bytes (Ok e))
+    → Prints (outlet old [] had_failed) (outlet new [] has_failed) (is_ok printed) (elected_text rule size e) → IfSome known (λ bytes. Answers asked bytes old new result)
+answers_written known asked e old new had_failed has_failed rule size (Ok x) (Ok done) same rule_is size_is fits reads prints =
+    answers_printed known asked e old new had_failed has_failed rule size done rule_is size_is fits reads prints
+answers_written None asked e old new had_failed has_failed rule size (Err broken) (Err WriteFailed) same rule_is size_is fits reads prints = tt
+answers_written (Some bytes) asked e old new had_failed has_failed rule size (Err broken) (Err WriteFailed) same rule_is size_is fits reads prints =
+    (e, reads, fits, subst (AppendsBeginning old new) (λ i. elected_text (rule_is i) (size_is i) e) (prints.sent, prints.rest, prints.order, prints.took))
+answers_written known asked e old new had_failed has_failed rule size (Ok x) (Err refusal) same rule_is size_is fits reads prints = elim same [ ]
+answers_written known asked e old new had_failed has_failed rule size (Err broken) (Ok done) same rule_is size_is fits reads prints = elim same [ ]
+answers_written known asked e old new had_failed has_failed rule size (Err broken) (Err (Input fault)) same rule_is size_is fits reads prints = elim same [ ]
+answers_written known asked e old new had_failed has_failed rule size (Err broken) (Err SizeTooLarge) same rule_is size_is fits reads prints = elim same [ ]
+answers_written known asked e old new had_failed has_failed rule size (Err broken) (Err Memory) same rule_is size_is fits reads prints = elim same [ ]
+answers_written known asked e old new had_failed has_failed rule size (Err broken) (Err ReadFailed) same rule_is size_is fits reads prints = elim same [ ]
 
 -- an answer that was written whole
 pub ends_answered : (known : Option (List ℕ)) (asked : Asked) (old new err : Option (List ℕ)) (err_failed : Bool) (done : Unit {0}) → IfSome known (λ bytes. Answers asked bytes old new (Ok done))

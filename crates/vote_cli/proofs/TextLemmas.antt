@@ -1,12 +1,14 @@
 -- The text of lists of numbers.
 use Rattle.std.proofs.Common.{◌≡◌, ℕ, List, [], ◌∷◌, ◌++◌, refl, sym, ap, ap₂, ◌∙◌, append_assoc, append-nil}
 use Rattle.std.specs.Prelude.{decimal, codes}
-use Rattle.vote_cli.specs.declared.request.Rule.{Rule}
+use Rattle.vote_cli.specs.declared.request.Rule.TheVariants.{Scored, Sequential}
+use Rattle.vote_cli.specs.declared.request.ScoredRule.{ScoredRule}
+use Rattle.tie_walk.specs.declared.sequential.SeqRule.{SeqRule}
 use Rattle.tie_walk.specs.Winners.{best_value, winners}
-use Rattle.vote_cli.specs.Text.{line, numbers_text, following_text, head_text, committees_text, text_by, elected_text}
+use Rattle.vote_cli.specs.Text.{line, numbers_text, following_text, head_text, committees_text, text_by, rule_lines, sequential_text, elected_text}
 use Rattle.ballot_base.specs.Ballots.{Election}
 use Rattle.tie_walk.specs.Values.{closeness}
-use Rattle.vote_cli.specs.declared.request.Rule.TheVariants.{Minimax}
+use Rattle.vote_cli.specs.declared.request.ScoredRule.TheVariants.{Minimax}
 
 -- numbers with commas between them are the first, and the others with a comma before each
 pub numbers_text-cons : (n : ℕ) (ns : List ℕ) → numbers_text (n ∷ ns) ≡ decimal n ++ following_text ns
@@ -20,7 +22,7 @@ committee_line committee first others parts =
     ap (λ c. line (numbers_text c)) parts ∙ ap (λ l. l ++ 10 ∷ []) (numbers_text-cons first others) ∙ append_assoc (decimal first) (following_text others) (10 ∷ [])
 
 -- the text of winners, from its first lines on
-pub text_parts : (value : List ℕ → ℕ) (rule : Rule) (candidates m size best : ℕ) (left : List (List ℕ)) → m ≡ candidates → best ≡ best_value value m size → left ≡ winners value m size
+pub text_parts : (value : List ℕ → ℕ) (rule : ScoredRule) (candidates m size best : ℕ) (left : List (List ℕ)) → m ≡ candidates → best ≡ best_value value m size → left ≡ winners value m size
     → text_by value rule candidates size ≡ head_text rule m size best ++ (committees_text left ++ line (codes "end"))
 text_parts value rule candidates m size best left same is those =
     ap (λ n. text_by value rule n size) (sym same)
@@ -28,5 +30,10 @@ text_parts value rule candidates m size best left same is those =
     ∙ append_assoc (head_text rule m size best) (committees_text left) (line (codes "end"))
 
 -- the text of an election by minimax
-pub minimax_text : (rule : Rule) (size : ℕ) (e tally : Election) → rule ≡ Minimax → tally ≡ e → text_by (closeness tally.m tally.rows) rule tally.m size ≡ elected_text rule size e
+pub minimax_text : (rule : ScoredRule) (size : ℕ) (e tally : Election) → rule ≡ Minimax → tally ≡ e → text_by (closeness tally.m tally.rows) rule tally.m size ≡ elected_text (Scored rule) size e
 minimax_text rule size e tally is same = rw (is, same) refl
+
+-- the text of the committees of a sequential rule, from its first lines on
+pub sequential_parts : (committees : List (List ℕ)) (rule : SeqRule) (size : ℕ)
+    → sequential_text committees rule size ≡ rule_lines (Sequential rule) size ++ (committees_text committees ++ line (codes "end"))
+sequential_parts committees rule size = append_assoc (rule_lines (Sequential rule) size) (committees_text committees) (line (codes "end"))

@@ -7,7 +7,8 @@ use Rattle.clap.proofs.OnLiterals.{clap_on_literals}
 use Rattle.clap.specs.declared.error.kind.ErrorKind.TheVariants as kind
 use Rattle.ballot_base.specs.declared.increments.ThieleRule.TheVariants.{Av, Geom3}
 use Rattle.vote_cli.specs.declared.request.Rule.{Rule}
-use Rattle.vote_cli.specs.declared.request.Rule.TheVariants.{Thiele, Satisfaction, Minimax}
+use Rattle.vote_cli.specs.declared.request.Rule.TheVariants.{Scored, Sequential}
+use Rattle.vote_cli.specs.declared.request.ScoredRule.TheVariants.{Thiele, Satisfaction, Minimax}
 use Rattle.vote_cli.specs.Request.{Asked}
 use Rattle.preflib_text.specs.declared.pick.Kind.{Kind}
 use Rattle.preflib_text.specs.declared.pick.Kind.TheVariants.{Cat, Soc, Soi, Toc, Toi}
@@ -23,7 +24,7 @@ elect_words rest = codes "committees" ∷ codes "elect" ∷ rest
 
 -- approval voting, for a file of this type and this ending, in this way
 abbrev asked : ℕ → Option Kind → Option Kind → Way → Option Text → Option Asked
-asked size kind ending way file = Some (record { rule = Thiele Av; size = size; pick = record { kind = kind; ending = ending; way = way }; file = file })
+asked size kind ending way file = Some (record { rule = Scored (Thiele Av); size = size; pick = record { kind = kind; ending = ending; way = way }; file = file })
 
 abbrev av : ℕ → Option Text → Option Asked
 av size file = asked size None None Usual file
@@ -90,24 +91,25 @@ help_asked = refl
 abbrev two_seats : Rule → Option Asked
 two_seats rule = Some (record { rule = rule; size = 2; pick = record { kind = None; ending = None; way = Usual }; file = None })
 
-geometric_rule : request_of (elect_words (codes "--rule" ∷ codes "geom3" ∷ codes "--size" ∷ codes "2" ∷ [])) ≡ two_seats (Thiele Geom3)
+geometric_rule : request_of (elect_words (codes "--rule" ∷ codes "geom3" ∷ codes "--size" ∷ codes "2" ∷ [])) ≡ two_seats (Scored (Thiele Geom3))
 unfolding clap_on_literals
 geometric_rule = refl
 
-satisfaction : request_of (elect_words (codes "--size" ∷ codes "2" ∷ codes "--rule=sav" ∷ [])) ≡ two_seats Satisfaction
+satisfaction : request_of (elect_words (codes "--size" ∷ codes "2" ∷ codes "--rule=sav" ∷ [])) ≡ two_seats (Scored Satisfaction)
 unfolding clap_on_literals
 satisfaction = refl
 
-no_rule_of_that_name : IsMisused (elect_words (codes "--rule" ∷ codes "seqpav" ∷ codes "--size" ∷ codes "2" ∷ []))
+no_rule_of_that_name : IsMisused (elect_words (codes "--rule" ∷ codes "phragmen" ∷ codes "--size" ∷ codes "2" ∷ []))
 unfolding clap_on_literals
 no_rule_of_that_name = (refl, (kind.InvalidValue, inl refl, λ e. cc, λ e. cc))
 
-rules_of_names : (rule_named (codes "geom3") ≡ Some (Thiele Geom3)) × (rule_named (codes "minimax") ≡ Some Minimax) × (rule_named (codes "SAV") ≡ None)
+rules_of_names : (rule_named (codes "geom3") ≡ Some (Scored (Thiele Geom3))) × (rule_named (codes "minimax") ≡ Some (Scored Minimax)) × (rule_named (codes "SAV") ≡ None)
     × (rule_named [] ≡ None)
 rules_of_names = (refl, refl, refl, refl)
 
-eight_names : rule_names ≡ codes "av" ∷ codes "pav" ∷ codes "cc" ∷ codes "geom2" ∷ codes "geom3" ∷ codes "geom4" ∷ codes "sav" ∷ codes "minimax" ∷ []
-eight_names = refl
+names_of_rules : rule_names ≡ codes "av" ∷ codes "pav" ∷ codes "cc" ∷ codes "geom2" ∷ codes "geom3" ∷ codes "geom4" ∷ codes "sav" ∷ codes "minimax"
+    ∷ codes "seqpav" ∷ codes "seqcc" ∷ codes "revseqpav" ∷ []
+names_of_rules = refl
 
 -- the name of a rule is the word that is printed of it
 names_are_words : map rule_word (values_of rules_by_name) ≡ rule_names

@@ -6,6 +6,7 @@ use Rattle.vote_cli.specs.declared.status.Status.{Status}
 use Rattle.vote_cli.specs.declared.status.Status.TheVariants as status
 use Rattle.vote_cli.specs.declared.whole_run.Refusal.{Refusal}
 use Rattle.vote_cli.specs.declared.whole_run.Refusal.TheVariants.{Input, SizeTooLarge, Memory, ReadFailed, WriteFailed}
+use Rattle.vote_cli.specs.declared.printing.WriteFailed.{WriteFailed as Broken}
 use Rattle.vote_cli.specs.Request.{Asked}
 use Rattle.vote_cli.specs.Device.{AppendsBeginning}
 use Rattle.vote_cli.specs.Text.{line, elected_text}
@@ -62,3 +63,9 @@ Answers asked bytes old new (Err Memory) = Appends old new []
 Answers asked bytes old new (Err ReadFailed) = Appends old new []
 Answers asked bytes old new (Err WriteFailed) =
     (election : Election) × Reads bytes asked.pick (Ok election) × (asked.size ≤ election.m) × AppendsBeginning old new (elected_text asked.rule asked.size election)
+
+-- what was printed whole is an answer, and what was not is a failed write
+abbrev pub IsWritten : Result (Unit {0}) Broken → Result (Unit {0}) Refusal → Type 0
+IsWritten (Ok x) (Ok y) = Unit {0}
+IsWritten (Err broken) (Err WriteFailed) = Unit {0}
+IsWritten printed result = ⊥

@@ -24,7 +24,9 @@ use Rattle.preflib_text.specs.Metadata.{kind_of}
 use Rattle.vote_cli.specs.Endings.{kind_in_path}
 use Rattle.vote_cli.specs.Request.{Asked}
 use Rattle.vote_cli.specs.declared.request.Rule.{Rule}
-use Rattle.vote_cli.specs.declared.request.Rule.TheVariants.{Thiele, Satisfaction, Minimax}
+use Rattle.tie_walk.specs.declared.sequential.SeqRule.TheVariants.{SeqPav, SeqCc, RevSeqPav}
+use Rattle.vote_cli.specs.declared.request.Rule.TheVariants.{Scored, Sequential}
+use Rattle.vote_cli.specs.declared.request.ScoredRule.TheVariants.{Thiele, Satisfaction, Minimax}
 use Rattle.vote_cli.specs.declared.words.LineFault.{LineFault}
 use Rattle.vote_cli.specs.declared.words.LineFault.TheVariants.{Help, Usage, TwoPicks, Memory}
 
@@ -37,9 +39,10 @@ Names = Bor (List (Bor Text))
 -- the rules by their names (Lackner and Skowron, Multi-Winner Voting with Approval Preferences; the names are the
 -- project's own)
 abbrev pub rules_by_name : List (Text × Rule)
-rules_by_name = (codes "av", Thiele Av) ∷ (codes "pav", Thiele Pav) ∷ (codes "cc", Thiele Cc)
-    ∷ (codes "geom2", Thiele Geom2) ∷ (codes "geom3", Thiele Geom3) ∷ (codes "geom4", Thiele Geom4)
-    ∷ (codes "sav", Satisfaction) ∷ (codes "minimax", Minimax) ∷ []
+rules_by_name = (codes "av", Scored (Thiele Av)) ∷ (codes "pav", Scored (Thiele Pav)) ∷ (codes "cc", Scored (Thiele Cc))
+    ∷ (codes "geom2", Scored (Thiele Geom2)) ∷ (codes "geom3", Scored (Thiele Geom3)) ∷ (codes "geom4", Scored (Thiele Geom4))
+    ∷ (codes "sav", Scored Satisfaction) ∷ (codes "minimax", Scored Minimax)
+    ∷ (codes "seqpav", Sequential SeqPav) ∷ (codes "seqcc", Sequential SeqCc) ∷ (codes "revseqpav", Sequential RevSeqPav) ∷ []
 
 -- the names of the rules
 abbrev pub rule_names : List Text

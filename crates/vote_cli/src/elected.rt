@@ -1,15 +1,15 @@
 //! The text of an election's winners.
 ghost use Rattle.std.specs.Prelude.{◌≡◌, ◌≤◌, [], ◌∷◌, decimal, is_ok};
 ghost use Rattle.vote_cli.specs.Printing.{Prints, outlet};
-ghost use Rattle.vote_cli.specs.Text.{line, numbers_text, following_text, best_text, score_text, rule_lines, head_text, rule_word, thiele_word, committees_text, text_by, elected_text};
+ghost use Rattle.vote_cli.specs.Text.{line, numbers_text, following_text, best_text, score_text, rule_lines, head_text, rule_word, scored_word, thiele_word, committees_text, text_by, sequential_text, elected_text};
 
 use crate::device::Sink;
 use crate::printing::{Waiting, WriteFailed, finish, print, print_all};
-use crate::request::Rule;
+use crate::request::{Rule, ScoredRule};
 use ballot_base::{CandSet, Increments, Profile, ThieleRule, common_multiple};
 use itoa::Buffer;
 use std::alloc::Allocator;
-use tie_walk::{MinimaxTally, SavTally, Tally, ThieleTally, Winners};
+use tie_walk::{MinimaxTally, SavTally, SeqRule, SeqWinners, Tally, ThieleTally, Winners};
 
 /// The word of a Thiele rule.
 fn thiele_word_of(rule: ThieleRule) -> &'static [u8]
@@ -25,14 +25,26 @@ fn thiele_word_of(rule: ThieleRule) -> &'static [u8]
     }
 }
 
+/// The word of a rule with a value.
+fn scored_word_of(rule: ScoredRule) -> &'static [u8]
+    ensures { result.now ≡ scored_word rule }
+{
+    match rule {
+        ScoredRule::Thiele(thiele) => thiele_word_of(thiele),
+        ScoredRule::Satisfaction => b"sav",
+        ScoredRule::Minimax => b"minimax",
+    }
+}
+
 /// The word of a rule.
 fn word_of(rule: Rule) -> &'static [u8]
     ensures { result.now ≡ rule_word rule }
 {
     match rule {
-        Rule::Thiele(thiele) => thiele_word_of(thiele),
-        Rule::Satisfaction => b"sav",
-        Rule::Minimax => b"minimax",
+        Rule::Scored(scored) => scored_word_of(scored),
+        Rule::Sequential(SeqRule::SeqPav) => b"seqpav",
+        Rule::Sequential(SeqRule::SeqCc) => b"seqcc",
+        Rule::Sequential(SeqRule::RevSeqPav) => b"revseqpav",
     }
 }
 
@@ -109,7 +121,7 @@ fn print_score<W: Sink>(
 fn print_best<W: Sink>(
     out: &mut W,
     waiting: &mut Waiting,
-    rule: Rule,
+    rule: ScoredRule,
     m: u8,
     size: u8,
     best: u128,
@@ -120,9 +132,14 @@ fn print_best<W: Sink>(
     ensures { Prints (outlet (W.contents out.old) waiting.old (W.has_failed out.old)) (outlet (W.contents out.new) waiting.new (W.has_failed out.new)) (is_ok result) (line (best_text rule m size best)) }
 {
     match rule {
-        Rule::Thiele(thiele) => print_score(out, waiting, best, Increments::of(thiele, size).denom),
-        Rule::Satisfaction => print_score(out, waiting, best, common_multiple(m)),
-        Rule::Minimax => {
+        ScoredRule::Thiele(thiele) => print_score(
+            out,
+            waiting,
+            best,
+            Increments::of(thiele, size).denom,
+        ),
+        ScoredRule::Satisfaction => print_score(out, waiting, best, common_multiple(m)),
+        ScoredRule::Minimax => {
             let mut digits = Buffer::new();
             let distance = digits.format(u128::from(m).saturating_sub(best));
             print_all(out, waiting, &[b"distance ", distance.as_bytes(), b"\n"])
@@ -154,7 +171,7 @@ fn print_rule<W: Sink>(
 fn print_head<W: Sink>(
     out: &mut W,
     waiting: &mut Waiting,
-    rule: Rule,
+    rule: ScoredRule,
     m: u8,
     size: u8,
     best: u128,
@@ -164,7 +181,7 @@ fn print_head<W: Sink>(
     requires most { m ≤ 40 }
     ensures { Prints (outlet (W.contents out.old) waiting.old (W.has_failed out.old)) (outlet (W.contents out.new) waiting.new (W.has_failed out.new)) (is_ok result) (head_text rule m size best) }
 {
-    print_rule(out, waiting, rule, size)?;
+    print_rule(out, waiting, Rule::Scored(rule), size)?;
     print_best(out, waiting, rule, m, size, best)
 }
 
@@ -186,7 +203,7 @@ fn print_winners<W: Sink, T: Tally>(
 fn print_by<W: Sink, T: Tally>(
     out: &mut W,
     tally: &T,
-    rule: Rule,
+    rule: ScoredRule,
     size: u8,
 ) -> Result<(), WriteFailed>
     requires some { 1 ≤ size }
@@ -202,21 +219,53 @@ fn print_by<W: Sink, T: Tally>(
     finish(out, &mut waiting)
 }
 
-/// Prints the answer, and flushes the writer.
-pub(crate) fn print_elected<W: Sink, A: Allocator + Copy>(
+/// Prints the answer of a rule with a value, and flushes the writer.
+pub(crate) fn print_scored<W: Sink, A: Allocator + Copy>(
     out: &mut W,
     profile: &Profile<A>,
-    rule: Rule,
+    rule: ScoredRule,
     size: u8,
 ) -> Result<(), WriteFailed>
     requires some { 1 ≤ size }
     requires fits { size ≤ profile.now.m }
     requires most { size ≤ 40 }
-    ensures { Prints (outlet (W.contents out.old) [] (W.has_failed out.old)) (outlet (W.contents out.new) [] (W.has_failed out.new)) (is_ok result) (elected_text rule size profile.now) }
+    ensures { Prints (outlet (W.contents out.old) [] (W.has_failed out.old)) (outlet (W.contents out.new) [] (W.has_failed out.new)) (is_ok result) (elected_text (Rule.Scored rule) size profile.now) }
 {
     match rule {
-        Rule::Thiele(thiele) => print_by(out, &ThieleTally::new(profile, thiele, size), rule, size),
-        Rule::Satisfaction => print_by(out, &SavTally::new(profile), rule, size),
-        Rule::Minimax => print_by(out, &MinimaxTally::new(profile), rule, size),
+        ScoredRule::Thiele(thiele) => {
+            print_by(out, &ThieleTally::new(profile, thiele, size), rule, size)
+        }
+        ScoredRule::Satisfaction => print_by(out, &SavTally::new(profile), rule, size),
+        ScoredRule::Minimax => print_by(out, &MinimaxTally::new(profile), rule, size),
     }
+}
+
+/// Prints the committees that are still to come.
+fn print_sequence<W: Sink, A: Allocator + Copy + Drop>(
+    out: &mut W,
+    waiting: &mut Waiting,
+    winners: SeqWinners<A>,
+) -> Result<(), WriteFailed>
+    ensures { Prints (outlet (W.contents out.old) waiting.old (W.has_failed out.old)) (outlet (W.contents out.new) waiting.new (W.has_failed out.new)) (is_ok result) (committees_text winners) }
+{
+    for members in winners {
+        print_committee(out, waiting, members)?;
+    }
+    Ok(())
+}
+
+/// Prints the answer of a sequential rule, and flushes the writer.
+pub(crate) fn print_sequential<W: Sink, A: Allocator + Copy + Drop>(
+    out: &mut W,
+    winners: SeqWinners<A>,
+    rule: SeqRule,
+    size: u8,
+) -> Result<(), WriteFailed>
+    ensures { Prints (outlet (W.contents out.old) [] (W.has_failed out.old)) (outlet (W.contents out.new) [] (W.has_failed out.new)) (is_ok result) (sequential_text winners rule size) }
+{
+    let mut buffer = Waiting::new();
+    print_rule(out, &mut buffer, Rule::Sequential(rule), size)?;
+    print_sequence(out, &mut buffer, winners)?;
+    print(out, &mut buffer, b"end\n")?;
+    finish(out, &mut buffer)
 }

@@ -13,7 +13,7 @@ pub mod whole_run;
 pub mod words;
 
 pub use device::{Device, Sink, Source, Told};
-pub use request::{Request, Rule};
+pub use request::{Request, Rule, ScoredRule};
 pub use status::Status;
 pub use whole_run::run;
 pub use words::{LineFault, read_request};

@@ -5,11 +5,21 @@ ghost use Rattle.preflib_text.specs.BallotMarks.{HasNumber};
 use ballot_base::ThieleRule;
 use preflib_text::Pick;
 use std::marker::Model;
+use tie_walk::SeqRule;
 
 /// The rule by which committees win (Lackner and Skowron, Multi-Winner Voting with Approval
 /// Preferences).
 #[derive(Clone, Copy, Debug, PartialEq, Eq)]
 pub enum Rule {
+    /// The committees of the greatest value win.
+    Scored(ScoredRule),
+    /// A committee is made one candidate at a time, over every tie.
+    Sequential(SeqRule),
+}
+
+/// A rule by which each committee has a value.
+#[derive(Clone, Copy, Debug, PartialEq, Eq)]
+pub enum ScoredRule {
     /// A rule of Thiele: a voter gives a committee the first increments of the rule, as many as
     /// the voter approves of its members. The greatest sum over the voters wins.
     Thiele(ThieleRule),

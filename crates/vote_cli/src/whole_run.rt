@@ -1,19 +1,20 @@
 //! A whole run, from the bytes of the input to the bytes of the answer.
 ghost use Rattle.std.specs.Prelude.{◌≡◌, ◌≢◌, ◌≤◌, [], Err, IfOk, IfSome, is_ok};
 ghost use Rattle.vote_cli.specs.Answer.{Ends, Reports, TellsOf};
-ghost use Rattle.vote_cli.specs.Refusals.{Answers, IsRefusal, Prepares, TellsOfReads, TellsOfWrites, error_of, status_of};
+ghost use Rattle.vote_cli.specs.Refusals.{Answers, IsRefusal, IsWritten, Prepares, TellsOfReads, TellsOfWrites, error_of, status_of};
 ghost use Rattle.vote_cli.specs.Printing.{Prints, outlet};
 
 use crate::device::{Sink, Source};
-use crate::elected::print_elected;
+use crate::elected::{print_scored, print_sequential};
 use crate::fault_text::write_fault;
 use crate::input::{InputFault, read_to_end};
 use crate::printing::{WriteFailed, write_whole};
-use crate::request::Request;
+use crate::request::{Request, Rule};
 use crate::status::Status;
 use ballot_base::Profile;
 use preflib_text::{FaultName, ReadFault, read_profile};
 use std::alloc::Allocator;
+use tie_walk::SeqWinners;
 
 /// Why a run ends with no answer, or with a part of one.
 #[derive(Clone, Copy, Debug, PartialEq, Eq)]
@@ -104,7 +105,21 @@ fn answer<A: Allocator + Copy + Drop, R: Source, W: Sink>(
     ensures writes { TellsOfWrites (W.has_failed out.old) (W.has_failed out.new) result }
 {
     let profile = prepare(alloc, request, reader)?;
-    match print_elected(out, &profile, request.rule(), request.size()) {
+    let size = request.size();
+    match request.rule() {
+        Rule::Scored(rule) => written(print_scored(out, &profile, rule, size)),
+        Rule::Sequential(rule) => match SeqWinners::new(alloc, &profile, rule, size, None) {
+            Ok(winners) => written(print_sequential(out, winners, rule, size)),
+            Err(_) => Err(Refusal::Memory),
+        },
+    }
+}
+
+/// What a failed write is to a run.
+fn written(printed: Result<(), WriteFailed>) -> Result<(), Refusal>
+    ensures { IsWritten printed result }
+{
+    match printed {
         Ok(()) => Ok(()),
         Err(_) => Err(Refusal::WriteFailed),
     }

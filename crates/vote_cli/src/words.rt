@@ -10,12 +10,13 @@ ghost use Rattle.vote_cli.specs.Words.{kind_option, number_at, number_option, pr
 ghost use Rattle.vote_cli.specs.Words.{rule_names, rule_option, size_option, way_by, way_in};
 
 use crate::ending::kind_in_path;
-use crate::request::{Request, Rule};
+use crate::request::{Request, Rule, ScoredRule};
 use ballot_base::ThieleRule;
 use clap::error::ErrorKind;
 use clap::{Arg, ArgMatches, Command, Error, value_parser};
 use preflib_text::{Pick, Way, kind_of};
 use std::alloc::{AllocError, Global};
+use tie_walk::SeqRule;
 
 /// Why the words give no request.
 #[derive(Debug, Drop)]
@@ -42,8 +43,18 @@ impl From<AllocError> for LineFault {
 }
 
 /// The values of `--rule`.
-static RULES: [&str; 8] = [
-    "av", "pav", "cc", "geom2", "geom3", "geom4", "sav", "minimax",
+static RULES: [&str; 11] = [
+    "av",
+    "pav",
+    "cc",
+    "geom2",
+    "geom3",
+    "geom4",
+    "sav",
+    "minimax",
+    "seqpav",
+    "seqcc",
+    "revseqpav",
 ];
 
 /// The values of `--kind`.
@@ -248,17 +259,21 @@ fn owned(alloc: Global, text: Option<&str>) -> Result<Option<String>, AllocError
 fn rule_named(name: &str) -> Option<Rule>
     ensures { result ≡ rule_named name.now }
 {
-    match name {
-        "av" => Some(Rule::Thiele(ThieleRule::Av)),
-        "pav" => Some(Rule::Thiele(ThieleRule::Pav)),
-        "cc" => Some(Rule::Thiele(ThieleRule::Cc)),
-        "geom2" => Some(Rule::Thiele(ThieleRule::Geom2)),
-        "geom3" => Some(Rule::Thiele(ThieleRule::Geom3)),
-        "geom4" => Some(Rule::Thiele(ThieleRule::Geom4)),
-        "sav" => Some(Rule::Satisfaction),
-        "minimax" => Some(Rule::Minimax),
-        _ => None,
-    }
+    let rule = match name {
+        "av" => Rule::Scored(ScoredRule::Thiele(ThieleRule::Av)),
+        "pav" => Rule::Scored(ScoredRule::Thiele(ThieleRule::Pav)),
+        "cc" => Rule::Scored(ScoredRule::Thiele(ThieleRule::Cc)),
+        "geom2" => Rule::Scored(ScoredRule::Thiele(ThieleRule::Geom2)),
+        "geom3" => Rule::Scored(ScoredRule::Thiele(ThieleRule::Geom3)),
+        "geom4" => Rule::Scored(ScoredRule::Thiele(ThieleRule::Geom4)),
+        "sav" => Rule::Scored(ScoredRule::Satisfaction),
+        "minimax" => Rule::Scored(ScoredRule::Minimax),
+        "seqpav" => Rule::Sequential(SeqRule::SeqPav),
+        "seqcc" => Rule::Sequential(SeqRule::SeqCc),
+        "revseqpav" => Rule::Sequential(SeqRule::RevSeqPav),
+        _ => return None,
+    };
+    Some(rule)
 }
 
 // Clap's answer to words that it does not take.

@@ -1,5 +1,5 @@
 use super::{LineFault, read_request};
-use crate::request::{Request, Rule};
+use crate::request::{Request, Rule, ScoredRule};
 use ballot_base::ThieleRule;
 use preflib_text::{Kind, Pick, Way};
 use std::alloc::Global;
@@ -17,7 +17,10 @@ fn read(alloc: Global, line: &str) -> Result<Result<Request, LineFault>, Fail> {
 fn reads_requests(rt: HostRuntime) -> Result<(), Fail> {
     let alloc = rt.alloc();
     let request = read(alloc, "committees elect --rule av --size 007")?.expect(&rt, "no file");
-    assert_eq!(rt; request.rule(), Rule::Thiele(ThieleRule::Av));
+    assert_eq!(rt;
+        request.rule(),
+        Rule::Scored(ScoredRule::Thiele(ThieleRule::Av))
+    );
     assert_eq!(rt; request.size(), 7);
     assert!(rt; request.file().is_none());
     let request = read(alloc, "committees elect a.cat --size=40 --rule=av")?.expect(&rt, "a file");
@@ -131,7 +134,7 @@ fn refuses_words(rt: HostRuntime) -> Result<(), Fail> {
         "committees elect --size 1",
         "committees elect --rule av --size 0",
         "committees elect --rule av --size 41",
-        "committees elect --rule seqpav --size 1",
+        "committees elect --rule phragmen --size 1",
         "committees elect --rule av --size 1 --limit 1",
         "committees elect --rule av --size 1 --kind SOC",
         "committees elect --rule av --size 1 --kind other",

@@ -2,8 +2,8 @@
 ghost use Rattle.std.specs.Prelude.{◌≡◌};
 
 use super::support::{
-    ANSWER, THREE, add, answered, assert_ended, name_in, reader, refused, request, run_on,
-    set_name, writer,
+    ANSWER, THREE, add, answered, assert_ended, name_in, read_line, reader, refused, request,
+    run_on, set_name, writer,
 };
 use crate::Refusing;
 use ballot_base::{AddFault, CandSet, FinishFault, Profile, ProfileBuilder};
@@ -11,6 +11,7 @@ use preflib_text::{FaultName, ReadFault, read_profile};
 use std::alloc::{Allocator, Global};
 use std::process::Abort;
 use std::test::Fail;
+use vote_cli::Request;
 
 /// More growths than any of the calls below asks for.
 const MANY: u64 = 100;
@@ -72,14 +73,14 @@ fn assert_growths_of_run(
     rt: &impl Abort,
     alloc: Global,
     case: &str,
+    request: &Request,
     bytes: &[u8],
     answer: &[u8],
     least: u64,
 ) -> Result<(), Fail> {
-    let request = request(alloc, "1")?;
     for n in 1..=MANY {
         let heap = Refusing::new(alloc, n);
-        let ended = run_on(&heap, &request, reader(bytes), writer(alloc), writer(alloc));
+        let ended = run_on(&heap, request, reader(bytes), writer(alloc), writer(alloc));
         if !heap.has_refused() {
             assert_ended(rt, case, 0, &ended, answered(answer));
             assert!(rt; n > least, "{case} takes memory");
@@ -93,13 +94,26 @@ fn assert_growths_of_run(
 #[test]
 fn each_growth_of_a_run(rt: HostRuntime) -> Result<(), Fail> {
     let alloc = rt.alloc();
+    let one = request(alloc, "1")?;
     // The bytes, the names and the rows take memory.
-    assert_growths_of_run(&rt, alloc, "no name", THREE, ANSWER, 3)?;
+    assert_growths_of_run(&rt, alloc, "no name", &one, THREE, ANSWER, 3)?;
     for file in &FILES {
         // A name does too.
-        assert_growths_of_run(&rt, alloc, file.kind, file.bytes, file.answer, 4)?;
+        assert_growths_of_run(&rt, alloc, file.kind, &one, file.bytes, file.answer, 4)?;
     }
     Ok(())
+}
+
+#[test]
+fn each_growth_of_a_sequence(rt: HostRuntime) -> Result<(), Fail> {
+    let alloc = rt.alloc();
+    // The sets that the choices make take memory, too.
+    let grown = read_line(alloc, "committees elect --rule seqpav --size 2")??;
+    let answer = b"rule seqpav\nsize 2\n1,2\n1,3\n2,3\nend\n".as_slice();
+    assert_growths_of_run(&rt, alloc, "seqpav", &grown, THREE, answer, 4)?;
+    let shrunk = read_line(alloc, "committees elect --rule revseqpav --size 1")??;
+    let answer = b"rule revseqpav\nsize 1\n1\n2\nend\n".as_slice();
+    assert_growths_of_run(&rt, alloc, "revseqpav", &shrunk, THREE, answer, 4)
 }
 
 /// Asserts that a file is read just where no growth is refused, and that each growth is refused at a line that takes

@@ -1,86 +1,55 @@
 //! The names of candidates.
-use super::support::{name_in, request, set_name};
-use ballot_base::{CandSet, ProfileBuilder};
+use super::support::{lines, name_in, request, set_name};
+use ballot_base::{CandSet, Profile, ProfileBuilder};
 use preflib_text::read_profile;
+use std::alloc::Global;
 use std::test::Fail;
+
+/// The case, the header, and the names of candidates 1 to 3.
+static NAMES: &str = "\
+no name|# NUMBER ALTERNATIVES: 3|||
+before and behind the number|# ALTERNATIVE NAME 3: Red;# ALTERNATIVE NAME 1: Blue;# NUMBER ALTERNATIVES: 3;# ALTERNATIVE NAME 2: Green;# ALTERNATIVE NAME 1: Navy|Navy|Green|Red
+of candidates that there are not|# ALTERNATIVE NAME 4: a;# ALTERNATIVE NAME 40: b;# NUMBER ALTERNATIVES: 3;# ALTERNATIVE NAME 4: c;# ALTERNATIVE NAME 0: d;# ALTERNATIVE NAME 41: e;# ALTERNATIVE NAME 257: f;# ALTERNATIVE NAME 18446744073709551617: g|||
+an empty name|# ALTERNATIVE NAME 1: Red;# ALTERNATIVE NAME 1: \t;# ALTERNATIVE NAME 2:;# NUMBER ALTERNATIVES: 3|||
+blanks and colons|# NUMBER ALTERNATIVES: 3;#alternative\tName 002 : \t a: b \t c:  ||a: b \t c:|
+returns|# NUMBER ALTERNATIVES: 3\r;# ALTERNATIVE NAME 3: a\rb\r\r|||a\rb\r
+a number behind a sign|# NUMBER ALTERNATIVES: 3;# ALTERNATIVE NAME +1: a|||
+two numbers|# NUMBER ALTERNATIVES: 3;# ALTERNATIVE NAME 1 2: a|||
+no number|# NUMBER ALTERNATIVES: 3;# ALTERNATIVE NAME: a|||
+no colon|# NUMBER ALTERNATIVES: 3;# ALTERNATIVE NAME 1 a|||
+a number at the word|# NUMBER ALTERNATIVES: 3;# ALTERNATIVE NAME1: a|||
+behind a ballot|# NUMBER ALTERNATIVES: 3;# ALTERNATIVE NAME 1: a;1: 1;# ALTERNATIVE NAME 1: b;# ALTERNATIVE NAME 2: c|a||";
+
+/// A profile of three candidates, with a ballot behind its header.
+fn profile_behind(alloc: Global, header: &[u8]) -> Result<Profile, Fail> {
+    let request = request(alloc, "1 --kind cat")?;
+    let mut text = Vec::from_slice(alloc, header)?;
+    text.extend_from_slice(b"\n1: 1\n")?;
+    Ok(read_profile(alloc, text.as_slice(), &request.pick())?)
+}
 
 #[test]
 fn names_in_a_file(rt: HostRuntime) -> Result<(), Fail> {
     let alloc = rt.alloc();
-    let request = request(alloc, "1 --kind cat")?;
-    let cases: [(&str, &[u8], [Option<&[u8]>; 3]); 13] = [
-        ("no name", b"# NUMBER ALTERNATIVES: 3\n", [None, None, None]),
-        (
-            "before and behind the number",
-            b"# ALTERNATIVE NAME 3: Red\n# ALTERNATIVE NAME 1: Blue\n# NUMBER ALTERNATIVES: 3\n# ALTERNATIVE NAME 2: Green\n# ALTERNATIVE NAME 1: Navy\n",
-            [Some(b"Navy"), Some(b"Green"), Some(b"Red")],
-        ),
-        (
-            "of candidates that there are not",
-            b"# ALTERNATIVE NAME 4: a\n# ALTERNATIVE NAME 40: b\n# NUMBER ALTERNATIVES: 3\n# ALTERNATIVE NAME 4: c\n# ALTERNATIVE NAME 0: d\n# ALTERNATIVE NAME 41: e\n# ALTERNATIVE NAME 257: f\n# ALTERNATIVE NAME 18446744073709551617: g\n",
-            [None, None, None],
-        ),
-        (
-            "an empty name",
-            b"# ALTERNATIVE NAME 1: Red\n# ALTERNATIVE NAME 1: \t\n# ALTERNATIVE NAME 2:\n# NUMBER ALTERNATIVES: 3\n",
-            [None, None, None],
-        ),
-        (
-            "blanks and colons",
-            b"# NUMBER ALTERNATIVES: 3\n#alternative\tName 002 : \t a: b \t c:  \n",
-            [None, Some(b"a: b \t c:"), None],
-        ),
-        (
-            "bytes that are no text",
-            b"# NUMBER ALTERNATIVES: 3\n# ALTERNATIVE NAME 3:\xFF\x00\x0B\n",
-            [None, None, Some(b"\xFF\x00\x0B")],
-        ),
-        (
-            "returns",
-            b"# NUMBER ALTERNATIVES: 3\r\n# ALTERNATIVE NAME 3: a\rb\r\r\n",
-            [None, None, Some(b"a\rb\r")],
-        ),
-        (
-            "a number behind a sign",
-            b"# NUMBER ALTERNATIVES: 3\n# ALTERNATIVE NAME +1: a\n",
-            [None, None, None],
-        ),
-        (
-            "two numbers",
-            b"# NUMBER ALTERNATIVES: 3\n# ALTERNATIVE NAME 1 2: a\n",
-            [None, None, None],
-        ),
-        (
-            "no number",
-            b"# NUMBER ALTERNATIVES: 3\n# ALTERNATIVE NAME: a\n",
-            [None, None, None],
-        ),
-        (
-            "no colon",
-            b"# NUMBER ALTERNATIVES: 3\n# ALTERNATIVE NAME 1 a\n",
-            [None, None, None],
-        ),
-        (
-            "a number at the word",
-            b"# NUMBER ALTERNATIVES: 3\n# ALTERNATIVE NAME1: a\n",
-            [None, None, None],
-        ),
-        (
-            "behind a ballot",
-            b"# NUMBER ALTERNATIVES: 3\n# ALTERNATIVE NAME 1: a\n1: 1\n# ALTERNATIVE NAME 1: b\n# ALTERNATIVE NAME 2: c\n",
-            [Some(b"a"), None, None],
-        ),
-    ];
-    for (case, header, names) in cases {
-        let mut text = Vec::from_slice(alloc, header)?;
-        text.extend_from_slice(b"1: 1\n")?;
-        let profile = read_profile(alloc, text.as_slice(), &request.pick())?;
+    for row in NAMES.split('\n') {
+        let (case, rest) = row.split_once('|').ok_or("a case")?;
+        let (header, names) = rest.split_once('|').ok_or("a header")?;
+        let profile = profile_behind(alloc, lines(alloc, header)?.as_bytes())?;
         assert_eq!(rt; profile.m(), 3, "{case}");
-        for n in 1..=3u8 {
-            let name = names[usize::from(n) - 1];
-            assert!(rt; name_in(&profile, n) == name, "{case}, candidate {n}");
+        for (n, name) in (1..).zip(names.split('|')) {
+            let wanted = Some(name.as_bytes()).filter(|name| !name.is_empty());
+            assert!(rt; name_in(&profile, n) == wanted, "{case}, candidate {n}");
         }
     }
+    Ok(())
+}
+
+#[test]
+fn names_that_are_no_text(rt: HostRuntime) -> Result<(), Fail> {
+    let header = b"# NUMBER ALTERNATIVES: 3\n# ALTERNATIVE NAME 3:\xFF\x00\x0B";
+    let profile = profile_behind(rt.alloc(), header)?;
+    assert!(rt; name_in(&profile, 2).is_none());
+    assert!(rt; name_in(&profile, 3) == Some(b"\xFF\x00\x0B".as_slice()));
     Ok(())
 }
 

@@ -1,5 +1,6 @@
 //! Elections by rules with a value, from the words to the bytes.
 use super::support::{THREE, answered, assert_ended, read_line, reader, run_on, writer};
+use ballot_base::KSets;
 use std::alloc::{AllocError, Global};
 use std::process::Abort;
 use std::test::Fail;
@@ -25,17 +26,36 @@ static OVER_THREE: &str = "\
 --rule geom2 --size 2 | score 6/2 1,2 1,3 2,3 end
 --rule geom4 --size 2 | score 12/4 1,3 2,3 end
 --rule av --size 3 | score 5/1 1,2,3 end
---rule pav --size 3 | score 24/6 1,2,3 end";
+--rule pav --size 3 | score 24/6 1,2,3 end
+--rule seqpav --size 2 | 1,2 1,3 2,3 end
+--rule revseqpav --size 1 | 1 2 end
+--rule seqcc --size 1 | 1 2 end";
 
 static OVER_PARTED: &str = "\
 --rule pav --size 2 | score 9/2 1,2 end
 --rule cc --size 2 | score 4/1 1,3 1,4 2,3 2,4 end
 --rule sav --size 2 | score 36/12 1,2 end
---rule minimax --size 2 | distance 2 1,3 1,4 2,3 2,4 end";
+--rule minimax --size 2 | distance 2 1,3 1,4 2,3 2,4 end
+--rule seqpav --size 2 | 1,2 end
+--rule seqcc --size 2 | 1,3 1,4 2,3 2,4 end
+--rule revseqpav --size 3 | 1,2,3 1,2,4 end
+--rule revseqpav --size 4 | 1,2,3,4 end";
 
 static OVER_CROSSED: &str = "\
 --rule pav --size 2 | score 12/2 1,2 1,3 2,3 end
---rule cc --size 2 | score 6/1 2,3 end";
+--rule cc --size 2 | score 6/1 2,3 end
+--rule seqpav --size 2 | 1,2 1,3 end
+--rule revseqpav --size 2 | 1,2 1,3 2,3 end
+--rule seqcc --size 2 | 1,2 1,3 end";
+
+/// The tie comes at the second step.
+static LATE_TIE: &[u8] = b"# DATA TYPE: cat\n# NUMBER ALTERNATIVES: 4\n3: {1}\n1: {2}\n1: {3}\n";
+
+static OVER_LATE_TIE: &str = "\
+--rule seqpav --size 2 | 1,2 1,3 end
+--rule seqcc --size 2 | 1,2 1,3 end
+--rule seqcc --size 3 | 1,2,3 end
+--rule revseqpav --size 2 | 1,2 1,3 end";
 
 static OVER_EMPTY_FIRST: &str = "\
 --rule sav --size 1 --classes 1 | score 0/6 1 2 3 end
@@ -90,7 +110,32 @@ fn tables(rt: HostRuntime) -> Result<(), Fail> {
     assert_table(&rt, alloc, THREE, OVER_THREE)?;
     assert_table(&rt, alloc, PARTED, OVER_PARTED)?;
     assert_table(&rt, alloc, CROSSED, OVER_CROSSED)?;
+    assert_table(&rt, alloc, LATE_TIE, OVER_LATE_TIE)?;
     assert_table(&rt, alloc, EMPTY_FIRST, OVER_EMPTY_FIRST)
+}
+
+/// Each choice is tied: all committees are reached, each once.
+#[test]
+fn every_choice_is_tied(rt: HostRuntime) -> Result<(), Fail> {
+    let alloc = rt.alloc();
+    let text = b"# NUMBER ALTERNATIVES: 12\n3: {1,2,3,4,5,6,7,8,9,10,11,12}\n".as_slice();
+    let mut committees = String::new(alloc);
+    for set in KSets::new(12, 6) {
+        let mut comma = "";
+        for n in 1..=12u8 {
+            if set.has(n) {
+                committees.push_str(format!(in alloc; "{comma}{n}")?.as_str())?;
+                comma = ",";
+            }
+        }
+        committees.push_str("\n")?;
+    }
+    for rule in ["seqpav", "revseqpav"] {
+        let words = format!(in alloc; "--rule {rule} --size 6 --kind cat")?;
+        let answer = format!(in alloc; "rule {rule}\nsize 6\n{committees}end\n")?;
+        assert_answers(&rt, alloc, words.as_str(), text, answer.as_str())?;
+    }
+    Ok(())
 }
 
 /// The greatest values over 40 candidates: all voters that there can be approve all.

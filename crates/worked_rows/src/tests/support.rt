@@ -157,6 +157,18 @@ pub fn assert_ended(rt: &impl Abort, case: &str, number: usize, ended: &Ended, w
     );
 }
 
+/// A text of a table: a `;` stands for the end of a line.
+pub fn lines(alloc: Global, text: &str) -> Result<String, AllocError> {
+    let mut lines = String::with_capacity(alloc, text.len())?;
+    for (i, line) in text.split(';').enumerate() {
+        if i > 0 {
+            lines.push_str("\n")?;
+        }
+        lines.push_str(line)?;
+    }
+    Ok(lines)
+}
+
 /// Adds voters with one ballot over 40 candidates.
 pub fn add<A: Allocator + Copy + Drop>(
     builder: &mut ProfileBuilder<A>,

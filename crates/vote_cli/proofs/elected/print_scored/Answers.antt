@@ -1,7 +1,7 @@
 use Rattle.std.proofs.Common.{subst}
 use Rattle.vote_cli.specs.Printing.{Prints}
 use Rattle.vote_cli.proofs.TextLemmas.{minimax_text}
-use Rattle.vote_cli.proofs.elected.print_elected.Goals as goal
+use Rattle.vote_cli.proofs.elected.print_scored.Goals as goal
 
 pub returns-in-Minimax : goal.returns-in-Minimax
 returns-in-Minimax g c =
