@@ -2,11 +2,11 @@
 use super::support::{
     ANSWER, THREE, Wanted, assert_ended, reader, refused, request, run_on, writer,
 };
-use crate::{Fault, Recorder, SliceReader};
 use std::alloc::Global;
 use std::fmt::Write;
 use std::process::Abort;
 use std::test::Fail;
+use test_devices::{Fault, Recorder, SliceReader};
 
 static READ_FAILED: &[u8] = b"committees: read failed\n";
 

@@ -5,12 +5,12 @@ use super::support::{
     ANSWER, THREE, add, answered, assert_ended, name_in, read_line, reader, refused, request,
     run_on, set_name, writer,
 };
-use crate::Refusing;
 use ballot_base::{AddFault, CandSet, FinishFault, Profile, ProfileBuilder};
 use preflib_text::{FaultName, ReadFault, read_profile};
 use std::alloc::{Allocator, Global};
 use std::process::Abort;
 use std::test::Fail;
+use test_devices::Refusing;
 use vote_cli::Request;
 
 /// More growths than any of the calls below asks for.

@@ -1,11 +1,11 @@
 //! What the tests share: requests from words, and runs that leave plain data.
 ghost use Rattle.std.specs.Prelude.{◌≡◌, ◌≤◌};
 
-use crate::{Fault, Recorder, SliceReader};
 use ballot_base::{AddFault, CandSet, Profile, ProfileBuilder};
 use std::alloc::{AllocError, Allocator, Global};
 use std::process::Abort;
 use std::test::Fail;
+use test_devices::{Fault, Recorder, SliceReader};
 use vote_cli::{LineFault, Request, Status, read_request, run};
 
 /// Three candidates and two ballots: two voters approve 1 and 2, and one voter approves 3.

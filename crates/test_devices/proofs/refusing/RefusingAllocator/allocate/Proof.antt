@@ -34,12 +34,12 @@ use denote.Triple.Call.{calls_at}
 use denote.Triple.Clauses.{Ended}
 use denote.Triple.Table.{framed}
 use denote.Triple.Walked.{Stays, walk_of, stay_dropped, Goes-dropped, ends_at}
-use Rattle.worked_rows.proofs.Due.{Left, Due, due_at, goes_in, comes_out}
-use Rattle.worked_rows.proofs.refusing.is_due.Met.{met as due_met}
-use Rattle.worked_rows.specs.contracts.refusing.Refusing as refusing
-use Rattle.worked_rows.specs.contracts.refusing.RefusingAllocator.allocate as f
-use Rattle.worked_rows.proofs.refusing.RefusingAllocator.allocate.Statement.{statement}
-use Rattle.worked_rows.proofs.refusing.RefusingAllocator.allocate.Code as code
+use Rattle.test_devices.proofs.Due.{Left, Due, due_at, goes_in, comes_out}
+use Rattle.test_devices.proofs.refusing.is_due.Met.{met as due_met}
+use Rattle.test_devices.specs.contracts.refusing.Refusing as refusing
+use Rattle.test_devices.specs.contracts.refusing.RefusingAllocator.allocate as f
+use Rattle.test_devices.proofs.refusing.RefusingAllocator.allocate.Statement.{statement}
+use Rattle.test_devices.proofs.refusing.RefusingAllocator.allocate.Code as code
 
 module _ (Z : Al) where
   abbrev args : Args
@@ -90,7 +90,7 @@ allocate_spec 𝓤 𝓛 𝓜 𝓡 wired row laws g d drops met _ =
     enter ! _ _ _ _ _ $ alloc_all ! (λ l. pass_all ! refl ((tt, tt), ((tt, record { fits = fits }), ((tt, record { fits = al_fits }), tt))) $
     sets ! (addr ! (through ! refl (fld ! refl (stop !)))) refl (tt, tt) $
     use2 𝓛 (raw (due.pre z)) (goes_in 𝓛 𝓜.mem 𝓡.returns κ q at_left left) $
-    calls_at ! (framed 𝓤 𝓛.H 𝓜 𝓣) due (due_met 𝓤 𝓛 𝓜 𝓡 (code.calls-worked_rows::refusing::is_due 𝓡.env wired)) z (and_then ! (get ! refl) (no_more !)) (λ v.
+    calls_at ! (framed 𝓤 𝓛.H 𝓜 𝓣) due (due_met 𝓤 𝓛 𝓜 𝓡 (code.calls-test_devices::refusing::is_due 𝓡.env wired)) z (and_then ! (get ! refl) (no_more !)) (λ v.
     use1 𝓛 (later (some (λ (b : Bool). given (v ≡ vbool b) (‵ (flft κ q))))) (comes_out 𝓛 𝓜.mem 𝓡.returns κ q at_left left v) $ await ! tt $ pick ! (λ b. learn ! (λ e.
     lands_as ! e refl (tt, tt) $
     -- [the token; H; the other token]

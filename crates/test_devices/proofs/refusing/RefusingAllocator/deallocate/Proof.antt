@@ -32,10 +32,10 @@ use denote.Triple.Call.{calls_at}
 use denote.Triple.Clauses.{Ended}
 use denote.Triple.Table.{framed}
 use denote.Triple.Walked.{Stays, walk_of, stay_dropped, Goes-dropped, ends_at}
-use Rattle.worked_rows.specs.contracts.refusing.Refusing as refusing
-use Rattle.worked_rows.specs.contracts.refusing.RefusingAllocator.deallocate as f
-use Rattle.worked_rows.proofs.refusing.RefusingAllocator.deallocate.Statement.{statement}
-use Rattle.worked_rows.proofs.refusing.RefusingAllocator.deallocate.Code as code
+use Rattle.test_devices.specs.contracts.refusing.Refusing as refusing
+use Rattle.test_devices.specs.contracts.refusing.RefusingAllocator.deallocate as f
+use Rattle.test_devices.proofs.refusing.RefusingAllocator.deallocate.Statement.{statement}
+use Rattle.test_devices.proofs.refusing.RefusingAllocator.deallocate.Code as code
 
 module _ (Z : Al) where
   abbrev args : Args

@@ -1,5 +1,5 @@
 //! Devices that give and take few bytes at a time, and fail where they are told to.
-ghost use Rattle.std.specs.Prelude.{◌≡◌, None, false};
+ghost use Rattle.std.specs.Prelude.{◌≡◌, ◌≤◌, ◌+◌, ◌-◌, ◌^◌, ◌||◌, [], Some, false, is_err, min};
 
 use std::alloc::Global;
 use std::io;
@@ -7,7 +7,7 @@ use std::io::ErrorKind;
 use std::marker::Model;
 use vote_cli::{Device, Sink, Source};
 
-/// A reader over bytes. Contracts see whether a call has failed.
+/// A reader over bytes. Contracts see the bytes that it has still to give, and whether a call has failed.
 #[derive(Drop)]
 pub struct SliceReader<'a> {
     rest: &'a [u8],
@@ -18,17 +18,20 @@ pub struct SliceReader<'a> {
 }
 
 impl<'a> Model for SliceReader<'a> {
-    ghost use Rattle.std.specs.Prelude.{Bool};
+    ghost use Rattle.std.specs.Prelude.{ℕ, ◌≤◌, Bool, List};
 
-    ghost Value = { Bool };
+    ghost Value = { List ℕ × Bool };
 
-    ghost view = { λ reader. reader.has_failed };
+    ghost view = { λ reader. (reader.rest.now, reader.has_failed) };
+
+    ghost invariant = { λ reader. 1 ≤ reader.piece };
 }
 
 impl<'a> SliceReader<'a> {
     /// Gives at most `piece` bytes a call, and never fails.
     pub fn new(bytes: &'a [u8], piece: usize) -> SliceReader<'a>
-        ensures { result ≡ false }
+        requires some { 1 ≤ piece }
+        ensures { result ≡ (bytes.now, false) }
     {
         SliceReader::failing(bytes, piece, 0)
     }
@@ -36,7 +39,8 @@ impl<'a> SliceReader<'a> {
     /// Gives at most `piece` bytes a call. The call of the number `fails`, counted from 1, is an error, and those
     /// after it are not.
     pub fn failing(bytes: &'a [u8], piece: usize, fails: u64) -> SliceReader<'a>
-        ensures { result ≡ false }
+        requires some { 1 ≤ piece }
+        ensures { result ≡ (bytes.now, false) }
     {
         SliceReader {
             rest: bytes,
@@ -48,7 +52,7 @@ impl<'a> SliceReader<'a> {
 }
 
 impl<'a> Device for SliceReader<'a> {
-    ghost has_failed = { λ reader. reader };
+    ghost has_failed = { λ reader. reader.1 };
 
     fn failed(&self) -> bool {
         self.has_failed
@@ -56,7 +60,7 @@ impl<'a> Device for SliceReader<'a> {
 }
 
 impl<'a> Source for SliceReader<'a> {
-    ghost remaining = { λ _. None };
+    ghost remaining = { λ reader. Some reader.0 };
 
     fn read(&mut self, buf: &mut [u8]) -> io::Result<usize> {
         let is_due = self.left == 1;
@@ -86,7 +90,8 @@ pub enum Fault {
     AtFlush,
 }
 
-/// A writer that keeps what it took, and counts its flushes. Contracts see whether a call has failed.
+/// A writer that keeps what it took, and counts its flushes. Contracts see the bytes, the count, and whether a call
+/// has failed.
 #[derive(Drop)]
 pub struct Recorder {
     taken: Vec<u8>,
@@ -97,17 +102,18 @@ pub struct Recorder {
 }
 
 impl Model for Recorder {
-    ghost use Rattle.std.specs.Prelude.{Bool};
+    ghost use Rattle.std.specs.Prelude.{ℕ, Bool, List};
+    ghost use Rattle.std.specs.Vec.{vec_items};
 
-    ghost Value = { Bool };
+    ghost Value = { List ℕ × ℕ × Bool };
 
-    ghost view = { λ writer. writer.has_failed };
+    ghost view = { λ writer. (vec_items writer.taken, writer.flushes, writer.has_failed) };
 }
 
 impl Recorder {
     /// Took nothing yet, and takes at most `piece` bytes a call.
     pub fn new(alloc: Global, piece: usize, fault: Fault) -> Recorder
-        ensures { result ≡ false }
+        ensures { result ≡ ([], 0, false) }
     {
         Recorder {
             taken: Vec::new(alloc),
@@ -119,12 +125,16 @@ impl Recorder {
     }
 
     /// The bytes that it took.
-    pub fn taken(&self) -> &[u8] {
+    pub fn taken(&self) -> &[u8]
+        ensures { result.now ≡ self.now.0 }
+    {
         self.taken.as_slice()
     }
 
-    /// How often it was flushed.
-    pub fn flushes(&self) -> u64 {
+    /// How often it was flushed. The count stays at its greatest number.
+    pub fn flushes(&self) -> u64
+        ensures { result ≡ self.now.1 }
+    {
         self.flushes
     }
 
@@ -140,7 +150,7 @@ impl Recorder {
 }
 
 impl Device for Recorder {
-    ghost has_failed = { λ writer. writer };
+    ghost has_failed = { λ writer. writer.2 };
 
     fn failed(&self) -> bool {
         self.has_failed
@@ -148,7 +158,7 @@ impl Device for Recorder {
 }
 
 impl Sink for Recorder {
-    ghost contents = { λ _. None };
+    ghost contents = { λ writer. Some writer.0 };
 
     fn write(&mut self, buf: &[u8]) -> io::Result<usize> {
         let count = buf.len().min(self.piece).min(self.room());
@@ -164,7 +174,11 @@ impl Sink for Recorder {
         Err(io::Error::from(ErrorKind::Other))
     }
 
-    fn flush(&mut self) -> io::Result<()> {
+    fn flush(&mut self) -> io::Result<()>
+        ensures bytes { self.new.0 ≡ self.old.0 }
+        ensures count { self.new.1 ≡ min (self.old.1 + 1) (2 ^ 64 - 1) }
+        ensures failed { self.new.2 ≡ (self.old.2 || is_err result) }
+    {
         self.flushes = self.flushes.saturating_add(1);
         if self.fault != Fault::AtFlush {
             return Ok(());

@@ -19,7 +19,7 @@ use denote.Steps.{nothing, only}
 use denote.Triple.Statement.{Contract}
 use denote.Triple.Spec.{triple_of}
 use Rattle.std.specs.contracts.cell.Cell as cell
-use Rattle.worked_rows.specs.contracts.refusing.is_due as due
+use Rattle.test_devices.specs.contracts.refusing.is_due as due
 
 abbrev pub Left : RattleType
 Left = cell.the_row u64
