@@ -1,4 +1,4 @@
-//! The program `committees`: elects committees over PrefLib ballot files.
+//! The program `committees`: elects committees over PrefLib ballot files, checks them, and shares out seats.
 #![tactic(auto)]
 
 use std::fs::File;
@@ -45,9 +45,17 @@ fn answer(rt: &HostRuntime, words: &[String]) -> ExitCode {
             let _ = rt.eprint(text);
             ExitCode::from(WORDS_REFUSED)
         }
-        Err(LineFault::TwoPicks) => end(rt, WORDS_REFUSED, "committees: words: TwoPicks"),
         Err(LineFault::Memory) => no_memory(rt),
+        Err(fault) => refused(rt, &fault),
     }
+}
+
+/// Ends with the line on words that were refused after `clap` took them.
+fn refused(rt: &HostRuntime, fault: &LineFault) -> ExitCode {
+    if let Some(line) = fault.line() {
+        let _ = rt.eprintln(line);
+    }
+    ExitCode::from(WORDS_REFUSED)
 }
 
 /// Answers over the file that the request names, or over standard input.

@@ -11,17 +11,21 @@ use Rattle.tie_walk.specs.declared.sequential.SeqRule.TheVariants.{SeqPav, RevSe
 use Rattle.vote_cli.specs.declared.request.ScoredRule.TheVariants.{Thiele, Satisfaction, Minimax}
 use Rattle.vote_cli.specs.declared.status.Status.TheVariants.{Answered, Violated, InputRefused, RequestRefused, NoMemory, DeviceFailed}
 use Rattle.vote_cli.specs.declared.input.InputFault.TheVariants as fault
-use Rattle.vote_cli.specs.declared.whole_run.Refusal.TheVariants as refusal
-use Rattle.vote_cli.specs.Request.{Asked}
 use Rattle.vote_cli.specs.Device.{is_failed_write, AppendsBeginning}
 use Rattle.vote_cli.specs.Input.{TellsOfInput}
 use Rattle.vote_cli.specs.Status.{code_of}
 use Rattle.ballot_base.specs.Increments.{increments}
 use Rattle.ballot_base.specs.CommonMultiple.{common_multiple}
 use Rattle.vote_cli.specs.Text.{line, numbers_text, following_text, rule_word, committees_text, head_text, elected_text}
+use Rattle.seat_share.specs.declared.method.Method.TheVariants.{Hamilton, Dhondt, SainteLague, Huntington, Adams, Dean}
+use Rattle.seat_share.specs.Allocations.{lists_with_sum, allocations}
+use Rattle.vote_cli.specs.Parties.{has_many_approved, approvals_of, party_votes}
+use Rattle.vote_cli.specs.ShareText.{method_word, method_lines, allocations_text, share_text}
+use Rattle.group_check.specs.declared.property.Property.TheVariants.{Jr, Pjr, Ejr}
+use Rattle.group_check.specs.declared.property.Violation.{Violation}
+use Rattle.group_check.specs.Report.{violation_of, first_violation}
+use Rattle.vote_cli.specs.ReportText.{property_word, holds_text, set_or_dash, within_text, row_text, level_text, voters_text, group_text, claim_text, violation_text}
 use Rattle.vote_cli.specs.Printing.{Prints, outlet}
-use Rattle.vote_cli.specs.Answer.{answered, refused, answer_of, IsAnswer, Reports, Ends, TellsOf, memory_line, read_failed_line, write_failed_line}
-use Rattle.vote_cli.specs.Refusals.{IsRefusal, status_of, error_of, Prepares, TellsOfReads, TellsOfWrites, Answers}
 use Rattle.vote_cli.specs.FaultText.{fault_text, fault_word, place_text}
 use Rattle.preflib_text.specs.declared.fault.FaultName.TheVariants as name
 use Rattle.preflib_text.specs.declared.pick.Pick.{Pick}
@@ -84,135 +88,122 @@ elected_in_turn : elected_text (Sequential SeqPav) 2 three
 unfolding digits lists_of increments common_multiple
 elected_in_turn = refl
 
--- ---- answers
-abbrev usual : Pick
-usual = record { kind = None; ending = None; way = Usual }
+-- ---- reports
+-- three voters approve 1 and 2, and one approves 3 and 4
+abbrev divided : Election
+divided = election 4 ([] ∷ [] ∷ [] ∷ [] ∷ []) ((1 ∷ 2 ∷ [], 3) ∷ (3 ∷ 4 ∷ [], 1) ∷ [])
 
-abbrev seats : ℕ → Asked
-seats size = record { rule = Scored (Thiele Av); size = size; pick = usual; file = None }
+-- two voters approve 1, 2 and 3
+abbrev united : Election
+united = election 4 ([] ∷ [] ∷ [] ∷ [] ∷ []) ((1 ∷ 2 ∷ 3 ∷ [], 2) ∷ [])
 
-answer_to_one : answer_of (seats 1) (Ok three) ≡ record { text = text; status = Answered; error = [] }
-unfolding digits lists_of increments
-answer_to_one = refl
+-- with the committee of 3 and 4, the voters of 1 break both properties
+abbrev by_jr : Violation
+by_jr = violation_of Jr divided (3 ∷ 4 ∷ []) 1 (1 ∷ [], [])
 
-answer_to_four : answer_of (seats 4) (Ok three) ≡ record { text = []; status = RequestRefused; error = line (codes "committees: request: SizeTooLarge") }
-answer_to_four = refl
+abbrev by_pjr : Violation
+by_pjr = violation_of Pjr divided (3 ∷ 4 ∷ []) 1 (1 ∷ [], [])
 
-answer_to_no_election : answer_of (seats 1) (Err (at_end name.NoAlternatives)) ≡ record { text = []; status = InputRefused; error = line (codes "committees: input: NoAlternatives") }
-answer_to_no_election = refl
+property_words : (property_word Jr ≡ codes "jr") × (property_word Pjr ≡ codes "pjr") × (property_word Ejr ≡ codes "ejr")
+property_words = (refl, refl, refl)
 
-no_refusal : answered (codes "a") ≡ record { text = codes "a"; status = Answered; error = [] }
-no_refusal = refl
+holds : holds_text ≡ codes "holds" ++ 10 ∷ []
+holds = refl
 
-a_refusal : refused InputRefused (codes "a") ≡ record { text = []; status = InputRefused; error = line (codes "a") }
-a_refusal = refl
-
--- what is said of a fault of a line, and of one of the end
-fault_texts : (fault_text (at_line 20 name.BadBallot) ≡ codes "committees: input line 20: BadBallot") × (fault_text (at_end name.NoVoters) ≡ codes "committees: input: NoVoters")
+sets : (set_or_dash [] ≡ codes "-") × (set_or_dash (1 ∷ 20 ∷ []) ≡ codes "1,20")
 unfolding digits
-fault_texts = (refl, refl)
+sets = (refl, refl)
 
-fault_parts : (place_text (Some 7) ≡ codes " line 7: ") × (place_text None ≡ codes ": ") × (fault_word name.PickMisfit ≡ codes "PickMisfit")
+within_texts : (within_text Pjr (3 ∷ []) ≡ line (codes "within 3")) × (within_text Pjr [] ≡ line (codes "within -")) × (within_text Ejr [] ≡ []) × (within_text Jr [] ≡ [])
 unfolding digits
-fault_parts = (refl, refl, refl)
+within_texts = (refl, refl, refl, refl)
 
--- the bytes of a file, and no bytes
-abbrev example_text : List ℕ
-example_text = line (codes "# DATA TYPE: cat") ++ line (codes "# NUMBER ALTERNATIVES: 3") ++ line (codes "# NUMBER CATEGORIES: 2") ++ line (codes "2: {1,2},3") ++ line (codes "1: 3,{1,2}")
+a_row : row_text (1 ∷ 20 ∷ [], 3) ≡ line (codes "3: 1,20")
+unfolding digits
+a_row = refl
 
-pub reads_three : Reads example_text usual (Ok three)
-unfolding pieces_of without_return trim_start words_of tokens_after order_at
-reads_three = (ballot_of, ballot_of_reads, refl)
+an_empty_row : row_text ([], 3) ≡ line (codes "3: ")
+unfolding digits
+an_empty_row = refl
 
-pub reads_nothing : Reads [] usual (Err (at_end name.NoAlternatives))
-unfolding pieces_of
-reads_nothing = (ballot_of, ballot_of_reads, refl)
+levels : level_text Ejr 20 ≡ line (codes "violated ejr") ++ line (codes "level 20")
+unfolding digits
+levels = refl
 
-right_answer : IsAnswer (seats 4) example_text (answer_of (seats 4) (Ok three))
-right_answer = (Ok three, reads_three, refl)
+group_sizes : voters_text 3 40 ≡ line (codes "voters 3 of 40")
+unfolding digits
+group_sizes = refl
 
-lines : (memory_line ≡ codes "committees: memory" ++ 10 ∷ []) × (read_failed_line ≡ codes "committees: read failed" ++ 10 ∷ [])
-    × (write_failed_line ≡ codes "committees: write failed" ++ 10 ∷ [])
-lines = (refl, refl, refl)
+-- those who approve 3 and 4 are not in the group
+their_rows : group_text by_jr divided.rows ≡ line (codes "3: 1,2")
+unfolding digits
+their_rows = refl
 
--- ---- devices
-failed_writes : (is_failed_write {E = ℕ} (Ok 0) (1 ∷ []) ≡ true) × (is_failed_write {E = ℕ} (Ok 0) [] ≡ false)
-    × (is_failed_write {E = ℕ} (Ok 1) (1 ∷ 2 ∷ []) ≡ false) × (is_failed_write {E = ℕ} (Err 1) [] ≡ true)
-failed_writes = (refl, refl, refl, refl)
+claims : claim_text by_pjr ≡ line (codes "violated pjr") ++ line (codes "level 1") ++ line (codes "candidates 1") ++ line (codes "within -")
+unfolding digits
+claims = refl
 
--- two bytes of three are taken
-two_of_three : AppendsBeginning (Some (7 ∷ [])) (Some (7 ∷ 1 ∷ 2 ∷ [])) (1 ∷ 2 ∷ 3 ∷ [])
-two_of_three = (1 ∷ 2 ∷ [], 3 ∷ [], refl, refl)
+report_by_jr : violation_text by_jr divided
+    ≡ line (codes "violated jr") ++ line (codes "level 1") ++ line (codes "candidates 1") ++ line (codes "voters 3 of 4") ++ line (codes "3: 1,2")
+unfolding digits
+report_by_jr = refl
 
-failed_input : (TellsOfInput {T = ℕ} false true (Err fault.ReadFailed)) × (TellsOfInput {T = ℕ} false false (Err fault.Memory)) × (TellsOfInput {T = ℕ} false false (Ok 1))
-failed_input = (refl, refl, refl)
+report_by_pjr : violation_text by_pjr divided
+    ≡ line (codes "violated pjr") ++ line (codes "level 1") ++ line (codes "candidates 1") ++ line (codes "within -") ++ line (codes "voters 3 of 4") ++ line (codes "3: 1,2")
+unfolding digits
+report_by_pjr = refl
 
--- a whole line, and a beginning of one
-reported : Reports (Some []) (Some (line (codes "a"))) false (line (codes "a"))
-reported = record { beginning = (line (codes "a"), [], refl, refl); whole = λ unfailed. refl }
+-- at level 2 the voters may have 3 alone
+report_within : violation_text (violation_of Pjr united (3 ∷ 4 ∷ []) 2 (1 ∷ 2 ∷ [], 3 ∷ [])) united
+    ≡ line (codes "violated pjr") ++ line (codes "level 2") ++ line (codes "candidates 1,2") ++ line (codes "within 3") ++ line (codes "voters 2 of 2") ++ line (codes "2: 1,2,3")
+unfolding digits
+report_within = refl
 
-reported_in_part : Reports (Some []) (Some (codes "a")) true (line (codes "a"))
-reported_in_part = record { beginning = (codes "a", 10 ∷ [], refl, refl); whole = λ unfailed. absurd (both_ways true unfailed refl) }
+report_by_ejr : violation_text (violation_of Ejr united (3 ∷ 4 ∷ []) 2 (1 ∷ 2 ∷ [], [])) united
+    ≡ line (codes "violated ejr") ++ line (codes "level 2") ++ line (codes "candidates 1,2") ++ line (codes "voters 2 of 2") ++ line (codes "2: 1,2,3")
+unfolding digits
+report_by_ejr = refl
 
--- 3 is printed behind 1 and 2, of which 1 is sent
-printed : Prints (outlet (Some []) (1 ∷ 2 ∷ []) false) (outlet (Some (1 ∷ [])) (2 ∷ 3 ∷ []) false) true (3 ∷ [])
-printed = record { sent = 1 ∷ []; rest = 2 ∷ 3 ∷ []; order = refl; took = refl; whole = λ ok. (refl, refl); broken = λ ok. absurd (both_ways true ok refl) }
+-- and these are the reports of a check
+first_reports : (first_violation Jr divided (3 ∷ 4 ∷ []) 1 ≡ Some by_jr) × (first_violation Pjr divided (3 ∷ 4 ∷ []) 1 ≡ Some by_pjr)
+unfolding lists_of
+first_reports = (refl, refl)
 
--- a write of 1, 2 and 3 breaks off behind 1
-printed_in_part : Prints (outlet (Some []) (1 ∷ 2 ∷ []) false) (outlet (Some (1 ∷ [])) [] true) false (3 ∷ [])
-printed_in_part = record { sent = 1 ∷ []; rest = 2 ∷ 3 ∷ []; order = refl; took = refl; whole = λ ok. absurd (both_ways false refl ok); broken = λ ok. refl }
+-- ---- seats
+-- of three parties, two voters are for 1 and four for 3, and one is for none
+abbrev party_rows : List Row
+party_rows = (1 ∷ [], 2) ∷ ([], 1) ∷ (3 ∷ [], 4) ∷ []
 
--- ---- statuses
-status_codes : (code_of Answered ≡ 0) × (code_of Violated ≡ 1) × (code_of InputRefused ≡ 3) × (code_of RequestRefused ≡ 4) × (code_of NoMemory ≡ 5) × (code_of DeviceFailed ≡ 6)
-status_codes = (refl, refl, refl, refl, refl, refl)
+abbrev parties : Election
+parties = election 3 ([] ∷ [] ∷ [] ∷ []) party_rows
 
-refusals : (status_of (refusal.Input (at_end name.NoAlternatives)) ≡ InputRefused) × (status_of refusal.WriteFailed ≡ DeviceFailed) × (error_of (refusal.Input (at_end name.NoAlternatives)) ≡ (answer_of (seats 1) (Err (at_end name.NoAlternatives))).error)
-refusals = (refl, refl, refl)
+votes : party_votes parties ≡ 2 ∷ 0 ∷ 4 ∷ []
+votes = refl
 
-refusals_of_faults : (IsRefusal (at_line 4 name.BadCount) (refusal.Input (at_line 4 name.BadCount))) × (IsRefusal (at_line 4 name.Memory) refusal.Memory)
-refusals_of_faults = ((refl, λ same. let h : name.BadCount ≡ name.Memory = same in cc), refl)
+approvals : (approvals_of party_rows 3 ≡ 4) × (approvals_of party_rows 2 ≡ 0) × (approvals_of rows 2 ≡ 2)
+approvals = (refl, refl, refl)
 
--- ---- what a run leaves
-right_of_one : IsAnswer (seats 1) example_text (answered text)
-unfolding digits lists_of increments
-right_of_one = (Ok three, reads_three, refl)
+many_approved : (has_many_approved parties ≡ false) × (has_many_approved three ≡ true)
+many_approved = (refl, refl)
 
-ends_answered : Ends (seats 1) example_text (Some []) (Some text) (Some []) (Some []) false Answered
-ends_answered = record { answer = answered text; right = right_of_one; status_is = refl; text = refl; error = record { beginning = ([], [], refl, refl); whole = λ unfailed. refl } }
+method_words : (method_word Hamilton ≡ codes "hamilton") × (method_word Dhondt ≡ codes "dhondt") × (method_word SainteLague ≡ codes "saintelague")
+    × (method_word Huntington ≡ codes "huntington") × (method_word Adams ≡ codes "adams") × (method_word Dean ≡ codes "dean")
+method_words = (refl, refl, refl, refl, refl, refl)
 
-ends_refused : Ends (seats 1) [] (Some []) (Some []) (Some []) (Some (line (codes "committees: input: NoAlternatives"))) false InputRefused
-ends_refused = record {
-  answer = answer_of (seats 1) (Err (at_end name.NoAlternatives));
-  right = (Err (at_end name.NoAlternatives), reads_nothing, refl);
-  status_is = refl;
-  text = refl;
-  error = record { beginning = (line (codes "committees: input: NoAlternatives"), [], refl, refl); whole = λ unfailed. refl };
-}
+two_allocations : allocations_text ((0 ∷ 10 ∷ []) ∷ (1 ∷ 9 ∷ []) ∷ []) ≡ line (codes "0,10") ++ line (codes "1,9")
+unfolding digits
+two_allocations = refl
 
-ends_without_memory : Ends (seats 1) [] (Some []) (Some []) (Some []) (Some memory_line) false NoMemory
-ends_without_memory = record { nothing = refl; error = record { beginning = (memory_line, [], refl, refl); whole = λ unfailed. refl } }
+head_of_shares : method_lines Adams 12 ≡ codes "method adams" ++ 10 ∷ codes "seats 12" ++ 10 ∷ []
+unfolding digits
+head_of_shares = refl
 
--- a read failed, and the line on it was not taken whole
-ends_unread : Ends (seats 1) [] (Some []) (Some []) (Some []) (Some (codes "committees")) true DeviceFailed
-ends_unread = inl (record { nothing = refl; error = record { beginning = (codes "committees", codes ": read failed" ++ 10 ∷ [], refl, refl); whole = λ unfailed. absurd (both_ways true unfailed refl) } })
+shared_one_way : share_text SainteLague 7 ((3 ∷ 2 ∷ 2 ∷ []) ∷ []) ≡ line (codes "method saintelague") ++ line (codes "seats 7") ++ line (codes "3,2,2") ++ line (codes "end")
+unfolding digits
+shared_one_way = refl
 
--- a write failed behind the first line
-ends_in_part : Ends (seats 1) example_text (Some []) (Some (line (codes "rule av"))) (Some []) (Some write_failed_line) false DeviceFailed
-ends_in_part = inr (record {
-  answer = answered text;
-  right = right_of_one;
-  text = (line (codes "rule av"), line (codes "size 1") ++ line (codes "score 2/1") ++ line (codes "1") ++ line (codes "2") ++ line (codes "end"), refl, refl);
-  error = record { beginning = (write_failed_line, [], refl, refl); whole = λ unfailed. refl };
-})
-
-devices_told : (TellsOf DeviceFailed false false false true) × (TellsOf Answered false false true true)
-devices_told = (refl, (refl, refl))
-
-refusals_told : (TellsOfReads {T = ℕ} false true (Err refusal.ReadFailed)) × (TellsOfReads {T = ℕ} false false (Err refusal.Memory)) × (TellsOfWrites {T = ℕ} false true (Err refusal.WriteFailed)) × (TellsOfWrites {T = ℕ} false false (Ok 1))
-refusals_told = (refl, refl, refl, refl)
-
-prepared : (Prepares (seats 1) example_text (Ok three)) × (Prepares (seats 4) example_text (Err refusal.SizeTooLarge)) × (Prepares (seats 1) [] (Err (refusal.Input (at_end name.NoAlternatives)))) × (Prepares (seats 1) [] (Err refusal.Memory))
-prepared = (reads_three, (three, reads_three, lit≤ tt), reads_nothing, tt)
-
-answers_four : Answers (seats 4) example_text (Some []) (Some []) (Err refusal.SizeTooLarge)
-answers_four = (three, reads_three, lit≤ tt, refl)
+-- the votes of an election, and their tied allocations
+shared_two_ways : share_text Dhondt 2 (allocations Dhondt (party_votes parties) 2)
+    ≡ line (codes "method dhondt") ++ line (codes "seats 2") ++ line (codes "0,0,2") ++ line (codes "1,0,1") ++ line (codes "end")
+unfolding digits lists_with_sum
+shared_two_ways = refl

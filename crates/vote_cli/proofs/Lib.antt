@@ -3,12 +3,17 @@ pub mod Examples
 pub mod GivenRequest
 pub mod GivenValues
 pub mod InputLemmas
+pub mod NumberListLemmas
+pub mod PartyLemmas
 pub mod Places
 pub mod PlacesOfFaults
 pub mod PrintingLemmas
 pub mod ProgramPlaces
 pub mod Refusals
+pub mod ReportLemmas
+pub mod RunExamples
 pub mod RunLemmas
+pub mod ShareLemmas
 pub mod TextLemmas
 pub mod WordsExamples
 pub mod WordsLemmas

@@ -1,14 +1,14 @@
--- The program means the same to clap wherever the names of its rules lie.
-use Rattle.std.proofs.Common.{◌≡◌, ◌∙◌, List, [], ◌∷◌, map, refl, sym, ap, false}
+-- The program means the same to clap wherever the names of its values lie.
+use Rattle.std.proofs.Common.{◌≡◌, ◌∙◌, List, [], ◌∷◌, map, refl, sym, ap, true, false}
 use Rattle.std.specs.Prelude.{Option, Some, None, option_map, is_some, find}
 use Rattle.std.specs.Borrow.{Bor}
 use Rattle.std.specs.Option.{option_map_or}
-use Rattle.clap.specs.Words.{App, Shape, Text, fault_of, subcommand_of}
+use Rattle.clap.specs.Words.{App, Shape, Text, fault_of, is_simple, is_simple_and_free, subcommand_of}
 use Rattle.clap.specs.Walk.{Held, Walk, answers_to, nothing_held, stop_after, texts, walk}
 use Rattle.clap.specs.Simple.{argument_words, built, entered, label_of, names_of, rows_at}
 use Rattle.clap.specs.Faults.{built_fault, entered_fault, level_fault}
 use Rattle.clap.proofs.WalkLemmas.{find-map}
-use Rattle.vote_cli.specs.Words.{kind_names, program, program_over, rule_names, shown}
+use Rattle.vote_cli.specs.Words.{Names, check_over, elect_over, kind_names, method_names, program, program_over, property_names, rule_names, share_over, shown}
 use Rattle.vote_cli.proofs.Places.{placed, rows_after_placed, walk_placed}
 use Rattle.vote_cli.proofs.PlacesOfFaults.{at_place, level_placed}
 
@@ -71,17 +71,37 @@ same_shown (x ∷ names) = ap (λ rest. shown x.now ∷ rest) (same_shown names)
 shown_is : (names : Bor (List (Bor Text))) (values : List Text) → texts names.now ≡ values → shown (map (λ x. shown x.now) names.now) ≡ shown (map shown values)
 shown_is names values is = ap shown (same_shown names.now ∙ ap (map shown) is)
 
-module _ (rules kinds : Bor (List (Bor Text))) (rules_are : texts rules.now ≡ rule_names) (kinds_are : texts kinds.now ≡ kind_names) where
-  program_at : app_at (built (program_over rules kinds)) ≡ built program
-  program_at = λ i. built (program_over (shown_is rules rule_names rules_are i) (shown_is kinds kind_names kinds_are i))
+module _ (elect check share : Shape) (rules properties methods kinds_1 kinds_2 kinds_3 : Names) (elect_is : elect ≡ elect_over rules kinds_1)
+    (check_is : check ≡ check_over properties kinds_2) (share_is : share ≡ share_over methods kinds_3) (rules_are : texts rules.now ≡ rule_names)
+    (properties_are : texts properties.now ≡ property_names) (methods_are : texts methods.now ≡ method_names) (kinds_1_are : texts kinds_1.now ≡ kind_names)
+    (kinds_2_are : texts kinds_2.now ≡ kind_names) (kinds_3_are : texts kinds_3.now ≡ kind_names) where
+  abbrev over : App
+  over = program_over (elect_over rules kinds_1) (check_over properties kinds_2) (share_over methods kinds_3)
 
-  pub program_fault : (words : List Text) → fault_of (program_over rules kinds) words ≡ fault_of program words
+  program_at : app_at (built over) ≡ built program
+  program_at = λ i. built (program_over
+      (elect_over (shown_is rules rule_names rules_are i) (shown_is kinds_1 kind_names kinds_1_are i))
+      (check_over (shown_is properties property_names properties_are i) (shown_is kinds_2 kind_names kinds_2_are i))
+      (share_over (shown_is methods method_names methods_are i) (shown_is kinds_3 kind_names kinds_3_are i)))
+
+  over_is : program_over elect check share ≡ over
+  over_is = λ i. program_over (elect_is i) (check_is i) (share_is i)
+
+  pub program_fault : (words : List Text) → fault_of (program_over elect check share) words ≡ fault_of program words
   program_fault words =
       let after = argument_words program words in
-      sym (same_fault (built (program_over rules kinds)) nothing_held after) ∙ ap (λ a. built_fault a nothing_held after) program_at
+      ap (λ a. fault_of a words) over_is
+      ∙ sym (same_fault (built over) nothing_held after) ∙ ap (λ a. built_fault a nothing_held after) program_at
 
-  pub program_sub : (words : List Text) → subcommand_of (program_over rules kinds) words ≡ subcommand_of program words
+  pub program_sub : (words : List Text) → subcommand_of (program_over elect check share) words ≡ subcommand_of program words
   program_sub words =
       let after = argument_words program words in
-      sym (same_sub (built (program_over rules kinds)) after)
+      ap (λ a. subcommand_of a words) over_is
+      ∙ sym (same_sub (built over) after)
       ∙ ap (λ (a : App). entered a (stop_after a.top.rules (names_of a) after)) program_at
+
+  pub program_free : is_simple_and_free (program_over elect check share) ≡ true
+  program_free = ap is_simple_and_free over_is
+
+  pub program_simple : is_simple (program_over elect check share) ≡ true
+  program_simple = ap is_simple over_is

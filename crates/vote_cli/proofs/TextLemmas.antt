@@ -15,10 +15,10 @@ pub numbers_text-cons : (n : ℕ) (ns : List ℕ) → numbers_text (n ∷ ns) �
 numbers_text-cons n [] = sym (append-nil (decimal n))
 numbers_text-cons n (next ∷ ns) = ap (λ l. decimal n ++ 44 ∷ l) (numbers_text-cons next ns)
 
--- the line of a committee, from its first member on
-pub committee_line : (committee : List ℕ) (first : ℕ) (others : List ℕ) → committee ≡ first ∷ others
-    → line (numbers_text committee) ≡ decimal first ++ (following_text others ++ 10 ∷ [])
-committee_line committee first others parts =
+-- the line of a numbers, from its first member on
+pub list_line : (numbers : List ℕ) (first : ℕ) (others : List ℕ) → numbers ≡ first ∷ others
+    → line (numbers_text numbers) ≡ decimal first ++ (following_text others ++ 10 ∷ [])
+list_line numbers first others parts =
     ap (λ c. line (numbers_text c)) parts ∙ ap (λ l. l ++ 10 ∷ []) (numbers_text-cons first others) ∙ append_assoc (decimal first) (following_text others) (10 ∷ [])
 
 -- the text of winners, from its first lines on

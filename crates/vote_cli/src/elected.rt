@@ -1,9 +1,10 @@
 //! The text of an election's winners.
-ghost use Rattle.std.specs.Prelude.{◌≡◌, ◌≤◌, [], ◌∷◌, decimal, is_ok};
+ghost use Rattle.std.specs.Prelude.{◌≡◌, ◌≤◌, [], is_ok};
 ghost use Rattle.vote_cli.specs.Printing.{Prints, outlet};
-ghost use Rattle.vote_cli.specs.Text.{line, numbers_text, following_text, best_text, score_text, rule_lines, head_text, rule_word, scored_word, thiele_word, committees_text, text_by, sequential_text, elected_text};
+ghost use Rattle.vote_cli.specs.Text.{line, numbers_text, best_text, score_text, rule_lines, head_text, rule_word, scored_word, thiele_word, committees_text, text_by, sequential_text, elected_text};
 
 use crate::device::Sink;
+use crate::numbers::print_numbers;
 use crate::printing::{Waiting, WriteFailed, finish, print, print_all};
 use crate::request::{Rule, ScoredRule};
 use ballot_base::{CandSet, Increments, Profile, ThieleRule, common_multiple};
@@ -48,38 +49,6 @@ fn word_of(rule: Rule) -> &'static [u8]
     }
 }
 
-/// Prints a number.
-fn print_number<W: Sink>(out: &mut W, waiting: &mut Waiting, n: u8) -> Result<(), WriteFailed>
-    ensures { Prints (outlet (W.contents out.old) waiting.old (W.has_failed out.old)) (outlet (W.contents out.new) waiting.new (W.has_failed out.new)) (is_ok result) (decimal n) }
-{
-    let mut digits = Buffer::new();
-    print(out, waiting, digits.format(n).as_bytes())
-}
-
-/// Prints a comma and a number.
-fn print_next<W: Sink>(out: &mut W, waiting: &mut Waiting, n: u8) -> Result<(), WriteFailed>
-    ensures { Prints (outlet (W.contents out.old) waiting.old (W.has_failed out.old)) (outlet (W.contents out.new) waiting.new (W.has_failed out.new)) (is_ok result) (44 ∷ decimal n) }
-{
-    let mut digits = Buffer::new();
-    print_all(out, waiting, &[b",", digits.format(n).as_bytes()])
-}
-
-/// Prints the members, with a comma before each.
-fn print_following<W: Sink>(
-    out: &mut W,
-    waiting: &mut Waiting,
-    members: CandSet,
-) -> Result<(), WriteFailed>
-    ensures { Prints (outlet (W.contents out.old) waiting.old (W.has_failed out.old)) (outlet (W.contents out.new) waiting.new (W.has_failed out.new)) (is_ok result) (following_text members) }
-{
-    let mut rest = members;
-    while let Some(parts) = rest.split_first() {
-        print_next(out, waiting, parts.0)?;
-        rest = parts.1;
-    }
-    Ok(())
-}
-
 /// Prints a committee on a line.
 fn print_committee<W: Sink>(
     out: &mut W,
@@ -88,11 +57,7 @@ fn print_committee<W: Sink>(
 ) -> Result<(), WriteFailed>
     ensures { Prints (outlet (W.contents out.old) waiting.old (W.has_failed out.old)) (outlet (W.contents out.new) waiting.new (W.has_failed out.new)) (is_ok result) (line (numbers_text committee)) }
 {
-    let Some(parts) = committee.split_first() else {
-        return print(out, waiting, b"\n");
-    };
-    print_number(out, waiting, parts.0)?;
-    print_following(out, waiting, parts.1)?;
+    print_numbers(out, waiting, committee)?;
     print(out, waiting, b"\n")
 }
 

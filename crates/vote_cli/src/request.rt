@@ -1,9 +1,12 @@
 //! What the words of a command line ask for.
-ghost use Rattle.std.specs.Prelude.{◌≡◌, ◌≤◌, option_map, string_bytes};
+ghost use Rattle.std.specs.Prelude.{◌≡◌, option_map, string_bytes};
 ghost use Rattle.preflib_text.specs.BallotMarks.{HasNumber};
+ghost use Rattle.vote_cli.specs.Request.{InRange, demand_of};
 
 use ballot_base::ThieleRule;
+use group_check::Property;
 use preflib_text::Pick;
+use seat_share::Method;
 use std::marker::Model;
 use tie_walk::SeqRule;
 
@@ -32,67 +35,63 @@ pub enum ScoredRule {
     Minimax,
 }
 
-/// A request: the rule, the number of seats from 1 to 40, how the file is read, and the file to
-/// read, where one is named. Each one comes from `read_request`.
+/// What a request asks for. Each list has at least one number.
+#[derive(Debug, Drop)]
+pub enum Task {
+    /// To elect committees by a rule, with so many seats, from 1 to 40.
+    Elect(Rule, u8),
+    /// To check whether a committee has a property. The members are as they were given: any numbers,
+    /// in any order.
+    Check(Property, Vec<u64>),
+    /// To share out seats by a method, from 1 to 10,000, among parties with these votes. Without votes, they
+    /// are those of the ballots.
+    Share(Method, u16, Option<Vec<u64>>),
+}
+
+/// A request: its task, how the file is read, and the file to read, where one is named. Each one comes from
+/// `read_request`.
 #[derive(Debug, Drop)]
 pub struct Request {
-    rule: Rule,
-    size: u8,
+    task: Task,
     pick: Pick,
     file: Option<String>,
 }
 
 impl Model for Request {
-    ghost use Rattle.std.specs.Prelude.{◌≤◌, option_map, string_bytes};
+    ghost use Rattle.std.specs.Prelude.{option_map, string_bytes};
     ghost use Rattle.preflib_text.specs.BallotMarks.{HasNumber};
-    ghost use Rattle.vote_cli.specs.Request.{Asked};
+    ghost use Rattle.vote_cli.specs.Request.{Asked, InRange, demand_of};
 
     ghost Value = { Asked };
 
     ghost view = { λ a. record {
-      rule = a.rule;
-      size = a.size;
+      demand = demand_of a.task;
       pick = a.pick;
       file = option_map string_bytes a.file;
     } };
 
-    ghost invariant = { λ a. (1 ≤ a.size) × (a.size ≤ 40) × HasNumber a.pick.way };
+    ghost invariant = { λ a. InRange (demand_of a.task) × HasNumber a.pick.way };
 }
 
 impl Request {
-    pub(crate) fn new(rule: Rule, size: u8, pick: Pick, file: Option<String>) -> Request
-        requires least { 1 ≤ size }
-        requires most { size ≤ 40 }
+    pub(crate) fn new(task: Task, pick: Pick, file: Option<String>) -> Request
+        requires range { InRange (demand_of task) }
         requires way { HasNumber pick.way }
         ensures { result ≡ record {
-          rule = rule;
-          size = size;
+          demand = demand_of task;
           pick = pick;
           file = option_map string_bytes file;
         } }
     {
-        Request {
-            rule,
-            size,
-            pick,
-            file,
-        }
+        Request { task, pick, file }
     }
 
-    /// The rule.
-    pub fn rule(&self) -> Rule
-        ensures { result ≡ self.now.rule }
+    /// What it asks for.
+    pub fn task(&self) -> &Task
+        ensures value { demand_of result.now ≡ self.now.demand }
+        ensures range { InRange (demand_of result.now) }
     {
-        self.rule
-    }
-
-    /// The number of seats.
-    pub fn size(&self) -> u8
-        ensures value { result ≡ self.now.size }
-        ensures least { 1 ≤ result }
-        ensures most { result ≤ 40 }
-    {
-        self.size
+        &self.task
     }
 
     /// How the file is read.

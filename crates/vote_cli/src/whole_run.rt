@@ -1,80 +1,29 @@
 //! A whole run, from the bytes of the input to the bytes of the answer.
-ghost use Rattle.std.specs.Prelude.{◌≡◌, ◌≢◌, ◌≤◌, [], Err, IfOk, IfSome, is_ok};
-ghost use Rattle.vote_cli.specs.Answer.{Ends, Reports, TellsOf};
-ghost use Rattle.vote_cli.specs.Refusals.{Answers, IsRefusal, IsWritten, Prepares, TellsOfReads, TellsOfWrites, error_of, status_of};
-ghost use Rattle.vote_cli.specs.Printing.{Prints, outlet};
+ghost use Rattle.std.specs.Prelude.{◌≡◌, ◌≢◌, Err, IfSome, true};
+ghost use Rattle.preflib_text.specs.BallotMarks.{HasNumber};
+ghost use Rattle.vote_cli.specs.Answer.{Ends, IsAnswer, Reports, TellsOf, has_votes};
+ghost use Rattle.vote_cli.specs.Refusals.{Concludes, Prepares, TellsOfReads, TellsOfWrites, error_of, status_of};
 
+use crate::answers::{
+    Verdict, answer_check, answer_election, answer_share, answer_share_of_ballots,
+};
 use crate::device::{Sink, Source};
-use crate::elected::{print_scored, print_sequential};
-use crate::fault_text::write_fault;
 use crate::input::{InputFault, read_to_end};
-use crate::printing::{WriteFailed, write_whole};
-use crate::request::{Request, Rule};
+use crate::refusal::{Refusal, refusal_of};
+use crate::request::{Request, Task};
 use crate::status::Status;
 use ballot_base::Profile;
-use preflib_text::{FaultName, ReadFault, read_profile};
+use preflib_text::{Pick, read_profile};
 use std::alloc::Allocator;
-use tie_walk::SeqWinners;
 
-/// Why a run ends with no answer, or with a part of one.
-#[derive(Clone, Copy, Debug, PartialEq, Eq)]
-enum Refusal {
-    /// The input has a fault.
-    Input(ReadFault),
-    /// There are fewer candidates than seats.
-    SizeTooLarge,
-    /// A growth was refused.
-    Memory,
-    /// A read failed.
-    ReadFailed,
-    /// A write failed.
-    WriteFailed,
-}
-
-impl Refusal {
-    fn status(self) -> Status
-        ensures { result ≡ status_of self }
-    {
-        match self {
-            Refusal::Input(_) => Status::InputRefused,
-            Refusal::SizeTooLarge => Status::RequestRefused,
-            Refusal::Memory => Status::NoMemory,
-            Refusal::ReadFailed | Refusal::WriteFailed => Status::DeviceFailed,
-        }
-    }
-
-    /// Writes the line on the errors.
-    fn write<E: Sink>(self, err: &mut E) -> Result<(), WriteFailed>
-        ensures { Prints (outlet (E.contents err.old) [] (E.has_failed err.old)) (outlet (E.contents err.new) [] (E.has_failed err.new)) (is_ok result) (error_of self) }
-    {
-        match self {
-            Refusal::Input(fault) => write_fault(err, fault),
-            Refusal::SizeTooLarge => write_whole(err, b"committees: request: SizeTooLarge\n"),
-            Refusal::Memory => write_whole(err, b"committees: memory\n"),
-            Refusal::ReadFailed => write_whole(err, b"committees: read failed\n"),
-            Refusal::WriteFailed => write_whole(err, b"committees: write failed\n"),
-        }
-    }
-}
-
-/// The refusal of an input with a fault.
-fn refusal_of(fault: ReadFault) -> Refusal
-    ensures { IsRefusal fault result }
-{
-    match fault.name {
-        FaultName::Memory => Refusal::Memory,
-        _ => Refusal::Input(fault),
-    }
-}
-
-/// Reads the input, and tests the request against it.
-fn prepare<A: Allocator + Copy + Drop, R: Source>(
+/// Reads the ballots of the whole input.
+fn read_ballots<A: Allocator + Copy + Drop, R: Source>(
     alloc: A,
-    request: &Request,
+    pick: &Pick,
     reader: &mut R,
 ) -> Result<Profile<A>, Refusal>
-    ensures input { IfSome (R.remaining reader.old) (λ bytes. Prepares request.now bytes result) }
-    ensures fits { IfOk result (λ profile. request.now.size ≤ profile.m) }
+    requires way { HasNumber pick.now.way }
+    ensures input { IfSome (R.remaining reader.old) (λ bytes. Prepares pick.now bytes result) }
     ensures reads { TellsOfReads (R.has_failed reader.old) (R.has_failed reader.new) result }
     ensures unwritten { result ≢ Err Refusal.WriteFailed }
 {
@@ -83,45 +32,40 @@ fn prepare<A: Allocator + Copy + Drop, R: Source>(
         Err(InputFault::Memory) => return Err(Refusal::Memory),
         Err(InputFault::ReadFailed) => return Err(Refusal::ReadFailed),
     };
-    let profile = match read_profile(alloc, &input, &request.pick()) {
-        Ok(profile) => profile,
-        Err(fault) => return Err(refusal_of(fault)),
-    };
-    if request.size() > profile.m() {
-        return Err(Refusal::SizeTooLarge);
+    match read_profile(alloc, &input, pick) {
+        Ok(profile) => Ok(profile),
+        Err(fault) => Err(refusal_of(fault)),
     }
-    Ok(profile)
 }
 
-/// Reads the input, and prints the answer where there is one.
+/// Writes the answer where there is one. The input is read only where its ballots are asked about.
 fn answer<A: Allocator + Copy + Drop, R: Source, W: Sink>(
     alloc: A,
     request: &Request,
     reader: &mut R,
     out: &mut W,
-) -> Result<(), Refusal>
-    ensures answer { IfSome (R.remaining reader.old) (λ bytes. Answers request.now bytes (W.contents out.old) (W.contents out.new) result) }
+) -> Result<Verdict, Refusal>
+    ensures answer { IfSome (R.remaining reader.old) (λ bytes. Concludes (IsAnswer request.now bytes) (W.contents out.old) (W.contents out.new) result) }
     ensures reads { TellsOfReads (R.has_failed reader.old) (R.has_failed reader.new) result }
     ensures writes { TellsOfWrites (W.has_failed out.old) (W.has_failed out.new) result }
+    ensures votes { has_votes request.now.demand ≡ true → (reader.new ≡ reader.old) × (result ≢ Err Refusal.Memory) }
 {
-    let profile = prepare(alloc, request, reader)?;
-    let size = request.size();
-    match request.rule() {
-        Rule::Scored(rule) => written(print_scored(out, &profile, rule, size)),
-        Rule::Sequential(rule) => match SeqWinners::new(alloc, &profile, rule, size, None) {
-            Ok(winners) => written(print_sequential(out, winners, rule, size)),
-            Err(_) => Err(Refusal::Memory),
+    match request.task() {
+        Task::Elect(rule, size) => {
+            let profile = read_ballots(alloc, &request.pick(), reader)?;
+            answer_election(alloc, out, &profile, *rule, *size)
+        }
+        Task::Check(property, committee) => {
+            let profile = read_ballots(alloc, &request.pick(), reader)?;
+            answer_check(out, &profile, *property, committee.as_slice())
+        }
+        Task::Share(method, seats, votes) => match votes {
+            Some(votes) => answer_share(out, votes.as_slice(), *method, *seats),
+            None => {
+                let profile = read_ballots(alloc, &request.pick(), reader)?;
+                answer_share_of_ballots(out, &profile, *method, *seats)
+            }
         },
-    }
-}
-
-/// What a failed write is to a run.
-fn written(printed: Result<(), WriteFailed>) -> Result<(), Refusal>
-    ensures { IsWritten printed result }
-{
-    match printed {
-        Ok(()) => Ok(()),
-        Err(_) => Err(Refusal::WriteFailed),
     }
 }
 
@@ -137,7 +81,8 @@ fn refuse<E: Sink>(err: &mut E, refusal: Refusal) -> Status
 /// Answers a request over the bytes of a reader: writes the answer to `out`, or a line to `err`.
 ///
 /// The input is read to its end, whatever stands in it. Only then is the request tested, and only then something
-/// written. No memory is taken after the first write.
+/// written. No memory is taken after the first write. Where the votes stand in the request, nothing is read, and no
+/// memory is taken.
 pub fn run<A: Allocator + Copy + Drop, R: Source, W: Sink, E: Sink>(
     alloc: A,
     request: &Request,
@@ -150,9 +95,11 @@ pub fn run<A: Allocator + Copy + Drop, R: Source, W: Sink, E: Sink>(
         Ends request.now bytes (W.contents out.old) (W.contents out.new) (E.contents err.old) (E.contents err.new) (E.has_failed err.new) result) }
     // Devices are blamed just where one has failed.
     ensures devices { TellsOf result (R.has_failed reader.old) (R.has_failed reader.new) (W.has_failed out.old) (W.has_failed out.new) }
+    // With votes in the request the reader is left alone, and memory is not wanted.
+    ensures votes { has_votes request.now.demand ≡ true → (reader.new ≡ reader.old) × (result ≢ Status.NoMemory) }
 {
     match answer(alloc, request, reader, out) {
-        Ok(()) => Status::Answered,
+        Ok(verdict) => verdict.status(),
         Err(refusal) => refuse(err, refusal),
     }
 }

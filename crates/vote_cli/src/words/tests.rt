@@ -1,7 +1,9 @@
-use super::{LineFault, read_request};
-use crate::request::{Request, Rule, ScoredRule};
+use super::{LineFault, ListOption, read_request};
+use crate::request::{Request, Rule, ScoredRule, Task};
 use ballot_base::ThieleRule;
+use group_check::Property;
 use preflib_text::{Kind, Pick, Way};
+use seat_share::Method;
 use std::alloc::Global;
 use std::test::Fail;
 
@@ -14,18 +16,80 @@ fn read(alloc: Global, line: &str) -> Result<Result<Request, LineFault>, Fail> {
 }
 
 #[test]
-fn reads_requests(rt: HostRuntime) -> Result<(), Fail> {
+fn reads_elections(rt: HostRuntime) -> Result<(), Fail> {
     let alloc = rt.alloc();
+    let av = Rule::Scored(ScoredRule::Thiele(ThieleRule::Av));
     let request = read(alloc, "committees elect --rule av --size 007")?.expect(&rt, "no file");
-    assert_eq!(rt;
-        request.rule(),
-        Rule::Scored(ScoredRule::Thiele(ThieleRule::Av))
-    );
-    assert_eq!(rt; request.size(), 7);
+    match request.task() {
+        Task::Elect(rule, size) => assert!(rt; *rule == av && *size == 7),
+        other => panic!(rt; "{other:?}"),
+    }
     assert!(rt; request.file().is_none());
     let request = read(alloc, "committees elect a.cat --size=40 --rule=av")?.expect(&rt, "a file");
-    assert_eq!(rt; request.size(), 40);
+    match request.task() {
+        Task::Elect(rule, size) => assert!(rt; *rule == av && *size == 40),
+        other => panic!(rt; "{other:?}"),
+    }
     assert!(rt; request.file() == Some("a.cat"));
+    Ok(())
+}
+
+#[test]
+fn reads_checks(rt: HostRuntime) -> Result<(), Fail> {
+    let alloc = rt.alloc();
+    let lines: [(&str, Property, &[u64]); 4] = [
+        ("jr --committee 3,1", Property::Jr, &[3, 1]),
+        ("pjr --committee=007", Property::Pjr, &[7]),
+        ("ejr --committee 0,0", Property::Ejr, &[0, 0]),
+        (
+            "ejr --committee 18446744073709551615",
+            Property::Ejr,
+            &[u64::MAX],
+        ),
+    ];
+    for (words, wanted, members) in lines {
+        let line = format!(in alloc; "committees check --property {words}")?;
+        let request = read(alloc, line.as_str())?.expect(&rt, words);
+        match request.task() {
+            Task::Check(property, committee) => assert!(rt;
+                *property == wanted && committee.as_slice() == members,
+                "{words}"
+            ),
+            other => panic!(rt; "{other:?}"),
+        }
+    }
+    Ok(())
+}
+
+#[test]
+fn reads_sharings(rt: HostRuntime) -> Result<(), Fail> {
+    let alloc = rt.alloc();
+    let lines: [(&str, Method, u16, Option<&[u64]>); 6] = [
+        ("hamilton --seats 1", Method::Hamilton, 1, None),
+        (
+            "dhondt --seats 10000 --votes 53,24,23",
+            Method::Dhondt,
+            10_000,
+            Some(&[53, 24, 23]),
+        ),
+        ("saintelague --seats=02", Method::SainteLague, 2, None),
+        ("huntington --seats 3", Method::Huntington, 3, None),
+        ("adams --votes=0 --seats 4", Method::Adams, 4, Some(&[0])),
+        ("dean --seats 5 a.soi", Method::Dean, 5, None),
+    ];
+    for (words, wanted, number, given) in lines {
+        let line = format!(in alloc; "committees share --method {words}")?;
+        let request = read(alloc, line.as_str())?.expect(&rt, words);
+        match request.task() {
+            Task::Share(method, seats, votes) => assert!(rt;
+                *method == wanted
+                    && *seats == number
+                    && votes.as_ref().map(|votes| votes.as_slice()) == given,
+                "{words}"
+            ),
+            other => panic!(rt; "{other:?}"),
+        }
+    }
     Ok(())
 }
 
@@ -88,22 +152,111 @@ fn reads_endings(rt: HostRuntime) -> Result<(), Fail> {
     Ok(())
 }
 
+/// Asserts that each line is refused after `clap`, and the line on it.
+fn assert_refused(
+    rt: &impl Abort,
+    alloc: Global,
+    lines: &[&str],
+    wanted: &str,
+) -> Result<(), Fail> {
+    for line in lines {
+        match read(alloc, line)? {
+            Err(fault) => assert!(rt; fault.line() == Some(wanted), "{line}: {fault:?}"),
+            Ok(request) => panic!(rt; "{line}: {request:?}"),
+        }
+    }
+    Ok(())
+}
+
 #[test]
 fn refuses_two_picks(rt: HostRuntime) -> Result<(), Fail> {
-    let alloc = rt.alloc();
     let lines = [
         "committees elect --rule av --size 1 --category 1 --setsize 1",
         "committees elect --rule av --size 1 --category 1 --classes 1",
         "committees elect --setsize 2 --rule av --size 1 --classes 2 a.soc",
         "committees elect --rule av --size 1 --category 1 --setsize 1 --classes 1",
+        "committees check --property jr --committee 1 --category 1 --setsize 1",
+        "committees share --method dean --seats 1 --category 1 --setsize 1",
+        "committees share --method dean --seats 1 --votes 1 --category 1 --setsize 1",
     ];
-    for line in lines {
-        match read(alloc, line)? {
-            Err(LineFault::TwoPicks) => {}
-            other => panic!(rt; "{line}: {other:?}"),
+    assert_refused(&rt, rt.alloc(), &lines, "committees: words: TwoPicks")
+}
+
+#[test]
+fn refuses_lists(rt: HostRuntime) -> Result<(), Fail> {
+    let alloc = rt.alloc();
+    let lists = [
+        "",
+        "1,",
+        ",1",
+        "1,,2",
+        "+1",
+        "-1",
+        "1;2",
+        "a",
+        "18446744073709551616",
+    ];
+    for list in lists {
+        let check = format!(in alloc; "committees check --property jr --committee={list}")?;
+        match read(alloc, check.as_str())? {
+            Err(LineFault::BadList(ListOption::Committee)) => {}
+            other => panic!(rt; "{list}: {other:?}"),
+        }
+        let share = format!(in alloc; "committees share --method dean --seats 1 --votes={list}")?;
+        match read(alloc, share.as_str())? {
+            Err(LineFault::BadList(ListOption::Votes)) => {}
+            other => panic!(rt; "{list}: {other:?}"),
         }
     }
     Ok(())
+}
+
+#[test]
+fn refuses_lists_before_all_else(rt: HostRuntime) -> Result<(), Fail> {
+    let alloc = rt.alloc();
+    let checks = ["committees check --property jr --committee 1, --category 1 --classes 1 a.cat"];
+    assert_refused(
+        &rt,
+        alloc,
+        &checks,
+        "committees: words: BadList --committee",
+    )?;
+    let sharings = [
+        "committees share --method dean --seats 1 --votes 1, --category 1 --classes 1 a.cat",
+    ];
+    assert_refused(&rt, alloc, &sharings, "committees: words: BadList --votes")
+}
+
+#[test]
+fn refuses_votes_beside_an_input(rt: HostRuntime) -> Result<(), Fail> {
+    let lines = [
+        "committees share --method dean --seats 1 --votes 1 a.soi",
+        "committees share --method dean --seats 1 --votes 1 --kind soi",
+        "committees share --method dean --seats 1 --votes 1 --category 1",
+        "committees share --method dean --seats 1 --votes 1 --setsize 1",
+        "committees share --classes 1 --method dean --seats 1 --votes 1",
+    ];
+    assert_refused(&rt, rt.alloc(), &lines, "committees: words: VotesAndInput")
+}
+
+#[test]
+fn an_empty_file_is_a_file(rt: HostRuntime) -> Result<(), Fail> {
+    let alloc = rt.alloc();
+    let mut words = Vec::new(alloc);
+    for word in [
+        "committees",
+        "share",
+        "--method=dean",
+        "--seats=1",
+        "--votes=1",
+        "",
+    ] {
+        words.push(word.to_string(alloc)?)?;
+    }
+    match read_request(alloc, words.as_slice()) {
+        Err(LineFault::VotesAndInput) => Ok(()),
+        other => panic!(rt; "{other:?}"),
+    }
 }
 
 #[test]
@@ -114,6 +267,14 @@ fn answers_with_help(rt: HostRuntime) -> Result<(), Fail> {
         (
             "committees elect -h",
             "Usage: committees elect [OPTIONS] --rule <RULE> --size <SIZE> [FILE]",
+        ),
+        (
+            "committees check -h",
+            "Usage: committees check [OPTIONS] --property <PROPERTY> --committee <LIST> [FILE]",
+        ),
+        (
+            "committees share --help",
+            "Usage: committees share [OPTIONS] --method <METHOD> --seats <SEATS> [FILE]",
         ),
     ];
     for (line, usage) in lines {
@@ -144,6 +305,16 @@ fn refuses_words(rt: HostRuntime) -> Result<(), Fail> {
         "committees elect --rule av --size 1 --classes 1 --classes 1",
         "committees elect --rule av --size 0 --category 1 --classes 1",
         "committees share --rule av --size 1",
+        "committees check --committee 1",
+        "committees check --property jr",
+        "committees check --property ejrplus --committee 1",
+        "committees check --property jr --committee 1 --votes 1",
+        "committees share --method dean --seats 0",
+        "committees share --method dean --seats 10001",
+        "committees share --method jefferson --seats 1",
+        "committees share --method dean --seats 1 --after 1",
+        "committees share --method dean --seats 1 --votes 1 --votes 1",
+        "committees share --method dean --seats 1 --committee 1",
         "committees --version",
     ];
     for line in lines {

@@ -1,16 +1,52 @@
-use Rattle.std.proofs.Common.{sym, ap, ◌∙◌}
-use Rattle.vote_cli.specs.declared.request.Rule.TheVariants.{Scored, Sequential}
-use Rattle.vote_cli.specs.Text.{sequential_text}
-use Rattle.vote_cli.proofs.RunLemmas.{answers_written, printed_as}
+use Rattle.std.proofs.Common.{sym, ap, ◌∙◌, ◌≡◌, None}
+use Rattle.std.specs.Prelude.{option_map}
+use Rattle.std.specs.Vec.{vec_items}
+use Rattle.std.proofs.KnownBytes.{Appends-nil}
+use Rattle.vote_cli.specs.Answer.{IsCheckAnswer, ballots_answer, election_answer}
+use Rattle.vote_cli.specs.Request.{demand_of, electing, checking, sharing}
+use Rattle.vote_cli.proofs.RunLemmas.{concludes_over, concludes_unread}
 use Rattle.vote_cli.proofs.whole_run.answer.Goals as goal
 
-pub returns-in-Scored-clause-answer : goal.returns-in-Scored-clause-answer
-returns-in-Scored-clause-answer g c =
-    answers_written _ c.args.request.now c.in_ok-profile.profile _ _ _ _ (Scored c.in-Scored.rule) c.size-size.result c.print_scored.result c.written.result c.written.ensures
-    (sym c.in-Scored.is ∙ c.rule.ensures) c.size-size.ensures.value c.in_ok-profile.ensures.fits c.in_ok-profile.ensures.input c.print_scored.ensures
+pub returns-in_err-profile-in-Elect-clause-answer : goal.returns-in_err-profile-in-Elect-clause-answer
+returns-in_err-profile-in-Elect-clause-answer g c =
+    concludes_unread _ c.args.request.now (electing c.in-Elect.rule c.in-Elect.size)
+    (λ election answer. answer ≡ election_answer c.in-Elect.rule c.in-Elect.size election) c.pick.result (λ pick bytes answer h. h)
+    (sym (ap demand_of c.in-Elect.is) ∙ c.task.ensures.value) c.pick.ensures.value _ _ c.in_err-profile-in-Elect.field-0.0 c.read_ballots.result c.from_residual.result
+    c.in_err-profile-in-Elect.was c.from_residual.ensures c.read_ballots.ensures.input (Appends-nil _)
 
-pub returns-in-Ok-clause-answer : goal.returns-in-Ok-clause-answer
-returns-in-Ok-clause-answer g c =
-    answers_written _ c.args.request.now c.in_ok-profile.profile _ _ _ _ (Sequential c.in-Sequential.rule) c.size-size.result c.print_sequential.result c.written-in-Ok.result c.written-in-Ok.ensures
-    (sym c.in-Sequential.is ∙ c.rule.ensures) c.size-size.ensures.value c.in_ok-profile.ensures.fits c.in_ok-profile.ensures.input
-    (printed_as (ap (λ winners. sequential_text winners c.in-Sequential.rule c.size-size.result) c.in-Ok.ensures) c.print_sequential.ensures)
+pub returns-in_err-profile-in-Check-clause-answer : goal.returns-in_err-profile-in-Check-clause-answer
+returns-in_err-profile-in-Check-clause-answer g c =
+    concludes_unread _ c.args.request.now (checking c.in-Check.property (vec_items c.in-Check.committee))
+    (IsCheckAnswer c.in-Check.property (vec_items c.in-Check.committee)) c.pick-in-Check.result (λ pick bytes answer h. h)
+    (sym (ap demand_of c.in-Check.is) ∙ c.task.ensures.value) c.pick-in-Check.ensures.value _ _ c.in_err-profile-in-Check.field-0.0 c.read_ballots-in-Check.result c.from_residual-in_err-profile-in-Check.result
+    c.in_err-profile-in-Check.was c.from_residual-in_err-profile-in-Check.ensures c.read_ballots-in-Check.ensures.input (Appends-nil _)
+
+pub returns-in_err-profile-in-None-clause-answer : goal.returns-in_err-profile-in-None-clause-answer
+returns-in_err-profile-in-None-clause-answer g c =
+    concludes_unread _ c.args.request.now (sharing c.in-Share.method c.in-Share.seats None)
+    (λ election answer. answer ≡ ballots_answer c.in-Share.method c.in-Share.seats election) c.pick-in-None.result (λ pick bytes answer h. h)
+    (ap (λ votes. sharing c.in-Share.method c.in-Share.seats (option_map vec_items votes)) (sym c.in-None.is)
+    ∙ sym (ap demand_of c.in-Share.is) ∙ c.task.ensures.value) c.pick-in-None.ensures.value _ _ c.in_err-profile-in-None.field-0.0 c.read_ballots-in-None.result c.from_residual-in_err-profile-in-None.result
+    c.in_err-profile-in-None.was c.from_residual-in_err-profile-in-None.ensures c.read_ballots-in-None.ensures.input (Appends-nil _)
+
+pub returns-in_ok-profile-in-Elect-clause-answer : goal.returns-in_ok-profile-in-Elect-clause-answer
+returns-in_ok-profile-in-Elect-clause-answer g c =
+    concludes_over _ c.args.request.now (electing c.in-Elect.rule c.in-Elect.size)
+    (λ election answer. answer ≡ election_answer c.in-Elect.rule c.in-Elect.size election) c.pick.result (λ pick bytes answer h. h)
+    (sym (ap demand_of c.in-Elect.is) ∙ c.task.ensures.value) c.pick.ensures.value _ _ c.in_ok-profile-in-Elect.profile c.read_ballots.result c.answer_election.result
+    c.in_ok-profile-in-Elect.was c.read_ballots.ensures.input c.answer_election.ensures.answer
+
+pub returns-in_ok-profile-in-Check-clause-answer : goal.returns-in_ok-profile-in-Check-clause-answer
+returns-in_ok-profile-in-Check-clause-answer g c =
+    concludes_over _ c.args.request.now (checking c.in-Check.property c.as_slice.result.now)
+    (IsCheckAnswer c.in-Check.property c.as_slice.result.now) c.pick-in-Check.result (λ pick bytes answer h. h)
+    (ap (checking c.in-Check.property) c.as_slice.ensures.value ∙ sym (ap demand_of c.in-Check.is) ∙ c.task.ensures.value) c.pick-in-Check.ensures.value _ _ c.in_ok-profile-in-Check.profile c.read_ballots-in-Check.result c.answer_check.result
+    c.in_ok-profile-in-Check.was c.read_ballots-in-Check.ensures.input c.answer_check.ensures.answer
+
+pub returns-in_ok-profile-in-None-clause-answer : goal.returns-in_ok-profile-in-None-clause-answer
+returns-in_ok-profile-in-None-clause-answer g c =
+    concludes_over _ c.args.request.now (sharing c.in-Share.method c.in-Share.seats None)
+    (λ election answer. answer ≡ ballots_answer c.in-Share.method c.in-Share.seats election) c.pick-in-None.result (λ pick bytes answer h. h)
+    (ap (λ votes. sharing c.in-Share.method c.in-Share.seats (option_map vec_items votes)) (sym c.in-None.is)
+    ∙ sym (ap demand_of c.in-Share.is) ∙ c.task.ensures.value) c.pick-in-None.ensures.value _ _ c.in_ok-profile-in-None.profile c.read_ballots-in-None.result c.answer_share_of_ballots.result
+    c.in_ok-profile-in-None.was c.read_ballots-in-None.ensures.input c.answer_share_of_ballots.ensures.answer

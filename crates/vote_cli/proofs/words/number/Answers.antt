@@ -7,9 +7,9 @@ use Rattle.vote_cli.specs.Words.{number_of}
 use Rattle.vote_cli.proofs.WordsLemmas.{count_read}
 use Rattle.vote_cli.proofs.words.number.Goals as goal
 
-read : (c : goal.After-get_one) → (c.get_one.result ≡ option_map number_of (one_of c.args.name.now (rows_of (found_of c.args.elect.now)))) × IfSome c.get_one.result (λ n. 1 ≤ n)
+read : (c : goal.After-get_one) → (c.get_one.result ≡ option_map number_of (one_of c.args.name.now (rows_of (found_of c.args.command.now)))) × IfSome c.get_one.result (λ n. 1 ≤ n)
 read c =
-    let same = one_text-rows (found_of c.args.elect.now) c.args.name.now in
+    let same = one_text-rows (found_of c.args.command.now) c.args.name.now in
     count_read _ (λ bs r. ParsesUnsigned 32 10 bs r × ExplainsUnsignedError 10 bs r × HasUnsignedDigitsIfOk bs r) _ c.get_one.result
     (λ e. c.get_one.ensures.none (same ∙ e)) (λ t e. c.get_one.ensures.value t (same ∙ e)) (λ u x g. g.0) c.requires
 

@@ -1,0 +1,267 @@
+-- Answers and what runs leave, computed on small examples.
+use Rattle.std.proofs.Common.{◌≡◌, ◌≢◌, ℕ, zero, suc, arith, List, [], ◌∷◌, ◌++◌, true, false, Some, None, Ok, Err, inl, inr, refl, lit≤}
+use Rattle.std.specs.Prelude.{codes}
+use Rattle.std.proofs.lemmas.Bool.{both_ways}
+use Rattle.std.specs.Fmt.{digits}
+use Rattle.ballot_base.specs.Lists.{lists_of}
+use Rattle.ballot_base.specs.Ballots.{Election, Row, election}
+use Rattle.ballot_base.specs.declared.increments.ThieleRule.TheVariants.{Av, Geom3}
+use Rattle.vote_cli.specs.declared.request.Rule.TheVariants.{Scored, Sequential}
+use Rattle.tie_walk.specs.declared.sequential.SeqRule.TheVariants.{SeqPav, RevSeqPav}
+use Rattle.vote_cli.specs.declared.request.ScoredRule.TheVariants.{Thiele, Satisfaction, Minimax}
+use Rattle.vote_cli.specs.declared.status.Status.TheVariants.{Answered, Violated, InputRefused, RequestRefused, NoMemory, DeviceFailed}
+use Rattle.vote_cli.specs.declared.input.InputFault.TheVariants as fault
+use Rattle.vote_cli.specs.declared.answers.Verdict.TheVariants as verdict
+use Rattle.vote_cli.specs.declared.refusal.Misfit.TheVariants as refusal_words
+use Rattle.vote_cli.specs.declared.refusal.Refusal.TheVariants as refusal
+use Rattle.vote_cli.specs.Request.{Asked, Demand, electing, checking, sharing, InRange}
+use Rattle.vote_cli.specs.Device.{is_failed_write, AppendsBeginning}
+use Rattle.vote_cli.specs.Input.{TellsOfInput}
+use Rattle.vote_cli.specs.Status.{code_of}
+use Rattle.ballot_base.specs.Increments.{increments}
+use Rattle.ballot_base.specs.CommonMultiple.{common_multiple}
+use Rattle.vote_cli.specs.Text.{line, numbers_text, following_text, rule_word, committees_text, head_text, elected_text}
+use Rattle.seat_share.specs.declared.method.Method.TheVariants.{Hamilton, Dhondt, SainteLague, Huntington, Adams, Dean}
+use Rattle.seat_share.specs.Allocations.{lists_with_sum, allocations}
+use Rattle.vote_cli.specs.Parties.{has_many_approved, approvals_of, party_votes}
+use Rattle.vote_cli.specs.ShareText.{method_word, method_lines, allocations_text, share_text}
+use Rattle.vote_cli.specs.Printing.{Prints, outlet}
+use Rattle.vote_cli.specs.Answer.{Answer, answered, violated, refused, misfit, election_answer, IsCheckAnswer, share_answer, share_answer_by, ballots_answer, IsAnswer, has_votes, Reports, Ends, TellsOf, memory_line, read_failed_line, write_failed_line}
+use Rattle.vote_cli.specs.Refusals.{IsRefusal, status_of, error_of, Prepares, TellsOfReads, TellsOfWrites, Concludes, IsWritten, verdict_status}
+use Rattle.vote_cli.specs.Misfits.{misfit_word, share_word}
+use Rattle.ballot_base.specs.Lists.{IsIncreasing}
+use Rattle.group_check.specs.declared.property.Property.TheVariants.{Jr}
+use Rattle.group_check.specs.declared.property.Violation.{Violation}
+use Rattle.group_check.specs.Groups.{Breaks, HasProperty}
+use Rattle.group_check.specs.Report.{IsReport, first_violation}
+use Rattle.group_check.proofs.BreakLemmas.{no_group, above_greatest}
+use Rattle.seat_share.specs.declared.method.ShareFault.TheVariants.{NoParties, TooManyVotes, BadSeats}
+use Rattle.vote_cli.specs.FaultText.{fault_text, fault_word, place_text}
+use Rattle.preflib_text.specs.declared.fault.FaultName.TheVariants as name
+use Rattle.preflib_text.specs.declared.pick.Pick.{Pick}
+use Rattle.preflib_text.specs.declared.pick.Way.TheVariants.{Usual}
+use Rattle.preflib_text.specs.Lines.{pieces_of, without_return, trim_start}
+use Rattle.preflib_text.specs.Reading.{Reads, at_end, at_line}
+use Rattle.preflib_text.specs.BallotTokens.{ballot_of, order_at, tokens_after}
+use Rattle.preflib_text.specs.Metadata.{words_of}
+use Rattle.preflib_text.proofs.BallotLines.{ballot_of_reads}
+
+-- two voters approve 1 and 2, and one approves 3
+abbrev rows : List Row
+rows = (1 ∷ 2 ∷ [], 2) ∷ (3 ∷ [], 1) ∷ []
+
+abbrev three : Election
+three = election 3 ([] ∷ [] ∷ [] ∷ []) rows
+
+-- ---- answers
+abbrev usual : Pick
+usual = record { kind = None; ending = None; way = Usual }
+
+abbrev asking : Demand → Asked
+asking demand = record { demand = demand; pick = usual; file = None }
+
+-- so many seats by approval voting
+abbrev seats : ℕ → Asked
+seats size = asking (electing (Scored (Thiele Av)) size)
+
+abbrev text : List ℕ
+text = line (codes "rule av") ++ line (codes "size 1") ++ line (codes "score 2/1") ++ line (codes "1") ++ line (codes "2") ++ line (codes "end")
+
+answer_to_one : election_answer (Scored (Thiele Av)) 1 three ≡ record { text = text; status = Answered; error = [] }
+unfolding digits lists_of increments
+answer_to_one = refl
+
+answer_to_four : election_answer (Scored (Thiele Av)) 4 three ≡ misfit (codes "SizeTooLarge")
+answer_to_four = refl
+
+-- a list that falls is no committee
+falling : IsIncreasing 1 3 (3 ∷ 1 ∷ []) → ⊥
+falling h = omega (arith, h.2.0)
+
+answer_to_falling : IsCheckAnswer Jr (3 ∷ 1 ∷ []) three (misfit (codes "CommitteeMisfit"))
+answer_to_falling = inl (falling, refl)
+
+-- 1 and 3 stand for all voters
+one_and_three : IsIncreasing 1 3 (1 ∷ 3 ∷ [])
+one_and_three = (lit≤ tt, lit≤ tt, (lit≤ tt, lit≤ tt, tt))
+
+nobody_breaks : first_violation Jr three (1 ∷ 3 ∷ []) 1 ≡ None
+unfolding lists_of
+nobody_breaks = refl
+
+all_stand : HasProperty Jr three (1 ∷ 3 ∷ [])
+all_stand zero least most some = omega (arith, least)
+all_stand (suc zero) least most some = no_group Jr three (1 ∷ 3 ∷ []) 1 one_and_three (lit≤ tt) (lit≤ tt) nobody_breaks some
+all_stand (suc (suc level)) least most some = above_greatest Jr three (1 ∷ 3 ∷ []) (suc (suc level)) most (omega arith) some
+
+answer_to_holds : IsCheckAnswer Jr (1 ∷ 3 ∷ []) three (answered (line (codes "holds")))
+answer_to_holds = inr (inl (one_and_three, all_stand, refl))
+
+-- three voters approve 1 and 2, and one approves 3 and 4: the committee of 3 and 4 leaves three of four with nobody
+divided : Election
+divided = election 4 ([] ∷ [] ∷ [] ∷ [] ∷ []) ((1 ∷ 2 ∷ [], 3) ∷ (3 ∷ 4 ∷ [], 1) ∷ [])
+
+abbrev shown : Violation
+shown = record { property = Jr; committee = 3 ∷ 4 ∷ []; level = 1; shared = 1 ∷ []; within = []; voters = 3 }
+
+its_group_breaks : Breaks Jr divided (3 ∷ 4 ∷ []) 1 (3 ∷ 0 ∷ [])
+unfolding divided
+its_group_breaks = refl
+
+report : IsReport Jr divided (3 ∷ 4 ∷ []) shown
+unfolding divided lists_of
+report = record { low = lit≤ tt; high = lit≤ tt; breaks = its_group_breaks; least = λ level from to some. omega (arith, from, to); first = refl }
+
+answer_to_violated : IsCheckAnswer Jr (3 ∷ 4 ∷ []) divided (violated
+    (line (codes "violated jr") ++ line (codes "level 1") ++ line (codes "candidates 1") ++ line (codes "voters 3 of 4") ++ line (codes "3: 1,2")))
+unfolding divided digits
+answer_to_violated = inr (inr ((lit≤ tt, lit≤ tt, (lit≤ tt, lit≤ tt, tt)), (shown, report, refl)))
+
+-- seats by votes, and by ballots: the ballot for 1 and 2 is for no one party
+answer_to_votes : share_answer Dhondt 2 (3 ∷ 1 ∷ []) ≡ answered (line (codes "method dhondt") ++ line (codes "seats 2") ++ line (codes "2,0") ++ line (codes "end"))
+unfolding digits lists_with_sum
+answer_to_votes = refl
+
+answer_to_no_votes : share_answer Dhondt 2 (0 ∷ 0 ∷ []) ≡ misfit (codes "NoVotes")
+answer_to_no_votes = refl
+
+answer_to_many : ballots_answer Dhondt 2 three ≡ misfit (codes "ManyApproved")
+answer_to_many = refl
+
+fault_answers : (share_answer_by (Some TooManyVotes) [] ≡ misfit (codes "TooManyVotes")) × (share_answer_by None (codes "a") ≡ answered (codes "a"))
+fault_answers = (refl, refl)
+
+words_of_misfits : (misfit_word refusal_words.ManyApproved ≡ codes "ManyApproved") × (misfit_word (refusal_words.Share NoParties) ≡ codes "NoParties") × (share_word BadSeats ≡ codes "BadSeats")
+words_of_misfits = (refl, refl, refl)
+
+votes_in_words : (has_votes (sharing Dhondt 2 (Some (1 ∷ []))) ≡ true) × (has_votes (sharing Dhondt 2 None) ≡ false)
+votes_in_words = (refl, refl)
+
+in_range : InRange (electing (Scored (Thiele Av)) 40) × InRange (checking Jr (9 ∷ [])) × InRange (sharing Dhondt 10000 None)
+in_range = ((lit≤ tt, lit≤ tt), (λ none. let h : 9 ∷ [] ≡ [] = none in cc), (lit≤ tt, lit≤ tt, tt))
+
+no_refusal : answered (codes "a") ≡ record { text = codes "a"; status = Answered; error = [] }
+no_refusal = refl
+
+a_refusal : refused InputRefused (codes "a") ≡ record { text = []; status = InputRefused; error = line (codes "a") }
+a_refusal = refl
+
+-- what is said of a fault of a line, and of one of the end
+fault_texts : (fault_text (at_line 20 name.BadBallot) ≡ codes "committees: input line 20: BadBallot") × (fault_text (at_end name.NoVoters) ≡ codes "committees: input: NoVoters")
+unfolding digits
+fault_texts = (refl, refl)
+
+fault_parts : (place_text (Some 7) ≡ codes " line 7: ") × (place_text None ≡ codes ": ") × (fault_word name.PickMisfit ≡ codes "PickMisfit")
+unfolding digits
+fault_parts = (refl, refl, refl)
+
+-- the bytes of a file, and no bytes
+abbrev example_text : List ℕ
+example_text = line (codes "# DATA TYPE: cat") ++ line (codes "# NUMBER ALTERNATIVES: 3") ++ line (codes "# NUMBER CATEGORIES: 2") ++ line (codes "2: {1,2},3") ++ line (codes "1: 3,{1,2}")
+
+pub reads_three : Reads example_text usual (Ok three)
+unfolding pieces_of without_return trim_start words_of tokens_after order_at
+reads_three = (ballot_of, ballot_of_reads, refl)
+
+pub reads_nothing : Reads [] usual (Err (at_end name.NoAlternatives))
+unfolding pieces_of
+reads_nothing = (ballot_of, ballot_of_reads, refl)
+
+right_answer : IsAnswer (seats 4) example_text (misfit (codes "SizeTooLarge"))
+right_answer = (Ok three, reads_three, refl)
+
+-- with votes in the words the bytes do not matter
+right_share : IsAnswer (asking (sharing Dhondt 2 (Some (0 ∷ 0 ∷ [])))) example_text (misfit (codes "NoVotes"))
+right_share = refl
+
+lines : (memory_line ≡ codes "committees: memory" ++ 10 ∷ []) × (read_failed_line ≡ codes "committees: read failed" ++ 10 ∷ [])
+    × (write_failed_line ≡ codes "committees: write failed" ++ 10 ∷ [])
+lines = (refl, refl, refl)
+
+-- ---- devices
+failed_writes : (is_failed_write {E = ℕ} (Ok 0) (1 ∷ []) ≡ true) × (is_failed_write {E = ℕ} (Ok 0) [] ≡ false)
+    × (is_failed_write {E = ℕ} (Ok 1) (1 ∷ 2 ∷ []) ≡ false) × (is_failed_write {E = ℕ} (Err 1) [] ≡ true)
+failed_writes = (refl, refl, refl, refl)
+
+-- two bytes of three are taken
+two_of_three : AppendsBeginning (Some (7 ∷ [])) (Some (7 ∷ 1 ∷ 2 ∷ [])) (1 ∷ 2 ∷ 3 ∷ [])
+two_of_three = (1 ∷ 2 ∷ [], 3 ∷ [], refl, refl)
+
+failed_input : (TellsOfInput {T = ℕ} false true (Err fault.ReadFailed)) × (TellsOfInput {T = ℕ} false false (Err fault.Memory)) × (TellsOfInput {T = ℕ} false false (Ok 1))
+failed_input = (refl, refl, refl)
+
+-- a whole line, and a beginning of one
+reported : Reports (Some []) (Some (line (codes "a"))) false (line (codes "a"))
+reported = record { beginning = (line (codes "a"), [], refl, refl); whole = λ unfailed. refl }
+
+reported_in_part : Reports (Some []) (Some (codes "a")) true (line (codes "a"))
+reported_in_part = record { beginning = (codes "a", 10 ∷ [], refl, refl); whole = λ unfailed. absurd (both_ways true unfailed refl) }
+
+-- 3 is printed behind 1 and 2, of which 1 is sent
+printed : Prints (outlet (Some []) (1 ∷ 2 ∷ []) false) (outlet (Some (1 ∷ [])) (2 ∷ 3 ∷ []) false) true (3 ∷ [])
+printed = record { sent = 1 ∷ []; rest = 2 ∷ 3 ∷ []; order = refl; took = refl; whole = λ ok. (refl, refl); broken = λ ok. absurd (both_ways true ok refl) }
+
+-- a write of 1, 2 and 3 breaks off behind 1
+printed_in_part : Prints (outlet (Some []) (1 ∷ 2 ∷ []) false) (outlet (Some (1 ∷ [])) [] true) false (3 ∷ [])
+printed_in_part = record { sent = 1 ∷ []; rest = 2 ∷ 3 ∷ []; order = refl; took = refl; whole = λ ok. absurd (both_ways false refl ok); broken = λ ok. refl }
+
+-- ---- statuses
+status_codes : (code_of Answered ≡ 0) × (code_of Violated ≡ 1) × (code_of InputRefused ≡ 3) × (code_of RequestRefused ≡ 4) × (code_of NoMemory ≡ 5) × (code_of DeviceFailed ≡ 6)
+status_codes = (refl, refl, refl, refl, refl, refl)
+
+refusals : (status_of (refusal.Input (at_end name.NoAlternatives)) ≡ InputRefused) × (status_of refusal.WriteFailed ≡ DeviceFailed) × (error_of (refusal.Request refusal_words.ManyApproved) ≡ line (codes "committees: request: ManyApproved"))
+refusals = (refl, refl, refl)
+
+refusals_of_faults : (IsRefusal (at_line 4 name.BadCount) (refusal.Input (at_line 4 name.BadCount))) × (IsRefusal (at_line 4 name.Memory) refusal.Memory)
+refusals_of_faults = ((refl, λ same. let h : name.BadCount ≡ name.Memory = same in cc), refl)
+
+-- ---- what a run leaves
+right_of_one : IsAnswer (seats 1) example_text (answered text)
+unfolding digits lists_of increments
+right_of_one = (Ok three, reads_three, refl)
+
+ends_answered : Ends (seats 1) example_text (Some []) (Some text) (Some []) (Some []) false Answered
+ends_answered = record { answer = answered text; right = right_of_one; status_is = refl; text = refl; error = record { beginning = ([], [], refl, refl); whole = λ unfailed. refl } }
+
+ends_refused : Ends (seats 1) [] (Some []) (Some []) (Some []) (Some (line (codes "committees: input: NoAlternatives"))) false InputRefused
+ends_refused = record {
+  answer = refused InputRefused (codes "committees: input: NoAlternatives");
+  right = (Err (at_end name.NoAlternatives), reads_nothing, refl);
+  status_is = refl;
+  text = refl;
+  error = record { beginning = (line (codes "committees: input: NoAlternatives"), [], refl, refl); whole = λ unfailed. refl };
+}
+
+ends_without_memory : Ends (seats 1) [] (Some []) (Some []) (Some []) (Some memory_line) false NoMemory
+ends_without_memory = record { nothing = refl; error = record { beginning = (memory_line, [], refl, refl); whole = λ unfailed. refl } }
+
+-- a read failed, and the line on it was not taken whole
+ends_unread : Ends (seats 1) [] (Some []) (Some []) (Some []) (Some (codes "committees")) true DeviceFailed
+ends_unread = inl (record { nothing = refl; error = record { beginning = (codes "committees", codes ": read failed" ++ 10 ∷ [], refl, refl); whole = λ unfailed. absurd (both_ways true unfailed refl) } })
+
+-- a write failed behind the first line
+ends_in_part : Ends (seats 1) example_text (Some []) (Some (line (codes "rule av"))) (Some []) (Some write_failed_line) false DeviceFailed
+ends_in_part = inr (record {
+  answer = answered text;
+  right = right_of_one;
+  text = (line (codes "rule av"), line (codes "size 1") ++ line (codes "score 2/1") ++ line (codes "1") ++ line (codes "2") ++ line (codes "end"), refl, refl);
+  error = record { beginning = (write_failed_line, [], refl, refl); whole = λ unfailed. refl };
+})
+
+devices_told : (TellsOf DeviceFailed false false false true) × (TellsOf Answered false false true true)
+devices_told = (refl, (refl, refl))
+
+refusals_told : (TellsOfReads {T = ℕ} false true (Err refusal.ReadFailed)) × (TellsOfReads {T = ℕ} false false (Err refusal.Memory)) × (TellsOfWrites {T = ℕ} false true (Err refusal.WriteFailed)) × (TellsOfWrites {T = ℕ} false false (Ok 1))
+refusals_told = (refl, refl, refl, refl)
+
+prepared : (Prepares usual example_text (Ok three)) × (Prepares usual [] (Err (refusal.Input (at_end name.NoAlternatives)))) × (Prepares usual [] (Err refusal.Memory))
+prepared = (reads_three, reads_nothing, tt)
+
+concluded : Concludes (IsAnswer (seats 4) example_text) (Some []) (Some []) (Err (refusal.Request refusal_words.SizeTooLarge))
+concluded = (right_answer, refl)
+
+concluded_whole : Concludes (λ answer. answer ≡ answered (codes "a")) (Some []) (Some (codes "a")) (Ok verdict.Answered)
+concluded_whole = (codes "a", refl, refl)
+
+written_whole : (IsWritten verdict.Answered (Ok (record {})) (Ok verdict.Answered)) × (IsWritten verdict.Violated (Err (record {})) (Err refusal.WriteFailed)) × (verdict_status verdict.Violated ≡ Violated)
+written_whole = (refl, refl, refl)
