@@ -1,5 +1,5 @@
 -- Seats that are given one after the other.
-use Rattle.std.proofs.Common.{◌≡◌, ℕ, zero, suc, ◌+◌, ◌-◌, ◌*◌, ◌^◌, ◌<◌, ◌≤◌, ◌⊎◌, Bool, true, false, cond, List, [], ◌∷◌, ◌++◌, Option, Some, None, refl, sym, ap, subst, ◌∙◌, inl, inr, arith, map, sum, sum_by, count_by, length, take, set, get_or, append_assoc, mul-le-mul}
+use Rattle.std.proofs.Common.{◌≡◌, ℕ, zero, suc, ◌+◌, ◌-◌, ◌*◌, ◌^◌, ◌<◌, ◌≤◌, true, false, List, [], ◌∷◌, ◌++◌, Option, Some, None, refl, sym, ap, subst, ◌∙◌, inl, inr, arith, sum, length, take, set, get_or, append_assoc, mul-le-mul}
 use Rattle.std.specs.Prelude.{⊤}
 use Rattle.std.specs.List.{AllByRecursion}
 use Rattle.std.proofs.lemmas.List.Sums.{sum_by-cons, sum_by-append}
@@ -7,12 +7,12 @@ use Rattle.std.proofs.lemmas.List.{take_more}
 use Rattle.seat_share.specs.declared.award.Claimant.{Claimant}
 use Rattle.seat_share.specs.declared.contender.Contender.{Contender}
 use Rattle.seat_share.specs.Quotients.{Quotient, is_at_least}
-use Rattle.seat_share.specs.Standings.{Stands, Keeps, IsGreatest, AreWithin, votes_of, seats_of, tied_count}
+use Rattle.seat_share.specs.Standings.{Stands, Keeps, IsGreatest, AreWithin, votes_of, seats_of}
 use Rattle.seat_share.specs.declared.method.Method.{Method}
 use Rattle.seat_share.specs.declared.method.Method.TheVariants.{Hamilton, Dhondt, SainteLague, Huntington, Adams, Dean}
 use Rattle.seat_share.specs.Claims.{claim}
-use Rattle.seat_share.proofs.Order.{absurd, le-true, over_zeros, over_zero_and_some, at_least-total, at_least-trans}
-use Rattle.seat_share.proofs.Threshold.{impossible, none_or_some, either, not-true}
+use Rattle.seat_share.proofs.Order.{le-true, over_zeros, over_zero_and_some, at_least-total, at_least-trans}
+use Rattle.seat_share.proofs.Threshold.{impossible, either, not-true}
 
 -- ---- lists
 module _ {X : Type 0} where

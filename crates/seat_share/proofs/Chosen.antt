@@ -1,13 +1,13 @@
 -- Of all lists with the sum, those that give each party its certain seats, and to tied ones at most one more, are the
 -- choices.
-use Rattle.std.proofs.Common.{◌≡◌, ℕ, zero, suc, ◌+◌, ◌-◌, ◌<◌, ◌≤◌, ◌==◌, ◌⊎◌, ◌&&◌, Bool, true, false, cond, List, [], ◌∷◌, ◌++◌, refl, sym, ap, ap₂, ◌∙◌, inl, inr, arith, map, filter, length, append-nil}
+use Rattle.std.proofs.Common.{◌≡◌, ℕ, zero, suc, ◌+◌, ◌-◌, ◌<◌, ◌≤◌, ◌&&◌, Bool, true, false, cond, List, [], ◌∷◌, ◌++◌, refl, ap, ap₂, ◌∙◌, inl, inr, arith, map, filter, length, append-nil}
 use Rattle.std.specs.Prelude.{nat_le, flat_map}
 use Rattle.std.specs.List.{range_with_len}
 use Rattle.std.proofs.lemmas.List.Elements.{filter-append}
 use Rattle.std.proofs.lemmas.Grind.{flat_map-append}
 use Rattle.seat_share.specs.Allocations.{lists_with_sum}
 use Rattle.seat_share.specs.Choices.{Standing, choices}
-use Rattle.seat_share.proofs.Order.{absurd, le-true, le-false}
+use Rattle.seat_share.proofs.Order.{le-true, le-false}
 use Rattle.seat_share.proofs.Threshold.{none_or_some, impossible}
 
 -- the seats are the party's certain ones, or one more where it is tied

@@ -1,8 +1,8 @@
 -- Each further seat has a smaller claim.
-use Rattle.std.proofs.Common.{◌≡◌, ℕ, zero, suc, ◌+◌, ◌-◌, ◌*◌, ◌<◌, ◌≤◌, Bool, true, false, refl, sym, ◌∙◌, arith, mul-lt-mul_of_pos_right, mul_comm, mul-pos, mul_assoc, mul-add}
+use Rattle.std.proofs.Common.{◌≡◌, ℕ, zero, suc, ◌+◌, ◌-◌, ◌*◌, ◌<◌, false, refl, ◌∙◌, arith, mul-lt-mul_of_pos_right, mul_comm, mul-pos}
 use Rattle.seat_share.specs.declared.method.Method.{Method}
 use Rattle.seat_share.specs.declared.method.Method.TheVariants.{Hamilton, Dhondt, SainteLague, Huntington, Adams, Dean}
-use Rattle.seat_share.specs.Quotients.{Quotient, quotient, is_at_least}
+use Rattle.seat_share.specs.Quotients.{is_at_least}
 use Rattle.seat_share.specs.Claims.{claim}
 use Rattle.seat_share.proofs.Order.{le-false, over_some, over_some_and_zero}
 

@@ -1,9 +1,8 @@
 -- The definitions on worked examples.
-use Rattle.std.proofs.Common.{◌≡◌, ℕ, List, [], ◌∷◌, true, false, refl, Some, None}
+use Rattle.std.proofs.Common.{◌≡◌, [], ◌∷◌, true, false, refl, Some, None}
 use Rattle.seat_share.specs.declared.method.Method.TheVariants.{Hamilton, Dhondt, SainteLague, Huntington, Adams, Dean}
 use Rattle.seat_share.specs.declared.method.ShareFault.TheVariants.{NoParties, NoVotes, TooManyVotes, BadSeats}
 use Rattle.seat_share.specs.Quotients.{quotient, is_at_least}
-use Rattle.seat_share.specs.Fair.{is_fair}
 use Rattle.seat_share.specs.Allocations.{lists_with_sum, allocations}
 use Rattle.seat_share.specs.Faults.{first_fault}
 

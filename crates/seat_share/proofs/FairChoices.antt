@@ -1,7 +1,7 @@
 -- The fair allocations are the choices of parties that stand at a threshold.
-use Rattle.std.proofs.Common.{◌≡◌, ℕ, zero, suc, ◌+◌, ◌-◌, ◌<◌, ◌≤◌, ◌==◌, ◌⊎◌, ◌&&◌, ◌||◌, Bool, not, true, false, cond, List, [], ◌∷◌, ◌++◌, refl, sym, ap, ap₂, subst, ◌∙◌, inl, inr, arith, map, filter, length, sum, sum_by, count_by, zip}
+use Rattle.std.proofs.Common.{◌≡◌, ℕ, zero, suc, ◌+◌, ◌-◌, ◌<◌, ◌≤◌, ◌==◌, ◌⊎◌, ◌&&◌, ◌||◌, Bool, not, true, false, cond, List, [], ◌∷◌, ◌++◌, refl, sym, ap, ap₂, subst, ◌∙◌, inl, inr, arith, map, filter, length, sum, sum_by, zip}
 use Rattle.std.proofs.lemmas.List.{length-map}
-use Rattle.std.specs.Prelude.{nat_le, flat_map}
+use Rattle.std.specs.Prelude.{flat_map}
 use Rattle.std.specs.List.{list_all, range_with_len, AllByRecursion}
 use Rattle.std.proofs.lemmas.List.Sums.{sum_by-cons}
 use Rattle.std.proofs.lemmas.List.Folds.{list_all-map}
@@ -12,10 +12,10 @@ use Rattle.seat_share.specs.Quotients.{Quotient, quotient, is_at_least}
 use Rattle.seat_share.specs.Fair.{Party, has_votes_for_seats, is_right, is_fair}
 use Rattle.seat_share.specs.Claims.{claim}
 use Rattle.seat_share.specs.Allocations.{lists_with_sum, allocations}
-use Rattle.seat_share.specs.Choices.{Standing, choices}
+use Rattle.seat_share.specs.Choices.{choices}
 use Rattle.seat_share.specs.Standings.{Stands, standing, standings, tied_count}
 use Rattle.seat_share.proofs.Order.{absurd, zero_is, some_is}
-use Rattle.seat_share.proofs.Members.{Has, all-member, all-from_members, same_bools, and-left, and-right, both}
+use Rattle.seat_share.proofs.Members.{Has, all-member, and-left, and-right, both}
 use Rattle.seat_share.proofs.Threshold.{Entry, IsSound, may_have, within, keeps, kept-is_within, none_or_some, or-true, impossible}
 use Rattle.seat_share.proofs.QuotaLemmas.{hamilton-is_kept}
 use Rattle.seat_share.proofs.ClaimLemmas.{claims-fall}

@@ -1,12 +1,11 @@
 -- Hamilton's method keeps the quota, and divisor methods are house-monotone.
-use Rattle.std.proofs.Common.{◌≡◌, ◌≢◌, ℕ, zero, suc, ◌+◌, ◌-◌, ◌*◌, ◌<◌, ◌≤◌, ◌==◌, ◌⊎◌, ◌&&◌, ◌||◌, Bool, not, true, false, List, [], ◌∷◌, ◌++◌, refl, sym, ap, ap₂, subst, ◌∙◌, inl, inr, arith, map, sum, sum_by, length, zip, mul_comm, IsTrue}
-use Rattle.std.specs.Prelude.{nat_le}
+use Rattle.std.proofs.Common.{◌≡◌, ℕ, suc, ◌+◌, ◌-◌, ◌*◌, ◌<◌, ◌≤◌, ◌==◌, ◌⊎◌, ◌&&◌, ◌||◌, Bool, true, false, List, [], ◌∷◌, ◌++◌, refl, sym, ap, subst, ◌∙◌, inl, inr, arith, map, sum, sum_by, length, zip, mul_comm}
 use Rattle.std.specs.List.{list_all, AllByRecursion}
-use Rattle.std.proofs.lemmas.List.Sums.{sum_by-cons, sum_by-append}
+use Rattle.std.proofs.lemmas.List.Sums.{sum_by-cons}
 use Rattle.seat_share.specs.declared.method.Method.{Method}
 use Rattle.seat_share.specs.declared.method.Method.TheVariants.{Hamilton, Dhondt, SainteLague, Huntington, Adams, Dean}
 use Rattle.seat_share.specs.Quotients.{Quotient, quotient, is_at_least}
-use Rattle.seat_share.specs.Fair.{Party, quota_seats, remainder, is_near_quota, has_the_remainder, has_votes_for_seats, is_right, is_fair, IsFair, keeps_its_seat}
+use Rattle.seat_share.specs.Fair.{Party, quota_seats, remainder, is_near_quota, has_the_remainder, has_votes_for_seats, is_right, IsFair, keeps_its_seat}
 use Rattle.seat_share.proofs.Order.{absurd, at_least-total, at_least-trans, some_is, zero_is}
 use Rattle.seat_share.proofs.Members.{Has, all-member, all-from_members, sums-lt, and-left, and-right, both}
 use Rattle.seat_share.proofs.Threshold.{none_or_some, either, impossible}

@@ -1,5 +1,5 @@
 -- Quotients are in one order: each two compare, and what is at least another is at least what that is at least.
-use Rattle.std.proofs.Common.{◌≡◌, ℕ, zero, suc, ◌+◌, ◌*◌, ◌<◌, ◌≤◌, ◌==◌, Bool, true, false, refl, sym, ◌∙◌, arith, ap, true≢false, le_trans, mul-le-mul_right, le_of_mul-le-mul_right, mul_right_comm}
+use Rattle.std.proofs.Common.{◌≡◌, ℕ, zero, suc, ◌*◌, ◌<◌, ◌≤◌, ◌==◌, true, false, refl, sym, ◌∙◌, arith, true≢false, mul-le-mul_right, le_of_mul-le-mul_right, mul_right_comm}
 use Rattle.std.specs.Prelude.{nat_le}
 use Rattle.seat_share.specs.Quotients.{Quotient, is_at_least}
 

@@ -1,6 +1,6 @@
 -- Hamilton's method, by claims: a party has its quota's seats, and the greatest remainders have one more, exactly where no
 -- party has a claim to another's seat.
-use Rattle.std.proofs.Common.{◌≡◌, ℕ, zero, suc, ◌+◌, ◌-◌, ◌*◌, ◌/◌, ◌%◌, ◌<◌, ◌≤◌, ◌==◌, ◌⊎◌, ◌&&◌, ◌||◌, Bool, not, true, false, List, [], ◌∷◌, refl, sym, ap, ◌∙◌, inl, inr, arith, sum_by, mod-lt, div-add-mod', mul-le-mul_right, mul_comm}
+use Rattle.std.proofs.Common.{◌≡◌, ℕ, ◌+◌, ◌-◌, ◌*◌, ◌<◌, ◌≤◌, ◌==◌, ◌⊎◌, ◌&&◌, ◌||◌, Bool, not, true, false, List, [], ◌∷◌, refl, sym, ap, ◌∙◌, inl, inr, arith, sum_by, mod-lt, div-add-mod', mul-le-mul_right, mul_comm}
 use Rattle.std.specs.Prelude.{nat_le}
 use Rattle.std.specs.List.{list_all}
 use Rattle.std.proofs.lemmas.List.Sums.{sum_by-cons}

@@ -1,5 +1,5 @@
 -- From votes to parties, and from parties to an allocation.
-use Rattle.std.proofs.Common.{◌≡◌, ℕ, zero, suc, ◌+◌, ◌-◌, ◌*◌, ◌^◌, ◌<◌, ◌≤◌, Bool, true, false, cond, List, [], ◌∷◌, ◌++◌, refl, sym, ap, ap₂, subst, ◌∙◌, arith, map, sum, sum_by, count_by, length, take, set, get_or, Option, Some, None, is_some, true≢false, ◌==◌}
+use Rattle.std.proofs.Common.{◌≡◌, ℕ, zero, suc, ◌+◌, ◌-◌, ◌^◌, ◌<◌, ◌≤◌, Bool, true, false, cond, List, [], ◌∷◌, ◌++◌, refl, sym, ap, ap₂, subst, ◌∙◌, arith, map, sum, length, take, set, get_or, Option, Some, None, is_some, true≢false, ◌==◌}
 use Rattle.std.specs.Prelude.{nat_lt}
 use Rattle.seat_share.specs.declared.method.ShareFault.TheVariants.{NoParties, TooManyParties, NoVotes, TooManyVotes}
 use Rattle.seat_share.specs.Faults.{first_fault}
@@ -12,7 +12,7 @@ use Rattle.seat_share.specs.Quotients.{Quotient}
 use Rattle.seat_share.specs.Claims.{claim}
 use Rattle.seat_share.specs.Allocations.{allocations}
 use Rattle.seat_share.specs.Choices.{Standing, choices}
-use Rattle.seat_share.specs.Standings.{Stands, IsChoosing, MoreAreTied, AreWithin, standing, standings, allocation, choices_from, votes_of, seats_of, tied_count}
+use Rattle.seat_share.specs.Standings.{Stands, IsChoosing, MoreAreTied, standings, allocation, choices_from, votes_of, seats_of, tied_count}
 use Rattle.seat_share.proofs.Threshold.{impossible}
 use Rattle.seat_share.proofs.Chosen.{sure_seats}
 use Rattle.seat_share.proofs.FairChoices.{fair-choices}

@@ -1,12 +1,12 @@
 -- Where the last seat is given at a threshold: an allocation in which no party has a claim to another's seat is one that
 -- gives each party what is surely its own, and to some of those tied at the threshold one seat more.
-use Rattle.std.proofs.Common.{◌≡◌, ℕ, zero, suc, ◌+◌, ◌-◌, ◌<◌, ◌≤◌, ◌==◌, ◌⊎◌, ◌&&◌, ◌||◌, Bool, true, false, cond, List, [], ◌∷◌, refl, sym, ap, subst, ◌∙◌, inl, inr, arith, sum_by}
+use Rattle.std.proofs.Common.{◌≡◌, ℕ, zero, suc, ◌+◌, ◌-◌, ◌<◌, ◌≤◌, ◌==◌, ◌⊎◌, ◌&&◌, ◌||◌, Bool, true, false, cond, List, refl, sym, ◌∙◌, inl, inr, arith, sum_by}
 use Rattle.std.specs.Prelude.{nat_le}
 use Rattle.std.specs.List.{list_all}
 use Rattle.seat_share.specs.Quotients.{Quotient, is_at_least}
 use Rattle.seat_share.specs.Standings.{Stands}
 use Rattle.seat_share.proofs.Order.{absurd, at_least-total, at_least-trans}
-use Rattle.seat_share.proofs.Members.{Has, all-member, all-from_members, sums-le, sums-lt, same_bools}
+use Rattle.seat_share.proofs.Members.{Has, all-member, all-from_members, sums-lt, same_bools}
 
 -- a party: its votes, the seats that are surely its own, whether it is tied for one more, and the seats that it has
 pub record Entry : Type 0 where

@@ -1,5 +1,5 @@
 -- Allocations as choices: each party has the seats that are certain, and some of the tied parties get one more.
-use Rattle.std.specs.Prelude.{ℕ, zero, suc, ◌+◌, ◌-◌, Bool, true, false, List, [], ◌∷◌, ◌++◌, map}
+use Rattle.std.specs.Prelude.{ℕ, zero, suc, ◌+◌, Bool, true, false, List, [], ◌∷◌, ◌++◌, map}
 
 -- a party's certain seats, and whether it is tied for one more
 abbrev pub Standing : Type 0

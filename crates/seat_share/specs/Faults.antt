@@ -1,5 +1,5 @@
 -- What is refused.
-use Rattle.std.specs.Prelude.{ℕ, ◌==◌, ◌||◌, ◌^◌, List, [], ◌∷◌, length, sum, Option, Some, None, nat_lt, if◌then◌else◌}
+use Rattle.std.specs.Prelude.{ℕ, ◌==◌, ◌||◌, ◌^◌, List, length, sum, Option, Some, None, nat_lt, if◌then◌else◌}
 use Rattle.seat_share.specs.declared.method.ShareFault.{ShareFault}
 use Rattle.seat_share.specs.declared.method.ShareFault.TheVariants.{NoParties, TooManyParties, NoVotes, TooManyVotes, BadSeats}
 

@@ -1,7 +1,6 @@
 -- Each definition, computed on a small example.
-use Rattle.std.proofs.Common.{◌≡◌, ℕ, List, [], ◌∷◌, ◌++◌, true, false, Some, None, Ok, Err, inl, inr, refl, lit≤}
+use Rattle.std.proofs.Common.{◌≡◌, ℕ, List, [], ◌∷◌, ◌++◌, true, false, Some, refl}
 use Rattle.std.specs.Prelude.{codes}
-use Rattle.std.proofs.lemmas.Bool.{both_ways}
 use Rattle.std.specs.Fmt.{digits}
 use Rattle.ballot_base.specs.Lists.{lists_of}
 use Rattle.ballot_base.specs.Ballots.{Election, Row, election}
@@ -9,32 +8,17 @@ use Rattle.ballot_base.specs.declared.increments.ThieleRule.TheVariants.{Av, Geo
 use Rattle.vote_cli.specs.declared.request.Rule.TheVariants.{Scored, Sequential}
 use Rattle.tie_walk.specs.declared.sequential.SeqRule.TheVariants.{SeqPav, RevSeqPav}
 use Rattle.vote_cli.specs.declared.request.ScoredRule.TheVariants.{Thiele, Satisfaction, Minimax}
-use Rattle.vote_cli.specs.declared.status.Status.TheVariants.{Answered, Violated, InputRefused, RequestRefused, NoMemory, DeviceFailed}
-use Rattle.vote_cli.specs.declared.input.InputFault.TheVariants as fault
-use Rattle.vote_cli.specs.Device.{is_failed_write, AppendsBeginning}
-use Rattle.vote_cli.specs.Input.{TellsOfInput}
-use Rattle.vote_cli.specs.Status.{code_of}
 use Rattle.ballot_base.specs.Increments.{increments}
 use Rattle.ballot_base.specs.CommonMultiple.{common_multiple}
-use Rattle.vote_cli.specs.Text.{line, numbers_text, following_text, rule_word, committees_text, head_text, elected_text}
+use Rattle.vote_cli.specs.Text.{line, numbers_text, following_text, rule_word, lists_text, head_text, elected_text}
 use Rattle.seat_share.specs.declared.method.Method.TheVariants.{Hamilton, Dhondt, SainteLague, Huntington, Adams, Dean}
 use Rattle.seat_share.specs.Allocations.{lists_with_sum, allocations}
 use Rattle.vote_cli.specs.Parties.{has_many_approved, approvals_of, party_votes}
-use Rattle.vote_cli.specs.ShareText.{method_word, method_lines, allocations_text, share_text}
+use Rattle.vote_cli.specs.ShareText.{method_word, method_lines, share_text}
 use Rattle.group_check.specs.declared.property.Property.TheVariants.{Jr, Pjr, Ejr}
 use Rattle.group_check.specs.declared.property.Violation.{Violation}
 use Rattle.group_check.specs.Report.{violation_of, first_violation}
 use Rattle.vote_cli.specs.ReportText.{property_word, holds_text, set_or_dash, within_text, row_text, level_text, voters_text, group_text, claim_text, violation_text}
-use Rattle.vote_cli.specs.Printing.{Prints, outlet}
-use Rattle.vote_cli.specs.FaultText.{fault_text, fault_word, place_text}
-use Rattle.preflib_text.specs.declared.fault.FaultName.TheVariants as name
-use Rattle.preflib_text.specs.declared.pick.Pick.{Pick}
-use Rattle.preflib_text.specs.declared.pick.Way.TheVariants.{Usual}
-use Rattle.preflib_text.specs.Lines.{pieces_of, without_return, trim_start}
-use Rattle.preflib_text.specs.Reading.{Reads, at_end, at_line}
-use Rattle.preflib_text.specs.BallotTokens.{ballot_of, order_at, tokens_after}
-use Rattle.preflib_text.specs.Metadata.{words_of}
-use Rattle.preflib_text.proofs.BallotLines.{ballot_of_reads}
 
 -- two voters approve 1 and 2, and one approves 3
 abbrev rows : List Row
@@ -66,7 +50,7 @@ head : head_text (Thiele Av) 3 1 2 ≡ codes "rule av" ++ 10 ∷ codes "size 1" 
 unfolding digits
 head = refl
 
-committees : committees_text ((1 ∷ 2 ∷ []) ∷ (1 ∷ 3 ∷ []) ∷ []) ≡ codes "1,2" ++ 10 ∷ codes "1,3" ++ 10 ∷ []
+committees : lists_text ((1 ∷ 2 ∷ []) ∷ (1 ∷ 3 ∷ []) ∷ []) ≡ codes "1,2" ++ 10 ∷ codes "1,3" ++ 10 ∷ []
 unfolding digits
 committees = refl
 
@@ -190,7 +174,7 @@ method_words : (method_word Hamilton ≡ codes "hamilton") × (method_word Dhond
     × (method_word Huntington ≡ codes "huntington") × (method_word Adams ≡ codes "adams") × (method_word Dean ≡ codes "dean")
 method_words = (refl, refl, refl, refl, refl, refl)
 
-two_allocations : allocations_text ((0 ∷ 10 ∷ []) ∷ (1 ∷ 9 ∷ []) ∷ []) ≡ line (codes "0,10") ++ line (codes "1,9")
+two_allocations : lists_text ((0 ∷ 10 ∷ []) ∷ (1 ∷ 9 ∷ []) ∷ []) ≡ line (codes "0,10") ++ line (codes "1,9")
 unfolding digits
 two_allocations = refl
 

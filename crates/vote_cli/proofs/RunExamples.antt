@@ -1,14 +1,13 @@
 -- Answers and what runs leave, computed on small examples.
-use Rattle.std.proofs.Common.{◌≡◌, ◌≢◌, ℕ, zero, suc, arith, List, [], ◌∷◌, ◌++◌, true, false, Some, None, Ok, Err, inl, inr, refl, lit≤}
+use Rattle.std.proofs.Common.{◌≡◌, ℕ, zero, suc, arith, List, [], ◌∷◌, ◌++◌, true, false, Some, None, Ok, Err, inl, inr, refl, lit≤}
 use Rattle.std.specs.Prelude.{codes}
 use Rattle.std.proofs.lemmas.Bool.{both_ways}
 use Rattle.std.specs.Fmt.{digits}
 use Rattle.ballot_base.specs.Lists.{lists_of}
 use Rattle.ballot_base.specs.Ballots.{Election, Row, election}
-use Rattle.ballot_base.specs.declared.increments.ThieleRule.TheVariants.{Av, Geom3}
-use Rattle.vote_cli.specs.declared.request.Rule.TheVariants.{Scored, Sequential}
-use Rattle.tie_walk.specs.declared.sequential.SeqRule.TheVariants.{SeqPav, RevSeqPav}
-use Rattle.vote_cli.specs.declared.request.ScoredRule.TheVariants.{Thiele, Satisfaction, Minimax}
+use Rattle.ballot_base.specs.declared.increments.ThieleRule.TheVariants.{Av}
+use Rattle.vote_cli.specs.declared.request.Rule.TheVariants.{Scored}
+use Rattle.vote_cli.specs.declared.request.ScoredRule.TheVariants.{Thiele}
 use Rattle.vote_cli.specs.declared.status.Status.TheVariants.{Answered, Violated, InputRefused, RequestRefused, NoMemory, DeviceFailed}
 use Rattle.vote_cli.specs.declared.input.InputFault.TheVariants as fault
 use Rattle.vote_cli.specs.declared.answers.Verdict.TheVariants as verdict
@@ -19,14 +18,11 @@ use Rattle.vote_cli.specs.Device.{is_failed_write, AppendsBeginning}
 use Rattle.vote_cli.specs.Input.{TellsOfInput}
 use Rattle.vote_cli.specs.Status.{code_of}
 use Rattle.ballot_base.specs.Increments.{increments}
-use Rattle.ballot_base.specs.CommonMultiple.{common_multiple}
-use Rattle.vote_cli.specs.Text.{line, numbers_text, following_text, rule_word, committees_text, head_text, elected_text}
-use Rattle.seat_share.specs.declared.method.Method.TheVariants.{Hamilton, Dhondt, SainteLague, Huntington, Adams, Dean}
-use Rattle.seat_share.specs.Allocations.{lists_with_sum, allocations}
-use Rattle.vote_cli.specs.Parties.{has_many_approved, approvals_of, party_votes}
-use Rattle.vote_cli.specs.ShareText.{method_word, method_lines, allocations_text, share_text}
+use Rattle.vote_cli.specs.Text.{line}
+use Rattle.seat_share.specs.declared.method.Method.TheVariants.{Dhondt}
+use Rattle.seat_share.specs.Allocations.{lists_with_sum}
 use Rattle.vote_cli.specs.Printing.{Prints, outlet}
-use Rattle.vote_cli.specs.Answer.{Answer, answered, violated, refused, misfit, election_answer, IsCheckAnswer, share_answer, share_answer_by, ballots_answer, IsAnswer, has_votes, Reports, Ends, TellsOf, memory_line, read_failed_line, write_failed_line}
+use Rattle.vote_cli.specs.Answer.{answered, violated, refused, misfit, election_answer, IsCheckAnswer, share_answer, share_answer_by, ballots_answer, IsAnswer, has_votes, Reports, Ends, TellsOf, memory_line, read_failed_line, write_failed_line}
 use Rattle.vote_cli.specs.Refusals.{IsRefusal, status_of, error_of, Prepares, TellsOfReads, TellsOfWrites, Concludes, IsWritten, verdict_status}
 use Rattle.vote_cli.specs.Misfits.{misfit_word, share_word}
 use Rattle.ballot_base.specs.Lists.{IsIncreasing}

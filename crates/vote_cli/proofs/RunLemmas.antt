@@ -1,5 +1,5 @@
 -- What is known of the input and of the writers, joined to the answer.
-use Rattle.std.proofs.Common.{◌≡◌, ◌≢◌, ◌⊎◌, inl, inr, ℕ, ◌<◌, ◌≤◌, Bool, true, false, List, [], Option, Some, None, Ok, Err, IfSome, Result, is_ok, refl, sym, ap, subst, arith, ◌∙◌, ◌++◌, append-nil, true≢false}
+use Rattle.std.proofs.Common.{◌≡◌, ◌≢◌, inl, inr, ℕ, Bool, true, false, List, [], Option, Some, None, Ok, Err, IfSome, Result, is_ok, refl, sym, ap, subst, ◌∙◌, ◌++◌, append-nil, true≢false}
 use Rattle.std.specs.Prelude.{IsErr, IsErrAnd, codes, if◌then◌else◌}
 use Rattle.std.specs.Io.KnownBytes.{Appends}
 use Rattle.std.proofs.KnownBytes.{Appends-nil}
@@ -13,7 +13,6 @@ use Rattle.seat_share.specs.declared.method.Method.{Method}
 use Rattle.vote_cli.specs.Parties.{has_many_approved, party_votes}
 use Rattle.vote_cli.specs.ReportText.{holds_text, violation_text}
 use Rattle.preflib_text.specs.declared.pick.Pick.{Pick}
-use Rattle.preflib_text.specs.Reading.{Reads}
 use Rattle.vote_cli.specs.declared.printing.WriteFailed.{WriteFailed as Broken}
 use Rattle.vote_cli.specs.declared.answers.Verdict.{Verdict}
 use Rattle.vote_cli.specs.declared.answers.Verdict.TheVariants as verdict
@@ -25,7 +24,6 @@ use Rattle.vote_cli.specs.Request.{Asked, Demand}
 use Rattle.vote_cli.specs.FaultText.{fault_text}
 use Rattle.vote_cli.specs.Misfits.{misfit_word}
 use Rattle.vote_cli.specs.Answer.{Answer, Ends, IsAnswer, IsAnswerOver, IsAnswerTo, IsCheckAnswer, Reports, ballots_answer, share_answer, TellsOf, answered, misfit, refused, violated}
-use Rattle.vote_cli.specs.Device.{AppendsBeginning}
 use Rattle.vote_cli.specs.Printing.{Outlet, Prints, outlet}
 use Rattle.vote_cli.specs.Refusals.{Concludes, IsWritten, Prepares, error_of, status_of, verdict_status}
 

@@ -5,7 +5,7 @@ use Rattle.vote_cli.specs.declared.request.Rule.TheVariants.{Scored, Sequential}
 use Rattle.vote_cli.specs.declared.request.ScoredRule.{ScoredRule}
 use Rattle.tie_walk.specs.declared.sequential.SeqRule.{SeqRule}
 use Rattle.tie_walk.specs.Winners.{best_value, winners}
-use Rattle.vote_cli.specs.Text.{line, numbers_text, following_text, head_text, committees_text, text_by, rule_lines, sequential_text, elected_text}
+use Rattle.vote_cli.specs.Text.{line, numbers_text, following_text, head_text, lists_text, text_by, rule_lines, sequential_text, elected_text}
 use Rattle.ballot_base.specs.Ballots.{Election}
 use Rattle.tie_walk.specs.Values.{closeness}
 use Rattle.vote_cli.specs.declared.request.ScoredRule.TheVariants.{Minimax}
@@ -23,11 +23,11 @@ list_line numbers first others parts =
 
 -- the text of winners, from its first lines on
 pub text_parts : (value : List ℕ → ℕ) (rule : ScoredRule) (candidates m size best : ℕ) (left : List (List ℕ)) → m ≡ candidates → best ≡ best_value value m size → left ≡ winners value m size
-    → text_by value rule candidates size ≡ head_text rule m size best ++ (committees_text left ++ line (codes "end"))
+    → text_by value rule candidates size ≡ head_text rule m size best ++ (lists_text left ++ line (codes "end"))
 text_parts value rule candidates m size best left same is those =
     ap (λ n. text_by value rule n size) (sym same)
-    ∙ ap₂ (λ n sets. (head_text rule m size n ++ committees_text sets) ++ line (codes "end")) (sym is) (sym those)
-    ∙ append_assoc (head_text rule m size best) (committees_text left) (line (codes "end"))
+    ∙ ap₂ (λ n sets. (head_text rule m size n ++ lists_text sets) ++ line (codes "end")) (sym is) (sym those)
+    ∙ append_assoc (head_text rule m size best) (lists_text left) (line (codes "end"))
 
 -- the text of an election by minimax
 pub minimax_text : (rule : ScoredRule) (size : ℕ) (e tally : Election) → rule ≡ Minimax → tally ≡ e → text_by (closeness tally.m tally.rows) rule tally.m size ≡ elected_text (Scored rule) size e
@@ -35,5 +35,5 @@ minimax_text rule size e tally is same = rw (is, same) refl
 
 -- the text of the committees of a sequential rule, from its first lines on
 pub sequential_parts : (committees : List (List ℕ)) (rule : SeqRule) (size : ℕ)
-    → sequential_text committees rule size ≡ rule_lines (Sequential rule) size ++ (committees_text committees ++ line (codes "end"))
-sequential_parts committees rule size = append_assoc (rule_lines (Sequential rule) size) (committees_text committees) (line (codes "end"))
+    → sequential_text committees rule size ≡ rule_lines (Sequential rule) size ++ (lists_text committees ++ line (codes "end"))
+sequential_parts committees rule size = append_assoc (rule_lines (Sequential rule) size) (lists_text committees) (line (codes "end"))

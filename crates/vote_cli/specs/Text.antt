@@ -61,9 +61,9 @@ value_by (Thiele rule) size election = thiele_value (increments rule size) elect
 value_by Satisfaction size election = satisfaction_value election.m election.rows
 value_by Minimax size election = closeness election.m election.rows
 
--- the winning committees, one a line
-abbrev pub committees_text : List (List ℕ) → List ℕ
-committees_text committees = flat_map (λ committee. line (numbers_text committee)) committees
+-- lists of numbers, one a line
+abbrev pub lists_text : List (List ℕ) → List ℕ
+lists_text lists = flat_map (λ numbers. line (numbers_text numbers)) lists
 
 -- a score over its denominator, which is not reduced
 abbrev pub score_text : ℕ → ℕ → List ℕ
@@ -89,12 +89,12 @@ head_text rule m size best = rule_lines (Scored rule) size ++ line (best_text ru
 abbrev pub text_by : (List ℕ → ℕ) → ScoredRule → ℕ → ℕ → List ℕ
 text_by value rule m size =
     head_text rule m size (best_value value m size)
-    ++ committees_text (winners value m size)
+    ++ lists_text (winners value m size)
     ++ line (codes "end")
 
 -- what is printed of the committees of this size that a sequential rule elects: they have no score
 abbrev pub sequential_text : List (List ℕ) → SeqRule → ℕ → List ℕ
-sequential_text committees rule size = rule_lines (Sequential rule) size ++ committees_text committees ++ line (codes "end")
+sequential_text committees rule size = rule_lines (Sequential rule) size ++ lists_text committees ++ line (codes "end")
 
 -- what is printed of an election
 abbrev pub elected_text : Rule → ℕ → Election → List ℕ

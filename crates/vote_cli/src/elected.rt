@@ -1,7 +1,7 @@
 //! The text of an election's winners.
 ghost use Rattle.std.specs.Prelude.{◌≡◌, ◌≤◌, [], is_ok};
 ghost use Rattle.vote_cli.specs.Printing.{Prints, outlet};
-ghost use Rattle.vote_cli.specs.Text.{line, numbers_text, best_text, score_text, rule_lines, head_text, rule_word, scored_word, thiele_word, committees_text, text_by, sequential_text, elected_text};
+ghost use Rattle.vote_cli.specs.Text.{line, numbers_text, best_text, score_text, rule_lines, head_text, rule_word, scored_word, thiele_word, lists_text, text_by, sequential_text, elected_text};
 
 use crate::device::Sink;
 use crate::numbers::print_numbers;
@@ -156,7 +156,7 @@ fn print_winners<W: Sink, T: Tally>(
     waiting: &mut Waiting,
     winners: Winners<'_, T>,
 ) -> Result<(), WriteFailed>
-    ensures { Prints (outlet (W.contents out.old) waiting.old (W.has_failed out.old)) (outlet (W.contents out.new) waiting.new (W.has_failed out.new)) (is_ok result) (committees_text winners.entry.left) }
+    ensures { Prints (outlet (W.contents out.old) waiting.old (W.has_failed out.old)) (outlet (W.contents out.new) waiting.new (W.has_failed out.new)) (is_ok result) (lists_text winners.entry.left) }
 {
     for committee in winners {
         print_committee(out, waiting, committee)?;
@@ -211,7 +211,7 @@ fn print_sequence<W: Sink, A: Allocator + Copy + Drop>(
     waiting: &mut Waiting,
     winners: SeqWinners<A>,
 ) -> Result<(), WriteFailed>
-    ensures { Prints (outlet (W.contents out.old) waiting.old (W.has_failed out.old)) (outlet (W.contents out.new) waiting.new (W.has_failed out.new)) (is_ok result) (committees_text winners) }
+    ensures { Prints (outlet (W.contents out.old) waiting.old (W.has_failed out.old)) (outlet (W.contents out.new) waiting.new (W.has_failed out.new)) (is_ok result) (lists_text winners) }
 {
     for members in winners {
         print_committee(out, waiting, members)?;

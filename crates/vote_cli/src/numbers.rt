@@ -1,24 +1,32 @@
 //! Lists of numbers, in digits.
-ghost use Rattle.std.specs.Prelude.{◌≡◌, [], ◌∷◌, decimal, is_ok};
+ghost use Rattle.std.specs.Prelude.{◌≡◌, [], ◌∷◌, is_ok};
 ghost use Rattle.vote_cli.specs.Printing.{Prints, outlet};
 ghost use Rattle.vote_cli.specs.Text.{numbers_text, following_text};
 
 use crate::device::Sink;
 use crate::printing::{Waiting, WriteFailed, print, print_all};
 use ballot_base::CandSet;
-use itoa::Buffer;
+use itoa::{Buffer, Integer};
 
 /// Prints a number.
-fn print_number<W: Sink>(out: &mut W, waiting: &mut Waiting, n: u8) -> Result<(), WriteFailed>
-    ensures { Prints (outlet (W.contents out.old) waiting.old (W.has_failed out.old)) (outlet (W.contents out.new) waiting.new (W.has_failed out.new)) (is_ok result) (decimal n) }
+pub(crate) fn print_number<W: Sink, N: Integer>(
+    out: &mut W,
+    waiting: &mut Waiting,
+    n: N,
+) -> Result<(), WriteFailed>
+    ensures { Prints (outlet (W.contents out.old) waiting.old (W.has_failed out.old)) (outlet (W.contents out.new) waiting.new (W.has_failed out.new)) (is_ok result) (N.text n) }
 {
     let mut digits = Buffer::new();
     print(out, waiting, digits.format(n).as_bytes())
 }
 
 /// Prints a comma and a number.
-fn print_next<W: Sink>(out: &mut W, waiting: &mut Waiting, n: u8) -> Result<(), WriteFailed>
-    ensures { Prints (outlet (W.contents out.old) waiting.old (W.has_failed out.old)) (outlet (W.contents out.new) waiting.new (W.has_failed out.new)) (is_ok result) (44 ∷ decimal n) }
+pub(crate) fn print_next<W: Sink, N: Integer>(
+    out: &mut W,
+    waiting: &mut Waiting,
+    n: N,
+) -> Result<(), WriteFailed>
+    ensures { Prints (outlet (W.contents out.old) waiting.old (W.has_failed out.old)) (outlet (W.contents out.new) waiting.new (W.has_failed out.new)) (is_ok result) (44 ∷ N.text n) }
 {
     let mut digits = Buffer::new();
     print_all(out, waiting, &[b",", digits.format(n).as_bytes()])

@@ -1,10 +1,11 @@
 //! The text of allocations of seats.
-ghost use Rattle.std.specs.Prelude.{◌≡◌, ◌++◌, [], ◌∷◌, decimal, is_ok};
+ghost use Rattle.std.specs.Prelude.{◌≡◌, ◌++◌, [], is_ok};
 ghost use Rattle.vote_cli.specs.Printing.{Prints, outlet};
-ghost use Rattle.vote_cli.specs.Text.{line, numbers_text, following_text};
-ghost use Rattle.vote_cli.specs.ShareText.{method_word, allocations_text, method_lines, share_text};
+ghost use Rattle.vote_cli.specs.Text.{line, numbers_text, following_text, lists_text};
+ghost use Rattle.vote_cli.specs.ShareText.{method_word, method_lines, share_text};
 
 use crate::device::Sink;
+use crate::numbers::{print_next, print_number};
 use crate::printing::{Waiting, WriteFailed, finish, print, print_all};
 use itoa::Buffer;
 use seat_share::{Method, Shares};
@@ -21,22 +22,6 @@ fn method_word_of(method: Method) -> &'static [u8]
         Method::Adams => b"adams",
         Method::Dean => b"dean",
     }
-}
-
-/// Prints a number.
-fn print_number<W: Sink>(out: &mut W, waiting: &mut Waiting, n: u16) -> Result<(), WriteFailed>
-    ensures { Prints (outlet (W.contents out.old) waiting.old (W.has_failed out.old)) (outlet (W.contents out.new) waiting.new (W.has_failed out.new)) (is_ok result) (decimal n) }
-{
-    let mut digits = Buffer::new();
-    print(out, waiting, digits.format(n).as_bytes())
-}
-
-/// Prints a comma and a number.
-fn print_next<W: Sink>(out: &mut W, waiting: &mut Waiting, n: u16) -> Result<(), WriteFailed>
-    ensures { Prints (outlet (W.contents out.old) waiting.old (W.has_failed out.old)) (outlet (W.contents out.new) waiting.new (W.has_failed out.new)) (is_ok result) (44 ∷ decimal n) }
-{
-    let mut digits = Buffer::new();
-    print_all(out, waiting, &[b",", digits.format(n).as_bytes()])
 }
 
 /// Prints the numbers, with a comma before each.
@@ -75,7 +60,7 @@ fn print_allocations<W: Sink>(
     waiting: &mut Waiting,
     shares: Shares,
 ) -> Result<(), WriteFailed>
-    ensures { Prints (outlet (W.contents out.old) waiting.old (W.has_failed out.old)) (outlet (W.contents out.new) waiting.new (W.has_failed out.new)) (is_ok result) (allocations_text shares) }
+    ensures { Prints (outlet (W.contents out.old) waiting.old (W.has_failed out.old)) (outlet (W.contents out.new) waiting.new (W.has_failed out.new)) (is_ok result) (lists_text shares) }
 {
     for allocation in shares {
         print_allocation(out, waiting, allocation.seats())?;

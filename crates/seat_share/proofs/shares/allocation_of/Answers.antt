@@ -1,6 +1,6 @@
 use Rattle.std.proofs.Common.{false, ◌∙◌, ◌<◌, length, length-set, arith}
 use Rattle.seat_share.specs.declared.contender.Contender.{Contender}
-use Rattle.seat_share.proofs.ShareLemmas.{seats-more, all-at}
+use Rattle.seat_share.proofs.ShareLemmas.{seats-more}
 use Rattle.seat_share.proofs.shares.allocation_of.Goals as goal
 
 abbrev nobody : Contender

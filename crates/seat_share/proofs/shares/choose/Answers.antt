@@ -1,4 +1,4 @@
-use Rattle.std.proofs.Common.{sym, ◌∙◌}
+use Rattle.std.proofs.Common.{◌∙◌}
 use Rattle.seat_share.proofs.ShareLemmas.{chosen-fair, choosing}
 use Rattle.seat_share.specs.Standings.{votes_of}
 use Rattle.seat_share.proofs.shares.choose.Goals as goal

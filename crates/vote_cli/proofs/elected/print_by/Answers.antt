@@ -1,6 +1,6 @@
 use Rattle.std.proofs.Common.{ap, sym, [], ◌∙◌, ◌++◌, append_assoc, append-nil}
 use Rattle.std.specs.Prelude.{codes}
-use Rattle.vote_cli.specs.Text.{line, committees_text, head_text}
+use Rattle.vote_cli.specs.Text.{line, lists_text, head_text}
 use Rattle.vote_cli.proofs.TextLemmas.{text_parts}
 use Rattle.vote_cli.proofs.PrintingLemmas.{breaks_off, breaks_off_behind, goes_on_behind, is_ok-err, Prints-dropped, Prints-first, Prints-from_empty, Prints-last, Prints-to_empty}
 use Rattle.vote_cli.proofs.elected.print_by.Goals as goal
@@ -26,7 +26,7 @@ returns-in_err-print g c =
     let parts = text_parts (g.T.Tally.value_of c.args.tally.now) c.args.rule (g.T.Tally.candidates c.args.tally.now) c.m-m.result c.args.size c.best.result c.new-winners.result.left
     c.m-m.ensures.value (c.best.ensures ∙ ap (λ w. w.best) c.new-winners.ensures) (ap (λ w. w.left) c.new-winners.ensures) in
     let first = head_text c.args.rule c.m-m.result c.args.size c.best.result in
-    let middle = committees_text c.new-winners.result.left in
+    let middle = lists_text c.new-winners.result.left in
     let head = Prints-first c.print_head.result _ c.in_ok-print_head.was (Prints-from_empty c.new-waiting.ensures c.print_head.ensures) in
     let body = goes_on_behind c.print_winners.result _ c.in_ok-print_winners.was head c.print_winners.ensures in
     Prints-dropped (is_ok-err c.from_residual-in_err-print.result c.from_residual-in_err-print.ensures.0)
@@ -38,7 +38,7 @@ returns g c =
     let parts = text_parts (g.T.Tally.value_of c.args.tally.now) c.args.rule (g.T.Tally.candidates c.args.tally.now) c.m-m.result c.args.size c.best.result c.new-winners.result.left
     c.m-m.ensures.value (c.best.ensures ∙ ap (λ w. w.best) c.new-winners.ensures) (ap (λ w. w.left) c.new-winners.ensures) in
     let first = head_text c.args.rule c.m-m.result c.args.size c.best.result in
-    let middle = committees_text c.new-winners.result.left in
+    let middle = lists_text c.new-winners.result.left in
     let head = Prints-first c.print_head.result _ c.in_ok-print_head.was (Prints-from_empty c.new-waiting.ensures c.print_head.ensures) in
     let body = goes_on_behind c.print_winners.result _ c.in_ok-print_winners.was head c.print_winners.ensures in
     let all = goes_on_behind c.print.result _ c.in_ok-print.was body c.print.ensures in

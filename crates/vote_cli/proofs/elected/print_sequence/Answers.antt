@@ -1,19 +1,19 @@
 use Rattle.std.proofs.Common.{ap, sym, ◌∙◌, ◌++◌, append_assoc, []}
-use Rattle.vote_cli.specs.Text.{committees_text}
+use Rattle.vote_cli.specs.Text.{lists_text}
 use Rattle.vote_cli.proofs.PrintingLemmas.{breaks_off_behind, goes_on_behind, Prints-nothing}
 use Rattle.vote_cli.proofs.elected.print_sequence.Goals as goal
 
 pub loop-members-init : goal.loop-members-init
-loop-members-init g c = ([], Prints-nothing _, ap committees_text c.into_iter-members-iterator.ensures.into_iter_gives)
+loop-members-init g c = ([], Prints-nothing _, ap lists_text c.into_iter-members-iterator.ensures.into_iter_gives)
 
 pub loop-members-preserved : goal.loop-members-preserved
 loop-members-preserved g c = (
   _,
   goes_on_behind c.print_committee.result _ c.in_ok-print_committee.was c.loop-members.invariant.1 c.print_committee.ensures,
-  append_assoc c.loop-members.invariant.0 _ _ ∙ ap (λ l. c.loop-members.invariant.0 ++ committees_text l) (sym c.in-Some.ensures.steps) ∙ c.loop-members.invariant.2,
+  append_assoc c.loop-members.invariant.0 _ _ ∙ ap (λ l. c.loop-members.invariant.0 ++ lists_text l) (sym c.in-Some.ensures.steps) ∙ c.loop-members.invariant.2,
 )
 
 pub returns-in_err-print_committee : goal.returns-in_err-print_committee
 returns-in_err-print_committee g c =
     breaks_off_behind _ c.print_committee.result _ c.from_residual.result c.in_err-print_committee.was c.from_residual.ensures.0
-    (ap (λ l. c.loop-members.invariant.0 ++ committees_text l) (sym c.in-Some.ensures.steps) ∙ c.loop-members.invariant.2) c.loop-members.invariant.1 c.print_committee.ensures
+    (ap (λ l. c.loop-members.invariant.0 ++ lists_text l) (sym c.in-Some.ensures.steps) ∙ c.loop-members.invariant.2) c.loop-members.invariant.1 c.print_committee.ensures

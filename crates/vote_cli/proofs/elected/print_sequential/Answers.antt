@@ -1,7 +1,7 @@
 use Rattle.std.proofs.Common.{sym, [], ◌∙◌, ◌++◌, append_assoc, append-nil}
 use Rattle.std.specs.Prelude.{codes}
 use Rattle.vote_cli.specs.declared.request.Rule.TheVariants.{Sequential}
-use Rattle.vote_cli.specs.Text.{line, committees_text, rule_lines}
+use Rattle.vote_cli.specs.Text.{line, lists_text, rule_lines}
 use Rattle.vote_cli.proofs.TextLemmas.{sequential_parts}
 use Rattle.vote_cli.proofs.PrintingLemmas.{breaks_off, breaks_off_behind, goes_on_behind, is_ok-err, Prints-dropped, Prints-first, Prints-from_empty, Prints-last, Prints-to_empty}
 use Rattle.vote_cli.proofs.elected.print_sequential.Goals as goal
@@ -24,7 +24,7 @@ pub returns-in_err-print : goal.returns-in_err-print
 returns-in_err-print g c =
     let parts = sequential_parts c.args.winners c.args.rule c.args.size in
     let first = rule_lines (Sequential c.args.rule) c.args.size in
-    let middle = committees_text c.args.winners in
+    let middle = lists_text c.args.winners in
     let head = Prints-first c.print_rule.result _ c.in_ok-print_rule.was (Prints-from_empty c.new-buffer.ensures c.print_rule.ensures) in
     let body = goes_on_behind c.print_sequence.result _ c.in_ok-print_sequence.was head c.print_sequence.ensures in
     Prints-dropped (is_ok-err c.from_residual-in_err-print.result c.from_residual-in_err-print.ensures.0)
@@ -35,7 +35,7 @@ pub returns : goal.returns
 returns g c =
     let parts = sequential_parts c.args.winners c.args.rule c.args.size in
     let first = rule_lines (Sequential c.args.rule) c.args.size in
-    let middle = committees_text c.args.winners in
+    let middle = lists_text c.args.winners in
     let head = Prints-first c.print_rule.result _ c.in_ok-print_rule.was (Prints-from_empty c.new-buffer.ensures c.print_rule.ensures) in
     let body = goes_on_behind c.print_sequence.result _ c.in_ok-print_sequence.was head c.print_sequence.ensures in
     let all = goes_on_behind c.print.result _ c.in_ok-print.was body c.print.ensures in

@@ -1,10 +1,10 @@
 use Rattle.std.proofs.Common.{◌≡◌, ℕ, ◌++◌, List, true}
 use Rattle.vote_cli.specs.Printing.{Prints, outlet}
-use Rattle.vote_cli.specs.Text.{committees_text}
+use Rattle.vote_cli.specs.Text.{lists_text}
 use Rattle.vote_cli.proofs.elected.print_winners.Given as goal
 
 -- the winners so far were printed, and the others are left
 abbrev pub invariant-loop-committee : goal.invariant-loop-committee
 invariant-loop-committee g l = (done : List ℕ)
     × Prints (outlet (g.W.Sink.contents l.initial.out) l.initial.waiting (g.W.Device.has_failed l.initial.out)) (outlet (g.W.Sink.contents l.out) l.waiting (g.W.Device.has_failed l.out)) true done
-    × (done ++ committees_text l.committee-iterator.left ≡ committees_text l.fn.winners.left)
+    × (done ++ lists_text l.committee-iterator.left ≡ lists_text l.fn.winners.left)

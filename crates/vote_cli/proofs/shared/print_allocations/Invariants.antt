@@ -1,10 +1,10 @@
 use Rattle.std.proofs.Common.{◌≡◌, ℕ, ◌++◌, List, true}
+use Rattle.vote_cli.specs.Text.{lists_text}
 use Rattle.vote_cli.specs.Printing.{Prints, outlet}
-use Rattle.vote_cli.specs.ShareText.{allocations_text}
 use Rattle.vote_cli.proofs.shared.print_allocations.Given as goal
 
 -- the allocations so far were printed, and the others are left
 abbrev pub invariant-loop-allocation : goal.invariant-loop-allocation
 invariant-loop-allocation g l = (done : List ℕ)
     × Prints (outlet (g.W.Sink.contents l.initial.out) l.initial.waiting (g.W.Device.has_failed l.initial.out)) (outlet (g.W.Sink.contents l.out) l.waiting (g.W.Device.has_failed l.out)) true done
-    × (done ++ allocations_text l.allocation-iterator ≡ allocations_text l.fn.shares)
+    × (done ++ lists_text l.allocation-iterator ≡ lists_text l.fn.shares)
