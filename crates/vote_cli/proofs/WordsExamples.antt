@@ -1,6 +1,7 @@
 -- `request_of`, the refusals after clap and clap's kinds of refusal, computed.
-use Rattle.std.proofs.Common.{◌≡◌, refl, List, [], ◌∷◌, codes, inl, ℕ}
+use Rattle.std.proofs.Common.{◌≡◌, refl, List, [], ◌∷◌, codes, inl, map, ℕ}
 use Rattle.std.specs.Prelude.{Option, Some, None, Ok, Err}
+use Rattle.std.specs.Map.{values_of}
 use Rattle.clap.specs.Words.{Text, fault_of}
 use Rattle.clap.proofs.OnLiterals.{clap_on_literals}
 use Rattle.clap.specs.declared.error.kind.ErrorKind.TheVariants as kind
@@ -19,9 +20,10 @@ use Rattle.seat_share.specs.declared.method.Method.TheVariants.{Hamilton, Dhondt
 use Rattle.vote_cli.specs.declared.words.LineFault.TheVariants.{BadList, TwoPicks, VotesAndInput, Memory}
 use Rattle.vote_cli.specs.declared.words.ListOption.TheVariants.{Committee, Votes}
 use Rattle.vote_cli.specs.Endings.{behind_last, kind_in_path}
+use Rattle.vote_cli.specs.Text.{rule_word}
 use Rattle.vote_cli.specs.NumberList.{all_there, entry_of, list_of}
 use Rattle.vote_cli.specs.Words.{IsMisused, line_of, listed, method_named, method_names, outcome_of, program, property_named, property_names}
-use Rattle.vote_cli.specs.Words.{request_of, rule_named, rule_names, way_by}
+use Rattle.vote_cli.specs.Words.{request_of, rule_named, rule_names, rules_by_name, way_by}
 
 -- `committees elect` and these words
 abbrev elect_words : List Text → List Text
@@ -120,6 +122,10 @@ rules_of_names = (refl, refl, refl, refl)
 names_of_rules : rule_names ≡ codes "av" ∷ codes "pav" ∷ codes "cc" ∷ codes "geom2" ∷ codes "geom3" ∷ codes "geom4" ∷ codes "sav" ∷ codes "minimax"
     ∷ codes "seqpav" ∷ codes "seqcc" ∷ codes "revseqpav" ∷ []
 names_of_rules = refl
+
+-- the name of a rule is the word that is printed of it
+names_are_words : map rule_word (values_of rules_by_name) ≡ rule_names
+names_are_words = refl
 
 -- ---- how the file is read
 

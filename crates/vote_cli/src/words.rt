@@ -12,7 +12,7 @@ ghost use Rattle.vote_cli.specs.Words.{HasShareValues, HasValues, IsAfterClap, I
 ghost use Rattle.vote_cli.specs.Words.{IsCount, IsFaultOf, IsNameOption, IsProgram, asked_in, asking, check_in};
 ghost use Rattle.vote_cli.specs.Words.{check_over, elect_in, elect_over, file_word, has_input, is_given, kind_names, line_of};
 ghost use Rattle.vote_cli.specs.Words.{listed, method_named, method_names, name_option, number_at, number_option};
-ghost use Rattle.vote_cli.specs.Words.{option_word, program, property_named, property_names, request_of, required};
+ghost use Rattle.vote_cli.specs.Words.{program, property_named, property_names, request_of, required};
 ghost use Rattle.vote_cli.specs.Words.{rule_named, rule_names, share_in, share_over, text_option, votes_in, way_by, way_in, way_names};
 
 use crate::ending::kind_in_path;

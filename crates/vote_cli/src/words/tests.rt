@@ -5,6 +5,7 @@ use group_check::Property;
 use preflib_text::{Kind, Pick, Way};
 use seat_share::Method;
 use std::alloc::Global;
+use std::process::Abort;
 use std::test::Fail;
 
 fn read(alloc: Global, line: &str) -> Result<Result<Request, LineFault>, Fail> {

@@ -1,12 +1,13 @@
 //! Reads and writes that fail.
 use super::support::{
-    ANSWER, THREE, Wanted, assert_ended, reader, refused, request, run_on, writer,
+    ANSWER, THREE, Wanted, assert_ended, lines, read_line, reader, refused, request, run_on, writer,
 };
 use std::alloc::Global;
 use std::fmt::Write;
 use std::process::Abort;
 use std::test::Fail;
 use test_devices::{Fault, Recorder, SliceReader};
+use vote_cli::Request;
 
 static READ_FAILED: &[u8] = b"committees: read failed\n";
 
@@ -71,14 +72,18 @@ fn one_byte_a_call(rt: HostRuntime) -> Result<(), Fail> {
     Ok(())
 }
 
-#[test]
-fn each_byte_of_the_output_is_not_taken(rt: HostRuntime) -> Result<(), Fail> {
-    let alloc = rt.alloc();
-    let request = request(alloc, "1")?;
-    for taken in 0..ANSWER.len() {
+/// Asserts that a beginning of the answer is taken, up to where a write fails, for each of its bytes.
+fn assert_beginnings(
+    rt: &impl Abort,
+    alloc: Global,
+    request: &Request,
+    bytes: &[u8],
+    answer: &[u8],
+) {
+    for taken in 0..answer.len() {
         let wanted = Wanted {
             status: 6,
-            out: &ANSWER[..taken],
+            out: &answer[..taken],
             err: WRITE_FAILED,
         };
         let cases = [
@@ -89,9 +94,66 @@ fn each_byte_of_the_output_is_not_taken(rt: HostRuntime) -> Result<(), Fail> {
         ];
         for (case, piece, fault) in cases {
             let out = Recorder::new(alloc, piece, fault);
-            let ended = run_on(alloc, &request, reader(THREE), out, writer(alloc));
-            assert_ended(&rt, case, taken, &ended, wanted);
+            let ended = run_on(alloc, request, reader(bytes), out, writer(alloc));
+            assert_ended(rt, case, taken, &ended, wanted);
         }
+    }
+}
+
+/// The words, and the lines of the answer over `THREE`.
+static ANSWERS: &str = "\
+elect --rule av --size 1|rule av;size 1;score 2/1;1;2;end
+check --property jr --committee 1,3|holds
+check --property jr --committee 3 --category 2|holds
+check --property pjr --committee 1,2 --category 2|violated pjr;level 1;candidates 3;within -;voters 2 of 3;2: 3
+share --method hamilton --seats 1 --votes 1,1,1|method hamilton;seats 1;0,0,1;0,1,0;1,0,0;end
+share --method adams --seats 5 --votes 5,3,3|method adams;seats 5;2,1,2;2,2,1;end";
+
+#[test]
+fn each_byte_of_the_output_is_not_taken(rt: HostRuntime) -> Result<(), Fail> {
+    let alloc = rt.alloc();
+    for row in ANSWERS.lines() {
+        let (words, answer) = row.split_once('|').ok_or("words")?;
+        let line = format!(in alloc; "committees {words}")?;
+        let request = read_line(alloc, line.as_str())??;
+        let mut answer = lines(alloc, answer)?;
+        answer.push_str("\n")?;
+        assert_beginnings(&rt, alloc, &request, THREE, answer.as_bytes());
+    }
+    Ok(())
+}
+
+/// A failed flush blames the output for a report, too: its status is no longer that of a violation.
+#[test]
+fn the_flush_of_a_report_fails(rt: HostRuntime) -> Result<(), Fail> {
+    let alloc = rt.alloc();
+    let line = "committees check --property jr --committee 1,2 --category 2";
+    let request = read_line(alloc, line)??;
+    let out = Recorder::new(alloc, usize::MAX, Fault::AtFlush);
+    let ended = run_on(alloc, &request, reader(THREE), out, writer(alloc));
+    let wanted = Wanted {
+        status: 6,
+        out: b"violated jr\nlevel 1\ncandidates 3\nvoters 2 of 3\n2: 3\n",
+        err: WRITE_FAILED,
+    };
+    assert_ended(&rt, "the flush", 0, &ended, wanted);
+    assert_eq!(rt; ended.out.flushes(), 1);
+    Ok(())
+}
+
+/// A failed read comes before a committee or ballots that do not fit.
+#[test]
+fn a_read_fails_before_a_misfit(rt: HostRuntime) -> Result<(), Fail> {
+    let alloc = rt.alloc();
+    let cases = [
+        "committees check --property jr --committee 3,1",
+        "committees share --method dean --seats 1",
+    ];
+    for line in cases {
+        let request = read_line(alloc, line)??;
+        let reader = SliceReader::failing(THREE, 16, 3);
+        let ended = run_on(alloc, &request, reader, writer(alloc), writer(alloc));
+        assert_ended(&rt, line, 0, &ended, refused(6, READ_FAILED));
     }
     Ok(())
 }

@@ -2,15 +2,15 @@
 ghost use Rattle.std.specs.Prelude.{◌≡◌};
 
 use super::support::{
-    ANSWER, THREE, add, answered, assert_ended, name_in, read_line, reader, refused, request,
-    run_on, set_name, writer,
+    ANSWER, THREE, Wanted, add, answered, assert_ended, name_in, read_line, reader, refused,
+    request, run_on, set_name, violated, writer,
 };
 use ballot_base::{AddFault, CandSet, FinishFault, Profile, ProfileBuilder};
 use preflib_text::{FaultName, ReadFault, read_profile};
 use std::alloc::{Allocator, Global};
 use std::process::Abort;
 use std::test::Fail;
-use test_devices::Refusing;
+use test_devices::{Refusing, SliceReader};
 use vote_cli::Request;
 
 /// More growths than any of the calls below asks for.
@@ -68,21 +68,21 @@ static FILES: [File; 5] = [
 
 static MEMORY: &[u8] = b"committees: memory\n";
 
-/// Asserts that a run over these bytes answers just where no growth is refused. The run takes memory so often at least.
+/// Asserts that a run over these bytes ends so just where no growth is refused. The run takes memory so often at least.
 fn assert_growths_of_run(
     rt: &impl Abort,
     alloc: Global,
     case: &str,
     request: &Request,
     bytes: &[u8],
-    answer: &[u8],
+    wanted: Wanted<'_>,
     least: u64,
 ) -> Result<(), Fail> {
     for n in 1..=MANY {
         let heap = Refusing::new(alloc, n);
         let ended = run_on(&heap, request, reader(bytes), writer(alloc), writer(alloc));
         if !heap.has_refused() {
-            assert_ended(rt, case, 0, &ended, answered(answer));
+            assert_ended(rt, case, 0, &ended, wanted);
             assert!(rt; n > least, "{case} takes memory");
             return Ok(());
         }
@@ -96,10 +96,11 @@ fn each_growth_of_a_run(rt: HostRuntime) -> Result<(), Fail> {
     let alloc = rt.alloc();
     let one = request(alloc, "1")?;
     // The bytes, the names and the rows take memory.
-    assert_growths_of_run(&rt, alloc, "no name", &one, THREE, ANSWER, 3)?;
+    assert_growths_of_run(&rt, alloc, "no name", &one, THREE, answered(ANSWER), 3)?;
     for file in &FILES {
         // A name does too.
-        assert_growths_of_run(&rt, alloc, file.kind, &one, file.bytes, file.answer, 4)?;
+        let wanted = answered(file.answer);
+        assert_growths_of_run(&rt, alloc, file.kind, &one, file.bytes, wanted, 4)?;
     }
     Ok(())
 }
@@ -109,11 +110,61 @@ fn each_growth_of_a_sequence(rt: HostRuntime) -> Result<(), Fail> {
     let alloc = rt.alloc();
     // The sets that the choices make take memory, too.
     let grown = read_line(alloc, "committees elect --rule seqpav --size 2")??;
-    let answer = b"rule seqpav\nsize 2\n1,2\n1,3\n2,3\nend\n".as_slice();
-    assert_growths_of_run(&rt, alloc, "seqpav", &grown, THREE, answer, 4)?;
+    let wanted = answered(b"rule seqpav\nsize 2\n1,2\n1,3\n2,3\nend\n");
+    assert_growths_of_run(&rt, alloc, "seqpav", &grown, THREE, wanted, 4)?;
     let shrunk = read_line(alloc, "committees elect --rule revseqpav --size 1")??;
-    let answer = b"rule revseqpav\nsize 1\n1\n2\nend\n".as_slice();
-    assert_growths_of_run(&rt, alloc, "revseqpav", &shrunk, THREE, answer, 4)
+    let wanted = answered(b"rule revseqpav\nsize 1\n1\n2\nend\n");
+    assert_growths_of_run(&rt, alloc, "revseqpav", &shrunk, THREE, wanted, 4)
+}
+
+#[test]
+fn each_growth_of_a_check(rt: HostRuntime) -> Result<(), Fail> {
+    let alloc = rt.alloc();
+    let holds = read_line(alloc, "committees check --property ejr --committee 1,3")??;
+    let wanted = answered(b"holds\n");
+    assert_growths_of_run(&rt, alloc, "holds", &holds, THREE, wanted, 3)?;
+    let line = "committees check --property jr --committee 1,2 --category 2";
+    let violated_by_two = read_line(alloc, line)??;
+    let wanted = violated(b"violated jr\nlevel 1\ncandidates 3\nvoters 2 of 3\n2: 3\n");
+    assert_growths_of_run(&rt, alloc, "violated", &violated_by_two, THREE, wanted, 3)
+}
+
+#[test]
+fn each_growth_of_shares(rt: HostRuntime) -> Result<(), Fail> {
+    let alloc = rt.alloc();
+    let shares = read_line(alloc, "committees share --method adams --seats 2")??;
+    let text = b"# DATA TYPE: cat\n# NUMBER ALTERNATIVES: 3\n5: 1\n3: 2\n3: 3\n".as_slice();
+    let wanted = answered(b"method adams\nseats 2\n1,0,1\n1,1,0\nend\n");
+    assert_growths_of_run(&rt, alloc, "shares", &shares, text, wanted, 3)
+}
+
+/// Votes in the words want neither memory nor an input: each growth that there were would be refused, and each read
+/// would fail.
+#[test]
+fn votes_in_the_words(rt: HostRuntime) -> Result<(), Fail> {
+    let alloc = rt.alloc();
+    let cases = [
+        (
+            "53,24,23",
+            answered(b"method dhondt\nseats 7\n4,2,1\nend\n"),
+        ),
+        ("1", answered(b"method dhondt\nseats 7\n7\nend\n")),
+        ("0,0", refused(4, b"committees: request: NoVotes\n")),
+        (
+            "4294967296,1",
+            refused(4, b"committees: request: TooManyVotes\n"),
+        ),
+    ];
+    for (votes, wanted) in cases {
+        let line = format!(in alloc; "committees share --method dhondt --seats 7 --votes {votes}")?;
+        let request = read_line(alloc, line.as_str())??;
+        let heap = Refusing::new(alloc, 1);
+        let reader = SliceReader::failing(THREE, 16, 1);
+        let ended = run_on(&heap, &request, reader, writer(alloc), writer(alloc));
+        assert_ended(&rt, votes, 0, &ended, wanted);
+        assert!(rt; !heap.has_refused(), "no growth of {votes}");
+    }
+    Ok(())
 }
 
 /// Asserts that a file is read just where no growth is refused, and that each growth is refused at a line that takes

@@ -3,7 +3,7 @@ use super::support::{
     ANSWER, THREE, Wanted, assert_ended, read_line, reader, request, run_on, writer,
 };
 use std::test::Fail;
-use vote_cli::{Device, LineFault, Status, Told, run};
+use vote_cli::{Device, LineFault, Status, Task, Told, run};
 
 #[test]
 fn approval_voting(rt: HostRuntime) -> Result<(), Fail> {
@@ -62,7 +62,7 @@ fn approval_voting(rt: HostRuntime) -> Result<(), Fail> {
 fn words(rt: HostRuntime) -> Result<(), Fail> {
     let alloc = rt.alloc();
     let request = read_line(alloc, "committees elect --rule av --size 1 three.cat")??;
-    assert_eq!(rt; request.size(), 1);
+    assert!(rt; matches!(request.task(), Task::Elect(_, 1)), "one seat");
     assert!(rt; request.file() == Some("three.cat"));
     let fault = read_line(alloc, "committees elect --size 1")?;
     assert!(rt; matches!(&fault, Err(LineFault::Usage(_))), "no rule");

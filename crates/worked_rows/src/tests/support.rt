@@ -87,6 +87,42 @@ pub fn refused(status: u8, err: &[u8]) -> Wanted<'_> {
     }
 }
 
+/// A run that finds a property violated, with this report.
+pub fn violated(out: &[u8]) -> Wanted<'_> {
+    Wanted {
+        status: 1,
+        out,
+        err: b"",
+    }
+}
+
+/// Asserts what these words behind the program's name leave over these bytes.
+pub fn assert_leaves(
+    rt: &impl Abort,
+    alloc: Global,
+    words: &str,
+    bytes: &[u8],
+    wanted: Wanted<'_>,
+) -> Result<(), Fail> {
+    let line = format!(in alloc; "committees {words}")?;
+    let request = read_line(alloc, line.as_str())??;
+    let ended = run_on(alloc, &request, reader(bytes), writer(alloc), writer(alloc));
+    assert_ended(rt, words, 0, &ended, wanted);
+    Ok(())
+}
+
+/// Asserts that these words behind the program's name do not fit these bytes, by a fault of this name.
+pub fn assert_misfit(
+    rt: &impl Abort,
+    alloc: Global,
+    words: &str,
+    bytes: &[u8],
+    name: &str,
+) -> Result<(), Fail> {
+    let line = format!(in alloc; "committees: request: {name}\n")?;
+    assert_leaves(rt, alloc, words, bytes, refused(4, line.as_bytes()))
+}
+
 /// Asserts what the words from the number of seats on leave over these bytes.
 pub fn assert_runs(
     rt: &impl Abort,
@@ -167,6 +203,21 @@ pub fn lines(alloc: Global, text: &str) -> Result<String, AllocError> {
         lines.push_str(line)?;
     }
     Ok(lines)
+}
+
+/// A cat file with so many alternatives and these ballots. A `;` stands for the end of a line.
+pub fn cat_file(alloc: Global, alternatives: &str, ballots: &str) -> Result<String, AllocError> {
+    let ballots = lines(alloc, ballots)?;
+    format!(in alloc; "# DATA TYPE: cat\n# NUMBER ALTERNATIVES: {alternatives}\n{ballots}\n")
+}
+
+/// The numbers from 1 to the last, joined by commas.
+pub fn numbers_to(alloc: Global, last: u8) -> Result<String, AllocError> {
+    let mut list = String::from_str(alloc, "1")?;
+    for n in 2..=last {
+        list.push_str(format!(in alloc; ",{n}")?.as_str())?;
+    }
+    Ok(list)
 }
 
 /// Adds voters with one ballot over 40 candidates.

@@ -1,0 +1,261 @@
+//! Checks of committees, from the words to the bytes. The reports are worked by hand from the properties: a group is
+//! large enough for a level where its voters times the seats are no fewer than all voters times the level.
+use super::support::{
+    THREE, answered, assert_leaves, assert_misfit, cat_file, lines, numbers_to, refused, violated,
+};
+use std::alloc::Global;
+use std::process::Abort;
+use std::test::Fail;
+
+/// Two groups of voters with nothing in common.
+static PARTED: &[u8] = b"# DATA TYPE: cat\n# NUMBER ALTERNATIVES: 4\n3: {1,2}\n1: {3,4}\n";
+
+/// The property and the words behind it, from those of the committee on, and the lines of the answer.
+static OVER_PARTED: &str = "\
+jr 3,4|violated jr;level 1;candidates 1;voters 3 of 4;3: 1,2
+pjr 3,4|violated pjr;level 1;candidates 1;within -;voters 3 of 4;3: 1,2
+ejr 3,4|violated ejr;level 1;candidates 1;voters 3 of 4;3: 1,2
+jr 1,2|holds
+pjr 1,2|holds
+ejr 1,2|holds
+ejr 1,3|holds
+jr 3|holds
+ejr 3|holds
+jr 1,3,4|holds
+pjr 1,3,4|violated pjr;level 2;candidates 1,2;within 1;voters 3 of 4;3: 1,2
+ejr 1,3,4|violated ejr;level 2;candidates 1,2;voters 3 of 4;3: 1,2
+jr 1,2,3,4|holds
+pjr 1,2,3,4|holds
+ejr 1,2,3,4|holds
+jr 03,0004|violated jr;level 1;candidates 1;voters 3 of 4;3: 1,2";
+
+static OVER_THREE: &str = "\
+jr 1,3|holds
+pjr 1,3|holds
+ejr 1,3|holds
+jr 3|holds
+jr 1,2 --category 2|violated jr;level 1;candidates 3;voters 2 of 3;2: 3
+ejr 1,2,3|holds";
+
+/// Two voters with two candidates in common, each with another of their own.
+static LINKED: &[u8] = b"# DATA TYPE: cat\n# NUMBER ALTERNATIVES: 4\n1: {1,2,3}\n1: {1,2,4}\n";
+
+static OVER_LINKED: &str = "\
+jr 3,4|holds
+pjr 3,4|holds
+ejr 3,4|violated ejr;level 2;candidates 1,2;voters 2 of 2;1: 1,2,3;1: 1,2,4
+pjr 1,3|holds
+ejr 1,3|holds
+ejr 1,2|holds";
+
+/// All voters have four candidates in common.
+static UNITED: &[u8] = b"# DATA TYPE: cat\n# NUMBER ALTERNATIVES: 5\n2: {1,2,3,4}\n";
+
+static OVER_UNITED: &str = "\
+jr 5|violated jr;level 1;candidates 1;voters 2 of 2;2: 1,2,3,4
+pjr 5|violated pjr;level 1;candidates 1;within -;voters 2 of 2;2: 1,2,3,4
+ejr 5|violated ejr;level 1;candidates 1;voters 2 of 2;2: 1,2,3,4
+jr 4,5|holds
+pjr 4,5|violated pjr;level 2;candidates 1,2;within 4;voters 2 of 2;2: 1,2,3,4
+ejr 4,5|violated ejr;level 2;candidates 1,2;voters 2 of 2;2: 1,2,3,4
+jr 3,4,5|holds
+pjr 3,4,5|violated pjr;level 3;candidates 1,2,3;within 3,4;voters 2 of 2;2: 1,2,3,4
+ejr 3,4,5|violated ejr;level 3;candidates 1,2,3;voters 2 of 2;2: 1,2,3,4
+pjr 1,2,3|holds
+ejr 1,2,3|holds";
+
+/// Three candidates in common. Of the other three each voter approves two, and all voters together all three.
+static TURNING: &[u8] =
+    b"# DATA TYPE: cat\n# NUMBER ALTERNATIVES: 6\n1: {1,2,3,4,5}\n1: {1,2,3,5,6}\n1: {1,2,3,4,6}\n";
+
+static OVER_TURNING: &str = "\
+jr 4,5,6|holds
+pjr 4,5,6|holds
+ejr 4,5,6|violated ejr;level 3;candidates 1,2,3;voters 3 of 3;1: 1,2,3,4,5;1: 1,2,3,5,6;1: 1,2,3,4,6
+ejr 1,2,3|holds
+ejr 1,2,3,4,5,6|holds";
+
+/// Rankings: approvals come with the words.
+static RANKED: &[u8] = b"# DATA TYPE: soc\n# NUMBER ALTERNATIVES: 4\n3: 1,2,3,4\n1: 3,4,1,2\n";
+
+static OVER_RANKED: &str = "\
+jr 3,4 --setsize 2|violated jr;level 1;candidates 1;voters 3 of 4;3: 1,2
+pjr 3,4 --setsize 2|violated pjr;level 1;candidates 1;within -;voters 3 of 4;3: 1,2
+jr 3,4|violated jr;level 1;candidates 1;voters 3 of 4;3: 1
+jr 3,4 --setsize 3|holds
+ejr 3,4 --setsize 3|holds
+ejr 3,4 --classes 4|holds";
+
+/// Asserts the answer to a property and the words behind it, from those of the committee on.
+fn assert_checks(
+    rt: &impl Abort,
+    alloc: Global,
+    words: &str,
+    bytes: &[u8],
+    answer: &str,
+) -> Result<(), Fail> {
+    let (property, rest) = words.split_once(' ').ok_or("a property")?;
+    let line = format!(in alloc; "check --property {property} --committee {rest}")?;
+    let mut report = lines(alloc, answer)?;
+    report.push_str("\n")?;
+    let wanted = if answer == "holds" {
+        answered(report.as_bytes())
+    } else {
+        violated(report.as_bytes())
+    };
+    assert_leaves(rt, alloc, line.as_str(), bytes, wanted)
+}
+
+/// Asserts each line of a table over one input.
+fn assert_table(rt: &impl Abort, alloc: Global, bytes: &[u8], table: &str) -> Result<(), Fail> {
+    for row in table.lines() {
+        let (words, answer) = row.split_once('|').ok_or("a bar")?;
+        assert_checks(rt, alloc, words, bytes, answer)?;
+    }
+    Ok(())
+}
+
+#[test]
+fn tables(rt: HostRuntime) -> Result<(), Fail> {
+    let alloc = rt.alloc();
+    assert_table(&rt, alloc, PARTED, OVER_PARTED)?;
+    assert_table(&rt, alloc, THREE, OVER_THREE)?;
+    assert_table(&rt, alloc, LINKED, OVER_LINKED)?;
+    assert_table(&rt, alloc, UNITED, OVER_UNITED)?;
+    assert_table(&rt, alloc, TURNING, OVER_TURNING)?;
+    assert_table(&rt, alloc, RANKED, OVER_RANKED)
+}
+
+/// The number of alternatives and the ballots, the property and the words behind it, and the lines of the answer.
+static GROUPS: &str = "\
+4|2: {1,2,3}|jr 3,4|holds
+4|2: {1,2,3}|pjr 3,4|violated pjr;level 2;candidates 1,2;within 3;voters 2 of 2;2: 1,2,3
+4|2: {1,2,3}|ejr 3,4|violated ejr;level 2;candidates 1,2;voters 2 of 2;2: 1,2,3
+4|2: {1,2,4}|pjr 3,4|violated pjr;level 2;candidates 1,2;within 4;voters 2 of 2;2: 1,2,4
+4|1: {1};2: {2};1: {3}|jr 1,3|violated jr;level 1;candidates 2;voters 2 of 4;2: 2
+3|2: {1};1: {1,2};1: {3}|jr 2,3|violated jr;level 1;candidates 1;voters 2 of 4;2: 1
+4|1: {4,1};1: {2,1};2: {1}|jr 2,3|violated jr;level 1;candidates 1;voters 3 of 4;1: 1,4;2: 1
+6|2: {1,2,4};2: {1,2,3}|pjr 3,4,5,6|violated pjr;level 2;candidates 1,2;within 3;voters 2 of 4;2: 1,2,3
+6|2: {1,2,4};2: {1,2,3}|ejr 3,4,5,6|violated ejr;level 2;candidates 1,2;voters 4 of 4;2: 1,2,4;2: 1,2,3
+3|2: {1};1: {};1: {3}|jr 2,3|violated jr;level 1;candidates 1;voters 2 of 4;2: 1
+3|2: {1};2: {};1: {3}|jr 2,3|holds
+3|2: {1};2: {};1: {3}|pjr 2,3|holds
+3|2: {1};2:;1: {3}|ejr 2,3|holds
+3|5: {}|jr 2|holds
+3|5: {}|pjr 2,3|holds
+3|5: {}|ejr 1,3|holds
+1|1: {1}|ejr 1|holds
+1|1: {}|pjr 1|holds
+2|4294967296: {1}|jr 2|violated jr;level 1;candidates 1;voters 4294967296 of 4294967296;4294967296: 1
+2|4294967296: {1}|ejr 1|holds
+2|4294967295: {1};1: {2}|jr 2|holds
+3|2147483648: {1};2147483648: {2}|pjr 2,3|violated pjr;level 1;candidates 1;within -;voters 2147483648 of 4294967296;2147483648: 1
+3|2147483647: {1};2147483649: {2}|pjr 2,3|holds
+4|2: 1,2;1: 2,1;1: 3|jr 3,4 --kind soi --setsize 2|violated jr;level 1;candidates 1;voters 3 of 4;3: 1,2
+4|2: 1,2;1: 2,1;1: 3|ejr 3,4 --kind soi|violated ejr;level 1;candidates 1;voters 2 of 4;2: 1";
+
+#[test]
+fn groups(rt: HostRuntime) -> Result<(), Fail> {
+    let alloc = rt.alloc();
+    for row in GROUPS.lines() {
+        let (alternatives, rest) = row.split_once('|').ok_or("alternatives")?;
+        let (ballots, rest) = rest.split_once('|').ok_or("ballots")?;
+        let (words, answer) = rest.split_once('|').ok_or("words")?;
+        let text = cat_file(alloc, alternatives, ballots)?;
+        assert_checks(&rt, alloc, words, text.as_bytes(), answer)?;
+    }
+    Ok(())
+}
+
+#[test]
+fn forty_candidates(rt: HostRuntime) -> Result<(), Fail> {
+    let alloc = rt.alloc();
+    let text = cat_file(alloc, "40", "1: {40}")?;
+    let all = numbers_to(alloc, 40)?;
+    let words = format!(in alloc; "jr {all}")?;
+    assert_checks(&rt, alloc, words.as_str(), text.as_bytes(), "holds")?;
+    let most = numbers_to(alloc, 39)?;
+    let words = format!(in alloc; "jr {most}")?;
+    let report = "violated jr;level 1;candidates 40;voters 1 of 1;1: 40";
+    assert_checks(&rt, alloc, words.as_str(), text.as_bytes(), report)
+}
+
+/// One voter for each two of the candidates 2 to 39, who approves 1 beside them: the lines of the input, or those of
+/// the report.
+fn all_beside_one(alloc: Global, open: &str, close: &str) -> Result<String, Fail> {
+    let mut text = String::new(alloc);
+    for first in 2..39u8 {
+        for second in first + 1..=39 {
+            let line = format!(in alloc; "1: {open}1,{first},{second}{close}\n")?;
+            text.push_str(line.as_str())?;
+        }
+    }
+    Ok(text)
+}
+
+/// The report does not fit the room in which the output is put together.
+#[test]
+fn a_long_report(rt: HostRuntime) -> Result<(), Fail> {
+    let alloc = rt.alloc();
+    let ballots = all_beside_one(alloc, "{", "}")?;
+    let text = cat_file(alloc, "40", ballots.as_str())?;
+    let rows = all_beside_one(alloc, "", "")?;
+    let head = "violated jr\nlevel 1\ncandidates 1\nvoters 703 of 703\n";
+    let report = format!(in alloc; "{head}{rows}")?;
+    // 51 bytes, and 7 on each of 703 lines beside the digits: 37 lines have each of 8 + 30 candidates.
+    assert_eq!(rt; report.len(), 51 + 703 * 7 + 37 * (8 + 30 * 2));
+    let words = "check --property jr --committee 40";
+    let wanted = violated(report.as_bytes());
+    assert_leaves(&rt, alloc, words, text.as_bytes(), wanted)
+}
+
+/// Lists that are no committee of four candidates.
+static MISFITS: &str = "\
+3,1
+2,1
+4,3,2,1
+1,1
+1,2,2
+0
+0,1
+5
+1,5
+1,2,3,4,5
+257
+4294967297
+18446744073709551615";
+
+#[test]
+fn misfits(rt: HostRuntime) -> Result<(), Fail> {
+    let alloc = rt.alloc();
+    for list in MISFITS.lines() {
+        for property in ["jr", "pjr", "ejr"] {
+            let words = format!(in alloc; "check --property {property} --committee {list}")?;
+            assert_misfit(&rt, alloc, words.as_str(), PARTED, "CommitteeMisfit")?;
+        }
+    }
+    let words = "check --property jr --committee 3,1";
+    assert_misfit(&rt, alloc, words, THREE, "CommitteeMisfit")?;
+    let text = cat_file(alloc, "40", "1: {1}")?;
+    let many = numbers_to(alloc, 41)?;
+    let words = format!(in alloc; "check --property jr --committee {many}")?;
+    assert_misfit(
+        &rt,
+        alloc,
+        words.as_str(),
+        text.as_bytes(),
+        "CommitteeMisfit",
+    )
+}
+
+/// The input is tested before the committee.
+#[test]
+fn faults_of_the_input(rt: HostRuntime) -> Result<(), Fail> {
+    let alloc = rt.alloc();
+    let words = "check --property jr --committee 3,1";
+    let wanted = refused(3, b"committees: input: NoAlternatives\n");
+    assert_leaves(&rt, alloc, words, b"", wanted)?;
+    let words = "check --property jr --committee 0 --setsize 2";
+    let wanted = refused(3, b"committees: input line 3: PickMisfit\n");
+    assert_leaves(&rt, alloc, words, PARTED, wanted)
+}
