@@ -1,0 +1,95 @@
+//! The jobs of `committees` in plain Rust: the same words, the same methods and the same output, with no proofs. It
+//! serves as a yardstick for speed and takes its words and files on trust.
+mod check;
+mod compare;
+mod elect;
+mod generate;
+mod profile;
+mod sets;
+mod share;
+
+use profile::Profile;
+use std::collections::HashMap;
+use std::env;
+use std::fs::File;
+use std::io::{self, BufWriter, Read, Write};
+use std::process::ExitCode;
+
+/// The options by their names, and the file, if one is named.
+struct Words {
+    options: HashMap<String, String>,
+    file: Option<String>,
+}
+
+impl Words {
+    fn parse(words: impl Iterator<Item = String>) -> Words {
+        let mut parsed = Words {
+            options: HashMap::new(),
+            file: None,
+        };
+        let mut words = words;
+        while let Some(word) = words.next() {
+            match word.strip_prefix("--") {
+                Some(name) => {
+                    let value = words.next().expect("a value behind each option");
+                    parsed.options.insert(name.to_string(), value);
+                }
+                None => parsed.file = Some(word),
+            }
+        }
+        parsed
+    }
+
+    fn text(&self, name: &str) -> &str {
+        self.options.get(name).expect("an option that the command needs")
+    }
+
+    fn number(&self, name: &str) -> usize {
+        self.text(name).parse().expect("a number")
+    }
+
+    fn list(&self, name: &str) -> Option<Vec<u64>> {
+        let text = self.options.get(name)?;
+        Some(text.split(',').map(|n| n.parse().expect("a number")).collect())
+    }
+
+    fn profile(&self) -> Profile {
+        let mut input = Vec::new();
+        let read = match &self.file {
+            Some(path) => File::open(path).and_then(|mut file| file.read_to_end(&mut input)),
+            None => io::stdin().read_to_end(&mut input),
+        };
+        read.expect("an input");
+        Profile::read(&input)
+    }
+}
+
+fn main() -> ExitCode {
+    let mut words = env::args().skip(1);
+    let command = words.next().expect("a command");
+    if command == "generate" {
+        generate::write(words, &mut BufWriter::new(io::stdout().lock())).expect("an output");
+        return ExitCode::SUCCESS;
+    }
+    if command == "compare" {
+        compare::print(words).expect("two programs");
+        return ExitCode::SUCCESS;
+    }
+    let words = Words::parse(words);
+    let mut out = BufWriter::new(io::stdout().lock());
+    let holds = match command.as_str() {
+        "elect" => elect::write(&mut out, &words.profile(), words.text("rule"), words.number("size")),
+        "check" => {
+            let committee = words.list("committee").expect("a committee");
+            check::write(&mut out, &words.profile(), words.text("property"), &committee)
+        }
+        "share" => {
+            let votes = words.list("votes").unwrap_or_else(|| words.profile().party_votes());
+            share::write(&mut out, &votes, words.text("method"), words.number("seats"))
+        }
+        other => panic!("no command {other}"),
+    };
+    let holds = holds.expect("an output");
+    out.flush().expect("an output");
+    if holds { ExitCode::SUCCESS } else { ExitCode::from(1) }
+}
