@@ -1,6 +1,8 @@
 pub mod Choices
 pub mod Distances
 pub mod Examples
+pub mod FoundLemmas
+pub mod Groups
 pub mod LawLemmas
 pub mod LevelLemmas
 pub mod OrderLemmas

@@ -70,49 +70,54 @@ thiele_value-by_sums m weights sums (row ∷ rows) committee most all is =
 
 -- by a table of the parts of a whole
 pub satisfaction_value-by_parts : (m n : ℕ) (shares : List ℕ) (rows : List Row) (committee : List ℕ) → m ≤ 40 → AreBallots m rows → shares ≡ parts (common_multiple n)
-    → sum_by (λ (r : Row). r.1 * (hits r.0 committee * get_or shares (length r.0) 0)) rows ≡ satisfaction_value n rows committee
+    → sum_by (λ (r : Row). r.1 * hits r.0 committee * get_or shares (length r.0) 0) rows ≡ satisfaction_value n rows committee
 satisfaction_value-by_parts m n shares [] committee most all is = refl
 satisfaction_value-by_parts m n shares (([], voters) ∷ rows) committee most all is =
     omega (
       arith,
       satisfaction_value-by_parts m n shares rows committee most all.1 is,
-      sum_by-cons (λ (r : Row). r.1 * (hits r.0 committee * get_or shares (length r.0) 0)) ([], voters) rows,
+      sum_by-cons (λ (r : Row). r.1 * hits r.0 committee * get_or shares (length r.0) 0) ([], voters) rows,
     )
 satisfaction_value-by_parts m n shares ((x ∷ ballot, voters) ∷ rows) committee most all is =
     let own : List ℕ = x ∷ ballot in
     let row : Row = (x ∷ ballot, voters) in
     let here : get_or shares (length own) 0 ≡ common_multiple n / length own =
     ap (λ s. get_or s (length own) 0) is ∙ parts-at (common_multiple n) (length own) (omega arith) (omega (arith, length-increasing 1 m own all.0)) in
-    let product : voters * (hits own committee * get_or shares (length own) 0) ≡ voters * hits own committee * (common_multiple n / length own) =
-    ap (λ k. voters * (hits own committee * k)) here ∙ omega arith in
+    let product : voters * hits own committee * get_or shares (length own) 0 ≡ voters * hits own committee * (common_multiple n / length own) =
+    ap (λ k. voters * hits own committee * k) here in
     let kept : List Row = filter (λ (r : Row). not (length r.0 == 0)) rows in
     let whole : satisfaction_value n (row ∷ rows) committee ≡ voters * hits own committee * (common_multiple n / length own) + satisfaction_value n rows committee =
     ap (λ b. sum_by (λ (r : Row). r.1 * hits r.0 committee * (common_multiple n / length r.0)) (cond (not b) (row ∷ kept) kept)) (ne_eqb (length own) 0 (λ e. omega (arith, e)))
     ∙ sum_by-cons (λ (r : Row). r.1 * hits r.0 committee * (common_multiple n / length r.0)) row kept in
-    let made : sum_by (λ (r : Row). r.1 * (hits r.0 committee * get_or shares (length r.0) 0)) (row ∷ rows) ≡ voters * (hits own committee * get_or shares (length own) 0)
-    + sum_by (λ (r : Row). r.1 * (hits r.0 committee * get_or shares (length r.0) 0)) rows =
-    sum_by-cons (λ (r : Row). r.1 * (hits r.0 committee * get_or shares (length r.0) 0)) row rows in
+    let made : sum_by (λ (r : Row). r.1 * hits r.0 committee * get_or shares (length r.0) 0) (row ∷ rows) ≡ voters * hits own committee * get_or shares (length own) 0
+    + sum_by (λ (r : Row). r.1 * hits r.0 committee * get_or shares (length r.0) 0) rows =
+    sum_by-cons (λ (r : Row). r.1 * hits r.0 committee * get_or shares (length r.0) 0) row rows in
     omega (arith, product, made, whole, satisfaction_value-by_parts m n shares rows committee most all.1 is)
 
--- a product with an element of a table
-pub product-same : (table : List ℕ) (a b i j : ℕ) → a ≡ b → i ≡ j → a * get_or table i 0 ≡ b * get_or table j 0
-product-same table a b i j e f = ap (λ n. n * get_or table i 0) e ∙ ap (λ k. b * get_or table k 0) f
+-- ---- what a table of counts stands on
 
--- ---- what a row gives for its shares
+hits-within : (m : ℕ) (ballot committee : List ℕ) → IsIncreasing 1 m ballot → hits ballot committee < m + 1
+hits-within m ballot committee h = omega (arith, length-increasing 1 m ballot h, count_by-le-length (has_member committee) ballot)
 
--- more candidates than are approved share no more than the whole
-pub share-most : (m n : ℕ) (shares ballot committee : List ℕ) → m ≤ 40 → n ≤ 40 → IsIncreasing 1 m ballot → shares ≡ parts (common_multiple n)
-    → hits ballot committee * get_or shares (length ballot) 0 ≤ 40 * 5342931457063200
-share-most m n shares ballot committee most few h is =
-    let share : get_or shares (length ballot) 0 ≤ 5342931457063200 =
-    omega (arith, ap (λ s. get_or s (length ballot) 0) is, parts-most (common_multiple n) (length ballot), common_multiple_most n few) in
-    mul-le-mul (hits-most m ballot committee most h) share
+-- no ballot has more hits, nor more candidates, than there are candidates
+pub all_hits-within : (m : ℕ) (rows : List Row) (committee : List ℕ) → AreBallots m rows → AllByRecursion (λ (r : Row). hits r.0 committee < m + 1) rows
+all_hits-within m [] committee all = _
+all_hits-within m (row ∷ rows) committee all = (hits-within m row.0 committee all.0, all_hits-within m rows committee all.1)
+
+pub all_sizes-within : (m : ℕ) (rows : List Row) → AreBallots m rows → AllByRecursion (λ (r : Row). length r.0 < m + 1) rows
+all_sizes-within m [] all = _
+all_sizes-within m (row ∷ rows) all = (omega (arith, length-increasing 1 m row.0 all.0), all_sizes-within m rows all.1)
+
+-- the hits of all voters together
+pub all_hits-most : (e : Election) (committee : List ℕ) → IsElection e → sum_by (λ (r : Row). r.1 * hits r.0 committee) e.rows ≤ 2 ^ 32 * 40
+all_hits-most e committee valid =
+    omega (arith, valid.voters, rows-most (λ (r : Row). hits r.0 committee) e.m 40 e.rows valid.ballots (λ r h. hits-most e.m r.0 committee valid.most h))
 
 -- a row has no more voters than there are
 pub votes-hits-most : (e : Election) (i : ℕ) (row : Row) (committee : List ℕ) → IsElection e → slice_get e.rows i ≡ Some row → row.1 * hits row.0 committee ≤ 40 * 2 ^ 32
 votes-hits-most e i row committee valid found =
     omega (arith, rows-bound (λ (r : Row). hits r.0 committee) e 40 i row valid (λ r h. hits-most e.m r.0 committee valid.most h) found)
 
--- the code's product is the row's
-pub share-product : (shares : List ℕ) (votes hit share at h n : ℕ) → hit ≡ votes * h → share ≡ get_or shares at 0 → at ≡ n → hit * share ≡ votes * (h * get_or shares n 0)
-share-product shares votes hit share at h n e f k = ap (λ x. x * share) e ∙ ap (λ x. votes * h * x) (f ∙ ap (λ i. get_or shares i 0) k) ∙ omega arith
+-- no part is more than the whole
+pub parts-bound : (n : ℕ) (shares : List ℕ) (x : ℕ) → n ≤ 40 → shares ≡ parts (common_multiple n) → get_or shares x 0 ≤ 2 ^ 84
+parts-bound n shares x few is = omega (arith, ap (λ s. get_or s x 0) is, parts-most (common_multiple n) x, common_multiple_most n few)

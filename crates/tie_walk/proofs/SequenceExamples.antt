@@ -6,7 +6,7 @@ use Rattle.ballot_base.specs.CommonMultiple.{common_multiple}
 use Rattle.ballot_base.specs.Increments.{increments}
 use Rattle.ballot_base.specs.declared.increments.ThieleRule.TheVariants.{Pav, Cc}
 use Rattle.tie_walk.specs.Sequences.{weight, supporters, gain, loss, others, is_grown, is_shrunk, sequences, sequential_winners}
-use Rattle.tie_walk.specs.Steps.{is_no_better, open_candidates, change, start, better, worst, worth, hits_of, is_choice, changes, follows}
+use Rattle.tie_walk.specs.Steps.{is_no_better, open_candidates, change, start, better, worst, worth, hits_of, is_choice, changes, is_same_set, follows}
 use Rattle.tie_walk.specs.declared.sequential.Step.TheVariants.{Grow, Shrink}
 use Rattle.tie_walk.specs.declared.sequential.SeqRule.TheVariants.{SeqPav, SeqCc, RevSeqPav}
 
@@ -125,6 +125,9 @@ choice = refl
 changes_of_one : changes Grow (increments Cc 4) 4 pairs.rows (1 ∷ []) ≡ (1 ∷ 3 ∷ []) ∷ (1 ∷ 4 ∷ []) ∷ []
 unfolding pairs increments changes
 changes_of_one = refl
+
+same_sets : (is_same_set (1 ∷ 3 ∷ []) (1 ∷ 3 ∷ []) ≡ true) × (is_same_set (1 ∷ 3 ∷ []) (2 ∷ 3 ∷ []) ≡ false)
+same_sets = (refl, refl)
 
 -- any choice may be made here, and each adds a candidate
 followed : follows (λ set c. true) (change Grow) [] (2 ∷ 1 ∷ []) ≡ true

@@ -1,12 +1,12 @@
 //! The values of satisfaction approval voting.
-ghost use Rattle.std.specs.Prelude.{◌≡◌, ℕ, ◌*◌, ◌<◌, ◌≤◌, List, length, sum_by, slice_index};
+ghost use Rattle.std.specs.Prelude.{◌≡◌, ℕ, ◌*◌, ◌≤◌, ◌==◌, length, filter, sum_by, slice_index};
 ghost use Rattle.ballot_base.specs.Lists.{IsIncreasing};
 ghost use Rattle.ballot_base.specs.Ballots.{hits};
 ghost use Rattle.ballot_base.specs.CommonMultiple.{common_multiple};
 ghost use Rattle.tie_walk.specs.Values.{satisfaction_value};
 ghost use Rattle.tie_walk.specs.Tables.{parts};
 
-use crate::tally::Tally;
+use crate::tally::{Tally, sum_of_worths};
 use ballot_base::{CandSet, Profile, common_multiple};
 use std::alloc::{Allocator, Global};
 use std::marker::Model;
@@ -16,9 +16,9 @@ use std::marker::Model;
 #[derive(Drop)]
 pub struct SavTally<'a, A: Allocator + Copy = Global> {
     profile: &'a Profile<A>,
-    denom: u64,
+    denom: u128,
     // What a hit on a ballot of n candidates gives, at n; 0 at 0.
-    shares: [u64; 41],
+    shares: [u128; 41],
 }
 
 impl<'a, A: Allocator + Copy> Model for SavTally<'a, A> {
@@ -39,7 +39,7 @@ impl<'a, A: Allocator + Copy> SavTally<'a, A> {
     pub fn new(profile: &'a Profile<A>) -> SavTally<'a, A>
         ensures { result ≡ profile.now }
     {
-        let denom = common_multiple(profile.m()) as u64;
+        let denom = common_multiple(profile.m());
         SavTally {
             profile,
             denom,
@@ -51,7 +51,7 @@ impl<'a, A: Allocator + Copy> SavTally<'a, A> {
     pub fn denominator(&self) -> u128
         ensures { result ≡ common_multiple self.now.m }
     {
-        u128::from(self.denom)
+        self.denom
     }
 }
 
@@ -70,12 +70,12 @@ impl<'a, A: Allocator + Copy> Tally for SavTally<'a, A> {
 }
 
 /// The n-th part of a whole, at n; 0 at 0.
-fn parts(whole: u64) -> [u64; 41]
+fn parts(whole: u128) -> [u128; 41]
     ensures { result ≡ parts whole }
 {
     let mut parts = [0; 41];
     for n in 1..41 {
-        parts[n] = whole / n as u64;
+        parts[n] = whole / n as u128;
     }
     parts
 }
@@ -83,17 +83,25 @@ fn parts(whole: u64) -> [u64; 41]
 /// The sum over the voters of what they give for their hits on ballots of that many candidates.
 fn sum_of_shares<A: Allocator + Copy>(
     profile: &Profile<A>,
-    shares: &[u64; 41],
+    shares: &[u128; 41],
     set: CandSet,
 ) -> u128
     requires { shares.now ≡ parts (common_multiple profile.now.m) }
     ensures { result ≡ satisfaction_value profile.now.m profile.now.rows set }
 {
-    let mut value = 0;
+    let counts = hits_by_size(profile, set);
+    sum_of_worths(&counts, shares, profile.m())
+}
+
+/// For each number of candidates on a ballot, the hits of all voters with such a ballot together.
+fn hits_by_size<A: Allocator + Copy>(profile: &Profile<A>, set: CandSet) -> [u64; 41]
+    ensures { (n : ℕ) → slice_index result n ≡ sum_by (λ row. row.1 * hits row.0 set) (filter (λ row. length row.0 == n) profile.now.rows) }
+{
+    let mut counts = [0; 41];
     for i in 0..profile.rows() {
         let (ballot, voters) = profile.row(i);
-        let hits = voters * u64::from(ballot.common(set).len());
-        value += u128::from(hits) * u128::from(shares[usize::from(ballot.len())]);
+        let hits = u64::from(ballot.common(set).len());
+        counts[usize::from(ballot.len())] += voters * hits;
     }
-    value
+    counts
 }

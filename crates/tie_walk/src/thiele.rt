@@ -1,12 +1,12 @@
 //! The values of Thiele's rules.
-ghost use Rattle.std.specs.Prelude.{◌≡◌, ℕ, ◌+◌, ◌*◌, ◌^◌, ◌<◌, ◌≤◌, List, length, sum, sum_by, slice_index};
+ghost use Rattle.std.specs.Prelude.{◌≡◌, ℕ, ◌+◌, ◌*◌, ◌^◌, ◌<◌, ◌≤◌, ◌==◌, List, filter, sum, slice_index};
 ghost use Rattle.ballot_base.specs.Lists.{IsIncreasing};
-ghost use Rattle.ballot_base.specs.Ballots.{hits};
+ghost use Rattle.ballot_base.specs.Ballots.{hits, voter_count};
 ghost use Rattle.ballot_base.specs.Increments.{increments, denominator};
 ghost use Rattle.tie_walk.specs.Values.{thiele_value};
 ghost use Rattle.tie_walk.specs.Tables.{Thiele, thiele_of, prefix_sums};
 
-use crate::tally::Tally;
+use crate::tally::{Tally, sum_of_worths};
 use ballot_base::{CandSet, Increments, Profile, ThieleRule};
 use std::alloc::{Allocator, Global};
 use std::marker::Model;
@@ -90,10 +90,18 @@ fn sum_of_hits<A: Allocator + Copy>(profile: &Profile<A>, sums: &[u128; 41], set
     requires { (x : ℕ) → slice_index sums.now x ≤ 2 ^ 84 }
     ensures { (weights : List ℕ) → sums.now ≡ prefix_sums weights → result ≡ thiele_value weights profile.now.rows set }
 {
-    let mut value = 0;
+    let counts = voters_by_hits(profile, set);
+    sum_of_worths(&counts, sums, profile.m())
+}
+
+/// How many voters have each number of hits.
+fn voters_by_hits<A: Allocator + Copy>(profile: &Profile<A>, set: CandSet) -> [u64; 41]
+    ensures { (j : ℕ) → slice_index result j ≡ voter_count (filter (λ row. hits row.0 set == j) profile.now.rows) }
+{
+    let mut counts = [0; 41];
     for i in 0..profile.rows() {
         let (ballot, voters) = profile.row(i);
-        value += u128::from(voters) * sums[usize::from(ballot.common(set).len())];
+        counts[usize::from(ballot.common(set).len())] += voters;
     }
-    value
+    counts
 }

@@ -193,20 +193,37 @@ fn all_beside_one(alloc: Global, open: &str, close: &str) -> Result<String, Fail
     Ok(text)
 }
 
-/// The report does not fit the room in which the output is put together.
-#[test]
-fn a_long_report(rt: HostRuntime) -> Result<(), Fail> {
-    let alloc = rt.alloc();
+/// A check of a file, and its report, which does not fit the room in which the output is put together.
+#[derive(Drop)]
+pub struct LongCheck {
+    /// The words behind the program's name.
+    pub words: &'static str,
+    pub file: String,
+    pub report: String,
+}
+
+/// The check of a committee that nobody of 703 voters approves.
+pub fn long_check(alloc: Global) -> Result<LongCheck, Fail> {
     let ballots = all_beside_one(alloc, "{", "}")?;
-    let text = cat_file(alloc, "40", ballots.as_str())?;
+    let file = cat_file(alloc, "40", ballots.as_str())?;
     let rows = all_beside_one(alloc, "", "")?;
     let head = "violated jr\nlevel 1\ncandidates 1\nvoters 703 of 703\n";
     let report = format!(in alloc; "{head}{rows}")?;
+    Ok(LongCheck {
+        words: "check --property jr --committee 40",
+        file,
+        report,
+    })
+}
+
+#[test]
+fn a_long_report(rt: HostRuntime) -> Result<(), Fail> {
+    let alloc = rt.alloc();
+    let long = long_check(alloc)?;
     // 51 bytes, and 7 on each of 703 lines beside the digits: 37 lines have each of 8 + 30 candidates.
-    assert_eq!(rt; report.len(), 51 + 703 * 7 + 37 * (8 + 30 * 2));
-    let words = "check --property jr --committee 40";
-    let wanted = violated(report.as_bytes());
-    assert_leaves(&rt, alloc, words, text.as_bytes(), wanted)
+    assert_eq!(rt; long.report.len(), 51 + 703 * 7 + 37 * (8 + 30 * 2));
+    let wanted = violated(long.report.as_bytes());
+    assert_leaves(&rt, alloc, long.words, long.file.as_bytes(), wanted)
 }
 
 /// Lists that are no committee of four candidates.

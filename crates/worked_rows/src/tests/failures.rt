@@ -1,4 +1,5 @@
 //! Reads and writes that fail.
+use super::checks::long_check;
 use super::support::{
     ANSWER, THREE, Wanted, assert_ended, lines, read_line, reader, refused, request, run_on, writer,
 };
@@ -119,6 +120,28 @@ fn each_byte_of_the_output_is_not_taken(rt: HostRuntime) -> Result<(), Fail> {
         let mut answer = lines(alloc, answer)?;
         answer.push_str("\n")?;
         assert_beginnings(&rt, alloc, &request, THREE, answer.as_bytes());
+    }
+    Ok(())
+}
+
+/// The report is written in several pieces, and a write of any of them may fail.
+#[test]
+fn a_report_in_several_writes(rt: HostRuntime) -> Result<(), Fail> {
+    let alloc = rt.alloc();
+    let long = long_check(alloc)?;
+    let report = long.report.as_bytes();
+    let line = format!(in alloc; "committees {}", long.words)?;
+    let request = read_line(alloc, line.as_str())??;
+    for taken in (0..report.len()).step_by(97) {
+        let out = Recorder::new(alloc, 1000, Fault::ErrorAfter(taken));
+        let reader = reader(long.file.as_bytes());
+        let ended = run_on(alloc, &request, reader, out, writer(alloc));
+        let wanted = Wanted {
+            status: 6,
+            out: &report[..taken],
+            err: WRITE_FAILED,
+        };
+        assert_ended(&rt, "the report", taken, &ended, wanted);
     }
     Ok(())
 }

@@ -181,6 +181,34 @@ fn forty_equal_parties(rt: HostRuntime) -> Result<(), Fail> {
     Ok(())
 }
 
+/// The answer for two seats and forty equal parties: any two of them have a seat each. In ascending order the
+/// allocations to the last parties come first.
+fn two_of_forty(alloc: Global) -> Result<String, AllocError> {
+    let mut allocations = String::from_str(alloc, "method dhondt\nseats 2\n")?;
+    for first in (1..40u8).rev() {
+        for second in (first + 1..=40).rev() {
+            for party in 1..=40u8 {
+                let has_seat = party == first || party == second;
+                allocations.push_str(if has_seat { "1" } else { "0" })?;
+                allocations.push_str(if party < 40 { "," } else { "\n" })?;
+            }
+        }
+    }
+    allocations.push_str("end\n")?;
+    Ok(allocations)
+}
+
+/// 780 allocations do not fit the room in which the output is put together.
+#[test]
+fn many_allocations(rt: HostRuntime) -> Result<(), Fail> {
+    let alloc = rt.alloc();
+    let answer = two_of_forty(alloc)?;
+    assert_eq!(rt; answer.len(), 14 + 8 + 780 * 80 + 4);
+    let votes = equal_votes(alloc, "4294967", 40)?;
+    let words = format!(in alloc; "share --method dhondt --seats 2 --votes {votes}")?;
+    assert_leaves(&rt, alloc, words.as_str(), b"", answered(answer.as_bytes()))
+}
+
 /// Each candidate has one voter: the same by ballots.
 #[test]
 fn forty_equal_candidates(rt: HostRuntime) -> Result<(), Fail> {
@@ -215,8 +243,12 @@ fn faults_of_votes(rt: HostRuntime) -> Result<(), Fail> {
     for row in FAULTS.lines() {
         let (votes, name) = row.split_once('|').ok_or("votes")?;
         for method in METHODS {
-            let words = format!(in alloc; "share --method {method} --seats 10000 --votes {votes}")?;
-            assert_misfit(&rt, alloc, words.as_str(), b"", name)?;
+            for seats in ["1", "10000"] {
+                let words = format!(in alloc;
+                    "share --method {method} --seats {seats} --votes {votes}"
+                )?;
+                assert_misfit(&rt, alloc, words.as_str(), b"", name)?;
+            }
         }
     }
     let votes = equal_votes(alloc, "4294967296", 41)?;

@@ -1,75 +1,38 @@
-use Rattle.std.proofs.Common.{◌≡◌, ◌*◌, ◌∙◌, ap, arith, length, get_or, sum_by}
-use Rattle.std.proofs.lemmas.List.{take_all}
+use Rattle.std.proofs.Common.{ℕ, ◌+◌, ◌*◌, ◌==◌, ◌∙◌, ap, arith, length, filter, get_or, map, sum, sum_by}
+use Rattle.std.specs.List.{range_with_len}
 use Rattle.ballot_base.specs.Ballots.{Row, hits}
-use Rattle.ballot_base.proofs.Committees.{length-increasing}
-use Rattle.tie_walk.proofs.RowSums.{length-common, rows-more, rows-bound, share-most, share-product, votes-hits-most, satisfaction_value-by_parts}
+use Rattle.tie_walk.proofs.Groups.{group-most, regrouped, below-same}
+use Rattle.tie_walk.proofs.RowSums.{all_hits-most, all_sizes-within, parts-bound, satisfaction_value-by_parts}
 use Rattle.tie_walk.proofs.satisfaction.sum_of_shares.Goals as goal
 
-pub overflow_mul-hits : goal.overflow_mul-hits
-overflow_mul-hits g c =
-    let row = c.row-ballot.result in
-    let set = c.args.set in
-    let same : c.from.result ≡ hits row.0 set = c.from.ensures ∙ c.len.ensures.count ∙ ap length c.common.ensures ∙ length-common row.0 set in
-    omega (arith, ap (λ n. row.1 * n) same, votes-hits-most c.args.profile.now c.loop-i.i row set c.rows-i-end.ensures.valid c.row-ballot.ensures)
-
-pub bounds-shares-from : goal.bounds-shares-from
-bounds-shares-from g c =
-    omega (arith, c.from-in-loop-i-2.ensures, c.len-in-loop-i.ensures.count, length-increasing 1 40 c.row-ballot.result.0 c.len-in-loop-i.ensures.candidates)
-
-pub overflow_mul-value : goal.overflow_mul-value
-overflow_mul-value g c =
+pub sum_of_worths-requires : goal.sum_of_worths-requires
+sum_of_worths-requires g c =
     let e = c.args.profile.now in
-    let row = c.row-ballot.result in
     let set = c.args.set in
-    let shares = c.args.shares.now in
-    let valid = c.rows-i-end.ensures.valid in
-    let same : c.from.result ≡ hits row.0 set = c.from.ensures ∙ c.len.ensures.count ∙ ap length c.common.ensures ∙ length-common row.0 set in
-    let product = share-product shares row.1 c.from-in-loop-i.result c.from-in-loop-i-3.result c.from-in-loop-i-2.result (hits row.0 set) (length row.0)
-    (c.from-in-loop-i.ensures ∙ ap (λ n. row.1 * n) same) c.from-in-loop-i-3.ensures (c.from-in-loop-i-2.ensures ∙ c.len-in-loop-i.ensures.count) in
-    omega (
-      arith,
-      product,
-      rows-bound (λ (r : Row). hits r.0 set * get_or shares (length r.0) 0) e (40 * 5342931457063200) c.loop-i.i row valid
-          (λ r h. share-most e.m e.m shares r.0 set valid.most valid.most h c.requires) c.row-ballot.ensures,
-    )
-
-pub overflow_add-value : goal.overflow_add-value
-overflow_add-value g c =
-    let e = c.args.profile.now in
-    let row = c.row-ballot.result in
-    let set = c.args.set in
-    let shares = c.args.shares.now in
-    let valid = c.rows-i-end.ensures.valid in
-    let same : c.from.result ≡ hits row.0 set = c.from.ensures ∙ c.len.ensures.count ∙ ap length c.common.ensures ∙ length-common row.0 set in
-    let product = share-product shares row.1 c.from-in-loop-i.result c.from-in-loop-i-3.result c.from-in-loop-i-2.result (hits row.0 set) (length row.0)
-    (c.from-in-loop-i.ensures ∙ ap (λ n. row.1 * n) same) c.from-in-loop-i-3.ensures (c.from-in-loop-i-2.ensures ∙ c.len-in-loop-i.ensures.count) in
-    omega (
-      arith,
-      product,
-      c.loop-i.invariant,
-      rows-bound (λ (r : Row). hits r.0 set * get_or shares (length r.0) 0) e (40 * 5342931457063200) c.loop-i.i row valid
-          (λ r h. share-most e.m e.m shares r.0 set valid.most valid.most h c.requires) c.row-ballot.ensures,
-    )
-
-pub loop-i-preserved : goal.loop-i-preserved
-loop-i-preserved g c =
-    let row = c.row-ballot.result in
-    let set = c.args.set in
-    let shares = c.args.shares.now in
-    let same : c.from.result ≡ hits row.0 set = c.from.ensures ∙ c.len.ensures.count ∙ ap length c.common.ensures ∙ length-common row.0 set in
-    let product = share-product shares row.1 c.from-in-loop-i.result c.from-in-loop-i-3.result c.from-in-loop-i-2.result (hits row.0 set) (length row.0)
-    (c.from-in-loop-i.ensures ∙ ap (λ n. row.1 * n) same) c.from-in-loop-i-3.ensures (c.from-in-loop-i-2.ensures ∙ c.len-in-loop-i.ensures.count) in
-    omega (
-      arith,
-      product,
-      c.loop-i.invariant,
-      rows-more (λ (r : Row). hits r.0 set * get_or shares (length r.0) 0) c.args.profile.now.rows c.loop-i.i row c.row-ballot.ensures,
-    )
+    let valid = c.m.ensures.valid in
+    record {
+      most = omega (arith, c.m.ensures.value, valid.most);
+      counts = λ j. omega (
+        arith,
+        c.hits_by_size-counts.ensures j,
+        group-most (λ (r : Row). length r.0) (λ (r : Row). r.1 * hits r.0 set) j e.rows,
+        all_hits-most e set valid,
+      );
+      worths = λ j. parts-bound e.m c.args.shares.now j valid.most c.requires;
+    }
 
 pub returns : goal.returns
 returns g c =
     let e = c.args.profile.now in
-    let valid = c.rows-i-end.ensures.valid in
-    c.loop-i.invariant
-    ∙ ap (λ l. sum_by (λ (r : Row). r.1 * (hits r.0 c.args.set * get_or c.args.shares.now (length r.0) 0)) l) (take_all c.loop-i.i e.rows (omega (arith, c.rows-i-end.ensures.value)))
-    ∙ satisfaction_value-by_parts e.m e.m c.args.shares.now e.rows c.args.set valid.most valid.ballots c.requires
+    let valid = c.m.ensures.valid in
+    let set = c.args.set in
+    let shares = c.args.shares.now in
+    let key : Row → ℕ = λ r. length r.0 in
+    let votes : Row → ℕ = λ r. r.1 * hits r.0 set in
+    let counted : ℕ → ℕ = λ j. get_or c.hits_by_size-counts.result j 0 * get_or shares j 0 in
+    let grouped : ℕ → ℕ = λ j. sum_by (λ (r : Row). r.1 * hits r.0 set) (filter (λ (r : Row). length r.0 == j) e.rows) * get_or shares j 0 in
+    c.sum_of_worths.ensures
+    ∙ ap (λ n. sum (map counted (range_with_len 0 (n + 1)))) c.m.ensures.value
+    ∙ below-same counted grouped (e.m + 1) (λ j. ap (λ n. n * get_or shares j 0) (c.hits_by_size-counts.ensures j))
+    ∙ regrouped key votes (λ j. get_or shares j 0) (e.m + 1) e.rows (all_sizes-within e.m e.rows valid.ballots)
+    ∙ satisfaction_value-by_parts e.m e.m shares e.rows set valid.most valid.ballots c.requires

@@ -1,49 +1,32 @@
-use Rattle.std.proofs.Common.{◌≡◌, ◌*◌, ◌^◌, ◌∙◌, ap, arith, length, get_or, sum_by}
-use Rattle.std.proofs.lemmas.List.{take_all}
-use Rattle.ballot_base.specs.Ballots.{Row, hits}
-use Rattle.ballot_base.proofs.Committees.{length-increasing}
-use Rattle.tie_walk.proofs.RowSums.{length-common, rows-more, rows-bound, product-same, thiele_value-by_sums}
+use Rattle.std.proofs.Common.{ℕ, ◌+◌, ◌*◌, ◌==◌, ◌∙◌, ap, arith, filter, get_or, map, sum}
+use Rattle.std.specs.List.{range_with_len}
+use Rattle.ballot_base.specs.Ballots.{Row, hits, voter_count}
+use Rattle.tie_walk.proofs.Groups.{group-most, regrouped, below-same}
+use Rattle.tie_walk.proofs.RowSums.{all_hits-within, thiele_value-by_sums}
 use Rattle.tie_walk.proofs.thiele.sum_of_hits.Goals as goal
 
-pub bounds-sums-from : goal.bounds-sums-from
-bounds-sums-from g c = omega (arith, c.from-in-loop-i.ensures, c.len.ensures.count, length-increasing 1 40 c.common.result c.len.ensures.candidates)
-
-pub overflow_mul-value : goal.overflow_mul-value
-overflow_mul-value g c =
-    let row = c.row-ballot.result in
-    let sums = c.args.sums.now in
-    let set = c.args.set in
-    let same : c.from-in-loop-i.result ≡ hits row.0 set = c.from-in-loop-i.ensures ∙ c.len.ensures.count ∙ ap length c.common.ensures ∙ length-common row.0 set in
-    let product = product-same sums c.from.result row.1 c.from-in-loop-i.result (hits row.0 set) c.from.ensures same in
-    omega (arith, product, rows-bound (λ (r : Row). get_or sums (hits r.0 set) 0) c.args.profile.now (2 ^ 84) c.loop-i.i row c.rows-i-end.ensures.valid (λ r h. c.requires (hits r.0 set)) c.row-ballot.ensures)
-
-pub overflow_add-value : goal.overflow_add-value
-overflow_add-value g c =
-    let row = c.row-ballot.result in
-    let sums = c.args.sums.now in
-    let set = c.args.set in
-    let same : c.from-in-loop-i.result ≡ hits row.0 set = c.from-in-loop-i.ensures ∙ c.len.ensures.count ∙ ap length c.common.ensures ∙ length-common row.0 set in
-    let product = product-same sums c.from.result row.1 c.from-in-loop-i.result (hits row.0 set) c.from.ensures same in
-    omega (
-      arith,
-      product,
-      c.loop-i.invariant,
-      rows-bound (λ (r : Row). get_or sums (hits r.0 set) 0) c.args.profile.now (2 ^ 84) c.loop-i.i row c.rows-i-end.ensures.valid (λ r h. c.requires (hits r.0 set)) c.row-ballot.ensures,
-    )
-
-pub loop-i-preserved : goal.loop-i-preserved
-loop-i-preserved g c =
-    let row = c.row-ballot.result in
-    let sums = c.args.sums.now in
-    let set = c.args.set in
-    let same : c.from-in-loop-i.result ≡ hits row.0 set = c.from-in-loop-i.ensures ∙ c.len.ensures.count ∙ ap length c.common.ensures ∙ length-common row.0 set in
-    let product = product-same sums c.from.result row.1 c.from-in-loop-i.result (hits row.0 set) c.from.ensures same in
-    omega (arith, product, c.loop-i.invariant, rows-more (λ (r : Row). get_or sums (hits r.0 set) 0) c.args.profile.now.rows c.loop-i.i row c.row-ballot.ensures)
+pub sum_of_worths-requires : goal.sum_of_worths-requires
+sum_of_worths-requires g c =
+    let e = c.args.profile.now in
+    let valid = c.m.ensures.valid in
+    record {
+      most = omega (arith, c.m.ensures.value, valid.most);
+      counts = λ j. omega (arith, c.voters_by_hits-counts.ensures j, group-most (λ (r : Row). hits r.0 c.args.set) (λ (r : Row). r.1) j e.rows, valid.voters);
+      worths = c.requires;
+    }
 
 pub returns : goal.returns
 returns g c weights is =
     let e = c.args.profile.now in
-    let valid = c.rows-i-end.ensures.valid in
-    c.loop-i.invariant
-    ∙ ap (λ l. sum_by (λ (r : Row). r.1 * get_or c.args.sums.now (hits r.0 c.args.set) 0) l) (take_all c.loop-i.i e.rows (omega (arith, c.rows-i-end.ensures.value)))
-    ∙ thiele_value-by_sums e.m weights c.args.sums.now e.rows c.args.set valid.most valid.ballots is
+    let valid = c.m.ensures.valid in
+    let set = c.args.set in
+    let sums = c.args.sums.now in
+    let key : Row → ℕ = λ r. hits r.0 set in
+    let votes : Row → ℕ = λ r. r.1 in
+    let counted : ℕ → ℕ = λ j. get_or c.voters_by_hits-counts.result j 0 * get_or sums j 0 in
+    let grouped : ℕ → ℕ = λ j. voter_count (filter (λ (r : Row). hits r.0 set == j) e.rows) * get_or sums j 0 in
+    c.sum_of_worths.ensures
+    ∙ ap (λ n. sum (map counted (range_with_len 0 (n + 1)))) c.m.ensures.value
+    ∙ below-same counted grouped (e.m + 1) (λ j. ap (λ n. n * get_or sums j 0) (c.voters_by_hits-counts.ensures j))
+    ∙ regrouped key votes (λ j. get_or sums j 0) (e.m + 1) e.rows (all_hits-within e.m e.rows set valid.ballots)
+    ∙ thiele_value-by_sums e.m weights sums e.rows set valid.most valid.ballots is
