@@ -83,7 +83,7 @@ pair_breaks-is Ejr e committee level shared within i least most choice second =
     collapse_two (is_large e committee level (sum group)) (nat_le level (length (common_candidates e.m ballots))) (all_below level committee ballots) agree below
 
 -- a larger group is large enough, too
-large_more : (e : Election) (committee : List ℕ) (level few many : ℕ) → few ≤ many → is_large e committee level few ≡ true → is_large e committee level many ≡ true
+pub large_more : (e : Election) (committee : List ℕ) (level few many : ℕ) → few ≤ many → is_large e committee level few ≡ true → is_large e committee level many ≡ true
 large_more e committee level few many more h =
     let least = leb-true (level * voter_count e.rows) (few * length committee) h in
     let product = mul-le few (length committee) many (length committee) more (omega arith) in

@@ -1,11 +1,11 @@
 -- The first violation of several pairs, and of one.
-use Rattle.std.proofs.Common.{◌≡◌, ℕ, zero, suc, ◌*◌, ◌+◌, ◌-◌, ◌≤◌, ◌++◌, Bool, true, false, cond, List, [], ◌∷◌, Option, Some, None, refl, sym, ap, ◌∙◌, arith, length, sum}
-use Rattle.std.specs.Prelude.{find, is_some, option_map, nat_le, flat_map}
+use Rattle.std.proofs.Common.{◌≡◌, ℕ, zero, suc, ◌+◌, ◌-◌, ◌≤◌, ◌++◌, Bool, true, false, cond, List, [], ◌∷◌, Option, Some, None, refl, sym, ap, ◌∙◌, arith, length, sum}
+use Rattle.std.specs.Prelude.{find, is_some, option_map, flat_map}
 use Rattle.std.specs.Bool.{then_some}
 use Rattle.std.specs.Option.{option_or}
 use Rattle.std.proofs.lemmas.List.Folds.{find-append}
 use Rattle.ballot_base.specs.Lists.{IsIncreasing, increasing_lists, lists_of}
-use Rattle.ballot_base.specs.Ballots.{Election, voter_count}
+use Rattle.ballot_base.specs.Ballots.{Election}
 use Rattle.group_check.specs.declared.property.Property.{Property}
 use Rattle.group_check.specs.declared.property.Property.TheVariants.{Jr, Pjr, Ejr}
 use Rattle.group_check.specs.contracts.property.Property.{the_type}
@@ -13,7 +13,7 @@ use denote.Enum.Bare.{sameb}
 use Rattle.group_check.specs.declared.property.Violation.{Violation}
 use Rattle.group_check.specs.Report.{supporters, pair_breaks, violation_of, lists_within}
 use Rattle.group_check.specs.Checking.{greatest_level, IsChoice, IsSecond, first_of, pairs_of}
-use Rattle.group_check.proofs.BreakLemmas.{pair_breaks-is}
+use Rattle.group_check.proofs.BreakLemmas.{is_large, pair_breaks-is}
 
 -- the violation of these voters
 abbrev pub violation_with : Property → List ℕ → ℕ → List ℕ → List ℕ → ℕ → Violation
@@ -33,11 +33,11 @@ then_some-find f false x = refl
 -- all voters behind T and U, counted
 pub counted_is : (property : Property) (e : Election) (committee : List ℕ) (level : ℕ) (shared within : List ℕ)
     → IsIncreasing 1 e.m committee → 1 ≤ level → level ≤ greatest_level property committee → IsChoice e.m level shared → IsSecond property e.m level within
-    → (seats voters all size : ℕ) → seats ≡ level → all ≡ voter_count e.rows → voters ≡ sum (supporters property e committee level (shared, within)) → size ≡ length committee
-    → then_some (nat_le (seats * all) (voters * size)) (violation_with property committee level shared within voters) ≡ first_of property e committee level ((shared, within) ∷ [])
-counted_is property e committee level shared within i least most choice second seats voters all size a b c d =
+    → (voters : ℕ) → voters ≡ sum (supporters property e committee level (shared, within))
+    → then_some (is_large e committee level voters) (violation_with property committee level shared within voters) ≡ first_of property e committee level ((shared, within) ∷ [])
+counted_is property e committee level shared within i least most choice second voters a =
     let large = pair_breaks-is property e committee level shared within i least most choice second in
-    rw (a, b, c, d, ← large) (then_some-find (violation_of property e committee level) (pair_breaks property e committee level (shared, within)) (shared, within))
+    rw (a, ← large) (then_some-find (violation_of property e committee level) (pair_breaks property e committee level (shared, within)) (shared, within))
 
 option_map-or : {X : Type 0} {Y : Type 0} (f : X → Y) (a b : Option X) → option_map f (option_or a b) ≡ option_or (option_map f a) (option_map f b)
 option_map-or f None b = refl

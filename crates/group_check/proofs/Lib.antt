@@ -8,3 +8,4 @@ pub mod ReportLemmas
 pub mod SetLemmas
 pub mod TestLemmas
 pub mod VoterLemmas
+pub mod WithinLemmas

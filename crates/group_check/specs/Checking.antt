@@ -5,7 +5,7 @@ use Rattle.ballot_base.specs.Ballots.{Election}
 use Rattle.group_check.specs.declared.property.Property.{Property}
 use Rattle.group_check.specs.declared.property.Property.TheVariants.{Jr, Pjr, Ejr}
 use Rattle.group_check.specs.declared.property.Violation.{Violation}
-use Rattle.group_check.specs.Report.{pair_breaks, violation_of}
+use Rattle.group_check.specs.Report.{includes, group_of, pair_breaks, violation_of}
 
 -- the greatest level at which a group can break the property
 abbrev pub greatest_level : Property → List ℕ → ℕ
@@ -30,3 +30,7 @@ first_of property e committee level pairs = option_map (violation_of property e 
 -- the pairs with this T
 abbrev pub pairs_of : List ℕ → List (List ℕ) → List (List ℕ × List ℕ)
 pairs_of shared lists = map (λ within. (shared, within)) lists
+
+-- the group of all voters who approve all of T
+abbrev pub approvers : Election → List ℕ → List ℕ
+approvers e shared = group_of (λ ballot. includes ballot shared) e.rows

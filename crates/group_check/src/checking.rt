@@ -1,9 +1,10 @@
 //! The search for a violation.
-ghost use Rattle.std.specs.Prelude.{◌≡◌, ◌≢◌, ◌-◌, ◌^◌, ◌≤◌, ◌↔◌, [], ◌∷◌, None, IfSome, length, filter, sum};
+ghost use Rattle.std.specs.Prelude.{◌≡◌, ◌≢◌, ◌-◌, ◌*◌, ◌^◌, ◌≤◌, ◌↔◌, [], ◌∷◌, None, IfSome, length, filter, nat_le, sum};
 ghost use Rattle.ballot_base.specs.Lists.{IsIncreasing};
+ghost use Rattle.ballot_base.specs.Ballots.{voter_count};
 ghost use Rattle.group_check.specs.Groups.{HasProperty};
 ghost use Rattle.group_check.specs.Report.{IsReport, first_violation, lists_within, is_in_group, group_of, includes};
-ghost use Rattle.group_check.specs.Checking.{greatest_level, IsChoice, IsSecond, first_of, pairs_of};
+ghost use Rattle.group_check.specs.Checking.{greatest_level, IsChoice, IsSecond, approvers, first_of, pairs_of};
 
 use crate::property::{Property, Violation, includes};
 use ballot_base::{CandSet, KSets, Profile};
@@ -103,6 +104,10 @@ fn first_within<A: Allocator + Copy>(
     requires shared { IsChoice profile.now.m level shared }
     ensures { result ≡ first_of Property.Pjr profile.now committee level (pairs_of shared (lists_within Property.Pjr profile.now.m committee level)) }
 {
+    // No group behind these candidates has more voters than all who approve them.
+    if !is_enough(profile, committee, level, voters_approving(profile, shared)) {
+        return None;
+    }
     for within in KSets::new(profile.m(), level - 1) {
         let found = counted_inside(profile, committee, level, shared, within);
         if found.is_some() {
@@ -160,9 +165,36 @@ fn counted<A: Allocator + Copy>(
         voters: 0,
     };
     violation.voters = voters_behind(profile, &violation);
+    is_enough(profile, committee, level, violation.voters).then_some(violation)
+}
+
+/// Whether so many voters are enough for the level: at least l · n / k of the n voters, for committees of k.
+fn is_enough<A: Allocator + Copy>(
+    profile: &Profile<A>,
+    committee: CandSet,
+    level: u8,
+    voters: u64,
+) -> bool
+    requires { voters ≤ 2 ^ 32 }
+    ensures { result ≡ nat_le (level * voter_count profile.now.rows) (voters * length committee) }
+{
     let due = u64::from(level) * profile.voters();
-    let is_large = violation.voters * u64::from(committee.len()) >= due;
-    is_large.then_some(violation)
+    voters * u64::from(committee.len()) >= due
+}
+
+/// How many voters approve all of these candidates.
+fn voters_approving<A: Allocator + Copy>(profile: &Profile<A>, shared: CandSet) -> u64
+    ensures group { result ≡ sum (approvers profile.now shared) }
+    ensures most { result ≤ 2 ^ 32 }
+{
+    let mut approving = 0;
+    for place in 0..profile.rows() {
+        let (ballot, count) = profile.row(place);
+        if includes(ballot, shared) {
+            approving += count;
+        }
+    }
+    approving
 }
 
 /// How many voters belong to the group of a violation.

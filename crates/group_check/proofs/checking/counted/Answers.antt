@@ -1,9 +1,11 @@
-use Rattle.std.proofs.Common.{◌∙◌}
-use Rattle.group_check.proofs.CountedLemmas.{counted_is}
+use Rattle.std.proofs.Common.{ap, ◌∙◌}
+use Rattle.std.specs.Bool.{then_some}
+use Rattle.group_check.proofs.CountedLemmas.{violation_with, counted_is}
 use Rattle.group_check.proofs.checking.counted.Goals as goal
 
 pub returns : goal.returns
 returns g c =
     c.then_some.ensures
+    ∙ ap (λ enough. then_some enough (violation_with c.args.property c.args.committee c.args.level c.args.shared c.args.within c.voters_behind.result)) c.is_enough.ensures
     ∙ counted_is c.args.property c.args.profile.now c.args.committee c.args.level c.args.shared c.args.within c.requires.candidates c.requires.least c.requires.most c.requires.shared c.requires.within
-    c.from.result c.voters_behind.result c.voters.result c.from-2.result c.from.ensures c.voters.ensures.value c.voters_behind.ensures.group (c.from-2.ensures ∙ c.len.ensures.count)
+    c.voters_behind.result c.voters_behind.ensures.group

@@ -1,10 +1,13 @@
-use Rattle.std.proofs.Common.{◌≡◌, ◌-◌, ap, sym, subst, ◌∙◌, arith, filter}
+use Rattle.std.proofs.Common.{◌≡◌, ◌-◌, ap, sym, subst, ◌∙◌, ◌*◌, arith, length, filter}
+use Rattle.std.specs.Prelude.{nat_le}
 use Rattle.std.specs.List.{AllByRecursion}
 use Rattle.ballot_base.specs.Lists.{increasing_lists}
+use Rattle.ballot_base.specs.Ballots.{voter_count}
 use Rattle.group_check.specs.declared.property.Property.TheVariants.{Pjr}
-use Rattle.group_check.specs.Report.{includes}
+use Rattle.group_check.specs.Report.{includes, lists_within}
 use Rattle.group_check.specs.Checking.{IsChoice, first_of, pairs_of}
 use Rattle.ballot_base.proofs.Committees.{length-increasing, increasing_lists-chosen}
+use Rattle.group_check.proofs.WithinLemmas.{none_within}
 use Rattle.group_check.proofs.checking.first_within.Goals as goal
 
 pub new-within-items-requires-clause-fits : goal.new-within-items-requires-clause-fits
@@ -19,3 +22,9 @@ loop-within-init g c =
       left = ap (λ lists. first_of Pjr e c.args.committee c.args.level (pairs_of c.args.shared (filter (includes c.args.committee) lists))) sets;
       choices = subst (λ lists. AllByRecursion (IsChoice e.m (c.args.level - 1)) lists) (sym sets) (increasing_lists-chosen 1 e.m (c.args.level - 1));
     }
+
+pub returns-then-not-is_enough : goal.returns-then-not-is_enough
+returns-then-not-is_enough g c =
+    none_within c.args.profile.now c.args.committee c.args.level c.args.shared
+    (ap (λ voters. nat_le (c.args.level * voter_count c.args.profile.now.rows) (voters * length c.args.committee)) (sym c.voters_approving.ensures.group) ∙ sym c.is_enough.ensures ∙ c.if-not-is_enough.true)
+    (lists_within Pjr c.args.profile.now.m c.args.committee c.args.level)
