@@ -3,6 +3,7 @@ pub mod CountedLemmas
 pub mod Examples
 pub mod GroupLemmas
 pub mod LawLemmas
+pub mod PlaceLemmas
 pub mod PropertyLemmas
 pub mod ReportLemmas
 pub mod SetLemmas

@@ -1,5 +1,5 @@
 -- What the steps of the search for a violation give.
-use Rattle.std.specs.Prelude.{◌≡◌, ℕ, ◌-◌, List, ⊤, length, map, find, Option, option_map}
+use Rattle.std.specs.Prelude.{◌≡◌, ℕ, ◌-◌, List, ⊤, length, map, find, Option, option_map, slice_index}
 use Rattle.ballot_base.specs.Lists.{IsIncreasing}
 use Rattle.ballot_base.specs.Ballots.{Election}
 use Rattle.group_check.specs.declared.property.Property.{Property}
@@ -34,3 +34,7 @@ pairs_of shared lists = map (λ within. (shared, within)) lists
 -- the group of all voters who approve all of T
 abbrev pub approvers : Election → List ℕ → List ℕ
 approvers e shared = group_of (λ ballot. includes ballot shared) e.rows
+
+-- the members of the committee at these places, counted from 1
+abbrev pub members_at : List ℕ → List ℕ → List ℕ
+members_at committee places = map (λ place. slice_index committee (place - 1)) places

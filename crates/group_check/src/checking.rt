@@ -1,10 +1,10 @@
 //! The search for a violation.
-ghost use Rattle.std.specs.Prelude.{◌≡◌, ◌≢◌, ◌-◌, ◌*◌, ◌^◌, ◌≤◌, ◌↔◌, [], ◌∷◌, None, IfSome, length, filter, nat_le, sum};
+ghost use Rattle.std.specs.Prelude.{◌≡◌, ◌≢◌, ◌-◌, ◌*◌, ◌^◌, ◌≤◌, ◌↔◌, [], ◌∷◌, None, IfSome, length, nat_le, sum};
 ghost use Rattle.ballot_base.specs.Lists.{IsIncreasing};
 ghost use Rattle.ballot_base.specs.Ballots.{voter_count};
 ghost use Rattle.group_check.specs.Groups.{HasProperty};
-ghost use Rattle.group_check.specs.Report.{IsReport, first_violation, lists_within, is_in_group, group_of, includes};
-ghost use Rattle.group_check.specs.Checking.{greatest_level, IsChoice, IsSecond, approvers, first_of, pairs_of};
+ghost use Rattle.group_check.specs.Report.{IsReport, first_violation, lists_within, is_in_group, group_of};
+ghost use Rattle.group_check.specs.Checking.{greatest_level, IsChoice, IsSecond, approvers, first_of, members_at, pairs_of};
 
 use crate::property::{Property, Violation, includes};
 use ballot_base::{CandSet, KSets, Profile};
@@ -108,8 +108,9 @@ fn first_within<A: Allocator + Copy>(
     if !is_enough(profile, committee, level, voters_approving(profile, shared)) {
         return None;
     }
-    for within in KSets::new(profile.m(), level - 1) {
-        let found = counted_inside(profile, committee, level, shared, within);
+    for places in KSets::new(committee.len(), level - 1) {
+        let within = members_at(committee, places);
+        let found = counted(profile, committee, Property::Pjr, level, shared, within);
         if found.is_some() {
             return found;
         }
@@ -117,27 +118,23 @@ fn first_within<A: Allocator + Copy>(
     None
 }
 
-/// The violation of proportional justified representation with all voters behind these candidates, if the second ones
-/// are members of the committee and the voters are enough for the level.
-fn counted_inside<A: Allocator + Copy>(
-    profile: &Profile<A>,
-    committee: CandSet,
-    level: u8,
-    shared: CandSet,
-    within: CandSet,
-) -> Option<Violation>
-    requires candidates { IsIncreasing 1 profile.now.m committee }
-    requires least { 1 ≤ level }
-    requires most { level ≤ length committee }
-    requires shared { IsChoice profile.now.m level shared }
-    requires within { IsChoice profile.now.m (level - 1) within }
-    ensures { result ≡ first_of Property.Pjr profile.now committee level (pairs_of shared (filter (includes committee) (within ∷ []))) }
+/// The members of the committee at these places, counted from 1 in increasing order of the members.
+fn members_at(committee: CandSet, places: CandSet) -> CandSet
+    requires candidates { IsIncreasing 1 40 committee }
+    requires places { IsIncreasing 1 (length committee) places }
+    ensures { result ≡ members_at committee places }
 {
-    if includes(committee, within) {
-        counted(profile, committee, Property::Pjr, level, shared, within)
-    } else {
-        None
+    let mut members = CandSet::empty();
+    let mut rest = committee;
+    let mut place = 1;
+    while let Some(parts) = rest.split_first() {
+        if places.has(place) {
+            members = members.with(parts.0);
+        }
+        place += 1;
+        rest = parts.1;
     }
+    members
 }
 
 /// The violation with all voters behind these candidates, if they are enough for the level.
