@@ -5,7 +5,7 @@ use Rattle.ballot_base.specs.Ballots.{Election, election}
 use Rattle.group_check.specs.declared.property.Property.TheVariants.{Jr, Pjr, Ejr}
 use Rattle.group_check.specs.Groups.{IsGroup, ballots_of, common_candidates, represented, is_cohesive, all_below, breaks, Breaks, SomeGroupBreaks, HasProperty}
 use Rattle.group_check.specs.Report.{includes, is_behind, is_in_group, group_of, supporters, lists_within, pairs_at, pair_breaks, violation_of, first_violation, IsReport}
-use Rattle.group_check.specs.Checking.{greatest_level, IsChoice, IsSecond, approvers, first_of, members_at, pairs_of}
+use Rattle.group_check.specs.Checking.{greatest_level, IsChoice, IsSecond, Computes, approvers, first_of, members_at, pairs_of}
 use Rattle.group_check.proofs.BreakLemmas.{no_group, above_greatest}
 
 -- ---- three voters approve 1 and 2, and one approves 3 and 4; the committee has 3 and 4
@@ -228,3 +228,6 @@ who_approves_three = refl
 
 first_and_last : members_at (2 ∷ 5 ∷ 9 ∷ []) (1 ∷ 3 ∷ []) ≡ 2 ∷ 9 ∷ []
 first_and_last = refl
+
+by_the_members : Computes (λ ballot answer. answer ≡ includes ballot (1 ∷ [])) (λ ballot. includes ballot (1 ∷ []))
+by_the_members = λ ballot answer same. same

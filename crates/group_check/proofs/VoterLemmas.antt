@@ -9,6 +9,10 @@ use Rattle.group_check.specs.Report.{group_of}
 abbrev pub votes_behind : (List ℕ → Bool) → Row → ℕ
 votes_behind test row = cond (test row.0) row.1 0
 
+-- a test that each ballot passes
+abbrev pub everyone : List ℕ → Bool
+everyone ballot = true
+
 votes-le : (test : List ℕ → Bool) (row : Row) → votes_behind test row ≤ row.1
 votes-le test row = elim (test row.0) as (λ b. cond b row.1 0 ≤ row.1) [ true ↦ omega arith | false ↦ omega arith ]
 

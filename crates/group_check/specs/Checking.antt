@@ -1,5 +1,5 @@
 -- What the steps of the search for a violation give.
-use Rattle.std.specs.Prelude.{◌≡◌, ℕ, ◌-◌, List, ⊤, length, map, find, Option, option_map, slice_index}
+use Rattle.std.specs.Prelude.{◌≡◌, ℕ, ◌-◌, Bool, List, ⊤, length, map, find, Option, option_map, slice_index}
 use Rattle.ballot_base.specs.Lists.{IsIncreasing}
 use Rattle.ballot_base.specs.Ballots.{Election}
 use Rattle.group_check.specs.declared.property.Property.{Property}
@@ -38,3 +38,7 @@ approvers e shared = group_of (λ ballot. includes ballot shared) e.rows
 -- the members of the committee at these places, counted from 1
 abbrev pub members_at : List ℕ → List ℕ → List ℕ
 members_at committee places = map (λ place. slice_index committee (place - 1)) places
+
+-- each answer about a ballot is the test's
+abbrev pub Computes : (List ℕ → Bool → Type 0) → (List ℕ → Bool) → Type 0
+Computes answers test = (ballot : List ℕ) (answer : Bool) → answers ballot answer → answer ≡ test ballot

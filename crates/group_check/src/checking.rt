@@ -1,10 +1,10 @@
 //! The search for a violation.
-ghost use Rattle.std.specs.Prelude.{◌≡◌, ◌≢◌, ◌-◌, ◌*◌, ◌^◌, ◌≤◌, ◌↔◌, [], ◌∷◌, None, IfSome, length, nat_le, sum};
+ghost use Rattle.std.specs.Prelude.{◌≡◌, ◌≢◌, ℕ, ◌-◌, ◌*◌, ◌^◌, ◌≤◌, ◌↔◌, Bool, List, [], ◌∷◌, None, IfSome, length, nat_le, sum};
 ghost use Rattle.ballot_base.specs.Lists.{IsIncreasing};
 ghost use Rattle.ballot_base.specs.Ballots.{voter_count};
 ghost use Rattle.group_check.specs.Groups.{HasProperty};
 ghost use Rattle.group_check.specs.Report.{IsReport, first_violation, lists_within, is_in_group, group_of};
-ghost use Rattle.group_check.specs.Checking.{greatest_level, IsChoice, IsSecond, approvers, first_of, members_at, pairs_of};
+ghost use Rattle.group_check.specs.Checking.{greatest_level, IsChoice, IsSecond, Computes, approvers, first_of, members_at, pairs_of};
 
 use crate::property::{Property, Violation, includes};
 use ballot_base::{CandSet, KSets, Profile};
@@ -184,14 +184,7 @@ fn voters_approving<A: Allocator + Copy>(profile: &Profile<A>, shared: CandSet) 
     ensures group { result ≡ sum (approvers profile.now shared) }
     ensures most { result ≤ 2 ^ 32 }
 {
-    let mut approving = 0;
-    for place in 0..profile.rows() {
-        let (ballot, count) = profile.row(place);
-        if includes(ballot, shared) {
-            approving += count;
-        }
-    }
-    approving
+    voters_with(profile, |ballot| includes(ballot, shared))
 }
 
 /// How many voters belong to the group of a violation.
@@ -199,10 +192,19 @@ fn voters_behind<A: Allocator + Copy>(profile: &Profile<A>, violation: &Violatio
     ensures group { result ≡ sum (group_of (is_in_group violation.now) profile.now.rows) }
     ensures most { result ≤ 2 ^ 32 }
 {
+    voters_with(profile, |ballot| violation.contains(ballot))
+}
+
+/// How many voters have a ballot that passes.
+fn voters_with<A: Allocator + Copy, F: Fn(CandSet) -> bool>(profile: &Profile<A>, passes: F) -> u64
+    requires { F.IsAlwaysCallable passes }
+    ensures group { (test : List ℕ → Bool) → Computes (F.post passes) test → result ≡ sum (group_of test profile.now.rows) }
+    ensures most { result ≤ 2 ^ 32 }
+{
     let mut voters = 0;
     for i in 0..profile.rows() {
         let (ballot, count) = profile.row(i);
-        if violation.contains(ballot) {
+        if passes(ballot) {
             voters += count;
         }
     }
