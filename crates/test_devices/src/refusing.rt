@@ -1,5 +1,5 @@
 //! An allocator that refuses one growth.
-ghost use Rattle.std.specs.Prelude.{◌≤◌};
+ghost use Rattle.std.specs.Prelude.{◌≡◌, ◌≤◌};
 
 use std::alloc::{AllocError, Allocator, Global};
 use std::cell::Cell;
@@ -17,6 +17,7 @@ impl<H: Allocator> Refusing<H> {
     /// Refuses the growth of this number, counted from 1.
     pub fn new(heap: H, refused: u64) -> Refusing<H>
         requires { 1 ≤ refused }
+        ensures { result.heap ≡ heap }
     {
         Refusing {
             left: Cell::new(refused),
@@ -24,7 +25,8 @@ impl<H: Allocator> Refusing<H> {
         }
     }
 
-    /// Whether the growth was asked for, and refused.
+    /// Whether the growth was asked for, and refused. The count stands in a `Cell`, of which no contract can tell, so
+    /// tests alone hold this answer.
     pub fn has_refused(&self) -> bool {
         self.left.get() == 0
     }

@@ -1,11 +1,10 @@
 //! Checks of committees, from the words to the bytes. The reports are worked by hand from the properties: a group is
 //! large enough for a level where its voters times the seats are no fewer than all voters times the level.
-use super::support::{
-    THREE, answered, assert_leaves, assert_misfit, cat_file, lines, numbers_to, refused, violated,
-};
+use super::support::{THREE, assert_leaves, assert_misfit, cat_file, lines, numbers_to};
 use std::alloc::Global;
 use std::process::Abort;
 use std::test::Fail;
+use test_devices::{answered, refused, violated};
 
 /// Two groups of voters with nothing in common.
 static PARTED: &[u8] = b"# DATA TYPE: cat\n# NUMBER ALTERNATIVES: 4\n3: {1,2}\n1: {3,4}\n";
@@ -195,7 +194,7 @@ fn all_beside_one(alloc: Global, open: &str, close: &str) -> Result<String, Fail
 
 /// A check of a file, and its report, which does not fit the room in which the output is put together.
 #[derive(Drop)]
-pub struct LongCheck {
+pub(super) struct LongCheck {
     /// The words behind the program's name.
     pub words: &'static str,
     pub file: String,
@@ -203,7 +202,7 @@ pub struct LongCheck {
 }
 
 /// The check of a committee that nobody of 703 voters approves.
-pub fn long_check(alloc: Global) -> Result<LongCheck, Fail> {
+pub(super) fn long_check(alloc: Global) -> Result<LongCheck, Fail> {
     let ballots = all_beside_one(alloc, "{", "}")?;
     let file = cat_file(alloc, "40", ballots.as_str())?;
     let rows = all_beside_one(alloc, "", "")?;

@@ -1,13 +1,11 @@
 //! Reads and writes that fail.
 use super::checks::long_check;
-use super::support::{
-    ANSWER, THREE, Wanted, assert_ended, lines, read_line, reader, refused, request, run_on, writer,
-};
+use super::support::{ANSWER, THREE, assert_ended, lines, read_line, request};
 use std::alloc::Global;
 use std::fmt::Write;
 use std::process::Abort;
 use std::test::Fail;
-use test_devices::{Fault, Recorder, SliceReader};
+use test_devices::{Fault, Recorder, SliceReader, Wanted, reader, refused, run_on, writer};
 use vote_cli::Request;
 
 static READ_FAILED: &[u8] = b"committees: read failed\n";

@@ -1,16 +1,15 @@
 //! Growths that are refused, one after the other.
 ghost use Rattle.std.specs.Prelude.{◌≡◌};
 
-use super::support::{
-    ANSWER, THREE, Wanted, add, answered, assert_ended, name_in, read_line, reader, refused,
-    request, run_on, set_name, violated, writer,
-};
+use super::support::{ANSWER, THREE, add, assert_ended, name_in, read_line, request, set_name};
 use ballot_base::{AddFault, CandSet, FinishFault, Profile, ProfileBuilder};
 use preflib_text::{FaultName, ReadFault, read_profile};
 use std::alloc::{Allocator, Global};
 use std::process::Abort;
 use std::test::Fail;
-use test_devices::{Refusing, SliceReader};
+use test_devices::{
+    Refusing, SliceReader, Wanted, answered, reader, refused, run_on, violated, writer,
+};
 use vote_cli::Request;
 
 /// More growths than any of the calls below asks for.

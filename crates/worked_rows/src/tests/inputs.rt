@@ -1,10 +1,11 @@
 //! Inputs at the edges of the format.
-use super::support::{ANSWER, THREE, Wanted, answered, assert_elects, assert_runs, refused};
+use super::support::{ANSWER, THREE, assert_elects, assert_runs};
 use std::alloc::{AllocError, Global};
 use std::test::Fail;
+use test_devices::{Wanted, answered, refused};
 
 /// A file with these numbers in its header, and these lines behind it, from the fourth on.
-pub fn file(
+pub(super) fn file(
     alloc: Global,
     alternatives: &str,
     categories: &str,

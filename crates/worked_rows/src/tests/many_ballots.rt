@@ -1,8 +1,9 @@
 //! Sequential rules over many ballots. The committees were computed apart from the program, by a script that takes the
 //! same ballots and follows each tied choice in exact arithmetic.
-use super::support::{answered, assert_leaves};
+use super::support::assert_leaves;
 use std::alloc::Global;
 use std::test::Fail;
+use test_devices::answered;
 
 /// The committee of sequential and of reverse sequential proportional approval voting.
 static PROPORTIONAL: &str = "2,5,6,8,9,14,16,19,20,24,26,27,28,29,30,32,34,37,38,40\n";

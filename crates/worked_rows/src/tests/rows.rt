@@ -1,8 +1,7 @@
 //! Worked runs of approval voting, from the words to the bytes.
-use super::support::{
-    ANSWER, THREE, Wanted, assert_ended, read_line, reader, request, run_on, writer,
-};
+use super::support::{ANSWER, THREE, assert_ended, read_line, request};
 use std::test::Fail;
+use test_devices::{Wanted, reader, run_on, writer};
 use vote_cli::{Device, LineFault, Status, Task, Told, run};
 
 #[test]

@@ -1,9 +1,10 @@
 //! Elections by rules with a value, from the words to the bytes.
-use super::support::{THREE, answered, assert_ended, read_line, reader, run_on, writer};
+use super::support::{THREE, assert_ended, read_line};
 use ballot_base::KSets;
 use std::alloc::{AllocError, Global};
 use std::process::Abort;
 use std::test::Fail;
+use test_devices::{answered, reader, run_on, writer};
 
 /// Two groups of voters with nothing in common.
 static PARTED: &[u8] = b"# DATA TYPE: cat\n# NUMBER ALTERNATIVES: 4\n3: {1,2}\n1: {3,4}\n";

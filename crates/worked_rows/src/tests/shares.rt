@@ -1,11 +1,10 @@
 //! Seats shared out among parties, from the words to the bytes. The allocations are worked by hand: by remainders for
 //! `hamilton`, and by the quotients of the votes for the others.
-use super::support::{
-    THREE, answered, assert_leaves, assert_misfit, cat_file, lines, numbers_to, refused,
-};
+use super::support::{THREE, assert_leaves, assert_misfit, cat_file, lines, numbers_to};
 use std::alloc::{AllocError, Global};
 use std::process::Abort;
 use std::test::Fail;
+use test_devices::{answered, refused};
 
 static METHODS: [&str; 6] = [
     "hamilton",

@@ -1,22 +1,26 @@
-//! What the tests share: requests from words, and runs that leave plain data.
+//! What the tests share: requests from words, what runs leave, and texts of tables.
 ghost use Rattle.std.specs.Prelude.{◌≡◌, ◌≤◌};
+ghost use Rattle.vote_cli.specs.Status.{code_of};
 
 use ballot_base::{AddFault, CandSet, Profile, ProfileBuilder};
 use std::alloc::{AllocError, Allocator, Global};
 use std::process::Abort;
 use std::test::Fail;
-use test_devices::{Fault, Recorder, SliceReader};
-use vote_cli::{LineFault, Request, Status, read_request, run};
+use test_devices::{Ended, Wanted, answered, reader, refused, run_on, writer};
+use vote_cli::{LineFault, Request, read_request};
 
 /// Three candidates and two ballots: two voters approve 1 and 2, and one voter approves 3.
-pub static THREE: &[u8] =
+pub(super) static THREE: &[u8] =
     b"# DATA TYPE: cat\n# NUMBER ALTERNATIVES: 3\n# NUMBER CATEGORIES: 2\n2: {1,2},3\n1: 3,{1,2}\n";
 
 /// The answer to it by approval voting, for one seat.
-pub static ANSWER: &[u8] = b"rule av\nsize 1\nscore 2/1\n1\n2\nend\n";
+pub(super) static ANSWER: &[u8] = b"rule av\nsize 1\nscore 2/1\n1\n2\nend\n";
 
 /// The words of a line, read as a request.
-pub fn read_line(alloc: Global, line: &str) -> Result<Result<Request, LineFault>, AllocError> {
+pub(super) fn read_line(
+    alloc: Global,
+    line: &str,
+) -> Result<Result<Request, LineFault>, AllocError> {
     let mut words = Vec::new(alloc);
     for word in line.split_whitespace() {
         words.push(String::from_str(alloc, word)?)?;
@@ -25,79 +29,14 @@ pub fn read_line(alloc: Global, line: &str) -> Result<Result<Request, LineFault>
 }
 
 /// The request of approval voting for so many seats. More words may follow the number.
-pub fn request(alloc: Global, words: &str) -> Result<Request, Fail> {
+pub(super) fn request(alloc: Global, words: &str) -> Result<Request, Fail> {
     let mut line = String::from_str(alloc, "committees elect --rule av --size ")?;
     line.push_str(words)?;
     Ok(read_line(alloc, line.as_str())??)
 }
 
-/// A reader that gives all that is asked for, and never fails.
-pub fn reader(bytes: &[u8]) -> SliceReader<'_> {
-    SliceReader::new(bytes, usize::MAX)
-}
-
-/// A writer that takes all that it is given, and never fails.
-pub fn writer(alloc: Global) -> Recorder {
-    Recorder::new(alloc, usize::MAX, Fault::Sound)
-}
-
-/// A run that has ended, and its writers.
-#[derive(Drop)]
-pub struct Ended {
-    pub status: Status,
-    pub out: Recorder,
-    pub err: Recorder,
-}
-
-/// Runs a request over the devices.
-pub fn run_on<A: Allocator + Copy + Drop>(
-    alloc: A,
-    request: &Request,
-    mut reader: SliceReader<'_>,
-    mut out: Recorder,
-    mut err: Recorder,
-) -> Ended {
-    let status = run(alloc, request, &mut reader, &mut out, &mut err);
-    Ended { status, out, err }
-}
-
-/// What a run has to leave: its exit status, and the bytes on its two writers.
-#[derive(Clone, Copy)]
-pub struct Wanted<'a> {
-    pub status: u8,
-    pub out: &'a [u8],
-    pub err: &'a [u8],
-}
-
-/// A run that answers, with these bytes.
-pub fn answered(out: &[u8]) -> Wanted<'_> {
-    Wanted {
-        status: 0,
-        out,
-        err: b"",
-    }
-}
-
-/// A run that answers nothing, with this line on the errors.
-pub fn refused(status: u8, err: &[u8]) -> Wanted<'_> {
-    Wanted {
-        status,
-        out: b"",
-        err,
-    }
-}
-
-/// A run that finds a property violated, with this report.
-pub fn violated(out: &[u8]) -> Wanted<'_> {
-    Wanted {
-        status: 1,
-        out,
-        err: b"",
-    }
-}
-
 /// Asserts what these words behind the program's name leave over these bytes.
-pub fn assert_leaves(
+pub(super) fn assert_leaves(
     rt: &impl Abort,
     alloc: Global,
     words: &str,
@@ -112,7 +51,7 @@ pub fn assert_leaves(
 }
 
 /// Asserts that these words behind the program's name do not fit these bytes, by a fault of this name.
-pub fn assert_misfit(
+pub(super) fn assert_misfit(
     rt: &impl Abort,
     alloc: Global,
     words: &str,
@@ -124,7 +63,7 @@ pub fn assert_misfit(
 }
 
 /// Asserts what the words from the number of seats on leave over these bytes.
-pub fn assert_runs(
+pub(super) fn assert_runs(
     rt: &impl Abort,
     alloc: Global,
     case: &str,
@@ -139,7 +78,7 @@ pub fn assert_runs(
 }
 
 /// Asserts that the election of one candidate, with these words, prints these lines between its head and its end.
-pub fn assert_elects(
+pub(super) fn assert_elects(
     rt: &impl Abort,
     alloc: Global,
     case: &str,
@@ -157,7 +96,7 @@ pub fn assert_elects(
 }
 
 /// Asserts that the election of one candidate, with these words, ends with this fault of the input.
-pub fn assert_refuses(
+pub(super) fn assert_refuses(
     rt: &impl Abort,
     alloc: Global,
     case: &str,
@@ -175,7 +114,17 @@ pub fn assert_refuses(
 }
 
 /// Asserts that the run left this. The number tells cases of one name apart.
-pub fn assert_ended(rt: &impl Abort, case: &str, number: usize, ended: &Ended, wanted: Wanted<'_>) {
+pub(super) fn assert_ended(
+    rt: &impl Abort,
+    case: &str,
+    number: usize,
+    ended: &Ended,
+    wanted: Wanted<'_>,
+)
+    ensures status { code_of ended.now.status ≡ wanted.status }
+    ensures out { ended.now.out.0 ≡ wanted.out.now }
+    ensures err { ended.now.err.0 ≡ wanted.err.now }
+{
     assert_eq!(rt;
         ended.status.code(),
         wanted.status,
@@ -194,7 +143,7 @@ pub fn assert_ended(rt: &impl Abort, case: &str, number: usize, ended: &Ended, w
 }
 
 /// A text of a table: a `;` stands for the end of a line.
-pub fn lines(alloc: Global, text: &str) -> Result<String, AllocError> {
+pub(super) fn lines(alloc: Global, text: &str) -> Result<String, AllocError> {
     let mut lines = String::with_capacity(alloc, text.len())?;
     for (i, line) in text.split(';').enumerate() {
         if i > 0 {
@@ -206,13 +155,17 @@ pub fn lines(alloc: Global, text: &str) -> Result<String, AllocError> {
 }
 
 /// A cat file with so many alternatives and these ballots. A `;` stands for the end of a line.
-pub fn cat_file(alloc: Global, alternatives: &str, ballots: &str) -> Result<String, AllocError> {
+pub(super) fn cat_file(
+    alloc: Global,
+    alternatives: &str,
+    ballots: &str,
+) -> Result<String, AllocError> {
     let ballots = lines(alloc, ballots)?;
     format!(in alloc; "# DATA TYPE: cat\n# NUMBER ALTERNATIVES: {alternatives}\n{ballots}\n")
 }
 
 /// The numbers from 1 to the last, joined by commas.
-pub fn numbers_to(alloc: Global, last: u8) -> Result<String, AllocError> {
+pub(super) fn numbers_to(alloc: Global, last: u8) -> Result<String, AllocError> {
     let mut list = String::from_str(alloc, "1")?;
     for n in 2..=last {
         list.push_str(format!(in alloc; ",{n}")?.as_str())?;
@@ -221,7 +174,7 @@ pub fn numbers_to(alloc: Global, last: u8) -> Result<String, AllocError> {
 }
 
 /// Adds voters with one ballot over 40 candidates.
-pub fn add<A: Allocator + Copy + Drop>(
+pub(super) fn add<A: Allocator + Copy + Drop>(
     builder: &mut ProfileBuilder<A>,
     set: CandSet,
     count: u64,
@@ -236,7 +189,7 @@ pub fn add<A: Allocator + Copy + Drop>(
 }
 
 /// Gives a candidate a name, of 40.
-pub fn set_name<A: Allocator + Copy + Drop>(
+pub(super) fn set_name<A: Allocator + Copy + Drop>(
     builder: &mut ProfileBuilder<A>,
     n: u8,
     name: &[u8],
@@ -250,7 +203,7 @@ pub fn set_name<A: Allocator + Copy + Drop>(
 }
 
 /// The name of a candidate, where the profile has the candidate and the name.
-pub fn name_in<A: Allocator + Copy>(profile: &Profile<A>, n: u8) -> Option<&[u8]> {
+pub(super) fn name_in<A: Allocator + Copy>(profile: &Profile<A>, n: u8) -> Option<&[u8]> {
     if n == 0 || n > profile.m() {
         return None;
     }

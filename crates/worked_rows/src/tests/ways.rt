@@ -1,11 +1,10 @@
 //! Whom the voters approve, by the type of the file and the way in the words.
-use super::support::{
-    answered, assert_elects, assert_refuses, assert_runs, read_line, refused, request,
-};
+use super::support::{assert_elects, assert_refuses, assert_runs, read_line, request};
 use ballot_base::CandSet;
 use preflib_text::read_profile;
 use std::fmt::Write;
 use std::test::Fail;
+use test_devices::{answered, refused};
 use vote_cli::LineFault;
 
 #[test]
