@@ -35,6 +35,12 @@ fn find(profile: &Profile, property: &str, committee: u64) -> Option<Violation> 
             if property != "pjr" {
                 return group(level, shared, None);
             }
+            // Too few approve these candidates, whomever else they approve.
+            let approvers = profile.rows.iter().filter(|row| row.0 & shared == shared);
+            let approvers: u64 = approvers.map(|row| row.1).sum();
+            if approvers * u64::from(size) < u64::from(level) * all {
+                return None;
+            }
             KSets::new(size, level - 1).find_map(|places| {
                 let within = members(places).fold(0, |set, i| set | 1 << seats[i as usize - 1]);
                 group(level, shared, Some(within))

@@ -44,10 +44,11 @@ pub fn write(out: &mut impl Write, profile: &Profile, rule: &str, size: usize) -
             let l = common_multiple(u128::from(m));
             let shares: Vec<u128> = (0..=u128::from(m)).map(|n| if n == 0 { 0 } else { l / n }).collect();
             walk(out, profile, size, Some(l), |set| {
-                profile.rows.iter().fold(0, |sum, &(ballot, count)| {
-                    let part = shares[ballot.count_ones() as usize] * u128::from((ballot & set).count_ones());
-                    sum + u128::from(count) * part
-                })
+                let mut hits = [0u64; 41];
+                for &(ballot, count) in &profile.rows {
+                    hits[ballot.count_ones() as usize] += count * u64::from((ballot & set).count_ones());
+                }
+                sum_of_worths(&shares, &hits)
             })?;
         }
         "minimax" => walk(out, profile, size, None, |set| {
@@ -61,14 +62,21 @@ pub fn write(out: &mut impl Write, profile: &Profile, rule: &str, size: usize) -
                 sums.push(sums[sums.len() - 1] + w);
             }
             walk(out, profile, size, Some(denominator), |set| {
-                profile.rows.iter().fold(0, |sum, &(ballot, count)| {
-                    sum + u128::from(count) * sums[(ballot & set).count_ones() as usize]
-                })
+                let mut voters = [0u64; 41];
+                for &(ballot, count) in &profile.rows {
+                    voters[(ballot & set).count_ones() as usize] += count;
+                }
+                sum_of_worths(&sums, &voters)
             })?;
         }
     }
     out.write_all(b"end\n")?;
     Ok(true)
+}
+
+/// What so many of each worth are worth together.
+fn sum_of_worths(worths: &[u128], numbers: &[u64]) -> u128 {
+    worths.iter().zip(numbers).map(|(worth, &n)| worth * u128::from(n)).sum()
 }
 
 /// Finds the greatest value in a first pass over all committees, and prints those that have it in a second.

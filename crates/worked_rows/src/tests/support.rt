@@ -121,9 +121,9 @@ pub(super) fn assert_ended(
     ended: &Ended,
     wanted: Wanted<'_>,
 )
-    ensures status { code_of ended.now.status ≡ wanted.status }
-    ensures out { ended.now.out.0 ≡ wanted.out.now }
-    ensures err { ended.now.err.0 ≡ wanted.err.now }
+    ensures status { code_of ended.now.status ≡ wanted.entry.status }
+    ensures out { ended.now.out.0 ≡ wanted.entry.out.now }
+    ensures err { ended.now.err.0 ≡ wanted.entry.err.now }
 {
     assert_eq!(rt;
         ended.status.code(),
