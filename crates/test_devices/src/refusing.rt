@@ -7,8 +7,9 @@ use std::cell::Cell;
 /// An allocator that refuses one growth and passes every other call on. A `&` to it is an allocator too.
 #[derive(Drop)]
 pub struct Refusing<H: Allocator = Global> {
-    /// How many growths there are up to the one that is refused, and 0 once it was.
-    left: Cell<u64>,
+    /// How many growths there are up to the one that is refused, and 0 once it was. No contract can tell of what a
+    /// `Cell` holds: tests alone hold this count.
+    pub left: Cell<u64>,
     /// The allocator that the other calls are passed on to.
     pub heap: H,
 }
@@ -23,12 +24,6 @@ impl<H: Allocator> Refusing<H> {
             left: Cell::new(refused),
             heap,
         }
-    }
-
-    /// Whether the growth was asked for, and refused. The count stands in a `Cell`, of which no contract can tell, so
-    /// tests alone hold this answer.
-    pub fn has_refused(&self) -> bool {
-        self.left.get() == 0
     }
 }
 

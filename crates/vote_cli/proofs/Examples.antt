@@ -1,18 +1,20 @@
 -- Each definition, computed on a small example.
-use Rattle.std.proofs.Common.{◌≡◌, ℕ, List, [], ◌∷◌, ◌++◌, true, false, Some, refl}
+use Rattle.std.proofs.Common.{◌≡◌, ℕ, List, [], ◌∷◌, ◌++◌, true, false, Some, refl, map}
+use Rattle.std.specs.Map.{values_of}
 use Rattle.std.specs.Prelude.{codes}
 use Rattle.std.specs.Fmt.{digits}
 use Rattle.ballot_base.specs.Lists.{lists_of}
 use Rattle.ballot_base.specs.Ballots.{Election, Row, election}
 use Rattle.ballot_base.specs.declared.increments.ThieleRule.TheVariants.{Av, Geom3}
-use Rattle.vote_cli.specs.declared.request.Rule.TheVariants.{Scored, Sequential}
+use Rattle.request_words.specs.declared.request.Rule.TheVariants.{Scored, Sequential}
 use Rattle.tie_walk.specs.declared.sequential.SeqRule.TheVariants.{SeqPav, RevSeqPav}
-use Rattle.vote_cli.specs.declared.request.ScoredRule.TheVariants.{Thiele, Satisfaction, Minimax}
+use Rattle.request_words.specs.declared.request.ScoredRule.TheVariants.{Thiele, Satisfaction, Minimax}
 use Rattle.ballot_base.specs.Increments.{increments}
 use Rattle.ballot_base.specs.CommonMultiple.{common_multiple}
 use Rattle.vote_cli.specs.Text.{line, numbers_text, following_text, rule_word, lists_text, head_text, elected_text}
 use Rattle.seat_share.specs.declared.method.Method.TheVariants.{Hamilton, Dhondt, SainteLague, Huntington, Adams, Dean}
 use Rattle.seat_share.specs.Allocations.{lists_with_sum, allocations}
+use Rattle.request_words.specs.Words.{rule_names, rules_by_name}
 use Rattle.vote_cli.specs.Parties.{has_many_approved, approvals_of, party_votes}
 use Rattle.vote_cli.specs.ShareText.{method_word, method_lines, share_text}
 use Rattle.group_check.specs.declared.property.Property.TheVariants.{Jr, Pjr, Ejr}
@@ -45,6 +47,10 @@ following = refl
 rule_words : (rule_word (Scored (Thiele Av)) ≡ codes "av") × (rule_word (Scored (Thiele Geom3)) ≡ codes "geom3") × (rule_word (Scored Satisfaction) ≡ codes "sav")
     × (rule_word (Scored Minimax) ≡ codes "minimax") × (rule_word (Sequential RevSeqPav) ≡ codes "revseqpav")
 rule_words = (refl, refl, refl, refl, refl)
+
+-- the name of a rule is the word that is printed of it
+names_are_words : map rule_word (values_of rules_by_name) ≡ rule_names
+names_are_words = refl
 
 head : head_text (Thiele Av) 3 1 2 ≡ codes "rule av" ++ 10 ∷ codes "size 1" ++ 10 ∷ codes "score 2/1" ++ 10 ∷ []
 unfolding digits

@@ -6,14 +6,14 @@ use Rattle.std.specs.Fmt.{digits}
 use Rattle.ballot_base.specs.Lists.{lists_of}
 use Rattle.ballot_base.specs.Ballots.{Election, Row, election}
 use Rattle.ballot_base.specs.declared.increments.ThieleRule.TheVariants.{Av}
-use Rattle.vote_cli.specs.declared.request.Rule.TheVariants.{Scored}
-use Rattle.vote_cli.specs.declared.request.ScoredRule.TheVariants.{Thiele}
+use Rattle.request_words.specs.declared.request.Rule.TheVariants.{Scored}
+use Rattle.request_words.specs.declared.request.ScoredRule.TheVariants.{Thiele}
 use Rattle.vote_cli.specs.declared.status.Status.TheVariants.{Answered, Violated, InputRefused, RequestRefused, NoMemory, DeviceFailed}
 use Rattle.vote_cli.specs.declared.input.InputFault.TheVariants as fault
 use Rattle.vote_cli.specs.declared.answers.Verdict.TheVariants as verdict
 use Rattle.vote_cli.specs.declared.refusal.Misfit.TheVariants as refusal_words
 use Rattle.vote_cli.specs.declared.refusal.Refusal.TheVariants as refusal
-use Rattle.vote_cli.specs.Request.{Asked, Demand, electing, checking, sharing, InRange}
+use Rattle.request_words.specs.Request.{Asked, Demand, electing, checking, sharing, InRange}
 use Rattle.vote_cli.specs.Device.{is_failed_write, AppendsBeginning}
 use Rattle.vote_cli.specs.Input.{TellsOfInput}
 use Rattle.vote_cli.specs.Status.{code_of}

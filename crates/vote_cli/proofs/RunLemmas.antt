@@ -20,7 +20,7 @@ use Rattle.vote_cli.specs.declared.refusal.Refusal.{Refusal}
 use Rattle.vote_cli.specs.declared.refusal.Refusal.TheVariants.{Input, Request, Memory, ReadFailed, WriteFailed}
 use Rattle.vote_cli.specs.declared.status.Status.{Status}
 use Rattle.vote_cli.specs.declared.status.Status.TheVariants as status
-use Rattle.vote_cli.specs.Request.{Asked, Demand}
+use Rattle.request_words.specs.Request.{Asked, Demand}
 use Rattle.vote_cli.specs.FaultText.{fault_text}
 use Rattle.vote_cli.specs.Misfits.{misfit_word}
 use Rattle.vote_cli.specs.Answer.{Answer, Ends, IsAnswer, IsAnswerOver, IsAnswerTo, IsCheckAnswer, Reports, ballots_answer, share_answer, TellsOf, answered, misfit, refused, violated}

@@ -1,14 +1,14 @@
 -- The text of lists of numbers.
 use Rattle.std.proofs.Common.{◌≡◌, ℕ, List, [], ◌∷◌, ◌++◌, refl, sym, ap, ap₂, ◌∙◌, append_assoc, append-nil}
 use Rattle.std.specs.Prelude.{decimal, codes}
-use Rattle.vote_cli.specs.declared.request.Rule.TheVariants.{Scored, Sequential}
-use Rattle.vote_cli.specs.declared.request.ScoredRule.{ScoredRule}
+use Rattle.request_words.specs.declared.request.Rule.TheVariants.{Scored, Sequential}
+use Rattle.request_words.specs.declared.request.ScoredRule.{ScoredRule}
 use Rattle.tie_walk.specs.declared.sequential.SeqRule.{SeqRule}
 use Rattle.tie_walk.specs.Winners.{best_value, winners}
 use Rattle.vote_cli.specs.Text.{line, numbers_text, following_text, head_text, lists_text, text_by, rule_lines, sequential_text, elected_text}
 use Rattle.ballot_base.specs.Ballots.{Election}
 use Rattle.tie_walk.specs.Values.{closeness}
-use Rattle.vote_cli.specs.declared.request.ScoredRule.TheVariants.{Minimax}
+use Rattle.request_words.specs.declared.request.ScoredRule.TheVariants.{Minimax}
 
 -- numbers with commas between them are the first, and the others with a comma before each
 pub numbers_text-cons : (n : ℕ) (ns : List ℕ) → numbers_text (n ∷ ns) ≡ decimal n ++ following_text ns

@@ -14,10 +14,10 @@ use Rattle.seat_share.specs.Allocations.{allocations}
 use Rattle.seat_share.specs.Faults.{first_fault}
 use Rattle.seat_share.specs.declared.method.Method.{Method}
 use Rattle.seat_share.specs.declared.method.ShareFault.{ShareFault}
-use Rattle.vote_cli.specs.declared.request.Rule.{Rule}
+use Rattle.request_words.specs.declared.request.Rule.{Rule}
 use Rattle.vote_cli.specs.declared.status.Status.{Status}
 use Rattle.vote_cli.specs.declared.status.Status.TheVariants.{Answered, Violated, InputRefused, RequestRefused, NoMemory, DeviceFailed}
-use Rattle.vote_cli.specs.Request.{Asked, Demand, electing, checking, sharing}
+use Rattle.request_words.specs.Request.{Asked, Demand, electing, checking, sharing}
 use Rattle.vote_cli.specs.Device.{AppendsBeginning}
 use Rattle.vote_cli.specs.FaultText.{fault_text}
 use Rattle.vote_cli.specs.Misfits.{share_word}

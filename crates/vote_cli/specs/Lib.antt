@@ -1,16 +1,12 @@
 pub mod Answer
 pub mod Device
-pub mod Endings
 pub mod FaultText
 pub mod Input
 pub mod Misfits
-pub mod NumberList
 pub mod Parties
 pub mod Printing
 pub mod Refusals
 pub mod ReportText
-pub mod Request
 pub mod ShareText
 pub mod Status
 pub mod Text
-pub mod Words

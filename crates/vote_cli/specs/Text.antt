@@ -2,8 +2,8 @@
 use Rattle.std.specs.Prelude.{ℕ, ◌-◌, List, ◌∷◌, [], ◌++◌, map, codes, decimal, flat_map}
 use Rattle.std.specs.List.{join_with_byte}
 use Rattle.ballot_base.specs.Ballots.{Election}
-use Rattle.vote_cli.specs.declared.request.Rule.{Rule}
-use Rattle.vote_cli.specs.declared.request.ScoredRule.{ScoredRule}
+use Rattle.request_words.specs.declared.request.Rule.{Rule}
+use Rattle.request_words.specs.declared.request.ScoredRule.{ScoredRule}
 use Rattle.tie_walk.specs.declared.sequential.SeqRule.{SeqRule}
 use Rattle.tie_walk.specs.declared.sequential.SeqRule.TheVariants.{SeqPav, SeqCc, RevSeqPav}
 use Rattle.tie_walk.specs.Sequences.{sequential_winners}
@@ -13,8 +13,8 @@ use Rattle.ballot_base.specs.declared.increments.ThieleRule.{ThieleRule}
 use Rattle.ballot_base.specs.declared.increments.ThieleRule.TheVariants.{Av, Pav, Cc, Geom2, Geom3, Geom4}
 use Rattle.tie_walk.specs.Values.{thiele_value, satisfaction_value, closeness}
 use Rattle.tie_walk.specs.Winners.{best_value, winners}
-use Rattle.vote_cli.specs.declared.request.Rule.TheVariants.{Scored, Sequential}
-use Rattle.vote_cli.specs.declared.request.ScoredRule.TheVariants.{Thiele, Satisfaction, Minimax}
+use Rattle.request_words.specs.declared.request.Rule.TheVariants.{Scored, Sequential}
+use Rattle.request_words.specs.declared.request.ScoredRule.TheVariants.{Thiele, Satisfaction, Minimax}
 
 -- a line with its end
 abbrev pub line : List ℕ → List ℕ

@@ -6,9 +6,9 @@ ghost use Rattle.vote_cli.specs.Text.{line, numbers_text, best_text, score_text,
 use crate::device::Sink;
 use crate::numbers::print_numbers;
 use crate::printing::{Waiting, WriteFailed, finish, print, print_all};
-use crate::request::{Rule, ScoredRule};
 use ballot_base::{CandSet, Increments, Profile, ThieleRule, common_multiple};
 use itoa::Buffer;
+use request_words::{Rule, ScoredRule};
 use std::alloc::Allocator;
 use tie_walk::{MinimaxTally, SavTally, SeqRule, SeqWinners, Tally, ThieleTally, Winners};
 

@@ -10,10 +10,10 @@ use crate::answers::{
 use crate::device::{Sink, Source};
 use crate::input::{InputFault, read_to_end};
 use crate::refusal::{Refusal, refusal_of};
-use crate::request::{Request, Task};
 use crate::status::Status;
 use ballot_base::Profile;
 use preflib_text::{Pick, read_profile};
+use request_words::{Request, Task};
 use std::alloc::Allocator;
 
 /// Reads the ballots of the whole input.

@@ -1,7 +1,7 @@
 //! Worked runs of approval voting over every type of file. Expected values are worked by hand.
 use super::run;
 use crate::device::Told;
-use crate::words::read_request;
+use request_words::read_request;
 use std::alloc::Global;
 use std::process::Abort;
 use std::test::Fail;

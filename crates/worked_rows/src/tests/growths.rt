@@ -67,6 +67,11 @@ static FILES: [File; 5] = [
 
 static MEMORY: &[u8] = b"committees: memory\n";
 
+/// Whether the growth was asked for, and refused.
+fn has_refused(heap: &Refusing) -> bool {
+    heap.left.get() == 0
+}
+
 /// Asserts that a run over these bytes ends so just where no growth is refused. The run takes memory so often at least.
 fn assert_growths_of_run(
     rt: &impl Abort,
@@ -80,7 +85,7 @@ fn assert_growths_of_run(
     for n in 1..=MANY {
         let heap = Refusing::new(alloc, n);
         let ended = run_on(&heap, request, reader(bytes), writer(alloc), writer(alloc));
-        if !heap.has_refused() {
+        if !has_refused(&heap) {
             assert_ended(rt, case, 0, &ended, wanted);
             assert!(rt; n > least, "{case} takes memory");
             return Ok(());
@@ -161,7 +166,7 @@ fn votes_in_the_words(rt: HostRuntime) -> Result<(), Fail> {
         let reader = SliceReader::failing(THREE, 16, 1);
         let ended = run_on(&heap, &request, reader, writer(alloc), writer(alloc));
         assert_ended(&rt, votes, 0, &ended, wanted);
-        assert!(rt; !heap.has_refused(), "no growth of {votes}");
+        assert!(rt; !has_refused(&heap), "no growth of {votes}");
     }
     Ok(())
 }
@@ -175,7 +180,7 @@ fn assert_growths_of_reading(rt: &impl Abort, alloc: Global, file: File) -> Resu
     for n in 1..=MANY {
         let heap = Refusing::new(alloc, n);
         let read = read_profile(&heap, file.bytes, &request.pick());
-        if !heap.has_refused() {
+        if !has_refused(&heap) {
             assert_eq!(rt; read?.voters(), file.voters, "{kind}");
             assert!(rt; n > 3, "{kind} takes memory");
             return Ok(());
@@ -294,11 +299,11 @@ fn each_growth_of_a_builder(rt: HostRuntime) -> Result<(), Fail> {
         for n in 1..=MANY {
             let heap = Refusing::new(alloc, n);
             let Ok(mut builder) = ProfileBuilder::new(&heap, 40) else {
-                assert!(rt; n == 1 && heap.has_refused(), "growth {n}");
+                assert!(rt; n == 1 && has_refused(&heap), "growth {n}");
                 continue;
             };
             let refused = add_nine(&mut builder, again)?;
-            assert_eq!(rt; refused.is_some(), heap.has_refused(), "growth {n}");
+            assert_eq!(rt; refused.is_some(), has_refused(&heap), "growth {n}");
             let Ok(profile) = builder.finish() else {
                 panic!(rt; "no ballot after growth {n}");
             };
@@ -420,7 +425,7 @@ fn each_growth_of_names(rt: HostRuntime) -> Result<(), Fail> {
                 panic!(rt; "no ballot after growth {n}");
             };
             assert_names(&rt, &profile, if again { None } else { refused });
-            if !heap.has_refused() {
+            if !has_refused(&heap) {
                 break;
             }
             if refused.is_some() {

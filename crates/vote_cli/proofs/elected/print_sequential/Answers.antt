@@ -1,6 +1,6 @@
 use Rattle.std.proofs.Common.{sym, [], ◌∙◌, ◌++◌, append_assoc, append-nil}
 use Rattle.std.specs.Prelude.{codes}
-use Rattle.vote_cli.specs.declared.request.Rule.TheVariants.{Sequential}
+use Rattle.request_words.specs.declared.request.Rule.TheVariants.{Sequential}
 use Rattle.vote_cli.specs.Text.{line, lists_text, rule_lines}
 use Rattle.vote_cli.proofs.TextLemmas.{sequential_parts}
 use Rattle.vote_cli.proofs.PrintingLemmas.{breaks_off, breaks_off_behind, goes_on_behind, is_ok-err, Prints-dropped, Prints-first, Prints-from_empty, Prints-last, Prints-to_empty}

@@ -3,7 +3,7 @@ use Rattle.std.specs.Prelude.{option_map}
 use Rattle.std.specs.Vec.{vec_items}
 use Rattle.std.proofs.KnownBytes.{Appends-nil}
 use Rattle.vote_cli.specs.Answer.{IsCheckAnswer, ballots_answer, election_answer}
-use Rattle.vote_cli.specs.Request.{demand_of, electing, checking, sharing}
+use Rattle.request_words.specs.Request.{demand_of, electing, checking, sharing}
 use Rattle.vote_cli.proofs.RunLemmas.{concludes_over, concludes_unread}
 use Rattle.vote_cli.proofs.whole_run.answer.Goals as goal
 

@@ -1,0 +1,10 @@
+pub mod Answered
+pub mod GivenRequest
+pub mod GivenValues
+pub mod NumberListLemmas
+pub mod Places
+pub mod PlacesOfFaults
+pub mod ProgramPlaces
+pub mod Refusals
+pub mod WordsExamples
+pub mod WordsLemmas

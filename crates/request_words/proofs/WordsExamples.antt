@@ -1,0 +1,305 @@
+-- `request_of`, the refusals after clap and clap's kinds of refusal, computed.
+use Rattle.std.proofs.Common.{◌≡◌, refl, List, [], ◌∷◌, codes, inl, ℕ}
+use Rattle.std.specs.Prelude.{Option, Some, None, Ok, Err}
+use Rattle.clap.specs.Words.{Text, fault_of}
+use Rattle.clap.proofs.OnLiterals.{clap_on_literals}
+use Rattle.clap.specs.declared.error.kind.ErrorKind.TheVariants as kind
+use Rattle.ballot_base.specs.declared.increments.ThieleRule.TheVariants.{Av, Geom3}
+use Rattle.request_words.specs.declared.request.Rule.{Rule}
+use Rattle.request_words.specs.declared.request.Rule.TheVariants.{Scored}
+use Rattle.request_words.specs.declared.request.ScoredRule.TheVariants.{Thiele, Satisfaction, Minimax}
+use Rattle.request_words.specs.Request.{Asked, Demand, checking, electing, sharing}
+use Rattle.preflib_text.specs.declared.pick.Kind.{Kind}
+use Rattle.preflib_text.specs.declared.pick.Kind.TheVariants.{Cat, Soc, Soi, Toc, Toi}
+use Rattle.preflib_text.specs.declared.pick.Pick.{Pick}
+use Rattle.preflib_text.specs.declared.pick.Way.{Way}
+use Rattle.preflib_text.specs.declared.pick.Way.TheVariants.{Usual, Category, SetSize, Classes}
+use Rattle.group_check.specs.declared.property.Property.TheVariants.{Jr, Pjr, Ejr}
+use Rattle.seat_share.specs.declared.method.Method.TheVariants.{Hamilton, Dhondt, SainteLague, Huntington, Adams, Dean}
+use Rattle.request_words.specs.declared.words.LineFault.TheVariants.{BadList, TwoPicks, VotesAndInput, Memory}
+use Rattle.request_words.specs.declared.words.ListOption.TheVariants.{Committee, Votes}
+use Rattle.request_words.specs.Endings.{behind_last, kind_in_path}
+use Rattle.request_words.specs.NumberList.{all_there, entry_of, list_of}
+use Rattle.request_words.specs.Words.{IsMisused, line_of, listed, method_named, method_names, outcome_of, program, property_named, property_names}
+use Rattle.request_words.specs.Words.{request_of, rule_named, rule_names, way_by}
+
+-- `committees elect` and these words
+abbrev elect_words : List Text → List Text
+elect_words rest = codes "committees" ∷ codes "elect" ∷ rest
+
+-- approval voting, for a file of this type and this ending, in this way
+abbrev asked : ℕ → Option Kind → Option Kind → Way → Option Text → Option Asked
+asked size kind ending way file =
+    Some (record { demand = electing (Scored (Thiele Av)) size; pick = record { kind = kind; ending = ending; way = way }; file = file })
+
+abbrev av : ℕ → Option Text → Option Asked
+av size file = asked size None None Usual file
+
+standard_input : request_of (elect_words (codes "--rule" ∷ codes "av" ∷ codes "--size" ∷ codes "1" ∷ [])) ≡ av 1 None
+unfolding clap_on_literals
+standard_input = refl
+
+file_named : request_of (elect_words (codes "--size" ∷ codes "40" ∷ codes "a.cat" ∷ codes "--rule=av" ∷ [])) ≡ asked 40 None (Some Cat) Usual (Some (codes "a.cat"))
+unfolding clap_on_literals behind_last
+file_named = refl
+
+leading_zero : request_of (elect_words (codes "--rule" ∷ codes "av" ∷ codes "--size=07" ∷ [])) ≡ av 7 None
+unfolding clap_on_literals
+leading_zero = refl
+
+empty_file : request_of (elect_words (codes "--rule" ∷ codes "av" ∷ codes "--size" ∷ codes "2" ∷ [] ∷ [])) ≡ av 2 (Some [])
+unfolding clap_on_literals behind_last
+empty_file = refl
+
+too_large : request_of (elect_words (codes "--rule" ∷ codes "av" ∷ codes "--size" ∷ codes "41" ∷ [])) ≡ None
+unfolding clap_on_literals
+too_large = refl
+
+zero_seats : request_of (elect_words (codes "--rule" ∷ codes "av" ∷ codes "--size" ∷ codes "0" ∷ [])) ≡ None
+unfolding clap_on_literals
+zero_seats = refl
+
+rule_missing : fault_of program (elect_words (codes "--size" ∷ codes "1" ∷ [])) ≡ kind.MissingRequiredArgument ∷ []
+unfolding clap_on_literals
+rule_missing = refl
+
+rule_in_capitals : fault_of program (elect_words (codes "--rule" ∷ codes "AV" ∷ codes "--size" ∷ codes "1" ∷ [])) ≡ kind.InvalidValue ∷ []
+unfolding clap_on_literals
+rule_in_capitals = refl
+
+repeated : fault_of program (elect_words (codes "--rule" ∷ codes "av" ∷ codes "--size" ∷ codes "1" ∷ codes "--size" ∷ codes "1" ∷ [])) ≡ kind.ArgumentConflict ∷ []
+unfolding clap_on_literals
+repeated = refl
+
+unknown_option : request_of (elect_words (codes "--rule" ∷ codes "av" ∷ codes "--size" ∷ codes "1" ∷ codes "--limit" ∷ codes "1" ∷ [])) ≡ None
+unfolding clap_on_literals
+unknown_option = refl
+
+no_version : fault_of program (codes "committees" ∷ codes "--version" ∷ []) ≡ kind.UnknownArgument ∷ []
+unfolding clap_on_literals
+no_version = refl
+
+no_command : fault_of program (codes "committees" ∷ []) ≡ kind.MissingSubcommand ∷ []
+unfolding clap_on_literals
+no_command = refl
+
+no_words : fault_of program [] ≡ kind.MissingSubcommand ∷ []
+unfolding clap_on_literals
+no_words = refl
+
+help_asked : fault_of program (elect_words (codes "--help" ∷ [])) ≡ kind.DisplayHelp ∷ []
+unfolding clap_on_literals
+help_asked = refl
+
+-- ---- the rules
+
+-- a file of no known type, in the usual way
+abbrev usual : Pick
+usual = record { kind = None; ending = None; way = Usual }
+
+-- two seats by a rule
+abbrev two_seats : Rule → Option Asked
+two_seats rule = Some (record { demand = electing rule 2; pick = usual; file = None })
+
+geometric_rule : request_of (elect_words (codes "--rule" ∷ codes "geom3" ∷ codes "--size" ∷ codes "2" ∷ [])) ≡ two_seats (Scored (Thiele Geom3))
+unfolding clap_on_literals
+geometric_rule = refl
+
+satisfaction : request_of (elect_words (codes "--size" ∷ codes "2" ∷ codes "--rule=sav" ∷ [])) ≡ two_seats (Scored Satisfaction)
+unfolding clap_on_literals
+satisfaction = refl
+
+no_rule_of_that_name : IsMisused (elect_words (codes "--rule" ∷ codes "phragmen" ∷ codes "--size" ∷ codes "2" ∷ []))
+unfolding clap_on_literals
+no_rule_of_that_name = (refl, (kind.InvalidValue, inl refl, λ e. cc, λ e. cc))
+
+rules_of_names : (rule_named (codes "geom3") ≡ Some (Scored (Thiele Geom3))) × (rule_named (codes "minimax") ≡ Some (Scored Minimax)) × (rule_named (codes "SAV") ≡ None)
+    × (rule_named [] ≡ None)
+rules_of_names = (refl, refl, refl, refl)
+
+names_of_rules : rule_names ≡ codes "av" ∷ codes "pav" ∷ codes "cc" ∷ codes "geom2" ∷ codes "geom3" ∷ codes "geom4" ∷ codes "sav" ∷ codes "minimax"
+    ∷ codes "seqpav" ∷ codes "seqcc" ∷ codes "revseqpav" ∷ []
+names_of_rules = refl
+
+-- ---- how the file is read
+
+-- approval voting for one seat, with these words more
+abbrev one_seat : List Text → List Text
+one_seat rest = elect_words (codes "--rule" ∷ codes "av" ∷ codes "--size" ∷ codes "1" ∷ rest)
+
+kind_named : request_of (one_seat (codes "--kind" ∷ codes "soi" ∷ codes "a.toc" ∷ [])) ≡ asked 1 (Some Soi) (Some Toc) Usual (Some (codes "a.toc"))
+unfolding clap_on_literals behind_last
+kind_named = refl
+
+kind_in_capitals : fault_of program (one_seat (codes "--kind" ∷ codes "SOI" ∷ [])) ≡ kind.InvalidValue ∷ []
+unfolding clap_on_literals
+kind_in_capitals = refl
+
+second_category : request_of (one_seat (codes "--category" ∷ codes "2" ∷ [])) ≡ asked 1 None None (Category 2) None
+unfolding clap_on_literals
+second_category = refl
+
+largest_size : request_of (one_seat (codes "--setsize=1000000" ∷ [])) ≡ asked 1 None None (SetSize 1000000) None
+unfolding clap_on_literals
+largest_size = refl
+
+three_classes : request_of (one_seat (codes "--classes" ∷ codes "03" ∷ [])) ≡ asked 1 None None (Classes 3) None
+unfolding clap_on_literals
+three_classes = refl
+
+no_class : fault_of program (one_seat (codes "--classes" ∷ codes "0" ∷ [])) ≡ kind.ValueValidation ∷ []
+unfolding clap_on_literals
+no_class = refl
+
+too_many_classes : fault_of program (one_seat (codes "--classes" ∷ codes "1000001" ∷ [])) ≡ kind.ValueValidation ∷ []
+unfolding clap_on_literals
+too_many_classes = refl
+
+two_ways : outcome_of (one_seat (codes "--classes" ∷ codes "1" ∷ codes "--setsize" ∷ codes "1" ∷ [])) ≡ Some (Err TwoPicks)
+unfolding clap_on_literals
+two_ways = refl
+
+no_request_of_two_ways : request_of (one_seat (codes "--category" ∷ codes "1" ∷ codes "--setsize" ∷ codes "1" ∷ [])) ≡ None
+unfolding clap_on_literals
+no_request_of_two_ways = refl
+
+ways : (way_by None None None ≡ Some Usual) × (way_by (Some 2) None None ≡ Some (Category 2)) × (way_by None (Some 2) (Some 2) ≡ None)
+ways = (refl, refl, refl)
+
+-- the ending of a path
+behind_the_last : behind_last 46 (codes "a.b.c") ≡ Some (codes "c")
+unfolding behind_last
+behind_the_last = refl
+
+endings : (kind_in_path (codes "a/b.SOC") ≡ Some Soc) × (kind_in_path (codes "a.soc/b") ≡ None) × (kind_in_path (codes ".toi") ≡ Some Toi)
+    × (kind_in_path (codes "a.soc.txt") ≡ None) × (kind_in_path [] ≡ None)
+unfolding behind_last
+endings = (refl, refl, refl, refl, refl)
+
+-- ---- properties and methods
+
+properties_of_names : (property_named (codes "jr") ≡ Some Jr) × (property_named (codes "pjr") ≡ Some Pjr) × (property_named (codes "ejr") ≡ Some Ejr)
+    × (property_named (codes "ejrplus") ≡ None)
+properties_of_names = (refl, refl, refl, refl)
+
+methods_of_names : (method_named (codes "hamilton") ≡ Some Hamilton) × (method_named (codes "dhondt") ≡ Some Dhondt)
+    × (method_named (codes "saintelague") ≡ Some SainteLague) × (method_named (codes "huntington") ≡ Some Huntington)
+    × (method_named (codes "adams") ≡ Some Adams) × (method_named (codes "dean") ≡ Some Dean) × (method_named (codes "Dean") ≡ None)
+methods_of_names = (refl, refl, refl, refl, refl, refl, refl)
+
+names_of_properties : property_names ≡ codes "jr" ∷ codes "pjr" ∷ codes "ejr" ∷ []
+names_of_properties = refl
+
+names_of_methods : method_names ≡ codes "hamilton" ∷ codes "dhondt" ∷ codes "saintelague" ∷ codes "huntington" ∷ codes "adams" ∷ codes "dean" ∷ []
+names_of_methods = refl
+
+-- ---- check
+
+-- this, over standard input
+abbrev over_input : Demand → Option Asked
+over_input demand = Some (record { demand = demand; pick = usual; file = None })
+
+a_check : request_of (codes "committees" ∷ codes "check" ∷ codes "--property" ∷ codes "pjr" ∷ codes "--committee" ∷ codes "3,1" ∷ []) ≡ over_input (checking Pjr (3 ∷ 1 ∷ []))
+unfolding clap_on_literals
+a_check = refl
+
+a_check_of_a_file : request_of (codes "committees" ∷ codes "check" ∷ codes "a.soi" ∷ codes "--committee=02" ∷ codes "--property=ejr" ∷ codes "--classes" ∷ codes "2" ∷ []) ≡ Some (record {
+  demand = checking Ejr (2 ∷ []);
+  pick = record { kind = None; ending = Some Soi; way = Classes 2 };
+  file = Some (codes "a.soi");
+})
+unfolding clap_on_literals behind_last
+a_check_of_a_file = refl
+
+no_committee : fault_of program (codes "committees" ∷ codes "check" ∷ codes "--property" ∷ codes "jr" ∷ []) ≡ kind.MissingRequiredArgument ∷ []
+unfolding clap_on_literals
+no_committee = refl
+
+no_such_property : fault_of program (codes "committees" ∷ codes "check" ∷ codes "--property" ∷ codes "ejrplus" ∷ codes "--committee" ∷ codes "1" ∷ []) ≡ kind.InvalidValue ∷ []
+unfolding clap_on_literals
+no_such_property = refl
+
+a_committee_that_breaks_off : outcome_of (codes "committees" ∷ codes "check" ∷ codes "--property" ∷ codes "jr" ∷ codes "--committee" ∷ codes "1," ∷ []) ≡ Some (Err (BadList Committee))
+unfolding clap_on_literals
+a_committee_that_breaks_off = refl
+
+the_list_before_the_ways : outcome_of (codes "committees" ∷ codes "check" ∷ codes "--property" ∷ codes "jr" ∷ codes "--committee=" ∷ codes "--category" ∷ codes "1" ∷ codes "--classes" ∷ codes "1" ∷ []) ≡ Some (Err (BadList Committee))
+unfolding clap_on_literals
+the_list_before_the_ways = refl
+
+two_ways_of_a_check : outcome_of (codes "committees" ∷ codes "check" ∷ codes "--property" ∷ codes "jr" ∷ codes "--committee" ∷ codes "1" ∷ codes "--category" ∷ codes "1" ∷ codes "--classes" ∷ codes "1" ∷ []) ≡ Some (Err TwoPicks)
+unfolding clap_on_literals
+two_ways_of_a_check = refl
+
+-- ---- share
+
+a_sharing : request_of (codes "committees" ∷ codes "share" ∷ codes "--method" ∷ codes "dhondt" ∷ codes "--seats" ∷ codes "7" ∷ []) ≡ over_input (sharing Dhondt 7 None)
+unfolding clap_on_literals
+a_sharing = refl
+
+a_sharing_of_votes : request_of (codes "committees" ∷ codes "share" ∷ codes "--votes" ∷ codes "53,24,23" ∷ codes "--method" ∷ codes "hamilton" ∷ codes "--seats" ∷ codes "010000" ∷ []) ≡ over_input (sharing Hamilton 10000 (Some (53 ∷ 24 ∷ 23 ∷ [])))
+unfolding clap_on_literals
+a_sharing_of_votes = refl
+
+no_seats : fault_of program (codes "committees" ∷ codes "share" ∷ codes "--method" ∷ codes "dean" ∷ codes "--seats" ∷ codes "0" ∷ []) ≡ kind.ValueValidation ∷ []
+unfolding clap_on_literals
+no_seats = refl
+
+too_many_seats : fault_of program (codes "committees" ∷ codes "share" ∷ codes "--method" ∷ codes "dean" ∷ codes "--seats" ∷ codes "10001" ∷ []) ≡ kind.ValueValidation ∷ []
+unfolding clap_on_literals
+too_many_seats = refl
+
+not_yet : fault_of program (codes "committees" ∷ codes "share" ∷ codes "--method" ∷ codes "dean" ∷ codes "--seats" ∷ codes "1" ∷ codes "--after" ∷ codes "1" ∷ []) ≡ kind.UnknownArgument ∷ []
+unfolding clap_on_literals
+not_yet = refl
+
+no_votes : outcome_of (codes "committees" ∷ codes "share" ∷ codes "--method" ∷ codes "adams" ∷ codes "--seats" ∷ codes "1" ∷ codes "--votes=" ∷ []) ≡ Some (Err (BadList Votes))
+unfolding clap_on_literals
+no_votes = refl
+
+votes_and_a_file : outcome_of (codes "committees" ∷ codes "share" ∷ codes "--method" ∷ codes "adams" ∷ codes "--seats" ∷ codes "1" ∷ codes "--votes" ∷ codes "1" ∷ codes "a.soi" ∷ []) ≡ Some (Err VotesAndInput)
+unfolding clap_on_literals behind_last
+votes_and_a_file = refl
+
+votes_and_an_empty_file : outcome_of (codes "committees" ∷ codes "share" ∷ codes "--method=adams" ∷ codes "--seats=1" ∷ codes "--votes=1" ∷ [] ∷ []) ≡ Some (Err VotesAndInput)
+unfolding clap_on_literals behind_last
+votes_and_an_empty_file = refl
+
+votes_and_a_type : outcome_of (codes "committees" ∷ codes "share" ∷ codes "--method" ∷ codes "adams" ∷ codes "--seats" ∷ codes "1" ∷ codes "--votes" ∷ codes "1" ∷ codes "--kind" ∷ codes "soc" ∷ []) ≡ Some (Err VotesAndInput)
+unfolding clap_on_literals
+votes_and_a_type = refl
+
+votes_and_a_way : outcome_of (codes "committees" ∷ codes "share" ∷ codes "--method" ∷ codes "adams" ∷ codes "--seats" ∷ codes "1" ∷ codes "--votes" ∷ codes "1" ∷ codes "--setsize" ∷ codes "2" ∷ []) ≡ Some (Err VotesAndInput)
+unfolding clap_on_literals
+votes_and_a_way = refl
+
+two_ways_before_votes_and_input : outcome_of (codes "committees" ∷ codes "share" ∷ codes "--method" ∷ codes "adams" ∷ codes "--seats" ∷ codes "1" ∷ codes "--votes" ∷ codes "1" ∷ codes "--setsize" ∷ codes "2" ∷ codes "--classes" ∷ codes "2" ∷ []) ≡ Some (Err TwoPicks)
+unfolding clap_on_literals
+two_ways_before_votes_and_input = refl
+
+the_votes_before_the_ways : outcome_of (codes "committees" ∷ codes "share" ∷ codes "--method" ∷ codes "adams" ∷ codes "--seats" ∷ codes "1" ∷ codes "--votes" ∷ codes "1,,2" ∷ codes "--setsize" ∷ codes "2" ∷ codes "--classes" ∷ codes "2" ∷ codes "a.soi" ∷ []) ≡ Some (Err (BadList Votes))
+unfolding clap_on_literals behind_last
+the_votes_before_the_ways = refl
+
+-- ---- the lines on refused words
+
+lines_of_faults : (line_of (BadList Committee) ≡ Some (codes "committees: words: BadList --committee"))
+    × (line_of (BadList Votes) ≡ Some (codes "committees: words: BadList --votes")) × (line_of TwoPicks ≡ Some (codes "committees: words: TwoPicks"))
+    × (line_of VotesAndInput ≡ Some (codes "committees: words: VotesAndInput")) × (line_of Memory ≡ None)
+lines_of_faults = (refl, refl, refl, refl, refl)
+
+-- ---- lists
+
+lists : (list_of (codes "1,2") ≡ Some (1 ∷ 2 ∷ [])) × (list_of (codes "007") ≡ Some (7 ∷ [])) × (list_of (codes "0,0") ≡ Some (0 ∷ 0 ∷ []))
+    × (list_of (codes "18446744073709551615") ≡ Some (18446744073709551615 ∷ []))
+lists = (refl, refl, refl, refl)
+
+no_lists : (list_of (codes "18446744073709551616") ≡ None) × (list_of (codes "1,") ≡ None) × (list_of (codes ",1") ≡ None) × (list_of (codes "1,,2") ≡ None)
+    × (list_of [] ≡ None) × (list_of (codes "+1") ≡ None) × (list_of (codes " 1") ≡ None) × (list_of (codes "1;2") ≡ None)
+no_lists = (refl, refl, refl, refl, refl, refl, refl, refl)
+
+entries : (entry_of (codes "12") ≡ Some 12) × (entry_of [] ≡ None) × (all_there (Some 1 ∷ Some 2 ∷ []) ≡ Some (1 ∷ 2 ∷ [])) × (all_there (Some 1 ∷ None ∷ []) ≡ None)
+entries = (refl, refl, refl, refl)
+
+a_list_of_an_option : (listed Votes (codes "1,2") ≡ Ok (1 ∷ 2 ∷ [])) × (listed Votes (codes "1 2") ≡ Err (BadList Votes))
+a_list_of_an_option = (refl, refl)

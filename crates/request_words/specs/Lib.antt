@@ -1,0 +1,4 @@
+pub mod Endings
+pub mod NumberList
+pub mod Request
+pub mod Words

@@ -1,0 +1,380 @@
+-- What the words of a command line ask for, by clap's published meaning of a command.
+use Rattle.std.specs.Prelude.{◌≡◌, ◌≢◌, ◌⊎◌, ◌&&◌, ◌++◌, ⊤, ℕ, Bool, true, false, List, [], ◌∷◌, map, Option, Some, None, Result, Ok, Err}
+use Rattle.std.specs.Prelude.{codes, fold, if◌then◌else◌, option_and_then, option_map, pos}
+use Rattle.std.specs.List.{list_any}
+use Rattle.std.specs.Map.{keys_of, lookup}
+use Rattle.std.specs.Option.{IsSome, is_some, ok_or, option_transpose, option_zip}
+use Rattle.std.specs.Result.{MatchResult, result_ok}
+use Rattle.std.specs.Borrow.{Bor}
+use Rattle.std.specs.Str.{bytes_eq}
+use Rattle.std.specs.Str.Parse.{digits_value, without_leading_plus}
+use Rattle.clap.specs.Simple.{new_shape}
+use Rattle.clap.specs.Walk.{texts}
+use Rattle.clap.specs.Words.{App, IsAmong, IsSignedIn, Row, Shape, Text, all_of, app_of, fault_of, first_of}
+use Rattle.clap.specs.Words.{new_rule, one_of, rule_of, shape_of, subcommand_of, takes}
+use Rattle.clap.specs.Words.{with_rule, with_subcommand, without_minus, Rule as Argument}
+use Rattle.clap.specs.declared.builder.arg.Arg.{Arg}
+use Rattle.clap.specs.declared.builder.command.Command.{Command}
+use Rattle.clap.specs.declared.builder.command.Command.TheViews.{out-Command as fields_of}
+use Rattle.clap.specs.declared.builder.value_parser.ValueParser.TheVariants as parser
+use Rattle.clap.specs.declared.error.kind.ErrorKind.{ErrorKind}
+use Rattle.clap.specs.declared.error.kind.ErrorKind.TheVariants as kind
+use Rattle.ballot_base.specs.declared.increments.ThieleRule.TheVariants.{Av, Pav, Cc, Geom2, Geom3, Geom4}
+use Rattle.group_check.specs.declared.property.Property.{Property}
+use Rattle.group_check.specs.declared.property.Property.TheVariants.{Jr, Pjr, Ejr}
+use Rattle.preflib_text.specs.declared.pick.Pick.{Pick}
+use Rattle.preflib_text.specs.declared.pick.Way.{Way}
+use Rattle.preflib_text.specs.declared.pick.Way.TheVariants.{Usual, Category, SetSize, Classes}
+use Rattle.preflib_text.specs.Metadata.{kind_of}
+use Rattle.seat_share.specs.declared.method.Method.{Method}
+use Rattle.seat_share.specs.declared.method.Method.TheVariants.{Hamilton, Dhondt, SainteLague, Huntington, Adams, Dean}
+use Rattle.tie_walk.specs.declared.sequential.SeqRule.TheVariants.{SeqPav, SeqCc, RevSeqPav}
+use Rattle.request_words.specs.Endings.{kind_in_path}
+use Rattle.request_words.specs.NumberList.{list_of}
+use Rattle.request_words.specs.Request.{Asked, Demand, checking, electing, sharing}
+use Rattle.request_words.specs.declared.request.Rule.{Rule}
+use Rattle.request_words.specs.declared.request.Rule.TheVariants.{Scored, Sequential}
+use Rattle.request_words.specs.declared.request.ScoredRule.TheVariants.{Thiele, Satisfaction, Minimax}
+use Rattle.request_words.specs.declared.words.LineFault.{LineFault}
+use Rattle.request_words.specs.declared.words.LineFault.TheVariants.{Help, Usage, BadList, TwoPicks, VotesAndInput, Memory}
+use Rattle.request_words.specs.declared.words.ListOption.{ListOption}
+use Rattle.request_words.specs.declared.words.ListOption.TheVariants.{Committee, Votes}
+
+-- ---- the names
+
+-- the rules by their names (Lackner and Skowron, Multi-Winner Voting with Approval Preferences; the names are the
+-- project's own)
+abbrev pub rules_by_name : List (Text × Rule)
+rules_by_name = (codes "av", Scored (Thiele Av)) ∷ (codes "pav", Scored (Thiele Pav)) ∷ (codes "cc", Scored (Thiele Cc))
+    ∷ (codes "geom2", Scored (Thiele Geom2)) ∷ (codes "geom3", Scored (Thiele Geom3)) ∷ (codes "geom4", Scored (Thiele Geom4))
+    ∷ (codes "sav", Scored Satisfaction) ∷ (codes "minimax", Scored Minimax)
+    ∷ (codes "seqpav", Sequential SeqPav) ∷ (codes "seqcc", Sequential SeqCc) ∷ (codes "revseqpav", Sequential RevSeqPav) ∷ []
+
+-- the names of the rules
+abbrev pub rule_names : List Text
+rule_names = keys_of rules_by_name
+
+-- the properties of committees by their names (Aziz and others; Sanchez-Fernandez and others)
+abbrev pub properties_by_name : List (Text × Property)
+properties_by_name = (codes "jr", Jr) ∷ (codes "pjr", Pjr) ∷ (codes "ejr", Ejr) ∷ []
+
+-- the names of the properties
+abbrev pub property_names : List Text
+property_names = keys_of properties_by_name
+
+-- the methods by their names (Balinski and Young, Fair Representation; Pukelsheim, Proportional Representation)
+abbrev pub methods_by_name : List (Text × Method)
+methods_by_name = (codes "hamilton", Hamilton) ∷ (codes "dhondt", Dhondt) ∷ (codes "saintelague", SainteLague)
+    ∷ (codes "huntington", Huntington) ∷ (codes "adams", Adams) ∷ (codes "dean", Dean) ∷ []
+
+-- the names of the methods
+abbrev pub method_names : List Text
+method_names = keys_of methods_by_name
+
+-- the names of the types of files
+abbrev pub kind_names : List Text
+kind_names = codes "cat" ∷ codes "soc" ∷ codes "soi" ∷ codes "toc" ∷ codes "toi" ∷ []
+
+-- ---- the commands
+
+-- a list of names as clap keeps it: by references
+abbrev pub Names : Type 0
+Names = Bor (List (Bor Text))
+
+-- an option with a value, which may be any text
+abbrev pub text_option : Text → Argument
+text_option name = record (new_rule name) { long = Some name; value_names = 1 }
+
+-- an option that takes one of these names
+abbrev pub name_option : Text → Names → Argument
+name_option name names = record (text_option name) { parser = Some (parser.Names names) }
+
+-- an option that takes a number from 1 to this one
+abbrev pub number_option : Text → ℕ → Argument
+number_option name most = record (text_option name) { parser = Some (parser.Signed (pos 1) (pos most)) }
+
+-- the option, where it must be given
+abbrev pub required : Argument → Argument
+required option = record option { required = true }
+
+-- `FILE`, which takes any text
+abbrev pub file_word : Argument
+file_word = record (new_rule (codes "file")) { value_names = 1 }
+
+-- what all commands take: how the ballots are read, and where they are
+abbrev pub input_arguments : Names → List Argument
+input_arguments kinds = name_option (codes "kind") kinds ∷ number_option (codes "category") 1000000
+    ∷ number_option (codes "setsize") 1000000 ∷ number_option (codes "classes") 1000000 ∷ file_word ∷ []
+
+-- `elect --rule RULE --size SIZE`, with a size from 1 to 40
+abbrev pub elect_over : Names → Names → Shape
+elect_over rules kinds = record (new_shape (codes "elect")) {
+  rules = required (name_option (codes "rule") rules) ∷ required (number_option (codes "size") 40) ∷ input_arguments kinds;
+}
+
+-- `check --property PROPERTY --committee LIST`
+abbrev pub check_over : Names → Names → Shape
+check_over properties kinds = record (new_shape (codes "check")) {
+  rules = required (name_option (codes "property") properties) ∷ required (text_option (codes "committee"))
+      ∷ input_arguments kinds;
+}
+
+-- `share --method METHOD --seats SEATS`, with 1 to 10,000 seats, and perhaps `--votes LIST`
+abbrev pub share_over : Names → Names → Shape
+share_over methods kinds = record (new_shape (codes "share")) {
+  rules = required (name_option (codes "method") methods) ∷ required (number_option (codes "seats") 10000)
+      ∷ text_option (codes "votes") ∷ input_arguments kinds;
+}
+
+-- `committees`, which requires one of these three commands
+abbrev pub program_over : Shape → Shape → Shape → App
+program_over elect check share = with_subcommand (with_subcommand (with_subcommand (record {
+  top = record (new_shape (codes "committees")) { subcommand_required = true };
+  subs = [];
+}) elect) check) share
+
+-- a reference to a value; where it lies has no meaning
+abbrev pub shown : {X : Type 0} → X → Bor X
+shown x = record { ref_ptr = (0, 0); now = x }
+
+-- names that lie somewhere
+abbrev pub listed_names : List Text → Names
+listed_names names = shown (map shown names)
+
+-- `committees`, with the names of its rules, properties, methods and types
+abbrev pub program : App
+program = program_over (elect_over (listed_names rule_names) (listed_names kind_names))
+    (check_over (listed_names property_names) (listed_names kind_names))
+    (share_over (listed_names method_names) (listed_names kind_names))
+
+-- ---- the request
+
+-- the rule of a name
+abbrev pub rule_named : Text → Option Rule
+rule_named name = lookup (bytes_eq name) rules_by_name
+
+-- the property of a name
+abbrev pub property_named : Text → Option Property
+property_named name = lookup (bytes_eq name) properties_by_name
+
+-- the method of a name
+abbrev pub method_named : Text → Option Method
+method_named name = lookup (bytes_eq name) methods_by_name
+
+-- the value of a number's digits, of which the first may be zeros
+abbrev pub number_of : Text → ℕ
+number_of digits = digits_value 10 (without_leading_plus digits)
+
+-- the way of the numbers that are given: none where there are two or more
+abbrev pub way_by : Option ℕ → Option ℕ → Option ℕ → Option Way
+way_by None None None = Some Usual
+way_by None None (Some n) = Some (Classes n)
+way_by None (Some n) None = Some (SetSize n)
+way_by None (Some n) (Some k) = None
+way_by (Some n) None None = Some (Category n)
+way_by (Some n) None (Some k) = None
+way_by (Some n) (Some k) classes = None
+
+-- the number of an option, where it is given
+abbrev pub number_at : Text → List Row → Option ℕ
+number_at name rows = option_map number_of (one_of name rows)
+
+-- the way in what clap found for a command: none where two or more are given
+abbrev pub way_in : List Row → Option Way
+way_in rows = way_by (number_at (codes "category") rows) (number_at (codes "setsize") rows) (number_at (codes "classes") rows)
+
+-- how the ballots are read, in this way
+abbrev pub pick_in : List Row → Way → Pick
+pick_in rows way = record {
+  kind = option_and_then kind_of (first_of (codes "kind") rows);
+  ending = option_and_then kind_in_path (first_of (codes "file") rows);
+  way = way;
+}
+
+-- what a step gives after one that may fail
+abbrev pub result_and_then : {A B : Type 0} → (A → Result B LineFault) → Result A LineFault → Result B LineFault
+result_and_then f (Ok x) = f x
+result_and_then f (Err e) = Err e
+
+-- the list that an option has for its text
+abbrev pub listed : ListOption → Text → Result (List ℕ) LineFault
+listed option text = ok_or (list_of text) (BadList option)
+
+-- a request for this, unless two ways are given
+abbrev pub asking : List Row → Demand → Result Asked LineFault
+asking rows demand = ok_or (option_map (λ way. record {
+  demand = demand;
+  pick = pick_in rows way;
+  file = first_of (codes "file") rows;
+}) (way_in rows)) TwoPicks
+
+-- what `elect` asks for
+abbrev pub elect_in : List Row → Option (Result Asked LineFault)
+elect_in rows = option_map (λ p. asking rows (electing p.0 (number_of p.1)))
+    (option_zip (option_and_then rule_named (first_of (codes "rule") rows)) (one_of (codes "size") rows))
+
+-- what `check` asks for
+abbrev pub check_in : List Row → Option (Result Asked LineFault)
+check_in rows =
+    option_map (λ p. result_and_then (λ committee. asking rows (checking p.0 committee)) (listed Committee p.1))
+    (option_zip (option_and_then property_named (first_of (codes "property") rows)) (first_of (codes "committee") rows))
+
+-- the votes that are given, if any are
+abbrev pub votes_in : List Row → Result (Option (List ℕ)) LineFault
+votes_in rows = option_transpose (option_map (listed Votes) (first_of (codes "votes") rows))
+
+-- whether an argument is given
+abbrev pub is_given : List Row → Text → Bool
+is_given rows name = is_some (all_of name rows)
+
+-- the names of the ways
+abbrev pub way_names : List Text
+way_names = codes "category" ∷ codes "setsize" ∷ codes "classes" ∷ []
+
+-- whether anything is said of an input: where it is, or how it is read
+abbrev pub has_input : List Row → Bool
+has_input rows = list_any (is_given rows) (codes "file" ∷ codes "kind" ∷ way_names)
+
+-- the request, unless votes are given beside an input
+abbrev pub without_both : List Row → Asked → Result Asked LineFault
+without_both rows asked = if is_given rows (codes "votes") && has_input rows then Err VotesAndInput else Ok asked
+
+-- what `share` asks for
+abbrev pub share_in : List Row → Option (Result Asked LineFault)
+share_in rows = option_map (λ p. result_and_then (without_both rows)
+    (result_and_then (λ votes. asking rows (sharing p.0 (number_of p.1) votes)) (votes_in rows)))
+    (option_zip (option_and_then method_named (first_of (codes "method") rows)) (one_of (codes "seats") rows))
+
+-- what a command asks for in what clap found, or the first fault that clap does not know of: nothing where a required
+-- value is missing, and then clap does not take the words
+abbrev pub asked_in : Text → List Row → Option (Result Asked LineFault)
+asked_in command rows = if bytes_eq command (codes "check") then check_in rows
+    else (if bytes_eq command (codes "share") then share_in rows else elect_in rows)
+
+-- the same of the words, of which the first names the program: nothing where clap refuses them
+abbrev pub outcome_of : List Text → Option (Result Asked LineFault)
+outcome_of words = if takes program words
+    then option_and_then (λ found. asked_in found.0 found.1) (subcommand_of program words) else None
+
+-- the request of the words: none where they are refused, by clap or after it
+abbrev pub request_of : List Text → Option Asked
+request_of words = option_and_then result_ok (outcome_of words)
+
+-- ---- refusals
+
+-- clap refuses the words, and help is its answer
+abbrev pub AsksForHelp : List Text → Type 0
+AsksForHelp words =
+    (takes program words ≡ false) × IsAmong kind.DisplayHelp (fault_of program words)
+
+-- clap refuses the words, and its answer is another than help
+abbrev pub IsMisused : List Text → Type 0
+IsMisused words = (takes program words ≡ false) × ((k : ErrorKind)
+    × IsAmong k (fault_of program words) × (k ≢ kind.DisplayHelp) × (k ≢ kind.OutOfMemory))
+
+-- the fault is clap's answer to the words, or the first that they have after clap took them, or want of memory
+abbrev pub IsAnswerTo : List Text → LineFault → Type 0
+IsAnswerTo words (Help text) = AsksForHelp words
+IsAnswerTo words (Usage text) = IsMisused words
+IsAnswerTo words (BadList option) = outcome_of words ≡ Some (Err (BadList option))
+IsAnswerTo words TwoPicks = outcome_of words ≡ Some (Err TwoPicks)
+IsAnswerTo words VotesAndInput = outcome_of words ≡ Some (Err VotesAndInput)
+IsAnswerTo words Memory = ⊤
+
+-- the fault is none of clap's
+abbrev pub IsAfterClap : LineFault → Type 0
+IsAfterClap (Help text) = ⊥
+IsAfterClap (Usage text) = ⊥
+IsAfterClap fault = ⊤
+
+-- an option with a list, as it is written
+abbrev pub option_word : ListOption → Text
+option_word Committee = codes "--committee"
+option_word Votes = codes "--votes"
+
+-- the line on standard error on words that are refused: none where clap has a text, or memory ran out
+abbrev pub line_of : LineFault → Option Text
+line_of (BadList option) = Some (codes "committees: words: BadList " ++ option_word option)
+line_of TwoPicks = Some (codes "committees: words: TwoPicks")
+line_of VotesAndInput = Some (codes "committees: words: VotesAndInput")
+line_of fault = None
+
+-- ---- what the steps of the code say
+
+-- the argument of clap is this one, and no subcommand has it
+abbrev pub IsArgument : Argument → Arg → Type 0
+IsArgument argument a = (rule_of a ≡ argument) × (a.global ≡ false)
+
+-- an option with names, wherever they lie
+abbrev pub IsNameOption : List Text → (Names → Argument) → Arg → Type 0
+IsNameOption values option a =
+    (names : Names) × (texts names.now ≡ values) × IsArgument (option names) a
+
+-- the second command is the first with the arguments that all commands have, wherever the names lie
+abbrev pub AddsInput : Command → Command → Type 0
+AddsInput c r = (kinds : Names) × (texts kinds.now ≡ kind_names) × (app_of r ≡ fold with_rule (app_of c) (input_arguments kinds))
+    × ((fields_of r).has_globals ≡ (fields_of c).has_globals)
+
+-- a command of this shape, wherever the names lie: its own, and those of the types
+abbrev pub IsCommand : List Text → (Names → Names → Shape) → Command → Type 0
+IsCommand values shape c = (names : Names) × (kinds : Names) × (texts names.now ≡ values) × (texts kinds.now ≡ kind_names)
+    × (shape_of c ≡ shape names kinds) × ((fields_of c).has_globals ≡ false)
+
+-- `committees`, wherever the names lie
+abbrev pub IsProgram : Command → Type 0
+IsProgram c = (elect : Command) × (check : Command) × (share : Command) × IsCommand rule_names elect_over elect
+    × IsCommand property_names check_over check × IsCommand method_names share_over share
+    × (app_of c ≡ program_over (shape_of elect) (shape_of check) (shape_of share))
+
+-- the fault stands for an error of this kind, or for want of memory
+abbrev pub IsFaultOf : ErrorKind → LineFault → Type 0
+IsFaultOf k (Help text) = k ≡ kind.DisplayHelp
+IsFaultOf k (Usage text) = (k ≢ kind.DisplayHelp) × (k ≢ kind.OutOfMemory)
+IsFaultOf k Memory = ⊤
+IsFaultOf k fault = ⊥
+
+-- the option is not given, or has a number from 1 to 1,000,000
+abbrev pub IsCount : Option Text → Type 0
+IsCount None = ⊤
+IsCount (Some digits) = (text : Text) × (digits ≡ without_minus text) × IsSignedIn (pos 1) (pos 1000000) text
+
+-- the counts passed their parsers
+pub record HasCounts (rows : List Row) : Type 0 where
+  pub category : IsCount (one_of (codes "category") rows)
+  pub set_size : IsCount (one_of (codes "setsize") rows)
+  pub classes : IsCount (one_of (codes "classes") rows)
+
+-- an option has a name of a list
+pub record HasName {X : Type 0} (option : Text) (named : Text → Option X) (rows : List Row) : Type 0 where
+  pub text : Text
+  pub given : first_of option rows ≡ Some text
+  pub known : IsSome (named text)
+
+-- an option has a number from 1 to this one
+pub record HasNumberUpTo (option : Text) (most : ℕ) (rows : List Row) : Type 0 where
+  pub text : Text
+  pub given : one_of option rows ≡ Some (without_minus text)
+  pub in_range : IsSignedIn (pos 1) (pos most) text
+
+-- what clap found for `elect`, `check` and `share` passed its parsers
+abbrev pub HasElectValues : List Row → Type 0
+HasElectValues rows = HasName (codes "rule") rule_named rows × HasNumberUpTo (codes "size") 40 rows × HasCounts rows
+
+abbrev pub HasCheckValues : List Row → Type 0
+HasCheckValues rows = HasName (codes "property") property_named rows × IsSome (first_of (codes "committee") rows) × HasCounts rows
+
+abbrev pub HasShareValues : List Row → Type 0
+HasShareValues rows = HasName (codes "method") method_named rows × HasNumberUpTo (codes "seats") 10000 rows × HasCounts rows
+
+-- the values of a command passed their parsers
+abbrev pub HasValues : Text → List Row → Type 0
+HasValues command rows = ((command ≡ codes "elect") × HasElectValues rows)
+    ⊎ ((command ≡ codes "check") × HasCheckValues rows) ⊎ ((command ≡ codes "share") × HasShareValues rows)
+
+-- the code's value is what is said, or its fault, or memory ran out
+abbrev pub Gives : {A B : Type 0} → (B → A) → Result A LineFault → Result B LineFault → Type 0
+Gives view said result = MatchResult result (λ x. said ≡ Ok (view x)) (λ e. (e ≡ Memory) ⊎ (said ≡ Err e))
+
+-- the same of what is asked for
+abbrev pub GivesAsked : Option (Result Asked LineFault) → Result Asked LineFault → Type 0
+GivesAsked said result = MatchResult result (λ x. said ≡ Some (Ok x)) (λ e. (e ≡ Memory) ⊎ (said ≡ Some (Err e)))

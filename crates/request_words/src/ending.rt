@@ -1,0 +1,30 @@
+//! The type that the name of a file tells.
+ghost use Rattle.std.specs.Prelude.{◌≡◌, option_map};
+ghost use Rattle.request_words.specs.Endings.{behind_last, kind_in_path};
+
+use preflib_text::{Kind, kind_of};
+
+/// What stands behind the last of these bytes.
+#[tactic(auto, unfolding(crate::specs::Endings::behind_last))]
+fn behind_last(text: &[u8], byte: u8) -> Option<&[u8]>
+    ensures { option_map (λ s. s.now) result ≡ behind_last byte text.now }
+{
+    let mut found = None;
+    let mut rest = text;
+    while let [first, after @ ..] = rest {
+        if *first == byte {
+            found = Some(after);
+        }
+        rest = after;
+    }
+    found
+}
+
+/// The type that the file's name ends in, in letters of any case.
+pub(crate) fn kind_in_path(path: &str) -> Option<Kind>
+    ensures { result ≡ kind_in_path path.now }
+{
+    let path = path.as_bytes();
+    let name = behind_last(path, b'/').unwrap_or(path);
+    kind_of(behind_last(name, b'.')?)
+}

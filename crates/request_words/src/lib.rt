@@ -1,0 +1,10 @@
+//! The words of a command line, and the request that they make.
+#![tactic(auto)]
+
+mod ending;
+mod number_list;
+pub mod request;
+pub mod words;
+
+pub use request::{Request, Rule, ScoredRule, Task};
+pub use words::{LineFault, ListOption, read_request};

@@ -1,0 +1,111 @@
+//! What the words of a command line ask for.
+ghost use Rattle.std.specs.Prelude.{◌≡◌, option_map, string_bytes};
+ghost use Rattle.preflib_text.specs.BallotMarks.{HasNumber};
+ghost use Rattle.request_words.specs.Request.{InRange, demand_of};
+
+use ballot_base::ThieleRule;
+use group_check::Property;
+use preflib_text::Pick;
+use seat_share::Method;
+use std::marker::Model;
+use tie_walk::SeqRule;
+
+/// The rule by which committees win (Lackner and Skowron, Multi-Winner Voting with Approval
+/// Preferences).
+#[derive(Clone, Copy, Debug, PartialEq, Eq)]
+pub enum Rule {
+    /// The committees of the greatest value win.
+    Scored(ScoredRule),
+    /// A committee is made one candidate at a time, over every tie.
+    Sequential(SeqRule),
+}
+
+/// A rule by which each committee has a value.
+#[derive(Clone, Copy, Debug, PartialEq, Eq)]
+pub enum ScoredRule {
+    /// A rule of Thiele: a voter gives a committee the first increments of the rule, as many as
+    /// the voter approves of its members. The greatest sum over the voters wins.
+    Thiele(ThieleRule),
+    /// Satisfaction approval voting: a voter gives a committee the part of the approved candidates
+    /// that are its members. The greatest sum over the voters wins.
+    Satisfaction,
+    /// Minimax approval voting: the distance of a voter and a committee is the number of candidates
+    /// that stand in exactly one of the voter's approvals and the committee. The least greatest
+    /// distance wins, however many voters have it.
+    Minimax,
+}
+
+/// What a request asks for. Each list has at least one number.
+#[derive(Debug, Drop)]
+pub enum Task {
+    /// To elect committees by a rule, with so many seats, from 1 to 40.
+    Elect(Rule, u8),
+    /// To check whether a committee has a property. The members are as they were given: any numbers,
+    /// in any order.
+    Check(Property, Vec<u64>),
+    /// To share out seats by a method, from 1 to 10,000, among parties with these votes. Without votes, they
+    /// are those of the ballots.
+    Share(Method, u16, Option<Vec<u64>>),
+}
+
+/// A request: its task, how the file is read, and the file to read, where one is named. Each one comes from
+/// `read_request`.
+#[derive(Debug, Drop)]
+pub struct Request {
+    task: Task,
+    pick: Pick,
+    file: Option<String>,
+}
+
+impl Model for Request {
+    ghost use Rattle.std.specs.Prelude.{option_map, string_bytes};
+    ghost use Rattle.preflib_text.specs.BallotMarks.{HasNumber};
+    ghost use Rattle.request_words.specs.Request.{Asked, InRange, demand_of};
+
+    ghost Value = { Asked };
+
+    ghost view = { λ a. record {
+      demand = demand_of a.task;
+      pick = a.pick;
+      file = option_map string_bytes a.file;
+    } };
+
+    ghost invariant = { λ a. InRange (demand_of a.task) × HasNumber a.pick.way };
+}
+
+impl Request {
+    pub(crate) fn new(task: Task, pick: Pick, file: Option<String>) -> Request
+        requires range { InRange (demand_of task) }
+        requires way { HasNumber pick.way }
+        ensures { result ≡ record {
+          demand = demand_of task;
+          pick = pick;
+          file = option_map string_bytes file;
+        } }
+    {
+        Request { task, pick, file }
+    }
+
+    /// What it asks for.
+    pub fn task(&self) -> &Task
+        ensures value { demand_of result.now ≡ self.now.demand }
+        ensures range { InRange (demand_of result.now) }
+    {
+        &self.task
+    }
+
+    /// How the file is read.
+    pub fn pick(&self) -> Pick
+        ensures value { result ≡ self.now.pick }
+        ensures way { HasNumber result.way }
+    {
+        self.pick
+    }
+
+    /// The path of the file to read. Without one the input is standard input.
+    pub fn file(&self) -> Option<&str>
+        ensures { option_map (λ s. s.now) result ≡ self.now.file }
+    {
+        self.file.as_deref()
+    }
+}

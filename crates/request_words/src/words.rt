@@ -1,0 +1,550 @@
+//! The words of the command line, read by `clap`.
+ghost use Rattle.std.specs.Prelude.{◌≡◌, ◌≢◌, ◌≤◌, IfErr, IfOk, IfSome, Some, [], codes, map, option_and_then, option_map, string_bytes, true};
+ghost use Rattle.std.specs.List.{list_any};
+ghost use Rattle.std.specs.Vec.{vec_items};
+ghost use Rattle.clap.specs.Words.{found_of, kind_of as error_kind_of, one_of, rows_of, takes};
+ghost use Rattle.preflib_text.specs.BallotMarks.{HasNumber};
+ghost use Rattle.preflib_text.specs.Metadata.{kind_of};
+ghost use Rattle.request_words.specs.Endings.{kind_in_path};
+ghost use Rattle.request_words.specs.Request.{InRange, demand_of};
+ghost use Rattle.request_words.specs.Words.{AddsInput, Gives, GivesAsked, HasCheckValues, HasCounts, HasElectValues};
+ghost use Rattle.request_words.specs.Words.{HasShareValues, HasValues, IsAfterClap, IsAnswerTo, IsArgument, IsCommand};
+ghost use Rattle.request_words.specs.Words.{IsCount, IsFaultOf, IsNameOption, IsProgram, asked_in, asking, check_in};
+ghost use Rattle.request_words.specs.Words.{check_over, elect_in, elect_over, file_word, has_input, is_given, kind_names, line_of};
+ghost use Rattle.request_words.specs.Words.{listed, method_named, method_names, name_option, number_at, number_option};
+ghost use Rattle.request_words.specs.Words.{program, property_named, property_names, request_of, required};
+ghost use Rattle.request_words.specs.Words.{rule_named, rule_names, share_in, share_over, text_option, votes_in, way_by, way_in, way_names};
+
+use crate::ending::kind_in_path;
+use crate::number_list::list_of;
+use crate::request::{Request, Rule, ScoredRule, Task};
+use ballot_base::ThieleRule;
+use clap::error::ErrorKind;
+use clap::{Arg, ArgMatches, Command, Error, value_parser};
+use group_check::Property;
+use preflib_text::{Pick, Way, kind_of};
+use seat_share::Method;
+use std::alloc::{AllocError, Global};
+use tie_walk::SeqRule;
+
+/// An option whose value is a list of numbers.
+#[derive(Clone, Copy, Debug, PartialEq, Eq)]
+pub enum ListOption {
+    /// `--committee`
+    Committee,
+    /// `--votes`
+    Votes,
+}
+
+/// Why the words give no request. Of several faults it is the first, in this order; want of memory may come in the
+/// place of any.
+#[derive(Debug, Drop)]
+pub enum LineFault {
+    /// Help was asked for. Its text goes to standard output, with status 0.
+    Help(String),
+    /// The words were refused. The text on them goes to standard error, with status 2.
+    Usage(String),
+    /// The value of this option is no list of numbers: status 2.
+    BadList(ListOption),
+    /// More than one of `--category`, `--setsize` and `--classes` is given: status 2.
+    TwoPicks,
+    /// `--votes` is given, and a file or a way to read one: status 2.
+    VotesAndInput,
+    /// A growth was refused: status 5.
+    Memory,
+}
+
+impl LineFault {
+    /// The line on standard error that tells of it, without its end. `Help` and `Usage` have a text of their own, and
+    /// `Memory` may come anywhere.
+    pub fn line(&self) -> Option<&'static str>
+        ensures { option_map (λ s. s.now) result ≡ line_of self.now }
+    {
+        match self {
+            LineFault::BadList(ListOption::Committee) => Some(
+                "committees: words: BadList --committee",
+            ),
+            LineFault::BadList(ListOption::Votes) => Some("committees: words: BadList --votes"),
+            LineFault::TwoPicks => Some("committees: words: TwoPicks"),
+            LineFault::VotesAndInput => Some("committees: words: VotesAndInput"),
+            LineFault::Help(_) | LineFault::Usage(_) | LineFault::Memory => None,
+        }
+    }
+}
+
+impl From<AllocError> for LineFault {
+    ghost use Rattle.std.specs.Prelude.{◌≡◌};
+    ghost use Rattle.request_words.specs.declared.words.LineFault.TheVariants.{Memory};
+
+    ghost from_gives = { λ _ e. e ≡ Memory };
+
+    fn from(_error: AllocError) -> LineFault {
+        LineFault::Memory
+    }
+}
+
+/// The values of `--rule`.
+static RULES: [&str; 11] = [
+    "av",
+    "pav",
+    "cc",
+    "geom2",
+    "geom3",
+    "geom4",
+    "sav",
+    "minimax",
+    "seqpav",
+    "seqcc",
+    "revseqpav",
+];
+
+/// The values of `--property`.
+static PROPERTIES: [&str; 3] = ["jr", "pjr", "ejr"];
+
+/// The values of `--method`.
+static METHODS: [&str; 6] = [
+    "hamilton",
+    "dhondt",
+    "saintelague",
+    "huntington",
+    "adams",
+    "dean",
+];
+
+/// The values of `--kind`.
+static KINDS: [&str; 5] = ["cat", "soc", "soi", "toc", "toi"];
+
+/// The request of the words, of which the first is the program's name.
+pub fn read_request(alloc: Global, words: &[String]) -> Result<Request, LineFault>
+    ensures request { IfOk result (λ r. request_of (map string_bytes words.now) ≡ Some r) }
+    ensures taken { takes program (map string_bytes words.now) ≡ true → IfErr result IsAfterClap }
+    ensures fault { IfErr result (IsAnswerTo (map string_bytes words.now)) }
+{
+    let program = program(alloc)?;
+    match program.try_get_matches_from(words) {
+        Ok(matches) => {
+            let (name, command) = matches.subcommand().unwrap();
+            asked(alloc, name, command)
+        }
+        Err(error) => Err(fault(alloc, &error)),
+    }
+}
+
+// The program as clap sees it.
+fn program<'a>(alloc: Global) -> Result<Command<'a>, AllocError>
+    ensures { IfOk result IsProgram }
+{
+    Command::new(alloc, "committees")
+        .about(
+            "Elects committees by the approval ballots of PrefLib files, checks them, and shares out seats",
+        )
+        .subcommand_required(true)
+        .subcommand(elect(alloc)?)?
+        .subcommand(check(alloc)?)?
+        .subcommand(share(alloc)?)
+}
+
+// The command `elect`.
+fn elect<'a>(alloc: Global) -> Result<Command<'a>, AllocError>
+    ensures { IfOk result (IsCommand rule_names elect_over) }
+{
+    let elect = Command::new(alloc, "elect")
+        .about("Prints every committee that wins")
+        .arg(rule_option(alloc))?
+        .arg(size_option(alloc))?;
+    with_input(alloc, elect)
+}
+
+// The command `check`.
+fn check<'a>(alloc: Global) -> Result<Command<'a>, AllocError>
+    ensures { IfOk result (IsCommand property_names check_over) }
+{
+    let check = Command::new(alloc, "check")
+        .about(
+            "Tells whether a committee represents the voters, and prints a group that it leaves out",
+        )
+        .arg(property_option(alloc))?
+        .arg(committee_option(alloc))?;
+    with_input(alloc, check)
+}
+
+// The command `share`.
+fn share<'a>(alloc: Global) -> Result<Command<'a>, AllocError>
+    ensures { IfOk result (IsCommand method_names share_over) }
+{
+    let share = Command::new(alloc, "share")
+        .about("Prints every way to share out seats among parties")
+        .arg(method_option(alloc))?
+        .arg(seats_option(alloc))?
+        .arg(votes_option(alloc))?;
+    with_input(alloc, share)
+}
+
+// The command with the options that all commands have, and with `FILE`.
+fn with_input<'a>(alloc: Global, command: Command<'a>) -> Result<Command<'a>, AllocError>
+    ensures { IfOk result (AddsInput command.entry) }
+{
+    command
+        .arg(kind_option(alloc))?
+        .arg(category_option(alloc))?
+        .arg(set_size_option(alloc))?
+        .arg(classes_option(alloc))?
+        .arg(file_word(alloc))
+}
+
+fn rule_option<'a>(alloc: Global) -> Arg<'a>
+    ensures { IsNameOption rule_names (λ names. required (name_option (codes "rule") names)) result }
+{
+    Arg::new(alloc, "rule")
+        .long("rule")
+        .value_name("RULE")
+        .required(true)
+        .value_parser(RULES.as_slice())
+        .help("The rule by which committees win")
+}
+
+fn size_option<'a>(alloc: Global) -> Arg<'a>
+    ensures { IsArgument (required (number_option (codes "size") 40)) result }
+{
+    Arg::new(alloc, "size")
+        .long("size")
+        .value_name("SIZE")
+        .required(true)
+        .value_parser(value_parser!(u8).range(1..=40))
+        .help("The number of seats, from 1 to 40")
+}
+
+fn property_option<'a>(alloc: Global) -> Arg<'a>
+    ensures { IsNameOption property_names (λ names. required (name_option (codes "property") names)) result }
+{
+    Arg::new(alloc, "property")
+        .long("property")
+        .value_name("PROPERTY")
+        .required(true)
+        .value_parser(PROPERTIES.as_slice())
+        .help("The property that the committee may have")
+}
+
+fn committee_option<'a>(alloc: Global) -> Arg<'a>
+    ensures { IsArgument (required (text_option (codes "committee"))) result }
+{
+    Arg::new(alloc, "committee")
+        .long("committee")
+        .value_name("LIST")
+        .required(true)
+        .help("The members of the committee, as 2,3,5")
+}
+
+fn method_option<'a>(alloc: Global) -> Arg<'a>
+    ensures { IsNameOption method_names (λ names. required (name_option (codes "method") names)) result }
+{
+    Arg::new(alloc, "method")
+        .long("method")
+        .value_name("METHOD")
+        .required(true)
+        .value_parser(METHODS.as_slice())
+        .help("The method by which seats are shared out")
+}
+
+fn seats_option<'a>(alloc: Global) -> Arg<'a>
+    ensures { IsArgument (required (number_option (codes "seats") 10000)) result }
+{
+    Arg::new(alloc, "seats")
+        .long("seats")
+        .value_name("SEATS")
+        .required(true)
+        .value_parser(value_parser!(u16).range(1..=10_000))
+        .help("The number of seats, from 1 to 10000")
+}
+
+fn votes_option<'a>(alloc: Global) -> Arg<'a>
+    ensures { IsArgument (text_option (codes "votes")) result }
+{
+    Arg::new(alloc, "votes")
+        .long("votes")
+        .value_name("LIST")
+        .help("The votes of each party, as 53,24,23; without them those of the ballots count")
+}
+
+fn kind_option<'a>(alloc: Global) -> Arg<'a>
+    ensures { IsNameOption kind_names (name_option (codes "kind")) result }
+{
+    Arg::new(alloc, "kind")
+        .long("kind")
+        .value_name("KIND")
+        .value_parser(KINDS.as_slice())
+        .help("The type of the file, whatever the file says of it")
+}
+
+fn category_option<'a>(alloc: Global) -> Arg<'a>
+    ensures { IsArgument (number_option (codes "category") 1000000) result }
+{
+    Arg::new(alloc, "category")
+        .long("category")
+        .value_name("N")
+        .value_parser(value_parser!(u32).range(1..=1_000_000))
+        .help("Approves category N of a cat file")
+}
+
+fn set_size_option<'a>(alloc: Global) -> Arg<'a>
+    ensures { IsArgument (number_option (codes "setsize") 1000000) result }
+{
+    Arg::new(alloc, "setsize")
+        .long("setsize")
+        .value_name("N")
+        .value_parser(value_parser!(u32).range(1..=1_000_000))
+        .help("Approves the fewest first classes of a ranking that have N candidates")
+}
+
+fn classes_option<'a>(alloc: Global) -> Arg<'a>
+    ensures { IsArgument (number_option (codes "classes") 1000000) result }
+{
+    Arg::new(alloc, "classes")
+        .long("classes")
+        .value_name("N")
+        .value_parser(value_parser!(u32).range(1..=1_000_000))
+        .help("Approves the first N classes of a ranking")
+}
+
+fn file_word<'a>(alloc: Global) -> Arg<'a>
+    ensures { IsArgument file_word result }
+{
+    Arg::new(alloc, "file").value_name("FILE").help(
+        "The ballots, a PrefLib file; without it they come from standard input",
+    )
+}
+
+// The request in what clap found for the command of this name.
+fn asked(alloc: Global, name: &str, command: &ArgMatches<'_>) -> Result<Request, LineFault>
+    requires { HasValues name.now (rows_of (found_of command.now)) }
+    ensures { GivesAsked (asked_in name.now (rows_of (found_of command.now))) result }
+{
+    match name {
+        "check" => check_asked(alloc, command),
+        "share" => share_asked(alloc, command),
+        _ => elect_asked(alloc, command),
+    }
+}
+
+// The request in what clap found for `elect`.
+fn elect_asked(alloc: Global, elect: &ArgMatches<'_>) -> Result<Request, LineFault>
+    requires { HasElectValues (rows_of (found_of elect.now)) }
+    ensures { GivesAsked (elect_in (rows_of (found_of elect.now))) result }
+{
+    let rule = rule_named(elect.get_str("rule").unwrap()).unwrap();
+    let size = elect.get_one::<u8>("size").unwrap();
+    request(alloc, elect, Task::Elect(rule, size))
+}
+
+// The request in what clap found for `check`.
+fn check_asked(alloc: Global, check: &ArgMatches<'_>) -> Result<Request, LineFault>
+    requires { HasCheckValues (rows_of (found_of check.now)) }
+    ensures { GivesAsked (check_in (rows_of (found_of check.now))) result }
+{
+    let property = property_named(check.get_str("property").unwrap()).unwrap();
+    let committee = check.get_str("committee").unwrap();
+    let committee = numbers(alloc, ListOption::Committee, committee)?;
+    request(alloc, check, Task::Check(property, committee))
+}
+
+// The request in what clap found for `share`.
+fn share_asked(alloc: Global, share: &ArgMatches<'_>) -> Result<Request, LineFault>
+    requires { HasShareValues (rows_of (found_of share.now)) }
+    ensures { GivesAsked (share_in (rows_of (found_of share.now))) result }
+{
+    let method = method_named(share.get_str("method").unwrap()).unwrap();
+    let seats = share.get_one::<u16>("seats").unwrap();
+    let votes = votes(alloc, share)?;
+    let request = request(alloc, share, Task::Share(method, seats, votes))?;
+    if is_given(share, "votes") && has_input(share) {
+        return Err(LineFault::VotesAndInput);
+    }
+    Ok(request)
+}
+
+// The votes that are given for the parties, if any are.
+fn votes(alloc: Global, share: &ArgMatches<'_>) -> Result<Option<Vec<u64>>, LineFault>
+    ensures given { Gives (option_map vec_items) (votes_in (rows_of (found_of share.now))) result }
+    ensures some { IfOk result (λ votes. IfSome votes (λ v. vec_items v ≢ [])) }
+{
+    match share.get_str("votes") {
+        Some(text) => Ok(Some(numbers(alloc, ListOption::Votes, text)?)),
+        None => Ok(None),
+    }
+}
+
+// The numbers in the list of an option.
+fn numbers(alloc: Global, option: ListOption, text: &str) -> Result<Vec<u64>, LineFault>
+    ensures given { Gives vec_items (listed option text.now) result }
+    ensures some { IfOk result (λ v. vec_items v ≢ []) }
+{
+    list_of(alloc, text)?.ok_or(LineFault::BadList(option))
+}
+
+// Whether anything is said of an input: a file, or how one is read.
+fn has_input(command: &ArgMatches<'_>) -> bool
+    ensures { result ≡ has_input (rows_of (found_of command.now)) }
+{
+    is_given(command, "file") || is_given(command, "kind") || has_way(command)
+}
+
+// Whether a way is given.
+fn has_way(command: &ArgMatches<'_>) -> bool
+    ensures { result ≡ list_any (is_given (rows_of (found_of command.now))) way_names }
+{
+    is_given(command, "category") || is_given(command, "setsize") || is_given(command, "classes")
+}
+
+// Whether an argument is given.
+fn is_given(command: &ArgMatches<'_>, name: &str) -> bool
+    ensures { result ≡ is_given (rows_of (found_of command.now)) name.now }
+{
+    command.contains_id(name)
+}
+
+// The request to do this over the input that clap found for a command.
+fn request(alloc: Global, command: &ArgMatches<'_>, task: Task) -> Result<Request, LineFault>
+    requires counts { HasCounts (rows_of (found_of command.now)) }
+    requires range { InRange (demand_of task) }
+    ensures { Gives (λ r. r) (asking (rows_of (found_of command.now)) (demand_of task)) result }
+{
+    let Some(way) = way_asked(command) else {
+        return Err(LineFault::TwoPicks);
+    };
+    let pick = pick_of(command.get_str("kind"), command.get_str("file"), way);
+    let file = owned(alloc, command.get_str("file"))?;
+    Ok(Request::new(task, pick, file))
+}
+
+// How a file with this path is read.
+fn pick_of(kind: Option<&str>, path: Option<&str>, way: Way) -> Pick
+    ensures { result ≡ record {
+      kind = option_and_then kind_of (option_map (λ s. s.now) kind.entry);
+      ending = option_and_then kind_in_path (option_map (λ s. s.now) path.entry);
+      way = way;
+    } }
+{
+    let kind = match kind {
+        Some(name) => kind_of(name.as_bytes()),
+        None => None,
+    };
+    let ending = match path {
+        Some(path) => kind_in_path(path),
+        None => None,
+    };
+    Pick { kind, ending, way }
+}
+
+// The way in what clap found for a command, where there are not two.
+fn way_asked(command: &ArgMatches<'_>) -> Option<Way>
+    requires { HasCounts (rows_of (found_of command.now)) }
+    ensures value { result ≡ way_in (rows_of (found_of command.now)) }
+    ensures number { IfSome result HasNumber }
+{
+    let category = number(command, "category");
+    let set_size = number(command, "setsize");
+    let classes = number(command, "classes");
+    one_way(category, set_size, classes)
+}
+
+// The number of an option, where it is given.
+fn number(command: &ArgMatches<'_>, name: &str) -> Option<u32>
+    requires { IsCount (one_of name.now (rows_of (found_of command.now))) }
+    ensures value { result ≡ number_at name.now (rows_of (found_of command.now)) }
+    ensures least { IfSome result (λ n. 1 ≤ n) }
+{
+    command.get_one::<u32>(name)
+}
+
+// The way of the numbers that are given, where there are not two.
+fn one_way(category: Option<u32>, set_size: Option<u32>, classes: Option<u32>) -> Option<Way>
+    requires category { IfSome category (λ n. 1 ≤ n) }
+    requires set_size { IfSome set_size (λ n. 1 ≤ n) }
+    requires classes { IfSome classes (λ n. 1 ≤ n) }
+    ensures value { result ≡ way_by category set_size classes }
+    ensures number { IfSome result HasNumber }
+{
+    match (category, set_size, classes) {
+        (None, None, None) => Some(Way::Usual),
+        (Some(n), None, None) => Some(Way::Category(n)),
+        (None, Some(n), None) => Some(Way::SetSize(n)),
+        (None, None, Some(n)) => Some(Way::Classes(n)),
+        _ => None,
+    }
+}
+
+// A text of its own, where there is one.
+fn owned(alloc: Global, text: Option<&str>) -> Result<Option<String>, AllocError>
+    ensures { IfOk result (λ r. option_map string_bytes r ≡ option_map (λ s. s.now) text.entry) }
+{
+    match text {
+        Some(text) => Ok(Some(text.to_string(alloc)?)),
+        None => Ok(None),
+    }
+}
+
+// The rule of a name.
+fn rule_named(name: &str) -> Option<Rule>
+    ensures { result ≡ rule_named name.now }
+{
+    let rule = match name {
+        "av" => Rule::Scored(ScoredRule::Thiele(ThieleRule::Av)),
+        "pav" => Rule::Scored(ScoredRule::Thiele(ThieleRule::Pav)),
+        "cc" => Rule::Scored(ScoredRule::Thiele(ThieleRule::Cc)),
+        "geom2" => Rule::Scored(ScoredRule::Thiele(ThieleRule::Geom2)),
+        "geom3" => Rule::Scored(ScoredRule::Thiele(ThieleRule::Geom3)),
+        "geom4" => Rule::Scored(ScoredRule::Thiele(ThieleRule::Geom4)),
+        "sav" => Rule::Scored(ScoredRule::Satisfaction),
+        "minimax" => Rule::Scored(ScoredRule::Minimax),
+        "seqpav" => Rule::Sequential(SeqRule::SeqPav),
+        "seqcc" => Rule::Sequential(SeqRule::SeqCc),
+        "revseqpav" => Rule::Sequential(SeqRule::RevSeqPav),
+        _ => return None,
+    };
+    Some(rule)
+}
+
+// The property of a name.
+fn property_named(name: &str) -> Option<Property>
+    ensures { result ≡ property_named name.now }
+{
+    match name {
+        "jr" => Some(Property::Jr),
+        "pjr" => Some(Property::Pjr),
+        "ejr" => Some(Property::Ejr),
+        _ => None,
+    }
+}
+
+// The method of a name.
+fn method_named(name: &str) -> Option<Method>
+    ensures { result ≡ method_named name.now }
+{
+    let method = match name {
+        "hamilton" => Method::Hamilton,
+        "dhondt" => Method::Dhondt,
+        "saintelague" => Method::SainteLague,
+        "huntington" => Method::Huntington,
+        "adams" => Method::Adams,
+        "dean" => Method::Dean,
+        _ => return None,
+    };
+    Some(method)
+}
+
+// Clap's answer to words that it does not take.
+fn fault(alloc: Global, error: &Error) -> LineFault
+    ensures { IsFaultOf (error_kind_of error.now) result }
+{
+    let Ok(text) = error.to_string(alloc) else {
+        return LineFault::Memory;
+    };
+    match error.kind() {
+        ErrorKind::DisplayHelp => LineFault::Help(text),
+        ErrorKind::OutOfMemory => LineFault::Memory,
+        _ => LineFault::Usage(text),
+    }
+}
+
+#[cfg(test)]
+mod tests;
