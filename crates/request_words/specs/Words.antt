@@ -161,7 +161,7 @@ property_named name = lookup (bytes_eq name) properties_by_name
 abbrev pub method_named : Text → Option Method
 method_named name = lookup (bytes_eq name) methods_by_name
 
--- the value of a number's digits, of which the first may be zeros
+-- the value of a number's digits, of which the first may be zeros, and before which a `+` may stand
 abbrev pub number_of : Text → ℕ
 number_of digits = digits_value 10 (without_leading_plus digits)
 
