@@ -1,17 +1,19 @@
 -- Increasing lists of one length: which they are, their order, and what comes after one of them.
-use Rattle.std.proofs.Common.{◌≡◌, ℕ, zero, suc, ◌+◌, ◌-◌, ◌<◌, ◌≤◌, ◌==◌, true, false, List, [], ◌∷◌, ◌++◌, refl, sym, ap, ◌∙◌, subst, arith, inl, inr, length, map, Contains, AllPairs, length-append, Greater, Option, Some, None, MatchOption, get_or}
+use Rattle.std.proofs.Common.{◌≡◌, ℕ, zero, suc, ◌+◌, ◌-◌, ◌<◌, ◌≤◌, ◌==◌, List, [], ◌∷◌, ◌++◌, refl, sym, ap, ◌∙◌, subst, arith, inl, inr, length, map, All, Contains, AllPairs, length-append, append_assoc, Greater, Option, Some, None, MatchOption, get_or}
 use Rattle.std.specs.List.{range_with_len, AllByRecursion}
-use Rattle.std.proofs.lemmas.Bool.{eq-eqb, ne_eqb, cases_eq, cases_lt, le-ltb, and_from, and_parts, false≢true}
+use Rattle.std.proofs.lemmas.Bool.{eq-eqb, ne_eqb, cases_eq, cases_lt, le-ltb, and_from, false≢true}
 use Rattle.std.specs.Ordering.{nat_cmp, is_gt}
 use Rattle.std.specs.Cmp.Lexicographic.{slice_cmp}
-use Rattle.std.proofs.lemmas.List.{get_or-map, length-map}
+use Rattle.std.proofs.lemmas.List.{get_or-map, length-map, map-append}
 use Rattle.std.proofs.lemmas.List.Elements.{All-from_recursion, All-contains, Contains-append_left, Contains-append_right}
 use Rattle.std.proofs.lemmas.List.Kept.{AllPairs-cons}
 use Rattle.std.proofs.lemmas.List.FromFn.{length-range_with_len}
-use Rattle.ballot_base.specs.Lists.{IsIncreasing, lists_of, increasing_lists, IsLater}
-use Rattle.ballot_base.specs.Subsets.{lists_from, sets_from, IsPlace, IsLastSet, IsNextSet}
+use Rattle.ballot_base.specs.Limits.{most_candidates}
+use Rattle.ballot_base.specs.Lists.{IsIncreasing, lists_of, increasing_lists, IsLater, AreInOrder, later_than}
+use Rattle.ballot_base.specs.Steps.Subsets.{lists_from, sets_from, IsPlace, IsLastSet, IsNextSet}
 use Rattle.ballot_base.proofs.Increasing.{IsIncreasing-lower}
-use Rattle.ballot_base.proofs.FirstMember.{slice_cmp_same, cmp_same}
+use Rattle.ballot_base.proofs.Later.{AllByRecursion-weaker, is_later-self, later_than-member}
+use Rattle.ballot_base.proofs.FirstMember.{slice_cmp_same}
 
 -- ---- the lists from one of them on, case by case
 lists_from-here : (count first x : ℕ) (rest : List ℕ) → x ≡ first → lists_from (suc count) first (x ∷ rest) ≡ map (λ list. first ∷ list) (lists_from count (first + 1) rest) ++ lists_of count (first + 1) (suc (length rest))
@@ -67,42 +69,42 @@ lists_from-last (suc count) first (suc size) low h e =
     ]
 
 -- ---- one step
-same_length : (front : List ℕ) (last behind low : ℕ) → length (front ++ last ∷ range_with_len low behind) ≡ length (front ++ range_with_len (last + 1) (suc behind))
-same_length front last behind low =
-    length-append front (last ∷ range_with_len low behind)
-    ∙ (omega (arith, length-range_with_len low behind, length-range_with_len (last + 1 + 1) behind)
-    ∙ sym (length-append front (range_with_len (last + 1) (suc behind))))
+same_length : (front : List ℕ) (last tail low : ℕ) → length (front ++ last ∷ range_with_len low tail) ≡ length (front ++ range_with_len (last + 1) (suc tail))
+same_length front last tail low =
+    length-append front (last ∷ range_with_len low tail)
+    ∙ (omega (arith, length-range_with_len low tail, length-range_with_len (last + 1 + 1) tail)
+    ∙ sym (length-append front (range_with_len (last + 1) (suc tail))))
 
-pub lists_from-next : (count first m : ℕ) (front : List ℕ) (last behind : ℕ) → first + count ≡ m + 1 → last + behind < m → IsIncreasing first m (front ++ last ∷ range_with_len (m + 1 - behind) behind) → lists_from count first (front ++ last ∷ range_with_len (m + 1 - behind) behind) ≡ (front ++ last ∷ range_with_len (m + 1 - behind) behind) ∷ lists_from count first (front ++ range_with_len (last + 1) (suc behind))
-lists_from-next zero first m [] last behind e h i = absurd (omega (arith, i.0, i.1))
-lists_from-next zero first m (x ∷ front) last behind e h i = absurd (omega (arith, i.0, i.1))
-lists_from-next (suc count) first m [] last behind e h i =
-    let top : List ℕ = range_with_len (m + 1 - behind) behind in
-    let grown : List ℕ = range_with_len (last + 1 + 1) behind in
+pub lists_from-next : (count first m : ℕ) (front : List ℕ) (last tail : ℕ) → first + count ≡ m + 1 → last + tail < m → IsIncreasing first m (front ++ last ∷ range_with_len (m + 1 - tail) tail) → lists_from count first (front ++ last ∷ range_with_len (m + 1 - tail) tail) ≡ (front ++ last ∷ range_with_len (m + 1 - tail) tail) ∷ lists_from count first (front ++ range_with_len (last + 1) (suc tail))
+lists_from-next zero first m [] last tail e h i = absurd (omega (arith, i.0, i.1))
+lists_from-next zero first m (x ∷ front) last tail e h i = absurd (omega (arith, i.0, i.1))
+lists_from-next (suc count) first m [] last tail e h i =
+    let top : List ℕ = range_with_len (m + 1 - tail) tail in
+    let grown : List ℕ = range_with_len (last + 1 + 1) tail in
     let skip : lists_from (suc count) first ((last + 1) ∷ grown) ≡ lists_from count (first + 1) ((last + 1) ∷ grown) =
     lists_from-later count first (last + 1) grown (λ d. omega (arith, i.0, d)) in
     elim (cases_eq last first) [
       | inl same ↦
-          let all : lists_from count (first + 1) ((last + 1) ∷ grown) ≡ lists_of count (first + 1) (suc behind) =
-          subst (λ n. lists_from count (first + 1) (range_with_len (n + 1) (suc behind)) ≡ lists_of count (first + 1) (suc behind)) (sym same) (lists_from-first count (first + 1) (suc behind) (omega arith)) in
+          let all : lists_from count (first + 1) ((last + 1) ∷ grown) ≡ lists_of count (first + 1) (suc tail) =
+          subst (λ n. lists_from count (first + 1) (range_with_len (n + 1) (suc tail)) ≡ lists_of count (first + 1) (suc tail)) (sym same) (lists_from-first count (first + 1) (suc tail) (omega arith)) in
           lists_from-here count first last top same
-          ∙ (rw (lists_from-last count (first + 1) behind (m + 1 - behind) (omega arith) (omega arith), length-range_with_len, skip, all, same))
+          ∙ (rw (lists_from-last count (first + 1) tail (m + 1 - tail) (omega arith) (omega arith), length-range_with_len, skip, all, same))
       | inr other ↦
           lists_from-later count first last top other
-          ∙ (lists_from-next count (first + 1) m [] last behind (omega arith) h (omega (arith, i.0, other), i.1, i.2)
+          ∙ (lists_from-next count (first + 1) m [] last tail (omega arith) h (omega (arith, i.0, other), i.1, i.2)
           ∙ ap (λ ls. (last ∷ top) ∷ ls) (sym skip))
     ]
-lists_from-next (suc count) first m (x ∷ front) last behind e h i =
-    let set : List ℕ = front ++ last ∷ range_with_len (m + 1 - behind) behind in
-    let next : List ℕ = front ++ range_with_len (last + 1) (suc behind) in
+lists_from-next (suc count) first m (x ∷ front) last tail e h i =
+    let set : List ℕ = front ++ last ∷ range_with_len (m + 1 - tail) tail in
+    let next : List ℕ = front ++ range_with_len (last + 1) (suc tail) in
     elim (cases_eq x first) [
       | inl same ↦
-          let rest = lists_from-next count (first + 1) m front last behind (omega arith) h (IsIncreasing-lower (first + 1) (x + 1) m set (omega (arith, same)) i.2) in
+          let rest = lists_from-next count (first + 1) m front last tail (omega arith) h (IsIncreasing-lower (first + 1) (x + 1) m set (omega (arith, same)) i.2) in
           lists_from-here count first x set same
-          ∙ (rw (rest, same_length front last behind (m + 1 - behind), lists_from-here count first x next same, same))
+          ∙ (rw (rest, same_length front last tail (m + 1 - tail), lists_from-here count first x next same, same))
       | inr other ↦
           lists_from-later count first x set other
-          ∙ (lists_from-next count (first + 1) m (x ∷ front) last behind (omega arith) h (omega (arith, i.0, other), i.1, i.2)
+          ∙ (lists_from-next count (first + 1) m (x ∷ front) last tail (omega arith) h (omega (arith, i.0, other), i.1, i.2)
           ∙ ap (λ ls. (x ∷ set) ∷ ls) (sym (lists_from-later count first x next other)))
     ]
 
@@ -114,10 +116,6 @@ AllByRecursion-append P (x ∷ xs) ys h k = (h.0, AllByRecursion-append P xs ys 
 AllByRecursion-map : (P Q : List ℕ → Type 0) (f : List ℕ → List ℕ) → ((x : List ℕ) → P x → Q (f x)) → (xs : List (List ℕ)) → AllByRecursion P xs → AllByRecursion Q (map f xs)
 AllByRecursion-map P Q f step [] h = tt
 AllByRecursion-map P Q f step (x ∷ xs) h = (step x h.0, AllByRecursion-map P Q f step xs h.1)
-
-AllByRecursion-weaker : (P Q : List ℕ → Type 0) → ((x : List ℕ) → P x → Q x) → (xs : List (List ℕ)) → AllByRecursion P xs → AllByRecursion Q xs
-AllByRecursion-weaker P Q step [] h = tt
-AllByRecursion-weaker P Q step (x ∷ xs) h = (step x h.0, AllByRecursion-weaker P Q step xs h.1)
 
 -- an increasing list of this length
 abbrev pub IsChosen : ℕ → ℕ → ℕ → List ℕ → Type 0
@@ -228,48 +226,18 @@ chosen-from_contains first last size set h =
     All-contains (IsChosen first last size) (increasing_lists first last size) set
     (All-from_recursion (IsChosen first last size) (increasing_lists first last size) (increasing_lists-chosen first last size)) h
 
+pub increasing_lists-sizes : (first last size : ℕ) → All (λ set. length set ≡ size) (increasing_lists first last size)
+increasing_lists-sizes first last size =
+    All-from_recursion (λ set. length set ≡ size) (increasing_lists first last size)
+    (AllByRecursion-weaker (IsChosen first last size) (λ set. length set ≡ size) (λ set chosen. chosen.1) (increasing_lists first last size) (increasing_lists-chosen first last size))
+
 pub increasing_lists-order : (first last size : ℕ) → AllPairs (λ x y. IsLater y x) (increasing_lists first last size)
 increasing_lists-order first last size = AllPairs-from_rising (increasing_lists first last size) (lists_of-rising (last + 1 - first) first size)
-
--- ---- a list with what came before it and what comes after it, as in a walk
-AllByRecursion-at : (P : List ℕ → Type 0) (before : List (List ℕ)) (set : List ℕ) (after : List (List ℕ)) → AllByRecursion P (before ++ set ∷ after) → P set
-AllByRecursion-at P [] set after h = h.0
-AllByRecursion-at P (x ∷ before) set after h = AllByRecursion-at P before set after h.1
-
-Rising-behind : (before : List (List ℕ)) (set : List ℕ) (after : List (List ℕ)) → Rising (before ++ set ∷ after) → AllByRecursion (After set) after
-unfolding Rising
-Rising-behind [] set after h = h.0
-Rising-behind (x ∷ before) set after h = Rising-behind before set after h.1
-
-Rising-ahead : (before : List (List ℕ)) (set : List ℕ) (after : List (List ℕ)) → Rising (before ++ set ∷ after) → AllByRecursion (λ x. After x set) before
-unfolding Rising
-Rising-ahead [] set after h = tt
-Rising-ahead (x ∷ before) set after h = (AllByRecursion-at (After x) before set after h.0, Rising-ahead before set after h.1)
-
-pub increasing_lists-at : (first last size : ℕ) (before : List (List ℕ)) (set : List ℕ) (after : List (List ℕ)) → increasing_lists first last size ≡ before ++ set ∷ after → IsChosen first last size set
-increasing_lists-at first last size before set after e =
-    AllByRecursion-at (IsChosen first last size) before set after (subst (λ ls. AllByRecursion (IsChosen first last size) ls) e (increasing_lists-chosen first last size))
-
-pub increasing_lists-behind : (first last size : ℕ) (before : List (List ℕ)) (set : List ℕ) (after : List (List ℕ)) → increasing_lists first last size ≡ before ++ set ∷ after → AllByRecursion (λ x. IsLater x set) after
-increasing_lists-behind first last size before set after e =
-    AllByRecursion-weaker (After set) (λ x. IsLater x set) (λ x a. IsLater-from_after set x a) after
-    (Rising-behind before set after (subst (λ ls. Rising ls) e (lists_of-rising (last + 1 - first) first size)))
-
-pub increasing_lists-ahead : (first last size : ℕ) (before : List (List ℕ)) (set : List ℕ) (after : List (List ℕ)) → increasing_lists first last size ≡ before ++ set ∷ after → AllByRecursion (λ x. IsLater set x) before
-increasing_lists-ahead first last size before set after e =
-    AllByRecursion-weaker (λ x. After x set) (λ x. IsLater set x) (λ x a. IsLater-from_after x set a) before
-    (Rising-ahead before set after (subst (λ ls. Rising ls) e (lists_of-rising (last + 1 - first) first size)))
-
-IsLater-self : (x : List ℕ) → IsLater x x → ⊥
-IsLater-self x h =
-    let gt : is_gt (slice_cmp nat_cmp x x) ≡ true = (and_parts (length x == length x) (is_gt (slice_cmp nat_cmp x x)) h).1 in
-    let no : is_gt (slice_cmp nat_cmp x x) ≡ false = ap is_gt (cmp_same x) in
-    false≢true (sym no ∙ gt)
 
 pub increasing_lists-once : (first last size : ℕ) → AllPairs (λ x y. x ≡ y → ⊥) (increasing_lists first last size)
 increasing_lists-once first last size = λ i j d l h e.
     let xs : List (List ℕ) = increasing_lists first last size in
-    IsLater-self (get_or xs j d) (subst (λ x. IsLater (get_or xs j d) x) e (increasing_lists-order first last size i j d l h))
+    false≢true (sym (is_later-self (get_or xs j d)) ∙ subst (λ x. IsLater (get_or xs j d) x) e (increasing_lists-order first last size i j d l h))
 
 -- ---- a place and the next one
 IsIncreasing-range : (from run last : ℕ) → from + run ≤ last + 1 → IsIncreasing from last (range_with_len from run)
@@ -280,23 +248,65 @@ pub length-increasing : (first last : ℕ) (set : List ℕ) → IsIncreasing fir
 length-increasing first last [] i = omega arith
 length-increasing first last (x ∷ xs) i = omega (arith, length-increasing (x + 1) last xs i.2, i.0, i.1)
 
-IsIncreasing-grown : (first m : ℕ) (front : List ℕ) (last behind : ℕ) (rest : List ℕ) → last + behind < m → IsIncreasing first m (front ++ last ∷ rest) → IsIncreasing first m (front ++ range_with_len (last + 1) (suc behind))
-IsIncreasing-grown first m [] last behind rest h i =
-    IsIncreasing-lower first (last + 1) m (range_with_len (last + 1) (suc behind)) (omega (arith, i.0)) (IsIncreasing-range (last + 1) (suc behind) m (omega arith))
-IsIncreasing-grown first m (x ∷ front) last behind rest h i = (i.0, i.1, IsIncreasing-grown (x + 1) m front last behind rest h i.2)
+IsIncreasing-grown : (first m : ℕ) (front : List ℕ) (last tail : ℕ) (rest : List ℕ) → last + tail < m → IsIncreasing first m (front ++ last ∷ rest) → IsIncreasing first m (front ++ range_with_len (last + 1) (suc tail))
+IsIncreasing-grown first m [] last tail rest h i =
+    IsIncreasing-lower first (last + 1) m (range_with_len (last + 1) (suc tail)) (omega (arith, i.0)) (IsIncreasing-range (last + 1) (suc tail) m (omega arith))
+IsIncreasing-grown first m (x ∷ front) last tail rest h i = (i.0, i.1, IsIncreasing-grown (x + 1) m front last tail rest h i.2)
 
-pub next_place : (m : ℕ) (set : List ℕ) (next : Option (List ℕ)) → m ≤ 40 → IsIncreasing 1 m set → MatchOption next (IsLastSet m set) (IsNextSet m set) → IsPlace m next × (lists_from m 1 set ≡ set ∷ sets_from m next)
+pub next_place : (m : ℕ) (set : List ℕ) (next : Option (List ℕ)) → m ≤ most_candidates → IsIncreasing 1 m set → MatchOption next (IsLastSet m set) (IsNextSet m set) → IsPlace m next × (lists_from m 1 set ≡ set ∷ sets_from m next)
 next_place m set None h i l =
     let long = length-increasing 1 m set i in
     (h, subst (λ s. lists_from m 1 s ≡ s ∷ []) (sym l) (lists_from-last m 1 (length set) (m + 1 - length set) (omega arith) (omega arith)))
-next_place m set (Some next) h i (front, last, behind, less, e, f) =
+next_place m set (Some next) h i (front, last, tail, less, e, f) =
     let inc = subst (λ s. IsIncreasing 1 m s) e i in
-    let step = lists_from-next m 1 m front last behind (omega arith) less inc in (
-      (h, subst (λ s. IsIncreasing 1 m s) (sym f) (IsIncreasing-grown 1 m front last behind (range_with_len (m + 1 - behind) behind) less inc)),
+    let step = lists_from-next m 1 m front last tail (omega arith) less inc in (
+      (h, subst (λ s. IsIncreasing 1 m s) (sym f) (IsIncreasing-grown 1 m front last tail (range_with_len (m + 1 - tail) tail) less inc)),
       rw (e, f) step,
     )
 
-pub first_place : (m k : ℕ) → m ≤ 40 → k ≤ m → IsPlace m (Some (range_with_len 1 k)) × (lists_from m 1 (range_with_len 1 k) ≡ increasing_lists 1 m k)
+pub first_place : (m k : ℕ) → m ≤ most_candidates → k ≤ m → IsPlace m (Some (range_with_len 1 k)) × (lists_from m 1 (range_with_len 1 k) ≡ increasing_lists 1 m k)
 first_place m k h l =
     let count : m + 1 - 1 ≡ m = omega arith in
     ((h, IsIncreasing-range 1 k m (omega arith)), rw count (lists_from-first m 1 k l))
+
+-- the lists from one of them on are the last of all
+lists_of-split : (count first last : ℕ) (set : List ℕ) → first + count ≡ last + 1 → IsIncreasing first last set
+    → (before : List (List ℕ)) × (lists_of count first (length set) ≡ before ++ lists_from count first set)
+lists_of-split count first last [] e i = ([], lists_of-empty count first ∙ sym (lists_from-empty count first))
+lists_of-split zero first last (x ∷ rest) e i = absurd (omega (arith, i.0, i.1))
+lists_of-split (suc count) first last (x ∷ rest) e i =
+    let high : List (List ℕ) = lists_of count (first + 1) (suc (length rest)) in
+    elim (cases_eq x first) [
+      | inl same ↦
+          let more = lists_of-split count (first + 1) last rest (omega arith) (IsIncreasing-lower (first + 1) (x + 1) last rest (omega (arith, same)) i.2) in
+          let low : map (λ list. first ∷ list) (lists_of count (first + 1) (length rest))
+          ≡ map (λ list. first ∷ list) more.0 ++ map (λ list. first ∷ list) (lists_from count (first + 1) rest) =
+          ap (λ ls. map (λ list. first ∷ list) ls) more.1 ∙ map-append (λ list. first ∷ list) more.0 (lists_from count (first + 1) rest) in (
+            map (λ list. first ∷ list) more.0,
+            lists_of-more count first (length rest)
+                ∙ (ap (λ ls. ls ++ high) low
+                ∙ (append_assoc (map (λ list. first ∷ list) more.0) (map (λ list. first ∷ list) (lists_from count (first + 1) rest)) high
+                ∙ ap (λ ls. map (λ list. first ∷ list) more.0 ++ ls) (sym (lists_from-here count first x rest same)))),
+          )
+      | inr other ↦
+          let more = lists_of-split count (first + 1) last (x ∷ rest) (omega arith) (omega (arith, i.0, other), i.1, i.2) in
+          let low : List (List ℕ) = map (λ list. first ∷ list) (lists_of count (first + 1) (length rest)) in (
+            low ++ more.0,
+            lists_of-more count first (length rest)
+                ∙ (ap (λ ls. low ++ ls) more.1
+                ∙ (sym (append_assoc low more.0 (lists_from count (first + 1) (x ∷ rest)))
+                ∙ ap (λ ls. (low ++ more.0) ++ ls) (sym (lists_from-later count first x rest other)))),
+          )
+    ]
+
+-- from the next place on come the lists that are later
+pub after_place : (m k : ℕ) (set : List ℕ) (next : Option (List ℕ)) → m ≤ most_candidates → IsIncreasing 1 m set → length set ≡ k
+    → MatchOption next (IsLastSet m set) (IsNextSet m set) → IsPlace m next × (sets_from m next ≡ later_than (Some set) (increasing_lists 1 m k))
+after_place m k set next most increasing size step =
+    let place = next_place m set next most increasing step in
+    let count : m + 1 - 1 ≡ m = omega arith in
+    let split = lists_of-split m 1 m set (omega arith) increasing in
+    let all : increasing_lists 1 m k ≡ split.0 ++ set ∷ sets_from m next =
+    ap (λ n. lists_of n 1 k) count ∙ (ap (lists_of m 1) (sym size) ∙ (split.1 ∙ ap (λ ls. split.0 ++ ls) place.1)) in
+    let order = subst (λ ls. AreInOrder ls) all (increasing_lists-order 1 m k) in
+    (place.0, sym (ap (later_than (Some set)) all ∙ later_than-member split.0 set (sets_from m next) order))

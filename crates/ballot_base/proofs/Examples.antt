@@ -1,12 +1,17 @@
 -- Each definition, computed on a small example.
-use Rattle.std.proofs.Common.{◌≡◌, List, [], ◌∷◌, true, false, refl, lit≤, Some, None, replicate}
-use Rattle.ballot_base.specs.Lists.{IsIncreasing, lists_of, increasing_lists, is_later, IsLater}
-use Rattle.ballot_base.specs.CandSet.{members_among, members, word_of, has_member, with_member, without_member, common_members}
-use Rattle.ballot_base.specs.Subsets.{lists_from, sets_from, IsPlace, IsLastSet, IsNextSet}
-use Rattle.ballot_base.specs.Ballots.{Row, IsElection, election, name_of, hits, voter_count, has_ballot, with_votes}
-use Rattle.ballot_base.specs.CommonMultiple.{least_multiple, common_multiple}
+use Rattle.std.proofs.Common.{◌≡◌, ◌^◌, List, [], ◌∷◌, true, false, refl, lit≤, Some, None, replicate, arith, length, codes}
+use Rattle.ballot_base.specs.Lists.{IsIncreasing, lists_of, increasing_lists, is_later, IsLater, AreInOrder, later_than}
+use Rattle.ballot_base.specs.CandSet.{has_member, with_member, without_member, common_members, members_upto}
+use Rattle.ballot_base.specs.Steps.Words.{members_among, members, word_of}
+use Rattle.ballot_base.specs.Steps.Subsets.{lists_from, sets_from, IsPlace, IsLastSet, IsNextSet}
+use Rattle.ballot_base.specs.Ballots.{Row, IsElection, election, ballots_of, name_of, hits, voter_count, has_ballot, with_votes}
+use Rattle.ballot_base.specs.CommonMultiple.{least_multiple, common_multiple, AllDivide}
 use Rattle.ballot_base.specs.Increments.{increment, denominator, increments}
+use Rattle.ballot_base.specs.RuleNames.{thiele_name, thiele_named, thiele_rules}
 use Rattle.ballot_base.specs.declared.increments.ThieleRule.TheVariants.{Av, Pav, Cc, Geom2, Geom3, Geom4}
+use Rattle.ballot_base.proofs.Committees.{increasing_lists-order}
+use Rattle.ballot_base.proofs.LeastMultiples.{common_multiple_divides}
+use Rattle.ballot_base.proofs.Rows.{distinct-with_votes}
 
 -- ---- lists
 increasing : IsIncreasing 1 4 (1 ∷ 3 ∷ [])
@@ -39,10 +44,29 @@ not_later_than_a_shorter_one = refl
 is_later_list : IsLater (2 ∷ 3 ∷ []) (1 ∷ 4 ∷ [])
 is_later_list = refl
 
+in_order : AreInOrder ((1 ∷ []) ∷ (2 ∷ []) ∷ [])
+unfolding lists_of
+in_order = increasing_lists-order 1 2 1
+
+pairs_later : later_than (Some (1 ∷ 4 ∷ [])) (increasing_lists 1 4 2) ≡ (2 ∷ 3 ∷ []) ∷ (2 ∷ 4 ∷ []) ∷ (3 ∷ 4 ∷ []) ∷ []
+unfolding lists_of
+pairs_later = refl
+
+none_later : later_than (Some (3 ∷ 4 ∷ [])) (increasing_lists 1 4 2) ≡ []
+unfolding lists_of
+none_later = refl
+
+all_without_a_start : later_than None ((1 ∷ []) ∷ (2 ∷ []) ∷ []) ≡ (1 ∷ []) ∷ (2 ∷ []) ∷ []
+all_without_a_start = refl
+
 -- ---- sets
 members_of_13 : members 13 ≡ 1 ∷ 3 ∷ 4 ∷ []
 unfolding members members_among
 members_of_13 = refl
+
+members_of_the_highest_bit : members (2 ^ 63) ≡ 64 ∷ []
+unfolding members members_among
+members_of_the_highest_bit = refl
 
 members_of_13_from_2 : members_among 2 2 13 ≡ 3 ∷ []
 unfolding members_among
@@ -72,6 +96,9 @@ without_another = refl
 common : common_members (1 ∷ 3 ∷ 4 ∷ []) (2 ∷ 3 ∷ 4 ∷ []) ≡ 3 ∷ 4 ∷ []
 common = refl
 
+upto_two : members_upto (1 ∷ 2 ∷ 4 ∷ []) 2 ≡ 1 ∷ 2 ∷ []
+upto_two = refl
+
 -- ---- what is still to come
 from_a_list : lists_from 4 1 (2 ∷ 3 ∷ []) ≡ (2 ∷ 3 ∷ []) ∷ (2 ∷ 4 ∷ []) ∷ (3 ∷ 4 ∷ []) ∷ []
 unfolding lists_from lists_of
@@ -90,7 +117,7 @@ place = (lit≤ tt, (lit≤ tt, lit≤ tt, (lit≤ tt, lit≤ tt, tt)))
 last_set : IsLastSet 4 (3 ∷ 4 ∷ [])
 last_set = refl
 
--- behind 1 stand the greatest numbers 4 and 5
+-- after 1 stand the greatest numbers 4 and 5
 next_set : IsNextSet 5 (1 ∷ 4 ∷ 5 ∷ []) (2 ∷ 3 ∷ 4 ∷ [])
 next_set = ([], 1, 2, lit≤ tt, refl, refl)
 
@@ -113,6 +140,10 @@ is_cast = refl
 is_not_cast : has_ballot rows (1 ∷ []) ≡ false
 unfolding rows
 is_not_cast = refl
+
+two_ballots : ballots_of rows ≡ (1 ∷ 3 ∷ []) ∷ [] ∷ []
+unfolding rows
+two_ballots = refl
 
 votes_for_an_old_ballot : with_votes rows (1 ∷ 3 ∷ []) 5 ≡ (1 ∷ 3 ∷ [], 7) ∷ ([], 1) ∷ []
 unfolding rows
@@ -139,6 +170,7 @@ is_election = record {
   most = lit≤ tt;
   names = refl;
   ballots = ((lit≤ tt, lit≤ tt, (lit≤ tt, lit≤ tt, tt)), (tt, tt));
+  distinct = distinct-with_votes (with_votes [] (1 ∷ 3 ∷ []) 2) [] 1 (distinct-with_votes [] (1 ∷ 3 ∷ []) 2 (λ i j d l h. absurd (omega arith)));
   counts = (lit≤ tt, (lit≤ tt, tt));
   voters = lit≤ tt;
 }
@@ -162,6 +194,14 @@ multiple_of_20 = refl
 multiple_of_40 : common_multiple 40 ≡ 5342931457063200
 unfolding common_multiple
 multiple_of_40 = refl
+
+all_divide_6 : AllDivide 3 6
+unfolding common_multiple
+all_divide_6 = common_multiple_divides 3
+
+multiple_of_64 : common_multiple 64 ≡ 1182266884102822267511361600
+unfolding common_multiple
+multiple_of_64 = refl
 
 -- ---- increments
 quarter : increment Geom4 3 2 ≡ 4
@@ -206,3 +246,16 @@ geom3_denominator = refl
 geom4_of_2 : increments Geom4 2 ≡ 4 ∷ 1 ∷ replicate 38 0
 unfolding increments
 geom4_of_2 = refl
+
+-- ---- the names of rules
+name_of_pav : thiele_name Pav ≡ codes "pav"
+name_of_pav = refl
+
+six_rules : length thiele_rules ≡ 6
+six_rules = refl
+
+rule_of_a_name : thiele_named (codes "geom3") ≡ Some Geom3
+rule_of_a_name = refl
+
+rule_of_another_text : thiele_named (codes "AV") ≡ None
+rule_of_another_text = refl

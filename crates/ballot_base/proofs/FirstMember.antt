@@ -12,9 +12,11 @@ use Rattle.std.proofs.Math.Nat.{mod-eq_of_lt}
 use Rattle.std.proofs.lemmas.Bool.{eq-eqb, eqb-true, ne_eqb, lt-ltb, le-ltb, cases_eq, cases_order, cases_lt}
 use Rattle.std.proofs.lemmas.Nat.{mod_below, mod-pow-add, shr-shr, shr_below, ones_cat, ones_le_self, pow_pos, xor_lt}
 use Rattle.std.proofs.lemmas.Nat.Bits.{bit_at-lt, bit_at-zero, bit_at_above, bit_at-trailing_zeros, bit_at_xor, shr_and_one, same_from_bits}
+use Rattle.ballot_base.specs.Limits.{most_candidates}
 use Rattle.ballot_base.specs.Lists.{IsIncreasing}
-use Rattle.ballot_base.specs.CandSet.{members_among, members, word_of, has_member, without_member}
-use Rattle.ballot_base.specs.Words.{word_of_members_among, word_of_members}
+use Rattle.ballot_base.specs.CandSet.{has_member, without_member}
+use Rattle.ballot_base.specs.Steps.Words.{members_among, members, word_of}
+use Rattle.ballot_base.specs.Steps.Words.{word_of_members_among, word_of_members}
 use Rattle.ballot_base.proofs.Increasing.{IsIncreasing-lower, has_member-below, has_member_head}
 use Rattle.ballot_base.proofs.Members.{members_among_yes, members_among_no, members_among_none, IsIncreasing-members_among, IsIncreasing-members, has_member-members, members_none}
 
@@ -44,12 +46,12 @@ length-members_among bits (suc count) a =
       | inr other ↦ ap length (members_among_no (a + 1) count bits other) ∙ omega (arith, rest, right, here, other, low)
     ]
 
-pub length-members : (bits : ℕ) → bits < 2 ^ 40 → count_ones bits ≡ length (members bits)
+pub length-members : (bits : ℕ) → bits < 2 ^ most_candidates → count_ones bits ≡ length (members bits)
 unfolding members
-length-members bits h = sym (length-members_among bits 40 0 ∙ ap count_ones (omega (arith, h)))
+length-members bits h = sym (length-members_among bits most_candidates 0 ∙ ap count_ones (omega (arith, h)))
 
 -- ---- none
-pub zero_from_none : (bits : ℕ) → bits < 2 ^ 40 → members bits ≡ [] → bits ≡ 0
+pub zero_from_none : (bits : ℕ) → bits < 2 ^ most_candidates → members bits ≡ [] → bits ≡ 0
 zero_from_none bits h e = sym (word_of_members bits h) ∙ ap word_of e
 
 pub none_from_zero : (bits : ℕ) → bits ≡ 0 → members bits ≡ []
@@ -65,33 +67,33 @@ pub without_member_head : (x last : ℕ) (xs : List ℕ) → IsIncreasing (x + 1
 without_member_head x last xs i = rw (eq-eqb x x refl) (without_member-below x last xs i)
 
 -- the place t of the lowest 1
-least_at : (bits t : ℕ) (set : List ℕ) → bits < 2 ^ 40 → t < 40 → members bits ≡ set → bit_at bits t ≡ 1 → ((i : ℕ) → i < t → bit_at bits i ≡ 0) → set ≡ (t + 1) ∷ without_member set (t + 1)
+least_at : (bits t : ℕ) (set : List ℕ) → bits < 2 ^ most_candidates → t < most_candidates → members bits ≡ set → bit_at bits t ≡ 1 → ((i : ℕ) → i < t → bit_at bits i ≡ 0) → set ≡ (t + 1) ∷ without_member set (t + 1)
 least_at bits t [] h u e one below =
     let z : bits ≡ 0 = zero_from_none bits h e in absurd (omega (arith, one, ap (λ b. bit_at b t) z, bit_at-zero t))
 least_at bits t (x ∷ xs) h u e one below =
-    let inc = subst (λ s. IsIncreasing 1 40 s) e (IsIncreasing-members bits) in
-    let has : (n : ℕ) → 1 ≤ n → n ≤ 40 → has_member (x ∷ xs) n ≡ (bit_at bits (n - 1) == 1) =
+    let inc = subst (λ s. IsIncreasing 1 most_candidates s) e (IsIncreasing-members bits) in
+    let has : (n : ℕ) → 1 ≤ n → n ≤ most_candidates → has_member (x ∷ xs) n ≡ (bit_at bits (n - 1) == 1) =
     λ n l k. subst (λ s. has_member s n ≡ (bit_at bits (n - 1) == 1)) e (has_member-members bits n l k) in
     let back : t + 1 - 1 ≡ t = omega arith in
     let x_bit : bit_at bits (x - 1) ≡ 1 = eqb-true (bit_at bits (x - 1)) 1 (sym (has x inc.0 inc.1) ∙ has_member_head x xs) in
     let t_has : has_member (x ∷ xs) (t + 1) ≡ true = has (t + 1) (omega arith) (omega arith) ∙ eq-eqb (bit_at bits (t + 1 - 1)) 1 (ap (bit_at bits) back ∙ one) in
     elim (cases_order x (t + 1)) [
-      | inl same ↦ subst (λ n. x ∷ xs ≡ n ∷ without_member (x ∷ xs) n) same (ap (λ s. x ∷ s) (sym (without_member_head x 40 xs inc.2)))
+      | inl same ↦ subst (λ n. x ∷ xs ≡ n ∷ without_member (x ∷ xs) n) same (ap (λ s. x ∷ s) (sym (without_member_head x most_candidates xs inc.2)))
       | inr d ↦ elim d [
         | inl less ↦ absurd (omega (arith, x_bit, below (x - 1) (omega (arith, less, inc.0))))
-        | inr more ↦ let f : has_member (x ∷ xs) (t + 1) ≡ false = has_member-below x 40 (x ∷ xs) (t + 1) (omega arith, inc.1, inc.2) more in cc
+        | inr more ↦ let f : has_member (x ∷ xs) (t + 1) ≡ false = has_member-below x most_candidates (x ∷ xs) (t + 1) (omega arith, inc.1, inc.2) more in cc
       ]
     ]
 
-pub lowest_below : (bits : ℕ) → bits < 2 ^ 40 → (bits ≡ 0 → ⊥) → trailing_zeros w64 bits < 40
+pub lowest_below : (bits : ℕ) → bits < 2 ^ most_candidates → (bits ≡ 0 → ⊥) → trailing_zeros w64 bits < most_candidates
 lowest_below bits h ne =
     let z = bit_at-trailing_zeros w64 bits (omega arith) (omega arith) in
-    elim (cases_lt (trailing_zeros w64 bits) 40) [
+    elim (cases_lt (trailing_zeros w64 bits) most_candidates) [
       | inl u ↦ u
-      | inr v ↦ absurd (omega (arith, z.1, bit_at_above bits 40 (trailing_zeros w64 bits) h v))
+      | inr v ↦ absurd (omega (arith, z.1, bit_at_above bits most_candidates (trailing_zeros w64 bits) h v))
     ]
 
-pub split_members : (bits : ℕ) → bits < 2 ^ 40 → (bits ≡ 0 → ⊥) → members bits ≡ (trailing_zeros w64 bits + 1) ∷ without_member (members bits) (trailing_zeros w64 bits + 1)
+pub split_members : (bits : ℕ) → bits < 2 ^ most_candidates → (bits ≡ 0 → ⊥) → members bits ≡ (trailing_zeros w64 bits + 1) ∷ without_member (members bits) (trailing_zeros w64 bits + 1)
 split_members bits h ne =
     let z = bit_at-trailing_zeros w64 bits (omega arith) (omega arith) in
     least_at bits (trailing_zeros w64 bits) (members bits) h (lowest_below bits h ne) refl z.1 z.2
@@ -146,13 +148,13 @@ zero_from_product zero p h e = refl
 zero_from_product (suc m) p h e = absurd (omega arith)
 
 -- a word in which bit t is 0 has a member above t where it is not 0 from there on
-order_above_is : (b t : ℕ) (set : List ℕ) → b < 2 ^ 40 → t < 40 → (bit_at b t ≡ 1 → ⊥) → word_of set ≡ (b / 2 ^ (t + 1) % 2 ^ (39 - t)) * 2 ^ (t + 1) → order_above set ≡ cond (b / 2 ^ t == 0) Greater Less
+order_above_is : (b t : ℕ) (set : List ℕ) → b < 2 ^ most_candidates → t < most_candidates → (bit_at b t ≡ 1 → ⊥) → word_of set ≡ (b / 2 ^ (t + 1) % 2 ^ (most_candidates - 1 - t)) * 2 ^ (t + 1) → order_above set ≡ cond (b / 2 ^ t == 0) Greater Less
 unfolding order_above
 order_above_is b t [] h u other w =
     let half : b / 2 ^ t / 2 ≡ b / 2 ^ (t + 1) = shr-shr b t 1 in
-    let small : b / 2 ^ (t + 1) < 2 ^ (39 - t) =
-    shr_below b (39 - t) (t + 1) (let e : 39 - t + (t + 1) ≡ 40 = omega arith in subst (λ n. b < 2 ^ n) (sym e) h) in
-    let low : b / 2 ^ (t + 1) % 2 ^ (39 - t) ≡ 0 = zero_from_product (b / 2 ^ (t + 1) % 2 ^ (39 - t)) (2 ^ (t + 1)) (pow_pos (t + 1)) (sym w) in
+    let small : b / 2 ^ (t + 1) < 2 ^ (most_candidates - 1 - t) =
+    shr_below b (most_candidates - 1 - t) (t + 1) (let e : most_candidates - 1 - t + (t + 1) ≡ most_candidates = omega arith in subst (λ n. b < 2 ^ n) (sym e) h) in
+    let low : b / 2 ^ (t + 1) % 2 ^ (most_candidates - 1 - t) ≡ 0 = zero_from_product (b / 2 ^ (t + 1) % 2 ^ (most_candidates - 1 - t)) (2 ^ (t + 1)) (pow_pos (t + 1)) (sym w) in
     let none : b / 2 ^ (t + 1) ≡ 0 = sym (mod-eq_of_lt small) ∙ low in
     let bit : b / 2 ^ t % 2 < 2 = bit_at-lt b t in
     let z : b / 2 ^ t ≡ 0 = omega arith in
@@ -161,37 +163,37 @@ order_above_is b t (x ∷ xs) h u other w =
     let half : b / 2 ^ t / 2 ≡ b / 2 ^ (t + 1) = shr-shr b t 1 in
     let some : b / 2 ^ t ≡ 0 → ⊥ = λ z.
     let none : b / 2 ^ (t + 1) ≡ 0 = omega arith in
-    let low : b / 2 ^ (t + 1) % 2 ^ (39 - t) ≡ 0 = ap (λ n. n % 2 ^ (39 - t)) none ∙ mod-eq_of_lt (pow_pos (39 - t)) in
+    let low : b / 2 ^ (t + 1) % 2 ^ (most_candidates - 1 - t) ≡ 0 = ap (λ n. n % 2 ^ (most_candidates - 1 - t)) none ∙ mod-eq_of_lt (pow_pos (most_candidates - 1 - t)) in
     let left : word_of (x ∷ xs) ≡ 0 = w ∙ (ap (λ n. n * 2 ^ (t + 1)) low ∙ omega arith) in
     omega (arith, left, sum_by-cons (λ m. 2 ^ (m - 1)) x xs, pow_pos (x - 1)) in
     rw (ne_eqb (b / 2 ^ t) 0 some)
 
 -- the words agree below t, and the first alone has the member t + 1
-cmp_members : (a b t : ℕ) → b < 2 ^ 40 → t < 40 → ((i : ℕ) → i < t → bit_at a i ≡ bit_at b i) → bit_at a t ≡ 1 → (bit_at b t ≡ 1 → ⊥) → slice_cmp nat_cmp (members a) (members b) ≡ cond (b / 2 ^ t == 0) Greater Less
+cmp_members : (a b t : ℕ) → b < 2 ^ most_candidates → t < most_candidates → ((i : ℕ) → i < t → bit_at a i ≡ bit_at b i) → bit_at a t ≡ 1 → (bit_at b t ≡ 1 → ⊥) → slice_cmp nat_cmp (members a) (members b) ≡ cond (b / 2 ^ t == 0) Greater Less
 unfolding members
 cmp_members a b t h u same one other =
     let back : t + 1 - 1 ≡ t = omega arith in
-    cmp_among a b 40 1 (t + 1) (39 - t) (omega arith) (omega arith) (λ k l m. same (k - 1) (omega arith)) (ap (bit_at a) back ∙ one) (λ e. other (sym (ap (bit_at b) back) ∙ e))
-    ∙ order_above_is b t (members_among (t + 1 + 1) (39 - t) b) h u other (word_of_members_among b (39 - t) (t + 1))
+    cmp_among a b most_candidates 1 (t + 1) (most_candidates - 1 - t) (omega arith) (omega arith) (λ k l m. same (k - 1) (omega arith)) (ap (bit_at a) back ∙ one) (λ e. other (sym (ap (bit_at b) back) ∙ e))
+    ∙ order_above_is b t (members_among (t + 1 + 1) (most_candidates - 1 - t) b) h u other (word_of_members_among b (most_candidates - 1 - t) (t + 1))
 
 -- the least place where the words differ
-pub lowest_difference : (a b : ℕ) → a < 2 ^ 40 → b < 2 ^ 40 → (bit_xor a b ≡ 0 → ⊥) → (trailing_zeros w64 (bit_xor a b) < 40) × ((bit_at a (trailing_zeros w64 (bit_xor a b)) + bit_at b (trailing_zeros w64 (bit_xor a b))) % 2 ≡ 1) × ((i : ℕ) → i < trailing_zeros w64 (bit_xor a b) → bit_at a i ≡ bit_at b i)
+pub lowest_difference : (a b : ℕ) → a < 2 ^ most_candidates → b < 2 ^ most_candidates → (bit_xor a b ≡ 0 → ⊥) → (trailing_zeros w64 (bit_xor a b) < most_candidates) × ((bit_at a (trailing_zeros w64 (bit_xor a b)) + bit_at b (trailing_zeros w64 (bit_xor a b))) % 2 ≡ 1) × ((i : ℕ) → i < trailing_zeros w64 (bit_xor a b) → bit_at a i ≡ bit_at b i)
 lowest_difference a b h k ne =
-    let x = xor_lt 40 a b h k in
+    let x = xor_lt most_candidates a b h k in
     let z = bit_at-trailing_zeros w64 (bit_xor a b) (omega arith) (omega arith) in (
       lowest_below (bit_xor a b) x ne,
       sym (bit_at_xor a b (trailing_zeros w64 (bit_xor a b))) ∙ z.1,
       λ i l. same_bits (bit_at a i) (bit_at b i) (bit_at-lt a i) (bit_at-lt b i) (sym (bit_at_xor a b i) ∙ z.2 i l),
     )
 
-pub cmp_self_first : (a b : ℕ) → a < 2 ^ 40 → b < 2 ^ 40 → (bit_xor a b ≡ 0 → ⊥) → bit_and (a / 2 ^ (trailing_zeros w64 (bit_xor a b))) 1 ≡ 1 → slice_cmp nat_cmp (members a) (members b) ≡ cond (b / 2 ^ (trailing_zeros w64 (bit_xor a b)) == 0) Greater Less
+pub cmp_self_first : (a b : ℕ) → a < 2 ^ most_candidates → b < 2 ^ most_candidates → (bit_xor a b ≡ 0 → ⊥) → bit_and (a / 2 ^ (trailing_zeros w64 (bit_xor a b))) 1 ≡ 1 → slice_cmp nat_cmp (members a) (members b) ≡ cond (b / 2 ^ (trailing_zeros w64 (bit_xor a b)) == 0) Greater Less
 cmp_self_first a b h k ne one =
     let t : ℕ = trailing_zeros w64 (bit_xor a b) in
     let d = lowest_difference a b h k ne in
     let mine : bit_at a t ≡ 1 = sym (shr_and_one a t) ∙ one in
     cmp_members a b t k d.0 d.2 mine (λ e. omega (arith, d.1, mine, e))
 
-pub cmp_other_first : (a b : ℕ) → a < 2 ^ 40 → b < 2 ^ 40 → (bit_xor a b ≡ 0 → ⊥) → (bit_and (a / 2 ^ (trailing_zeros w64 (bit_xor a b))) 1 ≡ 1 → ⊥) → slice_cmp nat_cmp (members a) (members b) ≡ cond (a / 2 ^ (trailing_zeros w64 (bit_xor a b)) == 0) Less Greater
+pub cmp_other_first : (a b : ℕ) → a < 2 ^ most_candidates → b < 2 ^ most_candidates → (bit_xor a b ≡ 0 → ⊥) → (bit_and (a / 2 ^ (trailing_zeros w64 (bit_xor a b))) 1 ≡ 1 → ⊥) → slice_cmp nat_cmp (members a) (members b) ≡ cond (a / 2 ^ (trailing_zeros w64 (bit_xor a b)) == 0) Less Greater
 cmp_other_first a b h k ne other =
     let t : ℕ = trailing_zeros w64 (bit_xor a b) in
     let d = lowest_difference a b h k ne in

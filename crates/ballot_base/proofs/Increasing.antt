@@ -119,7 +119,7 @@ pub IsIncreasing-push : (first last : ℕ) (set : List ℕ) (n : ℕ) → IsIncr
 IsIncreasing-push first last [] n i l h = (l, omega arith, tt)
 IsIncreasing-push first last (x ∷ xs) n i l h = (i.0, omega (arith, i.1), IsIncreasing-push (x + 1) last xs n i.2 (omega (arith, i.1)) h)
 
--- the next number of a list and those behind it
+-- the next number of a list and those after it
 pub next_increasing : (first last : ℕ) (xs : List ℕ) (i : ℕ) → i < length xs → IsIncreasing first last (drop i xs) → (first ≤ get_or xs i 0) × (get_or xs i 0 ≤ last) × IsIncreasing (get_or xs i 0 + 1) last (drop (i + 1) xs)
 next_increasing first last xs i h inc = subst (λ s. IsIncreasing first last s) (drop_more xs i 0 h) inc
 

@@ -1,10 +1,11 @@
 -- Least common multiples: what the definition gives, and that Euclid's steps give it.
-use Rattle.std.proofs.Common.{◌≡◌, ℕ, zero, suc, ◌+◌, ◌-◌, ◌*◌, ◌/◌, ◌%◌, ◌<◌, ◌≤◌, ◌==◌, Bool, true, false, cond, Some, None, refl, sym, ap, ◌∙◌, subst, arith, find, unwrap_or, inl, inr}
+use Rattle.std.proofs.Common.{◌≡◌, ℕ, zero, suc, ◌+◌, ◌-◌, ◌*◌, ◌/◌, ◌%◌, ◌^◌, ◌<◌, ◌≤◌, ◌==◌, Bool, true, false, cond, Some, None, refl, sym, ap, ◌∙◌, subst, arith, find, unwrap_or, inl, inr, lit<, lit≤}
 use Rattle.std.proofs.Math.Nat.{dvd-mul_left, dvd-mul_right, dvd_of_mul-dvd-mul_left, dvd_of_mul-dvd-mul_right, dvd-add_iff_right, mul-dvd-mul_left, mul-dvd-mul_right, mul-div_cancel', pos_of_dvd_of_pos, dvd-mul_right_of_dvd, mul-le-mul, one-dvd}
-use Rattle.std.proofs.lemmas.Nat.Gcd.{dvd_trans, dvd_antisymm, le_of_dvd, dvd_of_mod-eq-zero, mod-eq-zero_of_dvd}
+use Rattle.std.proofs.lemmas.Nat.Gcd.{dvd_trans, dvd_antisymm, le_of_dvd, dvd_of_mod-eq-zero, mod-eq-zero_of_dvd, IsGcd-from_mod}
 use Rattle.std.proofs.lemmas.Bool.{eq-eqb, eqb-true, cases_order}
 use Rattle.std.specs.Int.{IsGcd, ◌∣◌}
 use Rattle.std.specs.List.{range_with_len}
+use Rattle.ballot_base.specs.Limits.{most_candidates, most_members}
 use Rattle.ballot_base.specs.CommonMultiple.{least_multiple, common_multiple}
 
 -- `found` is the first number from `first` on that passes
@@ -73,7 +74,7 @@ least_multiple_is a n some =
     }
 
 -- the product over the greatest common divisor is the least common multiple
-pub least_by_divisor : (a b g l : ℕ) → 0 < a → 0 < b → IsGcd a b g → IsLeast a b l → a / g * b ≡ l
+pub least_by_divisor : (a b g l : ℕ) → 0 < a → 0 < b → IsGcd a b g → IsLeast a b l → a * (b / g) ≡ l
 least_by_divisor a b g l some_a some_b gcd is =
     let a_is : g * (a / g) ≡ a = mul-div_cancel' g gcd.0 in
     let b_is : g * (b / g) ≡ b = mul-div_cancel' g gcd.1 in
@@ -86,7 +87,7 @@ least_by_divisor a b g l some_a some_b gcd is =
     let d_b : d ∣ b = dvd_of_mul-dvd-mul_left d some_a (subst (λ n. a * d ∣ n) d_is (mul-dvd-mul_right a is.left d)) in
     let product : l * d ≡ a / g * b * g = d_is ∙ omega (arith, ap (λ n. n * b) a_is) in
     let l_above : a / g * b ∣ l = dvd_of_mul-dvd-mul_right (a / g * b) some_g (subst (λ n. n ∣ l * g) product (mul-dvd-mul_left d l (gcd.2 d d_a d_b))) in
-    dvd_antisymm l_above l_below
+    sym of_a ∙ dvd_antisymm l_above l_below
 
 -- ---- the numbers 1 to n
 
@@ -117,18 +118,30 @@ common_multiple_least zero c each = one-dvd c
 common_multiple_least (suc n) c each =
     (common_multiple_step n).least c (common_multiple_least n c (λ d low high. each d low (omega arith))) (each (suc n) (omega arith) (omega arith))
 
-common_multiple_of_40 : common_multiple 40 ≡ 5342931457063200
-unfolding common_multiple
-common_multiple_of_40 = refl
+-- more numbers have no lesser multiple
+pub common_multiple_most : (n most : ℕ) → n ≤ most → common_multiple n ≤ common_multiple most
+common_multiple_most n most within =
+    le_of_dvd (common_multiple_some most) (common_multiple_least n (common_multiple most) (λ d low high. common_multiple_divides most d low (omega arith)))
 
-pub common_multiple_most : (n : ℕ) → n ≤ 40 → common_multiple n ≤ 5342931457063200
-common_multiple_most n most =
-    subst (λ k. common_multiple n ≤ k) common_multiple_of_40
-    (le_of_dvd (common_multiple_some 40) (common_multiple_least n (common_multiple 40) (λ d low high. common_multiple_divides 40 d low (omega arith))))
+common_multiple_of_candidates : common_multiple most_candidates < 2 ^ 90
+unfolding common_multiple
+common_multiple_of_candidates = lit< tt
+
+pub common_multiple_of_members : common_multiple most_members ≤ 4 ^ (most_members - 1)
+unfolding common_multiple
+common_multiple_of_members = lit≤ tt
 
 -- a step of the code
-pub common_multiple_next : (m i g : ℕ) → 1 ≤ i → m ≡ common_multiple (i - 1) → IsGcd m i g → m / g * i ≡ common_multiple i
-common_multiple_next m zero g low is gcd = absurd (omega arith)
-common_multiple_next m (suc n) g low is gcd =
+pub common_multiple_next : (m i rest g : ℕ) → 1 ≤ i → m ≡ common_multiple (i - 1) → rest ≡ m % i → IsGcd i rest g → m * (i / g) ≡ common_multiple i
+common_multiple_next m zero rest g low is left gcd = absurd (omega arith)
+common_multiple_next m (suc n) rest g low is left gcd =
     let before : m ≡ common_multiple n = is ∙ ap common_multiple (omega arith) in
-    least_by_divisor m (suc n) g (common_multiple (suc n)) (rw before (common_multiple_some n)) (omega arith) gcd (rw before (common_multiple_step n))
+    let both : IsGcd m (suc n) g = IsGcd-from_mod m (suc n) g (subst (λ k. IsGcd (suc n) k g) left gcd) in
+    least_by_divisor m (suc n) g (common_multiple (suc n)) (rw before (common_multiple_some n)) (omega arith) both (rw before (common_multiple_step n))
+
+-- a divisor of a positive number is positive
+pub divisor_some : (i rest g : ℕ) → 1 ≤ i → IsGcd i rest g → 0 < g
+divisor_some i rest g low gcd = pos_of_dvd_of_pos gcd.0 low
+
+pub common_multiple_small : (n : ℕ) → n ≤ most_candidates → common_multiple n < 2 ^ 90
+common_multiple_small n within = omega (arith, common_multiple_most n most_candidates within, common_multiple_of_candidates)

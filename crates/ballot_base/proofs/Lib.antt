@@ -2,6 +2,7 @@ pub mod Committees
 pub mod Examples
 pub mod FirstMember
 pub mod Increasing
+pub mod Later
 pub mod LeastMultiples
 pub mod Members
 pub mod Names

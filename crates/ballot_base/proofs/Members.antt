@@ -1,16 +1,16 @@
 -- The members of a word: an increasing list, in which a number stands where its bit is 1.
 use Rattle.std.proofs.Common.{◌≡◌, ℕ, zero, suc, ◌+◌, ◌-◌, ◌*◌, ◌/◌, ◌%◌, ◌^◌, ◌<◌, ◌≤◌, ◌==◌, ◌&&◌, ◌⊎◌, not, min, bit_and, bit_or, w64, false, List, [], ◌∷◌, refl, sym, ap, ◌∙◌, subst, arith, inl, inr}
 use Rattle.std.specs.Int.{bit_at}
-use Rattle.std.proofs.lemmas.Bool.{eq-eqb, eqb-true, ne_eqb, cases_eq, cases_order, cases_lt, or_left, and_left, and_right, not_from_true}
+use Rattle.std.proofs.lemmas.Bool.{eq-eqb, eqb-true, ne_eqb, cases_eq, cases_lt, or_left, and_left, and_right, not_from_true}
 use Rattle.std.proofs.lemmas.Bool.Decides.{same_from_decides}
-use Rattle.std.specs.Bool.{Decides}
 use Rattle.std.specs.Str.{bytes_eq}
 use Rattle.std.specs.Cmp.Lexicographic.{bytes_decides}
-use Rattle.std.proofs.lemmas.List.Sums.{sum_by-cons}
-use Rattle.std.proofs.lemmas.Nat.{pow_pos, pow_below, pow-add, one_shl, or_lt, and_le_l}
-use Rattle.std.proofs.lemmas.Nat.Bits.{bit_at-zero, bit_at-pow_same, bit_at-pow_other, bit_at_cat_low, bit_at_cat_high, bit_at-lt, bit_at_and, bit_at_set_same, bit_at_set_other, bit_at_clear_same, bit_at_clear_other, shr_and_one}
+use Rattle.std.proofs.lemmas.Nat.{pow_below, one_shl, or_lt, and_le_l}
+use Rattle.std.proofs.lemmas.Nat.Bits.{bit_at-lt, bit_at_and, bit_at_set_same, bit_at_set_other, bit_at_clear_same, bit_at_clear_other, shr_and_one}
+use Rattle.ballot_base.specs.Limits.{most_candidates}
 use Rattle.ballot_base.specs.Lists.{IsIncreasing}
-use Rattle.ballot_base.specs.CandSet.{members_among, members, word_of, has_member, with_member, without_member, common_members}
+use Rattle.ballot_base.specs.CandSet.{has_member, with_member, without_member, common_members}
+use Rattle.ballot_base.specs.Steps.Words.{members_among, members, word_of, word_of_members}
 use Rattle.ballot_base.proofs.Increasing.{IsIncreasing-lower, has_member-below, has_member-above, has_member_head, has_member_tail, same_increasing, has_member-filter, IsIncreasing-filter, has_member-with_member, IsIncreasing-with_member}
 
 -- the members from a number on, by its bit
@@ -53,85 +53,37 @@ has_member-members_among first (suc count) bits n low high =
           ]
     ]
 
-pub IsIncreasing-members : (bits : ℕ) → IsIncreasing 1 40 (members bits)
+pub IsIncreasing-members : (bits : ℕ) → IsIncreasing 1 most_candidates (members bits)
 unfolding members
-IsIncreasing-members bits = IsIncreasing-members_among 1 40 40 bits (omega arith)
+IsIncreasing-members bits = IsIncreasing-members_among 1 most_candidates most_candidates bits (omega arith)
 
-pub has_member-members : (bits n : ℕ) → 1 ≤ n → n ≤ 40 → has_member (members bits) n ≡ (bit_at bits (n - 1) == 1)
+pub has_member-members : (bits n : ℕ) → 1 ≤ n → n ≤ most_candidates → has_member (members bits) n ≡ (bit_at bits (n - 1) == 1)
 unfolding members
-has_member-members bits n low high = has_member-members_among 1 40 bits n low (omega arith)
+has_member-members bits n low high = has_member-members_among 1 most_candidates bits n low (omega arith)
 
 pub members_none : members 0 ≡ []
 unfolding members members_among
 members_none = refl
 
--- the members are the increasing list with just the numbers whose bit is 1
-pub same_members : (bits : ℕ) (set : List ℕ) → IsIncreasing 1 40 set → ((n : ℕ) → 1 ≤ n → n ≤ 40 → (bit_at bits (n - 1) == 1) ≡ has_member set n) → members bits ≡ set
+-- the members are the increasing list with exactly the numbers whose bit is 1
+pub same_members : (bits : ℕ) (set : List ℕ) → IsIncreasing 1 most_candidates set → ((n : ℕ) → 1 ≤ n → n ≤ most_candidates → (bit_at bits (n - 1) == 1) ≡ has_member set n) → members bits ≡ set
 same_members bits set i same =
     let inc = IsIncreasing-members bits in
-    same_increasing 1 40 (members bits) set inc i (λ n.
+    same_increasing 1 most_candidates (members bits) set inc i (λ n.
     elim (cases_lt n 1) [
-      | inl low ↦ has_member-below 1 40 (members bits) n inc low ∙ sym (has_member-below 1 40 set n i low)
-      | inr from ↦ elim (cases_lt 40 n) [
-        | inl high ↦ has_member-above 1 40 (members bits) n inc high ∙ sym (has_member-above 1 40 set n i high)
+      | inl low ↦ has_member-below 1 most_candidates (members bits) n inc low ∙ sym (has_member-below 1 most_candidates set n i low)
+      | inr from ↦ elim (cases_lt most_candidates n) [
+        | inl high ↦ has_member-above 1 most_candidates (members bits) n inc high ∙ sym (has_member-above 1 most_candidates set n i high)
         | inr to ↦ has_member-members bits n from to ∙ same n from to
       ]
     ])
 
--- numbers above first make a multiple of 2 ^ first
-word_above : (first last : ℕ) (set : List ℕ) → IsIncreasing (first + 1) last set → (k : ℕ) × (word_of set ≡ k * 2 ^ first)
-word_above first last [] i = (0, omega arith)
-word_above first last (n ∷ rest) i =
-    let above = word_above n last rest i.2 in
-    let low : 2 ^ (n - 1) ≡ 2 ^ (n - 1 - first) * 2 ^ first = let e : n - 1 - first + first ≡ n - 1 = omega (arith, i.0) in subst (λ m. 2 ^ m ≡ 2 ^ (n - 1 - first) * 2 ^ first) e (pow-add 2 (n - 1 - first) first) in
-    let high : 2 ^ n ≡ 2 ^ (n - first) * 2 ^ first = let e : n - first + first ≡ n = omega (arith, i.0) in subst (λ m. 2 ^ m ≡ 2 ^ (n - first) * 2 ^ first) e (pow-add 2 (n - first) first) in (
-      2 ^ (n - 1 - first) + above.0 * 2 ^ (n - first),
-      sum_by-cons (λ m. 2 ^ (m - 1)) n rest ∙ (rw (above.1, low, high) (omega arith)),
-    )
-
-word_of-cons : (last n : ℕ) (rest : List ℕ) → IsIncreasing (n + 1) last rest → (k : ℕ) × (word_of (n ∷ rest) ≡ k * 2 ^ n + 2 ^ (n - 1)) × (word_of rest ≡ k * 2 ^ n)
-word_of-cons last n rest i =
-    let above = word_above n last rest i in
-    (above.0, sum_by-cons (λ m. 2 ^ (m - 1)) n rest ∙ omega (arith, above.1), above.1)
-
-pub bit_at-word_of : (first last : ℕ) (set : List ℕ) (n : ℕ) → 1 ≤ first → 1 ≤ n → IsIncreasing first last set → (bit_at (word_of set) (n - 1) == 1) ≡ has_member set n
-bit_at-word_of first last [] n f l i = rw bit_at-zero
-bit_at-word_of first last (x ∷ rest) n f l i =
-    let w = word_of-cons last x rest i.2 in
-    let below : 2 ^ (x - 1) < 2 ^ x = pow_below (x - 1) x (omega (arith, i.0)) in
-    elim (cases_order n x) [
-      | inl e ↦
-          let one : bit_at (word_of (x ∷ rest)) (n - 1) ≡ 1 =
-          ap (λ m. bit_at m (n - 1)) w.1 ∙ (bit_at_cat_low w.0 x (2 ^ (x - 1)) (n - 1) (omega (arith, e, i.0)) ∙ (ap (λ m. bit_at (2 ^ (x - 1)) (m - 1)) e ∙ bit_at-pow_same (x - 1))) in
-          eq-eqb (bit_at (word_of (x ∷ rest)) (n - 1)) 1 one ∙ sym (or_left (x == n) (has_member rest n) (eq-eqb x n (sym e)))
-      | inr d ↦ elim d [
-        | inl less ↦
-            let none : bit_at (word_of (x ∷ rest)) (n - 1) ≡ 0 =
-            ap (λ m. bit_at m (n - 1)) w.1 ∙ (bit_at_cat_low w.0 x (2 ^ (x - 1)) (n - 1) (omega arith) ∙ bit_at-pow_other (x - 1) (n - 1) (λ e. omega (arith, e, less, l))) in
-            ne_eqb (bit_at (word_of (x ∷ rest)) (n - 1)) 1 (λ e. omega (arith, none, e)) ∙ sym (has_member-below x last (x ∷ rest) n (omega arith, i.1, i.2) less)
-        | inr more ↦
-            let same : bit_at (word_of (x ∷ rest)) (n - 1) ≡ bit_at (word_of rest) (n - 1) =
-            ap (λ m. bit_at m (n - 1)) w.1 ∙ (bit_at_cat_high w.0 x (2 ^ (x - 1)) (n - 1) below (omega arith)
-            ∙ sym (ap (λ m. bit_at m (n - 1)) (w.2 ∙ omega arith) ∙ bit_at_cat_high w.0 x 0 (n - 1) (pow_pos x) (omega arith))) in
-            ap (λ b. b == 1) same ∙ (bit_at-word_of (x + 1) last rest n (omega arith) l i.2 ∙ sym (has_member_tail x n rest (λ e. omega (arith, e, more))))
-      ]
-    ]
-
--- an increasing list of numbers from 1 to 40 is found back from its word
-pub members-word_of : (set : List ℕ) → IsIncreasing 1 40 set → members (word_of set) ≡ set
-members-word_of set i = same_members (word_of set) set i (λ n l h. bit_at-word_of 1 40 set n (omega arith) l i)
-
 -- equality of the words is equality of the sets
-pub same_from_word_of : (set other : List ℕ) → IsIncreasing 1 40 set → IsIncreasing 1 40 other → word_of set ≡ word_of other → set ≡ other
-same_from_word_of set other i j e = sym (members-word_of set i) ∙ (ap members e ∙ members-word_of other j)
-
-pub Decides-word_of : (set other : List ℕ) → IsIncreasing 1 40 set → IsIncreasing 1 40 other → Decides (word_of set == word_of other) (set ≡ other)
-Decides-word_of set other i j =
-    (λ e. same_from_word_of set other i j (eqb-true (word_of set) (word_of other) e), λ e. eq-eqb (word_of set) (word_of other) (ap word_of e))
-
-pub eqb-word_of : (set other : List ℕ) → IsIncreasing 1 40 set → IsIncreasing 1 40 other → (word_of set == word_of other) ≡ bytes_eq set other
-eqb-word_of set other i j =
-    same_from_decides (word_of set == word_of other) (bytes_eq set other) (Decides-word_of set other i j) (bytes_decides set other)
+pub eqb-members : (bits other : ℕ) → bits < 2 ^ most_candidates → other < 2 ^ most_candidates → (bits == other) ≡ bytes_eq (members bits) (members other)
+eqb-members bits other fits others =
+    same_from_decides {P = members bits ≡ members other} (bits == other) (bytes_eq (members bits) (members other))
+    (λ same. ap members (eqb-true bits other same), λ same. eq-eqb bits other (sym (word_of_members bits fits) ∙ (ap word_of same ∙ word_of_members other others)))
+    (bytes_decides (members bits) (members other))
 
 both_set : (a b : ℕ) → a < 2 → b < 2 → (min a b == 1) ≡ ((b == 1) && (a == 1))
 both_set zero zero h k = refl
@@ -142,20 +94,20 @@ both_set (suc (suc a)) b h k = absurd (omega arith)
 both_set a (suc (suc b)) h k = absurd (omega arith)
 
 -- what the operations on words do to the sets
-pub has_member_by_shift : (bits n : ℕ) → 1 ≤ n → n ≤ 40 → (bit_and (bits / 2 ^ (n - 1)) 1 == 1) ≡ has_member (members bits) n
+pub has_member_by_shift : (bits n : ℕ) → 1 ≤ n → n ≤ most_candidates → (bit_and (bits / 2 ^ (n - 1)) 1 == 1) ≡ has_member (members bits) n
 has_member_by_shift bits n l h = ap (λ b. b == 1) (shr_and_one bits (n - 1)) ∙ sym (has_member-members bits n l h)
 
-pub has_member_outside : (bits n : ℕ) → (n ≡ 0) ⊎ (40 < n) → has_member (members bits) n ≡ false
-has_member_outside bits n (inl e) = has_member-below 1 40 (members bits) n (IsIncreasing-members bits) (omega (arith, e))
-has_member_outside bits n (inr h) = has_member-above 1 40 (members bits) n (IsIncreasing-members bits) h
+pub has_member_outside : (bits n : ℕ) → (n ≡ 0) ⊎ (most_candidates < n) → has_member (members bits) n ≡ false
+has_member_outside bits n (inl e) = has_member-below 1 most_candidates (members bits) n (IsIncreasing-members bits) (omega (arith, e))
+has_member_outside bits n (inr h) = has_member-above 1 most_candidates (members bits) n (IsIncreasing-members bits) h
 
-pub bound_of_with : (bits n : ℕ) → bits < 2 ^ 40 → 1 ≤ n → n ≤ 40 → bit_or bits (1 * 2 ^ (n - 1) % 2 ^ 64) < 2 ^ 40
-bound_of_with bits n b l h = rw (one_shl (n - 1) 64 (omega arith)) (or_lt 40 bits (2 ^ (n - 1)) b (pow_below (n - 1) 40 (omega arith)))
+pub bound_of_with : (bits n : ℕ) → bits < 2 ^ most_candidates → 1 ≤ n → n ≤ most_candidates → bit_or bits (1 * 2 ^ (n - 1) % 2 ^ 64) < 2 ^ most_candidates
+bound_of_with bits n b l h = rw (one_shl (n - 1) 64 (omega arith)) (or_lt most_candidates bits (2 ^ (n - 1)) b (pow_below (n - 1) most_candidates (omega arith)))
 
-pub members_with : (bits n : ℕ) → 1 ≤ n → n ≤ 40 → members (bit_or bits (1 * 2 ^ (n - 1) % 2 ^ 64)) ≡ with_member (members bits) n
+pub members_with : (bits n : ℕ) → 1 ≤ n → n ≤ most_candidates → members (bit_or bits (1 * 2 ^ (n - 1) % 2 ^ 64)) ≡ with_member (members bits) n
 members_with bits n l h =
     same_members (bit_or bits (1 * 2 ^ (n - 1) % 2 ^ 64)) (with_member (members bits) n)
-    (IsIncreasing-with_member 1 40 (members bits) n l h (IsIncreasing-members bits))
+    (IsIncreasing-with_member 1 most_candidates (members bits) n l h (IsIncreasing-members bits))
     (λ k kl kh. rw (has_member-with_member (members bits) n k)
     (elim (cases_eq n k) [
       | inl e ↦ eq-eqb (bit_at (bit_or bits (1 * 2 ^ (n - 1) % 2 ^ 64)) (k - 1)) 1 (rw (← e) (bit_at_set_same w64 bits (n - 1) (omega arith)))
@@ -163,14 +115,14 @@ members_with bits n l h =
       | inr d ↦ rw (ne_eqb n k d) (ap (λ b. b == 1) (bit_at_set_other w64 bits (n - 1) (omega arith) (k - 1) (λ e. d (omega (arith, e)))) ∙ sym (has_member-members bits k kl kh))
     ]))
 
-pub bound_of_and : (bits other : ℕ) → bits < 2 ^ 40 → bit_and bits other < 2 ^ 40
+pub bound_of_and : (bits other : ℕ) → bits < 2 ^ most_candidates → bit_and bits other < 2 ^ most_candidates
 bound_of_and bits other b = omega (arith, and_le_l bits other)
 
-pub members_without : (bits n : ℕ) → 1 ≤ n → n ≤ 40 → members (bit_and bits (2 ^ 64 - 1 - 1 * 2 ^ (n - 1) % 2 ^ 64)) ≡ without_member (members bits) n
+pub members_without : (bits n : ℕ) → 1 ≤ n → n ≤ most_candidates → members (bit_and bits (2 ^ 64 - 1 - 1 * 2 ^ (n - 1) % 2 ^ 64)) ≡ without_member (members bits) n
 members_without bits n l h =
     let word : ℕ = bit_and bits (2 ^ 64 - 1 - 1 * 2 ^ (n - 1) % 2 ^ 64) in
     same_members word (without_member (members bits) n)
-    (IsIncreasing-filter (λ x. not (x == n)) 1 40 (members bits) (IsIncreasing-members bits))
+    (IsIncreasing-filter (λ x. not (x == n)) 1 most_candidates (members bits) (IsIncreasing-members bits))
     (λ k kl kh. rw (has_member-filter (λ x. not (x == n)) (members bits) k)
     (elim (cases_eq k n) [
       | inl e ↦ ne_eqb (bit_at word (k - 1)) 1 (λ one.
@@ -179,11 +131,11 @@ members_without bits n l h =
       | inr d ↦ rw (ne_eqb k n d) (ap (λ b. b == 1) (bit_at_clear_other w64 bits (n - 1) (omega arith) (k - 1) (omega arith) (λ e. d (omega (arith, e)))) ∙ sym (has_member-members bits k kl kh))
     ]))
 
-pub members_without_outside : (bits n : ℕ) → (n ≡ 0) ⊎ (40 < n) → members bits ≡ without_member (members bits) n
+pub members_without_outside : (bits n : ℕ) → (n ≡ 0) ⊎ (most_candidates < n) → members bits ≡ without_member (members bits) n
 members_without_outside bits n out =
     let inc = IsIncreasing-members bits in
-    same_increasing 1 40 (members bits) (without_member (members bits) n) inc
-    (IsIncreasing-filter (λ x. not (x == n)) 1 40 (members bits) inc)
+    same_increasing 1 most_candidates (members bits) (without_member (members bits) n) inc
+    (IsIncreasing-filter (λ x. not (x == n)) 1 most_candidates (members bits) inc)
     (λ k. rw (has_member-filter (λ x. not (x == n)) (members bits) k)
     (elim (cases_eq k n) [
       | inl e ↦ rw e (has_member_outside bits n out ∙ sym (and_right (not (n == n)) (has_member (members bits) n) (has_member_outside bits n out)))
@@ -193,6 +145,6 @@ members_without_outside bits n out =
 pub members_common : (bits other : ℕ) → members (bit_and bits other) ≡ common_members (members bits) (members other)
 members_common bits other =
     same_members (bit_and bits other) (common_members (members bits) (members other))
-    (IsIncreasing-filter (has_member (members other)) 1 40 (members bits) (IsIncreasing-members bits))
+    (IsIncreasing-filter (has_member (members other)) 1 most_candidates (members bits) (IsIncreasing-members bits))
     (λ k kl kh. rw (has_member-filter (has_member (members other)) (members bits) k, has_member-members other k kl kh, has_member-members bits k kl kh, bit_at_and bits other (k - 1))
     (both_set (bit_at bits (k - 1)) (bit_at other (k - 1)) (bit_at-lt bits (k - 1)) (bit_at-lt other (k - 1))))

@@ -1,16 +1,11 @@
 -- Names of candidates: what a write of one name, and fewer candidates, make of an election.
-use Rattle.std.proofs.Common.{◌≡◌, ℕ, ◌-◌, ◌+◌, List, [], ◌∷◌, ◌++◌, sym, ap, ◌∙◌, subst, take, replicate}
+use Rattle.std.proofs.Common.{◌≡◌, ℕ, ◌-◌, List, [], sym, ap, ◌∙◌, subst, take}
 use Rattle.std.specs.Prelude.{Vec, slice_set}
-use Rattle.std.proofs.lemmas.List.{map-append, map-set, replicate-append-replicate, take-map}
-use Rattle.ballot_base.specs.Ballots.{Election, Row, election, texts}
+use Rattle.std.proofs.lemmas.List.{map-set, take-map}
+use Rattle.ballot_base.specs.Ballots.{Election, Row, election}
+use Rattle.ballot_base.specs.Steps.Profiles.{texts}
 
 module _ {A : Type 0} where
-  -- one name more, and it is empty
-  pub texts-push : (names more : List (Vec ℕ A)) (name : Vec ℕ A) (n : ℕ) → texts names ≡ replicate n [] → more ≡ names ++ name ∷ [] → name.items ≡ [] → texts more ≡ replicate (n + 1) []
-  texts-push names more name n before pushed empty =
-      ap texts pushed ∙ map-append (λ (v : Vec ℕ A). v.items) names (name ∷ []) ∙ ap (λ l. l ++ name.items ∷ []) before ∙ ap (λ t. replicate n [] ++ t ∷ []) empty
-      ∙ replicate-append-replicate n 1 []
-
   -- a name in the place of another
   pub election-named : (m k n : ℕ) (names : List (Vec ℕ A)) (rows : List Row) (e : Election) (name : Vec ℕ A) (text : List ℕ) → election m (texts names) rows ≡ e → k ≡ n → name.items ≡ text
       → election m (texts (slice_set names (k - 1) name)) rows ≡ record e { names = slice_set e.names (n - 1) text }

@@ -1,33 +1,51 @@
 -- The word of the set after another one of its size.
-use Rattle.std.proofs.Common.{◌≡◌, ℕ, zero, suc, ◌+◌, ◌-◌, ◌*◌, ◌^◌, ◌<◌, ◌≤◌, ◌==◌, false, min, max, List, [], ◌∷◌, ◌++◌, refl, sym, ap, ◌∙◌, subst, arith, inl, inr, length, filter, add-one, bit_and, bit_or, w64, append_assoc, append-nil, add-zero, zero-add}
+use Rattle.std.proofs.Common.{◌≡◌, ℕ, zero, suc, ◌+◌, ◌-◌, ◌*◌, ◌/◌, ◌^◌, ◌<◌, ◌≤◌, ◌==◌, false, min, max, List, [], ◌∷◌, ◌++◌, refl, sym, ap, ◌∙◌, subst, arith, inl, inr, length, filter, bit_and, bit_or, w64, append_assoc, append-nil, add-zero, zero-add}
 use Rattle.std.specs.Int.{bit_at}
-use Rattle.std.specs.Int.Count.{count_leading_zeros}
 use Rattle.std.specs.List.{range_with_len}
-use Rattle.std.proofs.lemmas.Bool.{eqb-false, cases_eq, cases_lt}
+use Rattle.std.specs.Prelude.{nat_le}
+use Rattle.std.proofs.lemmas.Bool.{eqb-false, cases_eq, cases_lt, ne_eqb, and_left, lt-leb, le-leb}
 use Rattle.std.proofs.lemmas.List.Elements.{filter-append}
 use Rattle.std.proofs.lemmas.List.FromFn.{length-range_with_len}
-use Rattle.std.proofs.lemmas.Nat.{leading_top, pow-add, pow_pos, or_lt, and_le_l}
+use Rattle.std.proofs.lemmas.Nat.{pow-add, pow_pos, or_lt, and_le_l, shr_high}
 use Rattle.std.proofs.Math.Pow.{pow_mono}
 use Rattle.std.proofs.lemmas.Nat.Bits.{bit_at-lt, bit_at-zero, bit_at_and, bit_at_or, bit_at_not, bit_at_ones, bit_at_ones_above, bit_at_above, bit_at_cat_high, bit_at_mask_inside, bit_at_mask_below, bit_at_mask_above}
+use Rattle.ballot_base.specs.Limits.{most_candidates}
 use Rattle.ballot_base.specs.Lists.{IsIncreasing}
-use Rattle.ballot_base.specs.CandSet.{members_among, members}
-use Rattle.ballot_base.specs.Subsets.{IsLastSet, IsNextSet}
-use Rattle.ballot_base.proofs.Increasing.{has_member-above}
-use Rattle.ballot_base.proofs.Members.{members_among_yes, members_among_no, members_among_none, has_member-members}
+use Rattle.ballot_base.specs.CandSet.{has_member, members_upto}
+use Rattle.ballot_base.specs.Steps.Words.{members_among, members}
+use Rattle.ballot_base.specs.Steps.Subsets.{IsLastSet, IsNextSet}
+use Rattle.ballot_base.proofs.Increasing.{has_member-above, has_member-filter, IsIncreasing-filter}
+use Rattle.ballot_base.proofs.Members.{members_among_yes, members_among_no, members_among_none, has_member-members, IsIncreasing-members, same_members}
+
+-- ---- the word of the first numbers
+ones_product : (a b : ℕ) → 0 < a → 0 < b → a * b - 1 ≡ (a - 1) * b + (b - 1)
+ones_product zero b some_a some_b = absurd (omega arith)
+ones_product (suc a) b some_a some_b = let less : suc a - 1 ≡ a = omega arith in rw less (omega arith)
+
+-- the highest n bits of a word of 1s, moved down
+pub ones_shr : (n width : ℕ) → n ≤ width → (2 ^ width - 1) / 2 ^ (width - n) ≡ 2 ^ n - 1
+ones_shr n width within =
+    let whole : 2 ^ width ≡ 2 ^ n * 2 ^ (width - n) = let e : n + (width - n) ≡ width = omega arith in subst (λ w. 2 ^ w ≡ 2 ^ n * 2 ^ (width - n)) e (pow-add 2 n (width - n)) in
+    let parts : 2 ^ width - 1 ≡ (2 ^ n - 1) * 2 ^ (width - n) + (2 ^ (width - n) - 1) =
+    ap (λ w. w - 1) whole ∙ ones_product (2 ^ n) (2 ^ (width - n)) (pow_pos n) (pow_pos (width - n)) in
+    ap (λ w. w / 2 ^ (width - n)) parts ∙ shr_high (2 ^ n - 1) (width - n) (2 ^ (width - n) - 1) (omega (arith, pow_pos (width - n)))
 
 -- ---- the greatest number of a word
-pub greatest_is : (bits : ℕ) → 0 < bits → bits < 2 ^ 40 → (64 - count_leading_zeros 64 bits ≤ 40) × (bit_at bits (64 - count_leading_zeros 64 bits - 1) ≡ 1) × ((i : ℕ) → 64 - count_leading_zeros 64 bits ≤ i → bit_at bits i ≡ 0)
-greatest_is bits some most =
-    let top = leading_top 64 bits some (omega arith) in
-    let j : ℕ = top.0 in
-    let is : 64 - count_leading_zeros 64 bits ≡ suc j = omega (arith, top.1) in
-    let fits : suc j ≤ 40 = elim (cases_lt j 40) [ inl h ↦ h | inr h ↦ absurd (omega (arith, top.2, pow_mono {i = 40} {j = j} h)) ] in
-    let two : 2 ^ suc j ≡ 2 ^ j * 2 = subst (λ n. 2 ^ n ≡ 2 ^ j * 2) (add-one j) (pow-add 2 j 1) in
-    let parts : bits ≡ 1 * 2 ^ j + (bits - 2 ^ j) = omega (arith, top.2) in
-    let one : bit_at bits j ≡ 1 =
-    ap (λ n. bit_at n j) parts ∙ (bit_at_cat_high 1 j (bits - 2 ^ j) j (omega (arith, top.3, two, top.2)) (omega arith) ∙ ap (bit_at 1) (let z : j - j ≡ 0 = omega arith in z)) in
-    let back : suc j - 1 ≡ j = omega arith in
-    rw is (fits, ap (bit_at bits) back ∙ one, λ i h. bit_at_above bits (suc j) i top.3 h)
+-- the greatest power of 2 that is no greater than the word stands for its greatest number
+pub greatest_is : (bits top last : ℕ) → 2 ^ top ≤ bits → bits < 2 * 2 ^ top → last ≡ top + 1
+    → (bit_at bits (last - 1) ≡ 1) × ((i : ℕ) → last ≤ i → bit_at bits i ≡ 0)
+greatest_is bits top last low high is =
+    let two : 2 ^ (top + 1) ≡ 2 ^ top * 2 = pow-add 2 top 1 in
+    let back : last - 1 ≡ top = omega arith in
+    let parts : bits ≡ 1 * 2 ^ top + (bits - 2 ^ top) = omega arith in
+    let one : bit_at bits top ≡ 1 =
+    ap (λ n. bit_at n top) parts ∙ (bit_at_cat_high 1 top (bits - 2 ^ top) top (omega arith) (omega arith) ∙ ap (bit_at 1) (let z : top - top ≡ 0 = omega arith in z)) in
+    (ap (bit_at bits) back ∙ one, λ i h. bit_at_above bits (top + 1) i (omega arith) (omega arith))
+
+-- a word of few bits has no great number
+pub greatest_most : (most bits top : ℕ) → 2 ^ top ≤ bits → bits < 2 ^ most → top + 1 ≤ most
+greatest_most most bits top low high =
+    elim (cases_lt top most) [ inl h ↦ omega arith | inr h ↦ absurd (omega (arith, pow_mono {i = most} {j = top} h)) ]
 
 -- ---- runs of members
 range-append : (a i j : ℕ) → range_with_len a (i + j) ≡ range_with_len a i ++ range_with_len (a + i) j
@@ -65,12 +83,12 @@ members_among_same first (suc count) a b h =
     ]
 
 -- the numbers 1 to low as in b, then none, then a run, then none
-pub stacked : (a b low from run : ℕ) → low + 1 ≤ from → from + run ≤ 41 → ((n : ℕ) → 1 ≤ n → n ≤ low → bit_at a (n - 1) ≡ bit_at b (n - 1)) → ((n : ℕ) → low < n → n < from → bit_at a (n - 1) ≡ 0) → ((n : ℕ) → from ≤ n → n < from + run → bit_at a (n - 1) ≡ 1) → ((n : ℕ) → from + run ≤ n → n ≤ 40 → bit_at a (n - 1) ≡ 0) → members a ≡ members_among 1 low b ++ range_with_len from run
+pub stacked : (a b low from run : ℕ) → low + 1 ≤ from → from + run ≤ most_candidates + 1 → ((n : ℕ) → 1 ≤ n → n ≤ low → bit_at a (n - 1) ≡ bit_at b (n - 1)) → ((n : ℕ) → low < n → n < from → bit_at a (n - 1) ≡ 0) → ((n : ℕ) → from ≤ n → n < from + run → bit_at a (n - 1) ≡ 1) → ((n : ℕ) → from + run ≤ n → n ≤ most_candidates → bit_at a (n - 1) ≡ 0) → members a ≡ members_among 1 low b ++ range_with_len from run
 unfolding members
 stacked a b low from run l h same gap full rest =
     let g : ℕ = from - 1 - low in
-    let r : ℕ = 41 - from - run in
-    let all : low + (g + (run + r)) ≡ 40 = omega arith in
+    let r : ℕ = most_candidates + 1 - from - run in
+    let all : low + (g + (run + r)) ≡ most_candidates = omega arith in
     let at_gap : 1 + low + g ≡ from = omega arith in
     subst (λ n. members_among 1 n a ≡ members_among 1 low b ++ range_with_len from run) all
     (members_among-append 1 low (g + (run + r)) a
@@ -94,14 +112,14 @@ IsLastSet-from_run m from run set e h =
     rw (long, low) e
 
 -- a set of the numbers 1 to m has none above m
-none_above : (bits m : ℕ) → IsIncreasing 1 m (members bits) → (n : ℕ) → 1 ≤ n → m < n → n ≤ 40 → bit_at bits (n - 1) ≡ 0
+none_above : (bits m : ℕ) → IsIncreasing 1 m (members bits) → (n : ℕ) → 1 ≤ n → m < n → n ≤ most_candidates → bit_at bits (n - 1) ≡ 0
 none_above bits m i n low h high =
     let no : (bit_at bits (n - 1) == 1) ≡ false = sym (has_member-members bits n low high) ∙ has_member-above 1 m (members bits) n i h in
     let ne : bit_at bits (n - 1) ≡ 1 → ⊥ = eqb-false (bit_at bits (n - 1)) 1 no in
     omega (arith, ne, bit_at-lt bits (n - 1))
 
 -- the numbers 1 to m that a word has not
-absent_bit : (bits m i : ℕ) → bits < 2 ^ 40 → m ≤ 40 → i < 40 → bit_at (bit_and (2 ^ m - 1) (2 ^ 64 - 1 - bits)) i ≡ min (bit_at (2 ^ m - 1) i) (1 - bit_at bits i)
+absent_bit : (bits m i : ℕ) → bits < 2 ^ most_candidates → m ≤ most_candidates → i < most_candidates → bit_at (bit_and (2 ^ m - 1) (2 ^ 64 - 1 - bits)) i ≡ min (bit_at (2 ^ m - 1) i) (1 - bit_at bits i)
 absent_bit bits m i b h k = bit_at_and (2 ^ m - 1) (2 ^ 64 - 1 - bits) i ∙ ap (λ n. min (bit_at (2 ^ m - 1) i) n) (bit_at_not w64 bits i (omega arith) (omega arith))
 
 -- f is the greatest of them, or 0 where there is none
@@ -110,7 +128,7 @@ pub record IsFree (bits m f : ℕ) : Type 0 where
   pub absent : 0 < f → bit_at bits (f - 1) ≡ 0
   pub above : (n : ℕ) → f < n → n ≤ m → bit_at bits (n - 1) ≡ 1
 
-free_none : (bits m : ℕ) → bits < 2 ^ 40 → m ≤ 40 → bit_and (2 ^ m - 1) (2 ^ 64 - 1 - bits) ≡ 0 → IsFree bits m 0
+free_none : (bits m : ℕ) → bits < 2 ^ most_candidates → m ≤ most_candidates → bit_and (2 ^ m - 1) (2 ^ 64 - 1 - bits) ≡ 0 → IsFree bits m 0
 free_none bits m b h e = record {
   most = omega arith;
   absent = λ p. absurd (omega arith);
@@ -120,7 +138,7 @@ free_none bits m b h e = record {
       omega (arith, w, z, bit_at_ones m (n - 1) (omega arith), bit_at-lt bits (n - 1));
 }
 
-free_some : (bits m f : ℕ) → bits < 2 ^ 40 → m ≤ 40 → 1 ≤ f → f ≤ 40 → bit_at (bit_and (2 ^ m - 1) (2 ^ 64 - 1 - bits)) (f - 1) ≡ 1 → ((i : ℕ) → f ≤ i → bit_at (bit_and (2 ^ m - 1) (2 ^ 64 - 1 - bits)) i ≡ 0) → IsFree bits m f
+free_some : (bits m f : ℕ) → bits < 2 ^ most_candidates → m ≤ most_candidates → 1 ≤ f → f ≤ most_candidates → bit_at (bit_and (2 ^ m - 1) (2 ^ 64 - 1 - bits)) (f - 1) ≡ 1 → ((i : ℕ) → f ≤ i → bit_at (bit_and (2 ^ m - 1) (2 ^ 64 - 1 - bits)) i ≡ 0) → IsFree bits m f
 free_some bits m f b h low high here clear =
     let w = absent_bit bits m (f - 1) b h (omega arith) in
     record {
@@ -135,7 +153,7 @@ free_some bits m f b h low high here clear =
     }
 
 -- a set above whose free numbers all are members, and below them none, is the last
-pub last_if_none_free : (bits m : ℕ) → bits < 2 ^ 40 → m ≤ 40 → IsIncreasing 1 m (members bits) → bit_and (2 ^ m - 1) (2 ^ 64 - 1 - bits) ≡ 0 → IsLastSet m (members bits)
+pub last_if_none_free : (bits m : ℕ) → bits < 2 ^ most_candidates → m ≤ most_candidates → IsIncreasing 1 m (members bits) → bit_and (2 ^ m - 1) (2 ^ 64 - 1 - bits) ≡ 0 → IsLastSet m (members bits)
 last_if_none_free bits m b h i e =
     let free = free_none bits m b h e in
     let run : members bits ≡ range_with_len 1 m =
@@ -149,7 +167,7 @@ below_in bits k i h = let e = bit_at_and bits (2 ^ k - 1) i in omega (arith, e, 
 below_out : (bits k i : ℕ) → k ≤ i → bit_at (bit_and bits (2 ^ k - 1)) i ≡ 0
 below_out bits k i h = let e = bit_at_and bits (2 ^ k - 1) i in omega (arith, e, bit_at_ones_above k i h)
 
-last_if_none_below_free : (bits m f : ℕ) → m ≤ 40 → 1 ≤ f → IsIncreasing 1 m (members bits) → IsFree bits m f → bit_and bits (2 ^ (f - 1) - 1) ≡ 0 → IsLastSet m (members bits)
+last_if_none_below_free : (bits m f : ℕ) → m ≤ most_candidates → 1 ≤ f → IsIncreasing 1 m (members bits) → IsFree bits m f → bit_and bits (2 ^ (f - 1) - 1) ≡ 0 → IsLastSet m (members bits)
 last_if_none_below_free bits m f h low i free e =
     let gap : (n : ℕ) → 0 < n → n < f + 1 → bit_at bits (n - 1) ≡ 0 = λ n l u.
     elim (cases_lt n f) [
@@ -206,7 +224,7 @@ grown_above : (bits m f l i : ℕ) → l + 1 + (m - f) ≤ i → bit_at (grown b
 grown_above bits m f l i g =
     omega (arith, grown_bit bits m f l i, below_out (bit_and bits (2 ^ (f - 1) - 1)) (l - 1) i (omega arith), bit_at_mask_above l (l + 1 + (m - f)) i g)
 
-members_grown : (bits m f l : ℕ) → m ≤ 40 → f ≤ m → IsGrowing bits f l → members (grown bits m f l) ≡ members_among 1 (l - 1) bits ++ range_with_len (l + 1) (suc (m - f))
+members_grown : (bits m f l : ℕ) → m ≤ most_candidates → f ≤ m → IsGrowing bits f l → members (grown bits m f l) ≡ members_among 1 (l - 1) bits ++ range_with_len (l + 1) (suc (m - f))
 members_grown bits m f l h most g =
     let low = g.low in
     let less = g.less in
@@ -216,7 +234,7 @@ members_grown bits m f l h most g =
     (λ n k u. grown_run bits m f l (n - 1) (omega arith) (omega arith))
     (λ n k u. grown_above bits m f l (n - 1) (omega arith))
 
-members_before : (bits m f l : ℕ) → m ≤ 40 → IsIncreasing 1 m (members bits) → IsFree bits m f → IsGrowing bits f l → members bits ≡ members_among 1 (l - 1) bits ++ l ∷ range_with_len (m + 1 - (m - f)) (m - f)
+members_before : (bits m f l : ℕ) → m ≤ most_candidates → IsIncreasing 1 m (members bits) → IsFree bits m f → IsGrowing bits f l → members bits ≡ members_among 1 (l - 1) bits ++ l ∷ range_with_len (m + 1 - (m - f)) (m - f)
 members_before bits m f l h i free g =
     let low = g.low in
     let less = g.less in
@@ -237,16 +255,16 @@ members_before bits m f l h i free g =
     rw (start, runs, front) (append_assoc (members_among 1 (l - 1) bits) (l ∷ []) (range_with_len (f + 1) (m - f)))
 
 -- ---- the same, of words that the code computes
-pub free_of : (bits m word f : ℕ) → bits < 2 ^ 40 → m ≤ 40 → word ≡ 2 ^ m - 1 → 1 ≤ f → f ≤ 40 → bit_at (bit_and word (2 ^ 64 - 1 - bits)) (f - 1) ≡ 1 → ((i : ℕ) → f ≤ i → bit_at (bit_and word (2 ^ 64 - 1 - bits)) i ≡ 0) → IsFree bits m f
+pub free_of : (bits m word f : ℕ) → bits < 2 ^ most_candidates → m ≤ most_candidates → word ≡ 2 ^ m - 1 → 1 ≤ f → f ≤ most_candidates → bit_at (bit_and word (2 ^ 64 - 1 - bits)) (f - 1) ≡ 1 → ((i : ℕ) → f ≤ i → bit_at (bit_and word (2 ^ 64 - 1 - bits)) i ≡ 0) → IsFree bits m f
 free_of bits m word f b h e low high = rw e (free_some bits m f b h low high)
 
 pub growing_of : (bits word f l : ℕ) → word ≡ 2 ^ (f - 1) - 1 → 1 ≤ f → 1 ≤ l → bit_at (bit_and bits word) (l - 1) ≡ 1 → ((i : ℕ) → l ≤ i → bit_at (bit_and bits word) i ≡ 0) → IsGrowing bits f l
 growing_of bits word f l e some low = rw e (growing_from bits f l some low)
 
-pub last_if_all : (bits m word : ℕ) → bits < 2 ^ 40 → m ≤ 40 → word ≡ 2 ^ m - 1 → IsIncreasing 1 m (members bits) → bit_and word (2 ^ 64 - 1 - bits) ≡ 0 → IsLastSet m (members bits)
+pub last_if_all : (bits m word : ℕ) → bits < 2 ^ most_candidates → m ≤ most_candidates → word ≡ 2 ^ m - 1 → IsIncreasing 1 m (members bits) → bit_and word (2 ^ 64 - 1 - bits) ≡ 0 → IsLastSet m (members bits)
 last_if_all bits m word b h e i = rw e (last_if_none_free bits m b h i)
 
-pub last_if_none_below : (bits m word f : ℕ) → m ≤ 40 → word ≡ 2 ^ (f - 1) - 1 → 1 ≤ f → IsIncreasing 1 m (members bits) → IsFree bits m f → bit_and bits word ≡ 0 → IsLastSet m (members bits)
+pub last_if_none_below : (bits m word f : ℕ) → m ≤ most_candidates → word ≡ 2 ^ (f - 1) - 1 → 1 ≤ f → IsIncreasing 1 m (members bits) → IsFree bits m f → bit_and bits word ≡ 0 → IsLastSet m (members bits)
 last_if_none_below bits m word f h e low i free = rw e (last_if_none_below_free bits m f h low i free)
 
 pub grown_is : (bits m f l below low high last : ℕ) → below ≡ 2 ^ (f - 1) - 1 → low ≡ 2 ^ (l - 1) - 1 → high ≡ 2 ^ (l + 1 + (m - f)) - 1 → last ≡ 2 ^ l - 1 → bit_or (bit_and (bit_and bits below) low) (high - last) ≡ grown bits m f l
@@ -255,24 +273,36 @@ grown_is bits m f l below low high last d e h k =
     let run : high - last ≡ 2 ^ (l + 1 + (m - f)) - 2 ^ l = omega (arith, h, k, pow_pos l) in
     rw (d, e, run)
 
-pub bound_of_grown : (bits m f l : ℕ) → bits < 2 ^ 40 → m ≤ 40 → f ≤ m → l < f → grown bits m f l < 2 ^ 40
+pub bound_of_grown : (bits m f l : ℕ) → bits < 2 ^ most_candidates → m ≤ most_candidates → f ≤ m → l < f → grown bits m f l < 2 ^ most_candidates
 unfolding grown
 bound_of_grown bits m f l b h most less =
     let low : ℕ = bit_and (bit_and bits (2 ^ (f - 1) - 1)) (2 ^ (l - 1) - 1) in
-    let fits : low < 2 ^ 40 = omega (arith, and_le_l (bit_and bits (2 ^ (f - 1) - 1)) (2 ^ (l - 1) - 1), and_le_l bits (2 ^ (f - 1) - 1)) in
-    let top : 2 ^ (l + 1 + (m - f)) ≤ 2 ^ 40 = pow_mono {i = l + 1 + (m - f)} {j = 40} (omega arith) in
-    or_lt 40 low (2 ^ (l + 1 + (m - f)) - 2 ^ l) fits (omega (arith, top, pow_pos l))
+    let fits : low < 2 ^ most_candidates = omega (arith, and_le_l (bit_and bits (2 ^ (f - 1) - 1)) (2 ^ (l - 1) - 1), and_le_l bits (2 ^ (f - 1) - 1)) in
+    let top : 2 ^ (l + 1 + (m - f)) ≤ 2 ^ most_candidates = pow_mono {i = l + 1 + (m - f)} {j = most_candidates} (omega arith) in
+    or_lt most_candidates low (2 ^ (l + 1 + (m - f)) - 2 ^ l) fits (omega (arith, top, pow_pos l))
 
-pub IsNextSet-grown : (bits m f l : ℕ) → m ≤ 40 → IsIncreasing 1 m (members bits) → IsFree bits m f → IsGrowing bits f l → IsNextSet m (members bits) (members (grown bits m f l))
+pub IsNextSet-grown : (bits m f l : ℕ) → m ≤ most_candidates → IsIncreasing 1 m (members bits) → IsFree bits m f → IsGrowing bits f l → IsNextSet m (members bits) (members (grown bits m f l))
 IsNextSet-grown bits m f l h i free g =
     let less = g.less in
     let most = free.most in
     (members_among 1 (l - 1) bits, l, m - f, omega arith, members_before bits m f l h i free g, members_grown bits m f l h most g)
 
-pub members_up_to : (n : ℕ) → n ≤ 40 → members (2 ^ n - 1) ≡ range_with_len 1 n
+pub members_up_to : (n : ℕ) → n ≤ most_candidates → members (2 ^ n - 1) ≡ range_with_len 1 n
 members_up_to n h =
     stacked (2 ^ n - 1) (2 ^ n - 1) 0 1 n (omega arith) (omega arith) (λ k l u. refl) (λ k l u. absurd (omega arith)) (λ k l u. bit_at_ones n (k - 1) (omega arith)) (λ k l u. bit_at_ones_above n (k - 1) (omega arith))
     ∙ ap (λ s. s ++ range_with_len 1 n) (members_among_none 1 (2 ^ n - 1))
 
-pub bound_of_up_to : (n : ℕ) → n ≤ 40 → 2 ^ n - 1 < 2 ^ 40
-bound_of_up_to n h = omega (arith, pow_mono {i = n} {j = 40} h, pow_pos n)
+-- the members that are at most c
+pub members_upto_word : (bits word c : ℕ) → word ≡ 2 ^ c - 1 → members (bit_and bits word) ≡ members_upto (members bits) c
+members_upto_word bits word c is =
+    rw is (same_members (bit_and bits (2 ^ c - 1)) (members_upto (members bits) c)
+    (IsIncreasing-filter (λ n. nat_le n c) 1 most_candidates (members bits) (IsIncreasing-members bits))
+    (λ n low high. rw (has_member-filter (λ k. nat_le k c) (members bits) n)
+    (elim (cases_lt c n) [
+      | inl above ↦ ne_eqb (bit_at (bit_and bits (2 ^ c - 1)) (n - 1)) 1 (λ one. omega (arith, one, below_out bits c (n - 1) (omega arith)))
+          ∙ sym (and_left (nat_le n c) (has_member (members bits) n) (lt-leb n c above))
+      | inr within ↦ rw (le-leb n c within) (ap (λ b. b == 1) (below_in bits c (n - 1) (omega arith)) ∙ sym (has_member-members bits n low high))
+    ])))
+
+pub bound_of_up_to : (n : ℕ) → n ≤ most_candidates → 2 ^ n - 1 < 2 ^ most_candidates
+bound_of_up_to n h = omega (arith, pow_mono {i = n} {j = most_candidates} h, pow_pos n)

@@ -1,80 +1,82 @@
 -- Rows of ballots: what adding votes does, by the words of a map and by our own.
-use Rattle.std.proofs.Common.{◌≡◌, ℕ, ◌+◌, ◌<◌, ◌≤◌, ◌^◌, ◌||◌, ◌==◌, Bool, true, false, not, cond, List, [], ◌∷◌, Some, None, refl, sym, ap, ◌∙◌, arith, suc}
+use Rattle.std.proofs.Common.{◌≡◌, ℕ, ◌+◌, ◌<◌, ◌≤◌, ◌||◌, Bool, true, false, not, cond, List, [], ◌∷◌, Option, Some, None, refl, sym, ap, ◌∙◌, arith, zero, suc, ◌≢◌, ◌++◌, length, get_or, AllPairs}
 use Rattle.std.specs.List.{AllByRecursion, position_or_len}
 use Rattle.std.specs.Str.{bytes_eq}
+use Rattle.std.specs.Cmp.Lexicographic.{bytes_decides}
+use Rattle.std.proofs.lemmas.Bool.{or_left, or_parts}
+use Rattle.std.proofs.lemmas.List.Quantifiers.{all_pairs_push}
 use Rattle.std.specs.Map.{lookup, keys_of}
 use Rattle.std.proofs.lemmas.List.Sums.{sum_by-cons}
 use Rattle.indexmap.specs.IndexMap.{insert_entry, set_value_at}
+use Rattle.ballot_base.specs.Limits.{most_voters}
 use Rattle.ballot_base.specs.Lists.{IsIncreasing}
-use Rattle.ballot_base.specs.CandSet.{word_of}
-use Rattle.ballot_base.specs.Ballots.{Row, has_ballot, with_votes, voter_count, election, IsElection}
-use Rattle.ballot_base.proofs.Increasing.{IsIncreasing-higher}
-use Rattle.ballot_base.proofs.Members.{eqb-word_of}
+use Rattle.ballot_base.specs.Ballots.{Row, has_ballot, with_votes, ballots_of, voter_count, election, IsElection}
+use Rattle.ballot_base.specs.Steps.Profiles.{IsCounted}
 
--- an element behind the first
+-- an element after the first
 later_value : (row : Row) (rows : List Row) (i n : ℕ) → set_value_at (row ∷ rows) (1 + i) n ≡ row ∷ set_value_at rows i n
 later_value row rows i n = let e : 1 + i ≡ suc i = omega arith in ap (λ k. set_value_at (row ∷ rows) k n) e
 
--- the map's test finds the rows of this ballot
-abbrev pub Agrees : (List ℕ → List ℕ → Bool) → List ℕ → List Row → Type 0
-Agrees eq ballot rows = AllByRecursion (λ (row : Row). eq ballot row.0 ≡ bytes_eq ballot row.0) rows
-
-module _ (eq : List ℕ → List ℕ → Bool) (ballot : List ℕ) (count : ℕ) where
-  pub has_ballot-absent : (rows : List Row) → Agrees eq ballot rows → lookup (eq ballot) rows ≡ None → has_ballot rows ballot ≡ false
-  has_ballot-absent [] same none = refl
-  has_ballot-absent (row ∷ rows) same none = by (eq ballot row.0) same.0 none (has_ballot-absent rows same.1)
+module _ (ballot : List ℕ) (count : ℕ) where
+  pub has_ballot-absent : (rows : List Row) → lookup (bytes_eq ballot) rows ≡ None → has_ballot rows ballot ≡ false
+  has_ballot-absent [] none = refl
+  has_ballot-absent (row ∷ rows) none = by (bytes_eq ballot row.0) none (has_ballot-absent rows)
     where
-      by : (b : Bool) → b ≡ bytes_eq ballot row.0 → cond b (Some row.1) (lookup (eq ballot) rows) ≡ None
-          → (lookup (eq ballot) rows ≡ None → has_ballot rows ballot ≡ false) → has_ballot (row ∷ rows) ballot ≡ false
-      by true e found more = absurd (cc)
-      by false e found more = ap (λ t. t || has_ballot rows ballot) (sym e) ∙ more found
+      by : (b : Bool) → cond b (Some row.1) (lookup (bytes_eq ballot) rows) ≡ None
+          → (lookup (bytes_eq ballot) rows ≡ None → has_ballot rows ballot ≡ false) → (b || has_ballot rows ballot) ≡ false
+      by true found more = absurd (cc)
+      by false found more = more found
 
-  pub with_votes-new : (rows : List Row) → Agrees eq ballot rows → lookup (eq ballot) rows ≡ None → insert_entry eq rows ballot count ≡ with_votes rows ballot count
-  with_votes-new [] same none = refl
-  with_votes-new (row ∷ rows) same none = by (eq ballot row.0) same.0 none (with_votes-new rows same.1)
+  with_votes-new : (rows : List Row) → lookup (bytes_eq ballot) rows ≡ None → insert_entry bytes_eq rows ballot count ≡ with_votes rows ballot count
+  with_votes-new [] none = refl
+  with_votes-new (row ∷ rows) none = by (bytes_eq ballot row.0) none (with_votes-new rows)
     where
-      by : (b : Bool) → b ≡ bytes_eq ballot row.0 → cond b (Some row.1) (lookup (eq ballot) rows) ≡ None
-          → (lookup (eq ballot) rows ≡ None → insert_entry eq rows ballot count ≡ with_votes rows ballot count)
-          → cond b ((row.0, count) ∷ rows) (row ∷ insert_entry eq rows ballot count) ≡ with_votes (row ∷ rows) ballot count
-      by true e found more = absurd (cc)
-      by false e found more = ap (λ l. row ∷ l) (more found)
-          ∙ ap (λ t. cond t ((row.0, row.1 + count) ∷ rows) (row ∷ with_votes rows ballot count)) e
+      by : (b : Bool) → cond b (Some row.1) (lookup (bytes_eq ballot) rows) ≡ None
+          → (lookup (bytes_eq ballot) rows ≡ None → insert_entry bytes_eq rows ballot count ≡ with_votes rows ballot count)
+          → cond b ((row.0, count) ∷ rows) (row ∷ insert_entry bytes_eq rows ballot count)
+          ≡ cond b ((row.0, row.1 + count) ∷ rows) (row ∷ with_votes rows ballot count)
+      by true found more = absurd (cc)
+      by false found more = ap (λ l. row ∷ l) (more found)
 
-  pub with_votes-old : (rows : List Row) (before : ℕ) → Agrees eq ballot rows → lookup (eq ballot) rows ≡ Some before
-      → set_value_at (insert_entry eq rows ballot count) (position_or_len (eq ballot) (keys_of rows)) (before + count) ≡ with_votes rows ballot count
-  with_votes-old [] before same some = absurd (cc)
-  with_votes-old (row ∷ rows) before same some = by (eq ballot row.0) same.0 some (with_votes-old rows before same.1)
+  with_votes-old : (rows : List Row) (before : ℕ) → lookup (bytes_eq ballot) rows ≡ Some before
+      → set_value_at (insert_entry bytes_eq rows ballot count) (position_or_len (bytes_eq ballot) (keys_of rows)) (before + count) ≡ with_votes rows ballot count
+  with_votes-old [] before some = absurd (cc)
+  with_votes-old (row ∷ rows) before some = by (bytes_eq ballot row.0) some (with_votes-old rows before)
     where
-      by : (b : Bool) → b ≡ bytes_eq ballot row.0 → cond b (Some row.1) (lookup (eq ballot) rows) ≡ Some before
-          → (lookup (eq ballot) rows ≡ Some before → set_value_at (insert_entry eq rows ballot count) (position_or_len (eq ballot) (keys_of rows)) (before + count) ≡ with_votes rows ballot count)
-          → set_value_at (cond b ((row.0, count) ∷ rows) (row ∷ insert_entry eq rows ballot count)) (cond (not b) (1 + position_or_len (eq ballot) (keys_of rows)) 0) (before + count)
-          ≡ with_votes (row ∷ rows) ballot count
-      by true e found more =
-          let same_count : row.1 ≡ before = cc in
-          ap (λ n. (row.0, n + count) ∷ rows) (sym same_count)
-          ∙ ap (λ t. cond t ((row.0, row.1 + count) ∷ rows) (row ∷ with_votes rows ballot count)) e
-      by false e found more =
-          later_value row (insert_entry eq rows ballot count) (position_or_len (eq ballot) (keys_of rows)) (before + count)
+      by : (b : Bool) → cond b (Some row.1) (lookup (bytes_eq ballot) rows) ≡ Some before
+          → (lookup (bytes_eq ballot) rows ≡ Some before → set_value_at (insert_entry bytes_eq rows ballot count) (position_or_len (bytes_eq ballot) (keys_of rows)) (before + count) ≡ with_votes rows ballot count)
+          → set_value_at (cond b ((row.0, count) ∷ rows) (row ∷ insert_entry bytes_eq rows ballot count)) (cond (not b) (1 + position_or_len (bytes_eq ballot) (keys_of rows)) 0) (before + count)
+          ≡ cond b ((row.0, row.1 + count) ∷ rows) (row ∷ with_votes rows ballot count)
+      by true found more = let same_count : row.1 ≡ before = cc in ap (λ n. (row.0, n + count) ∷ rows) (sym same_count)
+      by false found more =
+          later_value row (insert_entry bytes_eq rows ballot count) (position_or_len (bytes_eq ballot) (keys_of rows)) (before + count)
           ∙ ap (λ l. row ∷ l) (more found)
-          ∙ ap (λ t. cond t ((row.0, row.1 + count) ∷ rows) (row ∷ with_votes rows ballot count)) e
 
-  -- the same, of a map that `insert_full` has changed
-  pub with_votes-put : (rows mid : List Row) (place before : ℕ) → Agrees eq ballot rows → mid ≡ insert_entry eq rows ballot count
-      → place ≡ position_or_len (eq ballot) (keys_of rows) → lookup (eq ballot) rows ≡ Some before → set_value_at mid place (before + count) ≡ with_votes rows ballot count
-  with_votes-put rows mid place before same changed at some =
+  -- the same, of a map that `insert_full` has changed, where it found the voters of the row so far
+  pub with_votes-put : (rows mid : List Row) (place before : ℕ) (found : Option ℕ) → mid ≡ insert_entry bytes_eq rows ballot count
+      → place ≡ position_or_len (bytes_eq ballot) (keys_of rows) → found ≡ lookup (bytes_eq ballot) rows → found ≡ Some before
+      → set_value_at mid place (before + count) ≡ with_votes rows ballot count
+  with_votes-put rows mid place before found changed at old some =
       ap (λ es. set_value_at es place (before + count)) changed
-      ∙ ap (λ i. set_value_at (insert_entry eq rows ballot count) i (before + count)) at
-      ∙ with_votes-old rows before same some
+      ∙ ap (λ i. set_value_at (insert_entry bytes_eq rows ballot count) i (before + count)) at
+      ∙ with_votes-old rows before (sym old ∙ some)
+
+  pub with_votes-put_new : (rows mid : List Row) (found : Option ℕ) → mid ≡ insert_entry bytes_eq rows ballot count
+      → found ≡ lookup (bytes_eq ballot) rows → found ≡ None → mid ≡ with_votes rows ballot count
+  with_votes-put_new rows mid found changed old none = changed ∙ with_votes-new rows (sym old ∙ none)
 
   -- a row's voters are some of all
-  pub count-le : (rows : List Row) (before : ℕ) → lookup (eq ballot) rows ≡ Some before → before ≤ voter_count rows
+  count-le : (rows : List Row) (before : ℕ) → lookup (bytes_eq ballot) rows ≡ Some before → before ≤ voter_count rows
   count-le [] before some = absurd (cc)
-  count-le (row ∷ rows) before some = by (eq ballot row.0) some (count-le rows before)
+  count-le (row ∷ rows) before some = by (bytes_eq ballot row.0) some (count-le rows before)
     where
-      by : (b : Bool) → cond b (Some row.1) (lookup (eq ballot) rows) ≡ Some before
-          → (lookup (eq ballot) rows ≡ Some before → before ≤ voter_count rows) → before ≤ voter_count (row ∷ rows)
+      by : (b : Bool) → cond b (Some row.1) (lookup (bytes_eq ballot) rows) ≡ Some before
+          → (lookup (bytes_eq ballot) rows ≡ Some before → before ≤ voter_count rows) → before ≤ voter_count (row ∷ rows)
       by true found more = let same : row.1 ≡ before = cc in omega (arith, sum_by-cons (λ (r : Row). r.1) row rows)
       by false found more = omega (arith, sum_by-cons (λ (r : Row). r.1) row rows, more found)
+
+  pub count-le-put : (rows : List Row) (before : ℕ) (found : Option ℕ) → found ≡ lookup (bytes_eq ballot) rows → found ≡ Some before → before ≤ voter_count rows
+  count-le-put rows before found old some = count-le rows before (sym old ∙ some)
 
 -- ---- what votes leave true
 
@@ -107,34 +109,63 @@ counts-with_votes (row ∷ rows) ballot count own all =
       | false ↦ (all.0, more)
     ]
 
+-- a ballot that is there keeps its place, and a new one comes last
+pub ballots_of-with_votes : (rows : List Row) (ballot : List ℕ) (count : ℕ)
+    → ballots_of (with_votes rows ballot count) ≡ cond (has_ballot rows ballot) (ballots_of rows) (ballots_of rows ++ ballot ∷ [])
+ballots_of-with_votes [] ballot count = refl
+ballots_of-with_votes (row ∷ rows) ballot count = by (bytes_eq ballot row.0) (has_ballot rows ballot) (ballots_of-with_votes rows ballot count)
+  where
+    by : (here there : Bool) → ballots_of (with_votes rows ballot count) ≡ cond there (ballots_of rows) (ballots_of rows ++ ballot ∷ [])
+        → ballots_of (cond here ((row.0, row.1 + count) ∷ rows) (row ∷ with_votes rows ballot count))
+        ≡ cond (here || there) (row.0 ∷ ballots_of rows) (row.0 ∷ ballots_of rows ++ ballot ∷ [])
+    by true there more = refl
+    by false true more = ap (λ l. row.0 ∷ l) more
+    by false false more = ap (λ l. row.0 ∷ l) more
+
+-- a ballot that nobody cast is none of the rows'
+others-from_has_ballot : (rows : List Row) (ballot : List ℕ) → has_ballot rows ballot ≡ false
+    → (k : ℕ) (d : List ℕ) → k < length (ballots_of rows) → get_or (ballots_of rows) k d ≢ ballot
+others-from_has_ballot [] ballot none k d h = absurd (omega arith)
+others-from_has_ballot (row ∷ rows) ballot none zero d h = λ e.
+    let found : bytes_eq ballot row.0 ≡ true = (bytes_decides ballot row.0).1 (sym e) in
+    let here : has_ballot (row ∷ rows) ballot ≡ true = or_left (bytes_eq ballot row.0) (has_ballot rows ballot) found in cc
+others-from_has_ballot (row ∷ rows) ballot none (suc k) d h =
+    others-from_has_ballot rows ballot (or_parts (bytes_eq ballot row.0) (has_ballot rows ballot) none).1 k d (omega arith)
+
+pub distinct-with_votes : (rows : List Row) (ballot : List ℕ) (count : ℕ)
+    → AllPairs (λ (x y : List ℕ). x ≢ y) (ballots_of rows) → AllPairs (λ (x y : List ℕ). x ≢ y) (ballots_of (with_votes rows ballot count))
+distinct-with_votes rows ballot count all =
+    rw ballots_of-with_votes (by (has_ballot rows ballot) refl)
+  where
+    by : (there : Bool) → has_ballot rows ballot ≡ there → AllPairs (λ (x y : List ℕ). x ≢ y) (cond there (ballots_of rows) (ballots_of rows ++ ballot ∷ []))
+    by true e = all
+    by false e = all_pairs_push (λ (x y : List ℕ). x ≢ y) (ballots_of rows) ballot all (others-from_has_ballot rows ballot e)
+
 -- a profile with a row has a voter
 pub some_voter : (rows : List Row) → AllByRecursion (λ (row : Row). 0 < row.1) rows → (rows ≡ [] → ⊥) → 1 ≤ voter_count rows
 some_voter [] all some = absurd (some refl)
 some_voter (row ∷ rows) all some = let one = all.0 in omega (arith, sum_by-cons (λ (r : Row). r.1) row rows)
 
--- ---- sets as the keys of a map
-
--- the equality of words
-abbrev pub same_word : List ℕ → List ℕ → Bool
-same_word set other = word_of set == word_of other
-
-pub same_word-Agrees : (rows : List Row) (ballot : List ℕ) → IsIncreasing 1 40 ballot → AllByRecursion (λ (row : Row). IsIncreasing 1 40 row.0) rows → Agrees same_word ballot rows
-same_word-Agrees [] ballot own all = tt
-same_word-Agrees (row ∷ rows) ballot own all = (eqb-word_of ballot row.0 own all.0, same_word-Agrees rows ballot own all.1)
-
--- rows of the candidates 1 to m are rows of the candidates 1 to 40
-pub ballots-higher : (m : ℕ) (rows : List Row) → m ≤ 40 → AllByRecursion (λ (row : Row). IsIncreasing 1 m row.0) rows → AllByRecursion (λ (row : Row). IsIncreasing 1 40 row.0) rows
-ballots-higher m [] most all = tt
-ballots-higher m (row ∷ rows) most all = (IsIncreasing-higher 1 m 40 row.0 most all.0, ballots-higher m rows most all.1)
-
 -- an election with votes added
 pub IsElection-with_votes : (m : ℕ) (names : List (List ℕ)) (rows : List Row) (ballot : List ℕ) (count : ℕ) → IsElection (election m names rows) → IsIncreasing 1 m ballot → 1 ≤ count
-    → voter_count rows + count ≤ 2 ^ 32 → IsElection (election m names (with_votes rows ballot count))
+    → voter_count rows + count ≤ most_voters → IsElection (election m names (with_votes rows ballot count))
 IsElection-with_votes m names rows ballot count valid own some room = record {
   least = valid.least;
   most = valid.most;
   names = valid.names;
   ballots = ballots-with_votes m rows ballot count own valid.ballots;
+  distinct = distinct-with_votes rows ballot count valid.distinct;
   counts = counts-with_votes rows ballot count some valid.counts;
   voters = omega (arith, voter_count-with_votes rows ballot count);
 }
+
+-- the same, with its number of voters
+pub IsCounted-with_votes : (m : ℕ) (names : List (List ℕ)) (rows new : List Row) (voters : ℕ) (ballot : List ℕ) (count : ℕ)
+    → IsCounted (election m names rows) voters → IsIncreasing 1 m ballot → 1 ≤ count → voters + count ≤ most_voters
+    → new ≡ with_votes rows ballot count → IsCounted (election m names new) (voters + count)
+IsCounted-with_votes m names rows new voters ballot count counted own some room is =
+    let all : voter_count rows + count ≤ most_voters = omega (arith, counted.total) in
+    rw is record {
+      valid = IsElection-with_votes m names rows ballot count counted.valid own some all;
+      total = omega (arith, counted.total, voter_count-with_votes rows ballot count);
+    }

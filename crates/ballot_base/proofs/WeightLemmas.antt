@@ -9,11 +9,12 @@ use Rattle.std.proofs.lemmas.List.Sums.{fold-append}
 use Rattle.std.proofs.lemmas.Bool.{le-leb, lt-leb, cases_lt, ne_eqb}
 use Rattle.std.proofs.lemmas.List.{ext_get_or, take_more}
 use Rattle.std.proofs.lemmas.List.FromFn.{get_or-map-range_with_len, length-map-range_with_len}
+use Rattle.ballot_base.specs.Limits.{most_members}
 use Rattle.ballot_base.specs.CommonMultiple.{common_multiple}
 use Rattle.ballot_base.specs.Increments.{increment, denominator, increments}
 use Rattle.ballot_base.specs.declared.increments.ThieleRule.{ThieleRule}
 use Rattle.ballot_base.specs.declared.increments.ThieleRule.TheVariants.{Av, Pav, Cc, Geom2, Geom3, Geom4}
-use Rattle.ballot_base.proofs.LeastMultiples.{common_multiple_divides, common_multiple_most}
+use Rattle.ballot_base.proofs.LeastMultiples.{common_multiple_divides, common_multiple_most, common_multiple_of_members}
 
 -- ---- the list
 
@@ -21,27 +22,27 @@ use Rattle.ballot_base.proofs.LeastMultiples.{common_multiple_divides, common_mu
 weight : ThieleRule → ℕ → ℕ → ℕ
 weight rule k j = cond (nat_le j k) (increment rule k j) 0
 
-pub increments-length : (rule : ThieleRule) (k : ℕ) → length (increments rule k) ≡ 40
+pub increments-length : (rule : ThieleRule) (k : ℕ) → length (increments rule k) ≡ most_members
 unfolding increments
-increments-length rule k = length-map-range_with_len (weight rule k) 1 40
+increments-length rule k = length-map-range_with_len (weight rule k) 1 most_members
 
-increments-weight : (rule : ThieleRule) (k i : ℕ) → i < 40 → get_or (increments rule k) i 0 ≡ weight rule k (i + 1)
+increments-weight : (rule : ThieleRule) (k i : ℕ) → i < most_members → get_or (increments rule k) i 0 ≡ weight rule k (i + 1)
 unfolding increments weight
-increments-weight rule k i h = get_or-map-range_with_len (weight rule k) 1 40 i (i + 1) 0 h (omega arith)
+increments-weight rule k i h = get_or-map-range_with_len (weight rule k) 1 most_members i (i + 1) 0 h (omega arith)
 
-pub increments-within : (rule : ThieleRule) (k i : ℕ) → i < 40 → i < k → get_or (increments rule k) i 0 ≡ increment rule k (i + 1)
+pub increments-within : (rule : ThieleRule) (k i : ℕ) → i < most_members → i < k → get_or (increments rule k) i 0 ≡ increment rule k (i + 1)
 unfolding weight
 increments-within rule k i h l = increments-weight rule k i h ∙ ap (λ b. cond b (increment rule k (i + 1)) 0) (le-leb (i + 1) k (omega arith))
 
 pub increments-past : (rule : ThieleRule) (k i : ℕ) → k ≤ i → get_or (increments rule k) i 0 ≡ 0
 unfolding weight
-increments-past rule k i h = elim (cases_lt i 40) [
+increments-past rule k i h = elim (cases_lt i most_members) [
   | inl low ↦ increments-weight rule k i low ∙ ap (λ b. cond b (increment rule k (i + 1)) 0) (lt-leb (i + 1) k (omega arith))
   | inr high ↦ get_or-eq_default (increments rule k) 0 (omega (arith, increments-length rule k, high))
 ]
 
--- a list that has the increments of 1 to k, and 0 behind them
-pub increments-made : (rule : ThieleRule) (k : ℕ) (w : List ℕ) → k ≤ 40 → length w ≡ 40 → ((i : ℕ) → i < k → get_or w i 0 ≡ increment rule k (i + 1)) → ((i : ℕ) → k ≤ i → i < 40 → get_or w i 0 ≡ 0)
+-- a list that has the increments of 1 to k, and 0 after them
+pub increments-made : (rule : ThieleRule) (k : ℕ) (w : List ℕ) → k ≤ most_members → length w ≡ most_members → ((i : ℕ) → i < k → get_or w i 0 ≡ increment rule k (i + 1)) → ((i : ℕ) → k ≤ i → i < most_members → get_or w i 0 ≡ 0)
     → w ≡ increments rule k
 increments-made rule k w most long made others =
     ext_get_or 0 w (increments rule k) (long ∙ sym (increments-length rule k)) (λ i h. elim (cases_lt i k) [
@@ -65,7 +66,7 @@ increment-falls Geom2 k j h = power-falls 2 k j (omega arith)
 increment-falls Geom3 k j h = power-falls 3 k j (omega arith)
 increment-falls Geom4 k j h = power-falls 4 k j (omega arith)
 
-pub increments-fall : (rule : ThieleRule) (k i : ℕ) → k ≤ 40 → get_or (increments rule k) (i + 1) 0 ≤ get_or (increments rule k) i 0
+pub increments-fall : (rule : ThieleRule) (k i : ℕ) → k ≤ most_members → get_or (increments rule k) (i + 1) 0 ≤ get_or (increments rule k) i 0
 increments-fall rule k i most = elim (cases_lt (i + 1) k) [
   | inl low ↦ rw (increments-within rule k (i + 1) (omega arith) low, increments-within rule k i (omega arith) (omega arith)) (increment-falls rule k (i + 1) (omega arith))
   | inr high ↦ rw (increments-past rule k (i + 1) high) (omega arith)
@@ -81,16 +82,17 @@ power-exact p k j low high = sym (pow-add p (k - j) (j - 1)) ∙ ap (λ n. p ^ n
 
 -- ---- how large they are
 
-pub power-most : (p n : ℕ) → p ≤ 4 → n ≤ 39 → p ^ n ≤ 2 ^ 78
-power-most p n h most = omega (arith, pow-le-pow_left h n, pow-le-pow_right {n = 4} (omega arith) most)
+pub power-most : (p n most : ℕ) → p ≤ 4 → n ≤ most → p ^ n ≤ 4 ^ most
+power-most p n most h within = omega (arith, pow-le-pow_left h n, pow-le-pow_right {n = 4} (omega arith) within)
 
-pub denominator-most : (rule : ThieleRule) (k : ℕ) → k ≤ 40 → denominator rule k ≤ 2 ^ 78
+-- no denominator is greater than that of the steepest rule for the largest committees
+pub denominator-most : (rule : ThieleRule) (k : ℕ) → k ≤ most_members → denominator rule k ≤ 4 ^ (most_members - 1)
 denominator-most Av k h = omega arith
-denominator-most Pav k h = omega (arith, common_multiple_most k h)
+denominator-most Pav k h = omega (arith, common_multiple_most k most_members h, common_multiple_of_members)
 denominator-most Cc k h = omega arith
-denominator-most Geom2 k h = power-most 2 (k - 1) (omega arith) (omega arith)
-denominator-most Geom3 k h = power-most 3 (k - 1) (omega arith) (omega arith)
-denominator-most Geom4 k h = power-most 4 (k - 1) (omega arith) (omega arith)
+denominator-most Geom2 k h = power-most 2 (k - 1) (most_members - 1) (omega arith) (omega arith)
+denominator-most Geom3 k h = power-most 3 (k - 1) (most_members - 1) (omega arith) (omega arith)
+denominator-most Geom4 k h = power-most 4 (k - 1) (most_members - 1) (omega arith) (omega arith)
 
 pub increment-most : (rule : ThieleRule) (k j : ℕ) → 1 ≤ j → increment rule k j ≤ denominator rule k
 increment-most Av k j h = omega arith
@@ -100,7 +102,7 @@ increment-most Geom2 k j h = pow-le-pow_right (omega arith) (omega arith)
 increment-most Geom3 k j h = pow-le-pow_right (omega arith) (omega arith)
 increment-most Geom4 k j h = pow-le-pow_right (omega arith) (omega arith)
 
-pub weight-most : (rule : ThieleRule) (k i : ℕ) → k ≤ 40 → get_or (increments rule k) i 0 ≤ denominator rule k
+pub weight-most : (rule : ThieleRule) (k i : ℕ) → k ≤ most_members → get_or (increments rule k) i 0 ≤ denominator rule k
 weight-most rule k i most = elim (cases_lt i k) [
   | inl low ↦ rw (increments-within rule k i (omega arith) low) (increment-most rule k (i + 1) (omega arith))
   | inr high ↦ rw (increments-past rule k i high) (omega arith)
@@ -111,7 +113,7 @@ pub sum_take_more : (w : List ℕ) (x : ℕ) → x < length w → sum (take (x +
 sum_take_more w x h = ap sum (take_more w x 0 h) ∙ fold-append (λ a b. a + b) 0 (take x w) (get_or w x 0 ∷ [])
 
 -- what x members add
-pub members-most : (rule : ThieleRule) (k x : ℕ) → k ≤ 40 → x ≤ 40 → sum (take x (increments rule k)) ≤ x * denominator rule k
+pub members-most : (rule : ThieleRule) (k x : ℕ) → k ≤ most_members → x ≤ most_members → sum (take x (increments rule k)) ≤ x * denominator rule k
 members-most rule k zero most within = omega arith
 members-most rule k (suc x) most within =
     let step : sum (take (suc x) (increments rule k)) ≡ sum (take x (increments rule k)) + get_or (increments rule k) x 0 =

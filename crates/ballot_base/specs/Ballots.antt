@@ -1,7 +1,8 @@
 -- Approval ballots and profiles of them.
-use Rattle.std.specs.Prelude.{ℕ, ◌+◌, ◌^◌, ◌<◌, ◌≤◌, ◌≡◌, ◌-◌, Bool, List, [], ◌∷◌, length, map, sum_by, count_by, Option, Some, None, slice_get, unwrap_or, Vec, if◌then◌else◌}
+use Rattle.std.specs.Prelude.{ℕ, ◌+◌, ◌<◌, ◌≤◌, ◌≡◌, ◌≢◌, ◌-◌, Bool, List, [], ◌∷◌, length, map, sum_by, count_by, Option, Some, None, slice_get, unwrap_or, AllPairs, if◌then◌else◌}
 use Rattle.std.specs.List.{AllByRecursion, list_any}
 use Rattle.std.specs.Str.{bytes_eq}
+use Rattle.ballot_base.specs.Limits.{most_candidates, most_voters}
 use Rattle.ballot_base.specs.Lists.{IsIncreasing}
 use Rattle.ballot_base.specs.CandSet.{has_member}
 
@@ -28,10 +29,6 @@ name_of e n = some_name (unwrap_or (slice_get e.names (n - 1)) [])
     some_name [] = None
     some_name (b ∷ bytes) = Some (b ∷ bytes)
 
--- the bytes of names
-abbrev pub texts : {A : Type 0} → List (Vec ℕ A) → List (List ℕ)
-texts names = map (λ name. name.items) names
-
 -- how many candidates stand on the ballot and in the committee
 -- (Lackner and Skowron, Multi-Winner Voting with Approval Preferences)
 abbrev pub hits : List ℕ → List ℕ → ℕ
@@ -40,6 +37,10 @@ hits ballot committee = count_by (has_member committee) ballot
 -- how many voters there are
 abbrev pub voter_count : List Row → ℕ
 voter_count rows = sum_by (λ row. row.1) rows
+
+-- the ballots of the rows
+abbrev pub ballots_of : List Row → List (List ℕ)
+ballots_of rows = map (λ row. row.0) rows
 
 -- whether some voter cast this ballot
 abbrev pub has_ballot : List Row → List ℕ → Bool
@@ -52,11 +53,12 @@ with_votes [] ballot count = (ballot, count) ∷ []
 with_votes (row ∷ rows) ballot count =
     if bytes_eq ballot row.0 then (row.0, row.1 + count) ∷ rows else row ∷ with_votes rows ballot count
 
--- What is true of every profile, and of every one that is being built.
+-- What is true of every profile, and of every one that is being built. No ballot stands in two rows.
 pub record IsElection (e : Election) : Type 0 where
   pub least : 1 ≤ e.m
-  pub most : e.m ≤ 40
+  pub most : e.m ≤ most_candidates
   pub names : length e.names ≡ e.m
   pub ballots : AllByRecursion (λ row. IsIncreasing 1 e.m row.0) e.rows
+  pub distinct : AllPairs (λ ballot other. ballot ≢ other) (ballots_of e.rows)
   pub counts : AllByRecursion (λ row. 0 < row.1) e.rows
-  pub voters : voter_count e.rows ≤ 2 ^ 32
+  pub voters : voter_count e.rows ≤ most_voters

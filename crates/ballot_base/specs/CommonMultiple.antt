@@ -1,5 +1,6 @@
 -- Least common multiples.
-use Rattle.std.specs.Prelude.{ℕ, zero, suc, ◌*◌, ◌%◌, ◌==◌, find, unwrap_or}
+use Rattle.std.specs.Prelude.{ℕ, zero, suc, ◌*◌, ◌%◌, ◌==◌, ◌≤◌, find, unwrap_or}
+use Rattle.std.specs.Int.{◌∣◌}
 use Rattle.std.specs.List.{range_with_len}
 
 -- the least positive multiple of a that b divides: one of a, 2·a, .. b·a
@@ -10,3 +11,7 @@ least_multiple a b = a * unwrap_or (find (λ times. a * times % b == 0) (range_w
 unfoldable pub common_multiple : ℕ → ℕ
 common_multiple zero = 1
 common_multiple (suc n) = least_multiple (common_multiple n) (suc n)
+
+-- all of 1 to n divide the number
+abbrev pub AllDivide : ℕ → ℕ → Type 0
+AllDivide n number = (divisor : ℕ) → 1 ≤ divisor → divisor ≤ n → divisor ∣ number

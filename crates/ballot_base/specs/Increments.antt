@@ -2,6 +2,7 @@
 -- (Lackner and Skowron, Multi-Winner Voting with Approval Preferences, Thiele methods).
 use Rattle.std.specs.Prelude.{ℕ, ◌-◌, ◌/◌, ◌^◌, ◌==◌, List, map, nat_le, if◌then◌else◌}
 use Rattle.std.specs.List.{range_with_len}
+use Rattle.ballot_base.specs.Limits.{most_members}
 use Rattle.ballot_base.specs.CommonMultiple.{common_multiple}
 use Rattle.ballot_base.specs.declared.increments.ThieleRule.{ThieleRule}
 use Rattle.ballot_base.specs.declared.increments.ThieleRule.TheVariants.{Av, Pav, Cc, Geom2, Geom3, Geom4}
@@ -26,6 +27,6 @@ denominator Geom2 k = 2 ^ (k - 1)
 denominator Geom3 k = 3 ^ (k - 1)
 denominator Geom4 k = 4 ^ (k - 1)
 
--- the increments of the members 1 to 40, of which those past k add nothing
+-- the increments of the members 1 to `most_members`, of which those past k add nothing
 unfoldable pub increments : ThieleRule → ℕ → List ℕ
-increments rule k = map (λ j. if nat_le j k then increment rule k j else 0) (range_with_len 1 40)
+increments rule k = map (λ j. if nat_le j k then increment rule k j else 0) (range_with_len 1 most_members)

@@ -1,7 +1,8 @@
+pub mod Limits
 pub mod Lists
 pub mod CandSet
-pub mod Words
 pub mod Ballots
-pub mod Subsets
 pub mod CommonMultiple
 pub mod Increments
+pub mod RuleNames
+pub mod Steps

@@ -1,6 +1,6 @@
 -- Increasing lists of whole numbers, and their order. Candidates are numbered from 1, and a set of them is
 -- written as its members in increasing order.
-use Rattle.std.specs.Prelude.{ℕ, zero, suc, ◌+◌, ◌-◌, ◌≤◌, ◌==◌, ◌&&◌, Bool, List, [], ◌∷◌, ◌++◌, length, map, ⊤, IsTrue}
+use Rattle.std.specs.Prelude.{ℕ, zero, suc, ◌+◌, ◌-◌, ◌≤◌, ◌==◌, ◌&&◌, Bool, List, [], ◌∷◌, ◌++◌, length, map, filter, AllPairs, Option, None, Some, ⊤, IsTrue}
 use Rattle.std.specs.Cmp.Lexicographic.{slice_cmp}
 use Rattle.std.specs.Ordering.{nat_cmp, is_gt}
 
@@ -27,3 +27,12 @@ is_later x y = (length x == length y) && is_gt (slice_cmp nat_cmp x y)
 
 abbrev pub IsLater : List ℕ → List ℕ → Type 0
 IsLater x y = IsTrue (is_later x y)
+
+-- each of the lists is later than all before it
+abbrev pub AreInOrder : List (List ℕ) → Type 0
+AreInOrder lists = AllPairs (λ x y. IsLater y x) lists
+
+-- those of the lists that are later than the start; all of them where there is no start
+abbrev pub later_than : Option (List ℕ) → List (List ℕ) → List (List ℕ)
+later_than None lists = lists
+later_than (Some start) lists = filter (λ list. is_later list start) lists

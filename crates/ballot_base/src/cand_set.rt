@@ -1,44 +1,78 @@
 //! A set of candidates, in one word.
-ghost use Rattle.std.specs.Prelude.{◌≡◌, ℕ, ◌+◌, ◌-◌, ◌^◌, ◌<◌, ◌≤◌, ◌↔◌, List, [], ◌∷◌, length, IsTrue, MatchOption, SomeIff};
+ghost use Rattle.std.specs.Prelude.{◌≡◌, ℕ, ◌-◌, ◌^◌, ◌<◌, ◌≤◌, ◌↔◌, List, [], ◌∷◌, length, IsTrue, MatchOption, SomeIff};
 ghost use Rattle.std.specs.Int.{bit_at};
 ghost use Rattle.std.specs.List.{range_with_len};
 ghost use Rattle.std.specs.Cmp.Lexicographic.{slice_cmp};
 ghost use Rattle.std.specs.Ordering.{nat_cmp};
+ghost use Rattle.ballot_base.specs.Limits.{most_candidates};
 ghost use Rattle.ballot_base.specs.Lists.{IsIncreasing};
-ghost use Rattle.ballot_base.specs.CandSet.{has_member, with_member, without_member, common_members};
-ghost use Rattle.ballot_base.specs.Subsets.{IsLastSet, IsNextSet};
+ghost use Rattle.ballot_base.specs.CandSet.{has_member, with_member, without_member, common_members, members_upto};
+ghost use Rattle.ballot_base.specs.Steps.Subsets.{IsLastSet, IsNextSet};
 
+use crate::limits::MOST_CANDIDATES;
 use std::cmp::Ordering;
+use std::hash::{Hash, Hasher};
 use std::marker::Model;
 
-/// A set of candidates, numbered from 1 to 40. Contracts see the increasing list of its members.
-#[tactic(auto, using(crate::specs::Words::word_of_members))]
-#[derive(Clone, Copy, Debug, PartialEq, Eq, Hash)]
+/// A set of candidates, numbered from 1 to `MOST_CANDIDATES`. Contracts see the increasing list of its members.
+#[tactic(auto, using(crate::specs::Steps::Words::word_of_members))]
+#[derive(Clone, Copy, Debug)]
 pub struct CandSet {
     bits: u64,
 }
 
 impl Model for CandSet {
     ghost use Rattle.std.specs.Prelude.{ℕ, ◌^◌, ◌<◌, List};
-    ghost use Rattle.ballot_base.specs.CandSet.{members, word_of};
+    ghost use Rattle.ballot_base.specs.Limits.{most_candidates};
+    ghost use Rattle.ballot_base.specs.Steps.Words.{members, word_of, word_of_members};
     ghost use Rattle.std.proofs.Common.{ap};
-    ghost use Rattle.ballot_base.specs.Words.{word_of_members};
 
     ghost Value = { List ℕ };
 
     ghost view = { λ set. members set.bits };
 
-    ghost invariant = { λ set. set.bits < 2 ^ 40 };
+    ghost invariant = { λ set. set.bits < 2 ^ most_candidates };
 
     ghost inverse = { λ set. record { bits = word_of set } };
 
     ghost inverse_ok = { λ set h. ap (λ (n : ℕ). record { bits = n }) (word_of_members set.bits h) };
 }
 
-impl CandSet {
-    /// The greatest number of a candidate.
-    pub const MOST: u8 = 40;
+impl PartialEq for CandSet {
+    ghost use Rattle.std.specs.Str.{bytes_eq};
+    ghost use Rattle.std.specs.Cmp.{partial_equiv_from_equiv};
+    ghost use Rattle.std.proofs.lemmas.Cmp.{nat_list_eq_equiv};
 
+    ghost eq = { bytes_eq };
+
+    ghost laws = { partial_equiv_from_equiv nat_list_eq_equiv };
+
+    fn eq(&self, other: &CandSet) -> bool {
+        self.bits == other.bits
+    }
+}
+
+impl Eq for CandSet {
+    ghost use Rattle.std.proofs.lemmas.Cmp.{nat_list_eq_equiv};
+
+    ghost laws = { nat_list_eq_equiv };
+}
+
+impl Hash for CandSet {
+    ghost use Rattle.std.specs.Hash.{u64 as word_input};
+    ghost use Rattle.std.proofs.Common.{ap};
+    ghost use Rattle.ballot_base.specs.Steps.Words.{word_of, word_of_same};
+
+    ghost hash_input = { λ set. word_input (word_of set) };
+
+    ghost respects_eq = { λ set other same. ap word_input (word_of_same set other same) };
+
+    fn hash<H: Hasher>(&self, state: &mut H) {
+        self.bits.hash(state);
+    }
+}
+
+impl CandSet {
     /// The set with no member.
     pub fn empty() -> CandSet
         ensures { result ≡ [] }
@@ -46,14 +80,25 @@ impl CandSet {
         CandSet { bits: 0 }
     }
 
-    /// The set of these numbers. There is none where the list is not increasing, or has a number outside 1 to 40.
+    /// The set of the candidates 1 to m.
+    pub fn all(m: u8) -> CandSet
+        requires { m ≤ most_candidates }
+        ensures { result ≡ range_with_len 1 m }
+    {
+        CandSet {
+            bits: numbers_to(m),
+        }
+    }
+
+    /// The set of these numbers. There is none where the list is not increasing, or has a number outside 1 to
+    /// `MOST_CANDIDATES`.
     pub fn of_list(numbers: &[u8]) -> Option<CandSet>
-        ensures { SomeIff result (IsIncreasing 1 40 numbers.now) numbers.now }
+        ensures { SomeIff result (IsIncreasing 1 most_candidates numbers.now) numbers.now }
     {
         let mut set = CandSet::empty();
         let mut last = 0;
         for n in numbers {
-            if *n <= last || *n > CandSet::MOST {
+            if *n <= last || *n > MOST_CANDIDATES {
                 return None;
             }
             set = set.with(*n);
@@ -62,17 +107,24 @@ impl CandSet {
         Some(set)
     }
 
+    /// Does nothing. Its contract says which lists are sets.
+    pub fn valid(self)
+        ensures { IsIncreasing 1 most_candidates self }
+    {
+        let _bits = self.bits;
+    }
+
     /// Whether the candidate is a member. Any number may be asked for.
     pub fn has(self, n: u8) -> bool
         ensures { result ≡ has_member self n }
     {
-        n != 0 && n <= CandSet::MOST && self.bits >> (n - 1) & 1 == 1
+        n != 0 && n <= MOST_CANDIDATES && self.bits >> (n - 1) & 1 == 1
     }
 
     /// The set with this candidate.
     pub fn with(self, n: u8) -> CandSet
         requires low { 1 ≤ n }
-        requires high { n ≤ 40 }
+        requires high { n ≤ most_candidates }
         ensures { result ≡ with_member self n }
     {
         CandSet {
@@ -84,7 +136,7 @@ impl CandSet {
     pub fn without(self, n: u8) -> CandSet
         ensures { result ≡ without_member self n }
     {
-        if n == 0 || n > CandSet::MOST {
+        if n == 0 || n > MOST_CANDIDATES {
             return self;
         }
         CandSet {
@@ -101,10 +153,20 @@ impl CandSet {
         }
     }
 
+    /// The members that are at most c.
+    pub fn upto(self, c: u8) -> CandSet
+        requires { c ≤ most_candidates }
+        ensures { result ≡ members_upto self c }
+    {
+        CandSet {
+            bits: self.bits & numbers_to(c),
+        }
+    }
+
     /// How many members there are.
     pub fn len(self) -> u8
         ensures count { result ≡ length self }
-        ensures candidates { IsIncreasing 1 40 self }
+        ensures most { result ≤ most_candidates }
     {
         self.bits.count_ones() as u8
     }
@@ -118,8 +180,7 @@ impl CandSet {
 
     /// The least member and the set of the others, or nothing of the empty set.
     pub fn split_first(self) -> Option<(u8, CandSet)>
-        ensures parts { MatchOption result (self ≡ []) (λ parts. self ≡ parts.0 ∷ parts.1) }
-        ensures candidates { IsIncreasing 1 40 self }
+        ensures { MatchOption result (self ≡ []) (λ parts. self ≡ parts.0 ∷ parts.1) }
     {
         if self.bits == 0 {
             return None;
@@ -151,19 +212,9 @@ impl CandSet {
         }
     }
 
-    /// The set of the numbers 1 to n.
-    pub(crate) fn up_to(n: u8) -> CandSet
-        requires { n ≤ 40 }
-        ensures { result ≡ range_with_len 1 n }
-    {
-        CandSet {
-            bits: numbers_to(n),
-        }
-    }
-
     /// The set right after this one, in lexicographic order, of the sets of its size of the candidates 1 to m.
     pub(crate) fn next_of_size(self, m: u8) -> Option<CandSet>
-        requires most { m ≤ 40 }
+        requires most { m ≤ most_candidates }
         requires candidates { IsIncreasing 1 m self }
         ensures { MatchOption result (IsLastSet m self) (IsNextSet m self) }
     {
@@ -187,20 +238,23 @@ impl CandSet {
 
 /// The word of the numbers 1 to n.
 fn numbers_to(n: u8) -> u64
-    requires { n ≤ 40 }
+    requires { n ≤ most_candidates }
     ensures { result ≡ 2 ^ n - 1 }
 {
-    (1 << n) - 1
+    if n == 0 {
+        return 0;
+    }
+    u64::MAX >> (u64::BITS - u32::from(n))
 }
 
 /// The greatest number of a word.
 fn greatest(bits: u64) -> u8
     requires some { 0 < bits }
-    requires most { bits < 2 ^ 40 }
+    requires most { bits < 2 ^ most_candidates }
     ensures low { 1 ≤ result }
-    ensures high { result ≤ 40 }
+    ensures high { result ≤ most_candidates }
     ensures member { bit_at bits (result - 1) ≡ 1 }
     ensures above { (i : ℕ) → result ≤ i → bit_at bits i ≡ 0 }
 {
-    64 - bits.leading_zeros() as u8
+    bits.ilog2() as u8 + 1
 }

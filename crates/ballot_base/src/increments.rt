@@ -1,7 +1,10 @@
 //! Thiele's rules and their increments.
-ghost use Rattle.std.specs.Prelude.{◌≡◌, ◌<◌, ◌≤◌, ◌^◌};
+ghost use Rattle.std.specs.Prelude.{◌≡◌, ◌≤◌};
+ghost use Rattle.ballot_base.specs.Limits.{most_members};
 ghost use Rattle.ballot_base.specs.Increments.{increment, denominator, increments};
+ghost use Rattle.ballot_base.specs.RuleNames.{thiele_name, thiele_named};
 
+use crate::limits::MOST_MEMBERS;
 use crate::multiples::common_multiple;
 
 /// A rule that gives a committee, for each voter, an increment for each member whom the voter approves
@@ -22,25 +25,61 @@ pub enum ThieleRule {
     Geom4,
 }
 
+impl ThieleRule {
+    /// All rules, each once.
+    pub const ALL: [ThieleRule; 6] = [
+        ThieleRule::Av,
+        ThieleRule::Pav,
+        ThieleRule::Cc,
+        ThieleRule::Geom2,
+        ThieleRule::Geom3,
+        ThieleRule::Geom4,
+    ];
+
+    /// The name of the rule, in small letters.
+    pub const fn name(self) -> &'static str
+        ensures { result.now ≡ thiele_name self }
+    {
+        match self {
+            ThieleRule::Av => "av",
+            ThieleRule::Pav => "pav",
+            ThieleRule::Cc => "cc",
+            ThieleRule::Geom2 => "geom2",
+            ThieleRule::Geom3 => "geom3",
+            ThieleRule::Geom4 => "geom4",
+        }
+    }
+
+    /// The rule of a name. There is none of any other text, one in capital letters too.
+    pub fn named(name: &str) -> Option<ThieleRule>
+        ensures { result ≡ thiele_named name.now }
+    {
+        ThieleRule::ALL
+            .iter()
+            .copied()
+            .find(|rule| name == rule.name())
+    }
+}
+
 /// The increments of a rule as whole numbers over one denominator, which is not reduced.
 #[derive(Clone, Copy, Debug, PartialEq, Eq)]
 pub struct Increments {
     /// What the j-th member adds times the denominator, at j - 1; 0 past the size of a committee.
-    pub w: [u128; 40],
+    pub w: [u128; MOST_MEMBERS as usize],
     /// The common denominator, at least 1.
     pub denom: u128,
 }
 
 impl Increments {
-    /// The increments for committees of k, 1 to 40. It takes no memory.
+    /// The increments for committees of k, 1 to `MOST_MEMBERS`. It takes no memory.
     pub fn of(rule: ThieleRule, k: u8) -> Increments
         requires some { 1 ≤ k }
-        requires most { k ≤ 40 }
+        requires most { k ≤ most_members }
         ensures weights { result.w ≡ increments rule k }
         ensures denominator { result.denom ≡ denominator rule k }
     {
         let denom = denominator(rule, k);
-        let mut w = [0; 40];
+        let mut w = [0; MOST_MEMBERS as usize];
         for j in 0..k {
             w[usize::from(j)] = increment(rule, k, denom, j + 1);
         }
@@ -51,7 +90,7 @@ impl Increments {
 /// The common denominator of the increments for committees of k.
 fn denominator(rule: ThieleRule, k: u8) -> u128
     requires some { 1 ≤ k }
-    requires most { k ≤ 40 }
+    requires most { k ≤ most_members }
     ensures { result ≡ denominator rule k }
 {
     match rule {
@@ -68,7 +107,7 @@ fn increment(rule: ThieleRule, k: u8, denom: u128, j: u8) -> u128
     requires denominator { denom ≡ denominator rule k }
     requires some { 1 ≤ j }
     requires within { j ≤ k }
-    requires most { k ≤ 40 }
+    requires most { k ≤ most_members }
     ensures { result ≡ increment rule k j }
 {
     match rule {

@@ -1,40 +1,70 @@
 //! Laws of the definitions. Each function does nothing, and its contract is the law.
-ghost use Rattle.std.specs.Prelude.{◌≡◌, ℕ, ◌+◌, ◌-◌, ◌*◌, ◌^◌, ◌<◌, ◌≤◌, ◌↔◌, List, length, slice_index, Contains, AllPairs};
+ghost use Rattle.std.specs.Prelude.{◌≡◌, ◌≢◌, ℕ, ◌+◌, ◌-◌, ◌*◌, ◌^◌, ◌<◌, ◌≤◌, ◌↔◌, List, ◌∷◌, ◌++◌, Some, length, slice_index, All, AllPairs, Contains};
 ghost use Rattle.std.specs.Int.{◌∣◌};
-ghost use Rattle.ballot_base.specs.Lists.{IsIncreasing, increasing_lists, IsLater};
-ghost use Rattle.ballot_base.specs.CommonMultiple.{common_multiple};
+ghost use Rattle.ballot_base.specs.Limits.{most_candidates, most_members};
+ghost use Rattle.ballot_base.specs.Lists.{IsIncreasing, increasing_lists, AreInOrder, later_than};
+ghost use Rattle.ballot_base.specs.CommonMultiple.{common_multiple, AllDivide};
 ghost use Rattle.ballot_base.specs.Increments.{increment, denominator, increments};
+ghost use Rattle.ballot_base.specs.RuleNames.{thiele_name, thiele_named, thiele_rules};
 
 use crate::increments::ThieleRule;
 
-/// Which lists `increasing_lists` has: just the increasing ones of this length.
+/// Which lists `increasing_lists` has: exactly the increasing ones of this length.
 pub fn committees()
-    ensures { (first last size : ℕ) (set : List ℕ) → Contains (increasing_lists first last size) set ↔ (IsIncreasing first last set × (length set ≡ size)) }
+    ensures members { (first last size : ℕ) (set : List ℕ) → Contains (increasing_lists first last size) set
+        ↔ (IsIncreasing first last set × (length set ≡ size)) }
+    ensures sizes { (first last size : ℕ) → All (λ set. length set ≡ size) (increasing_lists first last size) }
 {}
 
 /// Their order: each comes later than all before it, so that each comes once.
 pub fn committee_order()
-    ensures later { (first last size : ℕ) → AllPairs (λ x y. IsLater y x) (increasing_lists first last size) }
-    ensures once { (first last size : ℕ) → AllPairs (λ x y. x ≡ y → ⊥) (increasing_lists first last size) }
+    ensures later { (first last size : ℕ) → AreInOrder (increasing_lists first last size) }
+    ensures once { (first last size : ℕ) → AllPairs (λ set other. set ≢ other) (increasing_lists first last size) }
+{}
+
+/// Of lists in order, those later than a start are the last ones. Where the start is one of the lists, they are those
+/// after it.
+pub fn later()
+    ensures end { (start : List ℕ) (lists : List (List ℕ)) → AreInOrder lists
+        → (before : List (List ℕ)) × (lists ≡ before ++ later_than (Some start) lists) }
+    ensures after { (before after : List (List ℕ)) (start : List ℕ) → AreInOrder (before ++ start ∷ after)
+        → later_than (Some start) (before ++ start ∷ after) ≡ after }
 {}
 
 /// `common_multiple n` is the least positive number that all of 1 to n divide, and it divides each other such number.
 pub fn multiples()
     ensures positive { (n : ℕ) → 0 < common_multiple n }
-    ensures divided { (n divisor : ℕ) → 1 ≤ divisor → divisor ≤ n → divisor ∣ common_multiple n }
-    ensures least { (n other : ℕ) → 0 < other → ((divisor : ℕ) → 1 ≤ divisor → divisor ≤ n → divisor ∣ other) → common_multiple n ≤ other }
-    ensures divides { (n other : ℕ) → ((divisor : ℕ) → 1 ≤ divisor → divisor ≤ n → divisor ∣ other) → common_multiple n ∣ other }
+    ensures divided { (n : ℕ) → AllDivide n (common_multiple n) }
+    ensures least { (n other : ℕ) → 0 < other → AllDivide n other → common_multiple n ≤ other }
+    ensures divides { (n other : ℕ) → AllDivide n other → common_multiple n ∣ other }
 {}
 
 /// Increments never rise: no member adds more than the one before.
 pub fn falling()
-    ensures { (rule : ThieleRule) (k i : ℕ) → 1 ≤ k → k ≤ 40 → slice_index (increments rule k) (i + 1) ≤ slice_index (increments rule k) i }
+    ensures { (rule : ThieleRule) (k i : ℕ) → 1 ≤ k → k ≤ most_members
+        → slice_index (increments rule k) (i + 1) ≤ slice_index (increments rule k) i }
 {}
 
 /// Nothing is rounded: the increment of the j-th member times what it is the reciprocal of is the denominator.
 pub fn exact()
     ensures pav { (k j : ℕ) → 1 ≤ j → j ≤ k → increment ThieleRule.Pav k j * j ≡ denominator ThieleRule.Pav k }
-    ensures geom2 { (k j : ℕ) → 1 ≤ j → j ≤ k → increment ThieleRule.Geom2 k j * 2 ^ (j - 1) ≡ denominator ThieleRule.Geom2 k }
-    ensures geom3 { (k j : ℕ) → 1 ≤ j → j ≤ k → increment ThieleRule.Geom3 k j * 3 ^ (j - 1) ≡ denominator ThieleRule.Geom3 k }
-    ensures geom4 { (k j : ℕ) → 1 ≤ j → j ≤ k → increment ThieleRule.Geom4 k j * 4 ^ (j - 1) ≡ denominator ThieleRule.Geom4 k }
+    ensures geom2 { (k j : ℕ) → 1 ≤ j → j ≤ k
+        → increment ThieleRule.Geom2 k j * 2 ^ (j - 1) ≡ denominator ThieleRule.Geom2 k }
+    ensures geom3 { (k j : ℕ) → 1 ≤ j → j ≤ k
+        → increment ThieleRule.Geom3 k j * 3 ^ (j - 1) ≡ denominator ThieleRule.Geom3 k }
+    ensures geom4 { (k j : ℕ) → 1 ≤ j → j ≤ k
+        → increment ThieleRule.Geom4 k j * 4 ^ (j - 1) ≡ denominator ThieleRule.Geom4 k }
+{}
+
+/// How large multiples and denominators are, so that sums over all voters fit 128 bits.
+pub fn small()
+    ensures multiples { (n : ℕ) → n ≤ most_candidates → common_multiple n < 2 ^ 90 }
+    ensures denominators { (rule : ThieleRule) (k : ℕ) → k ≤ most_members → denominator rule k ≤ 2 ^ 78 }
+    ensures increments { (rule : ThieleRule) (k j : ℕ) → 1 ≤ j → increment rule k j ≤ denominator rule k }
+{}
+
+/// `ThieleRule::ALL` has each rule, and no two rules share a name.
+pub fn names()
+    ensures all { ThieleRule.ALL ≡ thiele_rules }
+    ensures back { (rule : ThieleRule) → thiele_named (thiele_name rule) ≡ Some rule }
 {}

@@ -4,12 +4,14 @@
 pub mod cand_set;
 pub mod increments;
 pub mod laws;
+pub mod limits;
 pub mod multiples;
 pub mod profile;
 pub mod subsets;
 
 pub use cand_set::CandSet;
 pub use increments::{Increments, ThieleRule};
+pub use limits::{MOST_CANDIDATES, MOST_MEMBERS, MOST_VOTERS};
 pub use multiples::common_multiple;
-pub use profile::{AddFault, FinishFault, Profile, ProfileBuilder};
+pub use profile::{AddFault, Ballots, FinishFault, Profile, ProfileBuilder};
 pub use subsets::KSets;

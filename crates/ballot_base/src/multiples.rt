@@ -1,22 +1,25 @@
 //! The least common multiple of the first numbers.
-ghost use Rattle.std.specs.Prelude.{◌≡◌, ◌<◌, ◌≤◌, ◌^◌};
+ghost use Rattle.std.specs.Prelude.{◌≡◌, ◌≤◌};
 ghost use Rattle.std.specs.Int.{IsGcd};
+ghost use Rattle.ballot_base.specs.Limits.{most_candidates};
 ghost use Rattle.ballot_base.specs.CommonMultiple.{common_multiple};
 
-/// The least positive number that all of 1 to n divide; 1 for n = 0. That of 40 is 5342931457063200.
+/// The least positive number that all of 1 to n divide; 1 for n = 0.
 pub fn common_multiple(n: u8) -> u128
-    requires { n ≤ 40 }
+    requires { n ≤ most_candidates }
     ensures { result ≡ common_multiple n }
 {
-    let mut multiple: u64 = 1;
-    for i in 1..=u64::from(n) {
-        multiple = multiple / greatest_divisor(multiple, i) * i;
+    let mut multiple: u128 = 1;
+    for i in 1..=n {
+        // What i shares with the multiple, it shares with the rest of the multiple by i, which fits a byte.
+        let rest = (multiple % u128::from(i)) as u8;
+        multiple *= u128::from(i / greatest_divisor(i, rest));
     }
-    u128::from(multiple)
+    multiple
 }
 
 /// The greatest number that divides both.
-fn greatest_divisor(mut a: u64, mut b: u64) -> u64
+fn greatest_divisor(mut a: u8, mut b: u8) -> u8
     ensures { IsGcd a b result }
 {
     while b != 0 {

@@ -1,17 +1,19 @@
 //! Profiles of approval ballots.
-ghost use Rattle.std.specs.Prelude.{◌≡◌, ℕ, ◌+◌, ◌^◌, ◌<◌, ◌≤◌, ◌↔◌, List, [], false, length, replicate, slice_get, Some, Err, IfOk, IfErr, IsErr, OnOk, OnErr, option_map, slice_set, take, ◌-◌};
-ghost use Rattle.std.specs.List.{AllByRecursion};
+ghost use Rattle.std.specs.Prelude.{◌≡◌, ◌+◌, ◌-◌, ◌<◌, ◌≤◌, ◌↔◌, List, [], false, length, replicate, take, slice_get, slice_set, option_map};
+ghost use Rattle.std.specs.Prelude.{Some, Err, IsErr, IfOk, IfErr, OnOk, OnErr};
+ghost use Rattle.std.specs.Iterator.{YieldsFirst, item_count};
+ghost use Rattle.ballot_base.specs.Limits.{most_candidates, most_voters};
 ghost use Rattle.ballot_base.specs.Lists.{IsIncreasing};
-ghost use Rattle.ballot_base.specs.Ballots.{Election, IsElection, voter_count, has_ballot, with_votes, election, name_of, texts};
+ghost use Rattle.ballot_base.specs.Ballots.{Row, IsElection, election, name_of, voter_count, has_ballot, with_votes};
+ghost use Rattle.ballot_base.specs.Steps.Profiles.{texts};
 
 use crate::cand_set::CandSet;
+use crate::limits::MOST_VOTERS;
 use indexmap::IndexMap;
+use indexmap::map::Iter;
 use std::alloc::{AllocError, Allocator, Global};
 use std::hash::{BuildHasherDefault, FoldHasher};
 use std::marker::Model;
-
-/// The most voters that a profile has: 2^32.
-const MOST_VOTERS: u64 = 4_294_967_296;
 
 /// The ballots in the order of their first appearance, each with its voters.
 type Rows<A> = IndexMap<CandSet, u64, BuildHasherDefault<FoldHasher>, A>;
@@ -22,7 +24,7 @@ type Names<A> = Vec<Vec<u8, A>, A>;
 /// Why a ballot or a name was not added.
 #[derive(Clone, Copy, Debug, PartialEq, Eq)]
 pub enum AddFault {
-    /// There would be more than 4,294,967,296 voters.
+    /// There would be more than `MOST_VOTERS` voters.
     TooManyVoters,
     /// A growth was refused.
     Memory,
@@ -45,21 +47,21 @@ pub struct ProfileBuilder<A: Allocator + Copy = Global> {
 }
 
 impl<A: Allocator + Copy> Model for ProfileBuilder<A> {
-    ghost use Rattle.std.specs.Prelude.{◌≡◌, ◌≤◌, [], replicate};
-    ghost use Rattle.ballot_base.specs.Ballots.{Election, IsElection, voter_count, election, texts};
+    ghost use Rattle.ballot_base.specs.Ballots.{Election, election};
+    ghost use Rattle.ballot_base.specs.Steps.Profiles.{texts, IsCounted};
 
     ghost Value = { Election };
 
     ghost view = { λ b. election b.m (texts b.names.items) b.rows.entries };
 
-    ghost invariant = { λ b. IsElection (election b.m (texts b.names.items) b.rows.entries) × (b.voters ≡ voter_count b.rows.entries) };
+    ghost invariant = { λ b. IsCounted (election b.m (texts b.names.items) b.rows.entries) b.voters };
 }
 
 impl<A: Allocator + Copy + Drop> ProfileBuilder<A> {
     /// No ballot yet, for m candidates without names.
     pub fn new(alloc: A, m: u8) -> Result<ProfileBuilder<A>, AllocError>
         requires some { 1 ≤ m }
-        requires most { m ≤ 40 }
+        requires most { m ≤ most_candidates }
         ensures { IfOk result (λ builder. builder ≡ election m (replicate m []) []) }
     {
         Ok(ProfileBuilder {
@@ -99,13 +101,13 @@ impl<A: Allocator + Copy + Drop> ProfileBuilder<A> {
         self.m = m;
     }
 
-    /// Adds `count` voters who approve just these candidates. A ballot that is there keeps its place and takes no
+    /// Adds `count` voters who approve exactly these candidates. A ballot that is there keeps its place and takes no
     /// memory; a new one comes last. After a refusal the builder is as it was.
     pub fn add(&mut self, set: CandSet, count: u64) -> Result<(), AddFault>
         requires ballot { IsIncreasing 1 self.old.m set }
         requires voters { 1 ≤ count }
         ensures ok { OnOk result (self.new ≡ record self.old { rows = with_votes self.old.rows set count }) }
-        ensures too_many { (result ≡ Err AddFault.TooManyVoters) ↔ (2 ^ 32 < voter_count self.old.rows + count) }
+        ensures too_many { (result ≡ Err AddFault.TooManyVoters) ↔ (most_voters < voter_count self.old.rows + count) }
         ensures memory { result ≡ Err AddFault.Memory → has_ballot self.old.rows set ≡ false }
         ensures err { OnErr result (self.new ≡ self.old) }
         ensures valid { IsElection self.new }
@@ -163,9 +165,7 @@ fn put<A: Allocator + Copy>(
     ballot: CandSet,
     count: u64,
 ) -> Result<(), AllocError>
-    requires ballots { AllByRecursion (λ row. IsIncreasing 1 40 row.0) rows.old.entries }
-    requires ballot { IsIncreasing 1 40 ballot }
-    requires room { voter_count rows.old.entries + count ≤ 2 ^ 32 }
+    requires { voter_count rows.old.entries + count ≤ most_voters }
     ensures ok { OnOk result (rows.new.entries ≡ with_votes rows.old.entries ballot count) }
     ensures err { OnErr result (rows.new.entries ≡ rows.old.entries) }
     ensures new { OnErr result (has_ballot rows.old.entries ballot ≡ false) }
@@ -180,7 +180,7 @@ fn put<A: Allocator + Copy>(
     }
 }
 
-/// A profile of approval ballots: at least one voter, and at most 4,294,967,296, over the candidates 1 to m.
+/// A profile of approval ballots: at least one voter, and at most `MOST_VOTERS`, over the candidates 1 to m.
 #[derive(Drop)]
 pub struct Profile<A: Allocator + Copy = Global> {
     m: u8,
@@ -190,18 +190,20 @@ pub struct Profile<A: Allocator + Copy = Global> {
 }
 
 impl<A: Allocator + Copy> Model for Profile<A> {
-    ghost use Rattle.std.specs.Prelude.{◌≡◌, ◌≢◌, []};
-    ghost use Rattle.ballot_base.specs.Ballots.{Election, IsElection, voter_count, election, texts};
+    ghost use Rattle.std.specs.Prelude.{◌≢◌, []};
+    ghost use Rattle.ballot_base.specs.Ballots.{Election, election};
+    ghost use Rattle.ballot_base.specs.Steps.Profiles.{texts, IsCounted};
 
     ghost Value = { Election };
 
     ghost view = { λ b. election b.m (texts b.names.items) b.rows.entries };
 
-    ghost invariant = { λ b. IsElection (election b.m (texts b.names.items) b.rows.entries) × (b.voters ≡ voter_count b.rows.entries) × (b.rows.entries ≢ []) };
+    ghost invariant = { λ b. IsCounted (election b.m (texts b.names.items) b.rows.entries) b.voters
+        × (b.rows.entries ≢ []) };
 }
 
 impl<A: Allocator + Copy> Profile<A> {
-    /// The number of candidates, 1 to 40.
+    /// The number of candidates, 1 to `MOST_CANDIDATES`.
     pub fn m(&self) -> u8
         ensures value { result ≡ self.now.m }
         ensures valid { IsElection self.now }
@@ -239,12 +241,51 @@ impl<A: Allocator + Copy> Profile<A> {
         }
     }
 
-    /// The number of voters, 1 to 4,294,967,296.
+    /// The rows in the order of first appearance.
+    pub fn ballots(&self) -> Ballots<'_>
+        ensures rows { result ≡ self.now.rows }
+        ensures valid { IsElection self.now }
+    {
+        Ballots {
+            rows: self.rows.iter(),
+        }
+    }
+
+    /// The number of voters, 1 to `MOST_VOTERS`.
     pub fn voters(&self) -> u64
         ensures value { result ≡ voter_count self.now.rows }
         ensures some { 1 ≤ result }
-        ensures most { result ≤ 2 ^ 32 }
+        ensures most { result ≤ most_voters }
     {
         self.voters
+    }
+}
+
+/// The different ballots of a profile in the order of their first appearance, each with the number of voters who cast
+/// it. Contracts see the list of those still to come.
+#[derive(Drop)]
+pub struct Ballots<'a> {
+    rows: Iter<'a, CandSet, u64>,
+}
+
+impl<'a> Model for Ballots<'a> {
+    ghost use Rattle.std.specs.Prelude.{List};
+    ghost use Rattle.ballot_base.specs.Ballots.{Row};
+
+    ghost Value = { List Row };
+
+    ghost view = { λ ballots. ballots.rows };
+}
+
+impl<'a> Iterator for Ballots<'a> {
+    type Item = (CandSet, u64);
+
+    ghost next_gives = { YieldsFirst (λ (rows : List Row). rows) };
+
+    ghost remaining = { item_count (λ (rows : List Row). rows) };
+
+    fn next(&mut self) -> Option<(CandSet, u64)> {
+        let (ballot, voters) = self.rows.next()?;
+        Some((*ballot, *voters))
     }
 }

@@ -1,7 +1,8 @@
 //! Committees of one size, in lexicographic order.
-ghost use Rattle.std.specs.Prelude.{◌≡◌, ℕ, ◌≤◌, List};
+ghost use Rattle.std.specs.Prelude.{◌≡◌, ℕ, ◌≤◌, List, Some, length};
 ghost use Rattle.std.specs.Iterator.{YieldsFirst, item_count};
-ghost use Rattle.ballot_base.specs.Lists.{increasing_lists};
+ghost use Rattle.ballot_base.specs.Limits.{most_candidates};
+ghost use Rattle.ballot_base.specs.Lists.{IsIncreasing, increasing_lists, later_than};
 
 use crate::cand_set::CandSet;
 use std::marker::Model;
@@ -15,7 +16,7 @@ pub struct KSets {
 
 impl Model for KSets {
     ghost use Rattle.std.specs.Prelude.{ℕ, List};
-    ghost use Rattle.ballot_base.specs.Subsets.{sets_from, IsPlace};
+    ghost use Rattle.ballot_base.specs.Steps.Subsets.{sets_from, IsPlace};
 
     ghost Value = { List (List ℕ) };
 
@@ -27,14 +28,27 @@ impl Model for KSets {
 impl KSets {
     /// The sets of k of the candidates 1 to m, from the first.
     pub fn new(m: u8, k: u8) -> KSets
-        requires some { 1 ≤ k }
         requires fits { k ≤ m }
-        requires most { m ≤ 40 }
+        requires most { m ≤ most_candidates }
         ensures { result ≡ increasing_lists 1 m k }
     {
         KSets {
             m,
-            next: Some(CandSet::up_to(k)),
+            next: Some(CandSet::all(k)),
+        }
+    }
+
+    /// The sets of k of the candidates 1 to m that are later than this one.
+    pub fn after(m: u8, k: u8, set: CandSet) -> KSets
+        requires most { m ≤ most_candidates }
+        requires candidates { IsIncreasing 1 m set }
+        requires size { length set ≡ k }
+        ensures { result ≡ later_than (Some set) (increasing_lists 1 m k) }
+    {
+        prove!(set.len() == k);
+        KSets {
+            m,
+            next: set.next_of_size(m),
         }
     }
 }

@@ -1,5 +1,5 @@
 use Rattle.std.proofs.Common.{◌≡◌, [], replicate}
-use Rattle.ballot_base.specs.Ballots.{texts}
+use Rattle.ballot_base.specs.Steps.Profiles.{texts}
 use Rattle.ballot_base.proofs.profile.no_names.Given as goal
 
 -- so many empty names so far

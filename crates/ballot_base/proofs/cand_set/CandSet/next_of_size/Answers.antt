@@ -1,7 +1,8 @@
 use Rattle.std.proofs.Common.{◌<◌, ◌+◌, ◌-◌, ◌^◌, sym, subst, arith}
 use Rattle.std.proofs.lemmas.Nat.{pow_below, and_le_l}
-use Rattle.ballot_base.specs.CandSet.{members}
-use Rattle.ballot_base.specs.Subsets.{IsNextSet}
+use Rattle.ballot_base.specs.Limits.{most_candidates}
+use Rattle.ballot_base.specs.Steps.Words.{members}
+use Rattle.ballot_base.specs.Steps.Subsets.{IsNextSet}
 use Rattle.ballot_base.proofs.NextSet.{free_of, growing_of, last_if_all, last_if_none_below, grown_is, bound_of_grown, IsNextSet-grown, bound_of_up_to}
 use Rattle.ballot_base.proofs.cand_set.CandSet.next_of_size.Goals as goal
 
@@ -50,7 +51,7 @@ invariant_of-result c =
     let growing = growing_of bits c.numbers_to-2.result c.greatest-free.result c.greatest-last.result c.numbers_to-2.ensures f.low l.low l.member l.above in
     let is = grown_is bits m c.greatest-free.result c.greatest-last.result c.numbers_to-2.result c.numbers_to-5.result c.numbers_to-3.result c.numbers_to-4.result
     c.numbers_to-2.ensures c.numbers_to-5.ensures c.numbers_to-3.ensures c.numbers_to-4.ensures in
-    subst (λ n. n < 2 ^ 40) (sym is) (bound_of_grown bits m c.greatest-free.result c.greatest-last.result c.self.invariant c.requires.most free.most growing.less)
+    subst (λ n. n < 2 ^ most_candidates) (sym is) (bound_of_grown bits m c.greatest-free.result c.greatest-last.result c.self.invariant c.requires.most free.most growing.less)
 
 pub returns : goal.returns
 returns c =

@@ -1,11 +1,12 @@
 use Rattle.std.proofs.Common.{◌≡◌, ◌≢◌, ◌<◌, ◌∙◌, length, refl, arith, get_or-set_other, get_or-set_same, below_more}
 use Rattle.std.proofs.Math.ListN.{length-set}
 use Rattle.std.proofs.lemmas.List.{get_or-replicate}
+use Rattle.ballot_base.specs.Limits.{most_members}
 use Rattle.ballot_base.proofs.WeightLemmas.{increments-made}
 use Rattle.ballot_base.proofs.increments.Increments.of.Goals as goal
 
 pub loop-j-init : goal.loop-j-init
-loop-j-init c = record { long = refl; made = λ i h. absurd (omega arith); others = λ i low h. get_or-replicate 40 i 0 0 h }
+loop-j-init c = record { long = refl; made = λ i h. absurd (omega arith); others = λ i low h. get_or-replicate most_members i 0 0 h }
 
 pub loop-j-preserved : goal.loop-j-preserved
 loop-j-preserved c =

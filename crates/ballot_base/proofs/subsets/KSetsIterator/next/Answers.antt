@@ -1,5 +1,5 @@
 use Rattle.std.proofs.Common.{◌∙◌, sym, ap, subst, rules}
-use Rattle.ballot_base.specs.Subsets.{sets_from, IsPlace}
+use Rattle.ballot_base.specs.Steps.Subsets.{sets_from, IsPlace}
 use Rattle.ballot_base.proofs.Committees.{next_place}
 use Rattle.ballot_base.proofs.subsets.KSetsIterator.next.Goals as goal
 

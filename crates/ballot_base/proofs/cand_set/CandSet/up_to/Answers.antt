@@ -1,8 +1,0 @@
-use Rattle.ballot_base.proofs.NextSet.{members_up_to, bound_of_up_to}
-use Rattle.ballot_base.proofs.cand_set.CandSet.up_to.Goals as goal
-
-pub invariant_of-result : goal.invariant_of-result
-invariant_of-result c = rw c.numbers_to.ensures (bound_of_up_to c.args.n c.requires)
-
-pub returns : goal.returns
-returns c = rw c.numbers_to.ensures (members_up_to c.args.n c.requires)
