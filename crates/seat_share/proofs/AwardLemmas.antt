@@ -1,5 +1,5 @@
 -- Seats that are given one after the other.
-use Rattle.std.proofs.Common.{◌≡◌, ℕ, zero, suc, ◌+◌, ◌-◌, ◌*◌, ◌^◌, ◌<◌, ◌≤◌, true, false, List, [], ◌∷◌, ◌++◌, Option, Some, None, refl, sym, ap, subst, ◌∙◌, inl, inr, arith, sum, length, take, set, get_or, append_assoc, mul-le-mul}
+use Rattle.std.proofs.Common.{◌≡◌, ℕ, zero, suc, ◌+◌, ◌-◌, ◌<◌, ◌≤◌, true, false, List, [], ◌∷◌, ◌++◌, Option, Some, None, refl, sym, ap, subst, ◌∙◌, inl, inr, arith, sum, length, take, set, get_or, append_assoc}
 use Rattle.std.specs.Prelude.{⊤}
 use Rattle.std.specs.List.{AllByRecursion}
 use Rattle.std.proofs.lemmas.List.Sums.{sum_by-cons, sum_by-append}
@@ -7,11 +7,12 @@ use Rattle.std.proofs.lemmas.List.{take_more}
 use Rattle.seat_share.specs.declared.award.Claimant.{Claimant}
 use Rattle.seat_share.specs.declared.contender.Contender.{Contender}
 use Rattle.seat_share.specs.Quotients.{Quotient, is_at_least}
-use Rattle.seat_share.specs.Standings.{Stands, Keeps, IsGreatest, AreWithin, votes_of, seats_of}
+use Rattle.seat_share.specs.Steps.Standings.{Stands, Keeps, IsGreatest, AreWithin, votes_of, seats_of}
 use Rattle.seat_share.specs.declared.method.Method.{Method}
-use Rattle.seat_share.specs.declared.method.Method.TheVariants.{Hamilton, Dhondt, SainteLague, Huntington, Adams, Dean}
-use Rattle.seat_share.specs.Claims.{claim}
+use Rattle.seat_share.specs.Limits.{most_seats, most_votes}
+use Rattle.seat_share.specs.Steps.Claims.{claim, most_dividend}
 use Rattle.seat_share.proofs.Order.{le-true, over_zeros, over_zero_and_some, at_least-total, at_least-trans}
+use Rattle.seat_share.proofs.Ranges.{claim-dividend}
 use Rattle.seat_share.proofs.Threshold.{impossible, either, not-true}
 
 -- ---- lists
@@ -48,11 +49,11 @@ module _ {X : Type 0} where
 module _ (claims : ℕ → ℕ → Quotient) where
   pub greatest-kept : (before : List Contender) (c : Contender) (first later : Claimant) → 0 < c.votes → later.quotient ≡ claims c.votes c.seats
       → is_at_least first.quotient later.quotient ≡ true → IsGreatest claims before (Some first) → IsGreatest claims (before ++ c ∷ []) (Some first)
-  greatest-kept before c first later some is least (front, d, behind, split, count, votes, own, all) = (
+  greatest-kept before c first later some is least (front, d, back, split, count, votes, own, all) = (
     front,
     d,
-    behind ++ c ∷ [],
-    ap (λ l. l ++ c ∷ []) split ∙ append_assoc front (d ∷ behind) (c ∷ []),
+    back ++ c ∷ [],
+    ap (λ l. l ++ c ∷ []) split ∙ append_assoc front (d ∷ back) (c ∷ []),
     count,
     votes,
     own,
@@ -94,15 +95,15 @@ module _ (claims : ℕ → ℕ → Quotient) where
       earlier : (b : Option Claimant) → AreLess b later → IsGreatest claims before b
           → AllByRecursion (λ (e : Contender). 0 < e.votes → is_at_least later.quotient (claims e.votes e.seats) ≡ true) before
       earlier None h all = none before all
-      earlier (Some first) h (front, d, behind, split, long, votes, own, all) = over first.quotient before (at_least-total first.quotient later.quotient h) all
+      earlier (Some first) h (front, d, back, split, long, votes, own, all) = over first.quotient before (at_least-total first.quotient later.quotient h) all
 
   pub greatest-skip : (before : List Contender) (c : Contender) (best : Option Claimant) → c.votes ≡ 0 → IsGreatest claims before best → IsGreatest claims (before ++ c ∷ []) best
   greatest-skip before c None none all = all-push (λ (e : Contender). e.votes ≡ 0) before c all none
-  greatest-skip before c (Some first) none (front, d, behind, split, count, votes, own, all) = (
+  greatest-skip before c (Some first) none (front, d, back, split, count, votes, own, all) = (
     front,
     d,
-    behind ++ c ∷ [],
-    ap (λ l. l ++ c ∷ []) split ∙ append_assoc front (d ∷ behind) (c ∷ []),
+    back ++ c ∷ [],
+    ap (λ l. l ++ c ∷ []) split ∙ append_assoc front (d ∷ back) (c ∷ []),
     count,
     votes,
     own,
@@ -185,7 +186,7 @@ member-seats : (before after : List Contender) (c : Contender) → c.seats ≤ s
 member-seats before after c =
     omega (arith, sum_by-append (λ (e : Contender). e.seats) before (c ∷ after), sum_by-cons (λ (e : Contender). e.seats) c after)
 
-pub within-sum : (most : ℕ) (cs : List Contender) → AllByRecursion (λ (c : Contender). c.votes ≤ 2 ^ 32) cs → seats_of cs ≤ most → AreWithin most cs
+pub within-sum : (most : ℕ) (cs : List Contender) → AllByRecursion (λ (c : Contender). c.votes ≤ most_votes) cs → seats_of cs ≤ most → AreWithin most cs
 within-sum most [] votes fits = tt
 within-sum most (c ∷ cs) votes fits =
     let split = sum_by-cons (λ (e : Contender). e.seats) c cs in
@@ -203,7 +204,7 @@ somebody claims cs best total some is found none =
 -- what is known after some seats were given
 pub record HasGiven (claims : ℕ → ℕ → Quotient) (most : ℕ) (old : List ℕ) (low : Quotient) (cs : List Contender) (given : ℕ) : Type 0 where
   pub kept : AllByRecursion (λ (c : Contender). Keeps claims most low c.votes c.seats) cs
-  pub few : AllByRecursion (λ (c : Contender). c.votes ≤ 2 ^ 32) cs
+  pub few : AllByRecursion (λ (c : Contender). c.votes ≤ most_votes) cs
   pub votes : votes_of cs ≡ old
   pub seats : seats_of cs ≡ given
 
@@ -225,44 +226,32 @@ module _ (claims : ℕ → ℕ → Quotient) (most : ℕ) (falls : (v s : ℕ) �
       let new : set cs first.place (up (get_or cs first.place d)) ≡ before ++ up c ∷ after =
       ap (λ x. set cs first.place (up x)) here ∙ ap (λ l. set l first.place (up c)) split ∙ ap (λ n. set (before ++ c ∷ after) n (up c)) (sym count) ∙ set-middle before after c (up c) in
       let kept = subst (λ l. AllByRecursion (λ (e : Contender). Keeps claims most low e.votes e.seats) l) split has.kept in
-      let few = subst (λ l. AllByRecursion (λ (e : Contender). e.votes ≤ 2 ^ 32) l) split has.few in
+      let few = subst (λ l. AllByRecursion (λ (e : Contender). e.votes ≤ most_votes) l) split has.few in
       let greatest = subst (λ l. AllByRecursion (λ (e : Contender). 0 < e.votes → is_at_least first.quotient (claims e.votes e.seats) ≡ true) l) split all in
       let same : seats_of (before ++ c ∷ after) ≡ given = ap seats_of (sym split) ∙ has.seats in
       subst (λ l. HasGiven claims most old first.quotient l (given + 1)) (sym new) (record {
         kept = keeps-raised claims most falls low first.quotient before after c votes (omega (arith, room, same, member-seats before after c)) own kept greatest;
-        few = all-replaced (λ (e : Contender). e.votes ≤ 2 ^ 32) before after c (up c) few (all-middle (λ (e : Contender). e.votes ≤ 2 ^ 32) before after c few);
+        few = all-replaced (λ (e : Contender). e.votes ≤ most_votes) before after c (up c) few (all-middle (λ (e : Contender). e.votes ≤ most_votes) before after c few);
         votes = votes-raised claims before after c (up c) refl ∙ ap votes_of (sym split) ∙ has.votes;
         seats = seats-raised claims before after c (up c) refl ∙ ap (λ n. n + 1) same;
       })
 
 -- ---- the start
-infinite : (q : Quotient) → q.0 ≤ 2 ^ 64 → is_at_least (2 ^ 64, 0) q ≡ true
-infinite (x, zero) h = over_zeros (2 ^ 64) 0 x 0 refl refl ∙ le-true x (2 ^ 64) h
-infinite (x, suc y) h = over_zero_and_some (2 ^ 64) 0 x (suc y) refl (omega arith)
-
-claim-small : (method : Method) (total most v : ℕ) → v ≤ 2 ^ 32 → most ≤ 10000 → total ≤ 2 ^ 32 → (claim method total most v 0).0 ≤ 2 ^ 64
-claim-small Hamilton total most v hv hm ht =
-    let first : v * most ≤ 2 ^ 32 * 10000 = mul-le-mul hv hm in
-    let second : most * total ≤ 10000 * 2 ^ 32 = mul-le-mul hm ht in
-    let all : most - 0 ≡ most = omega arith in
-    rw all (omega (arith, first, second))
-claim-small Dhondt total most v hv hm ht = omega (arith, hv)
-claim-small SainteLague total most v hv hm ht = omega (arith, hv)
-claim-small Huntington total most v hv hm ht = let product : v * v ≤ 2 ^ 32 * 2 ^ 32 = mul-le-mul hv hv in omega (arith, product)
-claim-small Adams total most v hv hm ht = omega (arith, hv)
-claim-small Dean total most v hv hm ht = omega (arith, hv)
+infinite : (q : Quotient) → q.0 ≤ most_dividend → is_at_least (most_dividend, 0) q ≡ true
+infinite (x, zero) h = over_zeros (most_dividend) 0 x 0 refl refl ∙ le-true x (most_dividend) h
+infinite (x, suc y) h = over_zero_and_some (most_dividend) 0 x (suc y) refl (omega arith)
 
 none-given : (cs : List Contender) → AllByRecursion (λ (c : Contender). c.seats ≡ 0) cs → seats_of cs ≡ 0
 none-given [] all = refl
 none-given (c ∷ cs) all = sum_by-cons (λ (e : Contender). e.seats) c cs ∙ (omega (arith, all.0, none-given cs all.1))
 
-pub given-none : (method : Method) (total most : ℕ) (cs : List Contender) → most ≤ 10000 → total ≤ 2 ^ 32 → AllByRecursion (λ (c : Contender). c.votes ≤ 2 ^ 32) cs → AllByRecursion (λ (c : Contender). c.seats ≡ 0) cs
-    → HasGiven (claim method total most) most (votes_of cs) (2 ^ 64, 0) cs 0
+pub given-none : (method : Method) (total most : ℕ) (cs : List Contender) → most ≤ most_seats → total ≤ most_votes → AllByRecursion (λ (c : Contender). c.votes ≤ most_votes) cs → AllByRecursion (λ (c : Contender). c.seats ≡ 0) cs
+    → HasGiven (claim method total most) most (votes_of cs) (most_dividend, 0) cs 0
 given-none method total most cs hm ht few fresh = record {
-  kept = all-both (λ (c : Contender). c.votes ≤ 2 ^ 32) (λ (c : Contender). c.seats ≡ 0) (λ (c : Contender). Keeps (claim method total most) most (2 ^ 64, 0) c.votes c.seats) cs few fresh
+  kept = all-both (λ (c : Contender). c.votes ≤ most_votes) (λ (c : Contender). c.seats ≡ 0) (λ (c : Contender). Keeps (claim method total most) most (most_dividend, 0) c.votes c.seats) cs few fresh
       (λ c v s. record {
         given = λ some seats. impossible (omega (arith, seats, s));
-        next = λ some. ap (λ n. is_at_least (2 ^ 64, 0) (claim method total most c.votes n)) s ∙ infinite (claim method total most c.votes 0) (claim-small method total most c.votes v hm ht);
+        next = λ some. ap (λ n. is_at_least (most_dividend, 0) (claim method total most c.votes n)) s ∙ infinite (claim method total most c.votes 0) (claim-dividend total most c.votes 0 (record { few_votes = ht; few_seats = hm; own_votes = v; own_seats = omega arith }) method);
         none = λ none. s;
       });
   few = few;

@@ -2,12 +2,12 @@
 use Rattle.std.proofs.Common.{◌≡◌, ℕ, zero, suc, ◌+◌, ◌-◌, ◌<◌, ◌≤◌, Bool, true, false, cond, List, [], ◌∷◌, ◌++◌, refl, sym, ap, ap₂, ◌∙◌, arith, map, append-nil, count_by, length}
 use Rattle.std.proofs.lemmas.List.Sums.{sum_by-cons}
 use Rattle.seat_share.specs.declared.contender.Contender.{Contender}
-use Rattle.seat_share.specs.Choices.{Standing, choices}
-use Rattle.seat_share.specs.Standings.{standing, standings, tied_count, more_count, allocation, choices_less, choices_from, MoreAreTied}
+use Rattle.seat_share.specs.Steps.Choices.{Standing, choices}
+use Rattle.seat_share.specs.Steps.Standings.{standing, standings, tied_count, more_count, allocation, choices_less, choices_from, MoreAreTied}
 use Rattle.seat_share.proofs.Threshold.{impossible}
 
 -- more seats than tied parties
-too-many : (ss : List Standing) (more : ℕ) → count_by (λ (s : Standing). s.1) ss < more → choices ss more ≡ []
+pub too-many : (ss : List Standing) (more : ℕ) → count_by (λ (s : Standing). s.1) ss < more → choices ss more ≡ []
 unfolding choices
 too-many [] zero less = impossible (omega (arith, less))
 too-many [] (suc more) less = refl
@@ -19,33 +19,33 @@ too-many ((sure, true) ∷ rest) (suc more) less =
     ap₂ (λ x y. map (λ seats. sure ∷ seats) x ++ map (λ seats. (sure + 1) ∷ seats) y)
     (too-many rest (suc more) (omega (arith, less, count))) (too-many rest more (omega (arith, less, count)))
 
-tied-standings : (cs : List Contender) → count_by (λ (s : Standing). s.1) (standings cs) ≡ tied_count cs
+pub tied-standings : (cs : List Contender) → count_by (λ (s : Standing). s.1) (standings cs) ≡ tied_count cs
 tied-standings [] = refl
 tied-standings (c ∷ cs) =
     sum_by-cons (λ (s : Standing). cond s.1 1 0) (standing c) (standings cs) ∙ ap (λ n. cond c.is_tied 1 0 + n) (tied-standings cs)
     ∙ sym (sum_by-cons (λ (d : Contender). cond d.is_tied 1 0) c cs)
 
 -- the choices of a tied party and others
-choices-tied : (sure : ℕ) (ss : List Standing) (more : ℕ) → choices ((sure, true) ∷ ss) more ≡ map (λ others. sure ∷ others) (choices ss more) ++ map (λ others. (sure + 1) ∷ others) (choices_less ss more)
+pub choices-tied : (sure : ℕ) (ss : List Standing) (more : ℕ) → choices ((sure, true) ∷ ss) more ≡ map (λ others. sure ∷ others) (choices ss more) ++ map (λ others. (sure + 1) ∷ others) (choices_less ss more)
 unfolding choices
 choices-tied sure ss zero = sym (append-nil (map (λ others. sure ∷ others) (choices ss zero)))
 choices-tied sure ss (suc more) = refl
 
-choices-free : (sure : ℕ) (ss : List Standing) (more : ℕ) → choices ((sure, false) ∷ ss) more ≡ map (λ others. sure ∷ others) (choices ss more)
+pub choices-free : (sure : ℕ) (ss : List Standing) (more : ℕ) → choices ((sure, false) ∷ ss) more ≡ map (λ others. sure ∷ others) (choices ss more)
 unfolding choices
 choices-free sure ss more = refl
 
 -- a party that has one more
-from-more : (c : Contender) (cs : List Contender) → c.has_more ≡ true → choices_from (c ∷ cs) ≡ map (λ others. (c.seats + 1) ∷ others) (choices_from cs)
+pub from-more : (c : Contender) (cs : List Contender) → c.has_more ≡ true → choices_from (c ∷ cs) ≡ map (λ others. (c.seats + 1) ∷ others) (choices_from cs)
 unfolding choices_from
 from-more c cs h = rw h refl
 
-from-tied : (c : Contender) (cs : List Contender) → c.has_more ≡ false → c.is_tied ≡ true
+pub from-tied : (c : Contender) (cs : List Contender) → c.has_more ≡ false → c.is_tied ≡ true
     → choices_from (c ∷ cs) ≡ map (λ others. c.seats ∷ others) (choices_from cs) ++ map (λ others. (c.seats + 1) ∷ others) (choices_less (standings cs) (more_count cs))
 unfolding choices_from
 from-tied c cs h k = rw (h, k) refl
 
-from-free : (c : Contender) (cs : List Contender) → c.has_more ≡ false → c.is_tied ≡ false → choices_from (c ∷ cs) ≡ map (λ others. c.seats ∷ others) (choices_from cs)
+pub from-free : (c : Contender) (cs : List Contender) → c.has_more ≡ false → c.is_tied ≡ false → choices_from (c ∷ cs) ≡ map (λ others. c.seats ∷ others) (choices_from cs)
 unfolding choices_from
 from-free c cs h k = rw (h, k) (append-nil (map (λ others. c.seats ∷ others) (choices_from cs)))
 

@@ -6,7 +6,8 @@ use Rattle.std.specs.List.{range_with_len}
 use Rattle.std.proofs.lemmas.List.Elements.{filter-append}
 use Rattle.std.proofs.lemmas.Grind.{flat_map-append}
 use Rattle.seat_share.specs.Allocations.{lists_with_sum}
-use Rattle.seat_share.specs.Choices.{Standing, choices}
+use Rattle.seat_share.specs.Steps.Choices.{Standing, choices}
+use Rattle.seat_share.proofs.Members.{and-false}
 use Rattle.seat_share.proofs.Order.{le-true, le-false}
 use Rattle.seat_share.proofs.Threshold.{none_or_some, impossible}
 
@@ -25,15 +26,15 @@ sure_seats [] = 0
 sure_seats (standing ∷ rest) = standing.0 + sure_seats rest
 
 -- ---- lists
-range-split : (first front behind : ℕ) → range_with_len first (front + behind) ≡ range_with_len first front ++ range_with_len (first + front) behind
-range-split first zero behind =
-    let none : zero + behind ≡ behind = omega arith in
+range-split : (first front back : ℕ) → range_with_len first (front + back) ≡ range_with_len first front ++ range_with_len (first + front) back
+range-split first zero back =
+    let none : zero + back ≡ back = omega arith in
     let here : first + zero ≡ first = omega arith in
     rw (none, here) refl
-range-split first (suc front) behind =
-    let next : suc front + behind ≡ suc (front + behind) = omega arith in
+range-split first (suc front) back =
+    let next : suc front + back ≡ suc (front + back) = omega arith in
     let here : first + suc front ≡ first + 1 + front = omega arith in
-    rw (next, here) (ap (λ l. first ∷ l) (range-split (first + 1) front behind))
+    rw (next, here) (ap (λ l. first ∷ l) (range-split (first + 1) front back))
 
 module _ {X : Type 0} where
   flat_map-none : (h : ℕ → List X) (first count : ℕ) → ((n : ℕ) → first ≤ n → n < first + count → h n ≡ []) → flat_map h (range_with_len first count) ≡ []
@@ -42,7 +43,7 @@ module _ {X : Type 0} where
       ap₂ (λ x y. x ++ y) (each first (omega arith) (omega arith))
       (flat_map-none h (first + 1) count (λ n low high. each n (omega (arith, low)) (omega (arith, high))))
 
-  filter-map : {Y : Type 0} (p : Y → Bool) (f : X → Y) (xs : List X) → filter p (map f xs) ≡ map f (filter (λ x. p (f x)) xs)
+  pub filter-map : {Y : Type 0} (p : Y → Bool) (f : X → Y) (xs : List X) → filter p (map f xs) ≡ map f (filter (λ x. p (f x)) xs)
   filter-map p f [] = refl
   filter-map p f (x ∷ xs) =
       elim (p (f x)) as (λ b. cond b (f x ∷ filter p (map f xs)) (filter p (map f xs)) ≡ map f (cond b (x ∷ filter (λ y. p (f y)) xs) (filter (λ y. p (f y)) xs))) [
@@ -77,10 +78,6 @@ begun-none standing rest sum seats h =
 few-fail : (standing : Standing) (seats : ℕ) → seats < standing.0 → fits_one standing seats ≡ false
 few-fail standing seats less = rw (le-false standing.0 seats less) refl
 
-and-false : (b : Bool) → (b && false) ≡ false
-and-false true = refl
-and-false false = refl
-
 many-fail : (standing : Standing) (seats : ℕ) → standing.0 + cond standing.1 1 0 < seats → fits_one standing seats ≡ false
 many-fail standing seats more = rw (le-false seats (standing.0 + cond standing.1 1 0) more) (and-false (nat_le standing.0 seats))
 
@@ -114,20 +111,20 @@ one-more-fits : (sure : ℕ) → fits_one (sure, true) (sure + 1) ≡ true
 one-more-fits sure = rw (le-true sure (sure + 1) (omega arith), le-true (sure + 1) (sure + 1) (omega arith)) refl
 
 -- those that begin with the certain seats, and those with more
-two-parts : (standing : Standing) (rest : List Standing) (behind : ℕ)
-    → flat_map (begun standing rest (standing.0 + behind)) (range_with_len 0 (suc (standing.0 + behind)))
-    ≡ begun standing rest (standing.0 + behind) standing.0 ++ flat_map (begun standing rest (standing.0 + behind)) (range_with_len (standing.0 + 1) behind)
-two-parts standing rest behind =
+two-parts : (standing : Standing) (rest : List Standing) (others_sum : ℕ)
+    → flat_map (begun standing rest (standing.0 + others_sum)) (range_with_len 0 (suc (standing.0 + others_sum)))
+    ≡ begun standing rest (standing.0 + others_sum) standing.0 ++ flat_map (begun standing rest (standing.0 + others_sum)) (range_with_len (standing.0 + 1) others_sum)
+two-parts standing rest others_sum =
     let sure = standing.0 in
-    let sum = sure + behind in
+    let sum = sure + others_sum in
     let h = begun standing rest sum in
-    let long : suc (sure + behind) ≡ sure + suc behind = omega arith in
+    let long : suc (sure + others_sum) ≡ sure + suc others_sum = omega arith in
     let start : 0 + sure ≡ sure = omega arith in
     ap (λ n. flat_map h (range_with_len 0 n)) long
-    ∙ ap (flat_map h) (range-split 0 sure (suc behind))
-    ∙ flat_map-append h (range_with_len 0 sure) (range_with_len (0 + sure) (suc behind))
+    ∙ ap (flat_map h) (range-split 0 sure (suc others_sum))
+    ∙ flat_map-append h (range_with_len 0 sure) (range_with_len (0 + sure) (suc others_sum))
     ∙ ap₂ (λ x y. x ++ y) (flat_map-none h 0 sure (λ seats low high. begun-none standing rest sum seats (few-fail standing seats (omega (arith, high)))))
-    (ap (λ n. flat_map h (range_with_len n (suc behind))) start)
+    (ap (λ n. flat_map h (range_with_len n (suc others_sum))) start)
 
 pub chosen : (ss : List Standing) (more : ℕ) → filter (fits ss) (lists_with_sum (length ss) (sure_seats ss + more)) ≡ choices ss more
 unfolding lists_with_sum choices
@@ -136,51 +133,51 @@ chosen [] (suc more) =
     let some : 0 + suc more ≡ suc more = omega arith in ap (λ n. filter (fits []) (lists_with_sum zero n)) some
 chosen ((sure, false) ∷ rest) more =
     let standing : Standing = (sure, false) in
-    let behind = sure_seats rest + more in
-    let sum : (sure + sure_seats rest) + more ≡ sure + behind = omega arith in
-    let left : (sure + behind) - sure ≡ behind = omega arith in
+    let others_sum = sure_seats rest + more in
+    let sum : (sure + sure_seats rest) + more ≡ sure + others_sum = omega arith in
+    let left : (sure + others_sum) - sure ≡ others_sum = omega arith in
     ap (λ n. filter (fits (standing ∷ rest)) (lists_with_sum (suc (length rest)) n)) sum
-    ∙ begun-all standing rest (sure + behind) ∙ two-parts standing rest behind
+    ∙ begun-all standing rest (sure + others_sum) ∙ two-parts standing rest others_sum
     ∙ ap₂ (λ x y. x ++ y)
-    (begun-fit standing rest (sure + behind) sure (surely-fits sure false) ∙ ap (λ n. map (λ others. sure ∷ others) (filter (fits rest) (lists_with_sum (length rest) n))) left
+    (begun-fit standing rest (sure + others_sum) sure (surely-fits sure false) ∙ ap (λ n. map (λ others. sure ∷ others) (filter (fits rest) (lists_with_sum (length rest) n))) left
     ∙ ap (map (λ others. sure ∷ others)) (chosen rest more))
-    (flat_map-none (begun standing rest (sure + behind)) (sure + 1) behind (λ seats low high. begun-none standing rest (sure + behind) seats (many-fail standing seats (omega (arith, low)))))
+    (flat_map-none (begun standing rest (sure + others_sum)) (sure + 1) others_sum (λ seats low high. begun-none standing rest (sure + others_sum) seats (many-fail standing seats (omega (arith, low)))))
     ∙ append-nil (map (λ others. sure ∷ others) (choices rest more))
 chosen ((sure, true) ∷ rest) zero =
     let standing : Standing = (sure, true) in
-    let behind = sure_seats rest + zero in
-    let sum : (sure + sure_seats rest) + zero ≡ sure + behind = omega arith in
-    let left : (sure + behind) - sure ≡ behind = omega arith in
+    let others_sum = sure_seats rest + zero in
+    let sum : (sure + sure_seats rest) + zero ≡ sure + others_sum = omega arith in
+    let left : (sure + others_sum) - sure ≡ others_sum = omega arith in
     ap (λ n. filter (fits (standing ∷ rest)) (lists_with_sum (suc (length rest)) n)) sum
-    ∙ begun-all standing rest (sure + behind) ∙ two-parts standing rest behind
+    ∙ begun-all standing rest (sure + others_sum) ∙ two-parts standing rest others_sum
     ∙ ap₂ (λ x y. x ++ y)
-    (begun-fit standing rest (sure + behind) sure (surely-fits sure true) ∙ ap (λ n. map (λ others. sure ∷ others) (filter (fits rest) (lists_with_sum (length rest) n))) left
+    (begun-fit standing rest (sure + others_sum) sure (surely-fits sure true) ∙ ap (λ n. map (λ others. sure ∷ others) (filter (fits rest) (lists_with_sum (length rest) n))) left
     ∙ ap (map (λ others. sure ∷ others)) (chosen rest zero))
-    (flat_map-none (begun standing rest (sure + behind)) (sure + 1) behind (λ seats low high. elim (none_or_some (seats - (sure + 1))) [
-      | inr more ↦ begun-none standing rest (sure + behind) seats (many-fail standing seats (omega (arith, more)))
+    (flat_map-none (begun standing rest (sure + others_sum)) (sure + 1) others_sum (λ seats low high. elim (none_or_some (seats - (sure + 1))) [
+      | inr more ↦ begun-none standing rest (sure + others_sum) seats (many-fail standing seats (omega (arith, more)))
       | inl same ↦
           let is : seats ≡ sure + 1 = omega (arith, low, same) in
-          ap (begun standing rest (sure + behind)) is
-          ∙ begun-fit standing rest (sure + behind) (sure + 1) (one-more-fits sure)
-          ∙ ap (map (λ others. (sure + 1) ∷ others)) (none-fit rest ((sure + behind) - (sure + 1)) (omega (arith, low, high)))
+          ap (begun standing rest (sure + others_sum)) is
+          ∙ begun-fit standing rest (sure + others_sum) (sure + 1) (one-more-fits sure)
+          ∙ ap (map (λ others. (sure + 1) ∷ others)) (none-fit rest ((sure + others_sum) - (sure + 1)) (omega (arith, low, high)))
     ]))
     ∙ append-nil (map (λ others. sure ∷ others) (choices rest zero))
 chosen ((sure, true) ∷ rest) (suc more) =
     let standing : Standing = (sure, true) in
-    let behind = sure_seats rest + suc more in
-    let sum : (sure + sure_seats rest) + suc more ≡ sure + behind = omega arith in
-    let left : (sure + behind) - sure ≡ behind = omega arith in
-    let next : behind ≡ suc (sure_seats rest + more) = omega arith in
-    let less : (sure + behind) - (sure + 1) ≡ sure_seats rest + more = omega arith in
+    let others_sum = sure_seats rest + suc more in
+    let sum : (sure + sure_seats rest) + suc more ≡ sure + others_sum = omega arith in
+    let left : (sure + others_sum) - sure ≡ others_sum = omega arith in
+    let next : others_sum ≡ suc (sure_seats rest + more) = omega arith in
+    let less : (sure + others_sum) - (sure + 1) ≡ sure_seats rest + more = omega arith in
     ap (λ n. filter (fits (standing ∷ rest)) (lists_with_sum (suc (length rest)) n)) sum
-    ∙ begun-all standing rest (sure + behind) ∙ two-parts standing rest behind
+    ∙ begun-all standing rest (sure + others_sum) ∙ two-parts standing rest others_sum
     ∙ ap₂ (λ x y. x ++ y)
-    (begun-fit standing rest (sure + behind) sure (surely-fits sure true) ∙ ap (λ n. map (λ others. sure ∷ others) (filter (fits rest) (lists_with_sum (length rest) n))) left
+    (begun-fit standing rest (sure + others_sum) sure (surely-fits sure true) ∙ ap (λ n. map (λ others. sure ∷ others) (filter (fits rest) (lists_with_sum (length rest) n))) left
     ∙ ap (map (λ others. sure ∷ others)) (chosen rest (suc more)))
-    (ap (λ n. flat_map (begun standing rest (sure + behind)) (range_with_len (sure + 1) n)) next
+    (ap (λ n. flat_map (begun standing rest (sure + others_sum)) (range_with_len (sure + 1) n)) next
     ∙ ap₂ (λ x y. x ++ y)
-    (begun-fit standing rest (sure + behind) (sure + 1) (one-more-fits sure) ∙ ap (λ n. map (λ others. (sure + 1) ∷ others) (filter (fits rest) (lists_with_sum (length rest) n))) less
+    (begun-fit standing rest (sure + others_sum) (sure + 1) (one-more-fits sure) ∙ ap (λ n. map (λ others. (sure + 1) ∷ others) (filter (fits rest) (lists_with_sum (length rest) n))) less
     ∙ ap (map (λ others. (sure + 1) ∷ others)) (chosen rest more))
-    (flat_map-none (begun standing rest (sure + behind)) (sure + 1 + 1) (sure_seats rest + more)
-    (λ seats low high. begun-none standing rest (sure + behind) seats (many-fail standing seats (omega (arith, low)))))
+    (flat_map-none (begun standing rest (sure + others_sum)) (sure + 1 + 1) (sure_seats rest + more)
+    (λ seats low high. begun-none standing rest (sure + others_sum) seats (many-fail standing seats (omega (arith, low)))))
     ∙ append-nil (map (λ others. (sure + 1) ∷ others) (choices rest more)))

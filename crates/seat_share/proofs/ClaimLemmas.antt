@@ -3,7 +3,7 @@ use Rattle.std.proofs.Common.{◌≡◌, ℕ, zero, suc, ◌+◌, ◌-◌, ◌*�
 use Rattle.seat_share.specs.declared.method.Method.{Method}
 use Rattle.seat_share.specs.declared.method.Method.TheVariants.{Hamilton, Dhondt, SainteLague, Huntington, Adams, Dean}
 use Rattle.seat_share.specs.Quotients.{is_at_least}
-use Rattle.seat_share.specs.Claims.{claim}
+use Rattle.seat_share.specs.Steps.Claims.{claim}
 use Rattle.seat_share.proofs.Order.{le-false, over_some, over_some_and_zero}
 
 -- the same is divided by more

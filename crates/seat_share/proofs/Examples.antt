@@ -1,10 +1,13 @@
 -- The definitions on worked examples.
-use Rattle.std.proofs.Common.{◌≡◌, [], ◌∷◌, true, false, refl, Some, None}
+use Rattle.std.proofs.Common.{◌≡◌, [], ◌∷◌, true, false, refl, Some, None, codes, map, replicate}
 use Rattle.seat_share.specs.declared.method.Method.TheVariants.{Hamilton, Dhondt, SainteLague, Huntington, Adams, Dean}
-use Rattle.seat_share.specs.declared.method.ShareFault.TheVariants.{NoParties, NoVotes, TooManyVotes, BadSeats}
+use Rattle.seat_share.specs.declared.method.ShareFault.TheVariants.{NoParties, TooManyParties, NoVotes, TooManyVotes, BadSeats, AfterLength}
 use Rattle.seat_share.specs.Quotients.{quotient, is_at_least}
-use Rattle.seat_share.specs.Allocations.{lists_with_sum, allocations}
+use Rattle.seat_share.specs.Allocations.{lists_with_sum, allocations, is_later, later_than}
 use Rattle.seat_share.specs.Faults.{first_fault}
+use Rattle.seat_share.specs.Steps.Choices.{choices}
+use Rattle.seat_share.specs.Steps.Claims.{claim, most_dividend, most_divisor}
+use Rattle.seat_share.specs.Names.{method_name, method_named, methods, share_fault_name}
 
 -- ---- quotients
 over_zero : (is_at_least (quotient Adams 3 0) (quotient Adams 5 0) ≡ false) × (is_at_least (quotient Adams 5 0) (quotient Adams 3 0) ≡ true)
@@ -15,6 +18,18 @@ zero_over_one = (refl, refl)
 
 equal_quotients : (is_at_least (quotient Dhondt 4 1) (quotient Dhondt 2 0) ≡ true) × (is_at_least (quotient Dhondt 2 0) (quotient Dhondt 4 1) ≡ true)
 equal_quotients = (refl, refl)
+
+-- ---- claims
+claims : (claim Hamilton 6 2 3 1 ≡ (12, 1)) × (claim Dean 6 2 3 1 ≡ (9, 4)) × (claim Adams 6 2 3 0 ≡ (3, 0))
+claims = (refl, refl, refl)
+
+greatest_claims : (most_dividend ≡ 18446744073709551616) × (most_divisor ≡ 200020000)
+greatest_claims = (refl, refl)
+
+-- ---- choices
+tied_choices : choices ((1, true) ∷ (0, false) ∷ (0, true) ∷ []) 1 ≡ (1 ∷ 0 ∷ 1 ∷ []) ∷ (2 ∷ 0 ∷ 0 ∷ []) ∷ []
+unfolding choices
+tied_choices = refl
 
 -- ---- lists
 three_of_two : lists_with_sum 2 3 ≡ (0 ∷ 3 ∷ []) ∷ (1 ∷ 2 ∷ []) ∷ (2 ∷ 1 ∷ []) ∷ (3 ∷ 0 ∷ []) ∷ []
@@ -62,7 +77,37 @@ dean : allocations Dean (1 ∷ 6 ∷ []) 10 ≡ (2 ∷ 8 ∷ []) ∷ []
 unfolding lists_with_sum
 dean = refl
 
+-- ---- starts
+order : (is_later (4 ∷ 2 ∷ 1 ∷ []) (4 ∷ 2 ∷ 0 ∷ []) ≡ true) × (is_later (4 ∷ 2 ∷ 1 ∷ []) (4 ∷ 2 ∷ 1 ∷ []) ≡ false) × (is_later (4 ∷ 2 ∷ 1 ∷ []) (5 ∷ 0 ∷ 0 ∷ []) ≡ false)
+    × (is_later (2 ∷ 0 ∷ []) (1 ∷ 1 ∷ []) ≡ true) × (is_later (2 ∷ 0 ∷ []) (1 ∷ []) ≡ false)
+order = (refl, refl, refl, refl, refl)
+
+later : later_than (Some (0 ∷ 1 ∷ 0 ∷ [])) (allocations Hamilton (1 ∷ 1 ∷ 1 ∷ []) 1) ≡ (1 ∷ 0 ∷ 0 ∷ []) ∷ []
+unfolding lists_with_sum
+later = refl
+
+all_later : later_than None (allocations Adams (5 ∷ 3 ∷ 3 ∷ []) 2) ≡ (1 ∷ 0 ∷ 1 ∷ []) ∷ (1 ∷ 1 ∷ 0 ∷ []) ∷ []
+unfolding lists_with_sum
+all_later = refl
+
+-- starts that are no allocations
+between : (later_than (Some (4 ∷ 2 ∷ 0 ∷ [])) (allocations Dhondt (53 ∷ 24 ∷ 23 ∷ []) 7) ≡ (4 ∷ 2 ∷ 1 ∷ []) ∷ [])
+    × (later_than (Some (5 ∷ 0 ∷ 0 ∷ [])) (allocations Dhondt (53 ∷ 24 ∷ 23 ∷ []) 7) ≡ [])
+unfolding lists_with_sum
+between = (refl, refl)
+
 -- ---- faults
-faults : (first_fault [] 0 ≡ Some NoParties) × (first_fault (0 ∷ 0 ∷ []) 0 ≡ Some NoVotes) × (first_fault (4294967296 ∷ 1 ∷ []) 1 ≡ Some TooManyVotes)
-    × (first_fault (1 ∷ []) 0 ≡ Some BadSeats) × (first_fault (1 ∷ []) 10001 ≡ Some BadSeats) × (first_fault (1 ∷ []) 10000 ≡ None)
-faults = (refl, refl, refl, refl, refl, refl)
+faults : (first_fault [] 0 (Some []) ≡ Some NoParties) × (first_fault (replicate 65 0) 0 None ≡ Some TooManyParties) × (first_fault (0 ∷ 0 ∷ []) 0 None ≡ Some NoVotes)
+    × (first_fault (4294967296 ∷ 1 ∷ []) 1 None ≡ Some TooManyVotes) × (first_fault (1 ∷ []) 0 (Some []) ≡ Some BadSeats) × (first_fault (1 ∷ []) 10001 None ≡ Some BadSeats)
+    × (first_fault (1 ∷ 1 ∷ []) 1 (Some (0 ∷ [])) ≡ Some AfterLength) × (first_fault (1 ∷ 1 ∷ []) 1 (Some (9 ∷ 9 ∷ [])) ≡ None) × (first_fault (replicate 64 1) 10000 None ≡ None)
+faults = (refl, refl, refl, refl, refl, refl, refl, refl, refl)
+
+-- ---- names
+names : (method_named (codes "saintelague") ≡ Some SainteLague) × (method_named (codes "Dean") ≡ None) × (method_named [] ≡ None)
+names = (refl, refl, refl)
+
+each_has_its_name : map (λ method. method_named (method_name method)) methods ≡ map Some methods
+each_has_its_name = refl
+
+fault_name : share_fault_name NoVotes ≡ codes "NoVotes"
+fault_name = refl

@@ -10,10 +10,10 @@ use Rattle.seat_share.specs.declared.method.Method.{Method}
 use Rattle.seat_share.specs.declared.method.Method.TheVariants.{Hamilton, Dhondt, SainteLague, Huntington, Adams, Dean}
 use Rattle.seat_share.specs.Quotients.{Quotient, quotient, is_at_least}
 use Rattle.seat_share.specs.Fair.{Party, has_votes_for_seats, is_right, is_fair}
-use Rattle.seat_share.specs.Claims.{claim}
+use Rattle.seat_share.specs.Steps.Claims.{claim}
 use Rattle.seat_share.specs.Allocations.{lists_with_sum, allocations}
-use Rattle.seat_share.specs.Choices.{choices}
-use Rattle.seat_share.specs.Standings.{Stands, standing, standings, tied_count}
+use Rattle.seat_share.specs.Steps.Choices.{choices}
+use Rattle.seat_share.specs.Steps.Standings.{Stands, standing, standings, tied_count}
 use Rattle.seat_share.proofs.Order.{absurd, zero_is, some_is}
 use Rattle.seat_share.proofs.Members.{Has, all-member, and-left, and-right, both}
 use Rattle.seat_share.proofs.Threshold.{Entry, IsSound, may_have, within, keeps, kept-is_within, none_or_some, or-true, impossible}
@@ -32,12 +32,12 @@ same-filter p q (x ∷ xs) same =
     ap (λ b. cond b (x ∷ filter p xs) (filter p xs)) (same x (inl refl))
     ∙ ap (λ l. cond (q x) (x ∷ l) l) (same-filter p q xs (λ y here. same y (inr here)))
 
-has-map : {X Y : Type 0} (f : X → Y) (xs : List X) (x : X) → Has xs x → Has (map f xs) (f x)
+pub has-map : {X Y : Type 0} (f : X → Y) (xs : List X) (x : X) → Has xs x → Has (map f xs) (f x)
 has-map f [] x here = elim here [ ]
 has-map f (y ∷ ys) x (inl is) = inl (ap f is)
 has-map f (y ∷ ys) x (inr later) = inr (has-map f ys x later)
 
-from-map : {X Y : Type 0} (f : X → Y) (xs : List X) (y : Y) → Has (map f xs) y → (x : X) × Has xs x × (f x ≡ y)
+pub from-map : {X Y : Type 0} (f : X → Y) (xs : List X) (y : Y) → Has (map f xs) y → (x : X) × Has xs x × (f x ≡ y)
 from-map f [] y here = elim here [ ]
 from-map f (x ∷ xs) y (inl is) = (x, inl refl, is)
 from-map f (x ∷ xs) y (inr later) = let found = from-map f xs y later in (found.0, inr found.1, found.2)
@@ -47,25 +47,25 @@ member-le f [] x here = elim here [ ]
 member-le f (y ∷ ys) x (inl is) = omega (arith, sum_by-cons f y ys, ap f is)
 member-le f (y ∷ ys) x (inr later) = omega (arith, sum_by-cons f y ys, member-le f ys x later)
 
-has-append : {X : Type 0} (xs ys : List X) (x : X) → Has (xs ++ ys) x → Has xs x ⊎ Has ys x
+pub has-append : {X : Type 0} (xs ys : List X) (x : X) → Has (xs ++ ys) x → Has xs x ⊎ Has ys x
 has-append [] ys x here = inr here
 has-append (y ∷ xs) ys x (inl is) = inl (inl is)
 has-append (y ∷ xs) ys x (inr later) = elim (has-append xs ys x later) [ inl h ↦ inl (inr h) | inr h ↦ inr h ]
 
-from-flat_map : {X Y : Type 0} (g : X → List Y) (xs : List X) (y : Y) → Has (flat_map g xs) y → (x : X) × Has xs x × Has (g x) y
+pub from-flat_map : {X Y : Type 0} (g : X → List Y) (xs : List X) (y : Y) → Has (flat_map g xs) y → (x : X) × Has xs x × Has (g x) y
 from-flat_map g [] y here = elim here [ ]
 from-flat_map g (x ∷ xs) y here = elim (has-append (g x) (flat_map g xs) y here) [
   | inl h ↦ (x, inl refl, h)
   | inr h ↦ let found = from-flat_map g xs y h in (found.0, inr found.1, found.2)
 ]
 
-in-range : (first count n : ℕ) → Has (range_with_len first count) n → n < first + count
+pub in-range : (first count n : ℕ) → Has (range_with_len first count) n → n < first + count
 in-range first zero n here = elim here [ ]
 in-range first (suc count) n (inl is) = omega (arith, is)
 in-range first (suc count) n (inr later) = omega (arith, in-range (first + 1) count n later)
 
 -- the lists with a sum have it, and so many numbers
-of-sum : (count total : ℕ) (list : List ℕ) → Has (lists_with_sum count total) list → (length list ≡ count) × (sum list ≡ total)
+pub of-sum : (count total : ℕ) (list : List ℕ) → Has (lists_with_sum count total) list → (length list ≡ count) × (sum list ≡ total)
 unfolding lists_with_sum
 of-sum zero zero list (inl is) = (sym (ap length is), sym (ap sum is))
 of-sum zero zero list (inr later) = elim later [ ]
@@ -74,10 +74,10 @@ of-sum (suc count) total list here =
     let found = from-flat_map (λ first. map (λ rest. first ∷ rest) (lists_with_sum count (total - first))) (range_with_len 0 (suc total)) list here in
     let first = found.0 in
     let most = in-range 0 (suc total) first found.1 in
-    let behind = from-map (λ rest. first ∷ rest) (lists_with_sum count (total - first)) list found.2 in
-    let rest = of-sum count (total - first) behind.0 behind.1 in (
-      sym (ap length behind.2) ∙ ap suc rest.0,
-      sym (ap sum behind.2) ∙ (omega (arith, sum_by-cons (λ x. x) first behind.0, rest.1, most)),
+    let tail = from-map (λ rest. first ∷ rest) (lists_with_sum count (total - first)) list found.2 in
+    let rest = of-sum count (total - first) tail.0 tail.1 in (
+      sym (ap length tail.2) ∙ ap suc rest.0,
+      sym (ap sum tail.2) ∙ (omega (arith, sum_by-cons (λ x. x) first tail.0, rest.1, most)),
     )
 
 -- ---- parties and their seats in a list

@@ -22,7 +22,7 @@ pub record Facts (method : Method) (votes allocation : List ℕ) (seats : ℕ) :
   pub earned : list_all has_votes_for_seats (zip votes allocation) ≡ true
   pub right : is_right method (sum votes) seats (zip votes allocation) ≡ true
 
-facts : (method : Method) (votes allocation : List ℕ) (seats : ℕ) → IsFair method votes seats allocation → Facts method votes allocation seats
+pub facts : (method : Method) (votes allocation : List ℕ) (seats : ℕ) → IsFair method votes seats allocation → Facts method votes allocation seats
 facts method votes allocation seats fair =
     let whole = fair in
     let right = and-right (length allocation == length votes && sum allocation == seats && list_all has_votes_for_seats (zip votes allocation)) (is_right method (sum votes) seats (zip votes allocation)) whole in

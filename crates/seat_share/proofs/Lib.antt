@@ -1,12 +1,15 @@
+pub mod AllocationLemmas
 pub mod AwardLemmas
 pub mod ChoiceSteps
 pub mod Chosen
 pub mod ClaimLemmas
 pub mod Examples
 pub mod FairChoices
+pub mod LaterChoices
 pub mod LawLemmas
 pub mod Members
 pub mod Order
 pub mod QuotaLemmas
+pub mod Ranges
 pub mod ShareLemmas
 pub mod Threshold

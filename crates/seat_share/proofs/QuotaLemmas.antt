@@ -6,7 +6,7 @@ use Rattle.std.specs.List.{list_all}
 use Rattle.std.proofs.lemmas.List.Sums.{sum_by-cons}
 use Rattle.seat_share.specs.declared.method.Method.TheVariants.{Hamilton}
 use Rattle.seat_share.specs.Quotients.{is_at_least}
-use Rattle.seat_share.specs.Claims.{claim}
+use Rattle.seat_share.specs.Steps.Claims.{claim}
 use Rattle.seat_share.specs.Fair.{Party, quota_seats, remainder, is_near_quota, has_the_remainder}
 use Rattle.seat_share.proofs.Order.{absurd, le-true, true-le, over_some, zero_is, some_is}
 use Rattle.seat_share.proofs.Members.{Has, all-member, all-from_members, sums-lt, same_bools, and-left, and-right, both}

@@ -1,5 +1,5 @@
 -- From votes to parties, and from parties to an allocation.
-use Rattle.std.proofs.Common.{◌≡◌, ℕ, zero, suc, ◌+◌, ◌-◌, ◌^◌, ◌<◌, ◌≤◌, Bool, true, false, cond, List, [], ◌∷◌, ◌++◌, refl, sym, ap, ap₂, subst, ◌∙◌, arith, map, sum, length, take, set, get_or, Option, Some, None, is_some, true≢false, ◌==◌}
+use Rattle.std.proofs.Common.{◌≡◌, ℕ, zero, suc, ◌+◌, ◌-◌, ◌<◌, ◌≤◌, Bool, true, false, cond, List, [], ◌∷◌, ◌++◌, refl, sym, ap, ap₂, subst, ◌∙◌, arith, map, sum, length, take, set, get_or, Option, Some, None, is_some, true≢false, ◌==◌}
 use Rattle.std.specs.Prelude.{nat_lt}
 use Rattle.seat_share.specs.declared.method.ShareFault.TheVariants.{NoParties, TooManyParties, NoVotes, TooManyVotes}
 use Rattle.seat_share.specs.Faults.{first_fault}
@@ -8,11 +8,12 @@ use Rattle.std.proofs.lemmas.List.Sums.{sum_by-cons}
 use Rattle.std.proofs.lemmas.List.{take_more, length-append}
 use Rattle.seat_share.specs.declared.contender.Contender.{Contender}
 use Rattle.seat_share.specs.declared.method.Method.{Method}
+use Rattle.seat_share.specs.Limits.{most_parties, most_seats, most_votes}
 use Rattle.seat_share.specs.Quotients.{Quotient}
-use Rattle.seat_share.specs.Claims.{claim}
-use Rattle.seat_share.specs.Allocations.{allocations}
-use Rattle.seat_share.specs.Choices.{Standing, choices}
-use Rattle.seat_share.specs.Standings.{Stands, IsChoosing, MoreAreTied, standings, allocation, choices_from, votes_of, seats_of, tied_count}
+use Rattle.seat_share.specs.Steps.Claims.{claim}
+use Rattle.seat_share.specs.Allocations.{allocations, later_than}
+use Rattle.seat_share.specs.Steps.Choices.{Standing, choices}
+use Rattle.seat_share.specs.Steps.Standings.{Stands, IsChoosing, MoreAreTied, standings, allocation, allocations_left, choices_from, votes_of, seats_of, tied_count}
 use Rattle.seat_share.proofs.Threshold.{impossible}
 use Rattle.seat_share.proofs.Chosen.{sure_seats}
 use Rattle.seat_share.proofs.FairChoices.{fair-choices}
@@ -64,21 +65,30 @@ sure-sum [] = refl
 sure-sum (c ∷ cs) = ap (λ n. c.seats + n) (sure-sum cs) ∙ sym (sum_by-cons (λ (d : Contender). d.seats) c cs)
 
 -- parties that stand at a threshold have the fair allocations for their choices
-pub chosen-fair : (method : Method) (total most more left : ℕ) (low : Quotient) (old : List ℕ) (cs new : List Contender) → 0 < total → total ≡ sum old → votes_of cs ≡ old
+pub choices-fair : (method : Method) (total most more : ℕ) (low : Quotient) (old : List ℕ) (cs : List Contender) → 0 < total → total ≡ sum old → votes_of cs ≡ old
     → AllByRecursion (λ (c : Contender). Stands (claim method total most) most low c.votes c.seats c.is_tied) cs
-    → seats_of cs + more ≡ most → more ≤ tied_count cs → left ≡ more - tied_count cs → choices_from new ≡ choices (standings cs) (more - left)
-    → choices_from new ≡ allocations method old most
-chosen-fair method total most more left low old cs new some is votes stand given enough rest first =
+    → seats_of cs + more ≡ most → more ≤ tied_count cs → choices (standings cs) more ≡ allocations method old most
+choices-fair method total most more low old cs some is votes stand given enough =
     let same : total ≡ sum (votes_of cs) = is ∙ ap sum (sym votes) in
-    let all : more - left ≡ more = omega (arith, enough, rest) in
     let those = subst (λ t. AllByRecursion (λ (c : Contender). Stands (claim method t most) most low c.votes c.seats c.is_tied) cs) same stand in
     let somebody : 0 < sum (votes_of cs) = omega (arith, some, same) in
-    first ∙ ap (choices (standings cs)) all
-    ∙ sym (fair-choices method cs most low somebody those more (ap (λ n. n + more) (sure-sum cs) ∙ given) enough)
+    sym (fair-choices method cs most low somebody those more (ap (λ n. n + more) (sure-sum cs) ∙ given) enough)
     ∙ ap (λ l. allocations method l most) votes
 
+-- the first of the choices is placed
+pub first-placed : (all : List (List ℕ)) (more left : ℕ) (cs new : List Contender) → choices (standings cs) more ≡ all → more ≤ tied_count cs → left ≡ more - tied_count cs
+    → choices_from new ≡ choices (standings cs) (more - left) → choices_from new ≡ all
+first-placed all more left cs new is enough rest first =
+    let whole : more - left ≡ more = omega (arith, enough, rest) in
+    first ∙ ap (choices (standings cs)) whole ∙ is
+
+-- the first that is later than a start is
+pub later-placed : (all : List (List ℕ)) (more : ℕ) (start : List ℕ) (found : Bool) (cs between new : List Contender) → choices (standings cs) more ≡ all → standings between ≡ standings cs
+    → allocations_left found new ≡ later_than (Some start) (choices (standings between) more) → allocations_left found new ≡ later_than (Some start) all
+later-placed all more start found cs between new is same later = later ∙ ap (later_than (Some start)) (ap (λ ss. choices ss more) same ∙ is)
+
 -- what standings say of seats
-few-standings : (old new : List Contender) → standings new ≡ standings old → AllByRecursion (λ (c : Contender). c.seats ≤ 10000) old → AllByRecursion (λ (c : Contender). c.seats ≤ 10000) new
+few-standings : (old new : List Contender) → standings new ≡ standings old → AllByRecursion (λ (c : Contender). c.seats ≤ most_seats) old → AllByRecursion (λ (c : Contender). c.seats ≤ most_seats) new
 few-standings [] [] same all = tt
 few-standings [] (d ∷ ds) same all = impossible (omega (arith, ap length same))
 few-standings (c ∷ cs) [] same all = tt
@@ -94,23 +104,23 @@ few-standings (c ∷ cs) (d ∷ ds) same all =
     tail_of [] = []
     tail_of (s ∷ ss) = ss
 
-few-within : (most : ℕ) (cs : List Contender) → most ≤ 10000 → seats_of cs ≤ most → AllByRecursion (λ (c : Contender). c.seats ≤ 10000) cs
+few-within : (most : ℕ) (cs : List Contender) → most ≤ most_seats → seats_of cs ≤ most → AllByRecursion (λ (c : Contender). c.seats ≤ most_seats) cs
 few-within most [] hm fits = tt
 few-within most (c ∷ cs) hm fits =
     let split = sum_by-cons (λ (d : Contender). d.seats) c cs in
     (omega (arith, hm, fits, split), few-within most cs hm (omega (arith, fits, split)))
 
-pub choosing : (most more : ℕ) (cs new : List Contender) → most ≤ 10000 → seats_of cs + more ≡ most → standings new ≡ standings cs → MoreAreTied new → IsChoosing new
+pub choosing : (most more : ℕ) (cs new : List Contender) → most ≤ most_seats → seats_of cs + more ≡ most → standings new ≡ standings cs → MoreAreTied new → IsChoosing new
 choosing most more cs new hm given same tied = record {
   more = tied;
   seats = few-standings cs new same (few-within most cs hm (omega (arith, given)));
 }
 
 -- votes that are at most 2^32 together are so one by one
-pub few-votes : (cs : List Contender) (votes : List ℕ) → votes_of cs ≡ votes → sum votes ≤ 2 ^ 32 → AllByRecursion (λ (c : Contender). c.votes ≤ 2 ^ 32) cs
+pub few-votes : (cs : List Contender) (votes : List ℕ) → votes_of cs ≡ votes → sum votes ≤ most_votes → AllByRecursion (λ (c : Contender). c.votes ≤ most_votes) cs
 few-votes cs votes same most = go cs (omega (arith, ap sum same, most))
   where
-    go : (ds : List Contender) → sum (votes_of ds) ≤ 2 ^ 32 → AllByRecursion (λ (c : Contender). c.votes ≤ 2 ^ 32) ds
+    go : (ds : List Contender) → sum (votes_of ds) ≤ most_votes → AllByRecursion (λ (c : Contender). c.votes ≤ most_votes) ds
     go [] h = tt
     go (d ∷ ds) h =
         let split = sum_by-cons (λ x. x) d.votes (votes_of ds) in
@@ -126,14 +136,14 @@ if-none false x rest h = (refl, h)
 not-more : (a b : ℕ) → nat_lt a b ≡ false → b ≤ a
 not-more a b h = grind arith
 
--- votes without a fault
-pub votes-fit : (votes : List ℕ) (seats : ℕ) → first_fault votes seats ≡ None → sum votes ≤ 2 ^ 32
-votes-fit votes seats h =
+-- votes, seats and a start without a fault
+pub votes-fit : (votes : List ℕ) (seats : ℕ) (after : Option (List ℕ)) → first_fault votes seats after ≡ None → sum votes ≤ most_votes
+votes-fit votes seats after h =
     let parties = if-none (length votes == 0) NoParties _ h in
-    let few = if-none (nat_lt 40 (length votes)) TooManyParties _ parties.1 in
+    let few = if-none (nat_lt most_parties (length votes)) TooManyParties _ parties.1 in
     let some = if-none (sum votes == 0) NoVotes _ few.1 in
-    let most = if-none (nat_lt (2 ^ 32) (sum votes)) TooManyVotes _ some.1 in
-    not-more (2 ^ 32) (sum votes) most.0
+    let most = if-none (nat_lt most_votes (sum votes)) TooManyVotes _ some.1 in
+    not-more most_votes (sum votes) most.0
 
 take-front : {X : Type 0} (xs ys : List X) (n : ℕ) → length xs ≡ n → take n (xs ++ ys) ≡ xs
 take-front [] ys zero h = refl
@@ -145,6 +155,6 @@ pub long-enough : {X : Type 0} (xs ys : List X) (n : ℕ) → length xs ≡ n �
 long-enough xs ys n h = omega (arith, h, length-append xs ys)
 
 -- after a step the parties are still choosing
-pub still-choosing : (count : ℕ) (old new behind : List Contender) → length new ≡ count → IsChoosing old → standings new ≡ standings old → MoreAreTied new → IsChoosing (take count (new ++ behind))
-still-choosing count old new behind long choosing same tied =
-    subst IsChoosing (sym (take-front new behind count long)) (record { more = tied; seats = few-standings old new same choosing.seats })
+pub still-choosing : (count : ℕ) (old new tail : List Contender) → length new ≡ count → IsChoosing old → standings new ≡ standings old → MoreAreTied new → IsChoosing (take count (new ++ tail))
+still-choosing count old new tail long choosing same tied =
+    subst IsChoosing (sym (take-front new tail count long)) (record { more = tied; seats = few-standings old new same choosing.seats })

@@ -4,7 +4,7 @@ use Rattle.std.proofs.Common.{◌≡◌, ℕ, zero, suc, ◌+◌, ◌-◌, ◌<�
 use Rattle.std.specs.Prelude.{nat_le}
 use Rattle.std.specs.List.{list_all}
 use Rattle.seat_share.specs.Quotients.{Quotient, is_at_least}
-use Rattle.seat_share.specs.Standings.{Stands}
+use Rattle.seat_share.specs.Steps.Standings.{Stands}
 use Rattle.seat_share.proofs.Order.{absurd, at_least-total, at_least-trans}
 use Rattle.seat_share.proofs.Members.{Has, all-member, all-from_members, sums-lt, same_bools}
 

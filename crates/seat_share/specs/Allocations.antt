@@ -1,6 +1,9 @@
--- All fair allocations.
-use Rattle.std.specs.Prelude.{ℕ, zero, suc, ◌-◌, List, [], ◌∷◌, map, flat_map, filter, length}
+-- All fair allocations, and those later than a start.
+use Rattle.std.specs.Prelude.{ℕ, zero, suc, ◌-◌, ◌==◌, ◌&&◌, Bool, IsTrue, Option, Some, None}
+use Rattle.std.specs.Prelude.{List, [], ◌∷◌, map, flat_map, filter, length}
+use Rattle.std.specs.Cmp.Lexicographic.{slice_cmp}
 use Rattle.std.specs.List.{range_with_len}
+use Rattle.std.specs.Ordering.{nat_cmp, is_gt}
 use Rattle.seat_share.specs.declared.method.Method.{Method}
 use Rattle.seat_share.specs.Fair.{is_fair}
 
@@ -14,3 +17,15 @@ lists_with_sum (suc count) sum =
 -- the fair allocations, in ascending order
 abbrev pub allocations : Method → List ℕ → ℕ → List (List ℕ)
 allocations method votes seats = filter (is_fair method votes seats) (lists_with_sum (length votes) seats)
+
+-- whether x is later than y: as long as y, and greater at the first place where they differ
+abbrev pub is_later : List ℕ → List ℕ → Bool
+is_later x y = (length x == length y) && is_gt (slice_cmp nat_cmp x y)
+
+abbrev pub IsLater : List ℕ → List ℕ → Type 0
+IsLater x y = IsTrue (is_later x y)
+
+-- those that are later than the start, in the same order; all of them where there is no start
+abbrev pub later_than : Option (List ℕ) → List (List ℕ) → List (List ℕ)
+later_than None allocations = allocations
+later_than (Some start) allocations = filter (λ allocation. is_later allocation start) allocations

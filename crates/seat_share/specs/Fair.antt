@@ -1,5 +1,6 @@
 -- Which allocations of seats a method allows.
-use Rattle.std.specs.Prelude.{ℕ, ◌+◌, ◌-◌, ◌*◌, ◌/◌, ◌%◌, ◌==◌, ◌&&◌, ◌||◌, Bool, not, List, length, sum, nat_le, IsTrue, zip}
+use Rattle.std.specs.Prelude.{ℕ, ◌+◌, ◌-◌, ◌*◌, ◌/◌, ◌%◌, ◌==◌, nat_le, sum}
+use Rattle.std.specs.Prelude.{Bool, ◌&&◌, ◌||◌, not, IsTrue, List, length, zip}
 use Rattle.std.specs.List.{list_all}
 use Rattle.seat_share.specs.declared.method.Method.{Method}
 use Rattle.seat_share.specs.declared.method.Method.TheVariants.{Hamilton}

@@ -1,7 +1,7 @@
-pub mod Quotients
-pub mod Standings
-pub mod Fair
 pub mod Allocations
-pub mod Choices
-pub mod Claims
+pub mod Fair
 pub mod Faults
+pub mod Limits
+pub mod Names
+pub mod Quotients
+pub mod Steps

@@ -1,9 +1,11 @@
 //! Seats that are given one after the other, and the ties for the last of them.
-ghost use Rattle.std.specs.Prelude.{◌≡◌, ◌+◌, ◌^◌, ◌≤◌, ◌<◌, ◌++◌, ◌∷◌, ℕ, List, [], length, sum, true, false, Some};
+ghost use Rattle.std.specs.Prelude.{◌≡◌, ◌+◌, ◌≤◌, ◌<◌, ◌++◌, ◌∷◌, ℕ, List, [], length, sum, true, false, Some};
 ghost use Rattle.std.specs.List.{AllByRecursion};
+ghost use Rattle.seat_share.specs.Limits.{most_parties, most_votes};
 ghost use Rattle.seat_share.specs.Quotients.{Quotient};
-ghost use Rattle.seat_share.specs.Claims.{claim};
-ghost use Rattle.seat_share.specs.Standings.{Stands, Keeps, IsGreatest, AreWithin, votes_of, seats_of, tied_count};
+ghost use Rattle.seat_share.specs.Steps.Claims.{claim};
+ghost use Rattle.seat_share.specs.Steps.Standings.{AllKeep, AllStand, AreWithin, IsGreatest};
+ghost use Rattle.seat_share.specs.Steps.Standings.{votes_of, seats_of, tied_count};
 
 use crate::claims::{Contest, Quotient};
 use crate::contender::Contender;
@@ -33,8 +35,9 @@ fn first_claimant(contest: Contest, parties: &[Contender]) -> Option<Claimant>
 
 /// The one with the greater claim: the best so far, or else the later one.
 fn greater(best: Option<Claimant>, later: Claimant) -> Claimant
-    ensures { (claims : ℕ → ℕ → Quotient) (before : List Contender) (c : Contender) → length before ≡ later.place → 0 < c.votes
-        → later.quotient ≡ claims c.votes c.seats → IsGreatest claims before best → IsGreatest claims (before ++ c ∷ []) (Some result) }
+    ensures { (claims : ℕ → ℕ → Quotient) (before : List Contender) (c : Contender) →
+        length before ≡ later.place → 0 < c.votes → later.quotient ≡ claims c.votes c.seats →
+        IsGreatest claims before best → IsGreatest claims (before ++ c ∷ []) (Some result) }
 {
     match best {
         Some(first) if first.quotient.is_at_least(later.quotient) => first,
@@ -45,11 +48,12 @@ fn greater(best: Option<Claimant>, later: Claimant) -> Claimant
 /// Gives all seats, one after the other, each to a party with a greatest claim to one more. Answers the last claim that
 /// was met.
 pub(crate) fn award(contest: Contest, parties: &mut [Contender]) -> Quotient
-    requires votes { AllByRecursion (λ c. c.votes ≤ 2 ^ 32) parties.old }
+    requires votes { AllByRecursion (λ c. c.votes ≤ most_votes) parties.old }
     requires fresh { AllByRecursion (λ c. c.seats ≡ 0) parties.old }
     requires total { contest.votes ≡ sum (votes_of parties.old) }
     requires some { 0 < contest.votes }
-    ensures kept { AllByRecursion (λ c. Keeps (claim contest.method contest.votes contest.seats) contest.seats result c.votes c.seats) parties.new }
+    ensures kept { let claims = claim contest.method contest.votes contest.seats in
+        AllKeep claims contest.seats result parties.new }
     ensures votes { votes_of parties.new ≡ votes_of parties.old }
     ensures seats { seats_of parties.new ≡ contest.seats }
     ensures within { AreWithin contest.seats parties.new }
@@ -70,11 +74,13 @@ pub(crate) fn award(contest: Contest, parties: &mut [Contender]) -> Quotient
 /// Takes back the seats that were met at the threshold itself, and marks the parties that are tied there. Answers how
 /// many seats were taken back.
 pub(crate) fn settle(contest: Contest, low: Quotient, parties: &mut [Contender]) -> usize
-    requires few { length parties.old ≤ 40 }
+    requires few { length parties.old ≤ most_parties }
     requires within { AreWithin contest.seats parties.old }
     requires some { 0 < contest.votes }
-    requires kept { AllByRecursion (λ c. Keeps (claim contest.method contest.votes contest.seats) contest.seats low c.votes c.seats) parties.old }
-    ensures stand { AllByRecursion (λ c. Stands (claim contest.method contest.votes contest.seats) contest.seats low c.votes c.seats c.is_tied) parties.new }
+    requires kept { let claims = claim contest.method contest.votes contest.seats in
+        AllKeep claims contest.seats low parties.old }
+    ensures stand { let claims = claim contest.method contest.votes contest.seats in
+        AllStand claims contest.seats low parties.new }
     ensures votes { votes_of parties.new ≡ votes_of parties.old }
     ensures seats { seats_of parties.new + result ≡ seats_of parties.old }
     ensures ties { result ≤ tied_count parties.new }

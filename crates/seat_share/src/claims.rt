@@ -1,8 +1,10 @@
 //! What parties claim their next seat by.
-ghost use Rattle.std.specs.Prelude.{◌≡◌, ◌^◌, ◌≤◌, ◌+◌, ◌*◌};
+ghost use Rattle.std.specs.Prelude.{◌≡◌, ◌≤◌};
+ghost use Rattle.seat_share.specs.Limits.{most_seats, most_votes};
 ghost use Rattle.seat_share.specs.Quotients.{is_at_least};
-ghost use Rattle.seat_share.specs.Claims.{claim};
+ghost use Rattle.seat_share.specs.Steps.Claims.{claim, most_dividend};
 
+use crate::limits::MOST_VOTES;
 use crate::method::Method;
 use std::marker::Model;
 
@@ -14,7 +16,8 @@ pub(crate) struct Quotient {
 }
 
 impl Model for Quotient {
-    ghost use Rattle.std.specs.Prelude.{ℕ, ◌^◌, ◌≤◌};
+    ghost use Rattle.std.specs.Prelude.{ℕ, ◌≤◌};
+    ghost use Rattle.seat_share.specs.Steps.Claims.{most_dividend, most_divisor};
 
     ghost Value = { ℕ × ℕ };
 
@@ -25,16 +28,17 @@ impl Model for Quotient {
       divisor = value.1;
     } };
 
-    ghost invariant = { λ q. (q.dividend ≤ 2 ^ 64) × (q.divisor ≤ 2 ^ 28) };
+    ghost invariant = { λ q. (q.dividend ≤ most_dividend) × (q.divisor ≤ most_divisor) };
 }
 
 impl Quotient {
     /// A quotient that no claim exceeds.
     pub(crate) fn greatest() -> Quotient
-        ensures { result ≡ (2 ^ 64, 0) }
+        ensures { result ≡ (most_dividend, 0) }
     {
+        let most_votes = u128::from(MOST_VOTES);
         Quotient {
-            dividend: 1 << 64,
+            dividend: most_votes * most_votes,
             divisor: 0,
         }
     }
@@ -56,14 +60,14 @@ pub(crate) struct Contest {
     pub(crate) method: Method,
     pub(crate) votes: u64,
     pub(crate) seats: u16,
-    ghost few_votes: { votes ≤ 2 ^ 32 },
-    ghost few_seats: { seats ≤ 10000 },
+    ghost few_votes: { votes ≤ most_votes },
+    ghost few_seats: { seats ≤ most_seats },
 }
 
 impl Contest {
     /// The claim of a party with these votes and these seats to its next one.
     pub(crate) fn claim(self, votes: u64, seats: u16) -> Quotient
-        requires votes { votes ≤ 2 ^ 32 }
+        requires votes { votes ≤ most_votes }
         requires seats { seats ≤ self.seats }
         ensures value { result ≡ claim self.method self.votes self.seats votes seats }
     {

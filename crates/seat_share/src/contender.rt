@@ -1,10 +1,13 @@
 //! The parties while seats are shared out, and the choices between those that are tied.
-ghost use Rattle.std.specs.Prelude.{◌≡◌, ◌+◌, ◌-◌, ◌≤◌, ◌∷◌, [], cond, true, false};
-ghost use Rattle.seat_share.specs.Choices.{choices};
-ghost use Rattle.seat_share.specs.Standings.{standings, tied_count, more_count, allocation, choices_from, MoreAreTied};
+ghost use Rattle.std.specs.Prelude.{◌≡◌, ◌+◌, ◌-◌, ◌≤◌, ◌∷◌, [], Some, cond, false, length, true};
+ghost use Rattle.seat_share.specs.Allocations.{later_than};
+ghost use Rattle.seat_share.specs.Limits.{most_seats};
+ghost use Rattle.seat_share.specs.Steps.Choices.{choices};
+ghost use Rattle.seat_share.specs.Steps.Standings.{standings, tied_count, more_count, allocation, choices_from};
+ghost use Rattle.seat_share.specs.Steps.Standings.{MoreAreTied, allocations_left};
 
-/// A party: its votes, its seats, and, where some seats are tied, whether it is tied for one more, and whether it has it
-/// in the allocation that comes next.
+/// A party: its votes, its seats, and, where some seats are tied, whether it is tied for one more, and whether it has
+/// that one in the allocation that comes next.
 #[derive(Clone, Copy, Debug)]
 pub(crate) struct Contender {
     pub(crate) votes: u64,
@@ -16,7 +19,7 @@ pub(crate) struct Contender {
 impl Contender {
     /// The seats in the allocation that comes next.
     pub(crate) fn next_seats(self) -> u16
-        requires { self.seats ≤ 10000 }
+        requires { self.seats ≤ most_seats }
         ensures { result ≡ self.seats + cond self.has_more 1 0 }
     {
         if self.has_more {
@@ -46,6 +49,63 @@ pub(crate) fn place_last(parties: &mut [Contender], more: usize) -> usize
         first.has_more = false;
         left
     }
+}
+
+/// How many parties are tied.
+pub(crate) fn count_tied(parties: &[Contender]) -> usize
+    ensures { result ≡ tied_count parties.now }
+{
+    parties.iter().filter(|party| party.is_tied).count()
+}
+
+/// Gives one more seat to `more` of the tied parties, which are `tied` in all, for the first choice that is later than
+/// the start, which has a number for each party. Answers whether there is one.
+pub(crate) fn place_after(
+    parties: &mut [Contender],
+    tied: usize,
+    more: usize,
+    start: &[u16],
+) -> bool
+    requires long { length start.now ≡ length parties.old }
+    requires count { tied ≡ tied_count parties.old }
+    requires tied { MoreAreTied parties.old }
+    ensures same { standings parties.new ≡ standings parties.old }
+    ensures tied { MoreAreTied parties.new }
+    ensures count { result ≡ true → more_count parties.new ≡ more }
+    ensures later { let all = choices (standings parties.old) more in
+        allocations_left result parties.new ≡ later_than (Some start.now) all }
+{
+    if more > tied {
+        return false;
+    }
+    let Some((seats, others)) = start.split_first() else {
+        return false;
+    };
+    let Some((first, rest)) = parties.split_first_mut() else {
+        return false;
+    };
+    if first.seats > *seats {
+        place_last(parties, more);
+        return true;
+    }
+    let others_tied = tied - usize::from(first.is_tied);
+    if first.seats < *seats {
+        if !first.is_tied || more == 0 || *seats - first.seats > 1 {
+            return false;
+        }
+        first.has_more = true;
+        return place_after(rest, others_tied, more - 1, others);
+    }
+    first.has_more = false;
+    if place_after(rest, others_tied, more, others) {
+        return true;
+    }
+    if !first.is_tied || more == 0 {
+        return false;
+    }
+    first.has_more = true;
+    place_last(rest, more - 1);
+    true
 }
 
 /// How many parties have one more seat in the allocation that comes next.

@@ -5,9 +5,11 @@ mod award;
 mod claims;
 mod contender;
 pub mod laws;
+pub mod limits;
 pub mod method;
 pub mod shares;
 
+pub use limits::{MOST_PARTIES, MOST_SEATS, MOST_VOTES};
 pub use method::{Method, ShareFault};
 pub use shares::{Allocation, Shares};
 

@@ -1,4 +1,6 @@
 //! The methods, and what they refuse.
+ghost use Rattle.std.specs.Prelude.{◌≡◌};
+ghost use Rattle.seat_share.specs.Names.{method_name, method_named, share_fault_name};
 
 /// How seats are shared out in proportion to votes (Balinski and Young, Fair Representation; Pukelsheim, Proportional
 /// Representation). All but Hamilton's are divisor methods: they compare quotients of a party's votes by a divisor that
@@ -20,17 +22,74 @@ pub enum Method {
     Dean,
 }
 
+impl Method {
+    /// All methods.
+    pub const ALL: [Method; 6] = [
+        Method::Hamilton,
+        Method::Dhondt,
+        Method::SainteLague,
+        Method::Huntington,
+        Method::Adams,
+        Method::Dean,
+    ];
+
+    /// Their names, in the same order.
+    pub const NAMES: [&'static str; 6] = [
+        "hamilton",
+        "dhondt",
+        "saintelague",
+        "huntington",
+        "adams",
+        "dean",
+    ];
+
+    /// The name, as it is written on the command line and in answers.
+    pub const fn name(self) -> &'static str
+        ensures { result.now ≡ method_name self }
+    {
+        Method::NAMES[self as usize]
+    }
+
+    /// The method that has this name, if one has; upper and lower case differ.
+    pub fn named(name: &str) -> Option<Method>
+        ensures { result ≡ method_named name.now }
+    {
+        Method::ALL
+            .iter()
+            .copied()
+            .find(|method| name == method.name())
+    }
+}
+
 /// Why no seats are shared out; the first that holds, in this order.
 #[derive(Clone, Copy, Debug, PartialEq, Eq)]
 pub enum ShareFault {
     /// There is no party.
     NoParties,
-    /// There are more than 40 parties.
+    /// There are more than [`MOST_PARTIES`](crate::MOST_PARTIES) parties.
     TooManyParties,
     /// No party has a vote.
     NoVotes,
-    /// There are more than 4,294,967,296 votes.
+    /// There are more than [`MOST_VOTES`](crate::MOST_VOTES), of all parties together.
     TooManyVotes,
-    /// The seats are none, or more than 10,000.
+    /// The seats are none, or more than [`MOST_SEATS`](crate::MOST_SEATS).
     BadSeats,
+    /// The start does not have a number for each party.
+    AfterLength,
+}
+
+impl ShareFault {
+    /// The name, as it is written in the line that refuses a request.
+    pub const fn name(self) -> &'static str
+        ensures { result.now ≡ share_fault_name self }
+    {
+        match self {
+            ShareFault::NoParties => "NoParties",
+            ShareFault::TooManyParties => "TooManyParties",
+            ShareFault::NoVotes => "NoVotes",
+            ShareFault::TooManyVotes => "TooManyVotes",
+            ShareFault::BadSeats => "BadSeats",
+            ShareFault::AfterLength => "AfterLength",
+        }
+    }
 }

@@ -1,25 +1,19 @@
 //! The fair allocations, one after the other.
-ghost use Rattle.std.specs.Prelude.{◌≡◌, ◌≤◌, ◌<◌, ◌^◌, ℕ, List, length, take, sum, IfOk, IfErr, Some, None};
+ghost use Rattle.std.specs.Prelude.{◌≡◌, ◌≤◌, ◌<◌, ℕ, List, length, take, sum, IfOk, IfErr, IfSome, Some, None};
 ghost use Rattle.std.specs.List.{AllByRecursion};
 ghost use Rattle.std.specs.Iterator.{YieldsFirst, item_count};
-ghost use Rattle.seat_share.specs.Allocations.{allocations};
+ghost use Rattle.std.specs.Option.{option_copied};
+ghost use Rattle.seat_share.specs.Allocations.{allocations, later_than};
 ghost use Rattle.seat_share.specs.Faults.{first_fault};
-ghost use Rattle.seat_share.specs.Standings.{IsChoosing, allocation, choices_from, votes_of};
+ghost use Rattle.seat_share.specs.Limits.{most_parties, most_votes};
+ghost use Rattle.seat_share.specs.Steps.Standings.{IsChoosing, allocation, allocations_left, votes_of};
 
 use crate::award::{award, settle};
 use crate::claims::Contest;
-use crate::contender::{Contender, advance, place_last};
+use crate::contender::{Contender, advance, count_tied, place_after, place_last};
+use crate::limits::{MOST_PARTIES, MOST_SEATS, MOST_VOTES};
 use crate::method::{Method, ShareFault};
 use std::marker::Model;
-
-/// The most parties.
-const MOST_PARTIES: usize = 40;
-
-/// The most votes: 2^32.
-const MOST_VOTES: u128 = 4_294_967_296;
-
-/// The most seats.
-const MOST_SEATS: u16 = 10_000;
 
 /// The seats of each party, in the order of the parties.
 #[derive(Debug, Drop)]
@@ -30,12 +24,13 @@ pub struct Allocation {
 
 impl Model for Allocation {
     ghost use Rattle.std.specs.Prelude.{ℕ, ◌≤◌, List, take};
+    ghost use Rattle.seat_share.specs.Limits.{most_parties};
 
     ghost Value = { List ℕ };
 
     ghost view = { λ a. take a.parties a.seats };
 
-    ghost invariant = { λ a. a.parties ≤ 40 };
+    ghost invariant = { λ a. a.parties ≤ most_parties };
 }
 
 impl Allocation {
@@ -57,29 +52,35 @@ pub struct Shares {
 
 impl Model for Shares {
     ghost use Rattle.std.specs.Prelude.{ℕ, ◌≤◌, List, length, take};
-    ghost use Rattle.seat_share.specs.Standings.{allocations_left, IsChoosing};
+    ghost use Rattle.seat_share.specs.Limits.{most_parties};
+    ghost use Rattle.seat_share.specs.Steps.Standings.{allocations_left, IsChoosing};
 
     ghost Value = { List (List ℕ) };
 
     ghost view = { λ s. allocations_left s.is_left (take s.count s.parties) };
 
-    ghost invariant = { λ s. (s.count ≤ 40) × (s.count ≤ length s.parties) × IsChoosing (take s.count s.parties) };
+    ghost invariant = { λ s. (s.count ≤ most_parties) × (s.count ≤ length s.parties)
+        × IsChoosing (take s.count s.parties) };
 }
 
 impl Shares {
-    /// Shares out the seats, 1 to 10,000, among 1 to 40 parties with these votes, 1 to 4,294,967,296 in all, from the
-    /// first allocation: `after` is None. A party without votes gets no seat. It takes no memory.
+    /// Shares out the seats, from 1 to [`MOST_SEATS`], among at most [`MOST_PARTIES`] parties with these votes, at most
+    /// [`MOST_VOTES`] in all. A party without votes gets no seat.
+    ///
+    /// The allocations are those later than `after`, a list with a number for each party that need not be an allocation
+    /// itself; without it they are all. Neither takes memory, and a start costs no walk over what comes before it.
     pub fn new(
         votes: &[u64],
         method: Method,
         seats: u16,
         after: Option<&[u16]>,
     ) -> Result<Shares, ShareFault>
-        requires start { after ≡ None }
-        ensures ok { IfOk result (λ shares. (first_fault votes.now seats ≡ None) × (shares ≡ allocations method votes.now seats)) }
-        ensures err { IfErr result (λ fault. first_fault votes.now seats ≡ Some fault) }
+        ensures ok { let start = option_copied after.entry in IfOk result (λ shares.
+            (first_fault votes.now seats start ≡ None)
+            × (shares ≡ later_than start (allocations method votes.now seats))) }
+        ensures err { IfErr result (λ fault. first_fault votes.now seats (option_copied after.entry) ≡ Some fault) }
     {
-        if let Some(fault) = first_fault(votes, seats) {
+        if let Some(fault) = first_fault(votes, seats, after) {
             return Err(fault);
         }
         let contest = Contest {
@@ -88,11 +89,11 @@ impl Shares {
             seats,
         };
         let mut parties = contenders(votes);
-        choose(contest, &mut parties[..votes.len()]);
+        let is_left = choose(contest, &mut parties[..votes.len()], after);
         Ok(Shares {
             parties,
             count: votes.len(),
-            is_left: true,
+            is_left,
         })
     }
 }
@@ -115,9 +116,9 @@ impl Iterator for Shares {
     }
 }
 
-/// The first fault of the votes and seats, if there is one.
-fn first_fault(votes: &[u64], seats: u16) -> Option<ShareFault>
-    ensures { result ≡ first_fault votes.now seats }
+/// The first fault of the votes, the seats and the start, if there is one.
+fn first_fault(votes: &[u64], seats: u16, after: Option<&[u16]>) -> Option<ShareFault>
+    ensures { result ≡ first_fault votes.now seats (option_copied after.entry) }
 {
     if votes.is_empty() {
         return Some(ShareFault::NoParties);
@@ -129,18 +130,21 @@ fn first_fault(votes: &[u64], seats: u16) -> Option<ShareFault>
     if total == 0 {
         return Some(ShareFault::NoVotes);
     }
-    if total > MOST_VOTES {
+    if total > u128::from(MOST_VOTES) {
         return Some(ShareFault::TooManyVotes);
     }
     if seats == 0 || seats > MOST_SEATS {
         return Some(ShareFault::BadSeats);
+    }
+    if after.is_some_and(|start| start.len() != votes.len()) {
+        return Some(ShareFault::AfterLength);
     }
     None
 }
 
 /// All votes.
 fn total(votes: &[u64]) -> u128
-    requires { length votes.now ≤ 40 }
+    requires { length votes.now ≤ most_parties }
     ensures { result ≡ sum votes.now }
 {
     let mut total = 0;
@@ -152,7 +156,7 @@ fn total(votes: &[u64]) -> u128
 
 /// The parties, before a seat is given.
 fn contenders(votes: &[u64]) -> [Contender; MOST_PARTIES]
-    requires { length votes.now ≤ 40 }
+    requires { length votes.now ≤ most_parties }
     ensures votes { votes_of (take (length votes.now) result) ≡ votes.now }
     ensures fresh { AllByRecursion (λ c. c.seats ≡ 0) (take (length votes.now) result) }
 {
@@ -169,24 +173,31 @@ fn contenders(votes: &[u64]) -> [Contender; MOST_PARTIES]
     parties
 }
 
-/// Gives the parties their certain seats, and places the seats of a tie for the first allocation.
-fn choose(contest: Contest, parties: &mut [Contender])
-    requires few { length parties.old ≤ 40 }
-    requires votes { AllByRecursion (λ c. c.votes ≤ 2 ^ 32) parties.old }
+/// Gives the parties their certain seats, and places the seats of a tie for the first allocation, or for the first that
+/// is later than the start. Answers whether there is one.
+fn choose(contest: Contest, parties: &mut [Contender], after: Option<&[u16]>) -> bool
+    requires few { length parties.old ≤ most_parties }
+    requires votes { AllByRecursion (λ c. c.votes ≤ most_votes) parties.old }
     requires fresh { AllByRecursion (λ c. c.seats ≡ 0) parties.old }
     requires total { contest.votes ≡ sum (votes_of parties.old) }
     requires some { 0 < contest.votes }
-    ensures choices { choices_from parties.new ≡ allocations contest.method (votes_of parties.old) contest.seats }
+    requires start { IfSome after (λ start. length start.now ≡ length parties.old) }
+    ensures choices { let all = allocations contest.method (votes_of parties.old) contest.seats in
+        allocations_left result parties.new ≡ later_than (option_copied after.entry) all }
     ensures valid { IsChoosing parties.new }
 {
     let low = award(contest, parties);
     let more = settle(contest, low, parties);
     place_last(parties, more);
+    match after {
+        Some(start) => place_after(parties, count_tied(parties), more, start),
+        None => true,
+    }
 }
 
 /// The allocation that comes next.
 fn allocation_of(parties: &[Contender]) -> Allocation
-    requires few { length parties.now ≤ 40 }
+    requires few { length parties.now ≤ most_parties }
     requires valid { IsChoosing parties.now }
     ensures { result ≡ allocation parties.now }
 {

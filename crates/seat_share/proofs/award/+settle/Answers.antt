@@ -2,8 +2,8 @@ use Rattle.std.proofs.Common.{subst, sym, ap, ◌∙◌}
 use Rattle.std.specs.List.{AllByRecursion}
 use Rattle.seat_share.specs.declared.contender.Contender.{Contender}
 use Rattle.seat_share.specs.Quotients.{is_at_least}
-use Rattle.seat_share.specs.Claims.{claim}
-use Rattle.seat_share.specs.Standings.{Keeps, AreWithin}
+use Rattle.seat_share.specs.Steps.Claims.{claim}
+use Rattle.seat_share.specs.Steps.Standings.{Keeps, AreWithin}
 use Rattle.seat_share.proofs.ClaimLemmas.{claims-fall}
 use Rattle.seat_share.proofs.AwardLemmas.{taken-back}
 use Rattle.seat_share.proofs.award.+settle.Goals as goal

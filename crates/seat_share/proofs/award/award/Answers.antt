@@ -1,7 +1,7 @@
 use Rattle.std.proofs.Common.{subst, sym, ap, sum, arith, ◌∙◌, false}
 use Rattle.seat_share.specs.declared.contender.Contender.{Contender}
-use Rattle.seat_share.specs.Claims.{claim}
-use Rattle.seat_share.specs.Standings.{votes_of}
+use Rattle.seat_share.specs.Steps.Claims.{claim}
+use Rattle.seat_share.specs.Steps.Standings.{votes_of}
 use Rattle.seat_share.proofs.ClaimLemmas.{claims-fall}
 use Rattle.seat_share.proofs.AwardLemmas.{HasGiven, given-none, given-more, within-sum, somebody}
 use Rattle.seat_share.proofs.award.award.Goals as goal

@@ -1,5 +1,5 @@
-use Rattle.seat_share.specs.Claims.{claim}
-use Rattle.seat_share.specs.Standings.{votes_of}
+use Rattle.seat_share.specs.Steps.Claims.{claim}
+use Rattle.seat_share.specs.Steps.Standings.{votes_of}
 use Rattle.seat_share.proofs.AwardLemmas.{HasGiven}
 use Rattle.seat_share.proofs.award.award.Given as goal
 

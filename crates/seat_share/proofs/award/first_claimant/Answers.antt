@@ -1,7 +1,7 @@
 use Rattle.std.proofs.Common.{◌≡◌, ◌+◌, Some, false, subst, sym, take, get_or, arith}
 use Rattle.seat_share.specs.declared.contender.Contender.{Contender}
-use Rattle.seat_share.specs.Claims.{claim}
-use Rattle.seat_share.specs.Standings.{IsGreatest}
+use Rattle.seat_share.specs.Steps.Claims.{claim}
+use Rattle.seat_share.specs.Steps.Standings.{IsGreatest}
 use Rattle.seat_share.proofs.AwardLemmas.{greatest-skip, greatest-at, length-front}
 use Rattle.seat_share.proofs.award.first_claimant.Goals.{then-party-gt0, else-party-gt0}
 use Rattle.seat_share.proofs.award.first_claimant.Goals as goal

@@ -1,6 +1,6 @@
 use Rattle.std.proofs.Common.{take}
-use Rattle.seat_share.specs.Claims.{claim}
-use Rattle.seat_share.specs.Standings.{IsGreatest}
+use Rattle.seat_share.specs.Steps.Claims.{claim}
+use Rattle.seat_share.specs.Steps.Standings.{IsGreatest}
 use Rattle.seat_share.proofs.award.first_claimant.Given as goal
 
 -- the greatest claim of the parties so far

@@ -1,5 +1,5 @@
 use Rattle.std.proofs.Common.{◌∙◌, sym, subst}
-use Rattle.seat_share.specs.Standings.{IsGreatest}
+use Rattle.seat_share.specs.Steps.Standings.{IsGreatest}
 use Rattle.seat_share.proofs.AwardLemmas.{AreLess, greatest-kept, greatest-new}
 use Rattle.seat_share.proofs.award.greater.Goals as goal
 

@@ -1,13 +1,15 @@
 -- How parties stand when all seats but those of a tie are given.
-use Rattle.std.specs.Prelude.{◌≡◌, ℕ, zero, suc, ◌+◌, ◌-◌, ◌<◌, ◌≤◌, Bool, true, false, List, [], ◌∷◌, ◌++◌, map, sum_by, count_by, length, cond, if◌then◌else◌, Option, Some, None, ◌^◌}
+use Rattle.std.specs.Prelude.{◌≡◌, ℕ, zero, suc, ◌+◌, ◌-◌, ◌<◌, ◌≤◌, Bool, true, false, cond, if◌then◌else◌}
+use Rattle.std.specs.Prelude.{List, [], ◌∷◌, ◌++◌, map, sum_by, count_by, length, Option, Some, None}
 use Rattle.std.specs.List.{AllByRecursion}
 use Rattle.seat_share.specs.declared.award.Claimant.{Claimant}
 use Rattle.seat_share.specs.declared.contender.Contender.{Contender}
+use Rattle.seat_share.specs.Limits.{most_seats, most_votes}
 use Rattle.seat_share.specs.Quotients.{Quotient, is_at_least}
-use Rattle.seat_share.specs.Choices.{Standing, choices}
+use Rattle.seat_share.specs.Steps.Choices.{Standing, choices}
 
 -- A party at a threshold: each of its certain seats was claimed above it, it claims none of more seats above it, and it
--- is tied where its next claim is just there. A party without votes has no seat and is not tied.
+-- is tied where its next claim is exactly there. A party without votes has no seat and is not tied.
 pub record Stands (claim : ℕ → ℕ → Quotient) (most : ℕ) (low : Quotient) (votes sure : ℕ) (tied : Bool) : Type 0 where
   pub above : 0 < votes → 0 < sure → is_at_least low (claim votes (sure - 1)) ≡ false
   pub below : 0 < votes → is_at_least low (claim votes sure) ≡ true
@@ -15,12 +17,18 @@ pub record Stands (claim : ℕ → ℕ → Quotient) (most : ℕ) (low : Quotien
   pub none : votes ≡ 0 → (sure ≡ 0) × (tied ≡ false)
   pub fits : sure ≤ most
 
+abbrev pub AllStand : (ℕ → ℕ → Quotient) → ℕ → Quotient → List Contender → Type 0
+AllStand claim most low cs = AllByRecursion (λ c. Stands claim most low c.votes c.seats c.is_tied) cs
+
 -- While seats are given, one after the other: each seat that was given was claimed at the threshold or above it, and no
 -- party claims more above it. A party without votes has no seat.
 pub record Keeps (claim : ℕ → ℕ → Quotient) (most : ℕ) (low : Quotient) (votes seats : ℕ) : Type 0 where
   pub given : 0 < votes → 0 < seats → is_at_least (claim votes (seats - 1)) low ≡ true
   pub next : 0 < votes → is_at_least low (claim votes seats) ≡ true
   pub none : votes ≡ 0 → seats ≡ 0
+
+abbrev pub AllKeep : (ℕ → ℕ → Quotient) → ℕ → Quotient → List Contender → Type 0
+AllKeep claim most low cs = AllByRecursion (λ c. Keeps claim most low c.votes c.seats) cs
 
 -- the certain seats of a party, and whether it is tied
 abbrev pub standing : Contender → Standing
@@ -51,23 +59,25 @@ choices_from [] = [] ∷ []
 choices_from (c ∷ rest) =
     if c.has_more then map (λ others. (c.seats + 1) ∷ others) (choices_from rest)
     else map (λ others. c.seats ∷ others) (choices_from rest)
-    ++ (if c.is_tied then map (λ others. (c.seats + 1) ∷ others) (choices_less (standings rest) (more_count rest)) else [])
+    ++ (if c.is_tied
+    then map (λ others. (c.seats + 1) ∷ others) (choices_less (standings rest) (more_count rest)) else [])
 
 -- only tied parties have one more
 abbrev pub MoreAreTied : List Contender → Type 0
 MoreAreTied cs = AllByRecursion (λ c. c.has_more ≡ true → c.is_tied ≡ true) cs
 
--- A party with votes, by its place, and a claim that is its own and at least that of each party with votes; none where no
--- party has votes.
+-- A party with votes, by its place, and a claim that is its own and at least that of each party with votes; none where
+-- no party has votes.
 abbrev pub IsGreatest : (ℕ → ℕ → Quotient) → List Contender → Option Claimant → Type 0
 IsGreatest claim cs None = AllByRecursion (λ c. c.votes ≡ 0) cs
 IsGreatest claim cs (Some first) =
-    (before : List Contender) × (c : Contender) × (after : List Contender) × (cs ≡ before ++ c ∷ after) × (length before ≡ first.place)
-    × (0 < c.votes) × (first.quotient ≡ claim c.votes c.seats) × AllByRecursion (λ d. 0 < d.votes → is_at_least first.quotient (claim d.votes d.seats) ≡ true) cs
+    (before : List Contender) × (c : Contender) × (after : List Contender) × (cs ≡ before ++ c ∷ after)
+    × (length before ≡ first.place) × (0 < c.votes) × (first.quotient ≡ claim c.votes c.seats)
+    × AllByRecursion (λ d. 0 < d.votes → is_at_least first.quotient (claim d.votes d.seats) ≡ true) cs
 
 -- each party has at most so many votes and seats
 abbrev pub AreWithin : ℕ → List Contender → Type 0
-AreWithin most cs = AllByRecursion (λ c. (c.votes ≤ 2 ^ 32) × (c.seats ≤ most)) cs
+AreWithin most cs = AllByRecursion (λ c. (c.votes ≤ most_votes) × (c.seats ≤ most)) cs
 
 abbrev pub votes_of : List Contender → List ℕ
 votes_of cs = map (λ c. c.votes) cs
@@ -83,4 +93,4 @@ allocations_left true cs = choices_from cs
 -- what is true of parties whose ties are chosen
 pub record IsChoosing (cs : List Contender) : Type 0 where
   pub more : MoreAreTied cs
-  pub seats : AllByRecursion (λ c. c.seats ≤ 10000) cs
+  pub seats : AllByRecursion (λ c. c.seats ≤ most_seats) cs
