@@ -1,23 +1,26 @@
 -- The notes and the profile after some lines, and after one more.
-use Rattle.std.proofs.Common.{◌≡◌, ◌≢◌, ℕ, ◌+◌, ◌^◌, ◌≤◌, ◌&&◌, ◌||◌, Bool, true, false, not, cond, List, [], ◌∷◌, ◌++◌, refl, sym, ap, subst, ◌∙◌, arith, length, map, take, sum_by, Option, Some, None, option_map, unwrap_or, is_some, Result, Ok, Err, IfSome, replicate}
+use Rattle.std.proofs.Common.{◌==◌, ◌<◌, ◌≡◌, ◌≢◌, ℕ, ◌+◌, ◌≤◌, ◌&&◌, ◌||◌, Bool, true, false, not, cond, List, [], ◌∷◌, ◌++◌, refl, sym, ap, subst, ◌∙◌, arith, length, map, take, sum_by, Option, Some, None, option_map, unwrap_or, is_some, Result, Ok, Err, IfSome, replicate}
 use Rattle.std.specs.Prelude.{nat_lt, nat_le}
 use Rattle.std.specs.List.{list_any}
-use Rattle.std.proofs.lemmas.List.{append_assoc}
+use Rattle.std.proofs.lemmas.List.{append_assoc, append-nil}
+use Rattle.std.proofs.lemmas.Bool.{lt-ltb}
 use Rattle.std.proofs.lemmas.List.FromFn.{take-map-range_with_len}
-use Rattle.ballot_base.specs.Ballots.{Election, Row, election, with_votes, voter_count}
+use Rattle.ballot_base.specs.Ballots.{Election, Row, election, has_ballot as has_row, with_votes, voter_count}
+use Rattle.ballot_base.specs.Limits.{most_candidates, most_voters}
+use Rattle.preflib_text.specs.Limits.{most_line_bytes, most_categories}
 use Rattle.preflib_text.specs.declared.pick.Kind.{Kind}
 use Rattle.preflib_text.specs.declared.pick.Pick.{Pick}
 use Rattle.preflib_text.specs.declared.fault.FaultName.{FaultName}
 use Rattle.preflib_text.specs.declared.fault.FaultName.TheVariants.{LongLine, BadNumber, TooManyCandidates, NoAlternatives, NoKind, NoVoters, PickMisfit, TooManyVoters}
 use Rattle.preflib_text.specs.declared.notes.Notes.{Notes}
 use Rattle.preflib_text.specs.Lines.{is_ballot_line, lines_of, pieces_of, without_return}
-use Rattle.preflib_text.specs.Metadata.{Told, TypeIs, AlternativesAre, CategoriesAre, NameIs, Nothing, told_of, number_of}
-use Rattle.preflib_text.specs.Approvals.{way_for, approved}
-use Rattle.preflib_text.specs.BallotTokens.{ballot_of}
-use Rattle.preflib_text.specs.Reading.{Cast, or_else, fault_if, told_before, kind_or_usual, is_fitting, ballot_fault, alternatives_in, categories_in, casts_in, votes_in, rows_in, election_in, line_fault, told_fault, first_fault, end_fault, at_line, cast_fault, kind_fault, ballot_line_fault, number_fault, kind_or, kind_by}
-use Rattle.preflib_text.specs.Notes.{NoEffect, Names, Casts, fresh_notes, first_kind, told_error, told_notes, told_effect, cast_error, kind_error, alternatives_error, ballot_error, cast_effect, line_error, line_notes, line_effect, effect_error, with_effect, end_error, is_empty}
+use Rattle.preflib_text.specs.Metadata.{Told, TypeIs, AlternativesAre, CategoriesAre, NameIs, Nothing, told_of, written_number}
+use Rattle.preflib_text.specs.Approvals.{approved}
+use Rattle.preflib_text.specs.Steps.Tokens.{ballot_of}
+use Rattle.preflib_text.specs.Reading.{Cast, or_else, fault_if, told_before, kind_or_usual, is_fitting, ballot_fault, alternatives_in, categories_in, casts_in, votes_in, rows_in, election_in, line_fault, told_fault, first_fault, first_faulty_line, FaultyLine, faulty_line, fault_of_line, end_fault, at_end, is_name, takes_memory, kind_in, at_line, cast_fault, kind_fault, ballot_line_fault, number_fault, kind_or, kind_by}
+use Rattle.preflib_text.specs.Steps.Notes.{Effect, NoEffect, Names, Casts, fresh_notes, first_kind, told_error, told_notes, told_effect, cast_error, kind_error, alternatives_error, ballot_error, cast_effect, line_error, line_notes, line_effect, effect_error, with_effect, end_error, is_empty, effect_takes}
 use Rattle.preflib_text.proofs.ToldSteps.{IsTold, told-step, told_before-kept, told_before-more}
-use Rattle.preflib_text.proofs.ProfileSteps.{last_name, last_names, last_names-told, last_names-kept, name_value-other, casts_in-other, casts_in-ballot, casts_in-none, votes_in-ballot, rows_of, rows_of-push, with_votes-some, voters-more}
+use Rattle.preflib_text.proofs.ProfileSteps.{last_name, last_names, last_names-told, last_names-kept, name_value-other, casts_in-other, casts_in-ballot, casts_in-none, votes_in-ballot, rows_of, rows_of-push, with_votes-some, length-with_votes, voters-more}
 
 -- whether a ballot is among the lines
 abbrev pub has_ballot : List (List ℕ) → Bool
@@ -26,19 +29,19 @@ has_ballot lines = list_any is_ballot_line lines
 -- the profile where a ballot was read
 abbrev pub IsBegun : Pick → List (List ℕ) → Notes → Election → Type 0
 IsBegun pick before notes e = (m : ℕ) × (notes.alternatives ≡ Some m)
-    × (e ≡ election m (last_names (told_before before) m) (rows_of (way_for (kind_or_usual notes.kind) pick.way) (casts_in pick ballot_of before))) × (e.rows ≢ [])
+    × (e ≡ election m (last_names (told_before before) m) (rows_of (kind_or_usual notes.kind) pick.way (casts_in pick ballot_of before))) × (e.rows ≢ [])
 
 -- what the notes and the profile are after these lines
 pub record IsAfter (pick : Pick) (before : List (List ℕ)) (notes : Notes) (e : Election) : Type 0 where
   pub told : IsTold pick (told_before before) notes
   pub ballots : notes.has_ballot ≡ has_ballot before
-  pub opened : notes.has_ballot ≡ false → e ≡ election 40 (last_names (told_before before) 40) []
+  pub opened : notes.has_ballot ≡ false → e ≡ election most_candidates (last_names (told_before before) most_candidates) []
   pub begun : notes.has_ballot ≡ true → IsBegun pick before notes e
   pub votes : voter_count e.rows ≡ votes_in pick ballot_of before
 
 -- ---- before the first line
 
-pub is_after-none : (pick : Pick) → IsAfter pick [] (fresh_notes pick) (election 40 (replicate 40 []) [])
+pub is_after-none : (pick : Pick) → IsAfter pick [] (fresh_notes pick) (election most_candidates (replicate most_candidates []) [])
 is_after-none pick = record {
   told = record { alternatives = refl; categories = refl; kind = by pick.kind pick.ending; no_alternatives = λ h. refl; no_categories = λ h. refl; sound = tt };
   ballots = refl;
@@ -65,8 +68,8 @@ cast_error-is : (pick : Pick) (before : List (List ℕ)) (kind : Kind) (m : ℕ)
     → or_else (cast_error kind m notes.categories cast) (effect_error e (cast_effect pick notes cast)) ≡ cast_fault pick ballot_of before kind m cast
 cast_error-is pick before kind m notes e None is = refl
 cast_error-is pick before kind m notes e (Some cast) is =
-    ap (λ c. or_else (ballot_fault kind m c cast.count cast.classes) (fault_if (nat_lt (2 ^ 32) (voter_count e.rows + cast.count)) TooManyVoters)) is.told.categories
-    ∙ ap (λ n. or_else (ballot_fault kind m (categories_in before) cast.count cast.classes) (fault_if (nat_lt (2 ^ 32) (n + cast.count)) TooManyVoters)) is.votes
+    ap (λ c. or_else (ballot_fault kind m c cast.count cast.classes) (fault_if (nat_lt most_voters (voter_count e.rows + cast.count)) TooManyVoters)) is.told.categories
+    ∙ ap (λ n. or_else (ballot_fault kind m (categories_in before) cast.count cast.classes) (fault_if (nat_lt most_voters (n + cast.count)) TooManyVoters)) is.votes
 
 kind_error-is : (pick : Pick) (before : List (List ℕ)) (line : List ℕ) (m : ℕ) (notes : Notes) (e : Election) (kind : Result Kind FaultName) → IsAfter pick before notes e
     → or_else (kind_error pick notes m (ballot_of line) kind) (effect_error e (cast_effect pick notes (ballot_of line))) ≡ kind_fault pick ballot_of before m line kind
@@ -86,8 +89,8 @@ ballot_error-is pick before line notes e is = by notes.alternatives ∙ ap (ball
 
 told_error-is : (pick : Pick) (before : List (List ℕ)) (notes : Notes) (e : Election) (told : Told) → IsAfter pick before notes e → told_error notes told ≡ told_fault before told
 told_error-is pick before notes e (TypeIs value) is = refl
-told_error-is pick before notes e (AlternativesAre value) is = ap (λ o. number_fault (Some TooManyCandidates) 40 o (number_of value)) is.told.alternatives
-told_error-is pick before notes e (CategoriesAre value) is = ap (λ o. number_fault (Some BadNumber) (2 ^ 32) o (number_of value)) is.told.categories
+told_error-is pick before notes e (AlternativesAre value) is = ap (λ o. number_fault (Some TooManyCandidates) most_candidates o (written_number value)) is.told.alternatives
+told_error-is pick before notes e (CategoriesAre value) is = ap (λ o. number_fault (Some BadNumber) most_categories o (written_number value)) is.told.categories
 told_error-is pick before notes e (NameIs n value) is = refl
 told_error-is pick before notes e Nothing is = refl
 
@@ -95,7 +98,7 @@ pub told_effect-fine : (e : Election) (told : Told) → effect_error e (told_eff
 told_effect-fine e (TypeIs value) = refl
 told_effect-fine e (AlternativesAre value) = refl
 told_effect-fine e (CategoriesAre value) = refl
-told_effect-fine e (NameIs n value) = by (nat_le 1 n && nat_le n 40)
+told_effect-fine e (NameIs n value) = by (nat_le 1 n && nat_le n most_candidates)
   where
     by : (t : Bool) → effect_error e (cond t (Names n value) NoEffect) ≡ None
     by true = refl
@@ -106,8 +109,8 @@ told_effect-fine e Nothing = refl
 pub line_error-is : (pick : Pick) (before : List (List ℕ)) (line : List ℕ) (notes : Notes) (e : Election) → IsAfter pick before notes e
     → or_else (line_error pick notes line) (effect_error e (line_effect pick notes line)) ≡ line_fault pick ballot_of before line
 line_error-is pick before line notes e is =
-    or_else-assoc (fault_if (nat_lt 1048576 (length line)) LongLine) _ (effect_error e (line_effect pick notes line))
-    ∙ ap (or_else (fault_if (nat_lt 1048576 (length line)) LongLine)) (by (is_ballot_line line) ∙ by_ballots)
+    or_else-assoc (fault_if (nat_lt most_line_bytes (length line)) LongLine) _ (effect_error e (line_effect pick notes line))
+    ∙ ap (or_else (fault_if (nat_lt most_line_bytes (length line)) LongLine)) (by (is_ballot_line line) ∙ by_ballots)
   where
     other : (t : Bool) → or_else (cond t None (told_error notes (told_of line))) (effect_error e (cond t NoEffect (told_effect (told_of line)))) ≡ cond t None (told_fault before (told_of line))
     other true = refl
@@ -142,16 +145,16 @@ told-ballot : (pick : Pick) (tolds : List Told) (notes : Notes) → IsTold pick 
 told-ballot pick tolds notes is = record { alternatives = is.alternatives; categories = is.categories; kind = is.kind; no_alternatives = is.no_alternatives; no_categories = is.no_categories; sound = is.sound }
 
 -- the names that a line before the first ballot leaves
-names_told : (tolds : List Told) (told : Told) → with_effect (election 40 (last_names tolds 40) []) (told_effect told) ≡ election 40 (last_names (tolds ++ told ∷ []) 40) []
-names_told tolds (TypeIs value) = ap (λ l. election 40 l []) (last_names-kept tolds (TypeIs value) 40 (λ k low high. refl))
-names_told tolds (AlternativesAre value) = ap (λ l. election 40 l []) (last_names-kept tolds (AlternativesAre value) 40 (λ k low high. refl))
-names_told tolds (CategoriesAre value) = ap (λ l. election 40 l []) (last_names-kept tolds (CategoriesAre value) 40 (λ k low high. refl))
-names_told tolds Nothing = ap (λ l. election 40 l []) (last_names-kept tolds Nothing 40 (λ k low high. refl))
-names_told tolds (NameIs n value) = by (nat_le 1 n && nat_le n 40) refl
+names_told : (tolds : List Told) (told : Told) → with_effect (election most_candidates (last_names tolds most_candidates) []) (told_effect told) ≡ election most_candidates (last_names (tolds ++ told ∷ []) most_candidates) []
+names_told tolds (TypeIs value) = ap (λ l. election most_candidates l []) (last_names-kept tolds (TypeIs value) most_candidates (λ k low high. refl))
+names_told tolds (AlternativesAre value) = ap (λ l. election most_candidates l []) (last_names-kept tolds (AlternativesAre value) most_candidates (λ k low high. refl))
+names_told tolds (CategoriesAre value) = ap (λ l. election most_candidates l []) (last_names-kept tolds (CategoriesAre value) most_candidates (λ k low high. refl))
+names_told tolds Nothing = ap (λ l. election most_candidates l []) (last_names-kept tolds Nothing most_candidates (λ k low high. refl))
+names_told tolds (NameIs n value) = by (nat_le 1 n && nat_le n most_candidates) refl
   where
-    by : (t : Bool) → (nat_le 1 n && nat_le n 40) ≡ t → with_effect (election 40 (last_names tolds 40) []) (cond t (Names n value) NoEffect) ≡ election 40 (last_names (tolds ++ NameIs n value ∷ []) 40) []
-    by true e = ap (λ l. election 40 l []) (last_names-told tolds n 40 value (grind arith) (grind arith))
-    by false e = ap (λ l. election 40 l []) (last_names-kept tolds (NameIs n value) 40 (λ k low high. name_value-other n k value (λ same. absurd (grind arith))))
+    by : (t : Bool) → (nat_le 1 n && nat_le n most_candidates) ≡ t → with_effect (election most_candidates (last_names tolds most_candidates) []) (cond t (Names n value) NoEffect) ≡ election most_candidates (last_names (tolds ++ NameIs n value ∷ []) most_candidates) []
+    by true e = ap (λ l. election most_candidates l []) (last_names-told tolds n most_candidates value (grind arith) (grind arith))
+    by false e = ap (λ l. election most_candidates l []) (last_names-kept tolds (NameIs n value) most_candidates (λ k low high. name_value-other n k value (λ same. absurd (grind arith))))
 
 -- what is told leaves the ballots
 told_notes-ballots : (pick : Pick) (notes : Notes) (told : Told) → (told_notes pick notes told).has_ballot ≡ notes.has_ballot
@@ -166,7 +169,7 @@ told_effect-rows e (TypeIs value) = refl
 told_effect-rows e (AlternativesAre value) = refl
 told_effect-rows e (CategoriesAre value) = refl
 told_effect-rows e Nothing = refl
-told_effect-rows e (NameIs n value) = by (nat_le 1 n && nat_le n 40)
+told_effect-rows e (NameIs n value) = by (nat_le 1 n && nat_le n most_candidates)
   where
     by : (t : Bool) → (with_effect e (cond t (Names n value) NoEffect)).rows ≡ e.rows
     by true = refl
@@ -183,7 +186,7 @@ after-told pick before line notes e is none other fine =
     record {
       told = subst (λ t. IsTold pick t (told_notes pick notes (told_of line))) tolds (told-step pick (told_before before) notes (told_of line) is.told fine);
       ballots = still ∙ sym none_yet;
-      opened = λ h. ap (λ f. with_effect f (told_effect (told_of line))) (is.opened none) ∙ names_told (told_before before) (told_of line) ∙ ap (λ t. election 40 (last_names t 40) []) tolds;
+      opened = λ h. ap (λ f. with_effect f (told_effect (told_of line))) (is.opened none) ∙ names_told (told_before before) (told_of line) ∙ ap (λ t. election most_candidates (last_names t most_candidates) []) tolds;
       begun = λ h. false_true still h;
       votes = ap voter_count (told_effect-rows e (told_of line)) ∙ is.votes ∙ sym (ap (λ c. sum_by (λ (x : Cast). x.count) c) (casts_in-other pick ballot_of before line other));
     }
@@ -191,7 +194,7 @@ after-told pick before line notes e is none other fine =
     false_true : {t : Bool} {X : Type 0} → t ≡ false → t ≡ true → X
     false_true h i = absurd (cc)
 
--- no ballot, behind the first ballot
+-- no ballot, after the first ballot
 after-skipped : (pick : Pick) (before : List (List ℕ)) (line : List ℕ) (notes : Notes) (e : Election) → IsAfter pick before notes e → notes.has_ballot ≡ true → is_ballot_line line ≡ false
     → IsAfter pick (before ++ line ∷ []) notes e
 after-skipped pick before line notes e is some other =
@@ -207,8 +210,8 @@ after-skipped pick before line notes e is some other =
       begun = λ h. (
         m,
         alternatives,
-        profile ∙ ap (λ t. election m (last_names t m) (rows_of (way_for (kind_or_usual notes.kind) pick.way) (casts_in pick ballot_of before))) tolds
-            ∙ ap (λ c. election m (last_names (told_before (before ++ line ∷ [])) m) (rows_of (way_for (kind_or_usual notes.kind) pick.way) c)) casts,
+        profile ∙ ap (λ t. election m (last_names t m) (rows_of (kind_or_usual notes.kind) pick.way (casts_in pick ballot_of before))) tolds
+            ∙ ap (λ c. election m (last_names (told_before (before ++ line ∷ [])) m) (rows_of (kind_or_usual notes.kind) pick.way c)) casts,
         rows,
       );
       votes = is.votes ∙ ap (λ c. sum_by (λ (x : Cast). x.count) c) casts;
@@ -248,13 +251,13 @@ after-first pick before line notes e is none ballot (m, kind, cast, alternatives
     let no_ballot : has_ballot before ≡ false = sym is.ballots ∙ none in
     let more : (has_ballot before || is_ballot_line line) ≡ true = ap (λ t. t || is_ballot_line line) no_ballot ∙ ballot in
     let tolds : told_before before ≡ told_before (before ++ line ∷ []) = sym (told_before-kept before line more) in
-    let way = way_for (kind_or_usual notes.kind) pick.way in
+    let noted = kind_or_usual notes.kind in
     let casts : casts_in pick ballot_of (before ++ line ∷ []) ≡ cast ∷ [] = casts_in-ballot pick ballot_of before line cast ballot read ∙ ap (λ c. c ++ cast ∷ []) (casts_in-none pick ballot_of before no_ballot) in
-    let rows : with_votes [] (approved way cast.classes) cast.count ≡ rows_of way (casts_in pick ballot_of (before ++ line ∷ [])) = sym (ap (rows_of way) casts) in
-    let effect : with_effect e (cast_effect pick notes (ballot_of line)) ≡ election m (last_names (told_before before) m) (with_votes [] (approved way cast.classes) cast.count) =
-    ap (with_effect e) (cast_effect-is pick line notes cast read ∙ ap (λ t. Casts (cond t None notes.alternatives) (approved way cast.classes) cast.count) none ∙ ap (λ o. Casts o (approved way cast.classes) cast.count) alternatives)
-    ∙ ap (λ f. election m (take m f.names) (with_votes [] (approved way cast.classes) cast.count)) (is.opened none)
-    ∙ ap (λ l. election m l (with_votes [] (approved way cast.classes) cast.count)) (take-map-range_with_len (last_name (told_before before)) 1 40 m (most m alternatives)) in
+    let rows : with_votes [] (approved noted pick.way cast.classes) cast.count ≡ rows_of noted pick.way (casts_in pick ballot_of (before ++ line ∷ [])) = sym (ap (rows_of noted pick.way) casts) in
+    let effect : with_effect e (cast_effect pick notes (ballot_of line)) ≡ election m (last_names (told_before before) m) (with_votes [] (approved noted pick.way cast.classes) cast.count) =
+    ap (with_effect e) (cast_effect-is pick line notes cast read ∙ ap (λ t. Casts (cond t None notes.alternatives) (approved noted pick.way cast.classes) cast.count) none ∙ ap (λ o. Casts o (approved noted pick.way cast.classes) cast.count) alternatives)
+    ∙ ap (λ f. election m (take m f.names) (with_votes [] (approved noted pick.way cast.classes) cast.count)) (is.opened none)
+    ∙ ap (λ l. election m l (with_votes [] (approved noted pick.way cast.classes) cast.count)) (take-map-range_with_len (last_name (told_before before)) 1 most_candidates m (most m alternatives)) in
     record {
       told = subst (λ t. IsTold pick t (record notes { has_ballot = true })) tolds (told-ballot pick (told_before before) notes is.told);
       ballots = sym (has_ballot-more before line ∙ more);
@@ -262,28 +265,28 @@ after-first pick before line notes e is none ballot (m, kind, cast, alternatives
       begun = λ h. (
         m,
         alternatives,
-        effect ∙ ap (λ t. election m (last_names t m) (with_votes [] (approved way cast.classes) cast.count)) tolds ∙ ap (election m (last_names (told_before (before ++ line ∷ [])) m)) rows,
-        λ empty. with_votes-some [] (approved way cast.classes) cast.count (sym (ap (λ (f : Election). f.rows) effect) ∙ empty),
+        effect ∙ ap (λ t. election m (last_names t m) (with_votes [] (approved noted pick.way cast.classes) cast.count)) tolds ∙ ap (election m (last_names (told_before (before ++ line ∷ [])) m)) rows,
+        λ empty. with_votes-some [] (approved noted pick.way cast.classes) cast.count (sym (ap (λ (f : Election). f.rows) effect) ∙ empty),
       );
       votes = ap (λ (f : Election). voter_count f.rows) effect ∙ sym (ap (λ c. sum_by (λ (x : Cast). x.count) c) casts);
     }
   where
-    most : (m : ℕ) → notes.alternatives ≡ Some m → m ≤ 40
-    most m a = (subst (λ o. IfSome o (λ n. (1 ≤ n) × (n ≤ 40))) a is.told.sound).1
+    most : (m : ℕ) → notes.alternatives ≡ Some m → m ≤ most_candidates
+    most m a = (subst (λ o. IfSome o (λ n. (1 ≤ n) × (n ≤ most_candidates))) a is.told.sound).1
 
--- a ballot behind others
+-- a ballot after others
 after-ballot : (pick : Pick) (before : List (List ℕ)) (line : List ℕ) (notes : Notes) (e : Election) → IsAfter pick before notes e → notes.has_ballot ≡ true → is_ballot_line line ≡ true → IsCast pick before line notes
     → IsAfter pick (before ++ line ∷ []) (record notes { has_ballot = true }) (with_effect e (cast_effect pick notes (ballot_of line)))
 after-ballot pick before line notes e is some ballot (m, kind, cast, alternatives, known, read, fine) =
     let (count, number, profile, rows) = is.begun some in
     let more : (has_ballot before || is_ballot_line line) ≡ true = ap (λ t. t || is_ballot_line line) (sym is.ballots ∙ some) in
     let tolds : told_before before ≡ told_before (before ++ line ∷ []) = sym (told_before-kept before line more) in
-    let way = way_for (kind_or_usual notes.kind) pick.way in
+    let noted = kind_or_usual notes.kind in
     let casts : casts_in pick ballot_of (before ++ line ∷ []) ≡ casts_in pick ballot_of before ++ cast ∷ [] = casts_in-ballot pick ballot_of before line cast ballot read in
-    let pushed : with_votes (rows_of way (casts_in pick ballot_of before)) (approved way cast.classes) cast.count ≡ rows_of way (casts_in pick ballot_of (before ++ line ∷ [])) =
-    sym (rows_of-push way (casts_in pick ballot_of before) cast) ∙ ap (rows_of way) (sym casts) in
-    let effect : with_effect e (cast_effect pick notes (ballot_of line)) ≡ record e { rows = with_votes e.rows (approved way cast.classes) cast.count } =
-    ap (with_effect e) (cast_effect-is pick line notes cast read ∙ ap (λ t. Casts (cond t None notes.alternatives) (approved way cast.classes) cast.count) some) in
+    let pushed : with_votes (rows_of noted pick.way (casts_in pick ballot_of before)) (approved noted pick.way cast.classes) cast.count ≡ rows_of noted pick.way (casts_in pick ballot_of (before ++ line ∷ [])) =
+    sym (rows_of-push noted pick.way (casts_in pick ballot_of before) cast) ∙ ap (rows_of noted pick.way) (sym casts) in
+    let effect : with_effect e (cast_effect pick notes (ballot_of line)) ≡ record e { rows = with_votes e.rows (approved noted pick.way cast.classes) cast.count } =
+    ap (with_effect e) (cast_effect-is pick line notes cast read ∙ ap (λ t. Casts (cond t None notes.alternatives) (approved noted pick.way cast.classes) cast.count) some) in
     record {
       told = subst (λ t. IsTold pick t (record notes { has_ballot = true })) tolds (told-ballot pick (told_before before) notes is.told);
       ballots = sym (has_ballot-more before line ∙ more);
@@ -291,16 +294,16 @@ after-ballot pick before line notes e is some ballot (m, kind, cast, alternative
       begun = λ h. (
         count,
         number,
-        effect ∙ ap (λ (f : Election). record f { rows = with_votes f.rows (approved way cast.classes) cast.count }) profile
-            ∙ ap (λ t. election count (last_names t count) (with_votes (rows_of way (casts_in pick ballot_of before)) (approved way cast.classes) cast.count)) tolds
+        effect ∙ ap (λ (f : Election). record f { rows = with_votes f.rows (approved noted pick.way cast.classes) cast.count }) profile
+            ∙ ap (λ t. election count (last_names t count) (with_votes (rows_of noted pick.way (casts_in pick ballot_of before)) (approved noted pick.way cast.classes) cast.count)) tolds
             ∙ ap (election count (last_names (told_before (before ++ line ∷ [])) count)) pushed,
-        λ empty. with_votes-some e.rows (approved way cast.classes) cast.count (sym (ap (λ (f : Election). f.rows) effect) ∙ empty),
+        λ empty. with_votes-some e.rows (approved noted pick.way cast.classes) cast.count (sym (ap (λ (f : Election). f.rows) effect) ∙ empty),
       );
-      votes = ap (λ (f : Election). voter_count f.rows) effect ∙ voters-more e.rows (approved way cast.classes) cast.count ∙ ap (λ n. n + cast.count) is.votes
+      votes = ap (λ (f : Election). voter_count f.rows) effect ∙ voters-more e.rows (approved noted pick.way cast.classes) cast.count ∙ ap (λ n. n + cast.count) is.votes
           ∙ sym (votes_in-ballot pick ballot_of before line cast ballot read);
     }
 
-or_else-first : {X : Type 0} (a b : Option X) → or_else a b ≡ None → a ≡ None
+pub or_else-first : {X : Type 0} (a b : Option X) → or_else a b ≡ None → a ≡ None
 or_else-first None b h = refl
 or_else-first (Some x) b h = absurd (cc)
 
@@ -308,10 +311,22 @@ pub or_else-second : {X : Type 0} (a b : Option X) → or_else a b ≡ None → 
 or_else-second None b h = h
 or_else-second (Some x) b h = absurd (cc)
 
+-- the rows are those of the lines
+rows_are : (pick : Pick) (before : List (List ℕ)) (notes : Notes) (e : Election) → IsAfter pick before notes e → e.rows ≡ rows_in pick ballot_of before
+rows_are pick before notes e is = by notes.has_ballot refl
+  where
+    by : (t : Bool) → notes.has_ballot ≡ t → e.rows ≡ rows_in pick ballot_of before
+    by true h =
+        let (m, number, profile, rows) = is.begun h in
+        ap (λ (f : Election). f.rows) profile ∙ ap (λ k. rows_of (kind_or_usual k) pick.way (casts_in pick ballot_of before)) is.told.kind
+    by false h =
+        ap (λ (f : Election). f.rows) (is.opened h)
+        ∙ sym (ap (rows_of (kind_or_usual (kind_in pick before)) pick.way) (casts_in-none pick ballot_of before (sym is.ballots ∙ h)))
+
 -- a line without a fault
 pub after-line : (pick : Pick) (before : List (List ℕ)) (line : List ℕ) (notes : Notes) (e : Election) → IsAfter pick before notes e → line_error pick notes line ≡ None
     → IsAfter pick (before ++ line ∷ []) (line_notes pick notes line) (with_effect e (line_effect pick notes line))
-after-line pick before line notes e is fine = by (is_ballot_line line) notes.has_ballot refl refl (or_else-second (fault_if (nat_lt 1048576 (length line)) LongLine) _ fine)
+after-line pick before line notes e is fine = by (is_ballot_line line) notes.has_ballot refl refl (or_else-second (fault_if (nat_lt most_line_bytes (length line)) LongLine) _ fine)
   where
     by : (b s : Bool) → is_ballot_line line ≡ b → notes.has_ballot ≡ s → cond b (ballot_error pick notes (ballot_of line)) (cond s None (told_error notes (told_of line))) ≡ None
         → IsAfter pick (before ++ line ∷ []) (cond b (record notes { has_ballot = true }) (cond s notes (told_notes pick notes (told_of line)))) (with_effect e (cond b (cast_effect pick notes (ballot_of line)) (cond s NoEffect (told_effect (told_of line)))))
@@ -319,6 +334,77 @@ after-line pick before line notes e is fine = by (is_ballot_line line) notes.has
     by true true f g h = after-ballot pick before line notes e is g f (is_cast pick before line notes h)
     by false true f g h = after-skipped pick before line notes e is g f
     by false false f g h = after-told pick before line notes e is g f h
+
+-- ---- a line that takes memory
+
+or_last : (a b c : Bool) → c ≡ true → (a || (b || c)) ≡ true
+or_last true b c h = refl
+or_last false true c h = refl
+or_last false false c h = h
+
+or_middle : (a b c : Bool) → b ≡ true → (a || (b || c)) ≡ true
+or_middle true b c h = refl
+or_middle false true c h = refl
+or_middle false false c h = absurd (cc)
+
+-- a name of a candidate
+takes_name : (e : Election) (told : Told) → effect_takes e (told_effect told) ≡ true → is_name told ≡ true
+takes_name e (TypeIs value) h = absurd (cc)
+takes_name e (AlternativesAre value) h = absurd (cc)
+takes_name e (CategoriesAre value) h = absurd (cc)
+takes_name e Nothing h = absurd (cc)
+takes_name e (NameIs n value) h = by (nat_le 1 n && nat_le n most_candidates) h
+  where
+    by : (t : Bool) → effect_takes e (cond t (Names n value) NoEffect) ≡ true → t ≡ true
+    by true g = refl
+    by false g = absurd (cc)
+
+not_true : (t : Bool) → not t ≡ true → t ≡ false
+not_true true h = absurd (cc)
+not_true false h = refl
+
+-- a ballot that makes a new row
+takes_row : (e : Election) (has : Bool) (alternatives : Option ℕ) (m : ℕ) (set : List ℕ) (count : ℕ) → alternatives ≡ Some m → (has ≡ false → e.rows ≡ [])
+    → effect_takes e (Casts (cond has None alternatives) set count) ≡ true → length e.rows < length (with_effect e (Casts (cond has None alternatives) set count)).rows
+takes_row e true alternatives m set count is empty h = length-with_votes e.rows set count (not_true (has_row e.rows set) h)
+takes_row e false None m set count is empty h = absurd (cc)
+takes_row e false (Some k) m set count is empty h = omega (arith, ap length (empty refl))
+
+pub takes_memory-is : (pick : Pick) (before : List (List ℕ)) (line : List ℕ) (notes : Notes) (e : Election) → IsAfter pick before notes e → line_error pick notes line ≡ None
+    → effect_takes e (line_effect pick notes line) ≡ true → takes_memory pick ballot_of before line ≡ true
+takes_memory-is pick before line notes e is fine takes =
+    by (is_ballot_line line) notes.has_ballot refl refl (or_else-second (fault_if (nat_lt most_line_bytes (length line)) LongLine) _ fine) takes
+  where
+    first : Bool
+    first = length before == 0
+
+    name : Bool
+    name = not (has_ballot before) && is_name (told_of line)
+
+    row : Bool
+    row = nat_lt (length (rows_in pick ballot_of before)) (length (rows_in pick ballot_of (before ++ line ∷ [])))
+
+    next : rows_in pick ballot_of (before ++ line ∷ []) ≡ (with_effect e (line_effect pick notes line)).rows
+    next = sym (rows_are pick (before ++ line ∷ []) (line_notes pick notes line) (with_effect e (line_effect pick notes line)) (after-line pick before line notes e is fine))
+
+    grown : (effect : Effect) → line_effect pick notes line ≡ effect → length e.rows < length (with_effect e effect).rows → row ≡ true
+    grown effect same more =
+        ap (λ l. nat_lt (length l) (length (rows_in pick ballot_of (before ++ line ∷ [])))) (sym (rows_are pick before notes e is))
+        ∙ ap (λ l. nat_lt (length e.rows) (length l)) (next ∙ ap (λ f. (with_effect e f).rows) same)
+        ∙ lt-ltb (length e.rows) (length (with_effect e effect).rows) more
+
+    of_ballot : is_ballot_line line ≡ true → IsCast pick before line notes → effect_takes e (cast_effect pick notes (ballot_of line)) ≡ true → row ≡ true
+    of_ballot f (m, kind, cast, alternatives, known, read, good) h =
+        let effect = cast_effect-is pick line notes cast read in
+        let line_is : line_effect pick notes line ≡ cast_effect pick notes (Some cast) = ap (λ t. cond t (cast_effect pick notes (ballot_of line)) (cond notes.has_ballot NoEffect (told_effect (told_of line)))) f ∙ effect in
+        grown (cast_effect pick notes (Some cast)) line_is
+        (takes_row e notes.has_ballot notes.alternatives m (approved (kind_or_usual notes.kind) pick.way cast.classes) cast.count alternatives (λ none. ap (λ (g : Election). g.rows) (is.opened none)) (sym (ap (effect_takes e) effect) ∙ h))
+
+    by : (b s : Bool) → is_ballot_line line ≡ b → notes.has_ballot ≡ s → cond b (ballot_error pick notes (ballot_of line)) (cond s None (told_error notes (told_of line))) ≡ None
+        → effect_takes e (cond b (cast_effect pick notes (ballot_of line)) (cond s NoEffect (told_effect (told_of line)))) ≡ true → (first || (name || row)) ≡ true
+    by true s f g h t = or_last first name row (of_ballot f (is_cast pick before line notes h) t)
+    by false true f g h t = absurd (cc)
+    by false false f g h t = or_middle first name row (ap (λ b. not b && is_name (told_of line)) (sym is.ballots ∙ g) ∙ takes_name e (told_of line) t)
 
 -- ---- the end
 
@@ -346,7 +432,7 @@ election_in-is pick lines notes e is fine = by notes.has_ballot refl
     by : (t : Bool) → notes.has_ballot ≡ t → e ≡ election_in pick ballot_of lines
     by true h =
         let (m, number, profile, rows) = is.begun h in
-        profile ∙ ap (λ k. election m (last_names (told_before lines) m) (rows_of (way_for (kind_or_usual k) pick.way) (casts_in pick ballot_of lines))) is.told.kind
+        profile ∙ ap (λ k. election m (last_names (told_before lines) m) (rows_of (kind_or_usual k) pick.way (casts_in pick ballot_of lines))) is.told.kind
         ∙ ap (λ n. election n (last_names (told_before lines) n) (rows_in pick ballot_of lines)) (ap (λ o. unwrap_or o 0) (sym number ∙ is.told.alternatives))
     by false h =
         let empty : e.rows ≡ [] = ap (λ (f : Election). f.rows) (is.opened h) in
@@ -360,21 +446,34 @@ election_in-is pick lines notes e is fine = by notes.has_ballot refl
 
 -- lines without a fault before others
 abbrev pub IsFine : Pick → List (List ℕ) → Type 0
-IsFine pick before = (more : List (List ℕ)) → first_fault pick ballot_of [] (before ++ more) ≡ first_fault pick ballot_of before more
+IsFine pick before = (more : List (List ℕ)) → first_faulty_line pick ballot_of [] (before ++ more) ≡ first_faulty_line pick ballot_of before more
 
 pub is_fine-none : (pick : Pick) → IsFine pick []
 is_fine-none pick more = refl
 
 pub is_fine-more : (pick : Pick) (before : List (List ℕ)) (line : List ℕ) → IsFine pick before → line_fault pick ballot_of before line ≡ None → IsFine pick (before ++ line ∷ [])
 is_fine-more pick before line fine none more =
-    ap (first_fault pick ballot_of []) (append_assoc before (line ∷ []) more) ∙ fine (line ∷ more)
-    ∙ ap (λ o. or_else (option_map (at_line (length before + 1)) o) (first_fault pick ballot_of (before ++ line ∷ []) more)) none
+    ap (first_faulty_line pick ballot_of []) (append_assoc before (line ∷ []) more) ∙ fine (line ∷ more)
+    ∙ ap (λ o. or_else (option_map (faulty_line (length before + 1)) o) (first_faulty_line pick ballot_of (before ++ line ∷ []) more)) none
+
+-- among them no line has a fault
+pub none_faulty : (pick : Pick) (before : List (List ℕ)) → IsFine pick before → first_faulty_line pick ballot_of [] before ≡ None
+none_faulty pick before fine = ap (first_faulty_line pick ballot_of []) (sym (append-nil before)) ∙ fine []
+
+fault_of_lines : (pick : Pick) (lines : List (List ℕ)) (faulty : Option FaultyLine) → first_faulty_line pick ballot_of [] lines ≡ faulty
+    → first_fault pick ballot_of lines ≡ or_else (option_map fault_of_line faulty) (option_map at_end (end_fault lines))
+fault_of_lines pick lines faulty is = ap (λ o. or_else (option_map fault_of_line o) (option_map at_end (end_fault lines))) is
+
+-- the fault of the end
+pub fault_at_end : (pick : Pick) (lines : List (List ℕ)) → IsFine pick lines → first_fault pick ballot_of lines ≡ option_map at_end (end_fault lines)
+fault_at_end pick lines fine = fault_of_lines pick lines None (none_faulty pick lines fine)
 
 -- the first line with a fault
 pub fault_at : (pick : Pick) (before : List (List ℕ)) (line : List ℕ) (more : List (List ℕ)) (name : FaultName) → IsFine pick before → line_fault pick ballot_of before line ≡ Some name
-    → first_fault pick ballot_of [] (before ++ line ∷ more) ≡ Some (at_line (length before + 1) name)
+    → first_fault pick ballot_of (before ++ line ∷ more) ≡ Some (at_line (length before + 1) name)
 fault_at pick before line more name fine fault =
-    fine (line ∷ more) ∙ ap (λ o. or_else (option_map (at_line (length before + 1)) o) (first_fault pick ballot_of (before ++ line ∷ []) more)) fault
+    fault_of_lines pick (before ++ line ∷ more) (Some (faulty_line (length before + 1) name))
+    (fine (line ∷ more) ∙ ap (λ o. or_else (option_map (faulty_line (length before + 1)) o) (first_faulty_line pick ballot_of (before ++ line ∷ []) more)) fault)
 
 -- a place in an input: the lines before it, none with a fault, and what was made of them
 pub record IsAt (pick : Pick) (bytes : List ℕ) (rest : List ℕ) (notes : Notes) (e : Election) (before : List (List ℕ)) : Type 0 where

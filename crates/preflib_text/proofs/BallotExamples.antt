@@ -2,16 +2,17 @@
 use Rattle.std.proofs.Common.{◌≡◌, ◌+◌, ◌^◌, [], ◌∷◌, true, false, Some, None, refl, inl, inr, lit≤, lit<}
 use Rattle.std.specs.Prelude.{codes}
 use Rattle.preflib_text.specs.declared.pick.Kind.TheVariants.{Cat, Soc, Soi, Toc, Toi}
-use Rattle.preflib_text.specs.declared.pick.Way.TheVariants.{Usual, Category, SetSize, Classes}
+use Rattle.preflib_text.specs.declared.pick.Way.TheVariants.{Category, SetSize, Classes}
+use Rattle.preflib_text.specs.declared.approvals.Taking.TheVariants as take
 use Rattle.preflib_text.specs.declared.fault.FaultName.TheVariants.{BadCount, NoSuchCandidate, RepeatedCandidate, NotStrict, Incomplete, TooManyClasses}
 use Rattle.preflib_text.specs.declared.ballot.Token.TheVariants.{Number, Colon, Comma, Open, Close, Other}
-use Rattle.preflib_text.specs.declared.ballot.Place.TheVariants.{Order, Class, Between, Opened, Inner}
+use Rattle.preflib_text.specs.declared.ballot.OrderPlace.TheVariants.{Order, Class, Between, Opened, Inner}
 use Rattle.preflib_text.specs.Ballot.{IsBlanks, IsDigits, IsPadded, IsNumber, IsJoined, IsBraced, IsClass, IsOrder, IsBallotLine}
-use Rattle.preflib_text.specs.Approvals.{way_for, set_of, first_numbers, taken_numbers, approved}
+use Rattle.preflib_text.specs.Approvals.{HasNumber, set_of, first_numbers, usual_numbers, taken_numbers, approved}
 use Rattle.preflib_text.specs.Reading.{or_else, fault_if, number_in_ballot_fault, is_strict, is_complete, is_cat, ballot_fault}
-use Rattle.preflib_text.specs.BallotTokens.{token_of, behind_number, with_digit, tokens_after, tokens_of, capped, capped_token, IsFirstToken, next_place, is_end, with_token, order_at, cast_of, ballot_of}
-use Rattle.preflib_text.specs.BallotMarks.{no_marks, takes, HasNumber, wrong_with, with_number, with_end, with_class, with_classes, with_read, fault_of}
-use Rattle.preflib_text.specs.BallotReading.{HasMarks, IsGoodBallot, IsBallotFault}
+use Rattle.preflib_text.specs.Steps.Tokens.{token_of, behind_number, with_digit, tokens_after, tokens_of, capped, capped_token, IsFirstToken, next_place, is_end, with_token, order_at, cast_of, ballot_of}
+use Rattle.preflib_text.specs.Steps.Marks.{no_marks, usual_taking, taking_of, takes, wrong_with, with_number, with_end, with_class, with_classes, with_read, fault_of}
+use Rattle.preflib_text.specs.Steps.Answers.{HasMarks, IsGoodBallot, IsBallotFault}
 
 -- ---- the shape of a ballot line
 
@@ -54,14 +55,11 @@ ballot_line = (codes " 7", codes " {1, 2},12 ", refl, padded, order)
 
 -- ---- approvals
 
-usual_of_cat : way_for Cat Usual ≡ Category 1
+usual_of_cat : usual_numbers Cat ([] ∷ (2 ∷ []) ∷ []) ≡ []
 usual_of_cat = refl
 
-usual_of_toc : way_for Toc Usual ≡ SetSize 1
+usual_of_toc : usual_numbers Toc ([] ∷ (2 ∷ []) ∷ []) ≡ 2 ∷ []
 usual_of_toc = refl
-
-given_way : way_for Soc (Classes 2) ≡ Classes 2
-given_way = refl
 
 set : set_of (3 ∷ 1 ∷ 2 ∷ []) ≡ 1 ∷ 2 ∷ 3 ∷ []
 set = refl
@@ -69,13 +67,13 @@ set = refl
 three_numbers : first_numbers 3 ((5 ∷ []) ∷ [] ∷ (3 ∷ 1 ∷ []) ∷ (2 ∷ []) ∷ []) ≡ 5 ∷ 3 ∷ 1 ∷ []
 three_numbers = refl
 
-second_category : taken_numbers (Category 2) ((5 ∷ []) ∷ (3 ∷ 1 ∷ []) ∷ []) ≡ 3 ∷ 1 ∷ []
+second_category : taken_numbers Cat (Category 2) ((5 ∷ []) ∷ (3 ∷ 1 ∷ []) ∷ []) ≡ 3 ∷ 1 ∷ []
 second_category = refl
 
-third_category : taken_numbers (Category 3) ((5 ∷ []) ∷ (3 ∷ 1 ∷ []) ∷ []) ≡ []
+third_category : taken_numbers Cat (Category 3) ((5 ∷ []) ∷ (3 ∷ 1 ∷ []) ∷ []) ≡ []
 third_category = refl
 
-two_classes : approved (Classes 2) ((5 ∷ []) ∷ (3 ∷ 1 ∷ []) ∷ (2 ∷ []) ∷ []) ≡ 1 ∷ 3 ∷ 5 ∷ []
+two_classes : approved Toi (Classes 2) ((5 ∷ []) ∷ (3 ∷ 1 ∷ []) ∷ (2 ∷ []) ∷ []) ≡ 1 ∷ 3 ∷ 5 ∷ []
 two_classes = refl
 
 -- ---- faults
@@ -179,7 +177,13 @@ no_ballot = refl
 
 -- ---- marks
 
-takes_second : takes (Category 2) 1 3 ≡ true
+usual_taking_of_cat : usual_taking Cat ≡ take.Category 1
+usual_taking_of_cat = refl
+
+taking_of_soi : taking_of Soi (Classes 2) ≡ take.Classes 2
+taking_of_soi = refl
+
+takes_second : takes (take.Category 2) 1 3 ≡ true
 takes_second = refl
 
 has_number : HasNumber (SetSize 2)
@@ -188,19 +192,19 @@ has_number = lit≤ tt
 wrong : wrong_with 4 no_marks 5 ≡ Some NoSuchCandidate
 wrong = refl
 
-marks_with_number : with_number 4 (SetSize 1) no_marks 2 ≡ record no_marks { seen = 2 ∷ []; approved = 2 ∷ []; numbers = 1 }
+marks_with_number : with_number 4 (take.SetSize 1) no_marks 2 ≡ record no_marks { seen = 2 ∷ []; approved = 2 ∷ []; numbers = 1 }
 marks_with_number = refl
 
 marks_with_end : with_end (record no_marks { numbers = 2 }) ≡ record no_marks { strict = false; classes = 1; before = 2 }
 marks_with_end = refl
 
-marks_with_class : with_class 4 (Classes 1) no_marks (2 ∷ 1 ∷ []) ≡ record no_marks { seen = 1 ∷ 2 ∷ []; approved = 1 ∷ 2 ∷ []; strict = false; classes = 1; before = 2 }
+marks_with_class : with_class 4 (take.Classes 1) no_marks (2 ∷ 1 ∷ []) ≡ record no_marks { seen = 1 ∷ 2 ∷ []; approved = 1 ∷ 2 ∷ []; strict = false; classes = 1; before = 2 }
 marks_with_class = refl
 
-marks_with_classes : with_classes 4 (Classes 1) no_marks ((2 ∷ []) ∷ (1 ∷ 5 ∷ 3 ∷ []) ∷ []) ≡ record no_marks { wrong = Some NoSuchCandidate; seen = 1 ∷ 2 ∷ []; approved = 2 ∷ []; strict = false; classes = 2; before = 4 }
+marks_with_classes : with_classes 4 (take.Classes 1) no_marks ((2 ∷ []) ∷ (1 ∷ 5 ∷ 3 ∷ []) ∷ []) ≡ record no_marks { wrong = Some NoSuchCandidate; seen = 1 ∷ 2 ∷ []; approved = 2 ∷ []; strict = false; classes = 2; before = 4 }
 marks_with_classes = refl
 
-marks_with_read : with_read 4 (SetSize 1) Class (Number 2) no_marks ≡ record no_marks { seen = 2 ∷ []; approved = 2 ∷ []; classes = 1; before = 1 }
+marks_with_read : with_read 4 (take.SetSize 1) Class (Number 2) no_marks ≡ record no_marks { seen = 2 ∷ []; approved = 2 ∷ []; classes = 1; before = 1 }
 marks_with_read = refl
 
 fault_of_marks : fault_of Soc 3 None 1 (record no_marks { seen = 1 ∷ 2 ∷ []; classes = 2; before = 2 }) ≡ Some Incomplete
@@ -208,7 +212,7 @@ fault_of_marks = refl
 
 -- ---- what is answered
 
-has_marks : HasMarks 4 (SetSize 1) (codes "1:2") 1 (record no_marks { seen = 2 ∷ []; approved = 2 ∷ []; classes = 1; before = 1 })
+has_marks : HasMarks 4 (take.SetSize 1) (codes "1:2") 1 (record no_marks { seen = 2 ∷ []; approved = 2 ∷ []; classes = 1; before = 1 })
 unfolding tokens_after order_at
 has_marks = (1, (2 ∷ []) ∷ [], refl, refl, refl)
 

@@ -1,22 +1,23 @@
 -- What the marks of the classes of a ballot say.
-use Rattle.std.proofs.Common.{◌≡◌, ℕ, ◌+◌, ◌^◌, ◌≤◌, Bool, true, false, cond, not, eqb, ◌==◌, ◌||◌, ◌&&◌, List, [], ◌∷◌, ◌++◌, length, Option, Some, None, refl, sym, ap, ◌∙◌, arith, inl, inr}
+use Rattle.std.proofs.Common.{◌≡◌, ℕ, ◌+◌, ◌≤◌, Bool, true, false, cond, not, eqb, ◌==◌, ◌||◌, ◌&&◌, List, [], ◌∷◌, ◌++◌, length, Option, Some, None, refl, sym, ap, ◌∙◌, arith, inl, inr}
 use Rattle.std.specs.Prelude.{fold, flat_map, unwrap_or, nat_lt}
 use Rattle.std.specs.List.{list_any, range_with_len}
 use Rattle.std.proofs.lemmas.Bool.{or_parts, lt-ltb, ltb-false, eqb-false, ne_eqb, cases_lt}
 use Rattle.ballot_base.specs.Lists.{IsIncreasing}
 use Rattle.ballot_base.specs.CandSet.{has_member, with_member}
+use Rattle.ballot_base.specs.Limits.{most_voters}
 use Rattle.preflib_text.specs.declared.fault.FaultName.{FaultName}
 use Rattle.preflib_text.specs.declared.fault.FaultName.TheVariants.{BadCount, NoSuchCandidate, RepeatedCandidate, NotStrict, Incomplete, TooManyClasses}
 use Rattle.preflib_text.specs.declared.pick.Kind.{Kind}
-use Rattle.preflib_text.specs.declared.pick.Way.{Way}
+use Rattle.preflib_text.specs.declared.approvals.Taking.{Taking}
 use Rattle.preflib_text.specs.declared.approvals.Marks.{Marks}
-use Rattle.preflib_text.specs.Approvals.{approved}
+use Rattle.preflib_text.specs.Approvals.{set_of}
 use Rattle.preflib_text.specs.Reading.{or_else, fault_if, is_strict, is_complete, is_cat, number_in_ballot_fault, ballot_fault}
-use Rattle.preflib_text.specs.BallotTokens.{capped}
-use Rattle.preflib_text.specs.BallotMarks.{no_marks, takes, HasNumber, wrong_with, with_number, with_class, with_classes, fault_of}
+use Rattle.preflib_text.specs.Steps.Tokens.{capped}
+use Rattle.preflib_text.specs.Steps.Marks.{no_marks, takes, wrong_with, with_number, with_class, with_classes, fault_of}
 use Rattle.ballot_base.proofs.Increasing.{has_member-with_member, IsIncreasing-with_member}
 use Rattle.preflib_text.proofs.BallotSets.{has_member-fold, any-same, any-missing}
-use Rattle.preflib_text.proofs.BallotTaken.{taken_from, taken_is}
+use Rattle.preflib_text.proofs.BallotTaken.{taken_from}
 use Rattle.preflib_text.proofs.BallotSteps.{with_number-wrong}
 
 -- ---- faults in order
@@ -44,7 +45,7 @@ fault_if-none false name e = refl
 
 -- ---- a number more
 
-module _ (m : ℕ) (way : Way) where
+module _ (m : ℕ) (way : Taking) where
   -- a number that is not wrong
   good_number : (marks : Marks) (n : ℕ) → wrong_with m marks n ≡ None → with_number m way marks n ≡ record marks { numbers = marks.numbers + 1; seen = with_member marks.seen n; approved = cond (takes way marks.classes marks.before) (with_member marks.approved n) marks.approved }
   good_number marks n e = rw e refl
@@ -245,9 +246,8 @@ module _ (m : ℕ) (way : Way) where
   pub approved_increasing : (classes : List (List ℕ)) → IsIncreasing 1 m (with_classes m way no_marks classes).approved
   approved_increasing classes = (increasing_classes no_marks classes no_increasing).approved
 
-  pub approved_is : (classes : List (List ℕ)) → HasNumber way → (with_classes m way no_marks classes).wrong ≡ None → (with_classes m way no_marks classes).approved ≡ approved way classes
-  approved_is classes h e =
-      (added_classes no_marks classes refl e).approved ∙ ap (fold with_member []) (taken_is way classes h)
+  pub approved_is : (classes : List (List ℕ)) → (with_classes m way no_marks classes).wrong ≡ None → (with_classes m way no_marks classes).approved ≡ set_of (taken_from way 0 0 classes)
+  approved_is classes e = (added_classes no_marks classes refl e).approved
 
   missing_is : (classes : List (List ℕ)) → (with_classes m way no_marks classes).wrong ≡ None → nat_lt (length (with_classes m way no_marks classes).seen) m ≡ list_any (λ n. not (has_member (flat_map (λ class. class) classes) n)) (range_with_len 1 m)
   missing_is classes e =
@@ -263,16 +263,16 @@ module _ (m : ℕ) (way : Way) where
 
   capped_zero : (n : ℕ) → (capped n == 0) ≡ (n == 0)
   capped_zero n =
-      elim (cases_lt n 4294967297) [
+      elim (cases_lt n (most_voters + 1)) [
         | inl low ↦ let same : capped n ≡ n = omega arith in ap (λ (k : ℕ). k == 0) same
         | inr high ↦ ne_eqb (capped n) 0 (λ e. omega (arith, e)) ∙ sym (ne_eqb n 0 (λ e. omega (arith, e)))
       ]
 
-  capped_large : (n : ℕ) → nat_lt (2 ^ 32) (capped n) ≡ nat_lt (2 ^ 32) n
+  capped_large : (n : ℕ) → nat_lt most_voters (capped n) ≡ nat_lt most_voters n
   capped_large n =
-      elim (cases_lt n 4294967297) [
-        | inl low ↦ let same : capped n ≡ n = omega arith in ap (nat_lt (2 ^ 32)) same
-        | inr high ↦ lt-ltb (2 ^ 32) (capped n) (omega arith) ∙ sym (lt-ltb (2 ^ 32) n (omega arith))
+      elim (cases_lt n (most_voters + 1)) [
+        | inl low ↦ let same : capped n ≡ n = omega arith in ap (nat_lt most_voters) same
+        | inr high ↦ lt-ltb most_voters (capped n) (omega arith) ∙ sym (lt-ltb most_voters n (omega arith))
       ]
 
   -- the marks tell what is wrong with the ballot
@@ -281,12 +281,12 @@ module _ (m : ℕ) (way : Way) where
       let marks = with_classes m way no_marks classes in
       let numbers = flat_map (λ class. class) classes in
       let few = list_any (λ n. not (has_member numbers n)) (range_with_len 1 m) in
-      let bad_count = fault_if ((n == 0) || nat_lt (2 ^ 32) n) BadCount in
+      let bad_count = fault_if ((n == 0) || nat_lt most_voters n) BadCount in
       let many = λ (k : ℕ). fault_if (is_cat kind && nat_lt (unwrap_or categories k) k) TooManyClasses in
       let missing = λ (b : Bool) (k : ℕ). or_else (fault_if (is_complete kind && b) Incomplete) (many k) in
       let ties = λ (s b : Bool) (k : ℕ). or_else (fault_if (is_strict kind && s) NotStrict) (missing b k) in
       let missing_marks = nat_lt (length marks.seen) m in
-      ap (λ (b : Bool). or_else (fault_if (b || nat_lt (2 ^ 32) (capped n)) BadCount) (or_else marks.wrong (ties (not marks.strict) missing_marks marks.classes))) (capped_zero n)
+      ap (λ (b : Bool). or_else (fault_if (b || nat_lt most_voters (capped n)) BadCount) (or_else marks.wrong (ties (not marks.strict) missing_marks marks.classes))) (capped_zero n)
       ∙ ap (λ (b : Bool). or_else (fault_if ((n == 0) || b) BadCount) (or_else marks.wrong (ties (not marks.strict) missing_marks marks.classes))) (capped_large n)
       ∙ ap (λ (b : Bool). or_else bad_count (or_else marks.wrong (ties b missing_marks marks.classes))) (strict_classes no_marks classes refl)
       ∙ ap (λ (k : ℕ). or_else bad_count (or_else marks.wrong (ties (list_any not_one classes) missing_marks k))) (count_classes no_marks classes ∙ zero_add (length classes))
@@ -299,15 +299,15 @@ module _ (m : ℕ) (way : Way) where
   -- a ballot without a fault
   pub record Good (n : ℕ) (classes : List (List ℕ)) : Type 0 where
     pub least : 1 ≤ n
-    pub most : n ≤ 2 ^ 32
-    pub is : (with_classes m way no_marks classes).approved ≡ approved way classes
+    pub most : n ≤ most_voters
+    pub is : (with_classes m way no_marks classes).approved ≡ set_of (taken_from way 0 0 classes)
 
-  pub good_ballot : (kind : Kind) (categories : Option ℕ) (n : ℕ) (classes : List (List ℕ)) → HasNumber way → ballot_fault kind m categories n classes ≡ None → Good n classes
-  good_ballot kind categories n classes h e =
+  pub good_ballot : (kind : Kind) (categories : Option ℕ) (n : ℕ) (classes : List (List ℕ)) → ballot_fault kind m categories n classes ≡ None → Good n classes
+  good_ballot kind categories n classes e =
       let numbers = flat_map (λ class. class) classes in
       let tail = or_else (fault_if (is_strict kind && list_any not_one classes) NotStrict) (or_else (fault_if (is_complete kind && list_any (λ n. not (has_member numbers n)) (range_with_len 1 m)) Incomplete) (fault_if (is_cat kind && nat_lt (unwrap_or categories (length classes)) (length classes)) TooManyClasses)) in
-      let parts = or_else-parts (fault_if ((n == 0) || nat_lt (2 ^ 32) n) BadCount) (or_else (number_in_ballot_fault m [] numbers) tail) e in
-      let both = or_parts (n == 0) (nat_lt (2 ^ 32) n) (fault_if-none ((n == 0) || nat_lt (2 ^ 32) n) BadCount parts.0) in
+      let parts = or_else-parts (fault_if ((n == 0) || nat_lt most_voters n) BadCount) (or_else (number_in_ballot_fault m [] numbers) tail) e in
+      let both = or_parts (n == 0) (nat_lt most_voters n) (fault_if-none ((n == 0) || nat_lt most_voters n) BadCount parts.0) in
       let some : n ≡ 0 → ⊥ = eqb-false n 0 both.0 in
       let wrong = (or_else-parts (number_in_ballot_fault m [] numbers) tail parts.1).0 in
-      record { least = omega (arith, some); most = ltb-false (2 ^ 32) n both.1; is = approved_is classes h (wrong_numbers classes ∙ wrong) }
+      record { least = omega (arith, some); most = ltb-false most_voters n both.1; is = approved_is classes (wrong_numbers classes ∙ wrong) }

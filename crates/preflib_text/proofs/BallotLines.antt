@@ -8,13 +8,14 @@ use Rattle.preflib_text.specs.declared.pick.Kind.{Kind}
 use Rattle.preflib_text.specs.declared.pick.Way.{Way}
 use Rattle.preflib_text.specs.declared.approvals.Marks.{Marks}
 use Rattle.preflib_text.specs.Ballot.{IsBallotLine}
-use Rattle.preflib_text.specs.Approvals.{approved}
+use Rattle.preflib_text.specs.Approvals.{HasNumber, set_of, approved}
 use Rattle.preflib_text.specs.Reading.{Cast, IsReading, ballot_fault}
-use Rattle.preflib_text.specs.BallotTokens.{ballot_of}
-use Rattle.preflib_text.specs.BallotMarks.{HasNumber, no_marks, with_classes, fault_of}
-use Rattle.preflib_text.specs.BallotReading.{HasMarks, IsGoodBallot, IsBallotFault}
+use Rattle.preflib_text.specs.Steps.Tokens.{ballot_of}
+use Rattle.preflib_text.specs.Steps.Marks.{no_marks, taking_of, with_classes, fault_of}
+use Rattle.preflib_text.specs.Steps.Answers.{HasMarks, IsGoodBallot, IsBallotFault}
 use Rattle.preflib_text.proofs.BallotWritten.{line_read}
 use Rattle.preflib_text.proofs.BallotRead.{line_is, some_is}
+use Rattle.preflib_text.proofs.BallotTaken.{taken_is}
 use Rattle.preflib_text.proofs.BallotFaults.{approved_increasing, fault_is, good_ballot}
 
 -- a line has one count and one list of classes
@@ -52,7 +53,7 @@ pub one_reading : (read other : List ℕ → Option Cast) → IsReading read →
 one_reading read other r o line = reading_is read r line ∙ sym (reading_is other o line)
 
 -- the same, of what the reading of a line answers
-pub good_cast : (kind : Kind) (m : ℕ) (categories : Option ℕ) (way : Way) (line : List ℕ) (n : ℕ) (set : List ℕ) → IsGoodBallot line kind m categories way n set → (cs : List (List ℕ)) × (ballot_of line ≡ Some (record { count = n; classes = cs })) × (ballot_fault kind m categories n cs ≡ None) × (set ≡ approved way cs)
+pub good_cast : (kind : Kind) (m : ℕ) (categories : Option ℕ) (way : Way) (line : List ℕ) (n : ℕ) (set : List ℕ) → IsGoodBallot line kind m categories way n set → (cs : List (List ℕ)) × (ballot_of line ≡ Some (record { count = n; classes = cs })) × (ballot_fault kind m categories n cs ≡ None) × (set ≡ approved kind way cs)
 good_cast kind m categories way line n set (cs, is, good, taken) = (cs, line_read line n cs is, good, taken)
 
 pub fault_cast : (kind : Kind) (m : ℕ) (categories : Option ℕ) (line : List ℕ) (fault : FaultName) → IsBallotFault line kind m categories fault → MatchOption (ballot_of line) (fault ≡ BadBallot) (λ cast. ballot_fault kind m categories cast.count cast.classes ≡ Some fault)
@@ -69,17 +70,17 @@ module _ (kind : Kind) (m : ℕ) (categories : Option ℕ) (way : Way) (line : L
   pub none_read : ballot_of line ≡ None → IsBallotFault line kind m categories BadBallot
   none_read e = inl (refl, no_line line e)
 
-  pub fault_read : (read : ℕ) (marks : Marks) (fault : FaultName) → HasMarks m way line read marks → fault_of kind m categories read marks ≡ Some fault → IsBallotFault line kind m categories fault
+  pub fault_read : (read : ℕ) (marks : Marks) (fault : FaultName) → HasMarks m (taking_of kind way) line read marks → fault_of kind m categories read marks ≡ Some fault → IsBallotFault line kind m categories fault
   fault_read read marks fault (count, classes, is, number, same) e =
-      inr (count, classes, line_is line count classes is, sym (fault_is m way kind categories count classes) ∙ ap (λ (k : ℕ). fault_of kind m categories k (with_classes m way no_marks classes)) (sym number) ∙ ap (fault_of kind m categories read) (sym same) ∙ e)
+      inr (count, classes, line_is line count classes is, sym (fault_is m (taking_of kind way) kind categories count classes) ∙ ap (λ (k : ℕ). fault_of kind m categories k (with_classes m (taking_of kind way) no_marks classes)) (sym number) ∙ ap (fault_of kind m categories read) (sym same) ∙ e)
 
-  pub good_read : (read : ℕ) (marks : Marks) → HasNumber way → HasMarks m way line read marks → fault_of kind m categories read marks ≡ None → IsGoodBallot line kind m categories way read marks.approved
+  pub good_read : (read : ℕ) (marks : Marks) → HasNumber way → HasMarks m (taking_of kind way) line read marks → fault_of kind m categories read marks ≡ None → IsGoodBallot line kind m categories way read marks.approved
   good_read read marks h (count, classes, is, number, same) e =
-      let good : ballot_fault kind m categories count classes ≡ None = sym (fault_is m way kind categories count classes) ∙ ap (λ (k : ℕ). fault_of kind m categories k (with_classes m way no_marks classes)) (sym number) ∙ ap (fault_of kind m categories read) (sym same) ∙ e in
-      let g = good_ballot m way kind categories count classes h good in
+      let good : ballot_fault kind m categories count classes ≡ None = sym (fault_is m (taking_of kind way) kind categories count classes) ∙ ap (λ (k : ℕ). fault_of kind m categories k (with_classes m (taking_of kind way) no_marks classes)) (sym number) ∙ ap (fault_of kind m categories read) (sym same) ∙ e in
+      let g = good_ballot m (taking_of kind way) kind categories count classes good in
       let whole : count ≡ read = omega (arith, number, g.most) in
-      (classes, subst (λ (k : ℕ). IsBallotLine line k classes) whole (line_is line count classes is), ap (λ (k : ℕ). ballot_fault kind m categories k classes) (sym whole) ∙ good, ap (λ (after : Marks). after.approved) same ∙ g.is)
+      (classes, subst (λ (k : ℕ). IsBallotLine line k classes) whole (line_is line count classes is), ap (λ (k : ℕ). ballot_fault kind m categories k classes) (sym whole) ∙ good, ap (λ (after : Marks). after.approved) same ∙ g.is ∙ ap set_of (taken_is kind way classes h))
 
-  pub set_read : (read : ℕ) (marks : Marks) → HasMarks m way line read marks → IsIncreasing 1 m marks.approved
+  pub set_read : (read : ℕ) (marks : Marks) → HasMarks m (taking_of kind way) line read marks → IsIncreasing 1 m marks.approved
   set_read read marks (count, classes, is, number, same) =
-      subst (λ (after : Marks). IsIncreasing 1 m after.approved) (sym same) (approved_increasing m way classes)
+      subst (λ (after : Marks). IsIncreasing 1 m after.approved) (sym same) (approved_increasing m (taking_of kind way) classes)

@@ -4,21 +4,21 @@ use Rattle.std.specs.Option.{option_map}
 use Rattle.preflib_text.specs.Lines.{onto_first}
 use Rattle.preflib_text.specs.Ballot.{IsBlanks, IsDigits, IsNumber, IsJoined, IsClass, IsOrder, IsBallotLine}
 use Rattle.preflib_text.specs.Reading.{Cast}
-use Rattle.preflib_text.specs.BallotTokens.{tokens_of, order_at, ballot_of, cast_of}
+use Rattle.preflib_text.specs.Steps.Tokens.{tokens_of, order_at, ballot_of, cast_of}
 use Rattle.preflib_text.specs.declared.ballot.Token.{Token}
 use Rattle.preflib_text.specs.declared.ballot.Token.TheVariants.{Number, Colon, Comma, Open, Close}
-use Rattle.preflib_text.specs.declared.ballot.Place.{Place}
-use Rattle.preflib_text.specs.declared.ballot.Place.TheVariants.{Order, Class, Between, Opened, Inner, Listed}
+use Rattle.preflib_text.specs.declared.ballot.OrderPlace.{OrderPlace}
+use Rattle.preflib_text.specs.declared.ballot.OrderPlace.TheVariants.{Order, Class, Between, Opened, Inner, Listed}
 use Rattle.preflib_text.proofs.BallotTexts.{FirstText, first_text, IsBlanks-from}
 
 -- ---- joined items
 
--- what stands behind an item: blanks, or blanks, a comma and more items
+-- what stands after an item: blanks, or blanks, a comma and more items
 abbrev IsTail : {X : Type 0} → (List ℕ → X → Type 0) → List ℕ → List X → Type 0
 IsTail IsItem bytes [] = IsBlanks bytes
 IsTail IsItem bytes (x ∷ xs) = (before rest : List ℕ) × (bytes ≡ before ++ 44 ∷ rest) × IsBlanks before × IsJoined IsItem rest (x ∷ xs)
 
--- an item that may have blanks behind it, and what stands behind it
+-- an item that may have blanks after it, and what stands after it
 joined_from : {X : Type 0} (IsItem : List ℕ → X → Type 0) (front rest : List ℕ) (x : X) (xs : List X) → ((behind : List ℕ) → IsBlanks behind → IsItem (front ++ behind) x) → IsTail IsItem rest xs → IsJoined IsItem (front ++ rest) (x ∷ xs)
 joined_from IsItem front rest x [] item tail = item rest tail
 joined_from IsItem front rest x (y ∷ ys) item (before, others, e, blanks, joined) =
@@ -34,7 +34,7 @@ number_item before text n blanks digits behind b = (before, text, behind, refl, 
 
 -- ---- what stands from a place on
 
--- numbers up to a closing brace, and what stands behind it
+-- numbers up to a closing brace, and what stands after it
 abbrev IsInside : (List ℕ → List ℕ → Type 0) → List ℕ → List (List ℕ) → Type 0
 IsInside AreNumbers bytes [] = ⊥
 IsInside AreNumbers bytes (ns ∷ cs) = (inside rest : List ℕ) × (bytes ≡ inside ++ 125 ∷ rest) × AreNumbers inside ns × IsTail IsClass rest cs
@@ -42,7 +42,7 @@ IsInside AreNumbers bytes (ns ∷ cs) = (inside rest : List ℕ) × (bytes ≡ i
 abbrev AreBraced : List ℕ → List ℕ → Type 0
 AreBraced inside ns = ((ns ≡ []) × IsBlanks inside) ⊎ IsJoined IsNumber inside ns
 
-abbrev IsRest : Place → List ℕ → List (List ℕ) → Type 0
+abbrev IsRest : OrderPlace → List ℕ → List (List ℕ) → Type 0
 IsRest Order bytes classes = IsOrder bytes classes
 IsRest Class bytes classes = IsJoined IsClass bytes classes
 IsRest Between bytes classes = IsTail IsClass bytes classes
@@ -69,7 +69,7 @@ from_number bytes n us x classes f e tail =
     let is : bytes ≡ (f.before ++ f.text) ++ f.rest = f.whole ∙ sym (append_assoc f.before f.text f.rest) in
     subst (λ (cs : List (List ℕ)). IsJoined IsClass bytes cs) e (subst (λ (t : List ℕ). IsJoined IsClass t ((n ∷ []) ∷ x)) (sym is) joined)
 
--- the text of a mark, and what stands behind it
+-- the text of a mark, and what stands after it
 mark_whole : (bytes before text rest : List ℕ) (b : ℕ) → bytes ≡ before ++ (text ++ rest) → text ≡ b ∷ [] → bytes ≡ before ++ b ∷ rest
 mark_whole bytes before text rest b e is = e ∙ ap (λ (t : List ℕ). before ++ (t ++ rest)) is
 
@@ -112,7 +112,7 @@ from_inner bytes us (ns ∷ cs) f (inside, rest, e, joined, tail) =
 
 -- ---- orders
 
-rest_is : (place : Place) (tokens : List Token) (bytes : List ℕ) (classes : List (List ℕ)) → tokens_of bytes ≡ tokens → order_at place tokens ≡ Some classes → IsRest place bytes classes
+rest_is : (place : OrderPlace) (tokens : List Token) (bytes : List ℕ) (classes : List (List ℕ)) → tokens_of bytes ≡ tokens → order_at place tokens ≡ Some classes → IsRest place bytes classes
 unfolding order_at
 rest_is Order [] bytes classes t e = inl (sym (some_is [] classes e), IsBlanks-from bytes t)
 rest_is Order (Number n ∷ us) bytes classes t e =

@@ -2,30 +2,31 @@
 use Rattle.std.proofs.Common.{◌≡◌, ℕ, ◌+◌, ◌<◌, ◌≤◌, cond, List, [], ◌∷◌, Option, Some, None, refl, sym, ap, ◌∙◌, arith, inl, inr}
 use Rattle.std.specs.Option.{option_map, option_and_then}
 use Rattle.std.proofs.lemmas.Bool.{cases_lt, lt-ltb, ne_eqb}
+use Rattle.ballot_base.specs.Limits.{most_candidates, most_voters}
 use Rattle.preflib_text.specs.declared.fault.FaultName.{FaultName}
 use Rattle.preflib_text.specs.declared.fault.FaultName.TheVariants.{NoSuchCandidate}
-use Rattle.preflib_text.specs.declared.pick.Way.{Way}
+use Rattle.preflib_text.specs.declared.approvals.Taking.{Taking}
 use Rattle.preflib_text.specs.declared.approvals.Marks.{Marks}
 use Rattle.preflib_text.specs.declared.ballot.Token.{Token}
 use Rattle.preflib_text.specs.declared.ballot.Token.TheVariants.{Number, Colon, Comma, Open, Close, Other}
-use Rattle.preflib_text.specs.declared.ballot.Place.{Place}
-use Rattle.preflib_text.specs.declared.ballot.Place.TheVariants.{Order, Class, Between, Opened, Inner, Listed}
+use Rattle.preflib_text.specs.declared.ballot.OrderPlace.{OrderPlace}
+use Rattle.preflib_text.specs.declared.ballot.OrderPlace.TheVariants.{Order, Class, Between, Opened, Inner, Listed}
 use Rattle.preflib_text.specs.Lines.{onto_first}
 use Rattle.preflib_text.specs.Reading.{or_else}
-use Rattle.preflib_text.specs.BallotTokens.{capped, capped_token, tokens_of, IsFirstToken, next_place, is_end, order_at}
-use Rattle.preflib_text.specs.BallotMarks.{wrong_with, with_number, with_end, with_classes, with_read}
+use Rattle.preflib_text.specs.Steps.Tokens.{capped, capped_token, tokens_of, IsFirstToken, next_place, is_end, order_at}
+use Rattle.preflib_text.specs.Steps.Marks.{wrong_with, with_number, with_end, with_classes, with_read}
 use Rattle.preflib_text.proofs.BallotRead.{some, map_some}
 
 -- ---- numbers that are capped
 
-capped-small : (n : ℕ) → n < 4294967297 → capped n ≡ n
+capped-small : (n : ℕ) → n < (most_voters + 1) → capped n ≡ n
 capped-small n h = omega arith
 
 wrong_with-large : (m n : ℕ) (marks : Marks) → m < n → wrong_with m marks n ≡ or_else marks.wrong (Some NoSuchCandidate)
 wrong_with-large m n marks h =
     rw (ne_eqb n 0 (λ e. omega (arith, e)), lt-ltb m n h) refl
 
-pub with_number-wrong : (m : ℕ) (way : Way) (marks : Marks) (n : ℕ) (name : FaultName) → wrong_with m marks n ≡ Some name → with_number m way marks n ≡ record marks { wrong = Some name; numbers = marks.numbers + 1 }
+pub with_number-wrong : (m : ℕ) (way : Taking) (marks : Marks) (n : ℕ) (name : FaultName) → wrong_with m marks n ≡ Some name → with_number m way marks n ≡ record marks { wrong = Some name; numbers = marks.numbers + 1 }
 with_number-wrong m way marks n name e = rw e refl
 
 or_else-some : (first : Option FaultName) (name : FaultName) → (one : FaultName) × (or_else first (Some name) ≡ Some one)
@@ -33,19 +34,19 @@ or_else-some None name = (name, refl)
 or_else-some (Some one) name = (one, refl)
 
 -- a number above m does not change the sets, so that its value makes no difference
-with_number-large : (m : ℕ) (way : Way) (marks : Marks) (n k : ℕ) → m < n → m < k → with_number m way marks n ≡ with_number m way marks k
+with_number-large : (m : ℕ) (way : Taking) (marks : Marks) (n k : ℕ) → m < n → m < k → with_number m way marks n ≡ with_number m way marks k
 with_number-large m way marks n k h i =
     let one = or_else-some marks.wrong NoSuchCandidate in
     with_number-wrong m way marks n one.0 (wrong_with-large m n marks h ∙ one.1) ∙ sym (with_number-wrong m way marks k one.0 (wrong_with-large m k marks i ∙ one.1))
 
-pub with_number-capped : (m : ℕ) (way : Way) (marks : Marks) (n : ℕ) → m ≤ 40 → with_number m way marks (capped n) ≡ with_number m way marks n
+pub with_number-capped : (m : ℕ) (way : Taking) (marks : Marks) (n : ℕ) → m ≤ most_candidates → with_number m way marks (capped n) ≡ with_number m way marks n
 with_number-capped m way marks n h =
-    elim (cases_lt n 4294967297) [
+    elim (cases_lt n (most_voters + 1)) [
       | inl low ↦ ap (with_number m way marks) (capped-small n low)
       | inr high ↦ with_number-large m way marks (capped n) n (omega arith) (omega arith)
     ]
 
-with_read-capped : (m : ℕ) (way : Way) (place : Place) (token : Token) (marks : Marks) → m ≤ 40 → with_read m way place (capped_token token) marks ≡ with_read m way place token marks
+with_read-capped : (m : ℕ) (way : Taking) (place : OrderPlace) (token : Token) (marks : Marks) → m ≤ most_candidates → with_read m way place (capped_token token) marks ≡ with_read m way place token marks
 with_read-capped m way Order (Number n) marks h = ap with_end (with_number-capped m way marks n h)
 with_read-capped m way Class (Number n) marks h = ap with_end (with_number-capped m way marks n h)
 with_read-capped m way Opened (Number n) marks h = with_number-capped m way marks n h
@@ -58,7 +59,7 @@ with_read-capped m way place Open marks h = refl
 with_read-capped m way place Close marks h = refl
 with_read-capped m way place Other marks h = refl
 
-next_place-capped : (place : Place) (token : Token) → next_place place (capped_token token) ≡ next_place place token
+next_place-capped : (place : OrderPlace) (token : Token) → next_place place (capped_token token) ≡ next_place place token
 next_place-capped Order (Number n) = refl
 next_place-capped Class (Number n) = refl
 next_place-capped Opened (Number n) = refl
@@ -71,10 +72,10 @@ next_place-capped place Open = refl
 next_place-capped place Close = refl
 next_place-capped place Other = refl
 
--- ---- the marks of a token and of the classes behind it
+-- ---- the marks of a token and of the classes after it
 
 -- inside braces a class is left
-abbrev IsInClass : Place → Type 0
+abbrev IsInClass : OrderPlace → Type 0
 IsInClass Opened = Unit {0}
 IsInClass Inner = Unit {0}
 IsInClass Listed = Unit {0}
@@ -84,7 +85,7 @@ onto_first-some : (n : ℕ) (cs : List (List ℕ)) → onto_first n cs ≡ [] �
 onto_first-some n [] e = cc
 onto_first-some n (c ∷ cs) e = cc
 
-class_left : (place : Place) (tokens : List Token) → IsInClass place → order_at place tokens ≡ Some [] → ⊥
+class_left : (place : OrderPlace) (tokens : List Token) → IsInClass place → order_at place tokens ≡ Some [] → ⊥
 unfolding order_at
 class_left Opened (Number n ∷ ts) i e =
     let m = map_some (onto_first n) (order_at Listed ts) [] e in onto_first-some n m.0 m.2
@@ -101,7 +102,7 @@ class_left Class ts i e = i
 class_left Between ts i e = i
 class_left place ts i e = cc
 
-module _ (m : ℕ) (way : Way) where
+module _ (m : ℕ) (way : Taking) where
   abbrev pub marked : Marks → Option (List (List ℕ)) → Option Marks
   marked marks o = option_map (with_classes m way marks) o
 
@@ -122,7 +123,7 @@ module _ (m : ℕ) (way : Way) where
   number_marks marks n (Some []) some = absurd (some refl)
   number_marks marks n (Some (c ∷ cs)) some = refl
 
-  token_marks : (place : Place) (token : Token) (tokens : List Token) (marks : Marks) → marked marks (order_at place (token ∷ tokens)) ≡ option_and_then (λ next. marked (with_read m way place token marks) (order_at next tokens)) (next_place place token)
+  token_marks : (place : OrderPlace) (token : Token) (tokens : List Token) (marks : Marks) → marked marks (order_at place (token ∷ tokens)) ≡ option_and_then (λ next. marked (with_read m way place token marks) (order_at next tokens)) (next_place place token)
   unfolding order_at
   token_marks Order (Number n) ts marks = bare_marks marks n (order_at Between ts)
   token_marks Class (Number n) ts marks = bare_marks marks n (order_at Between ts)
@@ -138,18 +139,18 @@ module _ (m : ℕ) (way : Way) where
 
   -- ---- the steps of the loop
 
-  pub marks_more : (place next : Place) (read : Token) (text rest : List ℕ) (marks : Marks) → m ≤ 40 → IsFirstToken text read rest → next_place place read ≡ Some next → marked (with_read m way place read marks) (order_at next (tokens_of rest)) ≡ marked marks (order_at place (tokens_of text))
+  pub marks_more : (place next : OrderPlace) (read : Token) (text rest : List ℕ) (marks : Marks) → m ≤ most_candidates → IsFirstToken text read rest → next_place place read ≡ Some next → marked (with_read m way place read marks) (order_at next (tokens_of rest)) ≡ marked marks (order_at place (tokens_of text))
   marks_more place next read text rest marks h (token, is, whole, shorter) e =
       let to : next_place place token ≡ Some next = sym (next_place-capped place token) ∙ ap (next_place place) (sym is) ∙ e in
       let same : with_read m way place read marks ≡ with_read m way place token marks = ap (λ (t : Token). with_read m way place t marks) is ∙ with_read-capped m way place token marks h in
       sym (ap (λ (ts : List Token). marked marks (order_at place ts)) whole ∙ token_marks place token (tokens_of rest) marks ∙ rw to refl ∙ ap (λ (after : Marks). marked after (order_at next (tokens_of rest))) (sym same))
 
-  pub marks_fail : (place : Place) (read : Token) (text rest : List ℕ) (marks : Marks) → IsFirstToken text read rest → next_place place read ≡ None → marked marks (order_at place (tokens_of text)) ≡ None
+  pub marks_fail : (place : OrderPlace) (read : Token) (text rest : List ℕ) (marks : Marks) → IsFirstToken text read rest → next_place place read ≡ None → marked marks (order_at place (tokens_of text)) ≡ None
   marks_fail place read text rest marks (token, is, whole, shorter) e =
       let to : next_place place token ≡ None = sym (next_place-capped place token) ∙ ap (next_place place) (sym is) ∙ e in
       ap (λ (ts : List Token). marked marks (order_at place ts)) whole ∙ token_marks place token (tokens_of rest) marks ∙ rw to refl
 
-  pub marks_last : (place : Place) (text : List ℕ) (marks : Marks) → tokens_of text ≡ [] → marked marks (order_at place (tokens_of text)) ≡ cond (is_end place) (Some marks) None
+  pub marks_last : (place : OrderPlace) (text : List ℕ) (marks : Marks) → tokens_of text ≡ [] → marked marks (order_at place (tokens_of text)) ≡ cond (is_end place) (Some marks) None
   unfolding order_at
   marks_last Order text marks e = rw e refl
   marks_last Class text marks e = rw e refl
@@ -178,7 +179,7 @@ module _ (m : ℕ) (way : Way) where
       let c = number_counts marks n (wrong_with m marks n) refl in
       record { classes = omega (arith, c.0); numbers = omega (arith, c.1, c.2) }
 
-  pub counts_read : (place : Place) (token : Token) (marks : Marks) → Counts marks (with_read m way place token marks) 1
+  pub counts_read : (place : OrderPlace) (token : Token) (marks : Marks) → Counts marks (with_read m way place token marks) 1
   counts_read Order (Number n) marks = counts_bare marks n
   counts_read Class (Number n) marks = counts_bare marks n
   counts_read Opened (Number n) marks = let c = counts_number marks n in record { classes = omega (arith, c.classes); numbers = c.numbers }

@@ -1,17 +1,19 @@
 -- The numbers that are taken, class by class.
-use Rattle.std.proofs.Common.{◌≡◌, ℕ, zero, suc, ◌+◌, ◌-◌, ◌≤◌, cond, ltb, List, [], ◌∷◌, ◌++◌, length, take, refl, ap, ◌∙◌, arith, inl, inr}
+use Rattle.std.proofs.Common.{◌≡◌, ℕ, zero, suc, ◌+◌, ◌-◌, ◌≤◌, cond, List, [], ◌∷◌, ◌++◌, length, take, refl, ap, ◌∙◌, arith, inl, inr}
 use Rattle.std.specs.Prelude.{flat_map, unwrap_or, slice_get}
 use Rattle.std.proofs.lemmas.Bool.{cases_lt, lt-ltb, le-ltb, le-leb, lt-leb, eq-eqb, ne_eqb}
 use Rattle.std.proofs.lemmas.List.{append-nil}
+use Rattle.preflib_text.specs.declared.approvals.Taking.{Taking}
+use Rattle.preflib_text.specs.declared.approvals.Taking.TheVariants.{Category, SetSize, Classes}
 use Rattle.preflib_text.specs.declared.pick.Way.{Way}
-use Rattle.preflib_text.specs.declared.pick.Way.TheVariants.{Usual, Category, SetSize, Classes}
+use Rattle.preflib_text.specs.declared.pick.Way.TheVariants as given
 use Rattle.preflib_text.specs.declared.pick.Kind.{Kind}
 use Rattle.preflib_text.specs.declared.pick.Kind.TheVariants.{Cat, Soc, Soi, Toc, Toi}
-use Rattle.preflib_text.specs.Approvals.{way_for, first_numbers, taken_numbers}
-use Rattle.preflib_text.specs.BallotMarks.{takes, HasNumber}
+use Rattle.preflib_text.specs.Approvals.{HasNumber, usual_numbers, first_numbers, taken_numbers}
+use Rattle.preflib_text.specs.Steps.Marks.{usual_taking, taking_of, takes}
 
--- the numbers that are taken of classes that stand behind so many others with so many numbers
-abbrev pub taken_from : Way → ℕ → ℕ → List (List ℕ) → List ℕ
+-- the numbers that are taken of classes that stand after so many others with so many numbers
+abbrev pub taken_from : Taking → ℕ → ℕ → List (List ℕ) → List ℕ
 taken_from way k b [] = []
 taken_from way k b (class ∷ classes) = cond (takes way k b) class [] ++ taken_from way (k + 1) (b + length class) classes
 
@@ -44,11 +46,6 @@ size_at n k b r (class ∷ classes) e some =
       | inr all ↦ rw (lt-ltb b n (omega arith), le-leb r (length class) all) (ap (λ (t : List ℕ). class ++ t) (size_past n (k + 1) (b + length class) classes (omega arith)) ∙ append-nil class)
     ]
 
-usual_as : (k b : ℕ) (classes : List (List ℕ)) → taken_from Usual k b classes ≡ taken_from (SetSize 1) k b classes
-usual_as k b [] = refl
-usual_as k b (class ∷ classes) =
-    ap (λ (t : List ℕ). cond (ltb b 1) class [] ++ t) (usual_as (k + 1) (b + length class) classes)
-
 -- ---- so many classes
 
 classes_past : (n k b : ℕ) (classes : List (List ℕ)) → n ≤ k → taken_from (Classes n) k b classes ≡ []
@@ -62,19 +59,22 @@ classes_at n k b (suc r) [] e = refl
 classes_at n k b (suc r) (class ∷ classes) e =
     rw (lt-ltb k n (omega arith)) (ap (λ (t : List ℕ). class ++ t) (classes_at n (k + 1) (b + length class) r classes (omega arith)))
 
--- the numbers that a way takes
-pub taken_is : (way : Way) (classes : List (List ℕ)) → HasNumber way → taken_from way 0 0 classes ≡ taken_numbers way classes
-taken_is (Category n) classes h = category_at n 0 0 (n - 1) classes (omega arith)
-taken_is (SetSize n) classes h = size_at n 0 0 n classes (omega arith) h
-taken_is (Classes n) classes h = classes_at n 0 0 n classes (omega arith)
-taken_is Usual classes h = usual_as 0 0 classes ∙ size_at 1 0 0 1 classes (omega arith) (omega arith)
+-- the numbers that a way takes in a file of this type
+category_is : (n : ℕ) (classes : List (List ℕ)) → 1 ≤ n → taken_from (Category n) 0 0 classes ≡ unwrap_or (slice_get classes (n - 1)) []
+category_is n classes h = category_at n 0 0 (n - 1) classes (omega arith)
 
--- the way that is meant by the usual one has a number
-pub HasNumber-way_for : (kind : Kind) (way : Way) → HasNumber way → HasNumber (way_for kind way)
-HasNumber-way_for Cat Usual h = omega arith
-HasNumber-way_for Soc Usual h = omega arith
-HasNumber-way_for Soi Usual h = omega arith
-HasNumber-way_for Toc Usual h = omega arith
-HasNumber-way_for Toi Usual h = omega arith
-HasNumber-way_for Cat (Category n) h = h
-HasNumber-way_for kind way h = h
+size_is : (n : ℕ) (classes : List (List ℕ)) → 1 ≤ n → taken_from (SetSize n) 0 0 classes ≡ first_numbers n classes
+size_is n classes h = size_at n 0 0 n classes (omega arith) h
+
+usual_is : (kind : Kind) (classes : List (List ℕ)) → taken_from (usual_taking kind) 0 0 classes ≡ usual_numbers kind classes
+usual_is Cat classes = category_is 1 classes (omega arith)
+usual_is Soc classes = size_is 1 classes (omega arith)
+usual_is Soi classes = size_is 1 classes (omega arith)
+usual_is Toc classes = size_is 1 classes (omega arith)
+usual_is Toi classes = size_is 1 classes (omega arith)
+
+pub taken_is : (kind : Kind) (way : Way) (classes : List (List ℕ)) → HasNumber way → taken_from (taking_of kind way) 0 0 classes ≡ taken_numbers kind way classes
+taken_is kind given.Usual classes h = usual_is kind classes
+taken_is kind (given.Category n) classes h = category_is n classes h
+taken_is kind (given.SetSize n) classes h = size_is n classes h
+taken_is kind (given.Classes n) classes h = classes_at n 0 0 n classes (omega arith)

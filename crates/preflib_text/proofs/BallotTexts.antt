@@ -8,7 +8,7 @@ use Rattle.std.specs.Str.Parse.{digits_value, digits_value_after}
 use Rattle.std.proofs.lemmas.Bool.{and_parts, and_from, leb-true, lt-ltb, le-ltb, eqb-true, or_cases, cond_both}
 use Rattle.preflib_text.specs.Lines.{is_blank}
 use Rattle.preflib_text.specs.Ballot.{IsBlanks, IsDigits, IsNumber}
-use Rattle.preflib_text.specs.BallotTokens.{token_of, behind_number, with_digit, tokens_after, tokens_of}
+use Rattle.preflib_text.specs.Steps.Tokens.{token_of, behind_number, with_digit, tokens_after, tokens_of}
 use Rattle.preflib_text.specs.declared.ballot.Token.{Token}
 use Rattle.preflib_text.specs.declared.ballot.Token.TheVariants.{Number, Colon, Comma, Open, Close, Other}
 
@@ -50,7 +50,7 @@ tokens-blanks_before (b ∷ before) text blanks =
     let both = and_parts (is_blank b) (list_all is_blank before) blanks in
     rw (blank_no_digit b both.0, both.0) (tokens-blanks_before before text both.1)
 
--- blanks alone behind a number
+-- blanks alone after a number
 tokens-blanks : (first : Option ℕ) (behind : List ℕ) → IsBlanks behind → tokens_after first behind ≡ behind_number first []
 unfolding tokens_after
 tokens-blanks first [] blanks = refl
@@ -58,7 +58,7 @@ tokens-blanks first (b ∷ behind) blanks =
     let both = and_parts (is_blank b) (list_all is_blank behind) blanks in
     rw (blank_no_digit b both.0, both.0) (ap (behind_number first) (tokens-blanks None behind both.1))
 
--- blanks behind a text
+-- blanks after a text
 pub tokens-blanks_behind : (first : Option ℕ) (text behind : List ℕ) → IsBlanks behind → tokens_after first (text ++ behind) ≡ tokens_after first text
 unfolding tokens_after
 tokens-blanks_behind first [] behind blanks = tokens-blanks first behind blanks
@@ -130,7 +130,7 @@ IsText-mark b =
     cond_both (eqb b 123) Open (cond (eqb b 125) Close Other) (IsText (b ∷ [])) (λ e. ap (λ (k : ℕ). k ∷ []) (eqb-true b 123 e)) (λ _.
     cond_both (eqb b 125) Close Other (IsText (b ∷ [])) (λ e. ap (λ (k : ℕ). k ∷ []) (eqb-true b 125 e)) (λ _. tt))))
 
--- the digits behind those of a number
+-- the digits after those of a number
 digits_behind : (n : ℕ) (bytes : List ℕ) (token : Token) (tokens : List Token) → tokens_after (Some n) bytes ≡ token ∷ tokens → (digits rest : List ℕ) × (bytes ≡ digits ++ rest) × (all_ascii_digits digits ≡ true) × (token ≡ Number (digits_value_after 10 n digits)) × (tokens_of rest ≡ tokens)
 unfolding tokens_after
 digits_behind n [] token tokens e = ([], [], refl, refl, sym (heads (Number n) token [] tokens e), tails (Number n) token [] tokens e)
@@ -171,7 +171,7 @@ IsBlanks-from (b ∷ bytes) e =
 pub tokens-IsBlanks : (bytes : List ℕ) → IsBlanks bytes → tokens_of bytes ≡ []
 tokens-IsBlanks bytes blanks = tokens-blanks None bytes blanks
 
--- the first token of a text stands behind blanks, and the others come from what follows it
+-- the first token of a text stands after blanks, and the others come from what follows it
 pub record FirstText (bytes : List ℕ) (token : Token) (tokens : List Token) : Type 0 where
   pub before : List ℕ
   pub text : List ℕ

@@ -4,10 +4,10 @@ use Rattle.std.specs.Option.{option_map}
 use Rattle.std.proofs.lemmas.List.{append-nil}
 use Rattle.preflib_text.specs.Lines.{onto_first}
 use Rattle.preflib_text.specs.Ballot.{IsBlanks, IsNumber, IsJoined, IsClass, IsOrder, IsBallotLine}
-use Rattle.preflib_text.specs.BallotTokens.{tokens_after, tokens_of, order_at, ballot_of, cast_of}
+use Rattle.preflib_text.specs.Steps.Tokens.{tokens_after, tokens_of, order_at, ballot_of, cast_of}
 use Rattle.preflib_text.specs.declared.ballot.Token.{Token}
 use Rattle.preflib_text.specs.declared.ballot.Token.TheVariants.{Number, Colon, Comma, Open, Close, Other}
-use Rattle.preflib_text.specs.declared.ballot.Place.TheVariants.{Order, Class, Between, Opened, Inner}
+use Rattle.preflib_text.specs.declared.ballot.OrderPlace.TheVariants.{Order, Class, Between, Opened, Inner}
 use Rattle.preflib_text.proofs.BallotTexts.{tokens-mark, tokens-padded, tokens-IsNumber, tokens-IsBlanks}
 
 -- two texts with a comma between them
@@ -83,7 +83,7 @@ classes_read bytes (class ∷ next ∷ classes) (front, rest, e, first, others) 
     ∙ class_read front class (Comma ∷ tokens_of rest) first
     ∙ ap (λ (o : Option (List (List ℕ))). option_map (λ cs. class ∷ cs) (option_map (λ cs. cs) o)) (classes_read rest (next ∷ classes) others)
 
--- what is read behind a comma is read behind the colon too
+-- what is read after a comma is read after the colon too
 order_from_class : (tokens : List Token) (classes : List (List ℕ)) → order_at Class tokens ≡ Some classes → order_at Order tokens ≡ Some classes
 unfolding order_at
 order_from_class [] classes e = absurd cc

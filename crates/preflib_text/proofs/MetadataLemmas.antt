@@ -12,9 +12,9 @@ use Rattle.std.proofs.lemmas.List.Folds.{list_any_at}
 use Rattle.std.proofs.lemmas.Str.{digit_value_digit}
 use Rattle.bstr.specs.Bytes.{is_in}
 use Rattle.preflib_text.specs.Lines.{onto_first, is_blank, trim_start}
-use Rattle.preflib_text.specs.Metadata.{words_of, begins_blank, number_of, TypeIs, AlternativesAre, CategoriesAre, Nothing, told_by}
-use Rattle.preflib_text.specs.BallotTokens.{capped}
-use Rattle.preflib_text.specs.Tells.{words_with, digits_after, capped_told}
+use Rattle.preflib_text.specs.Metadata.{words_of, begins_blank, written_number, TypeIs, AlternativesAre, CategoriesAre, Nothing, told_by}
+use Rattle.preflib_text.specs.Steps.Tokens.{capped}
+use Rattle.preflib_text.specs.Steps.Tells.{words_with, digits_after, capped_told}
 
 false_of : (t : Bool) → (t ≡ true → ⊥) → t ≡ false
 false_of true impossible = absurd (impossible refl)
@@ -142,7 +142,7 @@ digits_after-value n (b ∷ bytes) = by (is_ascii_digit b) refl (digits_after-va
     by true e rest = ap (λ v. digits_after v bytes) (capped_step n b (digit_value b) (digit_value_digit b (digit_range b e))) ∙ rest
 
 -- digits from the first on give the number
-pub digits_after-number : (bytes : List ℕ) → 1 ≤ length bytes → digits_after 0 bytes ≡ option_map capped (number_of bytes)
+pub digits_after-number : (bytes : List ℕ) → 1 ≤ length bytes → digits_after 0 bytes ≡ option_map capped (written_number bytes)
 digits_after-number [] some = absurd (omega arith)
 digits_after-number (b ∷ bytes) some = digits_after-value 0 (b ∷ bytes) ∙ by (all_ascii_digits (b ∷ bytes)) (nat_lt 0 (length (b ∷ bytes))) (is_longer (length bytes))
   where

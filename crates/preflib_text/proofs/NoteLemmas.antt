@@ -1,25 +1,26 @@
 -- What a metadata line does to the notes.
 use Rattle.std.proofs.Common.{◌≡◌, ℕ, ◌≤◌, ◌&&◌, Bool, true, false, cond, List, [], ◌∷◌, map, ◌==◌, refl, sym, ap, subst, ◌∙◌, arith, length, Option, Some, None, IfSome, MatchOption, MatchResult, Result, Ok, Err, not}
 use Rattle.std.specs.Prelude.{nat_lt, nat_le}
+use Rattle.ballot_base.specs.Limits.{most_candidates}
+use Rattle.preflib_text.specs.Limits.{most_line_bytes}
 use Rattle.preflib_text.specs.declared.pick.Kind.{Kind}
-use Rattle.preflib_text.specs.declared.pick.Way.{Way}
 use Rattle.preflib_text.specs.declared.pick.Pick.{Pick}
 use Rattle.preflib_text.specs.declared.fault.FaultName.{FaultName}
 use Rattle.preflib_text.specs.declared.fault.FaultName.TheVariants.{LongLine, BadBallot, PickMisfit}
 use Rattle.preflib_text.specs.declared.notes.Notes.{Notes}
-use Rattle.preflib_text.specs.declared.notes.Step as rust
+use Rattle.preflib_text.specs.declared.notes.Effect as rust
 use Rattle.preflib_text.specs.Lines.{is_ballot_line, pieces_of, without_return}
 use Rattle.preflib_text.specs.Metadata.{Told, TypeIs, AlternativesAre, CategoriesAre, NameIs, Nothing, told_of}
-use Rattle.preflib_text.specs.BallotTokens.{capped}
-use Rattle.preflib_text.specs.Tells.{capped_told}
+use Rattle.preflib_text.specs.Steps.Tokens.{capped}
+use Rattle.preflib_text.specs.Steps.Tells.{capped_told}
 use Rattle.preflib_text.specs.Reading.{Cast, or_else, fault_if, is_fitting, ballot_fault, kind_or_usual}
-use Rattle.preflib_text.specs.BallotTokens.{ballot_of}
+use Rattle.preflib_text.specs.Steps.Tokens.{ballot_of}
 use Rattle.ballot_base.specs.Lists.{IsIncreasing}
 use Rattle.ballot_base.specs.Ballots.{Election}
-use Rattle.preflib_text.specs.Approvals.{way_for, approved}
-use Rattle.preflib_text.specs.BallotReading.{IsGoodBallot, IsBallotFault}
+use Rattle.preflib_text.specs.Approvals.{approved}
+use Rattle.preflib_text.specs.Steps.Answers.{IsGoodBallot, IsBallotFault}
 use Rattle.preflib_text.proofs.BallotLines.{good_cast, fault_cast}
-use Rattle.preflib_text.specs.Notes.{Effect, Names, NoEffect, Casts, cast_error, kind_error, alternatives_error, effect_of, IsProper, IsSound, MayCome, told_error, told_notes, told_effect, ballot_error, cast_effect, line_error, line_notes, line_effect}
+use Rattle.preflib_text.specs.Steps.Notes.{Effect, Names, NoEffect, Casts, cast_error, kind_error, alternatives_error, effect_of, IsProper, IsSound, MayCome, told_error, told_notes, told_effect, ballot_error, cast_effect, line_error, line_notes, line_effect}
 
 -- ---- numbers above 2^32 are all alike
 
@@ -37,13 +38,13 @@ told_notes-capped pick notes (CategoriesAre value) = refl
 told_notes-capped pick notes (NameIs n value) = refl
 told_notes-capped pick notes Nothing = refl
 
-capped_name : (n : ℕ) (value : List ℕ) → (n ≤ 40 → capped n ≡ n) → (nat_le 1 (capped n) && nat_le (capped n) 40) ≡ (nat_le 1 n && nat_le n 40) → told_effect (NameIs (capped n) value) ≡ told_effect (NameIs n value)
-capped_name n value same test = ap (λ t. cond t (Names (capped n) value) NoEffect) test ∙ by (nat_le 1 n && nat_le n 40) refl
+capped_name : (n : ℕ) (value : List ℕ) → (n ≤ most_candidates → capped n ≡ n) → (nat_le 1 (capped n) && nat_le (capped n) most_candidates) ≡ (nat_le 1 n && nat_le n most_candidates) → told_effect (NameIs (capped n) value) ≡ told_effect (NameIs n value)
+capped_name n value same test = ap (λ t. cond t (Names (capped n) value) NoEffect) test ∙ by (nat_le 1 n && nat_le n most_candidates) refl
   where
-    within : (nat_le 1 n && nat_le n 40) ≡ true → n ≤ 40
+    within : (nat_le 1 n && nat_le n most_candidates) ≡ true → n ≤ most_candidates
     within h = grind arith
 
-    by : (t : Bool) → (nat_le 1 n && nat_le n 40) ≡ t → cond t (Names (capped n) value) NoEffect ≡ cond t (Names n value) NoEffect
+    by : (t : Bool) → (nat_le 1 n && nat_le n most_candidates) ≡ t → cond t (Names (capped n) value) NoEffect ≡ cond t (Names n value) NoEffect
     by true e = ap (λ k. Names k value) (same (within e))
     by false e = refl
 
@@ -56,8 +57,8 @@ told_effect-capped Nothing = refl
 
 -- ---- a metadata line before the first ballot
 
-pub metadata_line : (pick : Pick) (notes after : Notes) (line : List ℕ) (told : Told) (r : Result rust.Step FaultName)
-    → told ≡ capped_told (told_of line) → nat_lt 1048576 (length line) ≡ false → is_ballot_line line ≡ false → notes.has_ballot ≡ false
+pub metadata_line : (pick : Pick) (notes after : Notes) (line : List ℕ) (told : Told) (r : Result rust.Effect FaultName)
+    → told ≡ capped_told (told_of line) → nat_lt most_line_bytes (length line) ≡ false → is_ballot_line line ≡ false → notes.has_ballot ≡ false
     → MatchResult r (λ step. (told_error notes told ≡ None) × (after ≡ told_notes pick notes told) × (effect_of step ≡ told_effect told)) (λ name. told_error notes told ≡ Some name)
     → MatchResult r (λ step. (line_error pick notes line ≡ None) × (after ≡ line_notes pick notes line) × (effect_of step ≡ line_effect pick notes line)) (λ name. line_error pick notes line ≡ Some name)
 metadata_line pick notes after line told r is short other none taken = by r taken
@@ -78,7 +79,7 @@ metadata_line pick notes after line told r is short other none taken = by r take
         ∙ sym (ap (λ t. cond t (cast_effect pick notes (ballot_of line)) (cond notes.has_ballot NoEffect (told_effect (told_of line)))) other
         ∙ ap (λ t. cond t NoEffect (told_effect (told_of line))) none)
 
-    by : (q : Result rust.Step FaultName)
+    by : (q : Result rust.Effect FaultName)
         → MatchResult q (λ step. (told_error notes told ≡ None) × (after ≡ told_notes pick notes told) × (effect_of step ≡ told_effect told)) (λ name. told_error notes told ≡ Some name)
         → MatchResult q (λ step. (line_error pick notes line ≡ None) × (after ≡ line_notes pick notes line) × (effect_of step ≡ line_effect pick notes line)) (λ name. line_error pick notes line ≡ Some name)
     by (Ok step) (e, n, f) = (sym of_told ∙ e, n ∙ of_notes, f ∙ of_effect)
@@ -102,27 +103,27 @@ ballot-refused pick notes m kind line fault alternatives known fits is =
     ballot_error-fits pick notes m kind (ballot_of line) alternatives known fits
     ∙ cast_error-fault kind m notes.categories (ballot_of line) fault (fault_cast kind m notes.categories line fault is)
 
-pub ballot-taken : (pick : Pick) (notes : Notes) (m : ℕ) (kind : Kind) (way : Way) (line : List ℕ) (count : ℕ) (set : List ℕ) → notes.alternatives ≡ Some m → notes.kind ≡ Ok kind → is_fitting kind notes.categories pick.way ≡ true
-    → way ≡ way_for kind pick.way → IsGoodBallot line kind m notes.categories way count set
+pub ballot-taken : (pick : Pick) (notes : Notes) (m : ℕ) (kind : Kind) (line : List ℕ) (count : ℕ) (set : List ℕ) → notes.alternatives ≡ Some m → notes.kind ≡ Ok kind → is_fitting kind notes.categories pick.way ≡ true
+    → IsGoodBallot line kind m notes.categories pick.way count set
     → (ballot_error pick notes (ballot_of line) ≡ None) × (Casts (cond notes.has_ballot None (Some m)) set count ≡ cast_effect pick notes (ballot_of line))
-ballot-taken pick notes m kind way line count set alternatives known fits meant good =
-    let (classes, read, fine, taken) = good_cast kind m notes.categories way line count set good in
-    let set_is : set ≡ approved (way_for (kind_or_usual notes.kind) pick.way) classes = taken ∙ ap (λ w. approved w classes) (meant ∙ ap (λ k. way_for (kind_or_usual k) pick.way) (sym known)) in (
+ballot-taken pick notes m kind line count set alternatives known fits good =
+    let (classes, read, fine, taken) = good_cast kind m notes.categories pick.way line count set good in
+    let set_is : set ≡ approved (kind_or_usual notes.kind) pick.way classes = taken ∙ ap (λ k. approved (kind_or_usual k) pick.way classes) (sym known) in (
       ballot_error-fits pick notes m kind (ballot_of line) alternatives known fits ∙ ap (cast_error kind m notes.categories) read ∙ fine,
-      ap (λ s. Casts (cond notes.has_ballot None (Some m)) s count) set_is ∙ ap (λ a. Casts (cond notes.has_ballot None a) (approved (way_for (kind_or_usual notes.kind) pick.way) classes) count) (sym alternatives)
+      ap (λ s. Casts (cond notes.has_ballot None (Some m)) s count) set_is ∙ ap (λ a. Casts (cond notes.has_ballot None a) (approved (kind_or_usual notes.kind) pick.way classes) count) (sym alternatives)
           ∙ ap (cast_effect pick notes) (sym read),
     )
 
 -- ---- what a line does may come
 
 -- where the notes fit the profile
-pub may_come : (notes : Notes) (e : Election) (effect : Effect) → IsSound notes → (notes.has_ballot ≡ false → (e.m ≡ 40) × (e.rows ≡ [])) → (notes.has_ballot ≡ true → notes.alternatives ≡ Some e.m)
+pub may_come : (notes : Notes) (e : Election) (effect : Effect) → IsSound notes → (notes.has_ballot ≡ false → (e.m ≡ most_candidates) × (e.rows ≡ [])) → (notes.has_ballot ≡ true → notes.alternatives ≡ Some e.m)
     → IsProper notes effect → MayCome e effect
 may_come notes e NoEffect sound opened begun proper = tt
 may_come notes e (Names n name) sound opened begun (none, low, high) = (low, subst (λ m. n ≤ m) (sym (opened none).0) high)
 may_come notes e (Casts None set count) sound opened begun (some, within, voters) = (subst (λ o. IfSome o (λ m. IsIncreasing 1 m set)) (begun some) within, voters)
 may_come notes e (Casts (Some m) set count) sound opened begun (none, is, within, voters) =
-    let (low, high) = subst (λ o. IfSome o (λ k. (1 ≤ k) × (k ≤ 40))) is sound in
+    let (low, high) = subst (λ o. IfSome o (λ k. (1 ≤ k) × (k ≤ most_candidates))) is sound in
     (low, subst (λ k. m ≤ k) (sym (opened none).0) high, (opened none).1, within, voters)
 
 -- ---- the first line

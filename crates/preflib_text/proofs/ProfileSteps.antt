@@ -1,5 +1,5 @@
 -- The names and the ballots of the lines, line by line.
-use Rattle.std.proofs.Common.{◌≡◌, ◌≢◌, ℕ, zero, suc, ◌+◌, ◌-◌, ◌<◌, ◌≤◌, ◌||◌, Bool, true, false, cond, List, [], ◌∷◌, ◌++◌, refl, sym, ap, ◌∙◌, arith, map, filter, filter_map, fold, sum_by, append-nil, Option, Some, None, unwrap_or}
+use Rattle.std.proofs.Common.{◌≡◌, ◌≢◌, ℕ, zero, suc, ◌+◌, ◌-◌, ◌<◌, ◌≤◌, ◌||◌, Bool, true, false, cond, List, [], ◌∷◌, ◌++◌, refl, sym, ap, ◌∙◌, arith, map, filter, filter_map, fold, length, sum_by, append-nil, Option, Some, None, unwrap_or}
 use Rattle.std.specs.Prelude.{slice_set, slice_get}
 use Rattle.std.specs.List.{list_any, range_with_len, cons_option}
 use Rattle.std.proofs.lemmas.List.{reverse-append}
@@ -7,7 +7,8 @@ use Rattle.std.proofs.lemmas.List.Sums.{fold-append, sum_by-append, sum_by-cons}
 use Rattle.std.proofs.lemmas.List.Elements.{filter_map-append, filter-append}
 use Rattle.std.proofs.lemmas.Bool.{eq-eqb, ne_eqb}
 use Rattle.std.specs.Str.{bytes_eq}
-use Rattle.ballot_base.specs.Ballots.{Row, with_votes, voter_count}
+use Rattle.ballot_base.specs.Ballots.{Row, has_ballot, with_votes, voter_count}
+use Rattle.preflib_text.specs.declared.pick.Kind.{Kind}
 use Rattle.preflib_text.specs.declared.pick.Pick.{Pick}
 use Rattle.preflib_text.specs.declared.pick.Way.{Way}
 use Rattle.preflib_text.specs.Lines.{is_ballot_line}
@@ -95,11 +96,11 @@ module _ (pick : Pick) (read : List ℕ → Option Cast) where
       ap (sum_by (λ (c : Cast). c.count)) (casts_in-ballot before line cast is read_is) ∙ sum_by-append (λ (c : Cast). c.count) (casts_in pick read before) (cast ∷ []) ∙ ap (λ n. votes_in pick read before + n) one
 
 -- the rows of these ballots
-abbrev pub rows_of : Way → List Cast → List Row
-rows_of way casts = fold (λ rows cast. with_votes rows (approved way cast.classes) cast.count) [] casts
+abbrev pub rows_of : Kind → Way → List Cast → List Row
+rows_of kind way casts = fold (λ rows cast. with_votes rows (approved kind way cast.classes) cast.count) [] casts
 
-pub rows_of-push : (way : Way) (casts : List Cast) (cast : Cast) → rows_of way (casts ++ cast ∷ []) ≡ with_votes (rows_of way casts) (approved way cast.classes) cast.count
-rows_of-push way casts cast = fold-append (λ rows (c : Cast). with_votes rows (approved way c.classes) c.count) [] casts (cast ∷ [])
+pub rows_of-push : (kind : Kind) (way : Way) (casts : List Cast) (cast : Cast) → rows_of kind way (casts ++ cast ∷ []) ≡ with_votes (rows_of kind way casts) (approved kind way cast.classes) cast.count
+rows_of-push kind way casts cast = fold-append (λ rows (c : Cast). with_votes rows (approved kind way c.classes) c.count) [] casts (cast ∷ [])
 
 pub with_votes-some : (rows : List Row) (ballot : List ℕ) (count : ℕ) → with_votes rows ballot count ≢ []
 with_votes-some [] ballot count none = absurd (cc)
@@ -108,6 +109,16 @@ with_votes-some (row ∷ rows) ballot count none = by (bytes_eq ballot row.0) no
     by : (t : Bool) → cond t ((row.0, row.1 + count) ∷ rows) (row ∷ with_votes rows ballot count) ≡ [] → ⊥
     by true e = absurd (cc)
     by false e = absurd (cc)
+
+-- a ballot that no row has makes a new one
+pub length-with_votes : (rows : List Row) (ballot : List ℕ) (count : ℕ) → has_ballot rows ballot ≡ false → length rows < length (with_votes rows ballot count)
+length-with_votes [] ballot count none = omega arith
+length-with_votes (row ∷ rows) ballot count none = by (bytes_eq ballot row.0) none (length-with_votes rows ballot count)
+  where
+    by : (t : Bool) → (t || has_ballot rows ballot) ≡ false → (has_ballot rows ballot ≡ false → length rows < length (with_votes rows ballot count))
+        → length (row ∷ rows) < length (cond t ((row.0, row.1 + count) ∷ rows) (row ∷ with_votes rows ballot count))
+    by true e rest = absurd (cc)
+    by false e rest = let more = rest e in omega arith
 
 pub voters-more : (rows : List Row) (ballot : List ℕ) (count : ℕ) → voter_count (with_votes rows ballot count) ≡ voter_count rows + count
 voters-more [] ballot count = refl

@@ -5,6 +5,8 @@ use Rattle.std.proofs.Math.Path.{fun_ext}
 use Rattle.std.specs.List.{starts_with}
 use Rattle.std.proofs.lemmas.List.{append_assoc}
 use Rattle.ballot_base.specs.Ballots.{Election, election}
+use Rattle.ballot_base.specs.Limits.{most_candidates}
+use Rattle.preflib_text.specs.Limits.{most_line_bytes}
 use Rattle.preflib_text.specs.declared.pick.Pick.{Pick}
 use Rattle.preflib_text.specs.declared.fault.FaultName.{FaultName}
 use Rattle.preflib_text.specs.declared.fault.FaultName.TheVariants.{LongLine, NoAlternatives, Memory}
@@ -12,25 +14,26 @@ use Rattle.preflib_text.specs.declared.fault.ReadFault.{ReadFault}
 use Rattle.preflib_text.specs.declared.notes.Notes.{Notes}
 use Rattle.preflib_text.specs.Lines.{is_ballot_line, lines_of, pieces_of, without_return, without_mark, onto_first}
 use Rattle.preflib_text.specs.Metadata.{told_of}
-use Rattle.preflib_text.specs.BallotTokens.{ballot_of}
-use Rattle.preflib_text.specs.Reading.{Cast, outcome_of, Reads, RunsShort, or_else, fault_if, first_fault, line_fault, at_end, at_line, outcome_by, election_in}
-use Rattle.preflib_text.specs.Notes.{Refuses, fresh_notes, told_error, told_effect, ballot_error, cast_effect, line_error, line_notes, line_effect, effect_error, with_effect, end_error}
+use Rattle.preflib_text.specs.Steps.Tokens.{ballot_of}
+use Rattle.preflib_text.specs.Reading.{Cast, outcome_in, Reads, RunsShort, or_else, fault_if, first_fault, takes_memory, line_fault, at_end, at_line, outcome_by, election_in}
+use Rattle.preflib_text.specs.Steps.Notes.{Refuses, effect_takes, fresh_notes, told_error, told_effect, ballot_error, cast_effect, line_error, line_notes, line_effect, effect_error, with_effect, end_error}
 use Rattle.preflib_text.proofs.BallotLines.{ballot_of_reads, one_reading}
-use Rattle.preflib_text.proofs.After.{IsAfter, IsAt, IsFine, is_after-none, is_fine-none, is_fine-more, fault_at, line_error-is, after-line, end_error-is, election_in-is, or_else-second, told_effect-fine}
+use Rattle.preflib_text.proofs.After.{IsAfter, IsAt, IsFine, is_after-none, is_fine-none, is_fine-more, fault_at, line_error-is, after-line, end_error-is, election_in-is, none_faulty, fault_at_end, takes_memory-is, or_else-first, or_else-second, told_effect-fine}
 
 -- ---- what an input holds
 
-reads_fault : (bytes : List ℕ) (pick : Pick) (lines : List (List ℕ)) (fault : ReadFault) → lines_of bytes ≡ lines → first_fault pick ballot_of [] lines ≡ Some fault → Reads bytes pick (Err fault)
+reads_fault : (bytes : List ℕ) (pick : Pick) (lines : List (List ℕ)) (fault : ReadFault) → lines_of bytes ≡ lines → first_fault pick ballot_of lines ≡ Some fault → Reads bytes pick (Err fault)
 reads_fault bytes pick lines fault is first =
-    (ballot_of, ballot_of_reads, sym (ap (λ l. outcome_by (election_in pick ballot_of l) (first_fault pick ballot_of [] l)) is ∙ ap (outcome_by (election_in pick ballot_of lines)) first))
+    (ballot_of, ballot_of_reads, sym (ap (λ l. outcome_by (election_in pick ballot_of l) (first_fault pick ballot_of l)) is ∙ ap (outcome_by (election_in pick ballot_of lines)) first))
 
-reads_election : (bytes : List ℕ) (pick : Pick) (lines : List (List ℕ)) (e : Election) → lines_of bytes ≡ lines → first_fault pick ballot_of [] lines ≡ None → e ≡ election_in pick ballot_of lines → Reads bytes pick (Ok e)
+reads_election : (bytes : List ℕ) (pick : Pick) (lines : List (List ℕ)) (e : Election) → lines_of bytes ≡ lines → first_fault pick ballot_of lines ≡ None → e ≡ election_in pick ballot_of lines → Reads bytes pick (Ok e)
 reads_election bytes pick lines e is none same =
-    (ballot_of, ballot_of_reads, ap Ok same ∙ sym (ap (λ l. outcome_by (election_in pick ballot_of l) (first_fault pick ballot_of [] l)) is ∙ ap (outcome_by (election_in pick ballot_of lines)) none))
+    (ballot_of, ballot_of_reads, ap Ok same ∙ sym (ap (λ l. outcome_by (election_in pick ballot_of l) (first_fault pick ballot_of l)) is ∙ ap (outcome_by (election_in pick ballot_of lines)) none))
 
-runs_short : (bytes : List ℕ) (pick : Pick) (before : List (List ℕ)) (line : List ℕ) (after : List (List ℕ)) → lines_of bytes ≡ before ++ line ∷ after → IsFine pick (before ++ line ∷ []) → RunsShort bytes pick (at_line (length before + 1) Memory)
-runs_short bytes pick before line after is fine =
-    (before, line, after, is, refl, ballot_of, ballot_of_reads, ap (first_fault pick ballot_of []) (sym (append-nil (before ++ line ∷ []))) ∙ fine [])
+runs_short : (bytes : List ℕ) (pick : Pick) (before : List (List ℕ)) (line : List ℕ) (after : List (List ℕ)) → lines_of bytes ≡ before ++ line ∷ after → IsFine pick (before ++ line ∷ []) → takes_memory pick ballot_of before line ≡ true
+    → RunsShort bytes pick (at_line (length before + 1) Memory)
+runs_short bytes pick before line after is fine takes =
+    (before, line, after, is, refl, ballot_of, ballot_of_reads, none_faulty pick (before ++ line ∷ []) fine, takes)
 
 -- ---- the start
 
@@ -46,7 +49,7 @@ length-without_mark bytes = by (starts_with nat_eq bytes (239 ∷ 187 ∷ 191 �
     by true = length-drop 3 bytes
     by false = omega arith
 
-pub at_start : (pick : Pick) (bytes rest : List ℕ) (notes : Notes) (e : Election) → rest ≡ without_mark bytes → notes ≡ fresh_notes pick → e ≡ election 40 (replicate 40 []) []
+pub at_start : (pick : Pick) (bytes rest : List ℕ) (notes : Notes) (e : Election) → rest ≡ without_mark bytes → notes ≡ fresh_notes pick → e ≡ election most_candidates (replicate most_candidates []) []
     → (before : List (List ℕ)) × IsAt pick bytes rest notes e before × (0 ≡ length before) × (0 + length rest ≤ length bytes)
 at_start pick bytes rest notes e is fresh empty = (
   [],
@@ -96,23 +99,23 @@ module _ (pick : Pick) (bytes rest line after : List ℕ) (notes : Notes) (e : E
           length-more [] = refl
           length-more (x ∷ l) = let more = length-more l in omega arith
 
-  pub at_fault : (name : FaultName) → Refuses (or_else (line_error pick notes line) (effect_error e (line_effect pick notes line))) name
+  pub at_fault : (name : FaultName) → Refuses (or_else (line_error pick notes line) (effect_error e (line_effect pick notes line))) (effect_takes e (line_effect pick notes line)) name
       → (fault : ReadFault) → fault ≡ at_line (number + 1) name → Reads bytes pick (Err fault) ⊎ RunsShort bytes pick fault
   at_fault name refused fault placed = subst (λ f. Reads bytes pick (Err f) ⊎ RunsShort bytes pick f) (sym placed) (by inv cut refused)
     where
       by : ((before : List (List ℕ)) × IsAt pick bytes rest notes e before × (number ≡ length before) × (number + length rest ≤ length bytes))
           → ((piece : List ℕ) × (pieces_of rest ≡ piece ∷ pieces_of after) × (line ≡ without_return piece))
-          → Refuses (or_else (line_error pick notes line) (effect_error e (line_effect pick notes line))) name
+          → Refuses (or_else (line_error pick notes line) (effect_error e (line_effect pick notes line))) (effect_takes e (line_effect pick notes line)) name
           → Reads bytes pick (Err (at_line (number + 1) name)) ⊎ RunsShort bytes pick (at_line (number + 1) name)
       by (before, is, count, room) (piece, pieces, line_is) (inl fault) =
           let lines = lines_at bytes rest line after piece before is.lines pieces line_is in
           let has = sym (line_error-is pick before line notes e is.after) ∙ fault in
           inl (reads_fault bytes pick (before ++ line ∷ map without_return (pieces_of after)) (at_line (number + 1) name) lines
           (fault_at pick before line (map without_return (pieces_of after)) name is.fine has ∙ ap (λ n. Some (at_line (n + 1) name)) (sym count)))
-      by (before, is, count, room) (piece, pieces, line_is) (inr (memory, none)) =
+      by (before, is, count, room) (piece, pieces, line_is) (inr (memory, none, takes)) =
           let lines = lines_at bytes rest line after piece before is.lines pieces line_is in
           let no_fault = sym (line_error-is pick before line notes e is.after) ∙ none in
-          inr (subst (RunsShort bytes pick) (ap (λ n. at_line (n + 1) Memory) (sym count) ∙ ap (at_line (number + 1)) (sym memory)) (runs_short bytes pick before line (map without_return (pieces_of after)) lines (is_fine-more pick before line is.fine no_fault)))
+          inr (subst (RunsShort bytes pick) (ap (λ n. at_line (n + 1) Memory) (sym count) ∙ ap (at_line (number + 1)) (sym memory)) (runs_short bytes pick before line (map without_return (pieces_of after)) lines (is_fine-more pick before line is.fine no_fault) (takes_memory-is pick before line notes e is.after (or_else-first _ _ none) takes)))
 
 -- ---- the end
 
@@ -123,10 +126,10 @@ no_pieces (b ∷ rest) h = absurd (grind arith)
 
 module _ (pick : Pick) (bytes rest : List ℕ) (notes : Notes) (e : Election) (number : ℕ)
     (inv : (before : List (List ℕ)) × IsAt pick bytes rest notes e before × (number ≡ length before) × (number + length rest ≤ length bytes)) (none_left : (length rest == 0) ≡ true) where
-  ends : (before : List (List ℕ)) → IsAt pick bytes rest notes e before → (lines_of bytes ≡ before) × (first_fault pick ballot_of [] before ≡ option_map at_end (end_error notes e))
+  ends : (before : List (List ℕ)) → IsAt pick bytes rest notes e before → (lines_of bytes ≡ before) × (first_fault pick ballot_of before ≡ option_map at_end (end_error notes e))
   ends before is = (
     is.lines ∙ ap (λ l. before ++ map without_return l) (no_pieces rest none_left) ∙ append-nil before,
-    ap (first_fault pick ballot_of []) (sym (append-nil before)) ∙ is.fine [] ∙ ap (option_map at_end) (sym (end_error-is pick before notes e is.after)),
+    fault_at_end pick before is.fine ∙ ap (option_map at_end) (sym (end_error-is pick before notes e is.after)),
   )
 
   pub at_end-ok : (profile : Election) → end_error notes e ≡ None → profile ≡ e → Reads bytes pick (Ok profile)
@@ -149,7 +152,7 @@ module _ (pick : Pick) (bytes rest : List ℕ) (notes : Notes) (e : Election) (n
 -- ---- no memory for any profile
 
 no_effect-fresh : (pick : Pick) (line : List ℕ) (e : Election) → line_error pick (fresh_notes pick) line ≡ None → effect_error e (line_effect pick (fresh_notes pick) line) ≡ None
-no_effect-fresh pick line e fine = by (is_ballot_line line) (or_else-second (fault_if (nat_lt 1048576 (length line)) LongLine) _ fine)
+no_effect-fresh pick line e fine = by (is_ballot_line line) (or_else-second (fault_if (nat_lt most_line_bytes (length line)) LongLine) _ fine)
   where
     by : (t : Bool) → cond t (ballot_error pick (fresh_notes pick) (ballot_of line)) (told_error (fresh_notes pick) (told_of line)) ≡ None → effect_error e (cond t (cast_effect pick (fresh_notes pick) (ballot_of line)) (told_effect (told_of line))) ≡ None
     by true h = absurd (cc)
@@ -172,17 +175,17 @@ without_memory pick bytes [] fault is none some =
     inl (reads_fault bytes pick [] fault lines (ap Some (sym (none refl))))
 without_memory pick bytes (b ∷ rest) fault is none some = by (some_line b rest)
   where
-    start : IsAfter pick [] (fresh_notes pick) (election 40 (replicate 40 []) [])
+    start : IsAfter pick [] (fresh_notes pick) (election most_candidates (replicate most_candidates []) [])
     start = is_after-none pick
 
     of_error : (line : List ℕ) (lines : List (List ℕ)) → lines_of bytes ≡ line ∷ lines → (error : Option FaultName) → line_error pick (fresh_notes pick) line ≡ error → fault ≡ at_line 1 (unwrap_or error Memory) → Reads bytes pick (Err fault) ⊎ RunsShort bytes pick fault
     of_error line lines cut (Some name) error same =
-        let has : line_fault pick ballot_of [] line ≡ Some name = sym (line_error-is pick [] line (fresh_notes pick) (election 40 (replicate 40 []) []) start) ∙ ap (λ o. or_else o (effect_error (election 40 (replicate 40 []) []) (line_effect pick (fresh_notes pick) line))) error in
+        let has : line_fault pick ballot_of [] line ≡ Some name = sym (line_error-is pick [] line (fresh_notes pick) (election most_candidates (replicate most_candidates []) []) start) ∙ ap (λ o. or_else o (effect_error (election most_candidates (replicate most_candidates []) []) (line_effect pick (fresh_notes pick) line))) error in
         inl (reads_fault bytes pick (line ∷ lines) fault cut (fault_at pick [] line lines name (is_fine-none pick) has ∙ ap Some (sym same)))
     of_error line lines cut None error same =
-        let none_here : line_fault pick ballot_of [] line ≡ None = sym (line_error-is pick [] line (fresh_notes pick) (election 40 (replicate 40 []) []) start)
-        ∙ ap (λ o. or_else o (effect_error (election 40 (replicate 40 []) []) (line_effect pick (fresh_notes pick) line))) error ∙ no_effect-fresh pick line (election 40 (replicate 40 []) []) error in
-        inr (subst (RunsShort bytes pick) (sym same) (runs_short bytes pick [] line lines cut (is_fine-more pick [] line (is_fine-none pick) none_here)))
+        let none_here : line_fault pick ballot_of [] line ≡ None = sym (line_error-is pick [] line (fresh_notes pick) (election most_candidates (replicate most_candidates []) []) start)
+        ∙ ap (λ o. or_else o (effect_error (election most_candidates (replicate most_candidates []) []) (line_effect pick (fresh_notes pick) line))) error ∙ no_effect-fresh pick line (election most_candidates (replicate most_candidates []) []) error in
+        inr (subst (RunsShort bytes pick) (sym same) (runs_short bytes pick [] line lines cut (is_fine-more pick [] line (is_fine-none pick) none_here) refl))
 
     by : ((piece : List ℕ) × (pieces : List (List ℕ)) × (pieces_of (b ∷ rest) ≡ piece ∷ pieces)) → Reads bytes pick (Err fault) ⊎ RunsShort bytes pick fault
     by (piece, pieces, cut) =
@@ -204,4 +207,7 @@ if_err (Err e) P Q R is from = from e is
 
 pub outcome_is_one : (bytes : List ℕ) (pick : Pick) (a b : Result Election ReadFault) → Reads bytes pick a → Reads bytes pick b → a ≡ b
 outcome_is_one bytes pick a b (read, is, from) (other, other_is, other_from) =
-    from ∙ ap (λ (r : List ℕ → Option Cast). outcome_of pick r (lines_of bytes)) (fun_ext (one_reading read other is other_is)) ∙ sym other_from
+    from ∙ ap (λ (r : List ℕ → Option Cast). outcome_in pick r (lines_of bytes)) (fun_ext (one_reading read other is other_is)) ∙ sym other_from
+
+pub some_outcome_is : (bytes : List ℕ) (pick : Pick) → (outcome : Result Election ReadFault) × Reads bytes pick outcome
+some_outcome_is bytes pick = (outcome_in pick ballot_of (lines_of bytes), (ballot_of, ballot_of_reads, refl))

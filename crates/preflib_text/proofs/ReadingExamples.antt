@@ -1,6 +1,7 @@
 -- Each definition on lines, metadata and whole files, computed on a small example.
 use Rattle.std.proofs.Common.{◌≡◌, ◌+◌, ◌^◌, ℕ, List, [], ◌∷◌, ◌++◌, true, false, Some, None, Ok, Err, refl, inr, lit≤}
 use Rattle.std.specs.Prelude.{codes}
+use Rattle.ballot_base.specs.Limits.{most_candidates}
 use Rattle.ballot_base.specs.Ballots.{election}
 use Rattle.preflib_text.specs.declared.pick.Kind.TheVariants.{Cat, Soc, Toc, Toi}
 use Rattle.preflib_text.specs.declared.pick.Way.TheVariants.{Usual, Category, SetSize}
@@ -8,15 +9,16 @@ use Rattle.preflib_text.specs.declared.pick.Pick.{Pick}
 use Rattle.preflib_text.specs.declared.fault.FaultName.TheVariants.{BadNumber, TooManyCandidates, ConflictingKey, NoAlternatives, NoKind, BadKind, BadBallot, NoVoters, TooManyVoters, PickMisfit, Memory, Incomplete, NoSuchCandidate}
 use Rattle.preflib_text.specs.declared.lines.Sort.TheVariants.{Blank, Metadata, Ballot}
 use Rattle.preflib_text.specs.declared.metadata.Told.TheVariants as told
-use Rattle.preflib_text.specs.declared.notes.Step.TheVariants as step
+use Rattle.preflib_text.specs.declared.notes.Effect.TheVariants as step
 use Rattle.preflib_text.specs.declared.notes.Notes.{Notes}
-use Rattle.preflib_text.specs.BallotTokens.{ballot_of, tokens_after, order_at}
+use Rattle.preflib_text.specs.Steps.Tokens.{ballot_of, tokens_after, order_at}
 use Rattle.preflib_text.specs.Lines.{onto_first, pieces_of, without_return, without_mark, lines_of, is_blank, trim_start, is_metadata_line, is_ballot_line}
-use Rattle.preflib_text.specs.Metadata.{trimmed, begins_blank, words_of, entry_of, same_words, number_of, TypeIs, AlternativesAre, CategoriesAre, NameIs, Nothing, name_told, told_by, told_in, told_of, kind_of}
-use Rattle.preflib_text.specs.Reading.{told_before, alternatives_value, categories_value, type_value, name_value, last_of, alternatives_in, categories_in, type_in, name_in, number_fault, told_fault, kind_or, kind_by, kind_in, kind_or_usual, is_fitting, outcome_by, at_end, at_line, end_fault, casts_in, votes_in, cast_fault, kind_fault, ballot_line_fault, line_fault, first_fault, rows_in, election_in, outcome_of, Reads, RunsShort}
-use Rattle.preflib_text.specs.Tells.{digits_after, words_with, capped_told, meant}
-use Rattle.preflib_text.specs.Cuts.{Tells}
-use Rattle.preflib_text.specs.Notes.{first_kind, fresh_notes, kind_with, NoEffect, Names, Casts, effect_of, told_error, told_notes, told_effect, cast_error, kind_error, alternatives_error, ballot_error, cast_effect, line_error, line_notes, line_effect, IsSound, effect_error, with_effect, IsProper, MayCome, Refuses, is_empty, end_error}
+use Rattle.preflib_text.specs.Metadata.{trimmed, begins_blank, words_of, key_and_value, same_words, written_number, TypeIs, AlternativesAre, CategoriesAre, NameIs, Nothing, name_told, told_by, told_in, told_of}
+use Rattle.preflib_text.specs.Names.{kind_name, kind_named, way_name, way_named, fault_name, fault_named}
+use Rattle.preflib_text.specs.Reading.{told_before, alternatives_value, categories_value, type_value, name_value, last_of, alternatives_in, categories_in, type_in, name_in, number_fault, told_fault, kind_or, kind_by, kind_in, kind_or_usual, is_fitting, outcome_by, at_end, at_line, end_fault, is_name, faulty_line, fault_of_line, first_faulty_line, takes_memory, casts_in, votes_in, cast_fault, kind_fault, ballot_line_fault, line_fault, first_fault, rows_in, election_in, outcome_in, Reads, RunsShort}
+use Rattle.preflib_text.specs.Steps.Tells.{digits_after, words_with, capped_told, meant}
+use Rattle.preflib_text.specs.Steps.Cuts.{Tells}
+use Rattle.preflib_text.specs.Steps.Notes.{first_kind, fresh_notes, kind_with, NoEffect, Names, Casts, effect_of, told_error, told_notes, told_effect, cast_error, kind_error, alternatives_error, ballot_error, cast_effect, line_error, line_notes, line_effect, IsSound, effect_error, with_effect, IsProper, MayCome, effect_takes, Refuses, is_empty, end_error}
 use Rattle.preflib_text.proofs.BallotLines.{ballot_of_reads}
 
 -- ---- lines
@@ -93,11 +95,11 @@ words : words_of (codes " DATA  TYPE ") ≡ codes "DATA" ∷ codes "TYPE" ∷ []
 unfolding words_of
 words = refl
 
-entry : entry_of (codes "# a b : c: d ") ≡ Some (record { key = codes "a" ∷ codes "b" ∷ []; value = codes "c: d" })
+entry : key_and_value (codes "# a b : c: d ") ≡ Some (record { key = codes "a" ∷ codes "b" ∷ []; value = codes "c: d" })
 unfolding trim_start words_of
 entry = refl
 
-no_entry : entry_of (codes "# a b c") ≡ None
+no_entry : key_and_value (codes "# a b c") ≡ None
 unfolding trim_start words_of
 no_entry = refl
 
@@ -107,10 +109,10 @@ same = refl
 other : same_words (codes "DATA" ∷ []) (codes "DATA" ∷ codes "TYPE" ∷ []) ≡ false
 other = refl
 
-number : number_of (codes "0012") ≡ Some 12
+number : written_number (codes "0012") ≡ Some 12
 number = refl
 
-no_number : number_of (codes "+12") ≡ None
+no_number : written_number (codes "+12") ≡ None
 no_number = refl
 
 name : name_told (codes "ALTERNATIVE" ∷ codes "NAME" ∷ codes "12" ∷ []) (codes "A") ≡ NameIs 12 (codes "A")
@@ -129,7 +131,28 @@ line_told : told_of (codes "# NUMBER CATEGORIES : x ") ≡ CategoriesAre (codes 
 unfolding trim_start words_of
 line_told = refl
 
-a_kind : kind_of (codes "ToI") ≡ Some Toi
+a_name_of_a_kind : kind_name Toi ≡ codes "toi"
+a_name_of_a_kind = refl
+
+a_name_of_a_way : way_name (SetSize 3) ≡ Some (codes "setsize")
+a_name_of_a_way = refl
+
+no_name_of_a_way : way_name Usual ≡ None
+no_name_of_a_way = refl
+
+a_way : way_named (codes "category") 2 ≡ Some (Category 2)
+a_way = refl
+
+a_name_of_a_fault : fault_name Incomplete ≡ codes "Incomplete"
+a_name_of_a_fault = refl
+
+a_fault : fault_named (codes "Memory") ≡ Some Memory
+a_fault = refl
+
+no_fault : fault_named (codes "memory") ≡ None
+no_fault = refl
+
+a_kind : kind_named (codes "ToI") ≡ Some Toi
 a_kind = refl
 
 digits : digits_after 1 (codes "23") ≡ Some 123
@@ -204,16 +227,16 @@ no_file_name : name_in file 1 ≡ []
 unfolding file trim_start words_of
 no_file_name = refl
 
-too_large : number_fault (Some TooManyCandidates) 40 (Some 3) (Some 41) ≡ Some TooManyCandidates
+too_large : number_fault (Some TooManyCandidates) most_candidates (Some 3) (Some 65) ≡ Some TooManyCandidates
 too_large = refl
 
-conflict : number_fault (Some TooManyCandidates) 40 (Some 3) (Some 40) ≡ Some ConflictingKey
+conflict : number_fault (Some TooManyCandidates) most_candidates (Some 3) (Some 64) ≡ Some ConflictingKey
 conflict = refl
 
-zero : number_fault (Some TooManyCandidates) 40 (Some 3) (Some 0) ≡ Some BadNumber
+zero : number_fault (Some TooManyCandidates) most_candidates (Some 3) (Some 0) ≡ Some BadNumber
 zero = refl
 
-again : number_fault (Some TooManyCandidates) 40 (Some 3) (Some 3) ≡ None
+again : number_fault (Some TooManyCandidates) most_candidates (Some 3) (Some 3) ≡ None
 again = refl
 
 many_categories : told_fault file (CategoriesAre (codes "4294967297")) ≡ Some BadNumber
@@ -299,9 +322,17 @@ skipped_line : line_fault file_pick ballot_of file (codes "# NUMBER ALTERNATIVES
 unfolding file file_pick trim_start words_of tokens_after order_at
 skipped_line = refl
 
-second_line : first_fault file_pick ballot_of [] (codes "# NUMBER ALTERNATIVES: 2" ∷ codes "# NUMBER ALTERNATIVES: 41" ∷ codes "x" ∷ []) ≡ Some (at_line 2 TooManyCandidates)
+second_line : first_faulty_line file_pick ballot_of [] (codes "# NUMBER ALTERNATIVES: 2" ∷ codes "# NUMBER ALTERNATIVES: 65" ∷ codes "x" ∷ []) ≡ Some (faulty_line 2 TooManyCandidates)
 unfolding file_pick trim_start words_of tokens_after order_at
 second_line = refl
+
+first_line_of_two : first_fault file_pick ballot_of (codes "1: 1" ∷ codes "2: 1" ∷ []) ≡ Some (fault_of_line (faulty_line 1 NoAlternatives))
+unfolding file_pick trim_start words_of
+first_line_of_two = refl
+
+only_the_end : first_fault file_pick ballot_of (codes "# NUMBER ALTERNATIVES: 2" ∷ []) ≡ Some (at_end NoVoters)
+unfolding file_pick trim_start words_of
+only_the_end = refl
 
 file_rows : rows_in file_pick ballot_of file ≡ (2 ∷ [], 5) ∷ (1 ∷ 2 ∷ [], 1) ∷ []
 unfolding file file_pick trim_start words_of tokens_after order_at
@@ -311,11 +342,11 @@ file_election : election_in file_pick ballot_of file ≡ election 2 ([] ∷ code
 unfolding file file_pick trim_start words_of tokens_after order_at
 file_election = refl
 
-file_outcome : outcome_of file_pick ballot_of file ≡ Ok (election 2 ([] ∷ codes "B" ∷ []) ((2 ∷ [], 5) ∷ (1 ∷ 2 ∷ [], 1) ∷ []))
+file_outcome : outcome_in file_pick ballot_of file ≡ Ok (election 2 ([] ∷ codes "B" ∷ []) ((2 ∷ [], 5) ∷ (1 ∷ 2 ∷ [], 1) ∷ []))
 unfolding file file_pick trim_start words_of tokens_after order_at
 file_outcome = refl
 
-file_with_fault : outcome_of file_pick ballot_of (file ++ codes "1: 1,3" ∷ codes "0:" ∷ []) ≡ Err (at_line 9 NoSuchCandidate)
+file_with_fault : outcome_in file_pick ballot_of (file ++ codes "1: 1,3" ∷ codes "0:" ∷ []) ≡ Err (at_line 9 NoSuchCandidate)
 unfolding file file_pick trim_start words_of tokens_after order_at
 file_with_fault = refl
 
@@ -323,9 +354,24 @@ reads_nothing : Reads (codes "") file_pick (Err (at_end NoAlternatives))
 unfolding pieces_of without_return
 reads_nothing = (ballot_of, ballot_of_reads, refl)
 
+a_name : is_name (NameIs 64 (codes "A")) ≡ true
+a_name = refl
+
+takes_name : takes_memory file_pick ballot_of (codes "#" ∷ []) (codes "# ALTERNATIVE NAME 2: B") ≡ true
+unfolding file_pick trim_start words_of tokens_after order_at
+takes_name = refl
+
+takes_row : takes_memory file_pick ballot_of file (codes "1:") ≡ true
+unfolding file file_pick trim_start words_of tokens_after order_at
+takes_row = refl
+
+takes_none : takes_memory file_pick ballot_of file (codes "1: 2") ≡ false
+unfolding file file_pick trim_start words_of tokens_after order_at
+takes_none = refl
+
 runs_short : RunsShort (codes "# NUMBER ALTERNATIVES: 2") file_pick (at_line 1 Memory)
 unfolding pieces_of without_return trim_start words_of
-runs_short = ([], codes "# NUMBER ALTERNATIVES: 2", [], refl, refl, ballot_of, ballot_of_reads, refl)
+runs_short = ([], codes "# NUMBER ALTERNATIVES: 2", [], refl, refl, ballot_of, ballot_of_reads, refl, refl)
 
 -- ---- what is noted
 
@@ -357,10 +403,10 @@ notes_told : told_notes file_pick file_notes (CategoriesAre (codes "7")) ≡ rec
 unfolding file_notes
 notes_told = refl
 
-effect_told : told_effect (NameIs 40 (codes "A")) ≡ Names 40 (codes "A")
+effect_told : told_effect (NameIs 64 (codes "A")) ≡ Names 64 (codes "A")
 effect_told = refl
 
-no_effect_told : told_effect (NameIs 41 (codes "A")) ≡ NoEffect
+no_effect_told : told_effect (NameIs 65 (codes "A")) ≡ NoEffect
 no_effect_told = refl
 
 error_of_cast : cast_error Toi 2 None None ≡ Some BadBallot
@@ -407,15 +453,18 @@ with_name = refl
 with_first_ballot : with_effect (election 3 ([] ∷ codes "B" ∷ codes "C" ∷ []) []) (Casts (Some 2) (1 ∷ []) 4) ≡ election 2 ([] ∷ codes "B" ∷ []) ((1 ∷ [], 4) ∷ [])
 with_first_ballot = refl
 
-proper_name : IsProper file_notes (Names 40 (codes "A"))
+proper_name : IsProper file_notes (Names 64 (codes "A"))
 unfolding file_notes
 proper_name = (refl, lit≤ tt, lit≤ tt)
 
 name_may_come : MayCome (election 2 ([] ∷ [] ∷ []) []) (Names 2 (codes "B"))
 name_may_come = (lit≤ tt, lit≤ tt)
 
-refused : Refuses None Memory
-refused = inr (refl, refl)
+takes_new_ballot : effect_takes (election 2 ([] ∷ [] ∷ []) ((1 ∷ [], 4) ∷ [])) (Casts None (2 ∷ []) 1) ≡ true
+takes_new_ballot = refl
+
+refused : Refuses None true Memory
+refused = inr (refl, refl, refl)
 
 no_rows : is_empty {X = List ℕ} [] ≡ true
 no_rows = refl

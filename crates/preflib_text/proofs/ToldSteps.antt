@@ -1,18 +1,20 @@
 -- What the lines before the first ballot tell, line by line.
-use Rattle.std.proofs.Common.{◌≡◌, ℕ, suc, ◌+◌, ◌^◌, ◌≤◌, ◌==◌, ◌||◌, Bool, true, false, not, cond, List, [], ◌∷◌, ◌++◌, refl, sym, ap, ◌∙◌, arith, map, take, filter_map, append-nil, Option, Some, None, option_and_then, unwrap_or, Result}
+use Rattle.std.proofs.Common.{◌≡◌, ℕ, suc, ◌+◌, ◌≤◌, ◌==◌, ◌||◌, Bool, true, false, not, cond, List, [], ◌∷◌, ◌++◌, refl, sym, ap, ◌∙◌, arith, map, take, filter_map, append-nil, Option, Some, None, option_and_then, unwrap_or, Result}
 use Rattle.std.specs.Prelude.{nat_lt, slice_get}
 use Rattle.std.specs.List.{list_any, take_while, prefix_len, cons_option}
 use Rattle.std.proofs.lemmas.List.{reverse-append}
 use Rattle.std.proofs.lemmas.List.Elements.{filter_map-append}
+use Rattle.ballot_base.specs.Limits.{most_candidates}
+use Rattle.preflib_text.specs.Limits.{most_categories}
 use Rattle.preflib_text.specs.declared.pick.Kind.{Kind}
 use Rattle.preflib_text.specs.declared.pick.Pick.{Pick}
 use Rattle.preflib_text.specs.declared.fault.FaultName.{FaultName}
 use Rattle.preflib_text.specs.declared.fault.FaultName.TheVariants.{BadNumber, TooManyCandidates, ConflictingKey}
 use Rattle.preflib_text.specs.declared.notes.Notes.{Notes}
 use Rattle.preflib_text.specs.Lines.{is_ballot_line}
-use Rattle.preflib_text.specs.Metadata.{Told, TypeIs, AlternativesAre, CategoriesAre, NameIs, Nothing, told_of, number_of}
+use Rattle.preflib_text.specs.Metadata.{Told, TypeIs, AlternativesAre, CategoriesAre, NameIs, Nothing, told_of, written_number}
 use Rattle.preflib_text.specs.Reading.{or_else, told_before, alternatives_value, categories_value, type_value, last_of, kind_by, number_fault}
-use Rattle.preflib_text.specs.Notes.{IsSound, kind_with, told_error, told_notes}
+use Rattle.preflib_text.specs.Steps.Notes.{IsSound, kind_with, told_error, told_notes}
 
 -- ---- what is told when a line more comes
 
@@ -62,7 +64,7 @@ module _ (h : Told → Option (List ℕ)) (tolds : List Told) (told : Told) wher
 
 -- the number that is told first
 abbrev pub first_number : (Told → Option (List ℕ)) → List Told → Option ℕ
-first_number h tolds = option_and_then number_of (slice_get (filter_map h tolds) 0)
+first_number h tolds = option_and_then written_number (slice_get (filter_map h tolds) 0)
 
 last_of-push : (values : List (List ℕ)) (value : List ℕ) → last_of (values ++ value ∷ []) ≡ Some value
 last_of-push values value = ap (λ l. slice_get l 0) (reverse-append values (value ∷ []))
@@ -84,17 +86,17 @@ number_within name most noted (Some n) fault = by (n == 0) (nat_lt most n) (unwr
 
 -- a number is told again, or for the first time
 number-again : (h : Told → Option (List ℕ)) (tolds : List Told) (told : Told) (value : List ℕ) (noted : Option ℕ) (most : ℕ) → h told ≡ Some value
-    → noted ≡ first_number h tolds → (noted ≡ None → filter_map h tolds ≡ []) → IsNumberWithin noted most (number_of value) → number_of value ≡ first_number h (tolds ++ told ∷ [])
+    → noted ≡ first_number h tolds → (noted ≡ None → filter_map h tolds ≡ []) → IsNumberWithin noted most (written_number value) → written_number value ≡ first_number h (tolds ++ told ∷ [])
 number-again h tolds told value noted most is first none (n, is_n, low, high, same) =
-    by (filter_map h tolds) refl noted first none same ∙ sym (ap (λ l. option_and_then number_of (slice_get l 0)) (values-more h tolds told value is))
+    by (filter_map h tolds) refl noted first none same ∙ sym (ap (λ l. option_and_then written_number (slice_get l 0)) (values-more h tolds told value is))
   where
     by : (values : List (List ℕ)) → filter_map h tolds ≡ values → (k : Option ℕ) → k ≡ first_number h tolds → (k ≡ None → filter_map h tolds ≡ []) → (unwrap_or k n == n) ≡ true
-        → number_of value ≡ option_and_then number_of (slice_get (filter_map h tolds ++ value ∷ []) 0)
-    by [] e k f g s = sym (ap (λ l. option_and_then number_of (slice_get (l ++ value ∷ []) 0)) e)
+        → written_number value ≡ option_and_then written_number (slice_get (filter_map h tolds ++ value ∷ []) 0)
+    by [] e k f g s = sym (ap (λ l. option_and_then written_number (slice_get (l ++ value ∷ []) 0)) e)
     by (v ∷ values) e None f g s = let empty = g refl in absurd (cc)
     by (v ∷ values) e (Some k) f g s =
         let equal : k ≡ n = grind arith in
-        is_n ∙ ap Some (sym equal) ∙ f ∙ ap (λ l. option_and_then number_of (slice_get l 0)) e ∙ sym (ap (λ l. option_and_then number_of (slice_get (l ++ value ∷ []) 0)) e)
+        is_n ∙ ap Some (sym equal) ∙ f ∙ ap (λ l. option_and_then written_number (slice_get l 0)) e ∙ sym (ap (λ l. option_and_then written_number (slice_get (l ++ value ∷ []) 0)) e)
 
 -- ---- the notes
 
@@ -110,8 +112,8 @@ pub record IsTold (pick : Pick) (tolds : List Told) (notes : Notes) : Type 0 whe
 -- something is told that is neither number nor type
 told-other : (pick : Pick) (tolds : List Told) (notes : Notes) (told : Told) → IsTold pick tolds notes → alternatives_value told ≡ None → categories_value told ≡ None → type_value told ≡ None → IsTold pick (tolds ++ told ∷ []) notes
 told-other pick tolds notes told is a c t = record {
-  alternatives = is.alternatives ∙ ap (λ l. option_and_then number_of (slice_get l 0)) (sym (values-kept alternatives_value tolds told a));
-  categories = is.categories ∙ ap (λ l. option_and_then number_of (slice_get l 0)) (sym (values-kept categories_value tolds told c));
+  alternatives = is.alternatives ∙ ap (λ l. option_and_then written_number (slice_get l 0)) (sym (values-kept alternatives_value tolds told a));
+  categories = is.categories ∙ ap (λ l. option_and_then written_number (slice_get l 0)) (sym (values-kept categories_value tolds told c));
   kind = is.kind ∙ ap (λ l. kind_by pick.kind (last_of l) pick.ending) (sym (values-kept type_value tolds told t));
   no_alternatives = λ none. values-kept alternatives_value tolds told a ∙ is.no_alternatives none;
   no_categories = λ none. values-kept categories_value tolds told c ∙ is.no_categories none;
@@ -129,32 +131,32 @@ some_none n o some none = absurd (cc)
 -- notes without a fault hold what is told next
 pub told-step : (pick : Pick) (tolds : List Told) (notes : Notes) (told : Told) → IsTold pick tolds notes → told_error notes told ≡ None → IsTold pick (tolds ++ told ∷ []) (told_notes pick notes told)
 told-step pick tolds notes (AlternativesAre value) is fine =
-    let within = number_within TooManyCandidates 40 notes.alternatives (number_of value) fine in
+    let within = number_within TooManyCandidates most_candidates notes.alternatives (written_number value) fine in
     let told = AlternativesAre value in
     record {
-      alternatives = number-again alternatives_value tolds told value notes.alternatives 40 refl is.alternatives is.no_alternatives within;
-      categories = is.categories ∙ ap (λ l. option_and_then number_of (slice_get l 0)) (sym (values-kept categories_value tolds told refl));
+      alternatives = number-again alternatives_value tolds told value notes.alternatives most_candidates refl is.alternatives is.no_alternatives within;
+      categories = is.categories ∙ ap (λ l. option_and_then written_number (slice_get l 0)) (sym (values-kept categories_value tolds told refl));
       kind = is.kind ∙ ap (λ l. kind_by pick.kind (last_of l) pick.ending) (sym (values-kept type_value tolds told refl));
-      no_alternatives = λ none. some_none within.0 (number_of value) within.1 none;
+      no_alternatives = λ none. some_none within.0 (written_number value) within.1 none;
       no_categories = λ none. values-kept categories_value tolds told refl ∙ is.no_categories none;
       sound = rw within.1 (within.2, within.3);
     }
 told-step pick tolds notes (CategoriesAre value) is fine =
-    let within = number_within BadNumber (2 ^ 32) notes.categories (number_of value) fine in
+    let within = number_within BadNumber most_categories notes.categories (written_number value) fine in
     let told = CategoriesAre value in
     record {
-      alternatives = is.alternatives ∙ ap (λ l. option_and_then number_of (slice_get l 0)) (sym (values-kept alternatives_value tolds told refl));
-      categories = number-again categories_value tolds told value notes.categories (2 ^ 32) refl is.categories is.no_categories within;
+      alternatives = is.alternatives ∙ ap (λ l. option_and_then written_number (slice_get l 0)) (sym (values-kept alternatives_value tolds told refl));
+      categories = number-again categories_value tolds told value notes.categories most_categories refl is.categories is.no_categories within;
       kind = is.kind ∙ ap (λ l. kind_by pick.kind (last_of l) pick.ending) (sym (values-kept type_value tolds told refl));
       no_alternatives = λ none. values-kept alternatives_value tolds told refl ∙ is.no_alternatives none;
-      no_categories = λ none. some_none within.0 (number_of value) within.1 none;
+      no_categories = λ none. some_none within.0 (written_number value) within.1 none;
       sound = is.sound;
     }
 told-step pick tolds notes (TypeIs value) is fine =
     let told = TypeIs value in
     record {
-      alternatives = is.alternatives ∙ ap (λ l. option_and_then number_of (slice_get l 0)) (sym (values-kept alternatives_value tolds told refl));
-      categories = is.categories ∙ ap (λ l. option_and_then number_of (slice_get l 0)) (sym (values-kept categories_value tolds told refl));
+      alternatives = is.alternatives ∙ ap (λ l. option_and_then written_number (slice_get l 0)) (sym (values-kept alternatives_value tolds told refl));
+      categories = is.categories ∙ ap (λ l. option_and_then written_number (slice_get l 0)) (sym (values-kept categories_value tolds told refl));
       kind = kind-again pick.kind notes.kind (last_of (filter_map type_value tolds)) pick.ending value is.kind
           ∙ ap (λ o. kind_by pick.kind o pick.ending) (sym (ap last_of (values-more type_value tolds told value refl) ∙ last_of-push (filter_map type_value tolds) value));
       no_alternatives = λ none. values-kept alternatives_value tolds told refl ∙ is.no_alternatives none;

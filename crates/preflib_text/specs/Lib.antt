@@ -1,11 +1,8 @@
-pub mod Cuts
+pub mod Limits
+pub mod Names
 pub mod Lines
 pub mod Ballot
 pub mod Approvals
 pub mod Metadata
-pub mod Tells
 pub mod Reading
-pub mod Notes
-pub mod BallotTokens
-pub mod BallotMarks
-pub mod BallotReading
+pub mod Steps

@@ -1,11 +1,10 @@
 -- The metadata of a ballot file (PrefLib data format).
-use Rattle.std.specs.Prelude.{ℕ, ◌==◌, ◌&&◌, Bool, true, false, List, [], ◌∷◌, drop, reverse, length, codes, Option, Some, None, nat_lt, if◌then◌else◌}
+use Rattle.std.specs.Prelude.{ℕ, ◌==◌, ◌&&◌, Bool, true, false, List, [], ◌∷◌, drop, reverse, length, codes, Option}
+use Rattle.std.specs.Prelude.{Some, None, nat_lt, if◌then◌else◌}
 use Rattle.std.specs.List.{list_any, before_first, after_first}
 use Rattle.std.specs.Str.{all_ascii_digits, str_eq_ignore_ascii_case}
 use Rattle.std.specs.Str.Parse.{digits_value}
 use Rattle.preflib_text.specs.Lines.{is_blank, onto_first, trim_start, is_metadata_line}
-use Rattle.preflib_text.specs.declared.pick.Kind.{Kind}
-use Rattle.preflib_text.specs.declared.pick.Kind.TheVariants.{Cat, Soc, Soi, Toc, Toi}
 
 -- without blanks at either end
 abbrev pub trimmed : List ℕ → List ℕ
@@ -27,12 +26,15 @@ pub record Entry : Type 0 where
   pub key : List (List ℕ)
   pub value : List ℕ
 
--- the entry of a metadata line, what stands behind its `#` cut at the first colon; none without a colon
-abbrev pub entry_of : List ℕ → Option Entry
-entry_of line =
+-- the entry of a metadata line, what stands after its `#` cut at the first colon; none without a colon
+abbrev pub key_and_value : List ℕ → Option Entry
+key_and_value line =
     let text = drop 1 (trim_start line) in
     if is_metadata_line line && list_any (λ b. b == 58) text
-    then Some (record { key = words_of (before_first (λ b. b == 58) text); value = trimmed (after_first (λ b. b == 58) text) })
+    then Some (record {
+      key = words_of (before_first (λ b. b == 58) text);
+      value = trimmed (after_first (λ b. b == 58) text);
+    })
     else None
 
 -- whether the words are alike but for the case of their letters
@@ -43,8 +45,9 @@ same_words [] (b ∷ bs) = false
 same_words (a ∷ as') [] = false
 
 -- the number that digits stand for, one or more
-abbrev pub number_of : List ℕ → Option ℕ
-number_of bytes = if nat_lt 0 (length bytes) && all_ascii_digits bytes then Some (digits_value 10 bytes) else None
+abbrev pub written_number : List ℕ → Option ℕ
+written_number bytes =
+    if nat_lt 0 (length bytes) && all_ascii_digits bytes then Some (digits_value 10 bytes) else None
 
 -- what a metadata line tells
 pub data Told : Type 0 where
@@ -57,7 +60,8 @@ pub data Told : Type 0 where
 -- the name of a candidate, where the last word of its key is a number
 abbrev pub name_told : List (List ℕ) → List ℕ → Told
 name_told (a ∷ b ∷ n ∷ []) value =
-    if same_words (a ∷ b ∷ []) (codes "ALTERNATIVE" ∷ codes "NAME" ∷ []) then told_name (number_of n) value else Nothing
+    if same_words (a ∷ b ∷ []) (codes "ALTERNATIVE" ∷ codes "NAME" ∷ []) then told_name (written_number n) value
+    else Nothing
   where
     told_name : Option ℕ → List ℕ → Told
     told_name None value = Nothing
@@ -76,12 +80,4 @@ told_in None = Nothing
 told_in (Some e) = told_by e
 
 abbrev pub told_of : List ℕ → Told
-told_of line = told_in (entry_of line)
-
--- the type of a name, in letters of any case
-abbrev pub kind_of : List ℕ → Option Kind
-kind_of text = if str_eq_ignore_ascii_case text (codes "cat") then Some Cat
-    else (if str_eq_ignore_ascii_case text (codes "soc") then Some Soc
-    else (if str_eq_ignore_ascii_case text (codes "soi") then Some Soi
-    else (if str_eq_ignore_ascii_case text (codes "toc") then Some Toc
-    else (if str_eq_ignore_ascii_case text (codes "toi") then Some Toi else None))))
+told_of line = told_in (key_and_value line)

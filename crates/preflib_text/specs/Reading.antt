@@ -1,7 +1,11 @@
 -- What an input holds: the election of its ballots, or the first fault (PrefLib data format; the faults and their order
 -- are this project's).
-use Rattle.std.specs.Prelude.{◌≡◌, ℕ, ◌+◌, ◌^◌, ◌==◌, ◌&&◌, ◌||◌, Bool, true, false, not, List, [], ◌∷◌, ◌++◌, length, map, filter, filter_map, fold, sum_by, flat_map, reverse, slice_get, Option, Some, None, option_and_then, option_map, unwrap_or, is_some, Result, Ok, Err, nat_lt, nat_le, take_while, MatchOption, if◌then◌else◌}
+use Rattle.std.specs.Prelude.{◌≡◌, ℕ, ◌+◌, ◌==◌, ◌&&◌, ◌||◌, Bool, true, false, not, List, [], ◌∷◌, ◌++◌, length}
+use Rattle.std.specs.Prelude.{map, filter, filter_map, fold, sum_by, flat_map, reverse, slice_get, Option, Some}
+use Rattle.std.specs.Prelude.{None, option_and_then, option_map, unwrap_or, is_some, Result, Ok, Err, nat_lt}
+use Rattle.std.specs.Prelude.{nat_le, take_while, MatchOption, if◌then◌else◌}
 use Rattle.std.specs.List.{list_any, range_with_len}
+use Rattle.ballot_base.specs.Limits.{most_candidates, most_voters}
 use Rattle.ballot_base.specs.CandSet.{has_member}
 use Rattle.ballot_base.specs.Ballots.{Election, Row, with_votes}
 use Rattle.preflib_text.specs.declared.pick.Kind.{Kind}
@@ -10,12 +14,20 @@ use Rattle.preflib_text.specs.declared.pick.Way.{Way}
 use Rattle.preflib_text.specs.declared.pick.Way.TheVariants.{Usual, Category}
 use Rattle.preflib_text.specs.declared.pick.Pick.{Pick}
 use Rattle.preflib_text.specs.declared.fault.FaultName.{FaultName}
-use Rattle.preflib_text.specs.declared.fault.FaultName.TheVariants.{LongLine, BadNumber, TooManyCandidates, ConflictingKey, NoAlternatives, NoKind, BadKind, BadBallot, BadCount, NoSuchCandidate, RepeatedCandidate, NotStrict, Incomplete, TooManyClasses, NoVoters, TooManyVoters, PickMisfit, Memory}
+use Rattle.preflib_text.specs.declared.fault.FaultName.TheVariants.{LongLine, BadNumber, TooManyCandidates}
+use Rattle.preflib_text.specs.declared.fault.FaultName.TheVariants.{ConflictingKey, NoAlternatives, NoKind, BadKind}
+use Rattle.preflib_text.specs.declared.fault.FaultName.TheVariants.{BadBallot, BadCount, NoSuchCandidate}
+use Rattle.preflib_text.specs.declared.fault.FaultName.TheVariants.{RepeatedCandidate, NotStrict, Incomplete}
+use Rattle.preflib_text.specs.declared.fault.FaultName.TheVariants.{TooManyClasses, NoVoters, TooManyVoters}
+use Rattle.preflib_text.specs.declared.fault.FaultName.TheVariants.{PickMisfit, Memory}
 use Rattle.preflib_text.specs.declared.fault.ReadFault.{ReadFault}
+use Rattle.preflib_text.specs.Limits.{most_line_bytes, most_categories}
 use Rattle.preflib_text.specs.Lines.{lines_of, is_ballot_line}
-use Rattle.preflib_text.specs.Metadata.{Told, TypeIs, AlternativesAre, CategoriesAre, NameIs, told_of, number_of, kind_of}
+use Rattle.preflib_text.specs.Metadata.{Told, TypeIs, AlternativesAre, CategoriesAre, NameIs, told_of}
+use Rattle.preflib_text.specs.Metadata.{written_number}
+use Rattle.preflib_text.specs.Names.{kind_named}
 use Rattle.preflib_text.specs.Ballot.{IsBallotLine}
-use Rattle.preflib_text.specs.Approvals.{way_for, approved}
+use Rattle.preflib_text.specs.Approvals.{approved}
 
 -- the first fault of two
 abbrev pub or_else : {X : Type 0} → Option X → Option X → Option X
@@ -48,16 +60,21 @@ abbrev pub name_value : ℕ → Told → Option (List ℕ)
 name_value n (NameIs k value) = if k == n then Some value else None
 name_value n _ = None
 
+-- whether the name of a candidate is told; other numbers have no name
+abbrev pub is_name : Told → Bool
+is_name (NameIs n value) = nat_le 1 n && nat_le n most_candidates
+is_name _ = false
+
 -- the last of the values
 abbrev pub last_of : List (List ℕ) → Option (List ℕ)
 last_of values = slice_get (reverse values) 0
 
 -- the number of alternatives, and of categories, as the lines tell it first
 abbrev pub alternatives_in : List (List ℕ) → Option ℕ
-alternatives_in lines = option_and_then number_of (slice_get (filter_map alternatives_value (told_before lines)) 0)
+alternatives_in lines = option_and_then written_number (slice_get (filter_map alternatives_value (told_before lines)) 0)
 
 abbrev pub categories_in : List (List ℕ) → Option ℕ
-categories_in lines = option_and_then number_of (slice_get (filter_map categories_value (told_before lines)) 0)
+categories_in lines = option_and_then written_number (slice_get (filter_map categories_value (told_before lines)) 0)
 
 -- the type and the name of a candidate, as the lines tell them last; a name may be empty, and is none then
 abbrev pub type_in : List (List ℕ) → Option (List ℕ)
@@ -74,8 +91,10 @@ number_fault too_large most before (Some n) = or_else (fault_if (n == 0) BadNumb
 
 -- what is wrong with a metadata line, after these lines
 abbrev pub told_fault : List (List ℕ) → Told → Option FaultName
-told_fault before (AlternativesAre value) = number_fault (Some TooManyCandidates) 40 (alternatives_in before) (number_of value)
-told_fault before (CategoriesAre value) = number_fault (Some BadNumber) (2 ^ 32) (categories_in before) (number_of value)
+told_fault before (AlternativesAre value) =
+    number_fault (Some TooManyCandidates) most_candidates (alternatives_in before) (written_number value)
+told_fault before (CategoriesAre value) =
+    number_fault (Some BadNumber) most_categories (categories_in before) (written_number value)
 told_fault before _ = None
 
 -- ---- ballots
@@ -88,7 +107,7 @@ kind_or name None = Err name
 -- the type of the file: the one that the reader was told, else that of the metadata, else that of the file's name
 abbrev pub kind_by : Option Kind → Option (List ℕ) → Option Kind → Result Kind FaultName
 kind_by (Some kind) told ending = Ok kind
-kind_by None (Some text) ending = kind_or BadKind (kind_of text)
+kind_by None (Some text) ending = kind_or BadKind (kind_named text)
 kind_by None None ending = kind_or NoKind ending
 
 abbrev pub kind_in : Pick → List (List ℕ) → Result Kind FaultName
@@ -132,10 +151,11 @@ is_cat _ = false
 abbrev pub ballot_fault : Kind → ℕ → Option ℕ → ℕ → List (List ℕ) → Option FaultName
 ballot_fault kind m categories count classes =
     let numbers = flat_map (λ class. class) classes in
-    or_else (fault_if ((count == 0) || nat_lt (2 ^ 32) count) BadCount)
+    or_else (fault_if ((count == 0) || nat_lt most_voters count) BadCount)
     (or_else (number_in_ballot_fault m [] numbers)
     (or_else (fault_if (is_strict kind && list_any (λ class. not (length class == 1)) classes) NotStrict)
-    (or_else (fault_if (is_complete kind && list_any (λ n. not (has_member numbers n)) (range_with_len 1 m)) Incomplete)
+    (or_else (fault_if (is_complete kind && list_any (λ n. not (has_member numbers n)) (range_with_len 1 m))
+    Incomplete)
     (fault_if (is_cat kind && nat_lt (unwrap_or categories (length classes)) (length classes)) TooManyClasses))))
 
 -- a ballot line that was read: its count and its classes
@@ -145,7 +165,9 @@ pub record Cast : Type 0 where
 
 -- how ballot lines are read: as the shape of a ballot line says
 abbrev pub IsReading : (List ℕ → Option Cast) → Type 0
-IsReading read = (line : List ℕ) → MatchOption (read line) ((count : ℕ) (classes : List (List ℕ)) → IsBallotLine line count classes → ⊥) (λ cast. IsBallotLine line cast.count cast.classes)
+IsReading read = (line : List ℕ) → MatchOption (read line)
+    ((count : ℕ) (classes : List (List ℕ)) → IsBallotLine line count classes → ⊥)
+    (λ cast. IsBallotLine line cast.count cast.classes)
 
 -- the election, or the fault
 abbrev pub outcome_by : Election → Option ReadFault → Result Election ReadFault
@@ -159,6 +181,18 @@ at_end name = record { name = name; line = None }
 abbrev pub at_line : ℕ → FaultName → ReadFault
 at_line number NoAlternatives = at_end NoAlternatives
 at_line number name = record { name = name; line = Some number }
+
+-- a line with a fault: its number, counted from 1, and the name of the fault
+pub record FaultyLine : Type 0 where
+  pub number : ℕ
+  pub name : FaultName
+
+abbrev pub faulty_line : ℕ → FaultName → FaultyLine
+faulty_line number name = record { number = number; name = name }
+
+-- its fault
+abbrev pub fault_of_line : FaultyLine → ReadFault
+fault_of_line line = at_line line.number line.name
 
 -- what is wrong at the end of these lines
 abbrev pub end_fault : List (List ℕ) → Option FaultName
@@ -178,12 +212,13 @@ module _ (pick : Pick) (read : List ℕ → Option Cast) where
   abbrev pub cast_fault : List (List ℕ) → Kind → ℕ → Option Cast → Option FaultName
   cast_fault before kind m None = Some BadBallot
   cast_fault before kind m (Some cast) = or_else (ballot_fault kind m (categories_in before) cast.count cast.classes)
-      (fault_if (nat_lt (2 ^ 32) (votes_in before + cast.count)) TooManyVoters)
+      (fault_if (nat_lt most_voters (votes_in before + cast.count)) TooManyVoters)
 
   abbrev pub kind_fault : List (List ℕ) → ℕ → List ℕ → Result Kind FaultName → Option FaultName
   kind_fault before m line (Err name) = Some name
   kind_fault before m line (Ok kind) =
-      or_else (fault_if (not (is_fitting kind (categories_in before) pick.way)) PickMisfit) (cast_fault before kind m (read line))
+      or_else (fault_if (not (is_fitting kind (categories_in before) pick.way)) PickMisfit)
+      (cast_fault before kind m (read line))
 
   abbrev pub ballot_line_fault : List (List ℕ) → List ℕ → Option ℕ → Option FaultName
   ballot_line_fault before line None = Some NoAlternatives
@@ -191,20 +226,27 @@ module _ (pick : Pick) (read : List ℕ → Option Cast) where
 
   -- what is wrong with a line, after these lines
   abbrev pub line_fault : List (List ℕ) → List ℕ → Option FaultName
-  line_fault before line = or_else (fault_if (nat_lt 1048576 (length line)) LongLine)
+  line_fault before line = or_else (fault_if (nat_lt most_line_bytes (length line)) LongLine)
       (if is_ballot_line line then ballot_line_fault before line (alternatives_in before)
       else (if list_any is_ballot_line before then None else told_fault before (told_of line)))
 
-  -- the first fault of lines that stand behind others
-  abbrev pub first_fault : List (List ℕ) → List (List ℕ) → Option ReadFault
-  first_fault before [] = option_map at_end (end_fault before)
-  first_fault before (line ∷ lines) = or_else (option_map (at_line (length before + 1)) (line_fault before line)) (first_fault (before ++ line ∷ []) lines)
+  -- the first line with a fault among lines that stand after others, if one has a fault
+  abbrev pub first_faulty_line : List (List ℕ) → List (List ℕ) → Option FaultyLine
+  first_faulty_line before [] = None
+  first_faulty_line before (line ∷ lines) =
+      or_else (option_map (faulty_line (length before + 1)) (line_fault before line))
+      (first_faulty_line (before ++ line ∷ []) lines)
+
+  -- the first fault: that of the first line with one, else that of the end
+  abbrev pub first_fault : List (List ℕ) → Option ReadFault
+  first_fault lines =
+      or_else (option_map fault_of_line (first_faulty_line [] lines)) (option_map at_end (end_fault lines))
 
   -- the rows of the ballots, in the order of their first appearance
   abbrev pub rows_in : List (List ℕ) → List Row
   rows_in lines =
-      let way = way_for (kind_or_usual (kind_in pick lines)) pick.way in
-      fold (λ rows cast. with_votes rows (approved way cast.classes) cast.count) [] (casts_in lines)
+      let kind = kind_or_usual (kind_in pick lines) in
+      fold (λ rows cast. with_votes rows (approved kind pick.way cast.classes) cast.count) [] (casts_in lines)
 
   -- the election of lines without a fault
   abbrev pub election_in : List (List ℕ) → Election
@@ -213,15 +255,24 @@ module _ (pick : Pick) (read : List ℕ → Option Cast) where
       record { m = m; names = map (name_in lines) (range_with_len 1 m); rows = rows_in lines }
 
   -- the election, or the first fault
-  abbrev pub outcome_of : List (List ℕ) → Result Election ReadFault
-  outcome_of lines = outcome_by (election_in lines) (first_fault [] lines)
+  abbrev pub outcome_in : List (List ℕ) → Result Election ReadFault
+  outcome_in lines = outcome_by (election_in lines) (first_fault lines)
+
+  -- whether a line takes memory, after these lines: the first, where the room of names and rows is taken; the name of a
+  -- candidate before the first ballot; and a ballot that makes a new row
+  abbrev pub takes_memory : List (List ℕ) → List ℕ → Bool
+  takes_memory before line = (length before == 0)
+      || ((not (list_any is_ballot_line before) && is_name (told_of line))
+      || nat_lt (length (rows_in before)) (length (rows_in (before ++ line ∷ []))))
 
 -- what an input holds
 abbrev pub Reads : List ℕ → Pick → Result Election ReadFault → Type 0
-Reads bytes pick outcome = (read : List ℕ → Option Cast) × IsReading read × (outcome ≡ outcome_of pick read (lines_of bytes))
+Reads bytes pick outcome =
+    (read : List ℕ → Option Cast) × IsReading read × (outcome ≡ outcome_in pick read (lines_of bytes))
 
--- memory ran out at a line, and up to it the input has no fault but one of the end, if it ended there
+-- memory ran out at a line that takes some, and no line up to it has a fault
 abbrev pub RunsShort : List ℕ → Pick → ReadFault → Type 0
 RunsShort bytes pick fault = (before : List (List ℕ)) × (line : List ℕ) × (after : List (List ℕ))
     × (lines_of bytes ≡ before ++ line ∷ after) × (fault ≡ at_line (length before + 1) Memory)
-    × (read : List ℕ → Option Cast) × IsReading read × (first_fault pick read [] (before ++ line ∷ []) ≡ option_map at_end (end_fault (before ++ line ∷ [])))
+    × (read : List ℕ → Option Cast) × IsReading read
+    × (first_faulty_line pick read [] (before ++ line ∷ []) ≡ None) × (takes_memory pick read before line ≡ true)

@@ -1,15 +1,41 @@
 //! What is noted of a ballot while it is read: whom it approves, and what is wrong with it.
 ghost use Rattle.std.specs.Prelude.{◌≡◌, ◌+◌, ◌^◌, ◌<◌, ◌≤◌, length};
+ghost use Rattle.ballot_base.specs.Limits.{most_candidates};
 ghost use Rattle.ballot_base.specs.Lists.{IsIncreasing};
+ghost use Rattle.preflib_text.specs.Limits.{word_limit};
 ghost use Rattle.preflib_text.specs.Reading.{is_strict, is_complete};
-ghost use Rattle.preflib_text.specs.BallotMarks.{no_marks, takes, wrong_with, with_number, with_end, fault_of};
+ghost use Rattle.preflib_text.specs.Steps.Marks.{no_marks, taking_of, takes, wrong_with, with_number, with_end};
+ghost use Rattle.preflib_text.specs.Steps.Marks.{fault_of};
 
 use crate::fault::FaultName;
 use crate::pick::{Kind, Way};
-use ballot_base::CandSet;
+use ballot_base::{CandSet, MOST_VOTERS};
 
-/// The most voters of a ballot: 2^32.
-pub(crate) const MOST_VOTERS: u64 = 4_294_967_296;
+/// Which numbers of a ballot are taken: a way, where the usual one is spelled out.
+#[derive(Clone, Copy)]
+pub(crate) enum Taking {
+    /// Those of this class, counted from 1.
+    Category(u32),
+    /// Those of the fewest first classes that have so many numbers together, or of all.
+    SetSize(u32),
+    /// Those of so many first classes.
+    Classes(u32),
+}
+
+impl Taking {
+    /// What a way takes in a file of this type.
+    pub(crate) fn new(kind: Kind, way: Way) -> Taking
+        ensures { result ≡ taking_of kind way }
+    {
+        match way {
+            Way::Usual if kind == Kind::Cat => Taking::Category(1),
+            Way::Usual => Taking::SetSize(1),
+            Way::Category(n) => Taking::Category(n),
+            Way::SetSize(n) => Taking::SetSize(n),
+            Way::Classes(n) => Taking::Classes(n),
+        }
+    }
+}
 
 /// What is noted of the classes of a ballot so far.
 #[derive(Clone, Copy)]
@@ -18,7 +44,7 @@ pub(crate) struct Marks {
     pub(crate) wrong: Option<FaultName>,
     /// The numbers up to the first wrong one.
     pub(crate) seen: CandSet,
-    /// Those of them that the way takes.
+    /// Those of them that are taken.
     pub(crate) approved: CandSet,
     /// Whether each class that ended has one number.
     pub(crate) strict: bool,
@@ -46,22 +72,21 @@ impl Marks {
         }
     }
 
-    /// Whether the way takes the numbers of the class that comes.
-    fn takes(&self, way: Way) -> bool
-        requires { self.now.classes + 1 < 2 ^ 64 }
-        ensures { result ≡ takes way self.now.classes self.now.before }
+    /// Whether the numbers of the class that comes are taken.
+    fn takes(&self, taking: Taking) -> bool
+        requires { self.now.classes + 1 < word_limit }
+        ensures { result ≡ takes taking self.now.classes self.now.before }
     {
-        match way {
-            Way::Category(n) => self.classes + 1 == u64::from(n),
-            Way::SetSize(n) => self.before < u64::from(n),
-            Way::Classes(n) => self.classes < u64::from(n),
-            Way::Usual => self.before < 1,
+        match taking {
+            Taking::Category(n) => self.classes + 1 == u64::from(n),
+            Taking::SetSize(n) => self.before < u64::from(n),
+            Taking::Classes(n) => self.classes < u64::from(n),
         }
     }
 
     /// What is wrong with this number, or with one before it.
     fn wrong_with(&self, m: u8, n: u64) -> Option<FaultName>
-        requires { m ≤ 40 }
+        requires { m ≤ most_candidates }
         ensures { result ≡ wrong_with m self.now n }
     {
         if self.wrong.is_some() {
@@ -77,17 +102,17 @@ impl Marks {
     }
 
     /// Adds a number to the class that comes.
-    pub(crate) fn add_number(&mut self, m: u8, way: Way, n: u64)
-        requires candidates { m ≤ 40 }
-        requires classes { self.old.classes + 1 < 2 ^ 64 }
-        requires numbers { self.old.numbers + 1 < 2 ^ 64 }
-        ensures { self.new ≡ with_number m way self.old n }
+    pub(crate) fn add_number(&mut self, m: u8, taking: Taking, n: u64)
+        requires candidates { m ≤ most_candidates }
+        requires classes { self.old.classes + 1 < word_limit }
+        requires numbers { self.old.numbers + 1 < word_limit }
+        ensures { self.new ≡ with_number m taking self.old n }
     {
         self.wrong = self.wrong_with(m, n);
         self.numbers += 1;
         if self.wrong.is_none() {
             self.seen = self.seen.with(n as u8);
-            if self.takes(way) {
+            if self.takes(taking) {
                 self.approved = self.approved.with(n as u8);
             }
         }
@@ -95,8 +120,8 @@ impl Marks {
 
     /// Ends the class.
     pub(crate) fn end_class(&mut self)
-        requires classes { self.old.classes + 1 < 2 ^ 64 }
-        requires numbers { self.old.before + self.old.numbers < 2 ^ 64 }
+        requires classes { self.old.classes + 1 < word_limit }
+        requires numbers { self.old.before + self.old.numbers < word_limit }
         ensures { self.new ≡ with_end self.old }
     {
         self.strict = self.strict && self.numbers == 1;

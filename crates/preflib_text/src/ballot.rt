@@ -1,19 +1,22 @@
 //! Reading one line of a ballot: a count, a colon and an order.
-ghost use Rattle.std.specs.Prelude.{◌≡◌, ℕ, ◌+◌, ◌^◌, ◌<◌, ◌≤◌, length, List, [], ◌∷◌, Some, None, MatchOption, IfOk, IfErr};
+ghost use Rattle.std.specs.Prelude.{◌≡◌, ℕ, ◌+◌, ◌^◌, ◌<◌, ◌≤◌, length, List, [], ◌∷◌, Some, None, MatchOption};
+ghost use Rattle.std.specs.Prelude.{IfOk, IfErr};
 ghost use Rattle.std.specs.Option.{option_map};
+ghost use Rattle.ballot_base.specs.Limits.{most_candidates, most_voters};
 ghost use Rattle.ballot_base.specs.Lists.{IsIncreasing};
+ghost use Rattle.preflib_text.specs.Limits.{word_limit};
 ghost use Rattle.preflib_text.specs.Ballot.{IsBallotLine};
-ghost use Rattle.preflib_text.specs.BallotTokens.{token_of, tokens_after, tokens_of, capped, IsFirstToken, next_place, is_end, order_at, ballot_of};
-ghost use Rattle.preflib_text.specs.BallotMarks.{HasNumber, no_marks, with_classes, with_read};
-ghost use Rattle.preflib_text.specs.BallotReading.{HasMarks, IsGoodBallot, IsBallotFault};
+ghost use Rattle.preflib_text.specs.Approvals.{HasNumber};
+ghost use Rattle.preflib_text.specs.Steps.Tokens.{token_of, tokens_after, tokens_of, capped, IsFirstToken};
+ghost use Rattle.preflib_text.specs.Steps.Tokens.{next_place, is_end, order_at, ballot_of};
+ghost use Rattle.preflib_text.specs.Steps.Marks.{no_marks, with_classes, with_read};
+ghost use Rattle.preflib_text.specs.Steps.Answers.{HasMarks, IsGoodBallot, IsBallotFault};
 
-use crate::approvals::{MOST_VOTERS, Marks};
+use crate::approvals::{Marks, Taking};
 use crate::fault::FaultName;
+use crate::limits::ABOVE;
 use crate::pick::{Kind, Way};
 use ballot_base::CandSet;
-
-/// What larger numbers are read as: no number that is asked for is above `MOST_VOTERS`.
-const ABOVE: u64 = MOST_VOTERS + 1;
 
 /// A part of a ballot line.
 #[derive(Clone, Copy)]
@@ -28,7 +31,7 @@ enum Token {
 
 /// A place in an order, by what may come next.
 #[derive(Clone, Copy)]
-enum Place {
+enum OrderPlace {
     /// Behind the colon.
     Order,
     /// Behind a comma between classes.
@@ -43,56 +46,56 @@ enum Place {
     Listed,
 }
 
-impl Place {
-    /// The place behind a token, if it may come here. Its number, or the end of its class, goes into the marks.
-    fn after(self, token: Token, marks: &mut Marks, m: u8, way: Way) -> Option<Place>
-        requires candidates { m ≤ 40 }
-        requires classes { marks.old.classes + 1 < 2 ^ 64 }
-        requires numbers { marks.old.before + marks.old.numbers + 1 < 2 ^ 64 }
+impl OrderPlace {
+    /// The place after a token, if it may come here. Its number, or the end of its class, goes into the marks.
+    fn after(self, token: Token, marks: &mut Marks, m: u8, taking: Taking) -> Option<OrderPlace>
+        requires candidates { m ≤ most_candidates }
+        requires classes { marks.old.classes + 1 < word_limit }
+        requires numbers { marks.old.before + marks.old.numbers + 1 < word_limit }
         ensures place { result ≡ next_place self token }
-        ensures marks { marks.new ≡ with_read m way self token marks.old }
+        ensures marks { marks.new ≡ with_read m taking self token marks.old }
     {
         match token {
-            Token::Number(n) => self.after_number(n, marks, m, way),
+            Token::Number(n) => self.after_number(n, marks, m, taking),
             Token::Open => match self {
-                Place::Order | Place::Class => Some(Place::Opened),
+                OrderPlace::Order | OrderPlace::Class => Some(OrderPlace::Opened),
                 _ => None,
             },
             Token::Close => match self {
-                Place::Opened | Place::Listed => {
+                OrderPlace::Opened | OrderPlace::Listed => {
                     marks.end_class();
-                    Some(Place::Between)
+                    Some(OrderPlace::Between)
                 }
                 _ => None,
             },
             Token::Comma => match self {
-                Place::Between => Some(Place::Class),
-                Place::Listed => Some(Place::Inner),
+                OrderPlace::Between => Some(OrderPlace::Class),
+                OrderPlace::Listed => Some(OrderPlace::Inner),
                 _ => None,
             },
             Token::Colon | Token::Other => None,
         }
     }
 
-    /// The place behind a number, if it may come here.
-    fn after_number(self, n: u64, marks: &mut Marks, m: u8, way: Way) -> Option<Place>
-        requires candidates { m ≤ 40 }
-        requires classes { marks.old.classes + 1 < 2 ^ 64 }
-        requires numbers { marks.old.before + marks.old.numbers + 1 < 2 ^ 64 }
+    /// The place after a number, if it may come here.
+    fn after_number(self, n: u64, marks: &mut Marks, m: u8, taking: Taking) -> Option<OrderPlace>
+        requires candidates { m ≤ most_candidates }
+        requires classes { marks.old.classes + 1 < word_limit }
+        requires numbers { marks.old.before + marks.old.numbers + 1 < word_limit }
         ensures place { result ≡ next_place self (Token.Number n) }
-        ensures marks { marks.new ≡ with_read m way self (Token.Number n) marks.old }
+        ensures marks { marks.new ≡ with_read m taking self (Token.Number n) marks.old }
     {
         match self {
-            Place::Order | Place::Class => {
-                marks.add_number(m, way, n);
+            OrderPlace::Order | OrderPlace::Class => {
+                marks.add_number(m, taking, n);
                 marks.end_class();
-                Some(Place::Between)
+                Some(OrderPlace::Between)
             }
-            Place::Opened | Place::Inner => {
-                marks.add_number(m, way, n);
-                Some(Place::Listed)
+            OrderPlace::Opened | OrderPlace::Inner => {
+                marks.add_number(m, taking, n);
+                Some(OrderPlace::Listed)
             }
-            Place::Between | Place::Listed => None,
+            OrderPlace::Between | OrderPlace::Listed => None,
         }
     }
 
@@ -100,7 +103,7 @@ impl Place {
     fn is_end(self) -> bool
         ensures { result ≡ is_end self }
     {
-        matches!(self, Place::Order | Place::Between)
+        matches!(self, OrderPlace::Order | OrderPlace::Between)
     }
 }
 
@@ -118,12 +121,13 @@ pub(crate) struct Ballot {
     pub(crate) approved: CandSet,
 }
 
-/// The number that begins with this digit and goes on with those at the front of the text, and the text behind them.
+/// The number that begins with this digit and goes on with those at the front of the text, and the text after them.
 /// Of a number above `MOST_VOTERS` it is `ABOVE`.
-#[tactic(auto, unfolding(crate::specs::BallotTokens::tokens_after))]
+#[tactic(auto, unfolding(crate::specs::Steps::Tokens::tokens_after))]
 fn digits(first: u64, text: &[u8]) -> (u64, &[u8])
     requires { first ≤ 9 }
-    ensures number { (n : ℕ) × (result.0 ≡ capped n) × (tokens_after (Some first) text.now ≡ Token.Number n ∷ tokens_of result.1.now) }
+    ensures number { (n : ℕ) × (result.0 ≡ capped n)
+        × (tokens_after (Some first) text.now ≡ Token.Number n ∷ tokens_of result.1.now) }
     ensures shorter { length result.1.now ≤ length text.now }
 {
     let mut value = first;
@@ -148,8 +152,8 @@ fn mark(byte: u8) -> Token
     }
 }
 
-/// The first token, and the text behind it. A number is read as `digits` says.
-#[tactic(auto, unfolding(crate::specs::BallotTokens::tokens_after))]
+/// The first token, and the text after it. A number is read as `digits` says.
+#[tactic(auto, unfolding(crate::specs::Steps::Tokens::tokens_after))]
 fn next_token(text: &[u8]) -> Option<(Token, &[u8])>
     ensures { MatchOption result (tokens_of text.now ≡ []) (λ x. IsFirstToken text.now x.0 x.1.now) }
 {
@@ -168,24 +172,25 @@ fn next_token(text: &[u8]) -> Option<(Token, &[u8])>
 }
 
 /// The marks of the classes of an order.
-fn read_order(text: &[u8], m: u8, way: Way) -> Option<Marks>
-    requires { m ≤ 40 }
-    ensures { result ≡ option_map (with_classes m way no_marks) (order_at Place.Order (tokens_of text.now)) }
+fn read_order(text: &[u8], m: u8, taking: Taking) -> Option<Marks>
+    requires { m ≤ most_candidates }
+    ensures { result ≡ option_map (with_classes m taking no_marks) (order_at OrderPlace.Order (tokens_of text.now)) }
 {
     let mut marks = Marks::new();
-    let mut place = Place::Order;
+    let mut place = OrderPlace::Order;
     let mut rest = text;
     while let Some((token, after)) = next_token(rest) {
-        place = place.after(token, &mut marks, m, way)?;
+        place = place.after(token, &mut marks, m, taking)?;
         rest = after;
     }
     place.is_end().then_some(marks)
 }
 
 /// The count and the marks of a line, if it has the shape of a ballot line.
-fn read_line(line: &[u8], m: u8, way: Way) -> Option<Line>
-    requires { m ≤ 40 }
-    ensures { MatchOption result (ballot_of line.now ≡ None) (λ read. HasMarks m way line.now read.count read.marks) }
+fn read_line(line: &[u8], m: u8, taking: Taking) -> Option<Line>
+    requires { m ≤ most_candidates }
+    ensures { MatchOption result (ballot_of line.now ≡ None)
+        (λ read. HasMarks m taking line.now read.count read.marks) }
 {
     let (first, rest) = next_token(line)?;
     let Token::Number(count) = first else {
@@ -195,7 +200,7 @@ fn read_line(line: &[u8], m: u8, way: Way) -> Option<Line>
     let Token::Colon = second else {
         return None;
     };
-    let marks = read_order(order, m, way)?;
+    let marks = read_order(order, m, taking)?;
     Some(Line { count, marks })
 }
 
@@ -207,14 +212,15 @@ pub(crate) fn read_ballot(
     categories: Option<u64>,
     way: Way,
 ) -> Result<Ballot, FaultName>
-    requires candidates { m ≤ 40 }
+    requires candidates { m ≤ most_candidates }
     requires way { HasNumber way }
     ensures ok { IfOk result (λ ballot. IsGoodBallot line.now kind m categories way ballot.count ballot.approved) }
     ensures candidates { IfOk result (λ ballot. IsIncreasing 1 m ballot.approved) }
-    ensures voters { IfOk result (λ ballot. (1 ≤ ballot.count) × (ballot.count ≤ 2 ^ 32)) }
+    ensures voters { IfOk result (λ ballot. (1 ≤ ballot.count) × (ballot.count ≤ most_voters)) }
     ensures err { IfErr result (λ fault. IsBallotFault line.now kind m categories fault) }
 {
-    let Some(read) = read_line(line, m, way) else {
+    let taking = Taking::new(kind, way);
+    let Some(read) = read_line(line, m, taking) else {
         return Err(FaultName::BadBallot);
     };
     match read.marks.fault(kind, m, categories, read.count) {
@@ -228,7 +234,8 @@ pub(crate) fn read_ballot(
 
 /// A ballot line has one count and one list of classes.
 pub fn one_ballot_line()
-    ensures { (line : List ℕ) (c d : ℕ) (cs ds : List (List ℕ)) → IsBallotLine line c cs → IsBallotLine line d ds → (c ≡ d) × (cs ≡ ds) }
+    ensures { (line : List ℕ) (c d : ℕ) (cs ds : List (List ℕ)) → IsBallotLine line c cs → IsBallotLine line d ds
+        → (c ≡ d) × (cs ≡ ds) }
 {}
 
 #[cfg(test)]

@@ -1,13 +1,16 @@
 //! Why a file is not read.
+ghost use Rattle.std.specs.Prelude.{◌≡◌};
+ghost use Rattle.preflib_text.specs.Names.{fault_name, fault_named};
 
 /// What is wrong with a file.
 #[derive(Clone, Copy, Debug, PartialEq, Eq)]
 pub enum FaultName {
-    /// A line has more than 1,048,576 bytes without its end.
+    /// A line has more than [`MOST_LINE_BYTES`](crate::MOST_LINE_BYTES) bytes without its end.
     LongLine,
-    /// The number of alternatives or of categories is no number, is 0, or is a number of categories above 4,294,967,296.
+    /// The number of alternatives or of categories is no number or is 0, or there are more than
+    /// [`MOST_CATEGORIES`](crate::MOST_CATEGORIES) categories.
     BadNumber,
-    /// There are more than 40 alternatives.
+    /// There are more than [`MOST_CANDIDATES`](ballot_base::MOST_CANDIDATES) alternatives.
     TooManyCandidates,
     /// The number of alternatives or of categories is given a second time, as another.
     ConflictingKey,
@@ -19,7 +22,7 @@ pub enum FaultName {
     BadKind,
     /// A line of a ballot has another shape than a count, a colon and an order.
     BadBallot,
-    /// A count is 0 or above 4,294,967,296.
+    /// A count is 0 or above [`MOST_VOTERS`](ballot_base::MOST_VOTERS).
     BadCount,
     /// A number in a ballot is 0 or above the number of alternatives.
     NoSuchCandidate,
@@ -33,12 +36,75 @@ pub enum FaultName {
     TooManyClasses,
     /// The end comes, and there was no ballot.
     NoVoters,
-    /// There are more than 4,294,967,296 voters with this line.
+    /// There are more than [`MOST_VOTERS`](ballot_base::MOST_VOTERS) voters with this line.
     TooManyVoters,
     /// The way of approval does not fit the type of the file, or there are fewer categories than the one to take.
     PickMisfit,
     /// A growth was refused.
     Memory,
+}
+
+impl FaultName {
+    /// All faults.
+    pub const ALL: [FaultName; 18] = [
+        FaultName::LongLine,
+        FaultName::BadNumber,
+        FaultName::TooManyCandidates,
+        FaultName::ConflictingKey,
+        FaultName::NoAlternatives,
+        FaultName::NoKind,
+        FaultName::BadKind,
+        FaultName::BadBallot,
+        FaultName::BadCount,
+        FaultName::NoSuchCandidate,
+        FaultName::RepeatedCandidate,
+        FaultName::NotStrict,
+        FaultName::Incomplete,
+        FaultName::TooManyClasses,
+        FaultName::NoVoters,
+        FaultName::TooManyVoters,
+        FaultName::PickMisfit,
+        FaultName::Memory,
+    ];
+
+    /// Their names, in the same order.
+    pub const NAMES: [&'static str; 18] = [
+        "LongLine",
+        "BadNumber",
+        "TooManyCandidates",
+        "ConflictingKey",
+        "NoAlternatives",
+        "NoKind",
+        "BadKind",
+        "BadBallot",
+        "BadCount",
+        "NoSuchCandidate",
+        "RepeatedCandidate",
+        "NotStrict",
+        "Incomplete",
+        "TooManyClasses",
+        "NoVoters",
+        "TooManyVoters",
+        "PickMisfit",
+        "Memory",
+    ];
+
+    /// The name, as it is written in the line that refuses a file.
+    pub const fn name(self) -> &'static str
+        ensures { result.now ≡ fault_name self }
+    {
+        FaultName::NAMES[self as usize]
+    }
+
+    /// The fault that has this name, if one has; upper and lower case differ.
+    pub fn named(name: &str) -> Option<FaultName>
+        ensures { result ≡ fault_named name.now }
+    {
+        FaultName::ALL
+            .iter()
+            .copied()
+            .find(|fault| name == fault.name())
+    }
 }
 
 /// What is wrong with a file, and the number of the line where it is, counted from 1. `NoAlternatives` and `NoVoters`

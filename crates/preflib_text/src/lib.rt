@@ -4,6 +4,8 @@
 mod approvals;
 mod ballot;
 pub mod fault;
+pub mod laws;
+pub mod limits;
 mod lines;
 mod metadata;
 mod notes;
@@ -12,9 +14,9 @@ mod reader;
 
 pub use ballot::one_ballot_line;
 pub use fault::{FaultName, ReadFault};
-pub use metadata::kind_of;
+pub use limits::{MOST_CATEGORIES, MOST_LINE_BYTES};
 pub use pick::{Kind, Pick, Way};
-pub use reader::{one_outcome, read_profile};
+pub use reader::{one_outcome, read_profile, some_outcome};
 
 #[cfg(test)]
 mod tests;

@@ -2,7 +2,7 @@
 ghost use Rattle.std.specs.Prelude.{◌≡◌, ℕ, ◌<◌, List, ◌∷◌, length};
 ghost use Rattle.preflib_text.specs.Lines.{pieces_of, trim_start, without_mark, without_return};
 ghost use Rattle.preflib_text.specs.Metadata.{trimmed};
-ghost use Rattle.preflib_text.specs.Cuts.{Tells};
+ghost use Rattle.preflib_text.specs.Steps.Cuts.{Tells};
 
 use bstr::ByteSlice;
 
@@ -34,7 +34,8 @@ pub(crate) fn without_mark(bytes: &[u8]) -> &[u8]
 /// The first line.
 pub(crate) fn first_line(text: &[u8]) -> Cut<'_>
     requires { 0 < length text.now }
-    ensures line { (piece : List ℕ) × (pieces_of text.now ≡ piece ∷ pieces_of result.rest.now) × (result.line.now ≡ without_return piece) }
+    ensures line { (piece : List ℕ) × (pieces_of text.now ≡ piece ∷ pieces_of result.rest.now)
+        × (result.line.now ≡ without_return piece) }
     ensures shorter { length result.rest.now < length text.now }
 {
     match text.find_byte(b'\n') {

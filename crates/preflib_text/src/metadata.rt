@@ -1,16 +1,13 @@
 //! What a metadata line tells.
 ghost use Rattle.std.specs.Prelude.{◌≡◌, ℕ, ◌==◌, true, false, List, [], ◌∷◌, option_map, MatchOption};
 ghost use Rattle.std.specs.List.{list_any, before_first, after_first};
-ghost use Rattle.preflib_text.specs.Metadata.{words_of, number_of, told_by, told_of, kind_of};
-ghost use Rattle.preflib_text.specs.BallotTokens.{capped};
-ghost use Rattle.preflib_text.specs.Tells.{words_with, digits_after, meant, capped_told};
+ghost use Rattle.preflib_text.specs.Metadata.{words_of, written_number, told_by, told_of};
+ghost use Rattle.preflib_text.specs.Steps.Tokens.{capped};
+ghost use Rattle.preflib_text.specs.Steps.Tells.{words_with, digits_after, meant, capped_told};
 
+use crate::limits::ABOVE;
 use crate::lines::{trim, trim_start};
-use crate::pick::Kind;
 use bstr::ByteSlice;
-
-/// What larger numbers are read as: no number that is asked for is above 2^32.
-const ABOVE: u64 = 4_294_967_297;
 
 /// What a metadata line tells.
 #[derive(Clone, Copy)]
@@ -37,7 +34,7 @@ struct Word<'a> {
 }
 
 /// The number that goes on with these digits.
-#[tactic(auto, unfolding(crate::specs::Tells::digits_after))]
+#[tactic(auto, unfolding(crate::specs::Steps::Tells::digits_after))]
 fn digits_after(first: u64, text: &[u8]) -> Option<u64>
     requires { first ≡ capped first }
     ensures { result ≡ digits_after first text.now }
@@ -54,9 +51,9 @@ fn digits_after(first: u64, text: &[u8]) -> Option<u64>
     Some(value)
 }
 
-/// The number that digits stand for. Of a number above 2^32 it is `ABOVE`.
-pub(crate) fn number_of(text: &[u8]) -> Option<u64>
-    ensures { result ≡ option_map capped (number_of text.now) }
+/// The number that digits stand for. Of a number above `MOST_VOTERS` it is `ABOVE`.
+pub(crate) fn written_number(text: &[u8]) -> Option<u64>
+    ensures { result ≡ option_map capped (written_number text.now) }
 {
     if text.is_empty() {
         return None;
@@ -84,7 +81,9 @@ fn first_word(text: &[u8]) -> Word<'_>
 
 /// A text before and after its first colon.
 fn cut_at_colon(text: &[u8]) -> Option<Entry<'_>>
-    ensures { MatchOption result (list_any (λ b. b == 58) text.now ≡ false) (λ e. (list_any (λ b. b == 58) text.now ≡ true) × (e.key.now ≡ before_first (λ b. b == 58) text.now) × (e.value.now ≡ after_first (λ b. b == 58) text.now)) }
+    ensures { MatchOption result (list_any (λ b. b == 58) text.now ≡ false)
+        (λ e. (list_any (λ b. b == 58) text.now ≡ true) × (e.key.now ≡ before_first (λ b. b == 58) text.now)
+        × (e.value.now ≡ after_first (λ b. b == 58) text.now)) }
 {
     let at = text.find_byte(b':')?;
     Some(Entry {
@@ -95,7 +94,8 @@ fn cut_at_colon(text: &[u8]) -> Option<Entry<'_>>
 
 /// What a key of at most two words tells.
 fn told_by_two<'a>(first: &[u8], second: &[u8], value: &'a [u8]) -> Told<'a>
-    ensures { meant result ≡ told_by (record { key = words_with first.now (words_with second.now []); value = value.now }) }
+    ensures { meant result
+        ≡ told_by (record { key = words_with first.now (words_with second.now []); value = value.now }) }
 {
     if first.eq_ignore_ascii_case(b"DATA") && second.eq_ignore_ascii_case(b"TYPE") {
         return Told::Type(value);
@@ -111,12 +111,13 @@ fn told_by_two<'a>(first: &[u8], second: &[u8], value: &'a [u8]) -> Told<'a>
 
 /// What a key of three words tells.
 fn told_by_three<'a>(first: &[u8], second: &[u8], third: &[u8], value: &'a [u8]) -> Told<'a>
-    ensures { meant result ≡ capped_told (told_by (record { key = first.now ∷ second.now ∷ third.now ∷ []; value = value.now })) }
+    ensures { meant result
+        ≡ capped_told (told_by (record { key = first.now ∷ second.now ∷ third.now ∷ []; value = value.now })) }
 {
     if !(first.eq_ignore_ascii_case(b"ALTERNATIVE") && second.eq_ignore_ascii_case(b"NAME")) {
         return Told::Nothing;
     }
-    match number_of(third) {
+    match written_number(third) {
         Some(number) => Told::Name(number, value),
         None => Told::Nothing,
     }
@@ -148,24 +149,5 @@ pub(crate) fn told_of(line: &[u8]) -> Told<'_>
     match cut_at_colon(text) {
         Some(entry) => told_by(entry.key, trim(entry.value)),
         None => Told::Nothing,
-    }
-}
-
-/// The type of this name, in letters of any case.
-pub fn kind_of(text: &[u8]) -> Option<Kind>
-    ensures { result ≡ kind_of text.now }
-{
-    if text.eq_ignore_ascii_case(b"cat") {
-        Some(Kind::Cat)
-    } else if text.eq_ignore_ascii_case(b"soc") {
-        Some(Kind::Soc)
-    } else if text.eq_ignore_ascii_case(b"soi") {
-        Some(Kind::Soi)
-    } else if text.eq_ignore_ascii_case(b"toc") {
-        Some(Kind::Toc)
-    } else if text.eq_ignore_ascii_case(b"toi") {
-        Some(Kind::Toi)
-    } else {
-        None
     }
 }

@@ -1,25 +1,23 @@
 //! What the lines so far have told, and what the next line does.
 ghost use Rattle.std.specs.Prelude.{◌≡◌, ◌^◌, ◌≤◌, true, false, Some, None, MatchResult, IfOk, if◌then◌else◌};
-ghost use Rattle.preflib_text.specs.Metadata.{NameIs, number_of};
-ghost use Rattle.preflib_text.specs.Tells.{meant};
+ghost use Rattle.ballot_base.specs.Limits.{most_candidates, most_voters};
+ghost use Rattle.preflib_text.specs.Limits.{most_categories};
+ghost use Rattle.preflib_text.specs.Metadata.{AlternativesAre, CategoriesAre, NameIs, written_number};
+ghost use Rattle.preflib_text.specs.Steps.Tells.{meant};
 ghost use Rattle.preflib_text.specs.Reading.{number_fault, is_fitting};
-ghost use Rattle.preflib_text.specs.Notes.{fresh_notes, kind_with, told_error, told_notes, told_effect, ballot_error, cast_effect, line_error, line_notes, line_effect, effect_of, Casts, IsProper, IsSound};
-ghost use Rattle.preflib_text.specs.Approvals.{way_for};
-ghost use Rattle.preflib_text.specs.BallotTokens.{ballot_of};
-ghost use Rattle.preflib_text.specs.BallotMarks.{HasNumber};
+ghost use Rattle.preflib_text.specs.Steps.Notes.{fresh_notes, kind_with, told_error, told_notes, told_effect};
+ghost use Rattle.preflib_text.specs.Steps.Notes.{ballot_error, cast_effect, line_error, line_notes, line_effect};
+ghost use Rattle.preflib_text.specs.Steps.Notes.{effect_of, Casts, IsProper, IsSound};
+ghost use Rattle.preflib_text.specs.Approvals.{HasNumber};
+ghost use Rattle.preflib_text.specs.Steps.Tokens.{ballot_of};
 
 use crate::ballot::{Ballot, read_ballot};
 use crate::fault::FaultName;
+use crate::limits::{MOST_CATEGORIES, MOST_LINE_BYTES};
 use crate::lines::{Sort, sort_of};
-use crate::metadata::{Told, kind_of, number_of, told_of};
+use crate::metadata::{Told, told_of, written_number};
 use crate::pick::{Kind, Pick, Way};
-use ballot_base::CandSet;
-
-/// The most bytes of a line, without its end.
-const LONGEST_LINE: usize = 1_048_576;
-
-/// The most categories: 2^32.
-const MOST_CATEGORIES: u64 = 4_294_967_296;
+use ballot_base::MOST_CANDIDATES;
 
 /// What the lines so far have told.
 #[derive(Clone, Copy)]
@@ -33,7 +31,7 @@ pub(crate) struct Notes {
 
 /// What a line does to the profile.
 #[derive(Clone, Copy)]
-pub(crate) enum Step<'a> {
+pub(crate) enum Effect<'a> {
     Nothing,
     /// Gives this candidate a name.
     Name(u8, &'a [u8]),
@@ -55,10 +53,13 @@ fn number_told(
     too_large: FaultName,
     text: &[u8],
 ) -> Result<u64, FaultName>
-    requires { most ≤ 2 ^ 32 }
-    ensures { MatchResult result (λ n. (number_of text.now ≡ Some n) × (number_fault (Some too_large) most noted (number_of text.now) ≡ None)) (λ name. number_fault (Some too_large) most noted (number_of text.now) ≡ Some name) }
+    requires { most ≤ most_voters }
+    ensures { MatchResult result
+        (λ n. (written_number text.now ≡ Some n)
+        × (number_fault (Some too_large) most noted (written_number text.now) ≡ None))
+        (λ name. number_fault (Some too_large) most noted (written_number text.now) ≡ Some name) }
 {
-    let Some(number) = number_of(text) else {
+    let Some(number) = written_number(text) else {
         return Err(FaultName::BadNumber);
     };
     if number == 0 {
@@ -85,17 +86,6 @@ fn is_fitting(kind: Kind, categories: Option<u64>, way: Way) -> bool
     }
 }
 
-/// The way that is meant by the usual one.
-fn way_for(kind: Kind, way: Way) -> Way
-    ensures { result ≡ way_for kind way }
-{
-    match (kind, way) {
-        (Kind::Cat, Way::Usual) => Way::Category(1),
-        (_, Way::Usual) => Way::SetSize(1),
-        _ => way,
-    }
-}
-
 impl Notes {
     /// What is known before the first line.
     pub(crate) fn new(pick: &Pick) -> Notes
@@ -114,53 +104,67 @@ impl Notes {
         ensures { self.new ≡ record self.old { kind = kind_with pick.now.kind self.old.kind text.now } }
     {
         if pick.kind.is_none() {
-            self.kind = kind_of(text).ok_or(FaultName::BadKind);
+            self.kind = Kind::named(text).ok_or(FaultName::BadKind);
         }
     }
 
     /// Notes the number of alternatives.
-    fn take_alternatives<'a>(&mut self, text: &[u8]) -> Result<Step<'a>, FaultName>
-        ensures { MatchResult result (λ step. (number_fault (Some FaultName.TooManyCandidates) 40 self.old.alternatives (number_of text.now) ≡ None) × (self.new ≡ record self.old { alternatives = number_of text.now }) × (step ≡ Step.Nothing)) (λ name. number_fault (Some FaultName.TooManyCandidates) 40 self.old.alternatives (number_of text.now) ≡ Some name) }
+    fn take_alternatives<'a>(&mut self, text: &[u8]) -> Result<Effect<'a>, FaultName>
+        ensures { MatchResult result
+            (λ effect. (told_error self.old (AlternativesAre text.now) ≡ None)
+            × (self.new ≡ record self.old { alternatives = written_number text.now }) × (effect ≡ Effect.Nothing))
+            (λ name. told_error self.old (AlternativesAre text.now) ≡ Some name) }
     {
-        let most = u64::from(CandSet::MOST);
+        let most = u64::from(MOST_CANDIDATES);
         let number = number_told(self.alternatives, most, FaultName::TooManyCandidates, text)?;
         self.alternatives = Some(number);
-        Ok(Step::Nothing)
+        Ok(Effect::Nothing)
     }
 
     /// Notes the number of categories.
-    fn take_categories<'a>(&mut self, text: &[u8]) -> Result<Step<'a>, FaultName>
-        ensures { MatchResult result (λ step. (number_fault (Some FaultName.BadNumber) (2 ^ 32) self.old.categories (number_of text.now) ≡ None) × (self.new ≡ record self.old { categories = number_of text.now }) × (step ≡ Step.Nothing)) (λ name. number_fault (Some FaultName.BadNumber) (2 ^ 32) self.old.categories (number_of text.now) ≡ Some name) }
+    fn take_categories<'a>(&mut self, text: &[u8]) -> Result<Effect<'a>, FaultName>
+        ensures { MatchResult result
+            (λ effect. (told_error self.old (CategoriesAre text.now) ≡ None)
+            × (self.new ≡ record self.old { categories = written_number text.now }) × (effect ≡ Effect.Nothing))
+            (λ name. told_error self.old (CategoriesAre text.now) ≡ Some name) }
     {
         let number = number_told(self.categories, MOST_CATEGORIES, FaultName::BadNumber, text)?;
         self.categories = Some(number);
-        Ok(Step::Nothing)
+        Ok(Effect::Nothing)
     }
 
     /// Notes what a metadata line tells.
-    fn take_told<'a>(&mut self, pick: &Pick, told: Told<'a>) -> Result<Step<'a>, FaultName>
+    fn take_told<'a>(&mut self, pick: &Pick, told: Told<'a>) -> Result<Effect<'a>, FaultName>
         requires { self.old.has_ballot ≡ false }
-        ensures told { MatchResult result (λ step. (told_error self.old (meant told.entry) ≡ None) × (self.new ≡ told_notes pick.now self.old (meant told.entry)) × (effect_of step ≡ told_effect (meant told.entry))) (λ name. told_error self.old (meant told.entry) ≡ Some name) }
-        ensures proper { IfOk result (λ step. IsProper self.old (effect_of step)) }
+        ensures told { MatchResult result
+            (λ effect. (told_error self.old (meant told.entry) ≡ None)
+            × (self.new ≡ told_notes pick.now self.old (meant told.entry))
+            × (effect_of effect ≡ told_effect (meant told.entry)))
+            (λ name. told_error self.old (meant told.entry) ≡ Some name) }
+        ensures proper { IfOk result (λ effect. IsProper self.old (effect_of effect)) }
     {
         match told {
             Told::Type(text) => {
                 self.take_type(pick, text);
-                Ok(Step::Nothing)
+                Ok(Effect::Nothing)
             }
             Told::Alternatives(text) => self.take_alternatives(text),
             Told::Categories(text) => self.take_categories(text),
-            Told::Name(number, name) => Ok(name_step(number, name)),
-            Told::Nothing => Ok(Step::Nothing),
+            Told::Name(number, name) => Ok(name_effect(number, name)),
+            Told::Nothing => Ok(Effect::Nothing),
         }
     }
 
     /// Reads the line of a ballot.
-    fn take_ballot<'a>(&mut self, pick: &Pick, line: &[u8]) -> Result<Step<'a>, FaultName>
+    fn take_ballot<'a>(&mut self, pick: &Pick, line: &[u8]) -> Result<Effect<'a>, FaultName>
         requires notes { IsSound self.old }
         requires way { HasNumber pick.now.way }
-        ensures ballot { MatchResult result (λ step. (ballot_error pick.now self.old (ballot_of line.now) ≡ None) × (self.new ≡ record self.old { has_ballot = true }) × (effect_of step ≡ cast_effect pick.now self.old (ballot_of line.now))) (λ name. ballot_error pick.now self.old (ballot_of line.now) ≡ Some name) }
-        ensures proper { IfOk result (λ step. IsProper self.old (effect_of step)) }
+        ensures ballot { MatchResult result
+            (λ effect. (ballot_error pick.now self.old (ballot_of line.now) ≡ None)
+            × (self.new ≡ record self.old { has_ballot = true })
+            × (effect_of effect ≡ cast_effect pick.now self.old (ballot_of line.now)))
+            (λ name. ballot_error pick.now self.old (ballot_of line.now) ≡ Some name) }
+        ensures proper { IfOk result (λ effect. IsProper self.old (effect_of effect)) }
     {
         let Some(m) = self.alternatives else {
             return Err(FaultName::NoAlternatives);
@@ -170,21 +174,21 @@ impl Notes {
             return Err(FaultName::PickMisfit);
         }
         let m = m as u8;
-        let way = way_for(kind, pick.way);
-        match read_ballot(line, kind, m, self.categories, way) {
+        match read_ballot(line, kind, m, self.categories, pick.way) {
             Ok(ballot) => Ok(self.take_vote(m, ballot)),
             Err(name) => Err(name),
         }
     }
 
     /// Notes that a ballot came.
-    fn take_vote<'a>(&mut self, m: u8, ballot: Ballot) -> Step<'a>
+    fn take_vote<'a>(&mut self, m: u8, ballot: Ballot) -> Effect<'a>
         ensures notes { self.new ≡ record self.old { has_ballot = true } }
-        ensures step { effect_of result ≡ Casts (if self.old.has_ballot then None else Some m) ballot.approved ballot.count }
+        ensures effect { effect_of result
+            ≡ Casts (if self.old.has_ballot then None else Some m) ballot.approved ballot.count }
     {
         let first = (!self.has_ballot).then_some(m);
         self.has_ballot = true;
-        Step::Ballot(Vote { first, ballot })
+        Effect::Ballot(Vote { first, ballot })
     }
 
     /// Reads a line, and tells what it does to the profile.
@@ -192,30 +196,34 @@ impl Notes {
         &mut self,
         pick: &Pick,
         line: &'a [u8],
-    ) -> Result<Step<'a>, FaultName>
+    ) -> Result<Effect<'a>, FaultName>
         requires notes { IsSound self.old }
         requires way { HasNumber pick.now.way }
-        ensures line { MatchResult result (λ step. (line_error pick.now self.old line.now ≡ None) × (self.new ≡ line_notes pick.now self.old line.now) × (effect_of step ≡ line_effect pick.now self.old line.now)) (λ name. line_error pick.now self.old line.now ≡ Some name) }
-        ensures proper { IfOk result (λ step. IsProper self.old (effect_of step)) }
+        ensures line { MatchResult result
+            (λ effect. (line_error pick.now self.old line.now ≡ None)
+            × (self.new ≡ line_notes pick.now self.old line.now)
+            × (effect_of effect ≡ line_effect pick.now self.old line.now))
+            (λ name. line_error pick.now self.old line.now ≡ Some name) }
+        ensures proper { IfOk result (λ effect. IsProper self.old (effect_of effect)) }
     {
-        if line.len() > LONGEST_LINE {
+        if line.len() > MOST_LINE_BYTES {
             return Err(FaultName::LongLine);
         }
         match sort_of(line) {
             Sort::Ballot => self.take_ballot(pick, line),
             Sort::Metadata if !self.has_ballot => self.take_told(pick, told_of(line)),
-            Sort::Metadata | Sort::Blank => Ok(Step::Nothing),
+            Sort::Metadata | Sort::Blank => Ok(Effect::Nothing),
         }
     }
 }
 
 /// What the name of a candidate does. The name of one whom no profile has does nothing.
-fn name_step(number: u64, name: &[u8]) -> Step<'_>
+fn name_effect(number: u64, name: &[u8]) -> Effect<'_>
     ensures { effect_of result ≡ told_effect (NameIs number name.now) }
 {
-    if (1..=u64::from(CandSet::MOST)).contains(&number) {
-        Step::Name(number as u8, name)
+    if (1..=u64::from(MOST_CANDIDATES)).contains(&number) {
+        Effect::Name(number as u8, name)
     } else {
-        Step::Nothing
+        Effect::Nothing
     }
 }

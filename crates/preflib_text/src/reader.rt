@@ -1,18 +1,22 @@
 //! Reading a whole ballot file.
-ghost use Rattle.std.specs.Prelude.{◌≡◌, ◌⊎◌, ℕ, ◌^◌, ◌<◌, ◌≤◌, ◌+◌, true, false, List, [], ◌∷◌, map, Some, None, unwrap_or, Result, Ok, Err, nat_lt, MatchResult, IfOk, IfErr, OnOk};
+ghost use Rattle.std.specs.Prelude.{◌≡◌, ◌⊎◌, ℕ, ◌^◌, ◌<◌, ◌≤◌, ◌+◌, true, false, List, [], ◌∷◌, not, map, Some};
+ghost use Rattle.std.specs.Prelude.{None, unwrap_or, Result, Ok, Err, nat_lt, MatchResult, IfOk, IfErr, OnOk};
+ghost use Rattle.ballot_base.specs.Limits.{most_candidates, most_voters};
 ghost use Rattle.ballot_base.specs.Lists.{IsIncreasing};
-ghost use Rattle.ballot_base.specs.Ballots.{Election, with_votes, voter_count};
+ghost use Rattle.ballot_base.specs.Ballots.{Election, has_ballot, with_votes, voter_count};
 ghost use Rattle.preflib_text.specs.Lines.{pieces_of, without_return};
-ghost use Rattle.preflib_text.specs.BallotMarks.{HasNumber};
+ghost use Rattle.preflib_text.specs.Approvals.{HasNumber};
 ghost use Rattle.preflib_text.specs.Reading.{Reads, RunsShort, fault_if, or_else, at_end, at_line};
-ghost use Rattle.preflib_text.specs.Notes.{Casts, IsSound, MayCome, Names, Refuses, fresh_notes, line_effect, line_error, line_notes, effect_error, effect_of, end_error, with_effect};
+ghost use Rattle.preflib_text.specs.Steps.Notes.{Casts, IsSound, MayCome, Names, DoneOrRefused, Refuses};
+ghost use Rattle.preflib_text.specs.Steps.Notes.{effect_takes, fresh_notes, line_effect, line_error, line_notes};
+ghost use Rattle.preflib_text.specs.Steps.Notes.{effect_error, effect_of, end_error, with_effect};
 
 use crate::ballot::Ballot;
 use crate::fault::{FaultName, ReadFault};
 use crate::lines::{first_line, without_mark};
-use crate::notes::{Notes, Step, Vote};
+use crate::notes::{Effect, Notes, Vote};
 use crate::pick::Pick;
-use ballot_base::{AddFault, CandSet, Profile, ProfileBuilder};
+use ballot_base::{AddFault, MOST_CANDIDATES, Profile, ProfileBuilder};
 use std::alloc::Allocator;
 
 /// Adds a ballot.
@@ -22,7 +26,7 @@ fn add_ballot<A: Allocator + Copy + Drop>(
 ) -> Result<(), FaultName>
     requires set { IsIncreasing 1 builder.old.m ballot.approved }
     requires count { 1 ≤ ballot.count }
-    ensures { MatchResult result (λ _. (fault_if (nat_lt (2 ^ 32) (voter_count builder.old.rows + ballot.count)) FaultName.TooManyVoters ≡ None) × (builder.new ≡ record builder.old { rows = with_votes builder.old.rows ballot.approved ballot.count })) (λ name. Refuses (fault_if (nat_lt (2 ^ 32) (voter_count builder.old.rows + ballot.count)) FaultName.TooManyVoters) name) }
+    ensures { DoneOrRefused result builder.old builder.new (Casts None ballot.approved ballot.count) }
 {
     match builder.add(ballot.approved, ballot.count) {
         Ok(()) => Ok(()),
@@ -37,7 +41,8 @@ fn add_vote<A: Allocator + Copy + Drop>(
     vote: Vote,
 ) -> Result<(), FaultName>
     requires { MayCome builder.old (Casts vote.first vote.ballot.approved vote.ballot.count) }
-    ensures { MatchResult result (λ _. (effect_error builder.old (Casts vote.first vote.ballot.approved vote.ballot.count) ≡ None) × (builder.new ≡ with_effect builder.old (Casts vote.first vote.ballot.approved vote.ballot.count))) (λ name. Refuses (effect_error builder.old (Casts vote.first vote.ballot.approved vote.ballot.count)) name) }
+    ensures { DoneOrRefused result builder.old builder.new
+        (Casts vote.first vote.ballot.approved vote.ballot.count) }
 {
     match vote.first {
         Some(m) => {
@@ -55,7 +60,7 @@ fn set_name<A: Allocator + Copy + Drop>(
     name: &[u8],
 ) -> Result<(), FaultName>
     requires { MayCome builder.old (Names number name.now) }
-    ensures { MatchResult result (λ _. builder.new ≡ with_effect builder.old (Names number name.now)) (λ name. name ≡ FaultName.Memory) }
+    ensures { DoneOrRefused result builder.old builder.new (Names number name.now) }
 {
     match builder.set_name(number, name) {
         Ok(()) => Ok(()),
@@ -66,15 +71,15 @@ fn set_name<A: Allocator + Copy + Drop>(
 /// Does to the profile what a line does.
 fn apply<A: Allocator + Copy + Drop>(
     builder: &mut ProfileBuilder<A>,
-    step: &Step<'_>,
+    effect: &Effect<'_>,
 ) -> Result<(), FaultName>
-    requires { MayCome builder.old (effect_of step.now) }
-    ensures { MatchResult result (λ _. (effect_error builder.old (effect_of step.now) ≡ None) × (builder.new ≡ with_effect builder.old (effect_of step.now))) (λ name. Refuses (effect_error builder.old (effect_of step.now)) name) }
+    requires { MayCome builder.old (effect_of effect.now) }
+    ensures { DoneOrRefused result builder.old builder.new (effect_of effect.now) }
 {
-    match step {
-        Step::Nothing => Ok(()),
-        Step::Name(number, name) => set_name(builder, *number, name),
-        Step::Ballot(vote) => add_vote(builder, *vote),
+    match effect {
+        Effect::Nothing => Ok(()),
+        Effect::Name(number, name) => set_name(builder, *number, name),
+        Effect::Ballot(vote) => add_vote(builder, *vote),
     }
 }
 
@@ -83,7 +88,9 @@ fn finish<A: Allocator + Copy + Drop>(
     builder: ProfileBuilder<A>,
     notes: &Notes,
 ) -> Result<Profile<A>, ReadFault>
-    ensures { MatchResult result (λ profile. (end_error notes.now builder ≡ None) × (profile ≡ builder)) (λ fault. (end_error notes.now builder ≡ Some fault.name) × (fault.line ≡ None)) }
+    ensures { MatchResult result
+        (λ profile. (end_error notes.now builder ≡ None) × (profile ≡ builder))
+        (λ fault. (end_error notes.now builder ≡ Some fault.name) × (fault.line ≡ None)) }
 {
     if notes.alternatives.is_none() {
         return Err(ReadFault {
@@ -109,13 +116,21 @@ fn take_line<A: Allocator + Copy + Drop>(
 ) -> Result<(), FaultName>
     requires way { HasNumber pick.now.way }
     requires notes { IsSound notes.old }
-    requires opened { notes.old.has_ballot ≡ false → (builder.old.m ≡ 40) × (builder.old.rows ≡ []) }
+    requires opened { notes.old.has_ballot ≡ false
+        → (builder.old.m ≡ most_candidates) × (builder.old.rows ≡ []) }
     requires begun { notes.old.has_ballot ≡ true → notes.old.alternatives ≡ Some builder.old.m }
-    ensures ok { OnOk result ((line_error pick.now notes.old line.now ≡ None) × (effect_error builder.old (line_effect pick.now notes.old line.now) ≡ None) × (notes.new ≡ line_notes pick.now notes.old line.now) × (builder.new ≡ with_effect builder.old (line_effect pick.now notes.old line.now))) }
-    ensures err { IfErr result (λ name. Refuses (or_else (line_error pick.now notes.old line.now) (effect_error builder.old (line_effect pick.now notes.old line.now))) name) }
+    ensures ok { OnOk result
+        ((line_error pick.now notes.old line.now ≡ None)
+        × (effect_error builder.old (line_effect pick.now notes.old line.now) ≡ None)
+        × (notes.new ≡ line_notes pick.now notes.old line.now)
+        × (builder.new ≡ with_effect builder.old (line_effect pick.now notes.old line.now))) }
+    ensures err { IfErr result (λ name. Refuses
+        (or_else (line_error pick.now notes.old line.now)
+        (effect_error builder.old (line_effect pick.now notes.old line.now)))
+        (effect_takes builder.old (line_effect pick.now notes.old line.now)) name) }
 {
     match notes.take_line(pick, line) {
-        Ok(step) => apply(builder, &step),
+        Ok(effect) => apply(builder, &effect),
         Err(name) => Err(name),
     }
 }
@@ -135,7 +150,8 @@ fn fault_of_line(number: u64, name: FaultName) -> ReadFault
 fn fault_without_memory(pick: &Pick, text: &[u8]) -> ReadFault
     requires { HasNumber pick.now.way }
     ensures none { text.now ≡ [] → result ≡ at_end FaultName.NoAlternatives }
-    ensures some { (line : List ℕ) (lines : List (List ℕ)) → map without_return (pieces_of text.now) ≡ line ∷ lines → result ≡ at_line 1 (unwrap_or (line_error pick.now (fresh_notes pick.now) line) FaultName.Memory) }
+    ensures some { (line : List ℕ) (lines : List (List ℕ)) → map without_return (pieces_of text.now) ≡ line ∷ lines
+        → result ≡ at_line 1 (unwrap_or (line_error pick.now (fresh_notes pick.now) line) FaultName.Memory) }
 {
     if text.is_empty() {
         return ReadFault {
@@ -153,7 +169,8 @@ fn fault_without_memory(pick: &Pick, text: &[u8]) -> ReadFault
 /// Reads a ballot file: the whole profile of its ballots, or its first fault.
 ///
 /// Numbers in the file may have any count of digits. A candidate without a name has none in the profile. Memory is
-/// answered with the number of the line where it ran out, and no line up to it has a fault then.
+/// answered with the number of the line where it ran out, and no line up to it has a fault then. It is taken with the
+/// first line, for the names of candidates, and for ballots that no earlier line has.
 /// Format: PrefLib, <https://preflib.github.io/PrefLib-Jekyll/format>.
 pub fn read_profile<A: Allocator + Copy + Drop>(
     alloc: A,
@@ -165,7 +182,7 @@ pub fn read_profile<A: Allocator + Copy + Drop>(
     ensures err { IfErr result (λ fault. Reads bytes.now pick.now (Err fault) ⊎ RunsShort bytes.now pick.now fault) }
 {
     let mut rest = without_mark(bytes);
-    let Ok(mut builder) = ProfileBuilder::new(alloc, CandSet::MOST) else {
+    let Ok(mut builder) = ProfileBuilder::new(alloc, MOST_CANDIDATES) else {
         return Err(fault_without_memory(pick, rest));
     };
     let mut notes = Notes::new(pick);
@@ -181,7 +198,13 @@ pub fn read_profile<A: Allocator + Copy + Drop>(
     finish(builder, &notes)
 }
 
-/// An input has one outcome under one pick: a profile, or a fault.
+/// An input has an outcome under a pick: a profile, or a fault.
+pub fn some_outcome()
+    ensures { (bytes : List ℕ) (pick : Pick) → (outcome : Result Election ReadFault) × Reads bytes pick outcome }
+{}
+
+/// An input has one outcome under one pick.
 pub fn one_outcome()
-    ensures { (bytes : List ℕ) (pick : Pick) (a b : Result Election ReadFault) → Reads bytes pick a → Reads bytes pick b → a ≡ b }
+    ensures { (bytes : List ℕ) (pick : Pick) (a b : Result Election ReadFault) → Reads bytes pick a → Reads bytes pick b
+        → a ≡ b }
 {}

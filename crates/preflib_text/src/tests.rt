@@ -37,14 +37,9 @@ fn of_kind(kind: Kind) -> Pick
 /// Asserts that the profile has these ballots.
 fn assert_rows(rt: &impl Abort, profile: &Profile, rows: &[Row<'_>]) {
     assert_eq!(rt; profile.rows(), rows.len());
-    for i in 0..profile.rows() {
-        let (ballot, voters) = profile.row(i);
-        assert!(rt;
-            rows.get(i)
-                .is_some_and(|row| CandSet::of_list(row.0) == Some(ballot)),
-            "row {i}"
-        );
-        assert!(rt; rows.get(i).is_some_and(|row| row.1 == voters), "row {i}");
+    for ((ballot, voters), (wanted, count)) in profile.ballots().zip(rows) {
+        assert!(rt; CandSet::of_list(wanted) == Some(ballot), "at {wanted:?}");
+        assert_eq!(rt; voters, *count, "at {wanted:?}");
     }
 }
 

@@ -37,7 +37,7 @@ fn numbers_of_the_metadata_that_are_too_large(rt: HostRuntime) {
             1,
         ),
         (
-            b"# NUMBER ALTERNATIVES: 41\n",
+            b"# NUMBER ALTERNATIVES: 65\n",
             FaultName::TooManyCandidates,
             1,
         ),
@@ -265,7 +265,7 @@ fn ways_that_do_not_fit(rt: HostRuntime) {
     }
 }
 
-/// A text, so many blanks, and a text behind them.
+/// A text, so many blanks, and a text after them.
 fn with_blanks(
     alloc: Global,
     before: &[u8],

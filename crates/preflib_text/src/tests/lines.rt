@@ -14,7 +14,7 @@ fn ends_of_lines(rt: HostRuntime) -> Result<(), Fail> {
         b"\n\n \t \n# NUMBER ALTERNATIVES: 3\n\t\n# DATA TYPE: toi\n\r\n2: {1,3}\n \n\n\t\r",
         b" \t# NUMBER ALTERNATIVES: 3\n\t #DATA TYPE: toi\n \t2\t: \t{ 1\t,3 } \t\n",
         b"# a\n#\n# b c\n# NUMBER ALTERNATIVES: 3\n# DATA TYPE: toi\n## d: 1\n#: e\n2: {1,3}\n# f\n",
-        b"# NUMBER ALTERNATIVES: 3\n# DATA TYPE: toi\n2: {1,3}\n# NUMBER ALTERNATIVES: 41\n",
+        b"# NUMBER ALTERNATIVES: 3\n# DATA TYPE: toi\n2: {1,3}\n# NUMBER ALTERNATIVES: 65\n",
         b"# NUMBER ALTERNATIVES: 3\n# DATA TYPE: toi\n2: {1,3}\n# DATA TYPE: cat\n# NUMBER CATEGORIES: x\n",
         b"# NUMBER ALTERNATIVES: 03\n# NUMBER ALTERNATIVES: 3\n# DATA TYPE: toi\n0002: {01,0003}\n",
     ];

@@ -54,7 +54,7 @@ fn names(rt: HostRuntime) -> Result<(), Fail> {
 fn names_that_are_not_used(rt: HostRuntime) -> Result<(), Fail> {
     let cases: [(&[u8], [&[u8]; 3]); 6] = [
         (
-            b"# ALTERNATIVE NAME 4: D\n# NUMBER ALTERNATIVES: 3\n# ALTERNATIVE NAME 40: X\n# ALTERNATIVE NAME 41: Y\n1: 1\n",
+            b"# ALTERNATIVE NAME 4: D\n# NUMBER ALTERNATIVES: 3\n# ALTERNATIVE NAME 64: X\n# ALTERNATIVE NAME 65: Y\n1: 1\n",
             [b"", b"", b""],
         ),
         (
@@ -83,11 +83,11 @@ fn names_that_are_not_used(rt: HostRuntime) -> Result<(), Fail> {
 
 #[test]
 fn the_name_of_the_last_candidate(rt: HostRuntime) -> Result<(), Fail> {
-    let file = b"# ALTERNATIVE NAME 40: Z\n# NUMBER ALTERNATIVES: 40\n1: 40\n";
+    let file = b"# ALTERNATIVE NAME 64: Z\n# NUMBER ALTERNATIVES: 64\n1: 64\n";
     let profile = read_profile(rt.alloc(), file, &of_kind(Kind::Soi))?;
-    assert_eq!(rt; profile.m(), 40);
-    assert!(rt; profile.name(40).unwrap_or(b"") == b"Z".as_slice());
-    assert_rows(&rt, &profile, &[(&[40], 1)]);
+    assert_eq!(rt; profile.m(), 64);
+    assert!(rt; profile.name(64).unwrap_or(b"") == b"Z".as_slice());
+    assert_rows(&rt, &profile, &[(&[64], 1)]);
     Ok(())
 }
 

@@ -16,7 +16,7 @@ fn assert_names(rt: &impl Abort, alloc: Global, pick: &Pick, cases: &[(&[u8], Fa
 #[test]
 fn numbers_of_the_metadata(rt: HostRuntime) {
     let cases: [(&[u8], FaultName); 7] = [
-        (b"# NUMBER ALTERNATIVES: 41x\n", FaultName::BadNumber),
+        (b"# NUMBER ALTERNATIVES: 65x\n", FaultName::BadNumber),
         (
             b"# NUMBER ALTERNATIVES: 3\n# NUMBER ALTERNATIVES: 0\n",
             FaultName::BadNumber,
@@ -26,7 +26,7 @@ fn numbers_of_the_metadata(rt: HostRuntime) {
             FaultName::BadNumber,
         ),
         (
-            b"# NUMBER ALTERNATIVES: 3\n# NUMBER ALTERNATIVES: 41\n",
+            b"# NUMBER ALTERNATIVES: 3\n# NUMBER ALTERNATIVES: 65\n",
             FaultName::TooManyCandidates,
         ),
         (
@@ -183,11 +183,11 @@ fn ballots_of_categories(rt: HostRuntime) {
 fn an_earlier_line_decides(rt: HostRuntime) {
     let cases: [(&[u8], FaultName); 8] = [
         (
-            b"# NUMBER CATEGORIES: 0\n# NUMBER ALTERNATIVES: 41\n",
+            b"# NUMBER CATEGORIES: 0\n# NUMBER ALTERNATIVES: 65\n",
             FaultName::BadNumber,
         ),
         (
-            b"# NUMBER ALTERNATIVES: 41\n# NUMBER CATEGORIES: 0\n",
+            b"# NUMBER ALTERNATIVES: 65\n# NUMBER CATEGORIES: 0\n",
             FaultName::TooManyCandidates,
         ),
         (

@@ -1,5 +1,5 @@
 //! The rows of a profile: each way on each type.
-ghost use Rattle.preflib_text.specs.BallotMarks.{HasNumber};
+ghost use Rattle.preflib_text.specs.Approvals.{HasNumber};
 
 use super::*;
 use std::test::Fail;
@@ -13,6 +13,14 @@ const TIES: &[u8] = b"# NUMBER ALTERNATIVES: 4\n2: {},{1,2},{3,4}\n1: 2,{1,3,4}\
 /// Three ballots of categories.
 const CATEGORIES: &[u8] =
     b"# NUMBER ALTERNATIVES: 4\n# NUMBER CATEGORIES: 3\n2: {1,2},3,4\n1: 3\n3: {2,1},{},{3,4}\n";
+
+/// A complete ranking of the most candidates, the last one first.
+const LONG_RANKING: &[u8] =
+    b"# NUMBER ALTERNATIVES: 64\n3: 64,63,62,61,60,59,58,57,56,55,54,53,52,51,50,49,48,47,46,45,44,43,42,41,40,39,38,37,36,35,34,33,32,31,30,29,28,27,26,25,24,23,22,21,20,19,18,17,16,15,14,13,12,11,10,9,8,7,6,5,4,3,2,1\n";
+
+/// A complete ranking of the most candidates with ties, and the last one among the first.
+const LONG_TIES: &[u8] =
+    b"# NUMBER ALTERNATIVES: 64\n3: {64,1},{2,3,4,5,6,7,8,9,10,11,12,13,14,15,16,17,18,19,20,21,22,23,24,25,26,27,28,29,30,31,32,33,34,35,36,37,38,39,40,41,42,43,44,45,46,47,48,49,50,51,52,53,54,55,56,57,58,59,60,61,62,63}\n";
 
 /// Asserts that a file has these ballots, read as one of this type in this way.
 fn assert_read(
@@ -170,4 +178,49 @@ fn a_type_that_is_none(rt: HostRuntime) -> Result<(), Fail> {
     let profile = read_profile(rt.alloc(), file, &given)?;
     assert_rows(&rt, &profile, &[(&[1], 1)]);
     Ok(())
+}
+
+#[test]
+fn the_most_candidates(rt: HostRuntime) -> Result<(), Fail> {
+    let cases: [(Kind, &[u8], &[u8]); 8] = [
+        (Kind::Soc, LONG_RANKING, &[64]),
+        (Kind::Soi, LONG_RANKING, &[64]),
+        (Kind::Soi, b"# NUMBER ALTERNATIVES: 64\n3: 64,1\n", &[64]),
+        (Kind::Toc, LONG_TIES, &[1, 64]),
+        (Kind::Toi, LONG_TIES, &[1, 64]),
+        (
+            Kind::Toi,
+            b"# NUMBER ALTERNATIVES: 64\n3: {64,1},2\n",
+            &[1, 64],
+        ),
+        (Kind::Cat, LONG_TIES, &[1, 64]),
+        (
+            Kind::Cat,
+            b"# NUMBER ALTERNATIVES: 64\n3: {},{64,1},2\n",
+            &[],
+        ),
+    ];
+    for (kind, file, approved) in cases {
+        assert_read(&rt, rt.alloc(), file, kind, Way::Usual, &[(approved, 3)])?;
+    }
+    Ok(())
+}
+
+#[test]
+fn more_than_the_most_candidates(rt: HostRuntime) {
+    let cases: [(&[u8], FaultName, u64); 2] = [
+        (
+            b"# NUMBER ALTERNATIVES: 65\n1: 1\n",
+            FaultName::TooManyCandidates,
+            1,
+        ),
+        (
+            b"# NUMBER ALTERNATIVES: 64\n1: 65\n",
+            FaultName::NoSuchCandidate,
+            2,
+        ),
+    ];
+    for kind in [Kind::Soc, Kind::Soi, Kind::Toc, Kind::Toi, Kind::Cat] {
+        assert_faults(&rt, rt.alloc(), &of_kind(kind), &cases);
+    }
 }

@@ -1,5 +1,5 @@
 use Rattle.std.proofs.Common.{◌≡◌, ℕ, ◌≤◌, length, Some}
-use Rattle.preflib_text.specs.BallotTokens.{tokens_after, capped}
+use Rattle.preflib_text.specs.Steps.Tokens.{tokens_after, capped}
 use Rattle.preflib_text.proofs.ballot.digits.Given as goal
 
 abbrev pub invariant-loop-rest : goal.invariant-loop-rest

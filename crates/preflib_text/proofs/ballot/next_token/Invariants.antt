@@ -1,5 +1,5 @@
 use Rattle.std.proofs.Common.{◌≡◌, ◌≤◌, length}
-use Rattle.preflib_text.specs.BallotTokens.{tokens_of}
+use Rattle.preflib_text.specs.Steps.Tokens.{tokens_of}
 use Rattle.preflib_text.proofs.ballot.next_token.Given as goal
 
 abbrev pub invariant-loop-rest : goal.invariant-loop-rest

@@ -1,6 +1,16 @@
-use Rattle.std.proofs.Common.{sym}
+use Rattle.std.proofs.Common.{◌≡◌, ℕ, List, sym, subst}
+use Rattle.preflib_text.specs.declared.pick.Kind.{Kind}
+use Rattle.preflib_text.specs.declared.pick.Way.{Way}
+use Rattle.preflib_text.specs.declared.approvals.Taking.{Taking}
+use Rattle.preflib_text.specs.declared.approvals.Marks.{Marks}
+use Rattle.preflib_text.specs.Steps.Marks.{taking_of}
+use Rattle.preflib_text.specs.Steps.Answers.{HasMarks}
 use Rattle.preflib_text.proofs.BallotLines.{none_read, fault_read, good_read, set_read}
 use Rattle.preflib_text.proofs.ballot.read_ballot.Goals as goal
+
+-- the marks of what the way takes
+given : (m : ℕ) (kind : Kind) (way : Way) (taking : Taking) (line : List ℕ) (count : ℕ) (marks : Marks) → taking ≡ taking_of kind way → HasMarks m taking line count marks → HasMarks m (taking_of kind way) line count marks
+given m kind way taking line count marks is has = subst (λ t. HasMarks m t line count marks) is has
 
 pub returns-in_default-clause-err : goal.returns-in_default-clause-err
 returns-in_default-clause-err c =
@@ -8,12 +18,12 @@ returns-in_default-clause-err c =
 
 pub returns-in-Some-fault-clause-err : goal.returns-in-Some-fault-clause-err
 returns-in-Some-fault-clause-err c =
-    fault_read c.args.kind c.args.m c.args.categories c.args.way c.args.line.now c.in-Some.read.count c.in-Some.read.marks c.in-Some-fault.fault c.in-Some.ensures (sym c.in-Some-fault.ensures)
+    fault_read c.args.kind c.args.m c.args.categories c.args.way c.args.line.now c.in-Some.read.count c.in-Some.read.marks c.in-Some-fault.fault (given c.args.m c.args.kind c.args.way c.new-taking.result c.args.line.now _ _ c.new-taking.ensures c.in-Some.ensures) (sym c.in-Some-fault.ensures)
 
 pub returns-in-None-clause-ok : goal.returns-in-None-clause-ok
 returns-in-None-clause-ok c =
-    good_read c.args.kind c.args.m c.args.categories c.args.way c.args.line.now c.in-Some.read.count c.in-Some.read.marks c.requires.way c.in-Some.ensures (sym c.in-None.ensures)
+    good_read c.args.kind c.args.m c.args.categories c.args.way c.args.line.now c.in-Some.read.count c.in-Some.read.marks c.requires.way (given c.args.m c.args.kind c.args.way c.new-taking.result c.args.line.now _ _ c.new-taking.ensures c.in-Some.ensures) (sym c.in-None.ensures)
 
 pub returns-in-None-clause-candidates : goal.returns-in-None-clause-candidates
 returns-in-None-clause-candidates c =
-    set_read c.args.kind c.args.m c.args.categories c.args.way c.args.line.now c.in-Some.read.count c.in-Some.read.marks c.in-Some.ensures
+    set_read c.args.kind c.args.m c.args.categories c.args.way c.args.line.now c.in-Some.read.count c.in-Some.read.marks (given c.args.m c.args.kind c.args.way c.new-taking.result c.args.line.now _ _ c.new-taking.ensures c.in-Some.ensures)

@@ -1,6 +1,6 @@
 use Rattle.std.proofs.Common.{sym, ap, ◌∙◌, arith, Some, None, cond, Bool, true, false, refl, ◌+◌, ◌≡◌}
 use Rattle.std.specs.Bool.{then_some}
-use Rattle.preflib_text.specs.BallotTokens.{tokens_of, order_at}
+use Rattle.preflib_text.specs.Steps.Tokens.{tokens_of, order_at}
 use Rattle.preflib_text.specs.declared.approvals.Marks.{Marks}
 use Rattle.preflib_text.proofs.BallotSteps.{marked, marks_more, marks_fail, marks_last, counts_read}
 use Rattle.preflib_text.proofs.ballot.read_order.Goals as goal
@@ -8,15 +8,15 @@ use Rattle.preflib_text.proofs.ballot.read_order.Goals as goal
 pub returns-in_err-place : goal.returns-in_err-place
 returns-in_err-place c =
     let loop = c.loop-token in
-    rw c.from_residual.ensures (sym (marks_fail c.args.m c.args.way loop.place c.in-Some.token loop.rest.now c.in-Some.after.now loop.marks c.in-Some.ensures (sym c.in_err-place.ensures.place)) ∙ loop.invariant.same)
+    rw c.from_residual.ensures (sym (marks_fail c.args.m c.args.taking loop.place c.in-Some.token loop.rest.now c.in-Some.after.now loop.marks c.in-Some.ensures (sym c.in_err-place.ensures.place)) ∙ loop.invariant.same)
 
 pub loop-token-preserved : goal.loop-token-preserved
 loop-token-preserved c =
     let loop = c.loop-token in
-    let more = counts_read c.args.m c.args.way loop.place c.in-Some.token loop.marks in
+    let more = counts_read c.args.m c.args.taking loop.place c.in-Some.token loop.marks in
     let is = c.after.ensures.marks in
     record {
-      same = ap (λ (marks : Marks). marked c.args.m c.args.way marks (order_at c.in_ok-place.place (tokens_of c.in-Some.after.now))) is ∙ marks_more c.args.m c.args.way loop.place c.in_ok-place.place c.in-Some.token loop.rest.now c.in-Some.after.now loop.marks (omega arith) c.in-Some.ensures (sym c.in_ok-place.ensures.place) ∙ loop.invariant.same;
+      same = ap (λ (marks : Marks). marked c.args.m c.args.taking marks (order_at c.in_ok-place.place (tokens_of c.in-Some.after.now))) is ∙ marks_more c.args.m c.args.taking loop.place c.in_ok-place.place c.in-Some.token loop.rest.now c.in-Some.after.now loop.marks (omega arith) c.in-Some.ensures (sym c.in_ok-place.ensures.place) ∙ loop.invariant.same;
       classes = omega (arith, more.classes, ap (λ (marks : Marks). marks.classes) is, c.in-Some.ensures.3, loop.invariant.classes);
       numbers = omega (arith, more.numbers, ap (λ (marks : Marks). marks.before + marks.numbers) is, c.in-Some.ensures.3, loop.invariant.numbers);
     }
@@ -28,4 +28,4 @@ then_some_is false x = refl
 pub returns : goal.returns
 returns c =
     let loop = c.loop-token in
-    c.then_some.ensures ∙ then_some_is c.is_end.result loop.marks ∙ ap (λ (b : Bool). cond b (Some loop.marks) None) c.is_end.ensures ∙ sym (marks_last c.args.m c.args.way loop.place loop.rest.now loop.marks c.in_default.ensures) ∙ loop.invariant.same
+    c.then_some.ensures ∙ then_some_is c.is_end.result loop.marks ∙ ap (λ (b : Bool). cond b (Some loop.marks) None) c.is_end.ensures ∙ sym (marks_last c.args.m c.args.taking loop.place loop.rest.now loop.marks c.in_default.ensures) ∙ loop.invariant.same

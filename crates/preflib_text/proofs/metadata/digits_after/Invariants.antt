@@ -1,6 +1,6 @@
 use Rattle.std.proofs.Common.{◌≡◌, length}
-use Rattle.preflib_text.specs.BallotTokens.{capped}
-use Rattle.preflib_text.specs.Tells.{digits_after}
+use Rattle.preflib_text.specs.Steps.Tokens.{capped}
+use Rattle.preflib_text.specs.Steps.Tells.{digits_after}
 use Rattle.preflib_text.proofs.metadata.digits_after.Given as goal
 
 abbrev pub invariant-loop-rest : goal.invariant-loop-rest

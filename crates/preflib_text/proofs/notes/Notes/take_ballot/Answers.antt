@@ -4,8 +4,8 @@ use Rattle.preflib_text.proofs.notes.Notes.take_ballot.Goals as goal
 
 pub returns-in-Ok-clause-ballot : goal.returns-in-Ok-clause-ballot
 returns-in-Ok-clause-ballot c =
-    let (fine, effect) = ballot-taken c.args.pick.now c.args.self.now c.in-Some.m c.in_ok-kind.kind _ c.args.line.now c.in-Ok.ballot.count c.in-Ok.ballot.approved c.in-Some.is c.in_ok-kind.was (search rules) c.way_for-way.ensures c.in-Ok.ensures.ok in
-    (fine, c.take_vote.ensures.notes, c.take_vote.ensures.step ∙ effect)
+    let (fine, effect) = ballot-taken c.args.pick.now c.args.self.now c.in-Some.m c.in_ok-kind.kind c.args.line.now c.in-Ok.ballot.count c.in-Ok.ballot.approved c.in-Some.is c.in_ok-kind.was (search rules) c.in-Ok.ensures.ok in
+    (fine, c.take_vote.ensures.notes, c.take_vote.ensures.effect ∙ effect)
 
 pub returns-in-Err-clause-ballot : goal.returns-in-Err-clause-ballot
 returns-in-Err-clause-ballot c =

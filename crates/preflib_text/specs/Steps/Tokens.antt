@@ -1,18 +1,23 @@
 -- The tokens of a ballot line, and its order read from the left.
-use Rattle.std.specs.Prelude.{◌≡◌, ◌<◌, length, ℕ, ◌+◌, ◌-◌, ◌*◌, ◌==◌, min, Bool, true, false, List, [], ◌∷◌, Option, Some, None, option_map, option_and_then, if◌then◌else◌}
+use Rattle.std.specs.Prelude.{◌≡◌, ◌<◌, length, ℕ, ◌+◌, ◌-◌, ◌*◌, ◌==◌, min, Bool, true, false, List, [], ◌∷◌}
+use Rattle.std.specs.Prelude.{Option, Some, None, option_map, option_and_then, if◌then◌else◌}
 use Rattle.std.specs.Char.{is_ascii_digit}
+use Rattle.ballot_base.specs.Limits.{most_voters}
 use Rattle.preflib_text.specs.Lines.{is_blank, onto_first}
 use Rattle.preflib_text.specs.Reading.{Cast}
 use Rattle.preflib_text.specs.declared.ballot.Token.{Token}
 use Rattle.preflib_text.specs.declared.ballot.Token.TheVariants.{Number, Colon, Comma, Open, Close, Other}
-use Rattle.preflib_text.specs.declared.ballot.Place.{Place}
-use Rattle.preflib_text.specs.declared.ballot.Place.TheVariants.{Order, Class, Between, Opened, Inner, Listed}
+use Rattle.preflib_text.specs.declared.ballot.OrderPlace.{OrderPlace}
+use Rattle.preflib_text.specs.declared.ballot.OrderPlace.TheVariants.{Order, Class, Between, Opened, Inner, Listed}
 
 -- the token of a byte that is neither a blank nor a digit
 abbrev pub token_of : ℕ → Token
-token_of b = if b == 58 then Colon else (if b == 44 then Comma else (if b == 123 then Open else (if b == 125 then Close else Other)))
+token_of b = if b == 58 then Colon
+    else (if b == 44 then Comma
+    else (if b == 123 then Open
+    else (if b == 125 then Close else Other)))
 
--- tokens behind a number that ends here, if there is one
+-- tokens after a number that ends here, if there is one
 abbrev pub behind_number : Option ℕ → List Token → List Token
 behind_number None tokens = tokens
 behind_number (Some n) tokens = Number n ∷ tokens
@@ -22,7 +27,7 @@ abbrev pub with_digit : Option ℕ → ℕ → ℕ
 with_digit None b = b - 48
 with_digit (Some n) b = 10 * n + (b - 48)
 
--- the tokens behind the first digits of a number, if there are any
+-- the tokens after the first digits of a number, if there are any
 unfoldable pub tokens_after : Option ℕ → List ℕ → List Token
 tokens_after first [] = behind_number first []
 tokens_after first (b ∷ bytes) = if is_ascii_digit b then tokens_after (Some (with_digit first b)) bytes
@@ -32,9 +37,9 @@ tokens_after first (b ∷ bytes) = if is_ascii_digit b then tokens_after (Some (
 abbrev pub tokens_of : List ℕ → List Token
 tokens_of bytes = tokens_after None bytes
 
--- the number, or 2^32 + 1 for any that is larger
+-- the number, or `most_voters` + 1 for any that is larger
 abbrev pub capped : ℕ → ℕ
-capped n = min n 4294967297
+capped n = min n (most_voters + 1)
 
 -- the token with its number capped
 abbrev pub capped_token : Token → Token
@@ -43,10 +48,11 @@ capped_token token = token
 
 -- the text's first token was read, with its number capped, and the rest of the text has the others
 abbrev pub IsFirstToken : List ℕ → Token → List ℕ → Type 0
-IsFirstToken text read rest = (token : Token) × (read ≡ capped_token token) × (tokens_of text ≡ token ∷ tokens_of rest) × (length rest < length text)
+IsFirstToken text read rest = (token : Token) × (read ≡ capped_token token)
+    × (tokens_of text ≡ token ∷ tokens_of rest) × (length rest < length text)
 
 -- where a token leads, if it may come
-abbrev pub next_place : Place → Token → Option Place
+abbrev pub next_place : OrderPlace → Token → Option OrderPlace
 next_place Order (Number n) = Some Between
 next_place Order Open = Some Opened
 next_place Class (Number n) = Some Between
@@ -60,13 +66,13 @@ next_place Listed Close = Some Between
 next_place place token = None
 
 -- whether the order may end
-abbrev pub is_end : Place → Bool
+abbrev pub is_end : OrderPlace → Bool
 is_end Order = true
 is_end Between = true
 is_end place = false
 
 -- the classes with what a token adds to them; inside braces the first is the rest of a class
-abbrev pub with_token : Place → Token → List (List ℕ) → List (List ℕ)
+abbrev pub with_token : OrderPlace → Token → List (List ℕ) → List (List ℕ)
 with_token Order (Number n) classes = (n ∷ []) ∷ classes
 with_token Class (Number n) classes = (n ∷ []) ∷ classes
 with_token Opened (Number n) classes = onto_first n classes
@@ -76,13 +82,15 @@ with_token Listed Close classes = [] ∷ classes
 with_token place token classes = classes
 
 -- the classes that tokens give from a place on
-unfoldable pub order_at : Place → List Token → Option (List (List ℕ))
+unfoldable pub order_at : OrderPlace → List Token → Option (List (List ℕ))
 order_at place [] = if is_end place then Some [] else None
-order_at place (token ∷ tokens) = option_and_then (λ next. option_map (with_token place token) (order_at next tokens)) (next_place place token)
+order_at place (token ∷ tokens) =
+    option_and_then (λ next. option_map (with_token place token) (order_at next tokens)) (next_place place token)
 
 -- the count and the classes of a ballot line
 abbrev pub cast_of : List Token → Option Cast
-cast_of (Number count ∷ Colon ∷ tokens) = option_map (λ classes. record { count = count; classes = classes }) (order_at Order tokens)
+cast_of (Number count ∷ Colon ∷ tokens) =
+    option_map (λ classes. record { count = count; classes = classes }) (order_at Order tokens)
 cast_of tokens = None
 
 abbrev pub ballot_of : List ℕ → Option Cast

@@ -3,10 +3,10 @@ use Rattle.std.specs.Prelude.{ℕ, ◌+◌, ◌-◌, ◌*◌, List, [], ◌∷�
 use Rattle.std.specs.Char.{is_ascii_digit}
 use Rattle.preflib_text.specs.declared.metadata.Told as rust
 use Rattle.preflib_text.specs.declared.metadata.Told.TheVariants as told
-use Rattle.preflib_text.specs.BallotTokens.{capped}
+use Rattle.preflib_text.specs.Steps.Tokens.{capped}
 use Rattle.preflib_text.specs.Metadata.{Told, TypeIs, AlternativesAre, CategoriesAre, NameIs, Nothing}
 
--- the number of digits behind others
+-- the number of digits after others
 unfoldable pub digits_after : ℕ → List ℕ → Option ℕ
 digits_after n [] = Some n
 digits_after n (b ∷ bytes) = if is_ascii_digit b then digits_after (capped (10 * n + (b - 48))) bytes else None

@@ -1,0 +1,73 @@
+-- The names of types of files, of ways and of faults, as bytes.
+use Rattle.std.specs.Prelude.{ℕ, List, [], ◌∷◌, Option, Some, None, find, codes, if◌then◌else◌}
+use Rattle.std.specs.Str.{bytes_eq, str_eq_ignore_ascii_case}
+use Rattle.preflib_text.specs.declared.pick.Kind.{Kind}
+use Rattle.preflib_text.specs.declared.pick.Kind.TheVariants.{Cat, Soc, Soi, Toc, Toi}
+use Rattle.preflib_text.specs.declared.pick.Way.{Way}
+use Rattle.preflib_text.specs.declared.pick.Way.TheVariants.{Usual, Category, SetSize, Classes}
+use Rattle.preflib_text.specs.declared.fault.FaultName.{FaultName}
+use Rattle.preflib_text.specs.declared.fault.FaultName.TheVariants.{LongLine, BadNumber, TooManyCandidates, ConflictingKey, NoAlternatives}
+use Rattle.preflib_text.specs.declared.fault.FaultName.TheVariants.{NoKind, BadKind, BadBallot, BadCount, NoSuchCandidate}
+use Rattle.preflib_text.specs.declared.fault.FaultName.TheVariants.{RepeatedCandidate, NotStrict, Incomplete, TooManyClasses, NoVoters}
+use Rattle.preflib_text.specs.declared.fault.FaultName.TheVariants.{TooManyVoters, PickMisfit, Memory}
+
+-- the name of a type of files (PrefLib data format)
+abbrev pub kind_name : Kind → List ℕ
+kind_name Cat = codes "cat"
+kind_name Soc = codes "soc"
+kind_name Soi = codes "soi"
+kind_name Toc = codes "toc"
+kind_name Toi = codes "toi"
+
+-- all types
+abbrev pub kinds : List Kind
+kinds = Cat ∷ Soc ∷ Soi ∷ Toc ∷ Toi ∷ []
+
+-- the type of a name, in letters of any case
+abbrev pub kind_named : List ℕ → Option Kind
+kind_named text = find (λ kind. str_eq_ignore_ascii_case text (kind_name kind)) kinds
+
+-- the name of a way; the usual one has none
+abbrev pub way_name : Way → Option (List ℕ)
+way_name Usual = None
+way_name (Category n) = Some (codes "category")
+way_name (SetSize n) = Some (codes "setsize")
+way_name (Classes n) = Some (codes "classes")
+
+-- the way of a name, with this number
+abbrev pub way_named : List ℕ → ℕ → Option Way
+way_named name n = if bytes_eq name (codes "category") then Some (Category n)
+    else (if bytes_eq name (codes "setsize") then Some (SetSize n)
+    else (if bytes_eq name (codes "classes") then Some (Classes n) else None))
+
+-- the name of a fault
+abbrev pub fault_name : FaultName → List ℕ
+fault_name LongLine = codes "LongLine"
+fault_name BadNumber = codes "BadNumber"
+fault_name TooManyCandidates = codes "TooManyCandidates"
+fault_name ConflictingKey = codes "ConflictingKey"
+fault_name NoAlternatives = codes "NoAlternatives"
+fault_name NoKind = codes "NoKind"
+fault_name BadKind = codes "BadKind"
+fault_name BadBallot = codes "BadBallot"
+fault_name BadCount = codes "BadCount"
+fault_name NoSuchCandidate = codes "NoSuchCandidate"
+fault_name RepeatedCandidate = codes "RepeatedCandidate"
+fault_name NotStrict = codes "NotStrict"
+fault_name Incomplete = codes "Incomplete"
+fault_name TooManyClasses = codes "TooManyClasses"
+fault_name NoVoters = codes "NoVoters"
+fault_name TooManyVoters = codes "TooManyVoters"
+fault_name PickMisfit = codes "PickMisfit"
+fault_name Memory = codes "Memory"
+
+-- all faults
+abbrev pub faults : List FaultName
+faults =
+    LongLine ∷ BadNumber ∷ TooManyCandidates ∷ ConflictingKey ∷ NoAlternatives ∷ NoKind ∷
+    BadKind ∷ BadBallot ∷ BadCount ∷ NoSuchCandidate ∷ RepeatedCandidate ∷ NotStrict ∷
+    Incomplete ∷ TooManyClasses ∷ NoVoters ∷ TooManyVoters ∷ PickMisfit ∷ Memory ∷ []
+
+-- the fault of a name
+abbrev pub fault_named : List ℕ → Option FaultName
+fault_named name = find (λ fault. bytes_eq name (fault_name fault)) faults

@@ -1,0 +1,6 @@
+pub mod Cuts
+pub mod Tells
+pub mod Tokens
+pub mod Marks
+pub mod Notes
+pub mod Answers
