@@ -9,7 +9,7 @@ use Rattle.std.proofs.lemmas.List.Folds.{Any-from_list_any, list_any-from_Any}
 use Rattle.std.proofs.lemmas.List.FromFn.{get_or-range_with_len, length-range_with_len}
 use Rattle.std.proofs.lemmas.Slice.Eq.{bytes_eq-Decides}
 use Rattle.tie_walk.specs.Sequences.{sequences}
-use Rattle.tie_walk.specs.Steps.{follows, IsReached}
+use Rattle.tie_walk.specs.Steps.Choices.{follows, IsReached}
 
 module _ (may : List ℕ → ℕ → Bool) (change : List ℕ → ℕ → List ℕ) where
   -- a set that one choice makes of a reached one

@@ -1,8 +1,8 @@
 -- Each definition, computed on a small example: the value of a committee is the sum of its members modulo 4.
-use Rattle.std.proofs.Common.{◌≡◌, ℕ, ◌%◌, List, [], ◌∷◌, true, false, refl}
+use Rattle.std.proofs.Common.{◌≡◌, ℕ, ◌%◌, List, [], ◌∷◌, true, false, refl, lit≤, Some, None}
 use Rattle.std.specs.Prelude.{sum}
-use Rattle.ballot_base.specs.Lists.{increasing_lists, lists_of}
-use Rattle.tie_walk.specs.Winners.{Winning, best_value, is_unbeaten, winners}
+use Rattle.ballot_base.specs.Lists.{increasing_lists, later_than, lists_of}
+use Rattle.tie_walk.specs.Winners.{Winning, IsStart, best_value, is_unbeaten, winners}
 
 abbrev sum_of_four : List ℕ → ℕ
 sum_of_four set = sum set % 4
@@ -30,10 +30,21 @@ all_tie : winners (λ _. 0) 3 2 ≡ (1 ∷ 2 ∷ []) ∷ (1 ∷ 3 ∷ []) ∷ (2
 unfolding lists_of
 all_tie = refl
 
--- the walk of that election behind its first winner
-behind_the_first : Winning ℕ
-behind_the_first = record { tally = 4; m = 4; k = 2; best = 3; left = (3 ∷ 4 ∷ []) ∷ [] }
+-- the walk of that election after its first winner
+after_the_first : Winning ℕ
+after_the_first = record { tally = 4; m = 4; k = 2; best = 3; left = (3 ∷ 4 ∷ []) ∷ [] }
 
-one_is_left : behind_the_first.left ≡ (3 ∷ 4 ∷ []) ∷ []
-unfolding behind_the_first
+one_is_left : after_the_first.left ≡ (3 ∷ 4 ∷ []) ∷ []
+unfolding after_the_first
 one_is_left = refl
+
+start_of_two : IsStart 4 2 (Some (1 ∷ 3 ∷ []))
+start_of_two = ((lit≤ tt, lit≤ tt, (lit≤ tt, lit≤ tt, tt)), refl)
+
+no_start : IsStart 4 2 None
+no_start = tt
+
+-- the winners after 1 and 3, which does not win
+one_after_a_start : later_than (Some (1 ∷ 3 ∷ [])) (winners sum_of_four 4 2) ≡ (3 ∷ 4 ∷ []) ∷ []
+unfolding lists_of
+one_after_a_start = refl

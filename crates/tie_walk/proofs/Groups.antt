@@ -18,10 +18,13 @@ below-more f n = sum_by-map-range_with_len_more (λ x. x) f 0 n n (omega arith)
 below-next : (f : ℕ → ℕ) (n : ℕ) → below f (suc n) ≡ below f n + f n
 below-next f n = ap (below f) (suc-eq-add-one n) ∙ below-more f n
 
--- a sum of products is no more than its number of the greatest product
-pub below-most : (f : ℕ → ℕ) (n most : ℕ) → ((j : ℕ) → f j ≤ most) → sum (map f (range_with_len 0 n)) ≤ n * most
-below-most f zero most all = omega arith
-below-most f (suc n) most all = omega (arith, below-next f n, all n, below-most f n most all)
+-- a sum of the first of them is no more than the whole sum
+pub below-part : (f : ℕ → ℕ) (k n : ℕ) → k ≤ n → sum (map f (range_with_len 0 k)) ≤ sum (map f (range_with_len 0 n))
+below-part f k zero h = let none : k ≡ 0 = omega arith in rw none (omega arith)
+below-part f k (suc n) h = elim (cases_eq k (suc n)) [
+  | inl same ↦ rw same (omega arith)
+  | inr other ↦ omega (arith, below-next f n, below-part f k n (omega (arith, other)))
+]
 
 abbrev only : ℕ → ℕ → ℕ → ℕ
 only k v j = cond (k == j) v 0

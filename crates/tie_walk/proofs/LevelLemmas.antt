@@ -1,5 +1,5 @@
 -- The levels of the sequential rules: what they have, and that the last one has the winners.
-use Rattle.std.proofs.Common.{◌≡◌, ℕ, zero, suc, ◌+◌, ◌-◌, ◌≤◌, ◌==◌, ◌++◌, Bool, true, false, not, cond, List, [], ◌∷◌, refl, sym, ap, ◌∙◌, subst, arith, inl, inr, map, filter, Contains}
+use Rattle.std.proofs.Common.{◌≡◌, ℕ, zero, suc, ◌+◌, ◌≤◌, ◌==◌, Bool, true, false, not, List, [], ◌∷◌, refl, sym, ◌∙◌, subst, arith, inl, inr, map, filter, Contains}
 use Rattle.std.specs.List.{flat_map, range_with_len, AllByRecursion}
 use Rattle.std.specs.List.Sorted.{IsStrictlySortedBy}
 use Rattle.std.specs.Cmp.Lexicographic.{slice_cmp}
@@ -7,61 +7,20 @@ use Rattle.std.specs.Ordering.{nat_cmp}
 use Rattle.std.proofs.lemmas.Bool.{cases_lt, and_parts}
 use Rattle.std.proofs.lemmas.List.Elements.{recursion_from_All, All-weaker, All-contains_itself, Contains-append_cases}
 use Rattle.ballot_base.specs.Lists.{IsIncreasing}
-use Rattle.ballot_base.specs.CandSet.{has_member, with_member}
+use Rattle.ballot_base.specs.CandSet.{has_member}
 use Rattle.ballot_base.specs.Ballots.{Row}
-use Rattle.ballot_base.proofs.Increasing.{IsIncreasing-higher, IsIncreasing-filter, IsIncreasing-with_member, has_member-below, has_member-above, has_member-filter, with_member-above}
-use Rattle.tie_walk.specs.Steps.{is_open, change, open_candidates, is_choice, changes, IsNextLevel, start, follows, IsReached, IsLevel}
+use Rattle.ballot_base.proofs.Increasing.{IsIncreasing-filter, IsIncreasing-with_member, has_member-below, has_member-above, has_member-filter}
+use Rattle.tie_walk.specs.Steps.Choices.{is_open, change, open_candidates, is_choice, changes, IsNextLevel, start, follows, IsReached, IsLevel}
 use Rattle.tie_walk.specs.declared.sequential.Step.{Step}
 use Rattle.tie_walk.specs.declared.sequential.Step.TheVariants.{Grow, Shrink}
-use Rattle.tie_walk.proofs.StepLemmas.{range-more}
 use Rattle.tie_walk.proofs.LawLemmas.{passes-from_filter, Contains-filter, IsIncreasing-range}
 use Rattle.tie_walk.proofs.Choices.{AreCandidates, Contains-map, Contains-flat_map, Contains-range, reached_none, reached_start, reached_more, reached_last}
-
--- ---- the set of all candidates
-
-pub with-next : (all : List ℕ) (c : ℕ) → 1 ≤ c → all ≡ range_with_len 1 (c - 1) → with_member all c ≡ range_with_len 1 (c + 1 - 1)
-with-next all c low is =
-    let e : c + 1 - 1 ≡ suc (c - 1) = omega arith in
-    ap (λ l. with_member l c) is ∙ with_member-above 1 (c - 1) (range_with_len 1 (c - 1)) c (IsIncreasing-range 1 (c - 1) (c - 1) (omega arith)) (omega arith)
-    ∙ sym (ap (range_with_len 1) e ∙ range-more 1 (c - 1) c (omega arith))
 
 -- ---- what a change makes of a set
 
 change-increasing : (step : Step) (m : ℕ) (set : List ℕ) (c : ℕ) → 1 ≤ c → c ≤ m → IsIncreasing 1 m set → IsIncreasing 1 m (change step set c)
 change-increasing Grow m set c low high up = IsIncreasing-with_member 1 m set c low high up
 change-increasing Shrink m set c low high up = IsIncreasing-filter (λ x. not (x == c)) 1 m set up
-
-changes-among : (step : Step) (m : ℕ) (set numbers : List ℕ) (test : ℕ → Bool) → IsIncreasing 1 m set → AllByRecursion (λ c. (1 ≤ c) × (c ≤ m)) numbers
-    → AllByRecursion (λ s. IsIncreasing 1 m s) (map (change step set) (filter test numbers))
-changes-among step m set [] test up all = tt
-changes-among step m set (c ∷ numbers) test up all =
-    let rest = changes-among step m set numbers test up all.1 in
-    elim (test c) as (λ b. AllByRecursion (λ s. IsIncreasing 1 m s) (map (change step set) (cond b (c ∷ filter test numbers) (filter test numbers)))) [
-      | true ↦ (change-increasing step m set c all.0.0 all.0.1 up, rest)
-      | false ↦ rest
-    ]
-
-range-candidates : (a n m : ℕ) → 1 ≤ a → a + n ≤ m + 1 → AllByRecursion (λ c. (1 ≤ c) × (c ≤ m)) (range_with_len a n)
-range-candidates a zero m low high = tt
-range-candidates a (suc n) m low high = ((low, omega arith), range-candidates (a + 1) n m (omega arith) (omega arith))
-
-changes-increasing : (step : Step) (weights : List ℕ) (m : ℕ) (rows : List Row) (set : List ℕ) → IsIncreasing 1 m set → AllByRecursion (λ s. IsIncreasing 1 m s) (changes step weights m rows set)
-unfolding changes
-changes-increasing step weights m rows set up = changes-among step m set (range_with_len 1 m) (is_choice step weights m rows set) up (range-candidates 1 m m (omega arith) (omega arith))
-
-append-all : (P : List ℕ → Type 0) (xs ys : List (List ℕ)) → AllByRecursion P xs → AllByRecursion P ys → AllByRecursion P (xs ++ ys)
-append-all P [] ys a b = b
-append-all P (x ∷ xs) ys a b = (a.0, append-all P xs ys a.1 b)
-
-pub next-increasing : (step : Step) (weights : List ℕ) (m : ℕ) (rows : List Row) (level : List (List ℕ)) → AllByRecursion (λ s. IsIncreasing 1 m s) level
-    → AllByRecursion (λ s. IsIncreasing 1 m s) (flat_map (changes step weights m rows) level)
-next-increasing step weights m rows [] all = tt
-next-increasing step weights m rows (set ∷ level) all =
-    append-all (λ s. IsIncreasing 1 m s) (changes step weights m rows set) (flat_map (changes step weights m rows) level) (changes-increasing step weights m rows set all.0) (next-increasing step weights m rows level all.1)
-
-pub all-to_40 : (m : ℕ) (sets : List (List ℕ)) → m ≤ 40 → AllByRecursion (λ s. IsIncreasing 1 m s) sets → AllByRecursion (λ s. IsIncreasing 1 40 s) sets
-all-to_40 m [] most all = tt
-all-to_40 m (set ∷ sets) most all = (IsIncreasing-higher 1 m 40 set most all.0, all-to_40 m sets most all.1)
 
 -- ---- choices are candidates
 

@@ -1,18 +1,19 @@
 -- Sums over the rows of a profile, of the voters of each times what one of them gives.
-use Rattle.std.proofs.Common.{◌≡◌, ℕ, ◌+◌, ◌*◌, ◌/◌, ◌<◌, ◌≤◌, ◌^◌, ◌==◌, ◌∙◌, List, [], ◌∷◌, Some, not, cond, filter, refl, ap, arith, length, take, get_or, slice_get, sum, sum_by}
+use Rattle.std.proofs.Common.{◌≡◌, ℕ, ◌+◌, ◌-◌, ◌*◌, ◌/◌, ◌<◌, ◌≤◌, ◌^◌, ◌==◌, ◌∙◌, List, [], ◌∷◌, Some, not, cond, filter, refl, ap, arith, length, take, get_or, slice_get, sum, sum_by}
 use Rattle.std.proofs.Math.Nat.{mul-le-mul}
 use Rattle.std.specs.List.{AllByRecursion}
 use Rattle.std.proofs.lemmas.List.Sums.{sum_by-cons, sum_by_more, sum_by_more_le, length-filter, count_by-le-length}
 use Rattle.std.proofs.lemmas.Option.{get_or_from_slice_get, slice_get_within}
 use Rattle.std.proofs.lemmas.Bool.{ne_eqb}
+use Rattle.ballot_base.specs.Limits.{most_candidates, most_voters}
 use Rattle.ballot_base.specs.Lists.{IsIncreasing}
 use Rattle.ballot_base.specs.CandSet.{has_member, common_members}
 use Rattle.ballot_base.specs.CommonMultiple.{common_multiple}
 use Rattle.ballot_base.specs.Ballots.{Row, Election, IsElection, hits, voter_count}
 use Rattle.ballot_base.proofs.Committees.{length-increasing}
-use Rattle.ballot_base.proofs.LeastMultiples.{common_multiple_most}
+use Rattle.ballot_base.proofs.LeastMultiples.{common_multiple_small}
 use Rattle.tie_walk.specs.Values.{thiele_value, satisfaction_value}
-use Rattle.tie_walk.specs.Tables.{prefix_sums, parts}
+use Rattle.tie_walk.specs.Steps.Tables.{prefix_sums, parts}
 use Rattle.tie_walk.proofs.TableLemmas.{prefix_sums-at, parts-at, parts-most}
 
 -- the candidates of each ballot are 1 to m
@@ -23,7 +24,7 @@ AreBallots m rows = AllByRecursion (λ (row : Row). IsIncreasing 1 m row.0) rows
 pub length-common : (ballot committee : List ℕ) → length (common_members ballot committee) ≡ hits ballot committee
 length-common ballot committee = length-filter (has_member committee) ballot
 
-pub hits-most : (m : ℕ) (ballot committee : List ℕ) → m ≤ 40 → IsIncreasing 1 m ballot → hits ballot committee ≤ 40
+pub hits-most : (m : ℕ) (ballot committee : List ℕ) → m ≤ most_candidates → IsIncreasing 1 m ballot → hits ballot committee ≤ most_candidates
 hits-most m ballot committee most h = omega (arith, length-increasing 1 m ballot h, count_by-le-length (has_member committee) ballot)
 
 module _ (worth : Row → ℕ) where
@@ -43,18 +44,25 @@ module _ (worth : Row → ℕ) where
       let split : voter_count (row ∷ rows) * most ≡ row.1 * most + voter_count rows * most = ap (λ n. n * most) (sum_by-cons (λ (r : Row). r.1) row rows) ∙ omega arith in
       omega (arith, product, split, sum_by-cons (λ (r : Row). r.1 * worth r) row rows, rows-most m most rows all.1 each)
 
+  -- all voters together
+  pub all-most : (e : Election) (most : ℕ) → IsElection e → ((r : Row) → IsIncreasing 1 e.m r.0 → worth r ≤ most)
+      → sum_by (λ (r : Row). r.1 * worth r) e.rows ≤ most_voters * most
+  all-most e most valid each =
+      let product : voter_count e.rows * most ≤ most_voters * most = mul-le-mul {m₁ = most} valid.voters (omega arith) in
+      omega (arith, product, rows-most e.m most e.rows valid.ballots each)
+
   -- the sum so far and the next row's voters
   pub rows-bound : (e : Election) (most i : ℕ) (row : Row) → IsElection e → ((r : Row) → IsIncreasing 1 e.m r.0 → worth r ≤ most) → slice_get e.rows i ≡ Some row
-      → sum_by (λ (r : Row). r.1 * worth r) (take i e.rows) + row.1 * worth row ≤ 2 ^ 32 * most
+      → sum_by (λ (r : Row). r.1 * worth r) (take i e.rows) + row.1 * worth row ≤ most_voters * most
   rows-bound e most i row valid each found =
       let here : get_or e.rows i row ≡ row = get_or_from_slice_get e.rows i row row found in
       let within : i < length e.rows = slice_get_within e.rows i row found in
       let part = rw here at (sum_by_more_le (λ (r : Row). r.1 * worth r) e.rows i row within) in
-      let product : voter_count e.rows * most ≤ 2 ^ 32 * most = mul-le-mul {m₁ = most} valid.voters (omega arith) in
+      let product : voter_count e.rows * most ≤ most_voters * most = mul-le-mul {m₁ = most} valid.voters (omega arith) in
       omega (arith, part, product, rows-most e.m most e.rows valid.ballots each)
 
 -- by a table of the sums of increments
-pub thiele_value-by_sums : (m : ℕ) (weights sums : List ℕ) (rows : List Row) (committee : List ℕ) → m ≤ 40 → AreBallots m rows → sums ≡ prefix_sums weights
+pub thiele_value-by_sums : (m : ℕ) (weights sums : List ℕ) (rows : List Row) (committee : List ℕ) → m ≤ most_candidates → AreBallots m rows → sums ≡ prefix_sums weights
     → sum_by (λ (r : Row). r.1 * get_or sums (hits r.0 committee) 0) rows ≡ thiele_value weights rows committee
 thiele_value-by_sums m weights sums [] committee most all is = refl
 thiele_value-by_sums m weights sums (row ∷ rows) committee most all is =
@@ -69,7 +77,7 @@ thiele_value-by_sums m weights sums (row ∷ rows) committee most all is =
     )
 
 -- by a table of the parts of a whole
-pub satisfaction_value-by_parts : (m n : ℕ) (shares : List ℕ) (rows : List Row) (committee : List ℕ) → m ≤ 40 → AreBallots m rows → shares ≡ parts (common_multiple n)
+pub satisfaction_value-by_parts : (m n : ℕ) (shares : List ℕ) (rows : List Row) (committee : List ℕ) → m ≤ most_candidates → AreBallots m rows → shares ≡ parts (common_multiple n)
     → sum_by (λ (r : Row). r.1 * hits r.0 committee * get_or shares (length r.0) 0) rows ≡ satisfaction_value n rows committee
 satisfaction_value-by_parts m n shares [] committee most all is = refl
 satisfaction_value-by_parts m n shares (([], voters) ∷ rows) committee most all is =
@@ -109,15 +117,32 @@ all_sizes-within m [] all = _
 all_sizes-within m (row ∷ rows) all = (omega (arith, length-increasing 1 m row.0 all.0), all_sizes-within m rows all.1)
 
 -- the hits of all voters together
-pub all_hits-most : (e : Election) (committee : List ℕ) → IsElection e → sum_by (λ (r : Row). r.1 * hits r.0 committee) e.rows ≤ 2 ^ 32 * 40
-all_hits-most e committee valid =
-    omega (arith, valid.voters, rows-most (λ (r : Row). hits r.0 committee) e.m 40 e.rows valid.ballots (λ r h. hits-most e.m r.0 committee valid.most h))
+pub all_hits-most : (e : Election) (committee : List ℕ) → IsElection e → sum_by (λ (r : Row). r.1 * hits r.0 committee) e.rows ≤ most_voters * most_candidates
+all_hits-most e committee valid = all-most (λ (r : Row). hits r.0 committee) e most_candidates valid (λ r h. hits-most e.m r.0 committee valid.most h)
 
 -- a row has no more voters than there are
-pub votes-hits-most : (e : Election) (i : ℕ) (row : Row) (committee : List ℕ) → IsElection e → slice_get e.rows i ≡ Some row → row.1 * hits row.0 committee ≤ 40 * 2 ^ 32
+pub votes-hits-most : (e : Election) (i : ℕ) (row : Row) (committee : List ℕ) → IsElection e → slice_get e.rows i ≡ Some row → row.1 * hits row.0 committee ≤ most_voters * most_candidates
 votes-hits-most e i row committee valid found =
-    omega (arith, rows-bound (λ (r : Row). hits r.0 committee) e 40 i row valid (λ r h. hits-most e.m r.0 committee valid.most h) found)
+    omega (arith, rows-bound (λ (r : Row). hits r.0 committee) e most_candidates i row valid (λ r h. hits-most e.m r.0 committee valid.most h) found)
 
 -- no part is more than the whole
-pub parts-bound : (n : ℕ) (shares : List ℕ) (x : ℕ) → n ≤ 40 → shares ≡ parts (common_multiple n) → get_or shares x 0 ≤ 2 ^ 84
-parts-bound n shares x few is = omega (arith, ap (λ s. get_or s x 0) is, parts-most (common_multiple n) x, common_multiple_most n few)
+pub parts-bound : (n : ℕ) (shares : List ℕ) (x : ℕ) → n ≤ most_candidates → shares ≡ parts (common_multiple n) → get_or shares x 0 < 2 ^ 90
+parts-bound n shares x few is = omega (arith, ap (λ s. get_or s x 0) is, parts-most (common_multiple n) x, common_multiple_small n few)
+
+-- what all voters give for their hits together
+pub all_shares-most : (e : Election) (shares : List ℕ) (committee : List ℕ) → IsElection e → shares ≡ parts (common_multiple e.m)
+    → sum_by (λ (r : Row). r.1 * hits r.0 committee * get_or shares (length r.0) 0) e.rows < 2 ^ 128
+all_shares-most e shares committee valid is =
+    let worth : Row → ℕ = λ (r : Row). hits r.0 committee * get_or shares (length r.0) 0 in
+    let each : (r : Row) → IsIncreasing 1 e.m r.0 → worth r ≤ most_candidates * (2 ^ 90 - 1) = λ r h.
+    let small : get_or shares (length r.0) 0 ≤ 2 ^ 90 - 1 = omega (arith, parts-bound e.m shares (length r.0) valid.most is) in
+    mul-le-mul (hits-most e.m r.0 committee valid.most h) small in
+    omega (arith, products (λ (r : Row). r.1) (λ (r : Row). hits r.0 committee) (λ (r : Row). get_or shares (length r.0) 0) e.rows, all-most worth e (most_candidates * (2 ^ 90 - 1)) valid each)
+  where
+    mul-assoc : (a b c : ℕ) → a * b * c ≡ a * (b * c)
+    mul-assoc a b c = omega arith
+
+    products : (a b c : Row → ℕ) (rows : List Row) → sum_by (λ (r : Row). a r * b r * c r) rows ≡ sum_by (λ (r : Row). a r * (b r * c r)) rows
+    products a b c [] = refl
+    products a b c (row ∷ rows) =
+        omega (arith, sum_by-cons (λ (r : Row). a r * b r * c r) row rows, sum_by-cons (λ (r : Row). a r * (b r * c r)) row rows, products a b c rows, mul-assoc (a row) (b row) (c row))

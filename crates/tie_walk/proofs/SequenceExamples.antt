@@ -1,12 +1,11 @@
 -- Each definition, computed on a small example.
-use Rattle.std.proofs.Common.{◌≡◌, [], ◌∷◌, true, false, refl}
+use Rattle.std.proofs.Common.{◌≡◌, [], ◌∷◌, true, false, refl, Some, None, map, codes}
 use Rattle.ballot_base.specs.Lists.{lists_of}
 use Rattle.ballot_base.specs.Ballots.{Election, election}
 use Rattle.ballot_base.specs.CommonMultiple.{common_multiple}
-use Rattle.ballot_base.specs.Increments.{increments}
-use Rattle.ballot_base.specs.declared.increments.ThieleRule.TheVariants.{Pav, Cc}
-use Rattle.tie_walk.specs.Sequences.{weight, supporters, gain, loss, others, is_grown, is_shrunk, sequences, sequential_winners}
-use Rattle.tie_walk.specs.Steps.{is_no_better, open_candidates, change, start, better, worst, worth, hits_of, is_choice, changes, is_same_set, follows}
+use Rattle.tie_walk.specs.Sequences.{hit_weight, hit_weights, weight, supporters, gain, loss, others, is_grown, is_shrunk, sequences, sequential_winners}
+use Rattle.tie_walk.specs.RuleNames.{seq_name, seq_named, seq_rules}
+use Rattle.tie_walk.specs.Steps.Choices.{step_of, choices_of, is_no_better, open_candidates, change, start, better, worst, worth, hits_of, is_choice, changes, follows}
 use Rattle.tie_walk.specs.declared.sequential.Step.TheVariants.{Grow, Shrink}
 use Rattle.tie_walk.specs.declared.sequential.SeqRule.TheVariants.{SeqPav, SeqCc, RevSeqPav}
 
@@ -18,8 +17,16 @@ pairs = election 4 ([] ∷ [] ∷ [] ∷ [] ∷ []) ((1 ∷ 2 ∷ [], 3) ∷ (3 
 chain : Election
 chain = election 3 ([] ∷ [] ∷ [] ∷ []) ((1 ∷ 2 ∷ [], 2) ∷ (1 ∷ 3 ∷ [], 2) ∷ (2 ∷ [], 1) ∷ (3 ∷ [], 1) ∷ [])
 
-weights_of_four : (weight (increments Pav 4) 0 ≡ 0) × (weight (increments Pav 4) 1 ≡ 12) × (weight (increments Pav 4) 3 ≡ 4)
-unfolding increments common_multiple
+hit_of_five : (hit_weight SeqPav 5 4 ≡ 15) × (hit_weight SeqCc 5 1 ≡ 1) × (hit_weight SeqCc 5 4 ≡ 0) × (hit_weight RevSeqPav 5 5 ≡ 12)
+unfolding common_multiple
+hit_of_five = (refl, refl, refl, refl)
+
+hits_of_four : (hit_weights SeqPav 4 ≡ 12 ∷ 6 ∷ 4 ∷ 3 ∷ []) × (hit_weights SeqCc 4 ≡ 1 ∷ 0 ∷ 0 ∷ 0 ∷ [])
+unfolding hit_weights common_multiple
+hits_of_four = (refl, refl)
+
+weights_of_four : (weight (hit_weights SeqPav 4) 0 ≡ 0) × (weight (hit_weights SeqPav 4) 1 ≡ 12) × (weight (hit_weights SeqPav 4) 3 ≡ 4)
+unfolding hit_weights common_multiple
 weights_of_four = (refl, refl, refl)
 
 supporters_of_one : supporters pairs.rows 1 ≡ (1 ∷ 2 ∷ [], 3) ∷ []
@@ -27,41 +34,41 @@ unfolding pairs
 supporters_of_one = refl
 
 -- a second hit of three voters is 3 · 12/2
-second_gain : gain (increments Pav 4) pairs.rows (1 ∷ []) 2 ≡ 18
-unfolding pairs increments common_multiple
+second_gain : gain (hit_weights SeqPav 4) pairs.rows (1 ∷ []) 2 ≡ 18
+unfolding pairs hit_weights common_multiple
 second_gain = refl
 
-first_gain : gain (increments Pav 4) pairs.rows (1 ∷ []) 3 ≡ 12
-unfolding pairs increments common_multiple
+first_gain : gain (hit_weights SeqPav 4) pairs.rows (1 ∷ []) 3 ≡ 12
+unfolding pairs hit_weights common_multiple
 first_gain = refl
 
-loss_of_all : loss (increments Pav 4) pairs.rows (1 ∷ 2 ∷ 3 ∷ 4 ∷ []) 3 ≡ 6
-unfolding pairs increments common_multiple
+loss_of_all : loss (hit_weights RevSeqPav 4) pairs.rows (1 ∷ 2 ∷ 3 ∷ 4 ∷ []) 3 ≡ 6
+unfolding pairs hit_weights common_multiple
 loss_of_all = refl
 
 others_of_four : others 4 (2 ∷ 3 ∷ []) ≡ 1 ∷ 4 ∷ []
 others_of_four = refl
 
-grown : is_grown (increments Pav 4) 4 pairs.rows [] (2 ∷ 1 ∷ []) ≡ true
-unfolding pairs increments common_multiple
+grown : is_grown (hit_weights SeqPav 4) 4 pairs.rows [] (2 ∷ 1 ∷ []) ≡ true
+unfolding pairs hit_weights common_multiple
 grown = refl
 
 -- 2 gains more than 3 does
-not_grown : is_grown (increments Pav 4) 4 pairs.rows [] (1 ∷ 3 ∷ []) ≡ false
-unfolding pairs increments common_multiple
+not_grown : is_grown (hit_weights SeqPav 4) 4 pairs.rows [] (1 ∷ 3 ∷ []) ≡ false
+unfolding pairs hit_weights common_multiple
 not_grown = refl
 
 -- no one is chosen twice
-not_twice : is_grown (increments Cc 4) 4 pairs.rows [] (1 ∷ 1 ∷ []) ≡ false
-unfolding pairs increments
+not_twice : is_grown (hit_weights SeqCc 4) 4 pairs.rows [] (1 ∷ 1 ∷ []) ≡ false
+unfolding pairs hit_weights
 not_twice = refl
 
-shrunk : is_shrunk (increments Pav 4) pairs.rows (1 ∷ 2 ∷ 3 ∷ 4 ∷ []) (4 ∷ []) ≡ true
-unfolding pairs increments common_multiple
+shrunk : is_shrunk (hit_weights RevSeqPav 4) pairs.rows (1 ∷ 2 ∷ 3 ∷ 4 ∷ []) (4 ∷ []) ≡ true
+unfolding pairs hit_weights common_multiple
 shrunk = refl
 
-not_shrunk : is_shrunk (increments Pav 4) pairs.rows (1 ∷ 2 ∷ 3 ∷ 4 ∷ []) (1 ∷ []) ≡ false
-unfolding pairs increments common_multiple
+not_shrunk : is_shrunk (hit_weights RevSeqPav 4) pairs.rows (1 ∷ 2 ∷ 3 ∷ 4 ∷ []) (1 ∷ []) ≡ false
+unfolding pairs hit_weights common_multiple
 not_shrunk = refl
 
 sequences_of_two : sequences 2 2 ≡ (1 ∷ 1 ∷ []) ∷ (1 ∷ 2 ∷ []) ∷ (2 ∷ 1 ∷ []) ∷ (2 ∷ 2 ∷ []) ∷ []
@@ -69,36 +76,42 @@ sequences_of_two = refl
 
 -- ---- winners of the pairs
 seqpav_of_pairs : sequential_winners SeqPav pairs 2 ≡ (1 ∷ 2 ∷ []) ∷ []
-unfolding pairs increments common_multiple lists_of
+unfolding pairs hit_weights common_multiple lists_of
 seqpav_of_pairs = refl
 
 seqcc_of_pairs : sequential_winners SeqCc pairs 2 ≡ (1 ∷ 3 ∷ []) ∷ (1 ∷ 4 ∷ []) ∷ (2 ∷ 3 ∷ []) ∷ (2 ∷ 4 ∷ []) ∷ []
-unfolding pairs increments lists_of
+unfolding pairs hit_weights lists_of
 seqcc_of_pairs = refl
 
 revseqpav_of_pairs : sequential_winners RevSeqPav pairs 3 ≡ (1 ∷ 2 ∷ 3 ∷ []) ∷ (1 ∷ 2 ∷ 4 ∷ []) ∷ []
-unfolding pairs increments common_multiple lists_of
+unfolding pairs hit_weights common_multiple lists_of
 revseqpav_of_pairs = refl
 
 -- no one is taken out of all
 revseqpav_of_all : sequential_winners RevSeqPav pairs 4 ≡ (1 ∷ 2 ∷ 3 ∷ 4 ∷ []) ∷ []
-unfolding pairs increments common_multiple lists_of
+unfolding pairs hit_weights common_multiple lists_of
 revseqpav_of_all = refl
 
 -- ---- winners of the chain
 seqpav_of_chain : sequential_winners SeqPav chain 2 ≡ (1 ∷ 2 ∷ []) ∷ (1 ∷ 3 ∷ []) ∷ []
-unfolding chain increments common_multiple lists_of
+unfolding chain hit_weights common_multiple lists_of
 seqpav_of_chain = refl
 
 revseqpav_of_chain : sequential_winners RevSeqPav chain 2 ≡ (1 ∷ 2 ∷ []) ∷ (1 ∷ 3 ∷ []) ∷ (2 ∷ 3 ∷ []) ∷ []
-unfolding chain increments common_multiple lists_of
+unfolding chain hit_weights common_multiple lists_of
 revseqpav_of_chain = refl
 
 seqcc_of_chain : sequential_winners SeqCc chain 2 ≡ (1 ∷ 2 ∷ []) ∷ (1 ∷ 3 ∷ []) ∷ []
-unfolding chain increments lists_of
+unfolding chain hit_weights lists_of
 seqcc_of_chain = refl
 
 -- ---- steps
+steps : (step_of SeqPav ≡ Grow) × (step_of SeqCc ≡ Grow) × (step_of RevSeqPav ≡ Shrink)
+steps = (refl, refl, refl)
+
+choices_of_seven : (choices_of SeqPav 7 3 ≡ 3) × (choices_of SeqCc 7 3 ≡ 3) × (choices_of RevSeqPav 7 3 ≡ 4)
+choices_of_seven = (refl, refl, refl)
+
 open_of_two : (open_candidates Grow 4 (2 ∷ 3 ∷ []) ≡ 1 ∷ 4 ∷ []) × (open_candidates Shrink 4 (2 ∷ 3 ∷ []) ≡ 2 ∷ 3 ∷ [])
 open_of_two = (refl, refl)
 
@@ -111,24 +124,28 @@ started = (refl, refl)
 better_of_two : (better Grow 3 5 ≡ 5) × (better Shrink 3 5 ≡ 3) × (worst Grow ≡ 0) × (is_no_better Grow 3 5 ≡ true) × (is_no_better Shrink 3 5 ≡ false)
 better_of_two = (refl, refl, refl, refl, refl)
 
-worth_of_three : (worth Grow (increments Pav 4) pairs.rows (1 ∷ []) 3 ≡ 12) × (worth Shrink (increments Pav 4) pairs.rows (1 ∷ 2 ∷ 3 ∷ 4 ∷ []) 3 ≡ 6)
-unfolding pairs increments common_multiple
+worth_of_three : (worth Grow (hit_weights SeqPav 4) pairs.rows (1 ∷ []) 3 ≡ 12) × (worth Shrink (hit_weights RevSeqPav 4) pairs.rows (1 ∷ 2 ∷ 3 ∷ 4 ∷ []) 3 ≡ 6)
+unfolding pairs hit_weights common_multiple
 worth_of_three = (refl, refl)
 
 places_of_hits : (hits_of Grow 2 ≡ 3) × (hits_of Shrink 2 ≡ 2)
 places_of_hits = (refl, refl)
 
-choice : is_choice Grow (increments Pav 4) 4 pairs.rows (1 ∷ []) 2 ≡ true
-unfolding pairs increments common_multiple
+choice : is_choice Grow (hit_weights SeqPav 4) 4 pairs.rows (1 ∷ []) 2 ≡ true
+unfolding pairs hit_weights common_multiple
 choice = refl
 
-changes_of_one : changes Grow (increments Cc 4) 4 pairs.rows (1 ∷ []) ≡ (1 ∷ 3 ∷ []) ∷ (1 ∷ 4 ∷ []) ∷ []
-unfolding pairs increments changes
+changes_of_one : changes Grow (hit_weights SeqCc 4) 4 pairs.rows (1 ∷ []) ≡ (1 ∷ 3 ∷ []) ∷ (1 ∷ 4 ∷ []) ∷ []
+unfolding pairs hit_weights changes
 changes_of_one = refl
-
-same_sets : (is_same_set (1 ∷ 3 ∷ []) (1 ∷ 3 ∷ []) ≡ true) × (is_same_set (1 ∷ 3 ∷ []) (2 ∷ 3 ∷ []) ≡ false)
-same_sets = (refl, refl)
 
 -- any choice may be made here, and each adds a candidate
 followed : follows (λ set c. true) (change Grow) [] (2 ∷ 1 ∷ []) ≡ true
 followed = refl
+
+-- ---- names
+named : (seq_named (codes "seqpav") ≡ Some SeqPav) × (seq_named (codes "revseqpav") ≡ Some RevSeqPav) × (seq_named (codes "pav") ≡ None)
+named = (refl, refl, refl)
+
+names : map seq_name seq_rules ≡ codes "seqpav" ∷ codes "seqcc" ∷ codes "revseqpav" ∷ []
+names = refl

@@ -1,15 +1,16 @@
 -- Grown and shrunk lists, and which committees win by them.
-use Rattle.std.proofs.Common.{◌≡◌, ℕ, zero, suc, ◌-◌, ◌<◌, ◌≤◌, true, List, [], ◌∷◌, refl, sym, ◌∙◌, arith, filter, length, take, get_or, Contains, AllPairs}
+use Rattle.std.proofs.Common.{◌≡◌, ℕ, zero, suc, ◌-◌, ◌<◌, ◌≤◌, true, List, [], ◌∷◌, refl, sym, ◌∙◌, arith, filter, length, take, get_or, Contains, All, AllPairs}
 use Rattle.std.specs.Prelude.{fold, ◌↔◌}
 use Rattle.std.specs.List.{range_with_len}
 use Rattle.std.proofs.lemmas.Bool.{and_parts, and_from}
+use Rattle.std.proofs.lemmas.List.Elements.{All-filter}
 use Rattle.std.proofs.lemmas.List.Kept.{AllPairs-filter}
 use Rattle.ballot_base.specs.Lists.{IsLater, increasing_lists}
 use Rattle.ballot_base.specs.CandSet.{with_member, without_member}
 use Rattle.ballot_base.specs.Ballots.{Row, Election}
-use Rattle.ballot_base.proofs.Committees.{increasing_lists-contains, increasing_lists-order, increasing_lists-once}
+use Rattle.ballot_base.proofs.Committees.{increasing_lists-contains, increasing_lists-order, increasing_lists-once, increasing_lists-sizes}
 use Rattle.tie_walk.specs.Sequences.{has_greatest_gain, has_least_loss, is_grown, is_shrunk, is_grown_set, is_left_set, is_sequential_winner, sequential_winners}
-use Rattle.tie_walk.specs.Steps.{change, is_choice, IsReached}
+use Rattle.tie_walk.specs.Steps.Choices.{change, is_choice, IsReached}
 use Rattle.tie_walk.specs.declared.sequential.SeqRule.{SeqRule}
 use Rattle.tie_walk.specs.declared.sequential.Step.TheVariants.{Grow, Shrink}
 use Rattle.tie_walk.proofs.Choices.{reached_from_made, made_from_reached}
@@ -87,6 +88,9 @@ module _ (weights : List ℕ) (m : ℕ) (rows : List Row) where
 
 pub sequential-later : (rule : SeqRule) (e : Election) (k : ℕ) → AllPairs (λ x y. IsLater y x) (sequential_winners rule e k)
 sequential-later rule e k = AllPairs-filter (λ x y. IsLater y x) (is_sequential_winner rule e k) (increasing_lists 1 e.m k) (increasing_lists-order 1 e.m k)
+
+pub sequential-sizes : (rule : SeqRule) (e : Election) (k : ℕ) → All (λ set. length set ≡ k) (sequential_winners rule e k)
+sequential-sizes rule e k = All-filter (is_sequential_winner rule e k) (λ set. length set ≡ k) (increasing_lists 1 e.m k) (increasing_lists-sizes 1 e.m k)
 
 pub sequential-once : (rule : SeqRule) (e : Election) (k : ℕ) → AllPairs (λ x y. x ≡ y → ⊥) (sequential_winners rule e k)
 sequential-once rule e k = AllPairs-filter (λ x y. x ≡ y → ⊥) (is_sequential_winner rule e k) (increasing_lists 1 e.m k) (increasing_lists-once 1 e.m k)

@@ -14,14 +14,14 @@ use Rattle.std.proofs.lemmas.List.Elements.{All-from_recursion, recursion_from_A
 use Rattle.std.proofs.lemmas.List.Kept.{IsStrictlySortedBy-filter}
 use Rattle.ballot_base.specs.Lists.{IsIncreasing, IsLater, increasing_lists}
 use Rattle.ballot_base.specs.CandSet.{has_member, with_member, without_member}
-use Rattle.ballot_base.specs.Ballots.{Row}
-use Rattle.ballot_base.specs.Increments.{increments}
-use Rattle.ballot_base.specs.declared.increments.ThieleRule.{ThieleRule}
+use Rattle.ballot_base.specs.Ballots.{Row, Election}
 use Rattle.ballot_base.proofs.Committees.{increasing_lists-contains, increasing_lists-order}
 use Rattle.ballot_base.proofs.FirstMember.{without_member_head}
 use Rattle.ballot_base.proofs.Increasing.{IsIncreasing-filter, has_member-filter, has_member_head, has_member_tail, same_increasing, with_member-lt, with_member-gt}
-use Rattle.tie_walk.specs.Sequences.{loss, has_greatest_gain, has_least_loss, is_grown, is_shrunk, is_grown_set, is_left_set, sequences}
-use Rattle.tie_walk.specs.Steps.{is_open, change, open_candidates, is_choice, start, follows, IsReached, IsLevel}
+use Rattle.tie_walk.specs.Sequences.{hit_weights, sequential_winners, loss, has_greatest_gain, has_least_loss, is_grown, is_shrunk, is_grown_set, is_left_set, sequences}
+use Rattle.tie_walk.specs.Steps.Choices.{step_of, choices_of, is_open, change, open_candidates, is_choice, start, follows, IsReached, IsLevel}
+use Rattle.tie_walk.specs.declared.sequential.SeqRule.{SeqRule}
+use Rattle.tie_walk.specs.declared.sequential.SeqRule.TheVariants.{SeqPav, SeqCc, RevSeqPav}
 use Rattle.tie_walk.specs.declared.sequential.Step.{Step}
 use Rattle.tie_walk.specs.declared.sequential.Step.TheVariants.{Grow, Shrink}
 use Rattle.tie_walk.proofs.Choices.{reached_start, reached_last, is_made, reached_from_made, made_from_reached}
@@ -220,8 +220,19 @@ pub winners-left : (weights : List ℕ) (m : ℕ) (rows : List Row) (k : ℕ) (s
 winners-left weights m rows k sets fits level =
     level-winners Shrink weights m rows (m - k) k (is_left_set weights m rows k) (left_set-made weights m rows k) (λ set sized. omega (arith, sized, fits)) sets level
 
--- a level by other names for its parts
-pub level-of : (s t : Step × ThieleRule × ℕ) (weights : List ℕ) (m n : ℕ) (rows : List Row) (sets : List (List ℕ)) → s ≡ t → weights ≡ increments s.1 n → n ≡ m
-    → IsLevel s.0 weights m rows s.2 sets → IsLevel t.0 (increments t.1 m) m rows t.2 sets
-level-of s t weights m n rows sets same are is level =
-    subst (λ (x : Step × ThieleRule × ℕ). IsLevel x.0 (increments x.1 m) m rows x.2 sets) same (subst (λ w. IsLevel s.0 w m rows s.2 sets) (are ∙ ap (increments s.1) is) level)
+-- the sets that all choices of a rule make are its winners
+level-sequential : (rule : SeqRule) (e : Election) (k : ℕ) (sets : List (List ℕ)) → k ≤ e.m → IsLevel (step_of rule) (hit_weights rule e.m) e.m e.rows (choices_of rule e.m k) sets
+    → sets ≡ sequential_winners rule e k
+level-sequential SeqPav e k sets fits level = winners-grown (hit_weights SeqPav e.m) e.m e.rows k sets level
+level-sequential SeqCc e k sets fits level = winners-grown (hit_weights SeqCc e.m) e.m e.rows k sets level
+level-sequential RevSeqPav e k sets fits level = winners-left (hit_weights RevSeqPav e.m) e.m e.rows k sets fits level
+
+-- the same, by other names for the parts of the level
+pub winners-sequential : (rule : SeqRule) (e : Election) (k m size : ℕ) (step : Step) (weights table : List ℕ) (sets : List (List ℕ)) → k ≤ e.m → m ≡ e.m → step ≡ step_of rule → size ≡ choices_of rule m k
+    → weights ≡ hit_weights rule m → table ≡ weights → IsLevel step table e.m e.rows size sets → sets ≡ sequential_winners rule e k
+winners-sequential rule e k m size step weights table sets fits is by many are same level =
+    level-sequential rule e k sets fits
+    (subst (λ n. IsLevel (step_of rule) (hit_weights rule e.m) e.m e.rows (choices_of rule n k) sets) is
+    (subst (λ n. IsLevel (step_of rule) (hit_weights rule e.m) e.m e.rows n sets) many
+    (subst (λ w. IsLevel (step_of rule) w e.m e.rows size sets) (same ∙ are ∙ ap (hit_weights rule) is)
+    (subst (λ s. IsLevel s table e.m e.rows size sets) by level))))

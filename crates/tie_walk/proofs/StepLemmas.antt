@@ -8,7 +8,7 @@ use Rattle.std.proofs.lemmas.List.Sums.{fold-append}
 use Rattle.ballot_base.specs.CandSet.{has_member}
 use Rattle.ballot_base.specs.Ballots.{Row}
 use Rattle.ballot_base.proofs.Increasing.{has_member-filter}
-use Rattle.tie_walk.specs.Steps.{is_open, change, worth, is_no_better, better, worst, open_candidates, is_choice, changes}
+use Rattle.tie_walk.specs.Steps.Choices.{is_open, change, worth, is_no_better, better, worst, open_candidates, is_choice, changes}
 use Rattle.tie_walk.specs.declared.sequential.Step.{Step}
 use Rattle.tie_walk.specs.declared.sequential.Step.TheVariants.{Grow, Shrink}
 use Rattle.tie_walk.proofs.WinnersLemmas.{greatest, values-greatest, bounds-greatest, same_filter, at_least_is_equal, least}

@@ -1,40 +1,51 @@
 -- The tables of tallies, at a place.
-use Rattle.std.proofs.Common.{◌≡◌, ℕ, zero, suc, ◌/◌, ◌<◌, ◌≤◌, ◌^◌, ◌∙◌, List, refl, sym, ap, arith, length, take, get_or, sum, inl, inr}
+use Rattle.std.proofs.Common.{◌≡◌, ℕ, zero, suc, ◌+◌, ◌/◌, ◌<◌, ◌≤◌, ◌^◌, ◌∙◌, List, refl, sym, ap, arith, length, take, get_or, sum, inl, inr}
 use Rattle.std.proofs.Math.Nat.{div-le_self}
 use Rattle.std.proofs.lemmas.Bool.{cases_lt}
 use Rattle.std.proofs.lemmas.List.{ext_get_or, get_or_past, take_all}
 use Rattle.std.proofs.lemmas.List.FromFn.{get_or-map-range_with_len, length-map-range_with_len}
 use Rattle.std.proofs.lemmas.List.Sums.{sum_by-take-le}
+use Rattle.ballot_base.specs.Limits.{most_candidates, most_members}
 use Rattle.ballot_base.specs.Increments.{increments}
 use Rattle.ballot_base.specs.declared.increments.ThieleRule.{ThieleRule}
-use Rattle.ballot_base.proofs.WeightLemmas.{members-most, denominator-most, increments-length}
-use Rattle.tie_walk.specs.Tables.{prefix_sums, parts}
+use Rattle.ballot_base.proofs.WeightLemmas.{members-most, denominator-most, increments-length, sum_take_more}
+use Rattle.tie_walk.specs.Steps.Tables.{prefix_sums, parts}
 
 -- ---- sums of increments
 
-pub prefix_sums-at : (weights : List ℕ) (x : ℕ) → x ≤ 40 → get_or (prefix_sums weights) x 0 ≡ sum (take x weights)
+pub prefix_sums-at : (weights : List ℕ) (x : ℕ) → x ≤ most_candidates → get_or (prefix_sums weights) x 0 ≡ sum (take x weights)
 unfolding prefix_sums
-prefix_sums-at weights x h = get_or-map-range_with_len (λ n. sum (take n weights)) 0 41 x x 0 (omega arith) (omega arith)
+prefix_sums-at weights x h = get_or-map-range_with_len (λ n. sum (take n weights)) 0 (most_candidates + 1) x x 0 (omega arith) (omega arith)
 
-pub prefix_sums-length : (weights : List ℕ) → length (prefix_sums weights) ≡ 41
+pub prefix_sums-length : (weights : List ℕ) → length (prefix_sums weights) ≡ most_candidates + 1
 unfolding prefix_sums
-prefix_sums-length weights = length-map-range_with_len (λ n. sum (take n weights)) 0 41
+prefix_sums-length weights = length-map-range_with_len (λ n. sum (take n weights)) 0 (most_candidates + 1)
 
--- a list of 41 that has the sums
-pub prefix_sums-made : (weights sums : List ℕ) → length sums ≡ 41 → ((x : ℕ) → x ≤ 40 → get_or sums x 0 ≡ sum (take x weights)) → sums ≡ prefix_sums weights
+-- a list that has the sums
+pub prefix_sums-made : (weights sums : List ℕ) → length sums ≡ most_candidates + 1 → ((x : ℕ) → x ≤ most_candidates → get_or sums x 0 ≡ sum (take x weights)) → sums ≡ prefix_sums weights
 prefix_sums-made weights sums long made =
     ext_get_or 0 sums (prefix_sums weights) (long ∙ sym (prefix_sums-length weights)) (λ x h. made x (omega (arith, long)) ∙ sym (prefix_sums-at weights x (omega (arith, long))))
 
 pub sum-take-le : (weights : List ℕ) (x : ℕ) → sum (take x weights) ≤ sum weights
 sum-take-le weights x = sum_by-take-le (λ n. n) weights x
 
-pub increments_sum-most : (rule : ThieleRule) (k : ℕ) → k ≤ 40 → sum (increments rule k) ≤ 2 ^ 84
+pub increments_sum-most : (rule : ThieleRule) (k : ℕ) → k ≤ most_members → sum (increments rule k) ≤ 2 ^ 84
 increments_sum-most rule k most =
-    let all : take 40 (increments rule k) ≡ increments rule k = take_all 40 (increments rule k) (omega (arith, increments-length rule k)) in
-    omega (arith, rw all at (members-most rule k 40 most (omega arith)), denominator-most rule k most)
+    let all : take most_members (increments rule k) ≡ increments rule k = take_all most_members (increments rule k) (omega (arith, increments-length rule k)) in
+    omega (arith, rw all at (members-most rule k most_members most (omega arith)), denominator-most rule k most)
 
-pub sums-most : (rule : ThieleRule) (k : ℕ) (sums : List ℕ) (x : ℕ) → k ≤ 40 → sums ≡ prefix_sums (increments rule k) → get_or sums x 0 ≤ 2 ^ 84
-sums-most rule k sums x most is = elim (cases_lt x 41) [
+-- the sum of one more
+pub sum-take_more : (w : List ℕ) (x : ℕ) → sum (take (x + 1) w) ≡ sum (take x w) + get_or w x 0
+sum-take_more w x = elim (cases_lt x (length w)) [
+  | inl low ↦ sum_take_more w x low
+  | inr high ↦
+      let all : take x w ≡ w = take_all x w high in
+      let more : take (x + 1) w ≡ w = take_all (x + 1) w (omega (arith, high)) in
+      rw (all, more, get_or_past w x 0 high) (omega arith)
+]
+
+pub sums-most : (rule : ThieleRule) (k : ℕ) (sums : List ℕ) (x : ℕ) → k ≤ most_members → sums ≡ prefix_sums (increments rule k) → get_or sums x 0 ≤ 2 ^ 84
+sums-most rule k sums x most is = elim (cases_lt x (most_candidates + 1)) [
   | inl low ↦ omega (
     arith,
     ap (λ s. get_or s x 0) is,
@@ -47,20 +58,20 @@ sums-most rule k sums x most is = elim (cases_lt x 41) [
 
 -- ---- parts of a whole
 
-pub parts-length : (whole : ℕ) → length (parts whole) ≡ 41
+pub parts-length : (whole : ℕ) → length (parts whole) ≡ most_candidates + 1
 unfolding parts
-parts-length whole = ap suc (length-map-range_with_len (λ n. whole / n) 1 40)
+parts-length whole = ap suc (length-map-range_with_len (λ n. whole / n) 1 most_candidates)
 
-pub parts-at : (whole n : ℕ) → 1 ≤ n → n ≤ 40 → get_or (parts whole) n 0 ≡ whole / n
+pub parts-at : (whole n : ℕ) → 1 ≤ n → n ≤ most_candidates → get_or (parts whole) n 0 ≡ whole / n
 unfolding parts
 parts-at whole zero low high = absurd (omega arith)
-parts-at whole (suc n) low high = get_or-map-range_with_len (λ n. whole / n) 1 40 n (suc n) 0 (omega arith) (omega arith)
+parts-at whole (suc n) low high = get_or-map-range_with_len (λ n. whole / n) 1 most_candidates n (suc n) 0 (omega arith) (omega arith)
 
 pub parts-first : (whole : ℕ) → get_or (parts whole) 0 0 ≡ 0
 unfolding parts
 parts-first whole = refl
 
-pub parts-made : (whole : ℕ) (list : List ℕ) → length list ≡ 41 → get_or list 0 0 ≡ 0 → ((n : ℕ) → 1 ≤ n → n ≤ 40 → get_or list n 0 ≡ whole / n) → list ≡ parts whole
+pub parts-made : (whole : ℕ) (list : List ℕ) → length list ≡ most_candidates + 1 → get_or list 0 0 ≡ 0 → ((n : ℕ) → 1 ≤ n → n ≤ most_candidates → get_or list n 0 ≡ whole / n) → list ≡ parts whole
 parts-made whole list long first made =
     ext_get_or 0 list (parts whole) (long ∙ sym (parts-length whole)) at
   where
@@ -70,7 +81,12 @@ parts-made whole list long first made =
 
 pub parts-most : (whole n : ℕ) → get_or (parts whole) n 0 ≤ whole
 parts-most whole zero = omega (arith, parts-first whole)
-parts-most whole (suc n) = elim (cases_lt (suc n) 41) [
+parts-most whole (suc n) = elim (cases_lt (suc n) (most_candidates + 1)) [
   | inl low ↦ omega (arith, parts-at whole (suc n) (omega arith) (omega arith), div-le_self whole (suc n))
   | inr high ↦ omega (arith, get_or_past (parts whole) (suc n) 0 (omega (arith, parts-length whole, high)))
 ]
+
+-- ---- one increment
+
+pub weight-le-sum : (w : List ℕ) (i : ℕ) → get_or w i 0 ≤ sum w
+weight-le-sum w i = omega (arith, sum-take_more w i, sum-take-le w (i + 1))

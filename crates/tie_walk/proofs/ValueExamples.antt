@@ -1,11 +1,13 @@
 -- Each definition, computed on a small example.
-use Rattle.std.proofs.Common.{◌≡◌, List, [], ◌∷◌, refl, lit≤, replicate}
+use Rattle.std.proofs.Common.{◌≡◌, ◌-◌, List, [], ◌∷◌, refl, lit≤, replicate}
+use Rattle.ballot_base.specs.Limits.{most_candidates, most_members}
 use Rattle.ballot_base.specs.Ballots.{Row, election}
 use Rattle.ballot_base.specs.CommonMultiple.{common_multiple}
 use Rattle.ballot_base.specs.Increments.{increments}
 use Rattle.ballot_base.specs.declared.increments.ThieleRule.TheVariants.{Pav, Cc, Geom2}
 use Rattle.tie_walk.specs.Values.{thiele_value, satisfaction_value, distance, greatest_distance, closeness}
-use Rattle.tie_walk.specs.Tables.{Thiele, thiele_of, prefix_sums, parts, IsThiele}
+use Rattle.tie_walk.specs.Values.{Thiele, thiele_of}
+use Rattle.tie_walk.specs.Steps.Tables.{prefix_sums, parts, sum_of_worths, IsThiele, score, IsSatisfaction}
 
 -- of the candidates 1 to 3, two voters approve 1 and 2, and one voter 3
 two_and_one : List Row
@@ -84,14 +86,28 @@ size_of_the_tally : tally.k ≡ 2
 unfolding tally
 size_of_the_tally = refl
 
-sums_of_three : prefix_sums (6 ∷ 3 ∷ 2 ∷ []) ≡ 0 ∷ 6 ∷ 9 ∷ replicate 38 11
+sums_of_three : prefix_sums (6 ∷ 3 ∷ 2 ∷ []) ≡ 0 ∷ 6 ∷ 9 ∷ replicate (most_candidates - 2) 11
 unfolding prefix_sums
 sums_of_three = refl
 
-parts_of_two : parts 2 ≡ 0 ∷ 2 ∷ 1 ∷ replicate 38 0
+parts_of_two : parts 2 ≡ 0 ∷ 2 ∷ 1 ∷ replicate (most_candidates - 2) 0
 unfolding parts
 parts_of_two = refl
 
-is_thiele : IsThiele Cc 2 1 (0 ∷ replicate 40 1)
+-- 3 of worth 5 at 0, 4 of worth 7 at 1; those at 2 are past the last
+worths_of_two : sum_of_worths (3 ∷ 4 ∷ 9 ∷ []) (5 ∷ 7 ∷ 1 ∷ []) 1 ≡ 43
+worths_of_two = refl
+
+is_thiele : IsThiele Cc 2 1 (1 ∷ replicate (most_members - 1) 0) (0 ∷ replicate most_candidates 1)
 unfolding prefix_sums increments
-is_thiele = record { most = lit≤ tt; denom_is = refl; sums_are = refl }
+is_thiele = record { size = lit≤ tt; denom_is = refl; weights_are = refl; sums_are = refl }
+
+-- of a ballot of two, each has half of 6; of a ballot of one, all of it
+score_of_two : score (0 ∷ 6 ∷ 3 ∷ []) two_and_one 2 ≡ 6
+unfolding two_and_one
+score_of_two = refl
+
+-- nobody approves a candidate
+is_satisfaction : IsSatisfaction (election 3 ([] ∷ [] ∷ [] ∷ []) (([], 5) ∷ [])) 6 (parts 6) []
+unfolding common_multiple
+is_satisfaction = record { denom_is = refl; shares_are = refl; scores_are = λ c. refl }

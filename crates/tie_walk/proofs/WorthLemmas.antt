@@ -1,10 +1,10 @@
 -- What a set gains by a candidate, or loses with one, over the rows.
-use Rattle.std.proofs.Common.{◌≡◌, ℕ, zero, suc, ◌+◌, ◌*◌, ◌≤◌, ◌^◌, ◌∙◌, Bool, true, false, cond, List, [], ◌∷◌, Some, refl, arith, take, get_or, slice_get, sum_by, replicate}
+use Rattle.std.proofs.Common.{◌≡◌, ℕ, zero, suc, ◌+◌, ◌*◌, ◌<◌, ◌≤◌, ◌^◌, ◌∙◌, Bool, true, false, cond, List, [], ◌∷◌, Some, refl, arith, take, get_or, slice_get, sum_by, replicate}
 use Rattle.std.proofs.lemmas.List.Sums.{sum_by-cons}
 use Rattle.ballot_base.specs.CandSet.{has_member}
 use Rattle.ballot_base.specs.Ballots.{Row, Election, IsElection, hits}
 use Rattle.tie_walk.specs.Sequences.{weight, supporters}
-use Rattle.tie_walk.specs.Steps.{worth, hits_of}
+use Rattle.tie_walk.specs.Steps.Choices.{worth, hits_of}
 use Rattle.tie_walk.specs.declared.sequential.Step.{Step}
 use Rattle.tie_walk.specs.declared.sequential.Step.TheVariants.{Grow, Shrink}
 use Rattle.tie_walk.proofs.RowSums.{rows-more, rows-bound}
@@ -21,7 +21,7 @@ product-of-part : (b : Bool) (n w : ℕ) → n * cond b w 0 ≡ cond b (n * w) 0
 product-of-part true n w = refl
 product-of-part false n w = omega arith
 
-supported : (f : Row → ℕ) (c : ℕ) (rows : List Row) → sum_by (λ (row : Row). row.1 * cond (has_member row.0 c) (f row) 0) rows ≡ sum_by (λ (row : Row). row.1 * f row) (supporters rows c)
+pub supported : (f : Row → ℕ) (c : ℕ) (rows : List Row) → sum_by (λ (row : Row). row.1 * cond (has_member row.0 c) (f row) 0) rows ≡ sum_by (λ (row : Row). row.1 * f row) (supporters rows c)
 supported f c [] = refl
 supported f c (row ∷ rows) =
     let rest = supported f c rows in
@@ -52,15 +52,15 @@ module _ (step : Step) (weights set : List ℕ) where
   partial-more rows i c row found =
       omega (arith, rows-more (share step weights set c) rows i row found, product-of-part (has_member row.0 c) row.1 (weight weights (hits_of step (hits row.0 set))))
 
-  pub partial-bound : (e : Election) (i c : ℕ) (row : Row) → IsElection e → ((j : ℕ) → get_or weights j 0 ≤ 2 ^ 78) → slice_get e.rows i ≡ Some row
-      → partial step weights set c (take i e.rows) ≤ 2 ^ 110
+  pub partial-bound : (e : Election) (i c : ℕ) (row : Row) → IsElection e → ((j : ℕ) → get_or weights j 0 < 2 ^ 90) → slice_get e.rows i ≡ Some row
+      → partial step weights set c (take i e.rows) ≤ 2 ^ 122
   partial-bound e i c row valid all found =
-      omega (arith, rows-bound (share step weights set c) e (2 ^ 78) i row valid (λ r h. share-most step weights set c (2 ^ 78) r all) found)
+      omega (arith, rows-bound (share step weights set c) e (2 ^ 90) i row valid (λ r h. share-most step weights set c (2 ^ 90) r (λ j. omega (arith, all j))) found)
 
-  pub row-bound : (e : Election) (i : ℕ) (row : Row) → IsElection e → ((j : ℕ) → get_or weights j 0 ≤ 2 ^ 78) → slice_get e.rows i ≡ Some row
-      → row.1 * weight weights (hits_of step (hits row.0 set)) ≤ 2 ^ 110
+  pub row-bound : (e : Election) (i : ℕ) (row : Row) → IsElection e → ((j : ℕ) → get_or weights j 0 < 2 ^ 90) → slice_get e.rows i ≡ Some row
+      → row.1 * weight weights (hits_of step (hits row.0 set)) ≤ 2 ^ 122
   row-bound e i row valid all found =
-      omega (arith, rows-bound (λ (r : Row). weight weights (hits_of step (hits r.0 set))) e (2 ^ 78) i row valid (λ r h. weight-most weights (hits_of step (hits r.0 set)) (2 ^ 78) all) found)
+      omega (arith, rows-bound (λ (r : Row). weight weights (hits_of step (hits r.0 set))) e (2 ^ 90) i row valid (λ r h. weight-most weights (hits_of step (hits r.0 set)) (2 ^ 90) (λ j. omega (arith, all j))) found)
 
 pub no_total : (n i : ℕ) → get_or {A = ℕ} (replicate n 0) i 0 ≡ 0
 no_total zero i = refl

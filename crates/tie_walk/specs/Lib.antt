@@ -1,5 +1,6 @@
-pub mod Sequences
-pub mod Steps
-pub mod Tables
 pub mod Values
+pub mod Ceilings
 pub mod Winners
+pub mod Sequences
+pub mod RuleNames
+pub mod Steps

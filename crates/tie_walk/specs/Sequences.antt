@@ -1,17 +1,28 @@
 -- Committees made one choice at a time
--- (Lackner and Skowron, Multi-Winner Voting with Approval Preferences, sequential and reverse sequential Thiele methods).
-use Rattle.std.specs.Prelude.{ℕ, zero, suc, ◌+◌, ◌-◌, ◌*◌, ◌&&◌, Bool, true, not, List, [], ◌∷◌, IsTrue, slice_index, sum_by, filter, fold, map, nat_le}
+-- (Lackner and Skowron, Multi-Winner Voting with Approval Preferences, sequential and reverse sequential Thiele
+-- methods).
+use Rattle.std.specs.Prelude.{ℕ, zero, suc, ◌+◌, ◌-◌, ◌*◌, ◌/◌, ◌==◌, ◌&&◌, Bool, true, not, List, [], ◌∷◌, IsTrue, slice_index, sum_by, filter, fold, map, nat_le, if◌then◌else◌}
 use Rattle.std.specs.List.{list_any, list_all, flat_map, range_with_len}
 use Rattle.std.specs.Str.{bytes_eq}
 use Rattle.ballot_base.specs.Lists.{increasing_lists}
 use Rattle.ballot_base.specs.CandSet.{has_member, with_member, without_member}
 use Rattle.ballot_base.specs.Ballots.{Row, Election, hits}
-use Rattle.ballot_base.specs.Increments.{increments}
-use Rattle.ballot_base.specs.declared.increments.ThieleRule.TheVariants.{Pav, Cc}
+use Rattle.ballot_base.specs.CommonMultiple.{common_multiple}
 use Rattle.tie_walk.specs.declared.sequential.SeqRule.{SeqRule}
 use Rattle.tie_walk.specs.declared.sequential.SeqRule.TheVariants.{SeqPav, SeqCc, RevSeqPav}
 
--- what the j-th of a voter's members adds, counted from 1
+-- what the j-th of a voter's hits adds, of m candidates: under proportional approval voting 1/j, here times the least
+-- common multiple of 1 to m, and under Chamberlin-Courant 1 for the first alone
+abbrev pub hit_weight : SeqRule → ℕ → ℕ → ℕ
+hit_weight SeqPav m j = common_multiple m / j
+hit_weight SeqCc m j = if j == 1 then 1 else 0
+hit_weight RevSeqPav m j = common_multiple m / j
+
+-- what the hits of a voter add in turn, as many as there are candidates
+unfoldable pub hit_weights : SeqRule → ℕ → List ℕ
+hit_weights rule m = map (hit_weight rule m) (range_with_len 1 m)
+
+-- what the j-th hit adds, counted from 1
 abbrev pub weight : List ℕ → ℕ → ℕ
 weight weights zero = 0
 weight weights (suc j) = slice_index weights j
@@ -22,7 +33,8 @@ supporters rows c = filter (λ (row : Row). has_member row.0 c) rows
 
 -- what the set gains by the candidate, who is no member: each supporter has a hit more
 abbrev pub gain : List ℕ → List Row → List ℕ → ℕ → ℕ
-gain weights rows set c = sum_by (λ (row : Row). row.1 * weight weights (hits row.0 set + 1)) (supporters rows c)
+gain weights rows set c =
+    sum_by (λ (row : Row). row.1 * weight weights (hits row.0 set + 1)) (supporters rows c)
 
 -- what the set loses with the candidate, who is a member: each supporter's last hit
 abbrev pub loss : List ℕ → List Row → List ℕ → ℕ → ℕ
@@ -35,21 +47,25 @@ others m set = filter (λ c. not (has_member set c)) (range_with_len 1 m)
 -- whether the candidate is outside the set, and no other one outside it has a greater gain at it
 abbrev pub has_greatest_gain : List ℕ → ℕ → List Row → List ℕ → ℕ → Bool
 has_greatest_gain weights m rows set c =
-    has_member (others m set) c && list_all (λ d. nat_le (gain weights rows set d) (gain weights rows set c)) (others m set)
+    has_member (others m set) c
+    && list_all (λ d. nat_le (gain weights rows set d) (gain weights rows set c)) (others m set)
 
 -- whether the candidate is in the set, and no other member has a smaller loss from it
 abbrev pub has_least_loss : List ℕ → List Row → List ℕ → ℕ → Bool
-has_least_loss weights rows set c = has_member set c && list_all (λ d. nat_le (loss weights rows set c) (loss weights rows set d)) set
+has_least_loss weights rows set c =
+    has_member set c && list_all (λ d. nat_le (loss weights rows set c) (loss weights rows set d)) set
 
 -- whether each member of the list has a greatest gain at the set of the members before it
 abbrev pub is_grown : List ℕ → ℕ → List Row → List ℕ → List ℕ → Bool
 is_grown weights m rows before [] = true
-is_grown weights m rows before (c ∷ list) = has_greatest_gain weights m rows before c && is_grown weights m rows (with_member before c) list
+is_grown weights m rows before (c ∷ list) =
+    has_greatest_gain weights m rows before c && is_grown weights m rows (with_member before c) list
 
 -- whether each member of the list has a least loss from those whom the members before it leave
 abbrev pub is_shrunk : List ℕ → List Row → List ℕ → List ℕ → Bool
 is_shrunk weights rows left [] = true
-is_shrunk weights rows left (c ∷ list) = has_least_loss weights rows left c && is_shrunk weights rows (without_member left c) list
+is_shrunk weights rows left (c ∷ list) =
+    has_least_loss weights rows left c && is_shrunk weights rows (without_member left c) list
 
 abbrev pub IsGrown : List ℕ → ℕ → List Row → List ℕ → Type 0
 IsGrown weights m rows list = IsTrue (is_grown weights m rows [] list)
@@ -64,18 +80,21 @@ sequences m (suc size) = flat_map (λ c. map (λ list. c ∷ list) (sequences m 
 
 -- the set of the members of some grown list of k
 abbrev pub is_grown_set : List ℕ → ℕ → List Row → ℕ → List ℕ → Bool
-is_grown_set weights m rows k set = list_any (λ list. is_grown weights m rows [] list && bytes_eq (fold with_member [] list) set) (sequences m k)
+is_grown_set weights m rows k set =
+    list_any (λ list. is_grown weights m rows [] list && bytes_eq (fold with_member [] list) set) (sequences m k)
 
 -- the set of those whom some shrunk list of m - k leaves
 abbrev pub is_left_set : List ℕ → ℕ → List Row → ℕ → List ℕ → Bool
 is_left_set weights m rows k set =
-    list_any (λ list. is_shrunk weights rows (range_with_len 1 m) list && bytes_eq (fold without_member (range_with_len 1 m) list) set) (sequences m (m - k))
+    let all = range_with_len 1 m in
+    list_any (λ list. is_shrunk weights rows all list && bytes_eq (fold without_member all list) set)
+    (sequences m (m - k))
 
 -- whether some sequence of choices makes the committee
 abbrev pub is_sequential_winner : SeqRule → Election → ℕ → List ℕ → Bool
-is_sequential_winner SeqPav e k set = is_grown_set (increments Pav e.m) e.m e.rows k set
-is_sequential_winner SeqCc e k set = is_grown_set (increments Cc e.m) e.m e.rows k set
-is_sequential_winner RevSeqPav e k set = is_left_set (increments Pav e.m) e.m e.rows k set
+is_sequential_winner SeqPav e k set = is_grown_set (hit_weights SeqPav e.m) e.m e.rows k set
+is_sequential_winner SeqCc e k set = is_grown_set (hit_weights SeqCc e.m) e.m e.rows k set
+is_sequential_winner RevSeqPav e k set = is_left_set (hit_weights RevSeqPav e.m) e.m e.rows k set
 
 -- the committees that some sequence of choices makes, in lexicographic order
 abbrev pub sequential_winners : SeqRule → Election → ℕ → List (List ℕ)

@@ -1,8 +1,9 @@
 -- The values of committees (Lackner and Skowron, Multi-Winner Voting with Approval Preferences).
 use Rattle.std.specs.Prelude.{ℕ, ◌+◌, ◌-◌, ◌*◌, ◌/◌, ◌==◌, not, List, length, sum, sum_by, count_by, filter, fold, max, take}
 use Rattle.ballot_base.specs.CandSet.{has_member}
-use Rattle.ballot_base.specs.Ballots.{Row, hits}
+use Rattle.ballot_base.specs.Ballots.{Row, Election, hits}
 use Rattle.ballot_base.specs.CommonMultiple.{common_multiple}
+use Rattle.ballot_base.specs.declared.increments.ThieleRule.{ThieleRule}
 
 -- under a Thiele rule with these increments a voter gives a committee the sum of as many as it has hits
 abbrev pub thiele_value : List ℕ → List Row → List ℕ → ℕ
@@ -12,11 +13,13 @@ thiele_value weights rows committee = sum_by (λ row. row.1 * sum (take (hits ro
 -- ballot, here times the least common multiple of the sizes 1 to m
 abbrev pub satisfaction_value : ℕ → List Row → List ℕ → ℕ
 satisfaction_value m rows committee =
-    sum_by (λ row. row.1 * hits row.0 committee * (common_multiple m / length row.0)) (filter (λ row. not (length row.0 == 0)) rows)
+    sum_by (λ row. row.1 * hits row.0 committee * (common_multiple m / length row.0))
+    (filter (λ row. not (length row.0 == 0)) rows)
 
 -- how many candidates stand on exactly one of a ballot and a committee
 abbrev pub distance : List ℕ → List ℕ → ℕ
-distance ballot committee = count_by (λ n. not (has_member committee n)) ballot + count_by (λ n. not (has_member ballot n)) committee
+distance ballot committee =
+    count_by (λ n. not (has_member committee n)) ballot + count_by (λ n. not (has_member ballot n)) committee
 
 -- the greatest distance of a voter's ballot from the committee, however many voters cast it
 abbrev pub greatest_distance : List Row → List ℕ → ℕ
@@ -25,3 +28,12 @@ greatest_distance rows committee = fold (λ greatest row. max greatest (distance
 -- under minimax approval voting the least greatest distance wins; of m candidates, the rest of them is the value
 abbrev pub closeness : ℕ → List Row → List ℕ → ℕ
 closeness m rows committee = m - greatest_distance rows committee
+
+-- what contracts see of a tally of a Thiele rule for committees of k
+pub record Thiele : Type 0 where
+  pub election : Election
+  pub rule : ThieleRule
+  pub k : ℕ
+
+abbrev pub thiele_of : Election → ThieleRule → ℕ → Thiele
+thiele_of election rule k = record { election = election; rule = rule; k = k }

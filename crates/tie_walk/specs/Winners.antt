@@ -1,7 +1,7 @@
 -- Which committees win, whatever gives a committee its value.
-use Rattle.std.specs.Prelude.{ℕ, Bool, List, map, filter, fold, max, nat_le}
+use Rattle.std.specs.Prelude.{◌≡◌, ℕ, Bool, List, Option, None, Some, ⊤, length, map, filter, fold, max, nat_le}
 use Rattle.std.specs.List.{list_all}
-use Rattle.ballot_base.specs.Lists.{increasing_lists}
+use Rattle.ballot_base.specs.Lists.{IsIncreasing, increasing_lists}
 
 -- the greatest value of a committee of k of the candidates 1 to m
 -- (Lackner and Skowron, Multi-Winner Voting with Approval Preferences)
@@ -16,6 +16,11 @@ is_unbeaten value committees committee = list_all (λ other. nat_le (value other
 -- (Lackner and Skowron, Multi-Winner Voting with Approval Preferences)
 abbrev pub winners : (List ℕ → ℕ) → ℕ → ℕ → List (List ℕ)
 winners value m k = filter (is_unbeaten value (increasing_lists 1 m k)) (increasing_lists 1 m k)
+
+-- a start is a committee of k of the candidates 1 to m, or there is none
+abbrev pub IsStart : ℕ → ℕ → Option (List ℕ) → Type 0
+IsStart m k None = ⊤
+IsStart m k (Some set) = IsIncreasing 1 m set × (length set ≡ k)
 
 -- what contracts see of a walk over the winners: the tally, the number of candidates, the size of a committee, the
 -- greatest value of a committee, and the winners still to come

@@ -1,12 +1,15 @@
 //! Laws of the definitions. Each function does nothing, and its contract is the law.
-ghost use Rattle.std.specs.Prelude.{◌≡◌, ℕ, ◌+◌, ◌-◌, ◌<◌, ◌≤◌, ◌↔◌, List, [], length, fold, take, slice_index, IsTrue, Contains, AllPairs};
+ghost use Rattle.std.specs.Prelude.{◌≡◌, ◌≢◌, ℕ, ◌+◌, ◌-◌, ◌^◌, ◌<◌, ◌≤◌, ◌↔◌, List, [], ◌∷◌, ◌++◌, Some, length, map, fold, take, slice_index, IsTrue, Contains, AllPairs};
 ghost use Rattle.std.specs.List.{AllByRecursion, range_with_len};
-ghost use Rattle.ballot_base.specs.Ballots.{Row, Election};
-ghost use Rattle.ballot_base.specs.Lists.{IsIncreasing, increasing_lists, IsLater};
-ghost use Rattle.ballot_base.specs.CandSet.{with_member, without_member};
+ghost use Rattle.ballot_base.specs.Limits.{most_members};
 ghost use Rattle.ballot_base.specs.Increments.{increments};
-ghost use Rattle.tie_walk.specs.Sequences.{has_greatest_gain, has_least_loss, IsGrown, IsShrunk, sequential_winners};
-ghost use Rattle.tie_walk.specs.Values.{greatest_distance, closeness};
+ghost use Rattle.ballot_base.specs.Ballots.{Row, Election, IsElection};
+ghost use Rattle.ballot_base.specs.Lists.{IsIncreasing, increasing_lists, AreInOrder, later_than};
+ghost use Rattle.ballot_base.specs.CandSet.{with_member, without_member};
+ghost use Rattle.tie_walk.specs.RuleNames.{seq_name, seq_named, seq_rules};
+ghost use Rattle.tie_walk.specs.Sequences.{hit_weights, has_greatest_gain, has_least_loss, IsGrown, IsShrunk, sequential_winners};
+ghost use Rattle.tie_walk.specs.Ceilings.{IsSubmodular, IsBound, ceiling, closeness_upto};
+ghost use Rattle.tie_walk.specs.Values.{greatest_distance, closeness, satisfaction_value, thiele_value};
 ghost use Rattle.tie_walk.specs.Winners.{best_value, winners};
 
 use crate::sequential::SeqRule;
@@ -28,37 +31,90 @@ pub fn winning_committees()
 
 /// Their order: each comes later than all before it, so that each comes once.
 pub fn winner_order()
-    ensures later { (value : List ℕ → ℕ) (m k : ℕ) → AllPairs (λ x y. IsLater y x) (winners value m k) }
-    ensures once { (value : List ℕ → ℕ) (m k : ℕ) → AllPairs (λ x y. x ≡ y → ⊥) (winners value m k) }
+    ensures later { (value : List ℕ → ℕ) (m k : ℕ) → AreInOrder (winners value m k) }
+    ensures once { (value : List ℕ → ℕ) (m k : ℕ) → AllPairs (λ set other. set ≢ other) (winners value m k) }
+{}
+
+/// Where a winner is the start of a walk, the walk has the winners after it: a winner at a time, each the start of the
+/// next walk, they come as in one walk over all.
+pub fn starts()
+    ensures winners { (value : List ℕ → ℕ) (m k : ℕ) (before after : List (List ℕ)) (start : List ℕ)
+        → winners value m k ≡ before ++ start ∷ after → later_than (Some start) (winners value m k) ≡ after }
+    ensures sequential { (rule : SeqRule) (e : Election) (k : ℕ) (before after : List (List ℕ)) (start : List ℕ)
+        → sequential_winners rule e k ≡ before ++ start ∷ after
+        → later_than (Some start) (sequential_winners rule e k) ≡ after }
+{}
+
+/// Under Thiele's rules and satisfaction approval voting, gains only fall as a committee grows.
+pub fn gains_fall()
+    ensures thiele { (rule : ThieleRule) (k : ℕ) (rows : List Row) → k ≤ most_members
+        → IsSubmodular (thiele_value (increments rule k) rows) }
+    ensures satisfaction { (m : ℕ) (rows : List Row) → IsSubmodular (satisfaction_value m rows) }
+{}
+
+/// Where gains only fall, the greatest gains bound every completion; under minimax approval voting distances only grow.
+pub fn ceilings()
+    ensures gains { (value : List ℕ → ℕ) (m c : ℕ) (set : List ℕ) (left : ℕ) → IsSubmodular value
+        → IsIncreasing 1 c set → IsBound value m c set left (ceiling value m c set left) }
+    ensures distances { (m : ℕ) (rows : List Row) (c : ℕ) (set : List ℕ) (left : ℕ)
+        → IsIncreasing 1 c set → IsBound (closeness m rows) m c set left (closeness_upto m rows c set) }
+{}
+
+/// `SeqRule::ALL` has each rule, and no two rules share a name.
+pub fn names()
+    ensures all { SeqRule.ALL ≡ seq_rules }
+    ensures texts { map (λ name. name.now) SeqRule.NAMES ≡ map seq_name seq_rules }
+    ensures back { (rule : SeqRule) → seq_named (seq_name rule) ≡ Some rule }
 {}
 
 /// No ballot is farther from a committee than there are candidates: the value under minimax and the distance add up to
 /// their number.
 pub fn distances()
-    ensures { (m : ℕ) (rows : List Row) (committee : List ℕ) → AllByRecursion (λ row. IsIncreasing 1 m row.0) rows → IsIncreasing 1 m committee → greatest_distance rows committee + closeness m rows committee ≡ m }
+    ensures { (m : ℕ) (rows : List Row) (committee : List ℕ) → AllByRecursion (λ row. IsIncreasing 1 m row.0) rows
+        → IsIncreasing 1 m committee → greatest_distance rows committee + closeness m rows committee ≡ m }
 {}
 
 /// Which lists are grown and shrunk, place by place: each member has a greatest gain at the set of the members before
 /// it, or a least loss from those whom they leave.
 pub fn sequences()
     ensures grown { (weights : List ℕ) (m : ℕ) (rows : List Row) (list : List ℕ) → IsGrown weights m rows list
-        ↔ ((i : ℕ) → i < length list → IsTrue (has_greatest_gain weights m rows (fold with_member [] (take i list)) (slice_index list i))) }
+        ↔ ((i : ℕ) → i < length list → let before = fold with_member [] (take i list) in
+        IsTrue (has_greatest_gain weights m rows before (slice_index list i))) }
     ensures shrunk { (weights : List ℕ) (m : ℕ) (rows : List Row) (list : List ℕ) → IsShrunk weights m rows list
-        ↔ ((i : ℕ) → i < length list → IsTrue (has_least_loss weights rows (fold without_member (range_with_len 1 m) (take i list)) (slice_index list i))) }
+        ↔ ((i : ℕ) → i < length list → let left = fold without_member (range_with_len 1 m) (take i list) in
+        IsTrue (has_least_loss weights rows left (slice_index list i))) }
 {}
 
 /// Which committees win under the sequential rules: just those that some sequence of choices makes.
 pub fn sequential_committees()
     ensures seqpav { (e : Election) (k : ℕ) (set : List ℕ) → Contains (sequential_winners SeqRule.SeqPav e k) set
-        ↔ ((list : List ℕ) × (length list ≡ k) × IsGrown (increments ThieleRule.Pav e.m) e.m e.rows list × (fold with_member [] list ≡ set)) }
+        ↔ ((list : List ℕ) × (length list ≡ k) × IsGrown (hit_weights SeqRule.SeqPav e.m) e.m e.rows list
+        × (fold with_member [] list ≡ set)) }
     ensures seqcc { (e : Election) (k : ℕ) (set : List ℕ) → Contains (sequential_winners SeqRule.SeqCc e k) set
-        ↔ ((list : List ℕ) × (length list ≡ k) × IsGrown (increments ThieleRule.Cc e.m) e.m e.rows list × (fold with_member [] list ≡ set)) }
-    ensures revseqpav { (e : Election) (k : ℕ) (set : List ℕ) → k ≤ e.m → Contains (sequential_winners SeqRule.RevSeqPav e k) set
-        ↔ ((list : List ℕ) × (length list ≡ e.m - k) × IsShrunk (increments ThieleRule.Pav e.m) e.m e.rows list × (fold without_member (range_with_len 1 e.m) list ≡ set)) }
+        ↔ ((list : List ℕ) × (length list ≡ k) × IsGrown (hit_weights SeqRule.SeqCc e.m) e.m e.rows list
+        × (fold with_member [] list ≡ set)) }
+    ensures revseqpav { (e : Election) (k : ℕ) (set : List ℕ) → k ≤ e.m
+        → Contains (sequential_winners SeqRule.RevSeqPav e k) set
+        ↔ ((list : List ℕ) × (length list ≡ e.m - k) × IsShrunk (hit_weights SeqRule.RevSeqPav e.m) e.m e.rows list
+        × (fold without_member (range_with_len 1 e.m) list ≡ set)) }
 {}
 
 /// Their order: each comes later than all before it, so that each comes once.
 pub fn sequential_order()
-    ensures later { (rule : SeqRule) (e : Election) (k : ℕ) → AllPairs (λ x y. IsLater y x) (sequential_winners rule e k) }
-    ensures once { (rule : SeqRule) (e : Election) (k : ℕ) → AllPairs (λ x y. x ≡ y → ⊥) (sequential_winners rule e k) }
+    ensures later { (rule : SeqRule) (e : Election) (k : ℕ) → AreInOrder (sequential_winners rule e k) }
+    ensures once { (rule : SeqRule) (e : Election) (k : ℕ)
+        → AllPairs (λ set other. set ≢ other) (sequential_winners rule e k) }
+{}
+
+/// How large values are: those of proportional approval voting, of the geometric rules and of satisfaction approval
+/// voting, over their denominators, whatever the election is. So no sum of a tally wraps.
+pub fn ranges()
+    ensures proportional { (e : Election) (k : ℕ) (committee : List ℕ) → IsElection e → k ≤ most_members
+        → thiele_value (increments ThieleRule.Pav k) e.rows committee < 2 ^ 87 }
+    ensures geometric { (e : Election) (k : ℕ) (committee : List ℕ) → IsElection e → k ≤ most_members
+        → (thiele_value (increments ThieleRule.Geom2 k) e.rows committee < 2 ^ 114)
+        × (thiele_value (increments ThieleRule.Geom3 k) e.rows committee < 2 ^ 114)
+        × (thiele_value (increments ThieleRule.Geom4 k) e.rows committee < 2 ^ 114) }
+    ensures satisfaction { (e : Election) (committee : List ℕ) → IsElection e
+        → satisfaction_value e.m e.rows committee < 2 ^ 125 }
 {}

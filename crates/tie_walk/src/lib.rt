@@ -4,6 +4,7 @@
 
 pub mod laws;
 pub mod minimax;
+mod prefix;
 pub mod satisfaction;
 pub mod sequential;
 pub mod tally;

@@ -1,6 +1,7 @@
 //! The values of minimax approval voting.
 ghost use Rattle.std.specs.Prelude.{◌≡◌, ◌≤◌};
 ghost use Rattle.ballot_base.specs.Lists.{IsIncreasing};
+ghost use Rattle.tie_walk.specs.Ceilings.{greatest_distance_upto, closeness_upto};
 ghost use Rattle.tie_walk.specs.Values.{distance, greatest_distance, closeness};
 
 use crate::tally::Tally;
@@ -37,12 +38,18 @@ impl<'a, A: Allocator + Copy> Tally for MinimaxTally<'a, A> {
 
     ghost value_of = { λ tally set. closeness tally.m tally.rows set };
 
+    ghost bound_of = { λ tally c set left. closeness_upto tally.m tally.rows c set };
+
     fn m(&self) -> u8 {
         self.profile.m()
     }
 
     fn value(&self, set: CandSet) -> u128 {
         u128::from(self.profile.m() - farthest(self.profile, set))
+    }
+
+    fn bound(&self, c: u8, set: CandSet, _left: u8) -> u128 {
+        u128::from(self.profile.m() - farthest_upto(self.profile, c, set))
     }
 }
 
@@ -60,10 +67,27 @@ fn farthest<A: Allocator + Copy>(profile: &Profile<A>, committee: CandSet) -> u8
     greatest
 }
 
+/// The greatest distance of a ballot from the set, as far as the candidates 1 to c tell.
+fn farthest_upto<A: Allocator + Copy>(profile: &Profile<A>, c: u8, set: CandSet) -> u8
+    requires within { c ≤ profile.now.m }
+    requires candidates { IsIncreasing 1 c set }
+    ensures value { result ≡ greatest_distance_upto c profile.now.rows set }
+    ensures most { result ≤ profile.now.m }
+{
+    let mut greatest = 0;
+    for i in 0..profile.rows() {
+        let (ballot, _) = profile.row(i);
+        greatest = greatest.max(distance(ballot.upto(c), set));
+    }
+    greatest
+}
+
 /// How many candidates stand in exactly one of the two.
 fn distance(ballot: CandSet, committee: CandSet) -> u8
     ensures { result ≡ distance ballot committee }
 {
+    ballot.valid();
+    committee.valid();
     let common = ballot.common(committee).len();
     ballot.len() - common + (committee.len() - common)
 }

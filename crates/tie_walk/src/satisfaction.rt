@@ -1,12 +1,14 @@
 //! The values of satisfaction approval voting.
-ghost use Rattle.std.specs.Prelude.{◌≡◌, ℕ, ◌*◌, ◌≤◌, ◌==◌, length, filter, sum_by, slice_index};
+ghost use Rattle.std.specs.Prelude.{◌≡◌, ℕ, ◌+◌, ◌-◌, ◌*◌, ◌^◌, ◌<◌, ◌≤◌, ◌==◌, length, filter, sum_by, slice_index};
 ghost use Rattle.ballot_base.specs.Lists.{IsIncreasing};
 ghost use Rattle.ballot_base.specs.Ballots.{hits};
 ghost use Rattle.ballot_base.specs.CommonMultiple.{common_multiple};
+ghost use Rattle.tie_walk.specs.Ceilings.{ceiling};
 ghost use Rattle.tie_walk.specs.Values.{satisfaction_value};
-ghost use Rattle.tie_walk.specs.Tables.{parts};
+ghost use Rattle.tie_walk.specs.Steps.Tables.{parts, score};
 
-use crate::tally::{Tally, sum_of_worths};
+use crate::sequential::add_to_members;
+use crate::tally::{PLACES, Tally, greatest_sum, sum_of_worths};
 use ballot_base::{CandSet, Profile, common_multiple};
 use std::alloc::{Allocator, Global};
 use std::marker::Model;
@@ -18,20 +20,20 @@ pub struct SavTally<'a, A: Allocator + Copy = Global> {
     profile: &'a Profile<A>,
     denom: u128,
     // What a hit on a ballot of n candidates gives, at n; 0 at 0.
-    shares: [u128; 41],
+    shares: [u128; PLACES],
+    // What each candidate gives a committee, at the candidate's number; 0 at 0.
+    scores: [u128; PLACES],
 }
 
 impl<'a, A: Allocator + Copy> Model for SavTally<'a, A> {
-    ghost use Rattle.std.specs.Prelude.{◌≡◌};
     ghost use Rattle.ballot_base.specs.Ballots.{Election};
-    ghost use Rattle.ballot_base.specs.CommonMultiple.{common_multiple};
-    ghost use Rattle.tie_walk.specs.Tables.{parts};
+    ghost use Rattle.tie_walk.specs.Steps.Tables.{IsSatisfaction};
 
     ghost Value = { Election };
 
     ghost view = { λ t. t.profile.now };
 
-    ghost invariant = { λ t. (t.denom ≡ common_multiple t.profile.now.m) × (t.shares ≡ parts t.denom) };
+    ghost invariant = { λ t. IsSatisfaction t.profile.now t.denom t.shares t.scores };
 }
 
 impl<'a, A: Allocator + Copy> SavTally<'a, A> {
@@ -40,10 +42,13 @@ impl<'a, A: Allocator + Copy> SavTally<'a, A> {
         ensures { result ≡ profile.now }
     {
         let denom = common_multiple(profile.m());
+        let shares = parts(denom);
+        let scores = scores(profile, &shares);
         SavTally {
             profile,
             denom,
-            shares: parts(denom),
+            shares,
+            scores,
         }
     }
 
@@ -60,6 +65,8 @@ impl<'a, A: Allocator + Copy> Tally for SavTally<'a, A> {
 
     ghost value_of = { λ tally set. satisfaction_value tally.m tally.rows set };
 
+    ghost bound_of = { λ tally c set left. ceiling (satisfaction_value tally.m tally.rows) tally.m c set left };
+
     fn m(&self) -> u8 {
         self.profile.m()
     }
@@ -67,23 +74,41 @@ impl<'a, A: Allocator + Copy> Tally for SavTally<'a, A> {
     fn value(&self, set: CandSet) -> u128 {
         sum_of_shares(self.profile, &self.shares, set)
     }
+
+    fn bound(&self, c: u8, set: CandSet, left: u8) -> u128 {
+        self.value(set) + greatest_sum(&self.scores, c, self.profile.m(), left)
+    }
 }
 
 /// The n-th part of a whole, at n; 0 at 0.
-fn parts(whole: u128) -> [u128; 41]
+fn parts(whole: u128) -> [u128; PLACES]
     ensures { result ≡ parts whole }
 {
-    let mut parts = [0; 41];
-    for n in 1..41 {
+    let mut parts = [0; PLACES];
+    for n in 1..PLACES {
         parts[n] = whole / n as u128;
     }
     parts
 }
 
+/// What each candidate gives a committee: the shares of the voters who approve the candidate; 0 at 0.
+fn scores<A: Allocator + Copy>(profile: &Profile<A>, shares: &[u128; PLACES]) -> [u128; PLACES]
+    requires { (n : ℕ) → slice_index shares.now n < 2 ^ 90 }
+    ensures { (c : ℕ) → slice_index result c ≡ score shares.now profile.now.rows c }
+{
+    let mut totals = [0; PLACES];
+    for i in 0..profile.rows() {
+        let (ballot, voters) = profile.row(i);
+        let share = shares[usize::from(ballot.len())];
+        add_to_members(&mut totals, ballot, u128::from(voters) * share);
+    }
+    totals
+}
+
 /// The sum over the voters of what they give for their hits on ballots of that many candidates.
 fn sum_of_shares<A: Allocator + Copy>(
     profile: &Profile<A>,
-    shares: &[u128; 41],
+    shares: &[u128; PLACES],
     set: CandSet,
 ) -> u128
     requires { shares.now ≡ parts (common_multiple profile.now.m) }
@@ -94,10 +119,11 @@ fn sum_of_shares<A: Allocator + Copy>(
 }
 
 /// For each number of candidates on a ballot, the hits of all voters with such a ballot together.
-fn hits_by_size<A: Allocator + Copy>(profile: &Profile<A>, set: CandSet) -> [u64; 41]
-    ensures { (n : ℕ) → slice_index result n ≡ sum_by (λ row. row.1 * hits row.0 set) (filter (λ row. length row.0 == n) profile.now.rows) }
+fn hits_by_size<A: Allocator + Copy>(profile: &Profile<A>, set: CandSet) -> [u64; PLACES]
+    ensures { (n : ℕ) → slice_index result n
+        ≡ sum_by (λ row. row.1 * hits row.0 set) (filter (λ row. length row.0 == n) profile.now.rows) }
 {
-    let mut counts = [0; 41];
+    let mut counts = [0; PLACES];
     for i in 0..profile.rows() {
         let (ballot, voters) = profile.row(i);
         let hits = u64::from(ballot.common(set).len());

@@ -1,9 +1,14 @@
 //! What gives a committee its value.
-ghost use Rattle.std.specs.Prelude.{◌≡◌, ℕ, ◌+◌, ◌*◌, ◌^◌, ◌≤◌, List, map, sum, slice_index};
-ghost use Rattle.std.specs.List.{range_with_len};
+ghost use Rattle.std.specs.Prelude.{◌≡◌, ℕ, ◌+◌, ◌-◌, ◌*◌, ◌^◌, ◌<◌, ◌≤◌, List, slice_index, max};
+ghost use Rattle.ballot_base.specs.Limits.{most_candidates};
 ghost use Rattle.ballot_base.specs.Lists.{IsIncreasing};
+ghost use Rattle.tie_walk.specs.Ceilings.{IsBound, greatest_sum};
+ghost use Rattle.tie_walk.specs.Steps.Tables.{sum_of_worths};
 
-use ballot_base::CandSet;
+use ballot_base::{CandSet, MOST_CANDIDATES};
+
+/// The places of a table that has one for each number of candidates, 0 to `MOST_CANDIDATES`.
+pub(crate) const PLACES: usize = MOST_CANDIDATES as usize + 1;
 
 /// What gives a committee its value.
 pub trait Tally {
@@ -11,28 +16,72 @@ pub trait Tally {
 
     ghost value_of: { Self → List ℕ → ℕ };
 
-    /// The number of candidates, 1 to 40.
+    ghost bound_of: { Self → ℕ → List ℕ → ℕ → ℕ };
+
+    /// The number of candidates, 1 to `MOST_CANDIDATES`.
     fn m(&self) -> u8
         ensures value { result ≡ candidates self.now }
         ensures some { 1 ≤ result }
-        ensures most { result ≤ 40 };
+        ensures most { result ≤ most_candidates };
 
     /// The value of a set of candidates.
     fn value(&self, set: CandSet) -> u128
         requires { IsIncreasing 1 (candidates self.now) set }
         ensures { result ≡ value_of self.now set };
+
+    /// A value that no committee exceeds that is made of a set of the candidates 1 to c and of `left` of those after c.
+    fn bound(&self, c: u8, set: CandSet, left: u8) -> u128
+        requires within { c ≤ candidates self.now }
+        requires candidates { IsIncreasing 1 c set }
+        requires fits { left ≤ candidates self.now - c }
+        ensures value { result ≡ bound_of self.now c set left }
+        ensures law { IsBound (value_of self.now) (candidates self.now) c set left result };
 }
 
 /// The sum over the numbers 0 to `most` of how many there are at each, times the worth of one of them.
-pub(crate) fn sum_of_worths(counts: &[u64; 41], worths: &[u128; 41], most: u8) -> u128
-    requires most { most ≤ 40 }
-    requires counts { (j : ℕ) → slice_index counts.now j ≤ 2 ^ 38 }
-    requires worths { (j : ℕ) → slice_index worths.now j ≤ 2 ^ 84 }
-    ensures { result ≡ sum (map (λ j. slice_index counts.now j * slice_index worths.now j) (range_with_len 0 (most + 1))) }
+pub(crate) fn sum_of_worths(counts: &[u64; PLACES], worths: &[u128; PLACES], most: u8) -> u128
+    requires most { most ≤ most_candidates }
+    requires fits { sum_of_worths counts.now worths.now most < 2 ^ 128 }
+    ensures { result ≡ sum_of_worths counts.now worths.now most }
 {
     let mut value = 0;
     for j in 0..usize::from(most) + 1 {
         value += u128::from(counts[j]) * worths[j];
     }
     value
+}
+
+/// The greatest sum of `left` of what the candidates from c + 1 to m have, each at its number.
+pub(crate) fn greatest_sum(worths: &[u128; PLACES], c: u8, m: u8, left: u8) -> u128
+    requires most { m ≤ most_candidates }
+    requires within { c ≤ m }
+    requires fits { left ≤ m - c }
+    requires small { (n : ℕ) → slice_index worths.now n < 2 ^ 122 }
+    ensures value { result ≡ greatest_sum (slice_index worths.now) (c + 1) m left }
+    ensures most { (most : ℕ) → ((n : ℕ) → slice_index worths.now n ≤ most) → result ≤ left * most }
+{
+    // The greatest sum of j of the candidates passed so far, at j.
+    let mut sums = [0; PLACES];
+    for passed in 0..m - c {
+        let most = if passed < left { passed + 1 } else { left };
+        add_candidate(&mut sums, worths[usize::from(m - passed)], most);
+    }
+    sums[usize::from(left)]
+}
+
+/// The greatest sums of 1 to `most` candidates, each at their number, where one more may be among them.
+fn add_candidate(sums: &mut [u128; PLACES], worth: u128, most: u8)
+    requires most { most ≤ most_candidates }
+    requires fits { (j : ℕ) → j < most → slice_index sums.old j + worth < 2 ^ 128 }
+    ensures first { slice_index sums.new 0 ≡ slice_index sums.old 0 }
+    ensures within { (j : ℕ) → j < most
+        → slice_index sums.new (j + 1) ≡ max (slice_index sums.old (j + 1)) (slice_index sums.old j + worth) }
+    ensures after { (j : ℕ) → most < j → slice_index sums.new j ≡ slice_index sums.old j }
+{
+    let mut before = sums[0];
+    for j in 1..usize::from(most) + 1 {
+        let here = sums[j];
+        sums[j] = here.max(before + worth);
+        before = here;
+    }
 }

@@ -1,11 +1,13 @@
 //! The winners of a tally of the tests' own and of the sequential rules, worked out by hand.
 ghost use Rattle.std.specs.Prelude.{◌≡◌, ℕ, ◌≤◌, IfOk, ◌%◌, ◌==◌, length, if◌then◌else◌};
+ghost use Rattle.ballot_base.specs.Limits.{most_candidates};
 ghost use Rattle.ballot_base.specs.CandSet.{common_members};
 
 mod values;
+mod walk;
 
-use crate::{SeqRule, SeqWinners, Tally, Winners};
-use ballot_base::{AddFault, CandSet, Profile, ProfileBuilder};
+use crate::{SeqRule, SeqWinners, Tally, ThieleTally, Winners};
+use ballot_base::{AddFault, CandSet, MOST_CANDIDATES, Profile, ProfileBuilder, ThieleRule};
 use std::alloc::{Allocator, Global};
 use std::process::Abort;
 use std::test::Fail;
@@ -17,13 +19,15 @@ struct OddTally {
     wanted: CandSet,
     weight: u128,
     ghost some: { 1 ≤ m },
-    ghost most: { m ≤ 40 },
+    ghost most: { m ≤ most_candidates },
 }
 
 impl Tally for OddTally {
     ghost candidates = { λ tally. tally.m };
 
     ghost value_of = { λ tally set. if length (common_members set tally.wanted) % 2 == 1 then tally.weight else 0 };
+
+    ghost bound_of = { λ tally c set left. tally.weight };
 
     fn m(&self) -> u8 {
         self.m
@@ -35,6 +39,10 @@ impl Tally for OddTally {
         } else {
             0
         }
+    }
+
+    fn bound(&self, _c: u8, _set: CandSet, _left: u8) -> u128 {
+        self.weight
     }
 }
 
@@ -49,7 +57,7 @@ fn assert_winners(rt: &impl Abort, tally: &OddTally, k: u8, best: u128, lists: &
         assert!(rt; winners.next() == CandSet::of_list(list), "{list:?}");
     }
     for _ in 0..2 {
-        assert!(rt; winners.next().is_none(), "behind the winners of {k}");
+        assert!(rt; winners.next().is_none(), "after the winners of {k}");
     }
 }
 
@@ -97,38 +105,37 @@ fn the_limits_of_sizes_and_values(rt: HostRuntime) -> Result<(), Fail> {
     };
     let alone: [&[u8]; 1] = [&[1]];
     assert_winners(&rt, &one, 1, u128::MAX, &alone);
-    let forty = OddTally {
-        m: 40,
-        wanted: CandSet::of_list(&[40]).ok_or("40")?,
+    let most = OddTally {
+        m: MOST_CANDIDATES,
+        wanted: CandSet::of_list(&[64]).ok_or("64")?,
         weight: u128::MAX,
     };
-    let last: [&[u8]; 1] = [&[40]];
-    assert_winners(&rt, &forty, 1, u128::MAX, &last);
+    let last: [&[u8]; 1] = [&[64]];
+    assert_winners(&rt, &most, 1, u128::MAX, &last);
     Ok(())
 }
 
-/// Adds voters who approve just these of 40 candidates.
+/// Adds voters who approve just these of 64 candidates.
 fn add<A: Allocator + Copy + Drop>(
     builder: &mut ProfileBuilder<A>,
     set: CandSet,
     count: u64,
 ) -> Result<(), AddFault>
-    requires forty { builder.old.m ≡ 40 }
+    requires most { builder.old.m ≡ most_candidates }
     requires some { 1 ≤ count }
-    ensures { builder.new.m ≡ 40 }
+    ensures { builder.new.m ≡ most_candidates }
 {
-    // The members of a set are candidates 1 to 40.
-    let _ = set.len();
+    set.valid();
     builder.add(set, count)
 }
 
-/// Of 40 candidates, three voters approve 1 and 2, and one voter 3 and 4.
+/// Of 64 candidates, three voters approve 1 and 2, and one voter 63 and 64.
 fn two_pairs(alloc: Global) -> Result<Profile, Fail>
-    ensures { IfOk result (λ profile. profile.m ≡ 40) }
+    ensures { IfOk result (λ profile. profile.m ≡ most_candidates) }
 {
-    let mut builder = ProfileBuilder::new(alloc, 40)?;
+    let mut builder = ProfileBuilder::new(alloc, MOST_CANDIDATES)?;
     let first = CandSet::of_list(&[1, 2]).ok_or("1, 2")?;
-    let second = CandSet::of_list(&[3, 4]).ok_or("3, 4")?;
+    let second = CandSet::of_list(&[63, 64]).ok_or("63, 64")?;
     add(&mut builder, first, 3).map_err(|_| "memory")?;
     add(&mut builder, second, 1).map_err(|_| "memory")?;
     match builder.finish() {
@@ -157,8 +164,85 @@ fn assert_sequential(
         );
     }
     for _ in 0..2 {
-        assert!(rt; winners.next().is_none(), "behind the winners of {rule:?}");
+        assert!(rt; winners.next().is_none(), "after the winners of {rule:?}");
     }
+    Ok(())
+}
+
+/// Asserts that just these pairs come after the start under Chamberlin-Courant, where each of four voters approves a
+/// member of a winner.
+fn assert_after(
+    rt: &impl Abort,
+    alloc: Global,
+    profile: &Profile,
+    start: &[u8],
+    lists: &[&[u8]],
+) -> Result<(), Fail>
+    requires { profile.now.m ≡ most_candidates }
+{
+    let start = CandSet::of_list(start).ok_or("a start")?;
+    start.valid();
+    if start.len() != 2 {
+        return Err(Fail::from("a start is a pair"));
+    }
+    let tally = ThieleTally::new(profile, ThieleRule::Cc, 2);
+    let mut winners = Winners::new(&tally, MOST_CANDIDATES, 2, Some(start));
+    assert_eq!(rt; winners.best(), 4);
+    let mut sequential = SeqWinners::new(alloc, profile, SeqRule::SeqCc, 2, Some(start))?;
+    for list in lists {
+        assert!(rt; winners.next() == CandSet::of_list(list), "{list:?}");
+        assert!(rt; sequential.next() == CandSet::of_list(list), "{list:?}");
+    }
+    assert!(rt; winners.next().is_none(), "after the winners");
+    assert!(rt; sequential.next().is_none(), "after the sequential winners");
+    Ok(())
+}
+
+#[test]
+fn winners_after_a_start(rt: HostRuntime) -> Result<(), Fail> {
+    let alloc = rt.alloc();
+    let profile = two_pairs(alloc)?;
+    let all: [&[u8]; 4] = [&[1, 63], &[1, 64], &[2, 63], &[2, 64]];
+    // No winner, a winner, no winner between two, the last winner, and the last pair.
+    assert_after(&rt, alloc, &profile, &[1, 2], &all)?;
+    assert_after(&rt, alloc, &profile, &[1, 64], &all[2..])?;
+    assert_after(&rt, alloc, &profile, &[2, 62], &all[2..])?;
+    assert_after(&rt, alloc, &profile, &[2, 64], &[])?;
+    assert_after(&rt, alloc, &profile, &[63, 64], &[])?;
+    Ok(())
+}
+
+#[test]
+fn names_of_the_rules(rt: HostRuntime) {
+    for rule in SeqRule::ALL {
+        assert!(rt; SeqRule::named(rule.name()) == Some(rule), "{rule:?}");
+    }
+    assert_eq!(rt; SeqRule::RevSeqPav.name(), "revseqpav");
+    assert!(rt;
+        SeqRule::named("SeqPav").is_none(),
+        "a name in capital letters"
+    );
+}
+
+/// Of 64 candidates, one voter approves all, and one all but the last: the last hit of each counts.
+#[test]
+fn the_last_of_64_hits(rt: HostRuntime) -> Result<(), Fail> {
+    let alloc = rt.alloc();
+    let mut builder = ProfileBuilder::new(alloc, MOST_CANDIDATES)?;
+    add(&mut builder, CandSet::all(MOST_CANDIDATES), 1).map_err(|_| "memory")?;
+    add(&mut builder, CandSet::all(MOST_CANDIDATES - 1), 1).map_err(|_| "memory")?;
+    let Ok(profile) = builder.finish() else {
+        panic!(rt; "ballots were added");
+    };
+    let mut left = SeqWinners::new(
+        alloc,
+        &profile,
+        SeqRule::RevSeqPav,
+        MOST_CANDIDATES - 1,
+        None,
+    )?;
+    assert_eq!(rt; left.next(), Some(CandSet::all(MOST_CANDIDATES - 1)));
+    assert!(rt; left.next().is_none(), "after the only winner");
     Ok(())
 }
 
@@ -168,12 +252,9 @@ fn sequential_winners_in_order(rt: HostRuntime) -> Result<(), Fail> {
     let profile = two_pairs(alloc)?;
     let one: [&[u8]; 1] = [&[1, 2]];
     assert_sequential(&rt, alloc, &profile, SeqRule::SeqPav, 2, &one)?;
-    let four: [&[u8]; 4] = [&[1, 3], &[1, 4], &[2, 3], &[2, 4]];
+    let four: [&[u8]; 4] = [&[1, 63], &[1, 64], &[2, 63], &[2, 64]];
     assert_sequential(&rt, alloc, &profile, SeqRule::SeqCc, 2, &four)?;
-    let all: [&[u8]; 1] = [&[
-        1, 2, 3, 4, 5, 6, 7, 8, 9, 10, 11, 12, 13, 14, 15, 16, 17, 18, 19, 20, 21, 22, 23, 24, 25,
-        26, 27, 28, 29, 30, 31, 32, 33, 34, 35, 36, 37, 38, 39, 40,
-    ]];
-    assert_sequential(&rt, alloc, &profile, SeqRule::RevSeqPav, 40, &all)?;
+    let mut all = SeqWinners::new(alloc, &profile, SeqRule::RevSeqPav, MOST_CANDIDATES, None)?;
+    assert_eq!(rt; all.next(), Some(CandSet::all(MOST_CANDIDATES)));
     Ok(())
 }

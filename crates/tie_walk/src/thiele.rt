@@ -1,13 +1,17 @@
 //! The values of Thiele's rules.
 ghost use Rattle.std.specs.Prelude.{◌≡◌, ℕ, ◌+◌, ◌*◌, ◌^◌, ◌<◌, ◌≤◌, ◌==◌, List, filter, sum, slice_index};
+ghost use Rattle.ballot_base.specs.Limits.{most_members};
 ghost use Rattle.ballot_base.specs.Lists.{IsIncreasing};
 ghost use Rattle.ballot_base.specs.Ballots.{hits, voter_count};
 ghost use Rattle.ballot_base.specs.Increments.{increments, denominator};
+ghost use Rattle.tie_walk.specs.Ceilings.{ceiling};
 ghost use Rattle.tie_walk.specs.Values.{thiele_value};
-ghost use Rattle.tie_walk.specs.Tables.{Thiele, thiele_of, prefix_sums};
+ghost use Rattle.tie_walk.specs.Values.{Thiele, thiele_of};
+ghost use Rattle.tie_walk.specs.Steps.Tables.{prefix_sums};
 
-use crate::tally::{Tally, sum_of_worths};
-use ballot_base::{CandSet, Increments, Profile, ThieleRule};
+use crate::sequential::{Step, worths};
+use crate::tally::{PLACES, Tally, greatest_sum, sum_of_worths};
+use ballot_base::{CandSet, Increments, MOST_CANDIDATES, MOST_MEMBERS, Profile, ThieleRule};
 use std::alloc::{Allocator, Global};
 use std::marker::Model;
 
@@ -19,35 +23,41 @@ pub struct ThieleTally<'a, A: Allocator + Copy = Global> {
     rule: ThieleRule,
     k: u8,
     denom: u128,
+    // What the x-th member adds, at x - 1.
+    weights: [u128; MOST_MEMBERS as usize],
     // What the first x members add, at x.
-    sums: [u128; 41],
+    sums: [u128; PLACES],
 }
 
 impl<'a, A: Allocator + Copy> Model for ThieleTally<'a, A> {
-    ghost use Rattle.tie_walk.specs.Tables.{Thiele, thiele_of, IsThiele};
+    ghost use Rattle.tie_walk.specs.Values.{Thiele, thiele_of};
+    ghost use Rattle.tie_walk.specs.Steps.Tables.{IsThiele};
 
     ghost Value = { Thiele };
 
     ghost view = { λ t. thiele_of t.profile.now t.rule t.k };
 
-    ghost invariant = { λ t. IsThiele t.rule t.k t.denom t.sums };
+    ghost invariant = { λ t. IsThiele t.rule t.k t.denom t.weights t.sums };
 }
 
 impl<'a, A: Allocator + Copy> ThieleTally<'a, A> {
-    /// The values for committees of k, 1 to 40; a member past the k-th whom a voter approves adds nothing. It takes no
-    /// memory.
+    /// The values for committees of k, 1 to `MOST_MEMBERS`. A larger set has a value too: the members past the k-th
+    /// whom a voter approves add nothing. It takes no memory.
     pub fn new(profile: &'a Profile<A>, rule: ThieleRule, k: u8) -> ThieleTally<'a, A>
         requires some { 1 ≤ k }
-        requires most { k ≤ 40 }
+        requires size { k ≤ most_members }
         ensures { result ≡ thiele_of profile.now rule k }
     {
         let increments = Increments::of(rule, k);
+        let weights = increments.w;
+        let sums = prefix_sums(weights);
         ThieleTally {
             profile,
             rule,
             k,
             denom: increments.denom,
-            sums: prefix_sums(increments.w),
+            weights,
+            sums,
         }
     }
 
@@ -64,6 +74,9 @@ impl<'a, A: Allocator + Copy> Tally for ThieleTally<'a, A> {
 
     ghost value_of = { λ tally set. thiele_value (increments tally.rule tally.k) tally.election.rows set };
 
+    ghost bound_of = { λ tally c set left.
+        ceiling (thiele_value (increments tally.rule tally.k) tally.election.rows) tally.election.m c set left };
+
     fn m(&self) -> u8 {
         self.profile.m()
     }
@@ -71,34 +84,46 @@ impl<'a, A: Allocator + Copy> Tally for ThieleTally<'a, A> {
     fn value(&self, set: CandSet) -> u128 {
         sum_of_hits(self.profile, &self.sums, set)
     }
+
+    fn bound(&self, c: u8, set: CandSet, left: u8) -> u128 {
+        let gains = worths(self.profile, Step::Grow, &self.weights, set);
+        self.value(set) + greatest_sum(&gains, c, self.profile.m(), left)
+    }
 }
 
 /// What the first x of these add up to, at x.
-fn prefix_sums(w: [u128; 40]) -> [u128; 41]
+fn prefix_sums(w: [u128; MOST_MEMBERS as usize]) -> [u128; PLACES]
     requires { sum w < 2 ^ 128 }
     ensures { result ≡ prefix_sums w }
 {
-    let mut sums = [0; 41];
-    for x in 0..40 {
-        sums[x + 1] = sums[x] + w[x];
+    let mut sums = [0; PLACES];
+    for x in 0..usize::from(MOST_CANDIDATES) {
+        let more = if x < w.len() { w[x] } else { 0 };
+        sums[x + 1] = sums[x] + more;
     }
     sums
 }
 
 /// The sum over the voters of what they give for their hits.
-fn sum_of_hits<A: Allocator + Copy>(profile: &Profile<A>, sums: &[u128; 41], set: CandSet) -> u128
+fn sum_of_hits<A: Allocator + Copy>(
+    profile: &Profile<A>,
+    sums: &[u128; PLACES],
+    set: CandSet,
+) -> u128
     requires { (x : ℕ) → slice_index sums.now x ≤ 2 ^ 84 }
-    ensures { (weights : List ℕ) → sums.now ≡ prefix_sums weights → result ≡ thiele_value weights profile.now.rows set }
+    ensures { (weights : List ℕ) → sums.now ≡ prefix_sums weights
+        → result ≡ thiele_value weights profile.now.rows set }
 {
     let counts = voters_by_hits(profile, set);
     sum_of_worths(&counts, sums, profile.m())
 }
 
 /// How many voters have each number of hits.
-fn voters_by_hits<A: Allocator + Copy>(profile: &Profile<A>, set: CandSet) -> [u64; 41]
-    ensures { (j : ℕ) → slice_index result j ≡ voter_count (filter (λ row. hits row.0 set == j) profile.now.rows) }
+fn voters_by_hits<A: Allocator + Copy>(profile: &Profile<A>, set: CandSet) -> [u64; PLACES]
+    ensures { (j : ℕ) → slice_index result j
+        ≡ voter_count (filter (λ row. hits row.0 set == j) profile.now.rows) }
 {
-    let mut counts = [0; 41];
+    let mut counts = [0; PLACES];
     for i in 0..profile.rows() {
         let (ballot, voters) = profile.row(i);
         counts[usize::from(ballot.common(set).len())] += voters;

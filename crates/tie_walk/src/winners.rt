@@ -1,11 +1,20 @@
-//! The winning committees of a tally, by two passes over all committees.
-ghost use Rattle.std.specs.Prelude.{◌≡◌, ℕ, ◌≤◌, List, None};
+//! The winning committees of a tally, by a walk from prefix to prefix that enters no prefix whose bound is too low.
+ghost use Rattle.std.specs.Prelude.{◌≡◌, ℕ, ◌-◌, ◌<◌, ◌≤◌, [], ◌∷◌, List, Some, false, length, MatchOption};
+ghost use Rattle.ballot_base.specs.Lists.{IsIncreasing};
+ghost use Rattle.tie_walk.specs.Ceilings.{IsBound};
 ghost use Rattle.std.specs.Iterator.{YieldsFirst, item_count};
-ghost use Rattle.tie_walk.specs.Winners.{Winning, best_value, winners};
+ghost use Rattle.ballot_base.specs.Limits.{most_candidates};
+ghost use Rattle.ballot_base.specs.Lists.{increasing_lists, later_than};
+ghost use Rattle.tie_walk.specs.Steps.Walks.{committees_from, IsPlace, IsFound, IsVisit, work_left, is_above, those_above};
+ghost use Rattle.tie_walk.specs.Winners.{Winning, IsStart, best_value, winners};
 
+use crate::prefix::Prefix;
 use crate::tally::Tally;
-use ballot_base::{CandSet, KSets};
+use ballot_base::CandSet;
 use std::marker::Model;
+
+/// Below a prefix with more committees than these the bound is asked, which costs as much as some values.
+const MANY: u32 = 32;
 
 /// The winning committees of k of the candidates 1 to m, in lexicographic order: those whose value no other exceeds.
 /// Contracts see the tally, m and k, the greatest value, and the list of the winners still to come.
@@ -16,13 +25,12 @@ pub struct Winners<'a, T: Tally> {
     m: u8,
     k: u8,
     best: u128,
-    committees: KSets,
+    place: Option<Prefix>,
 }
 
 impl<'a, T: Tally> Model for Winners<'a, T> {
-    ghost use Rattle.std.specs.Prelude.{◌==◌, filter};
-    ghost use Rattle.std.specs.List.{AllByRecursion};
-    ghost use Rattle.ballot_base.specs.Lists.{IsIncreasing};
+    ghost use Rattle.std.specs.Prelude.{nat_le, filter};
+    ghost use Rattle.tie_walk.specs.Steps.Walks.{IsWalk, committees_from};
     ghost use Rattle.tie_walk.specs.Winners.{Winning};
 
     ghost Value = { Winning T };
@@ -32,34 +40,34 @@ impl<'a, T: Tally> Model for Winners<'a, T> {
       m = w.m;
       k = w.k;
       best = w.best;
-      left = filter (λ set. T.value_of w.tally.now set == w.best) w.committees;
+      left = filter (λ set. nat_le w.best (T.value_of w.tally.now set)) (committees_from w.m w.k w.place);
     } };
 
-    ghost invariant = { λ w. AllByRecursion (λ set. IsIncreasing 1 (T.candidates w.tally.now) set) w.committees };
+    ghost invariant = { λ w. IsWalk (T.candidates w.tally.now) w.m w.k w.place };
 }
 
 impl<'a, T: Tally> Winners<'a, T> {
-    /// The winners among the committees of k of the tally's m candidates, from the first: `after` is None. It takes no
-    /// memory, and finds the greatest value by a pass over all committees.
+    /// The winners among the committees of k of the tally's m candidates that are later than `after`, any committee of
+    /// k of them, which need not win; all winners where it is None. The greatest value is that of all committees, found
+    /// by a walk over them; the walk to the winners goes straight to the start. It takes no memory.
     pub fn new(tally: &'a T, m: u8, k: u8, after: Option<CandSet>) -> Winners<'a, T>
         requires candidates { m ≡ T.candidates tally.now }
         requires some { 1 ≤ k }
         requires fits { k ≤ m }
-        requires start { after ≡ None }
-        ensures { result ≡ record {
-          tally = tally.now;
-          m = m;
-          k = k;
-          best = best_value (T.value_of tally.now) m k;
-          left = winners (T.value_of tally.now) m k;
-        } }
+        requires start { IsStart m k after }
+        ensures tally { result.tally ≡ tally.now }
+        ensures m { result.m ≡ m }
+        ensures k { result.k ≡ k }
+        ensures best { result.best ≡ best_value (T.value_of tally.now) m k }
+        ensures left { result.left ≡ later_than after (winners (T.value_of tally.now) m k) }
     {
+        let m = tally.m();
         Winners {
             tally,
             m,
             k,
-            best: greatest_value(tally, k),
-            committees: KSets::new(tally.m(), k),
+            best: greatest_value(tally, m, k),
+            place: place_after(m, k, after),
         }
     }
 
@@ -75,29 +83,153 @@ impl<'a, T: Tally> Iterator for Winners<'a, T> {
     type Item = CandSet;
 
     // The first of the winners left, or nothing where none is left. All else is as it was.
-    ghost next_gives = { λ s r t. YieldsFirst (λ (w : Winning T). w.left) s r t × (t ≡ record s { left = t.left }) };
+    ghost next_gives = { λ s r t. YieldsFirst (λ (w : Winning T). w.left) s r t
+        × (t.tally ≡ s.tally) × (t.m ≡ s.m) × (t.k ≡ s.k) × (t.best ≡ s.best) };
 
     ghost remaining = { item_count (λ (w : Winning T). w.left) };
 
     fn next(&mut self) -> Option<CandSet> {
-        while let Some(committee) = self.committees.next() {
-            if self.tally.value(committee) == self.best {
-                return Some(committee);
-            }
-        }
-        None
+        let floor = self.best.checked_sub(1);
+        let (set, rest) = next_above(self.tally, self.m, self.k, self.place, floor)?;
+        self.place = rest;
+        Some(set)
     }
 }
 
-/// The greatest value of a committee of k candidates.
-fn greatest_value<T: Tally>(tally: &T, k: u8) -> u128
-    requires some { 1 ≤ k }
-    requires fits { k ≤ T.candidates tally.now }
-    ensures { result ≡ best_value (T.value_of tally.now) (T.candidates tally.now) k }
+/// Where a walk over the committees of k of the candidates 1 to m begins: right after the start, if there is one.
+fn place_after(m: u8, k: u8, after: Option<CandSet>) -> Option<Prefix>
+    requires most { m ≤ most_candidates }
+    requires fits { k ≤ m }
+    requires start { IsStart m k after }
+    ensures place { IsPlace m k result }
+    ensures rest { committees_from m k result ≡ later_than after (increasing_lists 1 m k) }
 {
-    let mut best = 0;
-    for committee in KSets::new(tally.m(), k) {
-        best = best.max(tally.value(committee));
+    match after {
+        Some(set) => Prefix { c: m, set }.past(),
+        None => Some(Prefix::root()),
     }
-    best
+}
+
+/// The greatest value of a committee of k of the candidates 1 to m: a walk over the committees, each with a value above
+/// that of the one before.
+fn greatest_value<T: Tally>(tally: &T, m: u8, k: u8) -> u128
+    requires candidates { m ≡ T.candidates tally.now }
+    requires most { m ≤ most_candidates }
+    requires fits { k ≤ m }
+    ensures { result ≡ best_value (T.value_of tally.now) m k }
+{
+    let mut place = Some(Prefix::root());
+    let mut best = None;
+    while let Some((committee, rest)) = next_above(tally, m, k, place, best) {
+        best = Some(tally.value(committee));
+        place = rest;
+    }
+    best.unwrap_or(0)
+}
+
+/// The next committee with a value above the floor, any committee where there is no floor, and where the walk goes on.
+fn next_above<T: Tally>(
+    tally: &T,
+    m: u8,
+    k: u8,
+    from: Option<Prefix>,
+    floor: Option<u128>,
+) -> Option<(CandSet, Option<Prefix>)>
+    requires candidates { m ≡ T.candidates tally.now }
+    requires most { m ≤ most_candidates }
+    requires place { IsPlace m k from }
+    ensures { MatchOption result (those_above (T.value_of tally.now) floor (committees_from m k from) ≡ [])
+        (λ found. IsFound (T.value_of tally.now) m k floor from found.0 found.1) }
+{
+    let mut place = from;
+    while let Some(prefix) = place {
+        let (found, rest) = visit(tally, m, k, prefix, floor);
+        if let Some(set) = found {
+            return Some((set, rest));
+        }
+        place = rest;
+    }
+    None
+}
+
+/// What the walk finds at a prefix, a whole committee with a value above the floor or nothing, and where it goes on.
+fn visit<T: Tally>(
+    tally: &T,
+    m: u8,
+    k: u8,
+    prefix: Prefix,
+    floor: Option<u128>,
+) -> (Option<CandSet>, Option<Prefix>)
+    requires candidates { m ≡ T.candidates tally.now }
+    requires most { m ≤ most_candidates }
+    requires place { IsPlace m k (Some prefix) }
+    ensures { IsVisit (T.value_of tally.now) m k floor prefix result.0 result.1 }
+{
+    let Prefix { c, set } = prefix;
+    if set.len() < k {
+        return (None, next_place(tally, m, k, Prefix { c, set }, floor));
+    }
+    let rest = Prefix { c, set }.past();
+    if is_above(floor, tally.value(set)) {
+        return (Some(set), rest);
+    }
+    (None, rest)
+}
+
+/// The next place after a prefix that is no whole committee: below it, where a committee there may have a value above
+/// the floor, else past it.
+fn next_place<T: Tally>(tally: &T, m: u8, k: u8, prefix: Prefix, floor: Option<u128>) -> Option<Prefix>
+    requires candidates { m ≡ T.candidates tally.now }
+    requires most { m ≤ most_candidates }
+    requires place { IsPlace m k (Some prefix) }
+    requires few { length prefix.set < k }
+    ensures place { IsPlace m k result }
+    ensures rest { those_above (T.value_of tally.now) floor (committees_from m k result)
+        ≡ those_above (T.value_of tally.now) floor (committees_from m k (Some prefix)) }
+    ensures work { work_left m result < work_left m (Some prefix) }
+{
+    let Prefix { c, set } = prefix;
+    let left = k - set.len();
+    if left <= m - c && may_exceed(tally, c, set, left, floor) {
+        return Some(Prefix { c, set }.grown());
+    }
+    Prefix { c, set }.past()
+}
+
+/// Whether some committee of the set and of `left` of the candidates after c may have a value above the floor. Where there
+/// are few such committees the bound is not asked.
+fn may_exceed<T: Tally>(tally: &T, c: u8, set: CandSet, left: u8, floor: Option<u128>) -> bool
+    requires within { c ≤ T.candidates tally.now }
+    requires candidates { IsIncreasing 1 c set }
+    requires fits { left ≤ T.candidates tally.now - c }
+    ensures { result ≡ false → (bound : ℕ)
+        × IsBound (T.value_of tally.now) (T.candidates tally.now) c set left bound × (is_above floor bound ≡ false) }
+{
+    !is_many(tally.m() - c, left) || is_above(floor, tally.bound(c, set, left))
+}
+
+/// Whether there are more than `MANY` lists of `size` of so many candidates. Any answer would be right: it only decides
+/// whether a bound is worth its time.
+fn is_many(candidates: u8, size: u8) -> bool
+    requires most { candidates ≤ most_candidates }
+    requires fits { size ≤ candidates }
+{
+    let mut lists = 1;
+    for taken in 0..size.min(candidates - size) {
+        if lists > MANY {
+            return true;
+        }
+        lists = lists * u32::from(candidates - taken) / (u32::from(taken) + 1);
+    }
+    lists > MANY
+}
+
+/// Whether the value is above the floor, if there is one.
+fn is_above(floor: Option<u128>, value: u128) -> bool
+    ensures { result ≡ is_above floor value }
+{
+    match floor {
+        Some(floor) => value > floor,
+        None => true,
+    }
 }

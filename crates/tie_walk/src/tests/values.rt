@@ -1,18 +1,20 @@
 //! Increments and the values of committees, worked by hand.
 ghost use Rattle.std.specs.Prelude.{◌≡◌, ◌≤◌, IfOk, length};
+ghost use Rattle.ballot_base.specs.Limits.{most_candidates, most_members};
 ghost use Rattle.ballot_base.specs.Lists.{IsIncreasing};
 ghost use Rattle.ballot_base.specs.Increments.{increments};
 ghost use Rattle.tie_walk.specs.Values.{thiele_value, satisfaction_value, closeness};
 
 use crate::{MinimaxTally, SavTally, Tally, ThieleTally};
 use ballot_base::{
-    AddFault, CandSet, Increments, Profile, ProfileBuilder, ThieleRule, common_multiple,
+    AddFault, CandSet, Increments, MOST_CANDIDATES, Profile, ProfileBuilder, ThieleRule,
+    common_multiple,
 };
 use std::process::Abort;
 use std::test::Fail;
 
-/// The least common multiple of 1 to 40.
-const MULTIPLE: u128 = 5_342_931_457_063_200;
+/// The least common multiple of 1 to 64.
+const MULTIPLE: u128 = 1_182_266_884_102_822_267_511_361_600;
 
 /// The value of a set under any rule.
 fn value_by<T: Tally>(tally: &T, set: CandSet) -> u128
@@ -46,22 +48,21 @@ fn minimax(profile: &Profile, set: CandSet) -> u128
     value_by(&MinimaxTally::new(profile), set)
 }
 
-/// A set of the candidates 1 to 40.
+/// A set of the candidates 1 to 64.
 fn set_of(numbers: &[u8]) -> Result<CandSet, Fail>
-    ensures { IfOk result (λ set. IsIncreasing 1 40 set) }
+    ensures { IfOk result (λ set. IsIncreasing 1 most_candidates set) }
 {
     let set = CandSet::of_list(numbers).ok_or("no set")?;
-    // The length tells that the members are candidates from 1 to 40.
-    let _ = set.len();
+    set.valid();
     Ok(set)
 }
 
-/// Adds voters with one ballot over 40 candidates.
+/// Adds voters with one ballot over 64 candidates.
 fn add(builder: &mut ProfileBuilder, set: CandSet, voters: u64) -> Result<(), AddFault>
-    requires candidates { builder.old.m ≡ 40 }
-    requires ballot { IsIncreasing 1 40 set }
+    requires candidates { builder.old.m ≡ most_candidates }
+    requires ballot { IsIncreasing 1 most_candidates set }
     requires voters { 1 ≤ voters }
-    ensures { builder.new.m ≡ 40 }
+    ensures { builder.new.m ≡ most_candidates }
 {
     builder.add(set, voters)
 }
@@ -71,12 +72,13 @@ fn multiples(rt: HostRuntime) {
     assert_eq!(rt; common_multiple(0), 1);
     assert_eq!(rt; common_multiple(10), 2520);
     assert_eq!(rt; common_multiple(20), 232_792_560);
-    assert_eq!(rt; common_multiple(40), MULTIPLE);
+    assert_eq!(rt; common_multiple(40), 5_342_931_457_063_200);
+    assert_eq!(rt; common_multiple(64), MULTIPLE);
 }
 
 /// Asserts that the increments are these, and then 0.
 fn assert_increments(rt: &impl Abort, rule: ThieleRule, w: &[u128], denom: u128)
-    requires most { length w.now ≤ 40 }
+    requires most { length w.now ≤ most_members }
     requires some { 1 ≤ length w.now }
 {
     let made = Increments::of(rule, w.len() as u8);
@@ -104,7 +106,7 @@ fn increments_of_rules(rt: HostRuntime) {
 fn values_of_pairs(rt: HostRuntime) -> Result<(), Fail> {
     let first = set_of(&[1, 2])?;
     let mixed = set_of(&[1, 3])?;
-    let mut builder = ProfileBuilder::new(rt.alloc(), 40)?;
+    let mut builder = ProfileBuilder::new(rt.alloc(), MOST_CANDIDATES)?;
     add(&mut builder, first, 3)?;
     add(&mut builder, set_of(&[3, 4])?, 1)?;
     let Ok(profile) = builder.finish() else {
@@ -117,13 +119,29 @@ fn values_of_pairs(rt: HostRuntime) -> Result<(), Fail> {
     assert_eq!(rt; thiele(&profile, ThieleRule::Av, mixed), 4);
     assert_eq!(rt; satisfaction(&profile, first), 3 * MULTIPLE);
     assert_eq!(rt; satisfaction(&profile, mixed), 2 * MULTIPLE);
-    assert_eq!(rt; minimax(&profile, first), 36);
-    assert_eq!(rt; minimax(&profile, mixed), 38);
+    assert_eq!(rt; minimax(&profile, first), 60);
+    assert_eq!(rt; minimax(&profile, mixed), 62);
     assert_eq!(rt;
         ThieleTally::new(&profile, ThieleRule::Pav, 2).denominator(),
         2
     );
     assert_eq!(rt; SavTally::new(&profile).denominator(), MULTIPLE);
-    assert_eq!(rt; MinimaxTally::new(&profile).m(), 40);
+    assert_eq!(rt; MinimaxTally::new(&profile).m(), 64);
+    Ok(())
+}
+
+/// A voter who approves all 64 candidates has as many hits in the set of all.
+#[test]
+fn values_of_all_candidates(rt: HostRuntime) -> Result<(), Fail> {
+    let all = CandSet::all(MOST_CANDIDATES);
+    all.valid();
+    let mut builder = ProfileBuilder::new(rt.alloc(), MOST_CANDIDATES)?;
+    add(&mut builder, all, 5)?;
+    let Ok(profile) = builder.finish() else {
+        panic!(rt; "a ballot was added");
+    };
+    assert_eq!(rt; thiele(&profile, ThieleRule::Pav, all), 15);
+    assert_eq!(rt; satisfaction(&profile, all), 5 * MULTIPLE);
+    assert_eq!(rt; minimax(&profile, all), 64);
     Ok(())
 }

@@ -1,4 +1,5 @@
 use Rattle.std.proofs.Common.{ap, arith, length}
+use Rattle.ballot_base.specs.Limits.{most_candidates}
 use Rattle.ballot_base.proofs.Committees.{length-increasing}
 use Rattle.tie_walk.proofs.Distances.{common-least, common-least_right, distance-sizes}
 use Rattle.tie_walk.proofs.minimax.distance.Goals as goal
@@ -13,7 +14,7 @@ overflow_sub-result-2 c =
       c.len-common.ensures.count,
       ap length c.common.ensures,
       c.len-2.ensures.count,
-      common-least_right 1 40 c.args.ballot c.args.committee c.len.ensures.candidates c.len-2.ensures.candidates,
+      common-least_right 1 most_candidates c.args.ballot c.args.committee c.valid.ensures c.valid-2.ensures,
     )
 
 pub overflow_add-result : goal.overflow_add-result
@@ -22,8 +23,8 @@ overflow_add-result c =
       arith,
       c.len.ensures.count,
       c.len-2.ensures.count,
-      length-increasing 1 40 c.args.ballot c.len.ensures.candidates,
-      length-increasing 1 40 c.args.committee c.len-2.ensures.candidates,
+      length-increasing 1 most_candidates c.args.ballot c.valid.ensures,
+      length-increasing 1 most_candidates c.args.committee c.valid-2.ensures,
     )
 
 pub returns : goal.returns
@@ -35,6 +36,6 @@ returns c =
       c.len.ensures.count,
       c.len-2.ensures.count,
       common-least c.args.ballot c.args.committee,
-      common-least_right 1 40 c.args.ballot c.args.committee c.len.ensures.candidates c.len-2.ensures.candidates,
-      distance-sizes 1 40 c.args.ballot c.args.committee c.len.ensures.candidates c.len-2.ensures.candidates,
+      common-least_right 1 most_candidates c.args.ballot c.args.committee c.valid.ensures c.valid-2.ensures,
+      distance-sizes 1 most_candidates c.args.ballot c.args.committee c.valid.ensures c.valid-2.ensures,
     )

@@ -1,21 +1,15 @@
-use Rattle.std.proofs.Common.{◌≡◌, ◌<◌, ◌==◌, ◌∙◌, refl, ap, arith, length, filter, take}
+use Rattle.std.proofs.Common.{◌≡◌, ◌+◌, ◌<◌, ◌==◌, ◌∙◌, refl, ap, arith, length, filter, take}
 use Rattle.std.proofs.Math.ListN.{length-set}
 use Rattle.std.proofs.lemmas.List.{take_all}
+use Rattle.ballot_base.specs.Limits.{most_candidates}
 use Rattle.ballot_base.specs.Ballots.{Row, hits, voter_count}
-use Rattle.ballot_base.proofs.Committees.{length-increasing}
 use Rattle.tie_walk.proofs.Groups.{group-fits, groups-more}
 use Rattle.tie_walk.proofs.RowSums.{length-common}
 use Rattle.tie_walk.proofs.WorthLemmas.{no_total}
 use Rattle.tie_walk.proofs.thiele.voters_by_hits.Goals as goal
 
 pub loop-i-init : goal.loop-i-init
-loop-i-init g c = record { long = refl; made = no_total 41 }
-
-pub bounds-counts-from : goal.bounds-counts-from
-bounds-counts-from g c = omega (arith, c.from.ensures, c.len.ensures.count, length-increasing 1 40 c.common.result c.len.ensures.candidates)
-
-pub bounds-counts-from-in-loop-i : goal.bounds-counts-from-in-loop-i
-bounds-counts-from-in-loop-i g c = omega (arith, c.from.ensures, c.len.ensures.count, length-increasing 1 40 c.common.result c.len.ensures.candidates)
+loop-i-init g c = record { long = refl; made = no_total (most_candidates + 1) }
 
 pub overflow_add-counts : goal.overflow_add-counts
 overflow_add-counts g c =
@@ -31,7 +25,7 @@ loop-i-preserved g c =
     let set = c.args.set in
     let same : c.from.result ≡ hits row.0 set = c.from.ensures ∙ c.len.ensures.count ∙ ap length c.common.ensures ∙ length-common row.0 set in
     let inside : c.from.result < length c.loop-i.counts =
-    omega (arith, c.loop-i.invariant.long, c.from.ensures, c.len.ensures.count, length-increasing 1 40 c.common.result c.len.ensures.candidates) in
+    omega (arith, c.loop-i.invariant.long, c.from.ensures, c.len.ensures.most) in
     record {
       long = simp length-set c.loop-i.invariant.long;
       made = groups-more (λ (r : Row). hits r.0 set) (λ (r : Row). r.1) c.args.profile.now.rows c.loop-i.i row c.row-ballot.ensures c.loop-i.counts c.from.result row.1 same refl inside c.loop-i.invariant.made;

@@ -1,0 +1,94 @@
+-- Minimax: distances only grow as candidates are decided on.
+use Rattle.std.proofs.Common.{◌≡◌, ℕ, ◌+◌, ◌<◌, ◌≤◌, ◌==◌, ◌||◌, ◌&&◌, ◌∙◌, Bool, true, false, cond, not, List, [], ◌∷◌, ◌++◌, refl, sym, ap, arith, inl, inr, length, count_by, fold, max, take, get_or, slice_get, Some}
+use Rattle.std.specs.Prelude.{nat_le}
+use Rattle.std.specs.Ordering.{ord_max, nat_cmp}
+use Rattle.std.proofs.lemmas.List.{take_more}
+use Rattle.std.proofs.lemmas.Option.{get_or_from_slice_get, slice_get_within}
+use Rattle.std.proofs.lemmas.Bool.{cases_lt, le-leb, lt-leb}
+use Rattle.std.proofs.lemmas.List.Folds.{list_any-append}
+use Rattle.std.proofs.lemmas.List.Sums.{sum_by-cons, fold-append}
+use Rattle.ballot_base.specs.Lists.{IsIncreasing}
+use Rattle.ballot_base.specs.CandSet.{has_member, members_upto}
+use Rattle.ballot_base.specs.Ballots.{Row}
+use Rattle.ballot_base.proofs.Increasing.{has_member-below, has_member-filter, IsIncreasing-filter, IsIncreasing-higher}
+use Rattle.tie_walk.specs.Values.{distance, closeness}
+use Rattle.tie_walk.specs.Ceilings.{greatest_distance_upto, closeness_upto, IsBound}
+use Rattle.tie_walk.proofs.Distances.{distance-most, ord_max-max}
+
+-- those of the ballot up to c who are not in the set are not in the committee either
+ballot-side : (c m : ℕ) (set added ballot : List ℕ) → IsIncreasing (c + 1) m added
+    → count_by (λ n. not (has_member set n)) (members_upto ballot c) ≤ count_by (λ n. not (has_member (set ++ added) n)) ballot
+ballot-side c m set added [] above = omega arith
+ballot-side c m set added (n ∷ ballot) above =
+    let rest = ballot-side c m set added ballot above in
+    let whole = sum_by-cons (λ y. cond (not (has_member (set ++ added) y)) 1 0) n ballot in
+    elim (cases_lt c n) [
+      | inl past ↦
+          let skip : members_upto (n ∷ ballot) c ≡ members_upto ballot c = ap (λ b. cond b (n ∷ members_upto ballot c) (members_upto ballot c)) (lt-leb n c past) in
+          omega (arith, rest, whole, ap (count_by (λ y. not (has_member set y))) skip)
+      | inr low ↦
+          let take' : members_upto (n ∷ ballot) c ≡ n ∷ members_upto ballot c = ap (λ b. cond b (n ∷ members_upto ballot c) (members_upto ballot c)) (le-leb n c low) in
+          let none : has_member added n ≡ false = has_member-below (c + 1) m added n above (omega arith) in
+          let same : has_member (set ++ added) n ≡ has_member set n = list_any-append (λ y. y == n) set added ∙ ap (λ b. has_member set n || b) none ∙ or-false (has_member set n) in
+          let bit : Bool → ℕ = λ b. cond (not b) 1 0 in
+          omega (
+            arith,
+            rest,
+            whole,
+            ap (count_by (λ y. not (has_member set y))) take',
+            ap bit same,
+            sum_by-cons (λ y. cond (not (has_member set y)) 1 0) n (members_upto ballot c),
+          )
+    ]
+  where
+    or-false : (b : Bool) → (b || false) ≡ b
+    or-false true = refl
+    or-false false = refl
+
+-- those of the set who are not on the ballot up to c are not on the ballot
+set-side : (c first : ℕ) (set added ballot : List ℕ) → IsIncreasing first c set
+    → count_by (λ n. not (has_member (members_upto ballot c) n)) set ≤ count_by (λ n. not (has_member ballot n)) (set ++ added)
+set-side c first [] added ballot up = omega arith
+set-side c first (n ∷ set) added ballot up =
+    let same : has_member (members_upto ballot c) n ≡ has_member ballot n = has_member-filter (λ y. nat_le y c) ballot n ∙ ap (λ b. b && has_member ballot n) (le-leb n c up.1) in
+    let bit : Bool → ℕ = λ b. cond (not b) 1 0 in
+    omega (
+      arith,
+      ap bit same,
+      set-side c (n + 1) set added ballot up.2,
+      sum_by-cons (λ y. cond (not (has_member (members_upto ballot c) y)) 1 0) n set,
+      sum_by-cons (λ y. cond (not (has_member ballot y)) 1 0) n (set ++ added),
+    )
+
+distance-grows : (c m : ℕ) (set added ballot : List ℕ) → IsIncreasing 1 c set → IsIncreasing (c + 1) m added → distance (members_upto ballot c) set ≤ distance ballot (set ++ added)
+distance-grows c m set added ballot up above = omega (arith, ballot-side c m set added ballot above, set-side c 1 set added ballot up)
+
+-- the greatest of a number and the distances, of greater ones
+greatest-grows : (c m : ℕ) (set added : List ℕ) (rows : List Row) (low high : ℕ) → low ≤ high → IsIncreasing 1 c set → IsIncreasing (c + 1) m added
+    → fold (λ greatest (row : Row). max greatest (distance (members_upto row.0 c) set)) low rows ≤ fold (λ greatest (row : Row). max greatest (distance row.0 (set ++ added))) high rows
+greatest-grows c m set added [] low high h up above = h
+greatest-grows c m set added (row ∷ rows) low high h up above =
+    greatest-grows c m set added rows (max low (distance (members_upto row.0 c) set)) (max high (distance row.0 (set ++ added)))
+    (omega (arith, distance-grows c m set added row.0 up above)) up above
+
+pub closeness-bounds : (m : ℕ) (rows : List Row) (c : ℕ) (set : List ℕ) (left : ℕ) → IsIncreasing 1 c set → IsBound (closeness m rows) m c set left (closeness_upto m rows c set)
+closeness-bounds m rows c set left up added above size = omega (arith, greatest-grows c m set added rows 0 0 (omega arith) up above)
+
+-- ---- the pass over the rows
+
+module _ (c m : ℕ) (within : c ≤ m) where
+  upto-increasing : (first : ℕ) (ballot : List ℕ) → IsIncreasing first m ballot → IsIncreasing first m (members_upto ballot c)
+  upto-increasing first ballot up = IsIncreasing-filter (λ n. nat_le n c) first m ballot up
+
+  pub greatest_upto-step : (rows : List Row) (set : List ℕ) (i : ℕ) (row : Row) (greatest far more : ℕ) → slice_get rows i ≡ Some row → more ≡ ord_max nat_cmp greatest far
+      → far ≡ distance (members_upto row.0 c) set → greatest ≡ greatest_distance_upto c (take i rows) set → more ≡ greatest_distance_upto c (take (i + 1) rows) set
+  greatest_upto-step rows set i row greatest far more found e f is =
+      let here : get_or rows i row ≡ row = get_or_from_slice_get rows i row row found in
+      let inside : i < length rows = slice_get_within rows i row found in
+      let next : greatest_distance_upto c (take (i + 1) rows) set ≡ max (greatest_distance_upto c (take i rows) set) (distance (members_upto row.0 c) set) =
+      ap (λ l. greatest_distance_upto c l set) (take_more rows i row inside ∙ ap (λ (r : Row). take i rows ++ r ∷ []) here)
+      ∙ fold-append (λ g (r : Row). max g (distance (members_upto r.0 c) set)) 0 (take i rows) (row ∷ []) in
+      e ∙ ord_max-max greatest far ∙ ap (λ n. max n far) is ∙ ap (λ n. max (greatest_distance_upto c (take i rows) set) n) f ∙ sym next
+
+  pub distance_upto-most : (ballot set : List ℕ) → IsIncreasing 1 m ballot → IsIncreasing 1 c set → distance (members_upto ballot c) set ≤ m
+  distance_upto-most ballot set i j = distance-most m (members_upto ballot c) set (upto-increasing 1 ballot i) (IsIncreasing-higher 1 c m set within j)

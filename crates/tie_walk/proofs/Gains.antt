@@ -1,0 +1,273 @@
+-- What a set gains by a candidate: over the rows, and as the difference of two values.
+use Rattle.std.proofs.Common.{◌≡◌, ℕ, zero, suc, ◌+◌, ◌-◌, ◌*◌, ◌/◌, ◌<◌, ◌≤◌, ◌^◌, ◌||◌, ◌∙◌, Bool, true, false, cond, List, [], ◌∷◌, Some, refl, sym, ap, subst, arith, inl, inr, length, take, get_or, slice_get, sum, sum_by, add-one}
+use Rattle.std.proofs.lemmas.Bool.{cases_eq, eq-eqb, ne_eqb}
+use Rattle.std.proofs.lemmas.List.Sums.{sum_by-cons, count_by-le-length}
+use Rattle.std.proofs.Math.Nat.{mul-le-mul_right, div-mul-le_self}
+use Rattle.ballot_base.specs.Limits.{most_candidates, most_members}
+use Rattle.ballot_base.specs.Lists.{IsIncreasing}
+use Rattle.ballot_base.specs.CandSet.{has_member, with_member}
+use Rattle.ballot_base.specs.CommonMultiple.{common_multiple}
+use Rattle.ballot_base.specs.Increments.{increments}
+use Rattle.ballot_base.specs.declared.increments.ThieleRule.{ThieleRule}
+use Rattle.ballot_base.specs.Ballots.{Row, Election, IsElection, hits}
+use Rattle.ballot_base.proofs.Committees.{length-increasing}
+use Rattle.ballot_base.proofs.LeastMultiples.{common_multiple_small}
+use Rattle.ballot_base.proofs.Increasing.{has_member-with_member, has_member-below, has_member-above, has_member_head, has_member_tail}
+use Rattle.tie_walk.specs.Ceilings.{gain_at, greatest_sum, ceiling}
+use Rattle.tie_walk.specs.Sequences.{weight, gain}
+use Rattle.tie_walk.specs.Steps.Tables.{parts, score}
+use Rattle.tie_walk.specs.Values.{thiele_value, satisfaction_value}
+use Rattle.tie_walk.specs.declared.sequential.Step.TheVariants.{Grow}
+use Rattle.tie_walk.proofs.GreatestSums.{greatest_sum-same}
+use Rattle.tie_walk.proofs.RowSums.{AreBallots, rows-more, rows-bound, all-most, satisfaction_value-by_parts}
+use Rattle.tie_walk.proofs.TableLemmas.{sum-take_more, parts-at, sum-take-le, weight-le-sum, increments_sum-most}
+use Rattle.tie_walk.proofs.WorthLemmas.{partial, share, worth-whole, supported}
+
+bit : Bool → ℕ
+bit b = cond b 1 0
+
+-- one candidate more is one hit more for those who approve it
+hits-with : (first last : ℕ) (ballot set : List ℕ) (x : ℕ) → IsIncreasing first last ballot → has_member set x ≡ false
+    → hits ballot (with_member set x) ≡ hits ballot set + bit (has_member ballot x)
+unfolding bit
+hits-with first last [] set x up none = refl
+hits-with first last (n ∷ ballot) set x up none =
+    let rest = hits-with (n + 1) last ballot set x up.2 none in
+    let with' = sum_by-cons (λ y. bit (has_member (with_member set x) y)) n ballot in
+    let without' = sum_by-cons (λ y. bit (has_member set y)) n ballot in
+    elim (cases_eq x n) [
+      | inl same ↦
+          let here : has_member (with_member set x) n ≡ true = has_member-with_member set x n ∙ ap (λ b. b || has_member set n) (eq-eqb x n same) in
+          let was : has_member set n ≡ false = subst (λ y. has_member set y ≡ false) same none in
+          let head : has_member (n ∷ ballot) x ≡ true = subst (λ y. has_member (n ∷ ballot) y ≡ true) (sym same) (has_member_head n ballot) in
+          let later : has_member ballot x ≡ false = subst (λ y. has_member ballot y ≡ false) (sym same) (has_member-below (n + 1) last ballot n up.2 (omega arith)) in
+          omega (arith, rest, with', without', ap bit here, ap bit was, ap bit head, ap bit later)
+      | inr other ↦
+          let here : has_member (with_member set x) n ≡ has_member set n = has_member-with_member set x n ∙ ap (λ b. b || has_member set n) (ne_eqb x n other) in
+          let head : has_member (n ∷ ballot) x ≡ has_member ballot x = has_member_tail n x ballot (λ e. other (sym e)) in
+          omega (arith, rest, with', without', ap bit here, ap bit head)
+    ]
+
+product-of-bit : (b : Bool) (n w : ℕ) → n * bit b * w ≡ n * cond b w 0
+unfolding bit
+product-of-bit true n w = omega arith
+product-of-bit false n w = omega arith
+
+-- ---- Thiele's rules
+
+one_more : (b : Bool) (w : List ℕ) (h : ℕ) → sum (take (h + bit b) w) ≡ sum (take h w) + cond b (weight w (h + 1)) 0
+unfolding bit
+one_more true w h = let e : weight w (h + 1) ≡ get_or w h 0 = ap (weight w) (add-one h) in omega (arith, e, sum-take_more w h)
+one_more false w h = let e : h + 0 ≡ h = omega arith in omega (arith, ap (λ n. sum (take n w)) e)
+
+thiele-partial : (m : ℕ) (w : List ℕ) (rows : List Row) (set : List ℕ) (x : ℕ) → AreBallots m rows → has_member set x ≡ false
+    → thiele_value w rows (with_member set x) ≡ thiele_value w rows set + partial Grow w set x rows
+thiele-partial m w [] set x all none = refl
+thiele-partial m w (row ∷ rows) set x all none =
+    let b = has_member row.0 x in
+    let one : sum (take (hits row.0 (with_member set x)) w) ≡ sum (take (hits row.0 set) w) + share Grow w set x row =
+    ap (λ h. sum (take h w)) (hits-with 1 m row.0 set x all.0 none) ∙ one_more b w (hits row.0 set) in
+    let product : row.1 * sum (take (hits row.0 (with_member set x)) w) ≡ row.1 * sum (take (hits row.0 set) w) + row.1 * share Grow w set x row =
+    ap (λ n. row.1 * n) one ∙ omega arith in
+    omega (
+      arith,
+      product,
+      thiele-partial m w rows set x all.1 none,
+      sum_by-cons (λ (r : Row). r.1 * sum (take (hits r.0 (with_member set x)) w)) row rows,
+      sum_by-cons (λ (r : Row). r.1 * sum (take (hits r.0 set) w)) row rows,
+      sum_by-cons (λ (r : Row). r.1 * share Grow w set x r) row rows,
+    )
+
+-- the gain is the difference of the values
+pub thiele-gain : (m : ℕ) (w : List ℕ) (rows : List Row) (set : List ℕ) (x : ℕ) → AreBallots m rows → has_member set x ≡ false
+    → gain w rows set x ≡ gain_at (thiele_value w rows) set x
+thiele-gain m w rows set x all none = omega (arith, thiele-partial m w rows set x all none, worth-whole Grow w rows set x)
+
+-- the ceiling by a table of the gains
+pub thiele-ceiling : (e : Election) (w gains : List ℕ) (c left : ℕ) (set : List ℕ) → IsElection e → IsIncreasing 1 c set → ((x : ℕ) → get_or gains x 0 ≡ gain w e.rows set x)
+    → thiele_value w e.rows set + greatest_sum (λ x. get_or gains x 0) (c + 1) e.m left ≡ ceiling (thiele_value w e.rows) e.m c set left
+thiele-ceiling e w gains c left set valid up are =
+    ap (λ n. thiele_value w e.rows set + n)
+    (greatest_sum-same (λ x. get_or gains x 0) (gain_at (thiele_value w e.rows) set) (c + 1) e.m
+    (λ x low high. are x ∙ thiele-gain e.m w e.rows set x valid.ballots (has_member-above 1 c set x up (omega arith))) left)
+
+-- ---- satisfaction approval
+
+-- what a supporter of the candidate gives for it
+abbrev pub given : List ℕ → ℕ → Row → ℕ
+given shares x row = cond (has_member row.0 x) (get_or shares (length row.0) 0) 0
+
+pub score-whole : (shares : List ℕ) (rows : List Row) (x : ℕ) → sum_by (λ (r : Row). r.1 * given shares x r) rows ≡ score shares rows x
+score-whole shares rows x = supported (λ (r : Row). get_or shares (length r.0) 0) x rows
+
+shares-with : (m : ℕ) (shares : List ℕ) (rows : List Row) (set : List ℕ) (x : ℕ) → AreBallots m rows → has_member set x ≡ false
+    → sum_by (λ (r : Row). r.1 * hits r.0 (with_member set x) * get_or shares (length r.0) 0) rows
+    ≡ sum_by (λ (r : Row). r.1 * hits r.0 set * get_or shares (length r.0) 0) rows + sum_by (λ (r : Row). r.1 * given shares x r) rows
+shares-with m shares [] set x all none = refl
+shares-with m shares (row ∷ rows) set x all none =
+    let s = get_or shares (length row.0) 0 in
+    let b = has_member row.0 x in
+    let one : row.1 * hits row.0 (with_member set x) * s ≡ row.1 * (hits row.0 set + bit b) * s = ap (λ h. row.1 * h * s) (hits-with 1 m row.0 set x all.0 none) in
+    let split : (n h t w : ℕ) → n * (h + t) * w ≡ n * h * w + n * t * w = λ n h t w. omega arith in
+    omega (
+      arith,
+      one,
+      split row.1 (hits row.0 set) (bit b) s,
+      product-of-bit b row.1 s,
+      shares-with m shares rows set x all.1 none,
+      sum_by-cons (λ (r : Row). r.1 * hits r.0 (with_member set x) * get_or shares (length r.0) 0) row rows,
+      sum_by-cons (λ (r : Row). r.1 * hits r.0 set * get_or shares (length r.0) 0) row rows,
+      sum_by-cons (λ (r : Row). r.1 * given shares x r) row rows,
+    )
+
+pub satisfaction-gain : (m n : ℕ) (shares : List ℕ) (rows : List Row) (set : List ℕ) (x : ℕ) → m ≤ most_candidates → AreBallots m rows → shares ≡ parts (common_multiple n) → has_member set x ≡ false
+    → score shares rows x ≡ gain_at (satisfaction_value n rows) set x
+satisfaction-gain m n shares rows set x most all is none =
+    omega (
+      arith,
+      score-whole shares rows x,
+      shares-with m shares rows set x all none,
+      satisfaction_value-by_parts m n shares rows set most all is,
+      satisfaction_value-by_parts m n shares rows (with_member set x) most all is,
+    )
+
+pub satisfaction-ceiling : (e : Election) (shares scores : List ℕ) (c left : ℕ) (set : List ℕ) → IsElection e → IsIncreasing 1 c set → shares ≡ parts (common_multiple e.m) → ((x : ℕ) → get_or scores x 0 ≡ score shares e.rows x)
+    → satisfaction_value e.m e.rows set + greatest_sum (λ x. get_or scores x 0) (c + 1) e.m left ≡ ceiling (satisfaction_value e.m e.rows) e.m c set left
+satisfaction-ceiling e shares scores c left set valid up is are =
+    ap (λ n. satisfaction_value e.m e.rows set + n)
+    (greatest_sum-same (λ x. get_or scores x 0) (gain_at (satisfaction_value e.m e.rows) set) (c + 1) e.m
+    (λ x low high. are x ∙ satisfaction-gain e.m e.m shares e.rows set x valid.most valid.ballots is (has_member-above 1 c set x up (omega arith))) left)
+
+-- ---- how large they are
+
+module _ (shares : List ℕ) (x : ℕ) (small : (n : ℕ) → get_or shares n 0 ≤ 2 ^ 90 - 1) where
+  given-most : (row : Row) → given shares x row ≤ 2 ^ 90 - 1
+  given-most row = elim (has_member row.0 x) as (λ b. cond b (get_or shares (length row.0) 0) 0 ≤ 2 ^ 90 - 1) [
+    | true ↦ small (length row.0)
+    | false ↦ omega arith
+  ]
+
+  pub score-most : (e : Election) → IsElection e → score shares e.rows x ≤ 2 ^ 122 - 2 ^ 32
+  score-most e valid = omega (arith, score-whole shares e.rows x, all-most (given shares x) e (2 ^ 90 - 1) valid (λ r h. given-most r))
+
+  pub score-more : (rows : List Row) (i : ℕ) (row : Row) → slice_get rows i ≡ Some row
+      → sum_by (λ (r : Row). r.1 * given shares x r) (take (i + 1) rows) ≡ sum_by (λ (r : Row). r.1 * given shares x r) (take i rows) + cond (has_member row.0 x) (row.1 * get_or shares (length row.0) 0) 0
+  score-more rows i row found = omega (arith, rows-more (given shares x) rows i row found, product-of-part (has_member row.0 x) row.1 (get_or shares (length row.0) 0))
+    where
+      product-of-part : (b : Bool) (n w : ℕ) → n * cond b w 0 ≡ cond b (n * w) 0
+      product-of-part true n w = refl
+      product-of-part false n w = omega arith
+
+  pub score-bound : (e : Election) (i : ℕ) (row : Row) → IsElection e → slice_get e.rows i ≡ Some row → sum_by (λ (r : Row). r.1 * given shares x r) (take i e.rows) ≤ 2 ^ 122
+  score-bound e i row valid found = omega (arith, rows-bound (given shares x) e (2 ^ 90 - 1) i row valid (λ r h. given-most r) found)
+
+  pub share-bound : (e : Election) (i : ℕ) (row : Row) → IsElection e → slice_get e.rows i ≡ Some row → row.1 * get_or shares (length row.0) 0 ≤ 2 ^ 122
+  share-bound e i row valid found = omega (arith, rows-bound (λ (r : Row). get_or shares (length r.0) 0) e (2 ^ 90 - 1) i row valid (λ r h. small (length r.0)) found)
+
+hits-none : (ballot : List ℕ) → hits ballot [] ≡ 0
+hits-none [] = refl
+hits-none (n ∷ ballot) = omega (arith, hits-none ballot, sum_by-cons (λ y. cond (has_member [] y) 1 0) n ballot)
+
+-- what one voter gives
+voter-most : (e : Election) (shares set : List ℕ) (row : Row) → IsElection e → shares ≡ parts (common_multiple e.m) → IsIncreasing 1 e.m row.0 → hits row.0 set * get_or shares (length row.0) 0 ≤ 2 ^ 90 - 1
+voter-most e shares set ([], voters) valid is up = omega arith
+voter-most e shares set (x ∷ ballot, voters) valid is up =
+    let own : List ℕ = x ∷ ballot in
+    let here : get_or shares (length own) 0 ≡ common_multiple e.m / length own =
+    ap (λ s. get_or s (length own) 0) is ∙ parts-at (common_multiple e.m) (length own) (omega arith) (omega (arith, length-increasing 1 e.m own up, valid.most)) in
+    let product : hits own set * (common_multiple e.m / length own) ≤ length own * (common_multiple e.m / length own) =
+    mul-le-mul_right (common_multiple e.m / length own) (count_by-le-length (has_member set) own) in
+    let turned : length own * (common_multiple e.m / length own) ≡ common_multiple e.m / length own * length own = omega arith in
+    omega (
+      arith,
+      ap (λ n. hits own set * n) here,
+      product,
+      turned,
+      div-mul-le_self (common_multiple e.m) (length own),
+      common_multiple_small e.m valid.most,
+    )
+
+-- what all voters give
+pub satisfaction-most : (e : Election) (shares set : List ℕ) → IsElection e → shares ≡ parts (common_multiple e.m) → satisfaction_value e.m e.rows set ≤ 2 ^ 122 - 2 ^ 32
+satisfaction-most e shares set valid is =
+    omega (
+      arith,
+      satisfaction_value-by_parts e.m e.m shares e.rows set valid.most valid.ballots is,
+      products e.rows,
+      all-most (λ (r : Row). hits r.0 set * get_or shares (length r.0) 0) e (2 ^ 90 - 1) valid (λ r up. voter-most e shares set r valid is up),
+    )
+  where
+    mul-assoc : (a b c : ℕ) → a * b * c ≡ a * (b * c)
+    mul-assoc a b c = omega arith
+
+    products : (rows : List Row) → sum_by (λ (r : Row). r.1 * hits r.0 set * get_or shares (length r.0) 0) rows ≡ sum_by (λ (r : Row). r.1 * (hits r.0 set * get_or shares (length r.0) 0)) rows
+    products [] = refl
+    products (row ∷ rows) =
+        omega (
+          arith,
+          sum_by-cons (λ (r : Row). r.1 * hits r.0 set * get_or shares (length r.0) 0) row rows,
+          sum_by-cons (λ (r : Row). r.1 * (hits r.0 set * get_or shares (length r.0) 0)) row rows,
+          products rows,
+          mul-assoc row.1 (hits row.0 set) (get_or shares (length row.0) 0),
+        )
+
+satisfaction-none : (n : ℕ) (shares : List ℕ) (rows : List Row) → sum_by (λ (r : Row). r.1 * hits r.0 [] * get_or shares (length r.0) 0) rows ≡ 0
+satisfaction-none n shares [] = refl
+satisfaction-none n shares (row ∷ rows) =
+    let zero' : row.1 * hits row.0 [] * get_or shares (length row.0) 0 ≡ 0 = ap (λ h. row.1 * h * get_or shares (length row.0) 0) (hits-none row.0) ∙ omega arith in
+    omega (arith, zero', satisfaction-none n shares rows, sum_by-cons (λ (r : Row). r.1 * hits r.0 [] * get_or shares (length r.0) 0) row rows)
+
+-- value and gains fit in 128 bits
+pub satisfaction-fits : (e : Election) (shares set : List ℕ) (c left value more : ℕ) → IsElection e → shares ≡ parts (common_multiple e.m) → IsIncreasing 1 c set → c ≤ e.m → left ≤ e.m - c
+    → value ≡ satisfaction_value e.m e.rows set → more ≤ left * (2 ^ 122 - 2 ^ 32) → value + more < 2 ^ 128
+satisfaction-fits e shares set zero left value more valid is up within few are most =
+    let empty : set ≡ [] = none set up in
+    let nothing : satisfaction_value e.m e.rows [] ≡ 0 = sym (satisfaction_value-by_parts e.m e.m shares e.rows [] valid.most valid.ballots is) ∙ satisfaction-none e.m shares e.rows in
+    let size : left ≤ 64 = omega (arith, few, valid.most) in
+    let product : left * (2 ^ 122 - 2 ^ 32) ≤ 64 * (2 ^ 122 - 2 ^ 32) = mul-le-mul_right (2 ^ 122 - 2 ^ 32) size in
+    omega (arith, product, most, are, ap (satisfaction_value e.m e.rows) empty, nothing)
+  where
+    none : (s : List ℕ) → IsIncreasing 1 0 s → s ≡ []
+    none [] h = refl
+    none (x ∷ s) h = absurd (omega (arith, h.0, h.1))
+satisfaction-fits e shares set (suc c) left value more valid is up within few are most =
+    let size : left ≤ 63 = omega (arith, few, within, valid.most) in
+    let product : left * (2 ^ 122 - 2 ^ 32) ≤ 63 * (2 ^ 122 - 2 ^ 32) = mul-le-mul_right (2 ^ 122 - 2 ^ 32) size in
+    omega (arith, product, most, are, satisfaction-most e shares set valid is)
+
+-- ---- under Thiele's rules
+
+weight-most : (w : List ℕ) (j most : ℕ) → ((i : ℕ) → get_or w i 0 ≤ most) → weight w j ≤ most
+weight-most w zero most all = omega arith
+weight-most w (suc j) most all = all j
+
+pub gain-most : (e : Election) (w set : List ℕ) (x most : ℕ) → IsElection e → ((i : ℕ) → get_or w i 0 ≤ most) → gain w e.rows set x ≤ 2 ^ 32 * most
+gain-most e w set x most valid all =
+    omega (arith, worth-whole Grow w e.rows set x, all-most (share Grow w set x) e most valid (λ r up. given-least r))
+  where
+    given-least : (row : Row) → share Grow w set x row ≤ most
+    given-least row = elim (has_member row.0 x) as (λ b. cond b (weight w (hits row.0 set + 1)) 0 ≤ most) [
+      | true ↦ weight-most w (hits row.0 set + 1) most all
+      | false ↦ omega arith
+    ]
+
+pub thiele-most : (e : Election) (w set : List ℕ) (most : ℕ) → IsElection e → ((x : ℕ) → sum (take x w) ≤ most) → thiele_value w e.rows set ≤ 2 ^ 32 * most
+thiele-most e w set most valid all = all-most (λ (r : Row). sum (take (hits r.0 set) w)) e most valid (λ r up. all (hits r.0 set))
+
+-- no increment is greater than all of them together
+pub weights-small : (rule : ThieleRule) (k : ℕ) (w : List ℕ) (i : ℕ) → k ≤ most_members → w ≡ increments rule k → get_or w i 0 ≤ 2 ^ 84
+weights-small rule k w i few is = omega (arith, ap (λ l. get_or l i 0) is, weight-le-sum (increments rule k) i, increments_sum-most rule k few)
+
+-- value and gains fit in 128 bits
+pub thiele-fits : (e : Election) (rule : ThieleRule) (k c left value more : ℕ) (set : List ℕ) → IsElection e → k ≤ most_members → left ≤ e.m - c
+    → value ≡ thiele_value (increments rule k) e.rows set → more ≤ left * 2 ^ 116 → value + more < 2 ^ 128
+thiele-fits e rule k c left value more set valid small few are most =
+    let size : left ≤ 64 = omega (arith, few, valid.most) in
+    let product : left * 2 ^ 116 ≤ 64 * 2 ^ 116 = mul-le-mul_right (2 ^ 116) size in
+    omega (
+      arith,
+      product,
+      most,
+      are,
+      thiele-most e (increments rule k) set (2 ^ 84) valid (λ x. omega (arith, sum-take-le (increments rule k) x, increments_sum-most rule k small)),
+    )

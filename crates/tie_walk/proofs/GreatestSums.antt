@@ -1,0 +1,162 @@
+-- The greatest sum of so many numbers, one number more at a time.
+use Rattle.std.proofs.Common.{◌≡◌, ℕ, zero, suc, ◌+◌, ◌-◌, ◌*◌, ◌<◌, ◌≤◌, ◌∙◌, ◌⊎◌, List, [], ◌∷◌, ◌++◌, refl, sym, ap, arith, inl, inr, get_or, map, max, sum_by}
+use Rattle.std.proofs.Math.Nat.{mul-le-mul_right}
+use Rattle.std.specs.Prelude.{fold}
+use Rattle.std.specs.List.{AllByRecursion}
+use Rattle.std.proofs.lemmas.Bool.{cases_lt}
+use Rattle.std.proofs.lemmas.List.{map-append}
+use Rattle.std.proofs.lemmas.List.Sums.{sum_by-cons, fold-append}
+use Rattle.ballot_base.specs.Lists.{IsIncreasing, lists_of, increasing_lists}
+use Rattle.ballot_base.proofs.Committees.{IsChosen, increasing_lists-chosen}
+use Rattle.tie_walk.specs.Ceilings.{greatest_sum}
+use Rattle.tie_walk.proofs.WinnersLemmas.{greatest}
+
+pub lists-short : (n first size : ℕ) → n < size → lists_of n first size ≡ []
+unfolding lists_of
+lists-short n first zero h = absurd (omega arith)
+lists-short zero first (suc size) h = refl
+lists-short (suc n) first (suc size) h = rw (lists-short n (first + 1) size (omega arith), lists-short n (first + 1) (suc size) (omega arith))
+
+pub lists-empty : (n first : ℕ) → lists_of n first 0 ≡ [] ∷ []
+unfolding lists_of
+lists-empty zero first = refl
+lists-empty (suc n) first = refl
+
+pub lists-more : (n first size : ℕ) → lists_of (suc n) first (suc size) ≡ map (λ rest. first ∷ rest) (lists_of n (first + 1) size) ++ lists_of n (first + 1) (suc size)
+unfolding lists_of
+lists-more n first size = refl
+
+-- there is a list where there are enough numbers
+some_list : (n first size : ℕ) → size ≤ n → (list : List ℕ) × (lists : List (List ℕ)) × (lists_of n first size ≡ list ∷ lists)
+some_list n first zero h = ([], [], lists-empty n first)
+some_list zero first (suc size) h = absurd (omega arith)
+some_list (suc n) first (suc size) h =
+    let below = some_list n (first + 1) size (omega arith) in (
+      first ∷ below.0,
+      map (λ rest. first ∷ rest) below.1 ++ lists_of n (first + 1) (suc size),
+      lists-more n first size ∙ ap (λ ls. map (λ rest. first ∷ rest) ls ++ lists_of n (first + 1) (suc size)) below.2,
+    )
+
+greatest-from : {X : Type 0} (value : X → ℕ) (low : ℕ) (xs : List X) → greatest value low xs ≡ max low (greatest value 0 xs)
+greatest-from value low [] = omega arith
+greatest-from value low (x ∷ xs) = omega (arith, greatest-from value (max low (value x)) xs, greatest-from value (max 0 (value x)) xs)
+
+module _ (worth : ℕ → ℕ) where
+  -- of the n numbers from first on
+  abbrev pub best_of : ℕ → ℕ → ℕ → ℕ
+  best_of n first size = greatest (sum_by worth) 0 (lists_of n first size)
+
+  pub best_of-none : (n first : ℕ) → best_of n first 0 ≡ 0
+  best_of-none n first = ap (greatest (sum_by worth) 0) (lists-empty n first)
+
+  pub best_of-short : (n first size : ℕ) → n < size → best_of n first size ≡ 0
+  best_of-short n first size h = ap (greatest (sum_by worth) 0) (lists-short n first size h)
+
+  shifted : (first low : ℕ) (lists : List (List ℕ)) → greatest (sum_by worth) (worth first + low) (map (λ rest. first ∷ rest) lists) ≡ worth first + greatest (sum_by worth) low lists
+  shifted first low [] = refl
+  shifted first low (list ∷ lists) =
+      let here : max (worth first + low) (sum_by worth (first ∷ list)) ≡ worth first + max low (sum_by worth list) = omega (arith, sum_by-cons worth first list) in
+      ap (λ n. greatest (sum_by worth) n (map (λ rest. first ∷ rest) lists)) here ∙ shifted first (max low (sum_by worth list)) lists
+
+  shifted_some : (first : ℕ) (list : List ℕ) (lists : List (List ℕ)) → greatest (sum_by worth) 0 (map (λ rest. first ∷ rest) (list ∷ lists)) ≡ worth first + greatest (sum_by worth) 0 (list ∷ lists)
+  shifted_some first list lists =
+      let here : max 0 (sum_by worth (first ∷ list)) ≡ worth first + max 0 (sum_by worth list) = omega (arith, sum_by-cons worth first list) in
+      ap (λ n. greatest (sum_by worth) n (map (λ rest. first ∷ rest) lists)) here ∙ shifted first (max 0 (sum_by worth list)) lists
+
+  -- one number more is among the best, or it is not
+  pub best_of-more : (n first size : ℕ) → size ≤ n → best_of (suc n) first (suc size) ≡ max (best_of n (first + 1) (suc size)) (best_of n (first + 1) size + worth first)
+  best_of-more n first size h =
+      let some = some_list n (first + 1) size h in
+      let with' = map (λ rest. first ∷ rest) (lists_of n (first + 1) size) in
+      let without' = lists_of n (first + 1) (suc size) in
+      let apart : best_of (suc n) first (suc size) ≡ greatest (sum_by worth) (greatest (sum_by worth) 0 with') without' =
+      ap (greatest (sum_by worth) 0) (lists-more n first size) ∙ ap (fold max 0) (map-append (sum_by worth) with' without')
+      ∙ fold-append max 0 (map (sum_by worth) with') (map (sum_by worth) without') in
+      let first' : greatest (sum_by worth) 0 with' ≡ worth first + best_of n (first + 1) size =
+      ap (λ ls. greatest (sum_by worth) 0 (map (λ rest. first ∷ rest) ls)) some.2 ∙ shifted_some first some.0 some.1 ∙ ap (λ ls. worth first + greatest (sum_by worth) 0 ls) (sym some.2) in
+      omega (arith, apart, first', greatest-from (sum_by worth) (greatest (sum_by worth) 0 with') without')
+
+  pub best_of-most : (most : ℕ) → ((n : ℕ) → worth n ≤ most) → (n first size : ℕ) → best_of n first size ≤ size * most
+  best_of-most most each n first zero = omega (arith, best_of-none n first)
+  best_of-most most each zero first (suc size) = omega (arith, best_of-short 0 first (suc size) (omega arith))
+  best_of-most most each (suc n) first (suc size) = elim (cases_lt n size) [
+    | inl few ↦ omega (arith, best_of-short (suc n) first (suc size) (omega arith))
+    | inr enough ↦
+        let product : suc size * most ≡ size * most + most = omega arith in
+        omega (
+          arith,
+          product,
+          best_of-more n first size enough,
+          each first,
+          best_of-most most each n (first + 1) size,
+          best_of-most most each n (first + 1) (suc size),
+        )
+  ]
+
+  -- ---- the table of the code: `passed` numbers up to m were looked at
+
+  pub table-begun : (m j : ℕ) → best_of 0 (m + 1 - 0) j ≡ 0
+  table-begun m zero = best_of-none 0 (m + 1 - 0)
+  table-begun m (suc j) = best_of-short 0 (m + 1 - 0) (suc j) (omega arith)
+
+  pub table-within : (m passed j : ℕ) → passed < m → j ≤ passed
+      → best_of (passed + 1) (m + 1 - (passed + 1)) (j + 1) ≡ max (best_of passed (m + 1 - passed) (j + 1)) (best_of passed (m + 1 - passed) j + worth (m - passed))
+  table-within m passed j inside enough =
+      let first : m + 1 - (passed + 1) ≡ m - passed = omega arith in
+      let next : m - passed + 1 ≡ m + 1 - passed = omega arith in
+      let number : passed + 1 ≡ suc passed = omega arith in
+      let size : j + 1 ≡ suc j = omega arith in
+      rw (first, number, size, ← next) (best_of-more passed (m - passed) j enough)
+
+  pub table-short : (m passed j : ℕ) → passed + 1 < j → best_of passed (m + 1 - passed) j ≡ best_of (passed + 1) (m + 1 - (passed + 1)) j
+  table-short m passed j h = best_of-short passed (m + 1 - passed) j (omega arith) ∙ sym (best_of-short (passed + 1) (m + 1 - (passed + 1)) j h)
+
+  pub table-done : (c m size : ℕ) → c ≤ m → best_of (m - c) (m + 1 - (m - c)) size ≡ greatest_sum worth (c + 1) m size
+  table-done c m size h =
+      let count : m + 1 - (c + 1) ≡ m - c = omega arith in
+      let first : m + 1 - (m - c) ≡ c + 1 = omega arith in
+      rw (count, first)
+
+  -- one candidate more was looked at
+  module _ (m passed left most worth' : ℕ) (old new : List ℕ) (inside : passed < m) (number : worth' ≡ worth (m - passed))
+      (few : most ≤ passed + 1) (within-left : most ≤ left) (all : (most ≡ passed + 1) ⊎ (most ≡ left))
+      (made : (j : ℕ) → j ≤ left → get_or old j 0 ≡ best_of passed (m + 1 - passed) j)
+      (first-is : get_or new 0 0 ≡ get_or old 0 0)
+      (within-are : (j : ℕ) → j < most → get_or new (j + 1) 0 ≡ max (get_or old (j + 1) 0) (get_or old j 0 + worth'))
+      (after-are : (j : ℕ) → most < j → get_or new j 0 ≡ get_or old j 0) where
+    pub table-step : (j : ℕ) → j ≤ left → get_or new j 0 ≡ best_of (passed + 1) (m + 1 - (passed + 1)) j
+    table-step zero h = first-is ∙ made 0 h ∙ best_of-none passed (m + 1 - passed) ∙ sym (best_of-none (passed + 1) (m + 1 - (passed + 1)))
+    table-step (suc i) h = elim (cases_lt i most) [
+      | inl low ↦
+          let e : i + 1 ≡ suc i = omega arith in
+          rw e at (
+          within-are i low ∙ ap (λ n. max n (get_or old i 0 + worth')) (made (i + 1) (omega arith))
+          ∙ ap (λ n. max (best_of passed (m + 1 - passed) (i + 1)) (n + worth')) (made i (omega arith))
+          ∙ ap (λ n. max (best_of passed (m + 1 - passed) (i + 1)) (best_of passed (m + 1 - passed) i + n)) number
+          ∙ sym (table-within m passed i inside (omega arith)))
+      | inr high ↦
+          let past : most ≡ passed + 1 = elim all [ inl full ↦ full | inr cut ↦ absurd (omega arith) ] in
+          after-are (suc i) (omega arith) ∙ made (suc i) h ∙ table-short m passed (suc i) (omega arith)
+    ]
+
+  -- there is room for the next one
+  pub table-fits : (most m passed left j worth' : ℕ) (old : List ℕ) → ((n : ℕ) → worth n ≤ most) → worth' ≤ most → j ≤ 63 → get_or old j 0 ≡ best_of passed (m + 1 - passed) j
+      → get_or old j 0 + worth' ≤ 64 * most
+  table-fits most m passed left j worth' old each here few made =
+      let product : j * most ≤ 63 * most = mul-le-mul_right most few in
+      omega (arith, product, made, best_of-most most each passed (m + 1 - passed) j)
+
+module _ (f g : ℕ → ℕ) (first last : ℕ) (same : (n : ℕ) → first ≤ n → n ≤ last → f n ≡ g n) where
+  same_sum : (low : ℕ) (list : List ℕ) → first ≤ low → IsIncreasing low last list → sum_by f list ≡ sum_by g list
+  same_sum low [] h up = refl
+  same_sum low (n ∷ list) h up =
+      omega (arith, same n (omega (arith, up.0)) up.1, same_sum (n + 1) list (omega (arith, up.0)) up.2, sum_by-cons f n list, sum_by-cons g n list)
+
+  same_sums : (low size : ℕ) (lists : List (List ℕ)) → AllByRecursion (IsChosen first last size) lists → greatest (sum_by f) low lists ≡ greatest (sum_by g) low lists
+  same_sums low size [] all = refl
+  same_sums low size (list ∷ lists) all =
+      ap (λ n. greatest (sum_by f) (max low n) lists) (same_sum first list (omega arith) all.0.0) ∙ same_sums (max low (sum_by g list)) size lists all.1
+
+  -- only what the numbers from first to last have matters
+  pub greatest_sum-same : (size : ℕ) → greatest_sum f first last size ≡ greatest_sum g first last size
+  greatest_sum-same size = same_sums 0 size (increasing_lists first last size) (increasing_lists-chosen first last size)

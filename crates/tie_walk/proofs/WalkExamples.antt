@@ -1,0 +1,79 @@
+-- Each definition of the walk, computed on a small example: the pairs of three candidates, where the value of a committee
+-- is the sum of its members.
+use Rattle.std.proofs.Common.{◌≡◌, ℕ, List, [], ◌∷◌, true, false, refl, lit≤, lit<, Option, Some, None, sum}
+use Rattle.ballot_base.specs.Lists.{lists_of}
+use Rattle.tie_walk.specs.Steps.Walks.{committees_below, committees_after, committees_from, IsPlace, IsPast, work_left, is_above, those_above, IsFound, IsVisit, IsWalk}
+use Rattle.tie_walk.specs.declared.prefix.Prefix.{Prefix}
+
+with_one : Prefix
+with_one = record { c = 1; set = 1 ∷ [] }
+
+without_one : Prefix
+without_one = record { c = 1; set = [] }
+
+one_and_two : Prefix
+one_and_two = record { c = 2; set = 1 ∷ 2 ∷ [] }
+
+one_without_two : Prefix
+one_without_two = record { c = 2; set = 1 ∷ [] }
+
+two_below_one : committees_below 3 2 1 (1 ∷ []) ≡ (1 ∷ 2 ∷ []) ∷ (1 ∷ 3 ∷ []) ∷ []
+unfolding lists_of
+two_below_one = refl
+
+-- without 2, and then without 1
+two_after_one_and_two : committees_after 3 2 [] (1 ∷ 2 ∷ []) ≡ (1 ∷ 3 ∷ []) ∷ (2 ∷ 3 ∷ []) ∷ []
+unfolding lists_of
+two_after_one_and_two = refl
+
+all_from_one : committees_from 3 2 (Some with_one) ≡ (1 ∷ 2 ∷ []) ∷ (1 ∷ 3 ∷ []) ∷ (2 ∷ 3 ∷ []) ∷ []
+unfolding lists_of with_one
+all_from_one = refl
+
+none_from_the_end : committees_from 3 2 None ≡ []
+none_from_the_end = refl
+
+place_of_one : IsPlace 3 2 (Some with_one)
+unfolding with_one
+place_of_one = (lit≤ tt, (lit≤ tt, lit≤ tt, tt), lit≤ tt)
+
+past_one : IsPast with_one (Some without_one)
+unfolding with_one without_one
+past_one = (refl, lit≤ tt, tt)
+
+past_none : IsPast without_one None
+unfolding without_one
+past_none = refl
+
+-- 9 for what is below, and 9 for what is without 1
+work_of_one : work_left 3 (Some with_one) ≡ 18
+unfolding with_one
+work_of_one = refl
+
+above_four : is_above (Some 4) 5 ≡ true
+above_four = refl
+
+not_above_itself : is_above (Some 4) 4 ≡ false
+not_above_itself = refl
+
+one_above_four : those_above sum (Some 4) ((1 ∷ 2 ∷ []) ∷ (1 ∷ 3 ∷ []) ∷ (2 ∷ 3 ∷ []) ∷ []) ≡ (2 ∷ 3 ∷ []) ∷ []
+one_above_four = refl
+
+-- the first above 3 is 1 and 3, and 2 and 3 is still to come
+found_above_three : IsFound sum 3 2 (Some 3) (Some with_one) (1 ∷ 3 ∷ []) (Some without_one)
+unfolding lists_of with_one without_one
+found_above_three = record {
+  next = refl;
+  candidates = (lit≤ tt, lit≤ tt, (lit≤ tt, lit≤ tt, tt));
+  above = refl;
+  place = (lit≤ tt, tt, lit≤ tt);
+  work = lit< tt;
+}
+
+-- 1 and 2 is not above 3
+visit_of_one_and_two : IsVisit sum 3 2 (Some 3) one_and_two None (Some one_without_two)
+unfolding lists_of one_and_two one_without_two
+visit_of_one_and_two = record { next = refl; committee = tt; place = (lit≤ tt, (lit≤ tt, lit≤ tt, tt), lit≤ tt); work = lit< tt }
+
+walk_of_pairs : IsWalk 3 3 2 (Some with_one)
+walk_of_pairs = record { candidates_are = refl; most = lit≤ tt; place_is = place_of_one }

@@ -1,0 +1,39 @@
+-- What tallies keep, and how they sum.
+use Rattle.std.specs.Prelude.{◌≡◌, ℕ, ◌+◌, ◌*◌, ◌/◌, ◌≤◌, List, ◌∷◌, length, map, sum, sum_by, take, slice_index}
+use Rattle.std.specs.List.{range_with_len}
+use Rattle.ballot_base.specs.Limits.{most_candidates, most_members}
+use Rattle.ballot_base.specs.Ballots.{Row, Election}
+use Rattle.ballot_base.specs.CommonMultiple.{common_multiple}
+use Rattle.ballot_base.specs.Increments.{increments, denominator}
+use Rattle.ballot_base.specs.declared.increments.ThieleRule.{ThieleRule}
+use Rattle.tie_walk.specs.Sequences.{supporters}
+
+-- the sums of the first 0 to `most_candidates` of these
+unfoldable pub prefix_sums : List ℕ → List ℕ
+prefix_sums weights = map (λ x. sum (take x weights)) (range_with_len 0 (most_candidates + 1))
+
+-- 0, and the parts of a whole by 1 to `most_candidates`
+unfoldable pub parts : ℕ → List ℕ
+parts whole = 0 ∷ map (λ n. whole / n) (range_with_len 1 most_candidates)
+
+-- for each of 0 to most, how many there are times what one of them is worth
+abbrev pub sum_of_worths : List ℕ → List ℕ → ℕ → ℕ
+sum_of_worths counts worths most =
+    sum (map (λ j. slice_index counts j * slice_index worths j) (range_with_len 0 (most + 1)))
+
+-- what is true of each tally of a Thiele rule
+pub record IsThiele (rule : ThieleRule) (k denom : ℕ) (weights sums : List ℕ) : Type 0 where
+  pub size : k ≤ most_members
+  pub denom_is : denom ≡ denominator rule k
+  pub weights_are : weights ≡ increments rule k
+  pub sums_are : sums ≡ prefix_sums (increments rule k)
+
+-- what the voters who approve the candidate give for it, with this share for a ballot of each size
+abbrev pub score : List ℕ → List Row → ℕ → ℕ
+score shares rows c = sum_by (λ (row : Row). row.1 * slice_index shares (length row.0)) (supporters rows c)
+
+-- what is true of each tally of satisfaction approval
+pub record IsSatisfaction (e : Election) (denom : ℕ) (shares scores : List ℕ) : Type 0 where
+  pub denom_is : denom ≡ common_multiple e.m
+  pub shares_are : shares ≡ parts denom
+  pub scores_are : (c : ℕ) → slice_index scores c ≡ score shares e.rows c

@@ -1,0 +1,65 @@
+-- A walk over all committees, in lexicographic order, from prefix to prefix.
+use Rattle.std.specs.Prelude.{◌≡◌, ℕ, ◌+◌, ◌-◌, ◌*◌, ◌^◌, ◌<◌, ◌≤◌, Bool, true, List, [], ◌∷◌, ◌++◌, Option, None, Some, ⊤, length, map, filter, sum_by, nat_lt, MatchOption, option_to_list}
+use Rattle.ballot_base.specs.Limits.{most_candidates}
+use Rattle.ballot_base.specs.Lists.{IsIncreasing, increasing_lists}
+use Rattle.tie_walk.specs.declared.prefix.Prefix.{Prefix}
+
+-- the committees of k of the candidates 1 to m whose members up to c are just the set, of no more than k
+abbrev pub committees_below : ℕ → ℕ → ℕ → List ℕ → List (List ℕ)
+committees_below m k c set = map (λ added. set ++ added) (increasing_lists (c + 1) m (k - length set))
+
+-- the committees after those with all of `front` and `rest`, as far as they have all of `front`
+abbrev pub committees_after : ℕ → ℕ → List ℕ → List ℕ → List (List ℕ)
+committees_after m k front [] = []
+committees_after m k front (n ∷ rest) = committees_after m k (front ++ n ∷ []) rest ++ committees_below m k n front
+
+-- the committees from a place on
+abbrev pub committees_from : ℕ → ℕ → Option Prefix → List (List ℕ)
+committees_from m k None = []
+committees_from m k (Some prefix) = committees_below m k prefix.c prefix.set ++ committees_after m k [] prefix.set
+
+-- a place is a prefix of no more than k of the candidates 1 to m, or the end
+abbrev pub IsPlace : ℕ → ℕ → Option Prefix → Type 0
+IsPlace m k None = ⊤
+IsPlace m k (Some prefix) = (prefix.c ≤ m) × IsIncreasing 1 prefix.c prefix.set × (length prefix.set ≤ k)
+
+-- what comes after all committees below the prefix: the last member is none any more
+abbrev pub IsPast : Prefix → Option Prefix → Type 0
+IsPast prefix next = MatchOption next (prefix.set ≡ [])
+    (λ place. (prefix.set ≡ place.set ++ place.c ∷ []) × (place.c ≤ prefix.c) × IsIncreasing 1 place.c place.set)
+
+-- no fewer than the prefixes that are still to come
+abbrev pub work_left : ℕ → Option Prefix → ℕ
+work_left m None = 0
+work_left m (Some prefix) = 3 ^ (m - prefix.c) + sum_by (λ n. 3 ^ (m - n)) prefix.set
+
+-- whether the value is above the floor, if there is one
+abbrev pub is_above : Option ℕ → ℕ → Bool
+is_above None value = true
+is_above (Some floor) value = nat_lt floor value
+
+-- those of the committees with a value above the floor
+abbrev pub those_above : (List ℕ → ℕ) → Option ℕ → List (List ℕ) → List (List ℕ)
+those_above value floor committees = filter (λ set. is_above floor (value set)) committees
+
+-- the next committee with a value above the floor, and where the walk goes on
+pub record IsFound (value : List ℕ → ℕ) (m k : ℕ) (floor : Option ℕ) (from : Option Prefix) (set : List ℕ) (rest : Option Prefix) : Type 0 where
+  pub next : those_above value floor (committees_from m k from) ≡ set ∷ those_above value floor (committees_from m k rest)
+  pub candidates : IsIncreasing 1 m set
+  pub above : is_above floor (value set) ≡ true
+  pub place : IsPlace m k rest
+  pub work : work_left m rest < work_left m from
+
+-- a visit of a prefix: what the walk finds there, and where it goes on
+pub record IsVisit (value : List ℕ → ℕ) (m k : ℕ) (floor : Option ℕ) (prefix : Prefix) (found : Option (List ℕ)) (rest : Option Prefix) : Type 0 where
+  pub next : those_above value floor (committees_from m k (Some prefix))
+      ≡ option_to_list found ++ those_above value floor (committees_from m k rest)
+  pub committee : MatchOption found ⊤ (λ set. IsIncreasing 1 m set × (is_above floor (value set) ≡ true))
+  pub place : IsPlace m k rest
+  pub work : work_left m rest < work_left m (Some prefix)
+
+-- what is true of a walk over the committees of k of this many candidates
+pub record IsWalk (candidates m k : ℕ) (place : Option Prefix) : Type 0 where
+  pub candidates_are : m ≡ candidates
+  pub most : m ≤ most_candidates
+  pub place_is : IsPlace m k place

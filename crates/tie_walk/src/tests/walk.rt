@@ -1,0 +1,189 @@
+//! The walk against a pass over all committees, and bounds worked out by hand.
+ghost use Rattle.std.specs.Prelude.{◌≡◌, ◌≤◌, IfOk, length};
+ghost use Rattle.ballot_base.specs.Limits.{most_candidates, most_members};
+ghost use Rattle.ballot_base.specs.Lists.{IsIncreasing};
+ghost use Rattle.tie_walk.specs.Winners.{IsStart};
+
+use crate::{MinimaxTally, SavTally, Tally, ThieleTally, Winners};
+use ballot_base::{CandSet, KSets, Profile, ProfileBuilder, ThieleRule};
+use std::alloc::Global;
+use std::process::Abort;
+use std::test::Fail;
+
+/// The candidates 1 to m whose bit of the word is 1.
+fn ballot_of(m: u8, word: u64) -> CandSet
+    requires { m ≤ most_candidates }
+    ensures { IsIncreasing 1 m result }
+{
+    let mut set = CandSet::empty();
+    for n in 1..m + 1 {
+        if word >> (n - 1) & 1 == 1 {
+            set = set.with(n);
+        }
+    }
+    set
+}
+
+/// An election of m candidates and of some ballots that the seed decides.
+fn election(alloc: Global, m: u8, seed: u64, ballots: u8) -> Result<Profile, Fail>
+    requires some { 1 ≤ m }
+    requires most { m ≤ most_candidates }
+    ensures { IfOk result (λ profile. profile.m ≡ m) }
+{
+    let mut builder = ProfileBuilder::new(alloc, m)?;
+    let mut word = seed;
+    for _ballot in 0..ballots {
+        word = word
+            .wrapping_mul(6_364_136_223_846_793_005)
+            .wrapping_add(1_442_695_040_888_963_407);
+        let set = ballot_of(m, word >> 20 & word >> 40);
+        builder.add(set, 1 + word % 3).map_err(|_| "memory")?;
+    }
+    match builder.finish() {
+        Ok(profile) => Ok(profile),
+        Err(_) => Err("no voters")?,
+    }
+}
+
+/// The greatest value, by a pass over all committees.
+fn plain_best<T: Tally>(tally: &T, m: u8, k: u8) -> u128
+    requires candidates { m ≡ T.candidates tally.now }
+    requires most { m ≤ most_candidates }
+    requires fits { k ≤ m }
+{
+    let mut best = 0;
+    for committee in KSets::new(m, k) {
+        best = best.max(tally.value(committee));
+    }
+    best
+}
+
+/// Asserts that the winners after a start are those that a pass over the committees after it finds.
+fn assert_after<T: Tally>(
+    rt: &impl Abort,
+    tally: &T,
+    m: u8,
+    k: u8,
+    best: u128,
+    start: CandSet,
+)
+    requires candidates { m ≡ T.candidates tally.now }
+    requires most { m ≤ most_candidates }
+    requires some { 1 ≤ k }
+    requires fits { k ≤ m }
+    requires members { IsIncreasing 1 m start }
+    requires size { length start ≡ k }
+{
+    let mut winners = Winners::new(tally, m, k, Some(start));
+    assert_eq!(rt; winners.best(), best);
+    for committee in KSets::after(m, k, start) {
+        if tally.value(committee) == best {
+            assert!(rt; winners.next() == Some(committee), "{k} after {start:?}");
+        }
+    }
+    assert!(rt; winners.next().is_none(), "{k} after {start:?}");
+}
+
+/// Asserts the same of all winners.
+fn assert_all<T: Tally>(rt: &impl Abort, tally: &T, m: u8, k: u8, best: u128)
+    requires candidates { m ≡ T.candidates tally.now }
+    requires most { m ≤ most_candidates }
+    requires some { 1 ≤ k }
+    requires fits { k ≤ m }
+{
+    let mut winners = Winners::new(tally, m, k, None);
+    assert_eq!(rt; winners.best(), best);
+    for committee in KSets::new(m, k) {
+        if tally.value(committee) == best {
+            assert!(rt; winners.next() == Some(committee), "all of {k}");
+        }
+    }
+    assert!(rt; winners.next().is_none(), "all of {k}");
+}
+
+/// Asserts the same after each start, and without one.
+fn assert_walks<T: Tally>(rt: &impl Abort, tally: &T, m: u8, k: u8)
+    requires candidates { m ≡ T.candidates tally.now }
+    requires most { m ≤ most_candidates }
+    requires some { 1 ≤ k }
+    requires fits { k ≤ m }
+{
+    let best = plain_best(tally, m, k);
+    assert_all(rt, tally, m, k, best);
+    for start in KSets::new(m, k) {
+        assert_after(rt, tally, m, k, best, start);
+    }
+}
+
+/// Asserts the same under every rule.
+fn assert_rules(rt: &impl Abort, profile: &Profile, m: u8, k: u8)
+    requires candidates { m ≡ profile.now.m }
+    requires most { m ≤ most_members }
+    requires some { 1 ≤ k }
+    requires fits { k ≤ m }
+{
+    for rule in ThieleRule::ALL {
+        assert_walks(rt, &ThieleTally::new(profile, rule, k), m, k);
+    }
+    assert_walks(rt, &SavTally::new(profile), m, k);
+    assert_walks(rt, &MinimaxTally::new(profile), m, k);
+}
+
+#[test]
+fn walks_over_small_elections(rt: HostRuntime) -> Result<(), Fail> {
+    let alloc = rt.alloc();
+    for seed in 0..20 {
+        let m = 3 + (seed % 4) as u8;
+        let profile = election(alloc, m, seed, 5)?;
+        for k in 1..m + 1 {
+            assert_rules(&rt, &profile, m, k);
+        }
+    }
+    Ok(())
+}
+
+/// Asserts the bounds of the beginnings of committees of two of three candidates, and the greatest value.
+fn assert_bounds<T: Tally>(rt: &impl Abort, tally: &T, bounds: [u128; 4], best: u128)
+    requires { T.candidates tally.now ≡ 3 }
+{
+    let one = ballot_of(1, 1);
+    let none = CandSet::empty();
+    assert_eq!(rt; tally.bound(0, none, 2), bounds[0]);
+    assert_eq!(rt; tally.bound(1, one, 1), bounds[1]);
+    assert_eq!(rt; tally.bound(1, none, 2), bounds[2]);
+    assert_eq!(rt; tally.bound(2, none, 1), bounds[3]);
+    assert_eq!(rt; Winners::new(tally, 3, 2, None).best(), best);
+}
+
+#[test]
+fn bounds_of_two_seats(rt: HostRuntime) -> Result<(), Fail> {
+    let mut builder = ProfileBuilder::new(rt.alloc(), 3)?;
+    builder.add(ballot_of(3, 0b011), 2).map_err(|_| "memory")?;
+    builder.add(ballot_of(3, 0b100), 1).map_err(|_| "memory")?;
+    let Ok(profile) = builder.finish() else {
+        panic!(rt; "ballots were added");
+    };
+    let pav = ThieleTally::new(&profile, ThieleRule::Pav, 2);
+    assert_bounds(&rt, &pav, [8, 6, 6, 2], 6);
+    assert_bounds(&rt, &SavTally::new(&profile), [12, 12, 12, 6], 12);
+    assert_bounds(&rt, &MinimaxTally::new(&profile), [3, 2, 2, 1], 1);
+    Ok(())
+}
+
+/// Of 40 candidates a voter approves the first 20: they win 20 seats, and none of the 137,846,528,820 others is visited.
+#[test]
+fn twenty_of_forty(rt: HostRuntime) -> Result<(), Fail> {
+    let mut builder = ProfileBuilder::new(rt.alloc(), 40)?;
+    builder
+        .add(ballot_of(40, (1 << 20) - 1), 1)
+        .map_err(|_| "memory")?;
+    let Ok(profile) = builder.finish() else {
+        panic!(rt; "a ballot was added");
+    };
+    let tally = ThieleTally::new(&profile, ThieleRule::Av, 20);
+    let mut winners = Winners::new(&tally, 40, 20, None);
+    assert_eq!(rt; winners.best(), 20);
+    assert!(rt; winners.next() == Some(CandSet::all(20)), "the first twenty");
+    assert!(rt; winners.next().is_none(), "after the first twenty");
+    Ok(())
+}
