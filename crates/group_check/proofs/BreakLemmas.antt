@@ -1,5 +1,5 @@
 -- Some group breaks a property exactly where all the voters behind some T and U do.
-use Rattle.std.proofs.Common.{◌≡◌, ℕ, ◌-◌, ◌*◌, ◌<◌, ◌≤◌, ◌==◌, ◌&&◌, Bool, true, false, List, [], Option, Some, None, refl, sym, ap, subst, ◌∙◌, arith, length, map, sum}
+use Rattle.std.proofs.Common.{◌≡◌, ℕ, ◌-◌, ◌*◌, ◌<◌, ◌≤◌, ◌==◌, ◌&&◌, Bool, true, false, List, [], ◌∷◌, Option, Some, None, refl, sym, ap, subst, ◌∙◌, arith, length, map, sum}
 use Rattle.std.specs.Prelude.{find, is_some, option_map, nat_le, nat_lt}
 use Rattle.std.specs.List.{list_all, list_any}
 use Rattle.std.proofs.lemmas.Bool.{and_from, and_parts, or_left, le-leb, leb-true, lt-ltb, ltb-true, eq-eqb, eqb-true}
@@ -9,18 +9,14 @@ use Rattle.ballot_base.specs.CandSet.{has_member, common_members}
 use Rattle.ballot_base.specs.Ballots.{Election, hits, voter_count}
 use Rattle.ballot_base.proofs.Committees.{increasing_lists-contains}
 use Rattle.group_check.specs.declared.property.Property.{Property}
-use Rattle.group_check.specs.declared.property.Property.TheVariants.{Jr, Pjr, Ejr}
+use Rattle.group_check.specs.declared.property.Property.TheVariants.{Jr, Pjr, Ejr, EjrPlus}
 use Rattle.group_check.specs.declared.property.Violation.{Violation}
-use Rattle.group_check.specs.Groups.{IsGroup, ballots_of, common_candidates, represented, is_cohesive, all_below, Breaks, SomeGroupBreaks}
-use Rattle.group_check.specs.Report.{includes, is_behind, is_in_group, group_of, supporters, lists_within, pairs_at, pair_breaks, violation_of, first_violation}
-use Rattle.group_check.specs.Checking.{greatest_level, IsChoice, IsSecond}
+use Rattle.group_check.specs.Groups.{IsGroup, ballots_of, common_candidates, represented, is_cohesive, is_outside, all_below, Breaks, SomeGroupBreaks}
+use Rattle.group_check.specs.Report.{includes, is_behind, is_in_group, group_of, supporters, lists_within, lists_shared, pairs_at, pair_breaks, violation_of, first_violation}
+use Rattle.group_check.specs.Steps.Checking.{greatest_level, IsFirst, IsSecond, is_large}
 use Rattle.group_check.proofs.TestLemmas.{list_all-weaker, list_all-both, is_some-find, found_passes, list_any-filter, list_any-contains, list_any-map, list_any-flat_map}
 use Rattle.group_check.proofs.SetLemmas.{all_pass, widened}
-use Rattle.group_check.proofs.GroupLemmas.{group_of-group, group_of-pass, group-le, shared_of, all_agree, represented-le, covered}
-
--- whether a group of this size is large enough for a level
-abbrev pub is_large : Election → List ℕ → ℕ → ℕ → Bool
-is_large e committee level voters = nat_le (level * voter_count e.rows) (voters * length committee)
+use Rattle.group_check.proofs.GroupLemmas.{group_of-group, group_of-pass, group-le, shared_of, all_agree, represented-le, covered, some_outside, outside_of}
 
 collapse_three : (a b c d : Bool) → a ≡ true → c ≡ true → d ≡ true → ((a && (b && c)) && d) ≡ b
 collapse_three true true true true p q r = refl
@@ -47,7 +43,7 @@ behind property e committee level pair = ballots_of e.rows (supporters property 
 
 -- all the voters behind T and U break the property where they are enough
 pub pair_breaks-is : (property : Property) (e : Election) (committee : List ℕ) (level : ℕ) (shared within : List ℕ)
-    → IsIncreasing 1 e.m committee → 1 ≤ level → level ≤ greatest_level property committee → IsChoice e.m level shared → IsSecond property e.m level within
+    → IsIncreasing 1 e.m committee → 1 ≤ level → level ≤ greatest_level property committee → IsFirst property e.m committee level shared → IsSecond property e.m level within
     → pair_breaks property e committee level (shared, within) ≡ is_large e committee level (sum (supporters property e committee level (shared, within)))
 pair_breaks-is Jr e committee level shared within i least most choice second =
     let group = supporters Jr e committee level (shared, within) in
@@ -55,7 +51,7 @@ pair_breaks-is Jr e committee level shared within i least most choice second =
     let test = is_behind Jr committee level (shared, within) in
     let all : list_all test ballots ≡ true = group_of-pass test e.rows in
     let one : level ≡ 1 = omega (arith, least, most) in
-    let agree = le-leb level (length (common_candidates e.m ballots)) (all_agree e.m level ballots shared choice
+    let agree = le-leb level (length (common_candidates e.m ballots)) (all_agree e.m level ballots shared choice.0
     (list_all-weaker test (λ b. includes b shared) (λ b h. (and_parts (includes b shared) (nat_lt (hits b committee) level) h).0) ballots all)) in
     let below : all_below level committee ballots ≡ true = list_all-weaker test (λ b. nat_lt (hits b committee) level) (λ b h. (and_parts (includes b shared) (nat_lt (hits b committee) level) h).1) ballots all in
     let below_one : all_below 1 committee ballots ≡ true = ap (λ n. all_below n committee ballots) (sym one) ∙ below in
@@ -65,7 +61,7 @@ pair_breaks-is Pjr e committee level shared within i least most choice second =
     let ballots = ballots_of e.rows group in
     let test = is_behind Pjr committee level (shared, within) in
     let all : list_all test ballots ≡ true = group_of-pass test e.rows in
-    let agree = le-leb level (length (common_candidates e.m ballots)) (all_agree e.m level ballots shared choice
+    let agree = le-leb level (length (common_candidates e.m ballots)) (all_agree e.m level ballots shared choice.0
     (list_all-weaker test (λ b. includes b shared) (λ b h. (and_parts (includes b shared) (includes within (common_members b committee)) h).0) ballots all)) in
     let few = represented-le e.m ballots committee within i second.0
     (list_all-weaker test (λ b. includes within (common_members b committee)) (λ b h. (and_parts (includes b shared) (includes within (common_members b committee)) h).1) ballots all) in
@@ -77,10 +73,19 @@ pair_breaks-is Ejr e committee level shared within i least most choice second =
     let ballots = ballots_of e.rows group in
     let test = is_behind Ejr committee level (shared, within) in
     let all : list_all test ballots ≡ true = group_of-pass test e.rows in
-    let agree = le-leb level (length (common_candidates e.m ballots)) (all_agree e.m level ballots shared choice
+    let agree = le-leb level (length (common_candidates e.m ballots)) (all_agree e.m level ballots shared choice.0
     (list_all-weaker test (λ b. includes b shared) (λ b h. (and_parts (includes b shared) (nat_lt (hits b committee) level) h).0) ballots all)) in
     let below : all_below level committee ballots ≡ true = list_all-weaker test (λ b. nat_lt (hits b committee) level) (λ b h. (and_parts (includes b shared) (nat_lt (hits b committee) level) h).1) ballots all in
     collapse_two (is_large e committee level (sum group)) (nat_le level (length (common_candidates e.m ballots))) (all_below level committee ballots) agree below
+pair_breaks-is EjrPlus e committee level shared within i least most choice second =
+    let group = supporters EjrPlus e committee level (shared, within) in
+    let ballots = ballots_of e.rows group in
+    let test = is_behind EjrPlus committee level (shared, within) in
+    let all : list_all test ballots ≡ true = group_of-pass test e.rows in
+    let approve = list_all-weaker test (λ b. includes b shared) (λ b h. (and_parts (includes b shared) (nat_lt (hits b committee) level) h).0) ballots all in
+    let below : all_below level committee ballots ≡ true = list_all-weaker test (λ b. nat_lt (hits b committee) level) (λ b h. (and_parts (includes b shared) (nat_lt (hits b committee) level) h).1) ballots all in
+    collapse_two (is_large e committee level (sum group)) (list_any (is_outside committee) (common_candidates e.m ballots)) (all_below level committee ballots)
+    (some_outside e.m (is_outside committee) ballots shared choice.0 choice.1 approve) below
 
 -- a larger group is large enough, too
 pub large_more : (e : Election) (committee : List ℕ) (level few many : ℕ) → few ≤ many → is_large e committee level few ≡ true → is_large e committee level many ≡ true
@@ -91,22 +96,33 @@ large_more e committee level few many more h =
 
 -- T and U behind whom a group stands that is large enough
 enough : (property : Property) (e : Election) (committee : List ℕ) (level : ℕ) (group shared within : List ℕ)
-    → IsIncreasing 1 e.m committee → 1 ≤ level → level ≤ greatest_level property committee → IsChoice e.m level shared → IsSecond property e.m level within
+    → IsIncreasing 1 e.m committee → 1 ≤ level → level ≤ greatest_level property committee → IsFirst property e.m committee level shared → IsSecond property e.m level within
     → IsGroup e.rows group → is_large e committee level (sum group) ≡ true → list_all (is_behind property committee level (shared, within)) (ballots_of e.rows group) ≡ true
     → pair_breaks property e committee level (shared, within) ≡ true
 enough property e committee level group shared within i least most choice second g large all =
     pair_breaks-is property e committee level shared within i least most choice second
     ∙ large_more e committee level (sum group) (sum (supporters property e committee level (shared, within))) (group-le (is_behind property committee level (shared, within)) e.rows group g all) large
 
+-- a T that passes is one of the lists of its level
+any_shared : (property : Property) (m : ℕ) (committee : List ℕ) (level : ℕ) (test : List ℕ → Bool) (shared : List ℕ) → IsFirst property m committee level shared → test shared ≡ true
+    → list_any test (lists_shared property m committee level) ≡ true
+any_shared Jr m committee level test shared first h = list_any-contains test (increasing_lists 1 m level) shared (increasing_lists-contains 1 m level shared first.0) h
+any_shared Pjr m committee level test shared first h = list_any-contains test (increasing_lists 1 m level) shared (increasing_lists-contains 1 m level shared first.0) h
+any_shared Ejr m committee level test shared first h = list_any-contains test (increasing_lists 1 m level) shared (increasing_lists-contains 1 m level shared first.0) h
+any_shared EjrPlus m committee level test shared first h =
+    let outside = list_all (is_outside committee) in
+    list_any-filter test outside (increasing_lists 1 m 1)
+    ∙ list_any-contains (λ set. outside set && test set) (increasing_lists 1 m 1) shared (increasing_lists-contains 1 m 1 shared first.0) (and_from (outside shared) (test shared) first.1 h)
+
 -- a pair that breaks the property is one of the pairs
-among_pairs : (property : Property) (e : Election) (committee : List ℕ) (level : ℕ) (shared : List ℕ) → IsChoice e.m level shared
+among_pairs : (property : Property) (e : Election) (committee : List ℕ) (level : ℕ) (shared : List ℕ) → IsFirst property e.m committee level shared
     → list_any (λ within. pair_breaks property e committee level (shared, within)) (lists_within property e.m committee level) ≡ true
     → list_any (pair_breaks property e committee level) (pairs_at property e.m committee level) ≡ true
 among_pairs property e committee level shared choice some =
     let test = pair_breaks property e committee level in
     let lists = lists_within property e.m committee level in
-    list_any-flat_map test (λ first. map (λ second. (first, second)) lists) (increasing_lists 1 e.m level)
-    ∙ list_any-contains (λ first. list_any test (map (λ second. (first, second)) lists)) (increasing_lists 1 e.m level) shared (increasing_lists-contains 1 e.m level shared choice)
+    list_any-flat_map test (λ first. map (λ second. (first, second)) lists) (lists_shared property e.m committee level)
+    ∙ any_shared property e.m committee level (λ first. list_any test (map (λ second. (first, second)) lists)) shared choice
     (list_any-map test (λ second. (shared, second)) lists ∙ some)
 
 -- the group's parts of what it breaks
@@ -115,6 +131,11 @@ and_middle a b c h =
     let front = and_parts (a && b) c h in
     let parts = and_parts a b front.0 in
     (parts.0, parts.1, front.1)
+
+-- without a condition each candidate meets it
+pub any_may : (set : List ℕ) → list_all (λ c. true) set ≡ true
+any_may [] = refl
+any_may (x ∷ xs) = any_may xs
 
 pub some_pair : (property : Property) (e : Election) (committee : List ℕ) (level : ℕ) → IsIncreasing 1 e.m committee → 1 ≤ level → level ≤ length committee
     → SomeGroupBreaks property e committee level → list_any (pair_breaks property e committee level) (pairs_at property e.m committee level) ≡ true
@@ -127,8 +148,8 @@ some_pair Jr e committee level i least most some =
     let shared = shared_of e.m level ballots (leb-true level (length (common_candidates e.m ballots)) parts.1) in
     let below : all_below level committee ballots ≡ true = ap (λ n. all_below n committee ballots) one ∙ outer.2 in
     let all = list_all-both (λ b. includes b shared.0) (λ b. nat_lt (hits b committee) level) ballots shared.2 below in
-    among_pairs Jr e committee level shared.0 shared.1
-    (or_left (pair_breaks Jr e committee level (shared.0, [])) false (enough Jr e committee level group shared.0 [] i least (omega (arith, one)) shared.1 tt some.1 parts.0 all))
+    among_pairs Jr e committee level shared.0 (shared.1, any_may shared.0)
+    (or_left (pair_breaks Jr e committee level (shared.0, [])) false (enough Jr e committee level group shared.0 [] i least (omega (arith, one)) (shared.1, any_may shared.0) tt some.1 parts.0 all))
 some_pair Pjr e committee level i least most some =
     let group = some.0 in
     let ballots = ballots_of e.rows group in
@@ -139,8 +160,8 @@ some_pair Pjr e committee level i least most some =
     let cover = covered committee wide.0 ballots wide.1.holds in
     let all = list_all-both (λ b. includes b shared.0) (λ b. includes wide.0 (common_members b committee)) ballots shared.2 cover in
     let inside : includes committee wide.0 ≡ true = all_pass (has_member committee) wide.0 wide.1.inside in
-    let breaking = enough Pjr e committee level group shared.0 wide.0 i least most shared.1 (wide.1.increasing, wide.1.count) some.1 parts.0 all in
-    among_pairs Pjr e committee level shared.0 shared.1
+    let breaking = enough Pjr e committee level group shared.0 wide.0 i least most (shared.1, any_may shared.0) (wide.1.increasing, wide.1.count) some.1 parts.0 all in
+    among_pairs Pjr e committee level shared.0 (shared.1, any_may shared.0)
     (list_any-filter (λ within. pair_breaks Pjr e committee level (shared.0, within)) (includes committee) (increasing_lists 1 e.m (level - 1))
     ∙ list_any-contains (λ within. includes committee within && pair_breaks Pjr e committee level (shared.0, within)) (increasing_lists 1 e.m (level - 1)) wide.0
     (increasing_lists-contains 1 e.m (level - 1) wide.0 (wide.1.increasing, wide.1.count))
@@ -151,8 +172,18 @@ some_pair Ejr e committee level i least most some =
     let parts = and_middle (is_large e committee level (sum group)) (nat_le level (length (common_candidates e.m ballots))) (all_below level committee ballots) some.2 in
     let shared = shared_of e.m level ballots (leb-true level (length (common_candidates e.m ballots)) parts.1) in
     let all = list_all-both (λ b. includes b shared.0) (λ b. nat_lt (hits b committee) level) ballots shared.2 parts.2 in
-    among_pairs Ejr e committee level shared.0 shared.1
-    (or_left (pair_breaks Ejr e committee level (shared.0, [])) false (enough Ejr e committee level group shared.0 [] i least most shared.1 tt some.1 parts.0 all))
+    among_pairs Ejr e committee level shared.0 (shared.1, any_may shared.0)
+    (or_left (pair_breaks Ejr e committee level (shared.0, [])) false (enough Ejr e committee level group shared.0 [] i least most (shared.1, any_may shared.0) tt some.1 parts.0 all))
+some_pair EjrPlus e committee level i least most some =
+    let group = some.0 in
+    let ballots = ballots_of e.rows group in
+    let parts = and_middle (is_large e committee level (sum group)) (list_any (is_outside committee) (common_candidates e.m ballots)) (all_below level committee ballots) some.2 in
+    let one = outside_of e.m (is_outside committee) ballots parts.1 in
+    let shared = one.0 ∷ [] in
+    let first : IsFirst EjrPlus e.m committee level shared = (one.1, and_from (is_outside committee one.0) true one.2 refl) in
+    let all = list_all-both (λ b. includes b shared) (λ b. nat_lt (hits b committee) level) ballots one.3 parts.2 in
+    among_pairs EjrPlus e committee level shared first
+    (or_left (pair_breaks EjrPlus e committee level (shared, [])) false (enough EjrPlus e committee level group shared [] i least most first tt some.1 parts.0 all))
 
 -- ---- the first violation
 
@@ -198,6 +229,7 @@ above_greatest Jr e committee level most more some =
     omega (arith, one, more)
 above_greatest Pjr e committee level most more some = omega (arith, most, more)
 above_greatest Ejr e committee level most more some = omega (arith, most, more)
+above_greatest EjrPlus e committee level most more some = omega (arith, most, more)
 
 -- the first violation names its level, and its group breaks the property
 pub first_is : (property : Property) (e : Election) (committee : List ℕ) (level : ℕ) (report : Violation) → first_violation property e committee level ≡ Some report

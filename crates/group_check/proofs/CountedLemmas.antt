@@ -1,19 +1,17 @@
 -- The first violation of several pairs, and of one.
-use Rattle.std.proofs.Common.{◌≡◌, ℕ, zero, suc, ◌+◌, ◌-◌, ◌≤◌, ◌++◌, Bool, true, false, cond, List, [], ◌∷◌, Option, Some, None, refl, sym, ap, ◌∙◌, arith, length, sum}
+use Rattle.std.proofs.Common.{◌≡◌, ℕ, ◌≤◌, ◌++◌, Bool, true, false, cond, List, [], ◌∷◌, Option, Some, None, refl, sym, ap, ◌∙◌, arith, length, sum}
 use Rattle.std.specs.Prelude.{find, is_some, option_map, flat_map}
 use Rattle.std.specs.Bool.{then_some}
 use Rattle.std.specs.Option.{option_or}
 use Rattle.std.proofs.lemmas.List.Folds.{find-append}
-use Rattle.ballot_base.specs.Lists.{IsIncreasing, increasing_lists, lists_of}
+use Rattle.ballot_base.specs.Lists.{IsIncreasing}
 use Rattle.ballot_base.specs.Ballots.{Election}
 use Rattle.group_check.specs.declared.property.Property.{Property}
-use Rattle.group_check.specs.declared.property.Property.TheVariants.{Jr, Pjr, Ejr}
-use Rattle.group_check.specs.contracts.property.Property.{the_type}
-use denote.Enum.Bare.{sameb}
+use Rattle.group_check.specs.declared.property.Property.TheVariants.{Jr, Pjr, Ejr, EjrPlus}
 use Rattle.group_check.specs.declared.property.Violation.{Violation}
-use Rattle.group_check.specs.Report.{supporters, pair_breaks, violation_of, lists_within}
-use Rattle.group_check.specs.Checking.{greatest_level, IsChoice, IsSecond, first_of, pairs_of}
-use Rattle.group_check.proofs.BreakLemmas.{is_large, pair_breaks-is}
+use Rattle.group_check.specs.Report.{supporters, pair_breaks, violation_of}
+use Rattle.group_check.specs.Steps.Checking.{greatest_level, IsFirst, IsSecond, first_of, pairs_of, is_large}
+use Rattle.group_check.proofs.BreakLemmas.{pair_breaks-is}
 
 -- the violation of these voters
 abbrev pub violation_with : Property → List ℕ → ℕ → List ℕ → List ℕ → ℕ → Violation
@@ -32,7 +30,7 @@ then_some-find f false x = refl
 
 -- all voters behind T and U, counted
 pub counted_is : (property : Property) (e : Election) (committee : List ℕ) (level : ℕ) (shared within : List ℕ)
-    → IsIncreasing 1 e.m committee → 1 ≤ level → level ≤ greatest_level property committee → IsChoice e.m level shared → IsSecond property e.m level within
+    → IsIncreasing 1 e.m committee → 1 ≤ level → level ≤ greatest_level property committee → IsFirst property e.m committee level shared → IsSecond property e.m level within
     → (voters : ℕ) → voters ≡ sum (supporters property e committee level (shared, within))
     → then_some (is_large e committee level voters) (violation_with property committee level shared within voters) ≡ first_of property e committee level ((shared, within) ∷ [])
 counted_is property e committee level shared within i least most choice second voters a =
@@ -72,6 +70,7 @@ greatest_level-le Jr [] some = absurd (some refl)
 greatest_level-le Jr (x ∷ xs) some = omega arith
 greatest_level-le Pjr committee some = omega arith
 greatest_level-le Ejr committee some = omega arith
+greatest_level-le EjrPlus committee some = omega arith
 
 -- the pairs of the first T come first
 pub first_of-step : (property : Property) (e : Election) (committee : List ℕ) (level : ℕ) (lists sets : List (List ℕ)) (shared : List ℕ) (rest : List (List ℕ)) → sets ≡ shared ∷ rest
@@ -79,31 +78,3 @@ pub first_of-step : (property : Property) (e : Election) (committee : List ℕ) 
     ≡ first_of property e committee level (flat_map (λ first. pairs_of first lists) sets)
 first_of-step property e committee level lists sets shared rest steps =
     rw steps (sym (first_of-append property e committee level (pairs_of shared lists) (flat_map (λ first. pairs_of first lists) rest)))
-
--- ---- where U is empty
-
-empty_alone : (m : ℕ) → increasing_lists 1 m 0 ≡ [] ∷ []
-unfolding lists_of
-empty_alone zero = refl
-empty_alone (suc m) = alone (suc m + 1 - 1)
-  where
-    alone : (count : ℕ) → lists_of count 1 0 ≡ [] ∷ []
-    alone zero = refl
-    alone (suc count) = refl
-
--- at level 1 the only list U is the empty one
-pub lists_within-one : (property : Property) (m : ℕ) (committee : List ℕ) (level : ℕ) → 1 ≤ level → level ≤ 1 → lists_within property m committee level ≡ [] ∷ []
-lists_within-one Jr m committee level least most = refl
-lists_within-one Pjr m committee level least most =
-    let none : level - 1 ≡ 0 = omega arith in
-    rw (none, empty_alone m) refl
-lists_within-one Ejr m committee level least most = refl
-
--- and so it is for the properties without U
-pub lists_within-other : (property : Property) (m : ℕ) (committee : List ℕ) (level : ℕ) → sameb the_type property Pjr ≡ false → lists_within property m committee level ≡ [] ∷ []
-lists_within-other Jr m committee level other = refl
-lists_within-other Pjr m committee level other = absurd (never other)
-  where
-    never : sameb the_type Pjr Pjr ≡ false → ⊥
-    never e = cc
-lists_within-other Ejr m committee level other = refl

@@ -2,10 +2,10 @@
 use Rattle.std.proofs.Common.{◌≡◌, zero, suc, [], ◌∷◌, true, false, Some, None, refl, lit≤, arith}
 use Rattle.ballot_base.specs.Lists.{lists_of}
 use Rattle.ballot_base.specs.Ballots.{Election, election}
-use Rattle.group_check.specs.declared.property.Property.TheVariants.{Jr, Pjr, Ejr}
-use Rattle.group_check.specs.Groups.{IsGroup, ballots_of, common_candidates, represented, is_cohesive, all_below, breaks, Breaks, SomeGroupBreaks, HasProperty}
-use Rattle.group_check.specs.Report.{includes, is_behind, is_in_group, group_of, supporters, lists_within, pairs_at, pair_breaks, violation_of, first_violation, IsReport}
-use Rattle.group_check.specs.Checking.{greatest_level, IsChoice, IsSecond, Computes, approvers, first_of, members_at, pairs_of}
+use Rattle.group_check.specs.declared.property.Property.TheVariants.{Jr, Pjr, Ejr, EjrPlus}
+use Rattle.group_check.specs.Groups.{IsGroup, ballots_of, common_candidates, represented, is_large_enough, is_outside, is_cohesive, all_below, breaks, Breaks, SomeGroupBreaks, HasProperty}
+use Rattle.group_check.specs.Report.{includes, is_behind, is_in_group, group_of, supporters, lists_within, lists_shared, pairs_at, pair_breaks, violation_of, first_violation, IsReport}
+use Rattle.group_check.specs.Steps.Checking.{greatest_level, shared_size, may_share, is_possible, IsChoice, IsFirst, IsSecond, Computes, first_of, first_of_lists, pairs_of, sublists, completions, is_large, is_below, is_around, is_enough_within, voters_below, voters_around, possible_candidates}
 use Rattle.group_check.proofs.BreakLemmas.{no_group, above_greatest}
 
 -- ---- three voters approve 1 and 2, and one approves 3 and 4; the committee has 3 and 4
@@ -152,6 +152,59 @@ alike_has_jr zero least most some = omega (arith, least)
 alike_has_jr (suc zero) least most some = no_group Jr alike (3 ∷ 4 ∷ []) 1 (lit≤ tt, lit≤ tt, (lit≤ tt, lit≤ tt, tt)) (lit≤ tt) (lit≤ tt) no_jr some
 alike_has_jr (suc (suc level)) least most some = above_greatest Jr alike (3 ∷ 4 ∷ []) (suc (suc level)) most (omega arith) some
 
+-- ---- one voter approves 1 and 2, and one approves 1 and 3; the committee has 2 and 3
+pair : Election
+pair = election 3 ([] ∷ [] ∷ [] ∷ []) ((1 ∷ 2 ∷ [], 1) ∷ (1 ∷ 3 ∷ [], 1) ∷ [])
+
+one_is_outside : is_outside (2 ∷ 3 ∷ []) 1 ≡ true
+one_is_outside = refl
+
+two_is_not_outside : is_outside (2 ∷ 3 ∷ []) 2 ≡ false
+two_is_not_outside = refl
+
+both_are_large_enough : is_large_enough pair 2 2 (1 ∷ 1 ∷ []) ≡ true
+unfolding pair
+both_are_large_enough = refl
+
+-- the two could claim two members, share 1 and have one member each
+they_break : breaks EjrPlus pair (2 ∷ 3 ∷ []) 2 (1 ∷ 1 ∷ []) ≡ true
+unfolding pair
+they_break = refl
+
+-- with 1 in the committee they share nobody outside it
+they_share_a_member : breaks EjrPlus pair (1 ∷ 2 ∷ []) 2 (1 ∷ 1 ∷ []) ≡ false
+unfolding pair
+they_share_a_member = refl
+
+no_plus_at_one : first_violation EjrPlus pair (2 ∷ 3 ∷ []) 1 ≡ None
+unfolding pair lists_of
+no_plus_at_one = refl
+
+plus_at_two : first_violation EjrPlus pair (2 ∷ 3 ∷ []) 2 ≡ Some (record { property = EjrPlus; committee = 2 ∷ 3 ∷ []; level = 2; shared = 1 ∷ []; within = []; voters = 2 })
+unfolding pair lists_of
+plus_at_two = refl
+
+-- they share too few candidates to break EJR
+no_ejr_of_pair : first_violation Ejr pair (2 ∷ 3 ∷ []) 2 ≡ None
+unfolding pair lists_of
+no_ejr_of_pair = refl
+
+none_at_one_with_one : first_violation EjrPlus pair (1 ∷ 2 ∷ []) 1 ≡ None
+unfolding pair lists_of
+none_at_one_with_one = refl
+
+none_at_two_with_one : first_violation EjrPlus pair (1 ∷ 2 ∷ []) 2 ≡ None
+unfolding pair lists_of
+none_at_two_with_one = refl
+
+-- so the committee of 1 and 2 has EJR+
+pair_has_plus : HasProperty EjrPlus pair (1 ∷ 2 ∷ [])
+unfolding pair
+pair_has_plus zero least most some = omega (arith, least)
+pair_has_plus (suc zero) least most some = no_group EjrPlus pair (1 ∷ 2 ∷ []) 1 (lit≤ tt, lit≤ tt, (lit≤ tt, lit≤ tt, tt)) (lit≤ tt) (lit≤ tt) none_at_one_with_one some
+pair_has_plus (suc (suc zero)) least most some = no_group EjrPlus pair (1 ∷ 2 ∷ []) 2 (lit≤ tt, lit≤ tt, (lit≤ tt, lit≤ tt, tt)) (lit≤ tt) (lit≤ tt) none_at_two_with_one some
+pair_has_plus (suc (suc (suc level))) least most some = omega (arith, most)
+
 -- ---- T and U
 included : includes (1 ∷ 2 ∷ 3 ∷ []) (1 ∷ 3 ∷ []) ≡ true
 included = refl
@@ -185,6 +238,14 @@ members_alone = refl
 empty_alone : lists_within Ejr 4 (3 ∷ 4 ∷ []) 2 ≡ [] ∷ []
 empty_alone = refl
 
+two_of_three : lists_shared Ejr 3 (2 ∷ []) 2 ≡ (1 ∷ 2 ∷ []) ∷ (1 ∷ 3 ∷ []) ∷ (2 ∷ 3 ∷ []) ∷ []
+unfolding lists_of
+two_of_three = refl
+
+one_outside : lists_shared EjrPlus 3 (2 ∷ []) 2 ≡ (1 ∷ []) ∷ (3 ∷ []) ∷ []
+unfolding lists_of
+one_outside = refl
+
 pairs_in_order : pairs_at Pjr 3 (2 ∷ 3 ∷ []) 2 ≡
     (1 ∷ 2 ∷ [], 2 ∷ []) ∷ (1 ∷ 2 ∷ [], 3 ∷ []) ∷ (1 ∷ 3 ∷ [], 2 ∷ []) ∷ (1 ∷ 3 ∷ [], 3 ∷ []) ∷ (2 ∷ 3 ∷ [], 2 ∷ []) ∷ (2 ∷ 3 ∷ [], 3 ∷ []) ∷ []
 unfolding lists_of
@@ -205,6 +266,29 @@ one_level = refl
 two_levels : greatest_level Pjr (3 ∷ 4 ∷ []) ≡ 2
 two_levels = refl
 
+two_are_shared : shared_size Ejr 2 ≡ 2
+two_are_shared = refl
+
+one_is_shared : shared_size EjrPlus 2 ≡ 1
+one_is_shared = refl
+
+a_member_may_share : may_share Ejr (3 ∷ 4 ∷ []) 3 ≡ true
+a_member_may_share = refl
+
+no_member_may_share : may_share EjrPlus (3 ∷ 4 ∷ []) 3 ≡ false
+no_member_may_share = refl
+
+one_can_be_shared : is_possible EjrPlus pair (2 ∷ 3 ∷ []) 2 1 ≡ true
+unfolding pair
+one_can_be_shared = refl
+
+two_cannot : is_possible EjrPlus pair (2 ∷ 3 ∷ []) 2 2 ≡ false
+unfolding pair
+two_cannot = refl
+
+first_of_plus : IsFirst EjrPlus 4 (3 ∷ 4 ∷ []) 2 (1 ∷ [])
+first_of_plus = (((lit≤ tt, lit≤ tt, tt), refl), refl)
+
 choice : IsChoice 4 2 (1 ∷ 3 ∷ [])
 choice = ((lit≤ tt, lit≤ tt, (lit≤ tt, lit≤ tt, tt)), refl)
 
@@ -218,16 +302,51 @@ none_of_these : first_of Pjr alike (3 ∷ 4 ∷ []) 2 ((1 ∷ 2 ∷ [], 4 ∷ []
 unfolding alike
 none_of_these = refl
 
-who_approves_both : approvers split (1 ∷ 2 ∷ []) ≡ 1 ∷ 1 ∷ []
-unfolding split
-who_approves_both = refl
+none_of_this_list : first_of_lists Pjr alike (3 ∷ 4 ∷ []) 2 ((1 ∷ 4 ∷ []) ∷ []) ≡ None
+unfolding alike lists_of
+none_of_this_list = refl
 
-who_approves_three : approvers split (1 ∷ 3 ∷ []) ≡ 1 ∷ 0 ∷ []
-unfolding split
-who_approves_three = refl
+pairs_of_three : sublists (2 ∷ 5 ∷ 9 ∷ []) 2 ≡ (2 ∷ 5 ∷ []) ∷ (2 ∷ 9 ∷ []) ∷ (5 ∷ 9 ∷ []) ∷ []
+pairs_of_three = refl
 
-first_and_last : members_at (2 ∷ 5 ∷ 9 ∷ []) (1 ∷ 3 ∷ []) ≡ 2 ∷ 9 ∷ []
-first_and_last = refl
+below_one : completions (1 ∷ []) (5 ∷ 9 ∷ []) 1 ≡ (1 ∷ 5 ∷ []) ∷ (1 ∷ 9 ∷ []) ∷ []
+below_one = refl
+
+half_are_enough : is_large divided (3 ∷ 4 ∷ []) 1 2 ≡ true
+unfolding divided
+half_are_enough = refl
+
+fewer_are_not : is_large divided (3 ∷ 4 ∷ []) 1 1 ≡ false
+unfolding divided
+fewer_are_not = refl
+
+one_member_is_below_two : is_below (3 ∷ 4 ∷ []) 2 (1 ∷ []) (1 ∷ 2 ∷ 3 ∷ []) ≡ true
+one_member_is_below_two = refl
+
+one_member_is_not_below_one : is_below (3 ∷ 4 ∷ []) 1 (1 ∷ []) (1 ∷ 2 ∷ 3 ∷ []) ≡ false
+one_member_is_not_below_one = refl
+
+who_is_below : voters_below split (3 ∷ 4 ∷ []) 2 (1 ∷ 3 ∷ []) ≡ 1 ∷ 0 ∷ []
+unfolding split
+who_is_below = refl
+
+who_can_be_shared : possible_candidates Ejr split (3 ∷ 4 ∷ []) 2 ≡ 1 ∷ 2 ∷ []
+unfolding split
+who_can_be_shared = refl
+
+can_still_be_chosen : is_around (3 ∷ 4 ∷ 5 ∷ []) (1 ∷ []) (3 ∷ []) (5 ∷ []) 1 (1 ∷ 3 ∷ 5 ∷ []) ≡ true
+can_still_be_chosen = refl
+
+was_passed_over : is_around (3 ∷ 4 ∷ 5 ∷ []) (1 ∷ []) (3 ∷ []) (5 ∷ []) 1 (1 ∷ 4 ∷ []) ≡ false
+was_passed_over = refl
+
+who_stays : voters_around split (3 ∷ 4 ∷ []) (1 ∷ 2 ∷ []) [] (4 ∷ []) 1 ≡ 0 ∷ 1 ∷ []
+unfolding split
+who_stays = refl
+
+one_of_two_is_too_few : is_enough_within split (3 ∷ 4 ∷ []) 2 (1 ∷ 2 ∷ []) (3 ∷ []) ≡ false
+unfolding split
+one_of_two_is_too_few = refl
 
 by_the_members : Computes (λ ballot answer. answer ≡ includes ballot (1 ∷ [])) (λ ballot. includes ballot (1 ∷ []))
 by_the_members = λ ballot answer same. same

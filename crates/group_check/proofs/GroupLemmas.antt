@@ -1,17 +1,17 @@
 -- Some group breaks a property exactly where all the voters behind some T and U do.
-use Rattle.std.proofs.Common.{◌≡◌, ℕ, zero, suc, ◌≤◌, Bool, true, false, cond, List, [], ◌∷◌, refl, sym, ap, ◌∙◌, arith, length, take, sum}
+use Rattle.std.proofs.Common.{◌≡◌, ℕ, zero, suc, ◌+◌, ◌<◌, ◌≤◌, ◌==◌, ◌||◌, Bool, true, false, cond, List, [], ◌∷◌, refl, sym, ap, ◌∙◌, arith, inl, inr, length, take, sum}
 use Rattle.std.specs.List.{list_all, list_any, range_with_len}
-use Rattle.std.proofs.lemmas.Bool.{and_from, and_parts, or_left}
+use Rattle.std.proofs.lemmas.Bool.{and_from, and_parts, or_left, eqb-true, cases_eq}
 use Rattle.std.proofs.lemmas.List.{length-take-le}
 use Rattle.std.proofs.lemmas.List.Sums.{sum_by-cons}
 use Rattle.ballot_base.specs.Lists.{IsIncreasing}
 use Rattle.ballot_base.specs.CandSet.{has_member, common_members}
 use Rattle.ballot_base.specs.Ballots.{Row}
-use Rattle.ballot_base.proofs.Increasing.{IsIncreasing-filter, has_member-filter}
+use Rattle.ballot_base.proofs.Increasing.{IsIncreasing-filter, has_member-filter, has_member_head, has_member_tail}
 use Rattle.group_check.specs.Groups.{IsGroup, ballots_of, common_candidates, represented}
 use Rattle.group_check.specs.Report.{includes, group_of}
-use Rattle.group_check.specs.Checking.{IsChoice}
-use Rattle.group_check.proofs.TestLemmas.{list_all-filter, list_all-take, list_all-swap, both_at}
+use Rattle.group_check.specs.Steps.Checking.{IsChoice}
+use Rattle.group_check.proofs.TestLemmas.{list_all-filter, list_all-take, list_all-swap, list_all-weaker, both_at}
 use Rattle.group_check.proofs.SetLemmas.{passes_at, all_pass, or_second, length-within, length-passing, IsIncreasing-take, IsIncreasing-range}
 
 -- ---- the group of all voters whose ballots pass a test
@@ -46,6 +46,28 @@ group-le test (row ∷ rows) (suc n ∷ group) g h =
     let all : cond (test row.0) row.1 0 ≡ row.1 = ap (λ b. cond b row.1 0) parts.0 in
     omega (arith, sum_by-cons (λ (x : ℕ). x) (suc n) group, sum_by-cons (λ (x : ℕ). x) (cond (test row.0) row.1 0) (group_of test rows), more, all, g.0)
 
+-- ---- numbers of a range
+
+pub has_member-range : (first count n : ℕ) → first ≤ n → n < first + count → has_member (range_with_len first count) n ≡ true
+has_member-range first zero n low high = absurd (omega arith)
+has_member-range first (suc count) n low high =
+    elim (cases_eq first n) [
+      | inl same ↦ ap (has_member (range_with_len first (suc count))) (sym same) ∙ has_member_head first (range_with_len (first + 1) count)
+      | inr other ↦ has_member_tail first n (range_with_len (first + 1) count) other ∙ has_member-range (first + 1) count n (omega (arith, other)) (omega arith)
+    ]
+
+range_bounds : (first count n : ℕ) → has_member (range_with_len first count) n ≡ true → (first ≤ n) × (n < first + count)
+range_bounds first zero n h = absurd (never h)
+  where
+    never : false ≡ true → ⊥
+    never e = cc
+range_bounds first (suc count) n h = cases (first == n) refl (λ later. range_bounds (first + 1) count n later) h
+  where
+    cases : (b : Bool) → (first == n) ≡ b → (has_member (range_with_len (first + 1) count) n ≡ true → (first + 1 ≤ n) × (n < first + 1 + count))
+        → (b || has_member (range_with_len (first + 1) count) n) ≡ true → (first ≤ n) × (n < first + suc count)
+    cases true e later h = let same = eqb-true first n e in (omega (arith, same), omega (arith, same))
+    cases false e later h = let more = later h in (omega (arith, more.0), omega (arith, more.1))
+
 -- ---- candidates in common
 
 pub shared_of : (m level : ℕ) (ballots : List (List ℕ)) → level ≤ length (common_candidates m ballots) → (shared : List ℕ) × IsChoice m level shared × (list_all (λ ballot. includes ballot shared) ballots ≡ true)
@@ -64,6 +86,59 @@ all_agree m level ballots shared choice all =
     let each = list_all-swap (λ ballot c. has_member ballot c) ballots shared all in
     let few = length-passing (λ c. list_all (λ ballot. has_member ballot c) ballots) m 1 m shared (omega arith) choice.0 each in
     omega (arith, few, choice.1)
+
+-- ---- a candidate in common that passes a test
+
+pub any_at : (q : ℕ → Bool) (set : List ℕ) (n : ℕ) → has_member set n ≡ true → q n ≡ true → list_any q set ≡ true
+any_at q [] n h k = absurd (never h)
+  where
+    never : false ≡ true → ⊥
+    never e = cc
+any_at q (x ∷ xs) n h k = cases (x == n) refl (λ later. any_at q xs n later k) h
+  where
+    cases : (b : Bool) → (x == n) ≡ b → (has_member xs n ≡ true → list_any q xs ≡ true) → (b || has_member xs n) ≡ true → (q x || list_any q xs) ≡ true
+    cases true e later h = or_left (q x) (list_any q xs) (ap q (eqb-true x n e) ∙ k)
+    cases false e later h = or_second (q x) (list_any q xs) (later h)
+
+member_at : (q : ℕ → Bool) (set : List ℕ) → list_any q set ≡ true → (n : ℕ) × (has_member set n ≡ true) × (q n ≡ true)
+member_at q [] h = absurd (never h)
+  where
+    never : false ≡ true → ⊥
+    never e = cc
+member_at q (x ∷ xs) h = cases (q x) refl (λ later. member_at q xs later) h
+  where
+    cases : (b : Bool) → q x ≡ b → (list_any q xs ≡ true → (n : ℕ) × (has_member xs n ≡ true) × (q n ≡ true)) → (b || list_any q xs) ≡ true
+        → (n : ℕ) × (has_member (x ∷ xs) n ≡ true) × (q n ≡ true)
+    cases true e later h = (x, has_member_head x xs, e)
+    cases false e later h = let more = later h in (more.0, or_second (x == more.0) (has_member xs more.0) more.1, more.2)
+
+-- the candidates of T that pass are in common
+pub some_outside : (m : ℕ) (q : ℕ → Bool) (ballots : List (List ℕ)) (shared : List ℕ) → IsChoice m 1 shared → list_all q shared ≡ true
+    → list_all (λ ballot. includes ballot shared) ballots ≡ true → list_any q (common_candidates m ballots) ≡ true
+some_outside m q ballots [] choice pass all = absurd (omega (arith, choice.1))
+some_outside m q ballots (c ∷ rest) choice pass all =
+    let p = λ (n : ℕ). list_all (λ ballot. has_member ballot n) ballots in
+    let each = list_all-swap (λ ballot n. has_member ballot n) ballots (c ∷ rest) all in
+    let here : p c ≡ true = (and_parts (p c) (list_all p rest) each).0 in
+    let inside = has_member-range 1 m c choice.0.0 (omega (arith, choice.0.1)) in
+    any_at q (common_candidates m ballots) c
+    (has_member-filter p (range_with_len 1 m) c ∙ and_from (p c) (has_member (range_with_len 1 m) c) here inside)
+    (and_parts (q c) (list_all q rest) pass).0
+
+-- a candidate in common that passes, alone
+pub outside_of : (m : ℕ) (q : ℕ → Bool) (ballots : List (List ℕ)) → list_any q (common_candidates m ballots) ≡ true
+    → (c : ℕ) × IsChoice m 1 (c ∷ []) × (q c ≡ true) × (list_all (λ ballot. includes ballot (c ∷ [])) ballots ≡ true)
+outside_of m q ballots some =
+    let p = λ (n : ℕ). list_all (λ ballot. has_member ballot n) ballots in
+    let found = member_at q (common_candidates m ballots) some in
+    let c = found.0 in
+    let parts = and_parts (p c) (has_member (range_with_len 1 m) c) (sym (has_member-filter p (range_with_len 1 m) c) ∙ found.1) in
+    let bounds = range_bounds 1 m c parts.1 in (
+      c,
+      ((bounds.0, omega (arith, bounds.1), tt), refl),
+      found.2,
+      list_all-weaker (λ ballot. has_member ballot c) (λ ballot. includes ballot (c ∷ [])) (λ ballot h. and_from (has_member ballot c) true h refl) ballots parts.0,
+    )
 
 -- ---- represented members
 

@@ -1,16 +1,18 @@
--- Extended justified representation implies proportional justified representation, and that implies the plain one.
-use Rattle.std.proofs.Common.{◌≡◌, ℕ, zero, suc, ◌<◌, ◌≤◌, ◌==◌, ◌||◌, Bool, true, false, cond, List, [], ◌∷◌, refl, sym, ap, ◌∙◌, arith, length, filter}
-use Rattle.std.specs.Prelude.{nat_lt, count_by}
-use Rattle.std.specs.List.{list_any, AllByRecursion}
-use Rattle.std.proofs.lemmas.Bool.{and_from, and_parts, lt-ltb, ltb-true, eqb-true}
+-- EJR+ implies extended justified representation, that implies proportional justified representation, and that implies the plain one.
+use Rattle.std.proofs.Common.{◌≡◌, ℕ, zero, suc, ◌*◌, ◌<◌, ◌≤◌, ◌==◌, ◌&&◌, ◌||◌, Bool, true, false, cond, List, [], ◌∷◌, refl, sym, ap, ◌∙◌, arith, length, filter, not, sum}
+use Rattle.std.specs.Prelude.{nat_le, nat_lt, count_by}
+use Rattle.std.specs.List.{list_all, list_any, range_with_len, AllByRecursion}
+use Rattle.std.proofs.lemmas.Bool.{and_from, and_parts, leb-true, lt-ltb, ltb-true, eqb-true}
+use Rattle.std.proofs.lemmas.Nat.{mul-le}
 use Rattle.std.proofs.lemmas.List.Sums.{length-filter, sum_by-cons}
 use Rattle.ballot_base.specs.Lists.{IsIncreasing}
 use Rattle.ballot_base.specs.CandSet.{has_member}
-use Rattle.ballot_base.specs.Ballots.{Row, Election, IsElection, hits}
+use Rattle.ballot_base.specs.Ballots.{Row, Election, IsElection, hits, voter_count}
 use Rattle.ballot_base.proofs.Increasing.{IsIncreasing-filter, has_member-filter, has_member_head}
-use Rattle.group_check.specs.declared.property.Property.TheVariants.{Jr, Pjr, Ejr}
-use Rattle.group_check.specs.Groups.{ballots_of, represented, is_cohesive, all_below, HasProperty}
-use Rattle.group_check.proofs.SetLemmas.{length-within, length-common}
+use Rattle.group_check.specs.declared.property.Property.TheVariants.{Jr, Pjr, Ejr, EjrPlus}
+use Rattle.group_check.specs.Groups.{IsGroup, ballots_of, common_candidates, represented, is_cohesive, is_large_enough, is_outside, all_below, HasProperty}
+use Rattle.group_check.proofs.SetLemmas.{length-within, length-common, IsIncreasing-range}
+use Rattle.group_check.proofs.GroupLemmas.{any_at}
 use Rattle.group_check.proofs.BreakLemmas.{and_middle}
 use Rattle.group_check.proofs.TestLemmas.{both_at}
 
@@ -97,3 +99,62 @@ pjr-jr e committee has level least most some =
     let found = both_at (λ b. nat_lt (hits b committee) 1) (λ b. has_member b n) ballots parts.2 k in
     none_counted (has_member committee) found.0 n (ltb-true (hits found.0 committee) 1 found.1) found.2 h) in
     has level least most (group, some.1, and_from cohesive (nat_lt (length (represented ballots committee)) level) parts.1 (lt-ltb (length (represented ballots committee)) level (omega (arith, none, one))))
+
+-- ---- EJR+
+
+-- a group without a ballot has no voter
+no_voters : (rows : List Row) (group : List ℕ) → IsGroup rows group → ballots_of rows group ≡ [] → sum group ≡ 0
+no_voters [] [] g h = refl
+no_voters [] (n ∷ group) g h = absurd g
+no_voters (row ∷ rows) [] g h = absurd g
+no_voters (row ∷ rows) (zero ∷ group) g h = omega (arith, sum_by-cons (λ (x : ℕ). x) 0 group, no_voters rows group g.1 h)
+no_voters (row ∷ rows) (suc n ∷ group) g h = absurd (never h)
+  where
+    never : row.0 ∷ ballots_of rows group ≡ [] → ⊥
+    never e = cc
+
+inside_unless : (a b : Bool) → (not a ≡ true → b ≡ true) → b ≡ false → a ≡ true
+inside_unless true b h k = refl
+inside_unless false b h k = absurd (never (sym (h refl) ∙ k))
+  where
+    never : true ≡ false → ⊥
+    never e = cc
+
+-- where all common candidates are members, whoever approves them approves as many members
+no_ballots : (m level : ℕ) (ballots : List (List ℕ)) (committee : List ℕ) → IsIncreasing 1 m committee → AllByRecursion (λ ballot. IsIncreasing 1 m ballot) ballots
+    → level ≤ length (common_candidates m ballots) → all_below level committee ballots ≡ true → list_any (is_outside committee) (common_candidates m ballots) ≡ false → ballots ≡ []
+no_ballots m level [] committee i inc many below none = refl
+no_ballots m level (ballot ∷ ballots) committee i inc many below none =
+    let p = λ (n : ℕ). list_all (λ b. has_member b n) (ballot ∷ ballots) in
+    let commons = common_candidates m (ballot ∷ ballots) in
+    let j : IsIncreasing 1 m commons = IsIncreasing-filter p 1 m (range_with_len 1 m) (IsIncreasing-range 1 m m (omega arith)) in
+    let few = length-within 1 m commons (filter (has_member ballot) committee) j (IsIncreasing-filter (has_member ballot) 1 m committee i) (λ n h.
+    let approved = and_parts (p n) (has_member (range_with_len 1 m) n) (sym (has_member-filter p (range_with_len 1 m) n) ∙ h) in
+    let member = inside_unless (has_member committee n) (list_any (is_outside committee) commons) (λ out. any_at (is_outside committee) commons n h out) none in
+    has_member-filter (has_member ballot) committee n
+    ∙ and_from (has_member ballot n) (has_member committee n) (and_parts (has_member ballot n) (list_all (λ b. has_member b n) ballots) approved.0).0 member) in
+    let less = ltb-true (hits ballot committee) level (and_parts (nat_lt (hits ballot committee) level) (all_below level committee ballots) below).0 in
+    absurd (omega (arith, few, many, less, length-filter (has_member committee) ballot, length-common 1 m ballot committee inc.0 i))
+
+pub ejrplus-ejr : (e : Election) (committee : List ℕ) → IsElection e → 1 ≤ voter_count e.rows → IsIncreasing 1 e.m committee → HasProperty EjrPlus e committee → HasProperty Ejr e committee
+ejrplus-ejr e committee valid voters i has level least most some =
+    let group = some.0 in
+    let ballots = ballots_of e.rows group in
+    let commons = common_candidates e.m ballots in
+    let large = is_large_enough e (length committee) level group in
+    let parts = and_middle large (nat_le level (length commons)) (all_below level committee ballots) some.2 in
+    let inc = ballots-increasing e.m e.rows group valid.ballots in
+    cases (list_any (is_outside committee) commons) refl
+    (λ out. has level least most (group, some.1, and_from (large && list_any (is_outside committee) commons) (all_below level committee ballots) (and_from large (list_any (is_outside committee) commons) parts.0 out) parts.2))
+    (λ none.
+    let nobody = no_voters e.rows group some.1 (no_ballots e.m level ballots committee i inc (leb-true level (length commons) parts.1) parts.2 none) in
+    let enough = leb-true (level * voter_count e.rows) (sum group * length committee) parts.0 in
+    let nothing : sum group * length committee ≡ 0 * length committee = ap (λ s. s * length committee) nobody in
+    let one = mul-le 1 1 level (voter_count e.rows) least voters in
+    omega (arith, enough, nothing, one))
+  where
+    cases : (b : Bool) → list_any (is_outside committee) (common_candidates e.m (ballots_of e.rows some.0)) ≡ b
+        → (list_any (is_outside committee) (common_candidates e.m (ballots_of e.rows some.0)) ≡ true → ⊥)
+        → (list_any (is_outside committee) (common_candidates e.m (ballots_of e.rows some.0)) ≡ false → ⊥) → ⊥
+    cases true h outside inside = outside h
+    cases false h outside inside = inside h

@@ -9,4 +9,5 @@ pub mod ReportLemmas
 pub mod SetLemmas
 pub mod TestLemmas
 pub mod VoterLemmas
-pub mod WithinLemmas
+pub mod WalkLemmas
+pub mod BeginningLemmas

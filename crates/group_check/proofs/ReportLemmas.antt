@@ -8,7 +8,7 @@ use Rattle.group_check.specs.declared.property.Property.{Property}
 use Rattle.group_check.specs.declared.property.Violation.{Violation}
 use Rattle.group_check.specs.Groups.{SomeGroupBreaks, HasProperty}
 use Rattle.group_check.specs.Report.{IsReport, first_violation, is_in_group, group_of}
-use Rattle.group_check.specs.Checking.{greatest_level}
+use Rattle.group_check.specs.Steps.Checking.{greatest_level}
 use Rattle.group_check.proofs.GroupLemmas.{group_of-group}
 use Rattle.group_check.proofs.BreakLemmas.{no_group, some_group, above_greatest, first_is}
 

@@ -1,7 +1,9 @@
 -- Sets of candidates: how many members there are, and sets of a given size.
 use Rattle.std.proofs.Common.{◌≡◌, ℕ, zero, suc, ◌+◌, ◌≤◌, ◌==◌, ◌&&◌, ◌||◌, Bool, true, false, cond, List, [], ◌∷◌, refl, sym, ap, ◌∙◌, arith, inl, inr, length, filter, take}
 use Rattle.std.specs.List.{list_all, range_with_len}
-use Rattle.std.proofs.lemmas.Bool.{and_from, and_parts, eqb-true, cases_order, cases_lt, ne_eqb}
+use Rattle.std.proofs.lemmas.Bool.{and_from, and_parts, eqb-true, eq-eqb, cases_order, cases_lt, ne_eqb}
+use Rattle.std.specs.Str.{bytes_eq}
+use Rattle.std.proofs.lemmas.Slice.Eq.{bytes_eq-Decides}
 use Rattle.std.proofs.lemmas.List.Sums.{length-filter, count_by-le-length}
 use Rattle.ballot_base.specs.Lists.{IsIncreasing}
 use Rattle.ballot_base.specs.CandSet.{has_member, common_members}
@@ -96,7 +98,7 @@ pub record IsWidened (first last size : ℕ) (p : ℕ → Bool) (set wide : List
   pub inside : (n : ℕ) → has_member wide n ≡ true → has_member set n ≡ true
   pub holds : (n : ℕ) → p n ≡ true → has_member set n ≡ true → has_member wide n ≡ true
 
-or_mono : (a b c : Bool) → (b ≡ true → c ≡ true) → (a || b) ≡ true → (a || c) ≡ true
+pub or_mono : (a b c : Bool) → (b ≡ true → c ≡ true) → (a || b) ≡ true → (a || c) ≡ true
 or_mono true b c h k = refl
 or_mono false b c h k = h k
 
@@ -159,6 +161,25 @@ kept_all p (x ∷ xs) =
         → (length (cond b (x ∷ filter p xs) (filter p xs)) == length (x ∷ xs)) ≡ (b && list_all p xs)
     cases true more few = grind (arith, more)
     cases false more few = ne_eqb (length (filter p xs)) (length (x ∷ xs)) (λ e. omega (arith, e, few))
+
+same_answers : (a b : Bool) → (a ≡ true → b ≡ true) → (b ≡ true → a ≡ true) → a ≡ b
+same_answers true b h k = sym (h refl)
+same_answers false true h k = k refl
+same_answers false false h k = refl
+
+keeps_all : (p : ℕ → Bool) (xs : List ℕ) → list_all p xs ≡ true → filter p xs ≡ xs
+keeps_all p [] h = refl
+keeps_all p (x ∷ xs) h =
+    let parts = and_parts (p x) (list_all p xs) h in
+    rw parts.0 (ap (λ s. x ∷ s) (keeps_all p xs parts.1))
+
+-- all pass where a filter keeps the set as it is
+pub kept_whole : (p : ℕ → Bool) (xs : List ℕ) → bytes_eq (filter p xs) xs ≡ list_all p xs
+kept_whole p xs =
+    let decides = bytes_eq-Decides (filter p xs) xs in
+    same_answers (bytes_eq (filter p xs) xs) (list_all p xs)
+    (λ h. sym (kept_all p xs) ∙ eq-eqb (length (filter p xs)) (length xs) (ap length (decides.0 h)))
+    (λ h. decides.1 (keeps_all p xs h))
 
 pub length-common_members : (ballot committee : List ℕ) → length (common_members ballot committee) ≡ hits ballot committee
 length-common_members ballot committee = length-filter (has_member committee) ballot

@@ -1,3 +1,4 @@
 pub mod Groups
 pub mod Report
-pub mod Checking
+pub mod Names
+pub mod Steps

@@ -1,4 +1,5 @@
--- The report of a violation. Among the groups that break a property it names one by a list T of l candidates and, for
+-- The report of a violation. Among the groups that break a property it names one by a list T of l candidates (for EJR+
+-- one candidate outside the committee) and, for
 -- PJR, a list U of l - 1 members of the committee: all the voters who approve all of T and are represented by too few
 -- members, for PJR by none outside U. (This project's choice.)
 use Rattle.std.specs.Prelude.{◌≡◌, ℕ, ◌-◌, ◌<◌, ◌≤◌, ◌&&◌, Bool, List, [], ◌∷◌, length, map, filter, find, flat_map, sum, nat_lt, Option, Some, option_map, if◌then◌else◌}
@@ -7,9 +8,9 @@ use Rattle.ballot_base.specs.Lists.{increasing_lists}
 use Rattle.ballot_base.specs.CandSet.{has_member, common_members}
 use Rattle.ballot_base.specs.Ballots.{Row, Election, hits}
 use Rattle.group_check.specs.declared.property.Property.{Property}
-use Rattle.group_check.specs.declared.property.Property.TheVariants.{Jr, Pjr, Ejr}
+use Rattle.group_check.specs.declared.property.Property.TheVariants.{Jr, Pjr, Ejr, EjrPlus}
 use Rattle.group_check.specs.declared.property.Violation.{Violation}
-use Rattle.group_check.specs.Groups.{breaks, Breaks, SomeGroupBreaks}
+use Rattle.group_check.specs.Groups.{breaks, Breaks, SomeGroupBreaks, is_outside}
 
 -- whether the set has all members of the other
 abbrev pub includes : List ℕ → List ℕ → Bool
@@ -17,11 +18,12 @@ includes set other = list_all (has_member set) other
 
 -- whether a ballot belongs to the group of T and U: it approves all of T, and
 -- - for PJR, the members of the committee that it approves lie in U
--- - for JR and EJR, they are fewer than the level
+-- - for JR, EJR and EJR+, they are fewer than the level
 abbrev pub is_behind : Property → List ℕ → ℕ → List ℕ × List ℕ → List ℕ → Bool
 is_behind Jr committee level pair ballot = includes ballot pair.0 && nat_lt (hits ballot committee) level
 is_behind Pjr committee level pair ballot = includes ballot pair.0 && includes pair.1 (common_members ballot committee)
 is_behind Ejr committee level pair ballot = includes ballot pair.0 && nat_lt (hits ballot committee) level
+is_behind EjrPlus committee level pair ballot = includes ballot pair.0 && nat_lt (hits ballot committee) level
 
 -- the group of all voters whose ballots pass the test
 abbrev pub group_of : (List ℕ → Bool) → List Row → List ℕ
@@ -36,15 +38,25 @@ abbrev pub lists_within : Property → ℕ → List ℕ → ℕ → List (List �
 lists_within Jr m committee level = [] ∷ []
 lists_within Pjr m committee level = filter (includes committee) (increasing_lists 1 m (level - 1))
 lists_within Ejr m committee level = [] ∷ []
+lists_within EjrPlus m committee level = [] ∷ []
 
--- the pairs of T and U at a level, ordered by T and then by U: T is a list of l candidates
+-- the lists T of a level: those of l candidates, and for EJR+ those of one candidate outside the committee
+abbrev pub lists_shared : Property → ℕ → List ℕ → ℕ → List (List ℕ)
+lists_shared Jr m committee level = increasing_lists 1 m level
+lists_shared Pjr m committee level = increasing_lists 1 m level
+lists_shared Ejr m committee level = increasing_lists 1 m level
+lists_shared EjrPlus m committee level = filter (list_all (is_outside committee)) (increasing_lists 1 m 1)
+
+-- the pairs of T and U at a level, ordered by T and then by U
 abbrev pub pairs_at : Property → ℕ → List ℕ → ℕ → List (List ℕ × List ℕ)
 pairs_at property m committee level =
-    flat_map (λ first. map (λ second. (first, second)) (lists_within property m committee level)) (increasing_lists 1 m level)
+    flat_map (λ first. map (λ second. (first, second)) (lists_within property m committee level))
+    (lists_shared property m committee level)
 
 -- whether the group of T and U breaks the property
 abbrev pub pair_breaks : Property → Election → List ℕ → ℕ → List ℕ × List ℕ → Bool
-pair_breaks property e committee level pair = breaks property e committee level (supporters property e committee level pair)
+pair_breaks property e committee level pair =
+    breaks property e committee level (supporters property e committee level pair)
 
 -- the violation that T and U show: the group of all voters behind them
 abbrev pub violation_of : Property → Election → List ℕ → ℕ → List ℕ × List ℕ → Violation
@@ -60,7 +72,8 @@ violation_of property e committee level pair = record {
 -- the violation of the first T and U whose group breaks the property at this level
 abbrev pub first_violation : Property → Election → List ℕ → ℕ → Option Violation
 first_violation property e committee level =
-    option_map (violation_of property e committee level) (find (pair_breaks property e committee level) (pairs_at property e.m committee level))
+    option_map (violation_of property e committee level)
+    (find (pair_breaks property e committee level) (pairs_at property e.m committee level))
 
 -- whether a ballot's voters belong to the group of the violation
 abbrev pub is_in_group : Violation → List ℕ → Bool
@@ -73,5 +86,6 @@ pub record IsReport (property : Property) (e : Election) (committee : List ℕ) 
   pub low : 1 ≤ report.level
   pub high : report.level ≤ length committee
   pub breaks : Breaks property e committee report.level (group_of (is_in_group report) e.rows)
-  pub least : (level : ℕ) → 1 ≤ level → level < report.level → SomeGroupBreaks property e committee level → ⊥
+  pub least : (level : ℕ) → 1 ≤ level → level < report.level
+      → SomeGroupBreaks property e committee level → ⊥
   pub first : first_violation property e committee report.level ≡ Some report

@@ -1,14 +1,19 @@
 //! The search for a violation.
-ghost use Rattle.std.specs.Prelude.{◌≡◌, ◌≢◌, ℕ, ◌-◌, ◌*◌, ◌^◌, ◌≤◌, ◌↔◌, Bool, List, [], ◌∷◌, None, IfSome, length, nat_le, sum};
+ghost use Rattle.std.specs.Prelude.{◌≡◌, ◌≢◌, ℕ, ◌+◌, ◌-◌, ◌≤◌, ◌↔◌, ◌++◌, Bool, List, [], ◌∷◌, None, IfSome, IsTrue, length, sum, find};
+ghost use Rattle.std.specs.List.{list_all};
+ghost use Rattle.ballot_base.specs.Limits.{most_candidates, most_members, most_voters};
 ghost use Rattle.ballot_base.specs.Lists.{IsIncreasing};
-ghost use Rattle.ballot_base.specs.Ballots.{voter_count};
+ghost use Rattle.ballot_base.specs.Ballots.{IsElection};
 ghost use Rattle.group_check.specs.Groups.{HasProperty};
 ghost use Rattle.group_check.specs.Report.{IsReport, first_violation, lists_within, is_in_group, group_of};
-ghost use Rattle.group_check.specs.Checking.{greatest_level, IsChoice, IsSecond, Computes, approvers, first_of, members_at, pairs_of};
+ghost use Rattle.group_check.specs.Steps.Checking.{greatest_level, shared_size, may_share, IsFirst, IsSecond, Computes, pairs_of, first_of, first_of_lists, completions, is_possible, possible_candidates, voters_below, voters_around, is_enough_within, is_large};
 
 use crate::property::{Property, Violation, includes};
-use ballot_base::{CandSet, KSets, Profile};
+use ballot_base::{CandSet, Profile};
 use std::alloc::Allocator;
+
+/// So many lists U are few enough to be tried before any candidates.
+const FEW_LISTS: u64 = 1 << 20;
 
 /// The group that shows that the committee lacks the property, if it lacks it: at the least level at which some group
 /// breaks the property, all voters behind the first candidates that show it. It takes no memory.
@@ -19,6 +24,7 @@ pub fn find_violation<A: Allocator + Copy>(
 ) -> Option<Violation>
     requires some { committee ≢ [] }
     requires candidates { IsIncreasing 1 profile.now.m committee }
+    requires size { length committee ≤ most_members }
     ensures none { (result ≡ None) ↔ HasProperty property profile.now committee }
     ensures some { IfSome result (λ report. IsReport property profile.now committee report) }
 {
@@ -37,8 +43,25 @@ fn greatest_level(property: Property, committee: CandSet) -> u8
 {
     match property {
         Property::Jr => 1,
-        Property::Pjr | Property::Ejr => committee.len(),
+        Property::Pjr | Property::Ejr | Property::EjrPlus => committee.len(),
     }
+}
+
+/// How many candidates a group has to share at a level.
+fn shared_size(property: Property, level: u8) -> u8
+    ensures { result ≡ shared_size property level }
+{
+    match property {
+        Property::Jr | Property::Pjr | Property::Ejr => level,
+        Property::EjrPlus => 1,
+    }
+}
+
+/// Whether a candidate is one of those that a group can share.
+fn may_share(property: Property, committee: CandSet, candidate: u8) -> bool
+    ensures { result ≡ may_share property committee candidate }
+{
+    property != Property::EjrPlus || !committee.has(candidate)
 }
 
 /// The first violation at a level.
@@ -54,13 +77,136 @@ fn first_at<A: Allocator + Copy>(
     requires most { level ≤ greatest_level property committee }
     ensures { result ≡ first_violation property profile.now committee level }
 {
-    for shared in KSets::new(profile.m(), level) {
-        let found = first_behind(profile, committee, property, level, shared);
+    let pool = possible_candidates(profile, committee, property, level);
+    let size = shared_size(property, level);
+    if pool.len() < size || property == Property::Pjr && is_refuted(profile, committee, level) {
+        return None;
+    }
+    first_beyond(
+        profile,
+        committee,
+        property,
+        level,
+        CandSet::empty(),
+        pool,
+        size,
+    )
+}
+
+/// The candidates who can be shared by a group that breaks a property at a level: enough of the voters who approve the
+/// candidate are below the level, and for EJR+ it is no member.
+fn possible_candidates<A: Allocator + Copy>(
+    profile: &Profile<A>,
+    committee: CandSet,
+    property: Property,
+    level: u8,
+) -> CandSet
+    ensures candidates { result ≡ possible_candidates property profile.now committee level }
+    ensures valid { IsElection profile.now }
+{
+    let mut pool = CandSet::empty();
+    for candidate in 1..=profile.m() {
+        if is_possible(profile, committee, property, level, candidate) {
+            pool = pool.with(candidate);
+        }
+    }
+    pool
+}
+
+/// Whether a candidate can be shared by a group that breaks a property at a level.
+fn is_possible<A: Allocator + Copy>(
+    profile: &Profile<A>,
+    committee: CandSet,
+    property: Property,
+    level: u8,
+    candidate: u8,
+) -> bool
+    requires low { 1 ≤ candidate }
+    requires high { candidate ≤ most_candidates }
+    ensures { result ≡ is_possible property profile.now committee level candidate }
+{
+    if !may_share(property, committee, candidate) {
+        return false;
+    }
+    let alone = CandSet::empty().with(candidate);
+    let voters = voters_below(profile, committee, level, alone);
+    is_enough(profile, committee, level, voters)
+}
+
+/// Whether no list U has enough voters at a level, whatever candidates they share. Where there are many lists U none is
+/// tried, and the answer is no.
+fn is_refuted<A: Allocator + Copy>(profile: &Profile<A>, committee: CandSet, level: u8) -> bool
+    requires candidates { IsIncreasing 1 profile.now.m committee }
+    requires least { 1 ≤ level }
+    requires most { level ≤ length committee }
+    ensures { IsTrue result → first_violation Property.Pjr profile.now committee level ≡ None }
+{
+    let nobody = CandSet::empty();
+    has_few_lists(committee.len(), level - 1)
+        && first_within(
+            profile,
+            committee,
+            level,
+            nobody,
+            nobody,
+            committee,
+            level - 1,
+        )
+        .is_none()
+}
+
+/// Whether there are at most `FEW_LISTS` lists of so many of the members of a committee of k. Any answer would be
+/// right: it only decides whether one more test is worth its time.
+fn has_few_lists(k: u8, size: u8) -> bool
+    requires most { k ≤ most_candidates }
+    requires fits { size ≤ k }
+{
+    let mut lists = 1;
+    for taken in 0..size.min(k - size) {
+        if lists > FEW_LISTS {
+            return false;
+        }
+        lists = lists * u64::from(k - taken) / (u64::from(taken) + 1);
+    }
+    lists <= FEW_LISTS
+}
+
+/// The first violation at a level that shares these candidates and `left` of the pool, which come after them.
+fn first_beyond<A: Allocator + Copy>(
+    profile: &Profile<A>,
+    committee: CandSet,
+    property: Property,
+    level: u8,
+    shared: CandSet,
+    pool: CandSet,
+    left: u8,
+) -> Option<Violation>
+    requires candidates { IsIncreasing 1 profile.now.m committee }
+    requires least { 1 ≤ level }
+    requires most { level ≤ greatest_level property committee }
+    requires order { IsIncreasing 1 profile.now.m (shared ++ pool) }
+    requires size { length shared + left ≡ shared_size property level }
+    requires shared { IsTrue (list_all (may_share property committee) (shared ++ pool)) }
+    ensures { result ≡ first_of_lists property profile.now committee level (completions shared pool left) }
+{
+    if left == 0 {
+        return first_behind(profile, committee, property, level, shared);
+    }
+    if pool.len() < left {
+        return None;
+    }
+    pool.valid();
+    let (candidate, rest) = pool.split_first()?;
+    let more = shared.with(candidate);
+    let voters = voters_below(profile, committee, level, more);
+    // No list below a beginning has more voters than it.
+    if is_enough(profile, committee, level, voters) {
+        let found = first_beyond(profile, committee, property, level, more, rest, left - 1);
         if found.is_some() {
             return found;
         }
     }
-    None
+    first_beyond(profile, committee, property, level, shared, rest, left)
 }
 
 /// The first violation at a level with these candidates.
@@ -74,67 +220,58 @@ fn first_behind<A: Allocator + Copy>(
     requires candidates { IsIncreasing 1 profile.now.m committee }
     requires least { 1 ≤ level }
     requires most { level ≤ greatest_level property committee }
-    requires shared { IsChoice profile.now.m level shared }
-    ensures { result ≡ first_of property profile.now committee level (pairs_of shared (lists_within property profile.now.m committee level)) }
+    requires shared { IsFirst property profile.now.m committee level shared }
+    ensures { let lists = lists_within property profile.now.m committee level in
+        result ≡ first_of property profile.now committee level (pairs_of shared lists) }
 {
-    if property == Property::Pjr && level > 1 {
-        first_within(profile, committee, level, shared)
-    } else {
-        counted(
-            profile,
-            committee,
-            property,
-            level,
-            shared,
-            CandSet::empty(),
-        )
+    let nobody = CandSet::empty();
+    if property != Property::Pjr {
+        return counted(profile, committee, property, level, shared, nobody);
     }
+    let within = first_within(
+        profile,
+        committee,
+        level,
+        shared,
+        nobody,
+        committee,
+        level - 1,
+    )?;
+    counted(profile, committee, property, level, shared, within)
 }
 
-/// The first violation of proportional justified representation at a level above 1 with these candidates.
+/// The first list U of these members and `left` of the pool, which come after them, that has enough voters who approve
+/// all the candidates.
 fn first_within<A: Allocator + Copy>(
     profile: &Profile<A>,
     committee: CandSet,
     level: u8,
     shared: CandSet,
-) -> Option<Violation>
-    requires candidates { IsIncreasing 1 profile.now.m committee }
-    requires least { 2 ≤ level }
-    requires most { level ≤ length committee }
-    requires shared { IsChoice profile.now.m level shared }
-    ensures { result ≡ first_of Property.Pjr profile.now committee level (pairs_of shared (lists_within Property.Pjr profile.now.m committee level)) }
+    within: CandSet,
+    pool: CandSet,
+    left: u8,
+) -> Option<CandSet>
+    requires order { IsIncreasing 1 profile.now.m (within ++ pool) }
+    ensures { result ≡ find (is_enough_within profile.now committee level shared) (completions within pool left) }
 {
-    // No group behind these candidates has more voters than all who approve them.
-    if !is_enough(profile, committee, level, voters_approving(profile, shared)) {
+    if pool.len() < left {
         return None;
     }
-    for places in KSets::new(committee.len(), level - 1) {
-        let within = members_at(committee, places);
-        let found = counted(profile, committee, Property::Pjr, level, shared, within);
-        if found.is_some() {
-            return found;
-        }
+    // No list below this beginning has more voters than those who stay around it.
+    let voters = voters_around(profile, committee, shared, within, pool, left);
+    if !is_enough(profile, committee, level, voters) {
+        return None;
     }
-    None
-}
-
-/// The members of the committee at these places, counted from 1 in increasing order of the members.
-fn members_at(committee: CandSet, places: CandSet) -> CandSet
-    requires candidates { IsIncreasing 1 40 committee }
-    requires places { IsIncreasing 1 (length committee) places }
-    ensures { result ≡ members_at committee places }
-{
-    let mut members = CandSet::empty();
-    let mut rest = committee;
-    let mut place = 1;
-    while let Some(parts) = rest.split_first() {
-        if places.has(place) {
-            members = members.with(parts.0);
-        }
-        place += 1;
-        rest = parts.1;
+    if left == 0 {
+        return Some(within);
     }
-    members
+    let (member, rest) = pool.split_first()?;
+    let more = within.with(member);
+    let found = first_within(profile, committee, level, shared, more, rest, left - 1);
+    if found.is_some() {
+        return found;
+    }
+    first_within(profile, committee, level, shared, within, rest, left)
 }
 
 /// The violation with all voters behind these candidates, if they are enough for the level.
@@ -149,7 +286,7 @@ fn counted<A: Allocator + Copy>(
     requires candidates { IsIncreasing 1 profile.now.m committee }
     requires least { 1 ≤ level }
     requires most { level ≤ greatest_level property committee }
-    requires shared { IsChoice profile.now.m level shared }
+    requires shared { IsFirst property profile.now.m committee level shared }
     requires within { IsSecond property profile.now.m level within }
     ensures { result ≡ first_of property profile.now committee level ((shared, within) ∷ []) }
 {
@@ -172,25 +309,53 @@ fn is_enough<A: Allocator + Copy>(
     level: u8,
     voters: u64,
 ) -> bool
-    requires { voters ≤ 2 ^ 32 }
-    ensures { result ≡ nat_le (level * voter_count profile.now.rows) (voters * length committee) }
+    requires { voters ≤ most_voters }
+    ensures { result ≡ is_large profile.now committee level voters }
 {
     let due = u64::from(level) * profile.voters();
     voters * u64::from(committee.len()) >= due
 }
 
-/// How many voters approve all of these candidates.
-fn voters_approving<A: Allocator + Copy>(profile: &Profile<A>, shared: CandSet) -> u64
-    ensures group { result ≡ sum (approvers profile.now shared) }
-    ensures most { result ≤ 2 ^ 32 }
+/// How many voters approve all of these candidates and fewer members than the level.
+fn voters_below<A: Allocator + Copy>(
+    profile: &Profile<A>,
+    committee: CandSet,
+    level: u8,
+    shared: CandSet,
+) -> u64
+    ensures group { result ≡ sum (voters_below profile.now committee level shared) }
+    ensures most { result ≤ most_voters }
+    ensures valid { IsElection profile.now }
 {
-    voters_with(profile, |ballot| includes(ballot, shared))
+    voters_with(profile, |ballot| {
+        includes(ballot, shared) && ballot.common(committee).len() < level
+    })
+}
+
+/// How many voters approve all of these candidates and no member but those within and at most `left` of the pool.
+fn voters_around<A: Allocator + Copy>(
+    profile: &Profile<A>,
+    committee: CandSet,
+    shared: CandSet,
+    within: CandSet,
+    pool: CandSet,
+    left: u8,
+) -> u64
+    ensures group { result ≡ sum (voters_around profile.now committee shared within pool left) }
+    ensures most { result ≤ most_voters }
+    ensures valid { IsElection profile.now }
+{
+    voters_with(profile, |ballot| {
+        let approved = ballot.common(committee);
+        let more = approved.common(pool).len().min(left);
+        includes(ballot, shared) && approved.len() <= approved.common(within).len() + more
+    })
 }
 
 /// How many voters belong to the group of a violation.
 fn voters_behind<A: Allocator + Copy>(profile: &Profile<A>, violation: &Violation) -> u64
     ensures group { result ≡ sum (group_of (is_in_group violation.now) profile.now.rows) }
-    ensures most { result ≤ 2 ^ 32 }
+    ensures most { result ≤ most_voters }
 {
     voters_with(profile, |ballot| violation.contains(ballot))
 }
@@ -198,8 +363,10 @@ fn voters_behind<A: Allocator + Copy>(profile: &Profile<A>, violation: &Violatio
 /// How many voters have a ballot that passes.
 fn voters_with<A: Allocator + Copy, F: Fn(CandSet) -> bool>(profile: &Profile<A>, passes: F) -> u64
     requires { F.IsAlwaysCallable passes }
-    ensures group { (test : List ℕ → Bool) → Computes (F.post passes) test → result ≡ sum (group_of test profile.now.rows) }
-    ensures most { result ≤ 2 ^ 32 }
+    ensures group { (test : List ℕ → Bool) → Computes (F.post passes) test
+        → result ≡ sum (group_of test profile.now.rows) }
+    ensures most { result ≤ most_voters }
+    ensures valid { IsElection profile.now }
 {
     let mut voters = 0;
     for i in 0..profile.rows() {

@@ -1,5 +1,6 @@
 //! Properties of committees, and violations of them.
 ghost use Rattle.std.specs.Prelude.{◌≡◌};
+ghost use Rattle.group_check.specs.Names.{property_name, property_named};
 ghost use Rattle.group_check.specs.Report.{is_in_group, includes};
 
 use ballot_base::CandSet;
@@ -11,12 +12,45 @@ pub enum Property {
     /// Justified representation: a group of n/k voters with a candidate in common has a member who approves a member
     /// of the committee (Aziz, Brill, Conitzer, Elkind, Freeman and Walsh).
     Jr,
-    /// Proportional justified representation: a group of l · n/k voters with l candidates in common approves, together,
-    /// l members of the committee (Sanchez-Fernandez and others).
+    /// Proportional justified representation: a group of l · n/k voters with l candidates in common approves,
+    /// together, l members of the committee (Sanchez-Fernandez and others).
     Pjr,
     /// Extended justified representation: a group of l · n/k voters with l candidates in common has a member who
     /// approves l members of the committee (Aziz, Brill, Conitzer, Elkind, Freeman and Walsh).
     Ejr,
+    /// EJR+: a group of l · n/k voters who approve a candidate outside the committee in common has a member who approves
+    /// l members of the committee (Brill and Peters).
+    EjrPlus,
+}
+
+impl Property {
+    /// All properties.
+    pub const ALL: [Property; 4] = [
+        Property::Jr,
+        Property::Pjr,
+        Property::Ejr,
+        Property::EjrPlus,
+    ];
+
+    /// Their names, in the same order.
+    pub const NAMES: [&'static str; 4] = ["jr", "pjr", "ejr", "ejrplus"];
+
+    /// The name, as it is written on the command line and in answers.
+    pub const fn name(self) -> &'static str
+        ensures { result.now ≡ property_name self }
+    {
+        Property::NAMES[self as usize]
+    }
+
+    /// The property that has this name, if one has; upper and lower case differ.
+    pub fn named(name: &str) -> Option<Property>
+        ensures { result ≡ property_named name.now }
+    {
+        Property::ALL
+            .iter()
+            .copied()
+            .find(|property| name == property.name())
+    }
 }
 
 /// A group of voters that breaks a property.
@@ -28,7 +62,7 @@ pub struct Violation {
     pub committee: CandSet,
     /// The level l, from 1 to the size of the committee: how many members the group could claim.
     pub level: u8,
-    /// The l candidates that each of the group's voters approves.
+    /// The l candidates that each of the group's voters approves; for `EjrPlus` one, outside the committee.
     pub shared: CandSet,
     /// The l - 1 members of the committee in which all those lie that the group's voters approve. Empty unless the
     /// property is `Pjr`.
@@ -44,7 +78,7 @@ impl Violation {
     {
         let approved = ballot.common(self.committee);
         let is_below = match self.property {
-            Property::Jr | Property::Ejr => approved.len() < self.level,
+            Property::Jr | Property::Ejr | Property::EjrPlus => approved.len() < self.level,
             Property::Pjr => includes(self.within, approved),
         };
         includes(ballot, self.shared) && is_below
@@ -55,5 +89,5 @@ impl Violation {
 pub(crate) fn includes(set: CandSet, other: CandSet) -> bool
     ensures { result ≡ includes set other }
 {
-    other.common(set).len() == other.len()
+    other.common(set) == other
 }

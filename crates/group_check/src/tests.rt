@@ -1,6 +1,6 @@
 //! Each property, held and violated, on profiles worked by hand.
 use crate::{Property, Violation, find_violation};
-use ballot_base::{CandSet, ProfileBuilder};
+use ballot_base::{CandSet, KSets, MOST_CANDIDATES, MOST_MEMBERS, Profile, ProfileBuilder};
 use std::alloc::Global;
 use std::test::Fail;
 
@@ -29,6 +29,9 @@ const SPLIT: &[(&[u8], u64)] = &[(&[1, 2, 3], 1), (&[1, 2, 4], 1)];
 
 /// Two voters approve 1, 2 and 3.
 const ALIKE: &[(&[u8], u64)] = &[(&[1, 2, 3], 2)];
+
+/// Two voters approve 1, and either 2 or 3.
+const PAIR: &[(&[u8], u64)] = &[(&[1, 2], 1), (&[1, 3], 1)];
 
 static CASES: &[Case] = &[
     Case {
@@ -100,27 +103,90 @@ static CASES: &[Case] = &[
         property: Property::Ejr,
         found: None,
     },
+    Case {
+        name: "the same group by EJR+",
+        rows: DIVIDED,
+        committee: &[3, 4],
+        property: Property::EjrPlus,
+        found: Some(Found {
+            level: 1,
+            shared: &[1],
+            within: &[],
+            voters: 3,
+        }),
+    },
+    Case {
+        name: "one shared candidate outside the committee",
+        rows: SPLIT,
+        committee: &[3, 4],
+        property: Property::EjrPlus,
+        found: Some(Found {
+            level: 2,
+            shared: &[1],
+            within: &[],
+            voters: 2,
+        }),
+    },
+    Case {
+        name: "too few shared candidates for EJR",
+        rows: PAIR,
+        committee: &[2, 3],
+        property: Property::Ejr,
+        found: None,
+    },
+    Case {
+        name: "too few shared candidates for PJR",
+        rows: PAIR,
+        committee: &[2, 3],
+        property: Property::Pjr,
+        found: None,
+    },
+    Case {
+        name: "one shared candidate for two seats",
+        rows: PAIR,
+        committee: &[2, 3],
+        property: Property::EjrPlus,
+        found: Some(Found {
+            level: 2,
+            shared: &[1],
+            within: &[],
+            voters: 2,
+        }),
+    },
+    Case {
+        name: "the shared candidate is a member",
+        rows: PAIR,
+        committee: &[1, 2],
+        property: Property::EjrPlus,
+        found: None,
+    },
+    Case {
+        name: "all candidates are members",
+        rows: PAIR,
+        committee: &[1, 2, 3],
+        property: Property::EjrPlus,
+        found: None,
+    },
 ];
 
-/// What is found over 40 candidates.
+/// What is found over 64 candidates.
 fn found_in(
     alloc: Global,
     rows: &[(&[u8], u64)],
     committee: &[u8],
     property: Property,
 ) -> Result<Option<Violation>, Fail> {
-    let mut builder = ProfileBuilder::new(alloc, 40)?;
+    let mut builder = ProfileBuilder::new(alloc, MOST_CANDIDATES)?;
     for (ballot, voters) in rows {
         let ballot = CandSet::of_list(ballot).ok_or("a ballot")?;
-        // The length tells that the members are candidates from 1 to 40.
-        let _ = ballot.len();
+        ballot.valid();
         builder.add(ballot, (*voters).max(1))?;
     }
     let profile = builder.finish().ok().ok_or("a profile")?;
     let committee = CandSet::of_list(committee).ok_or("a committee")?;
-    let _ = committee.len();
-    if committee.is_empty() {
-        return Err(Fail::from("no committee"));
+    committee.valid();
+    if committee.is_empty() || committee.len() > MOST_MEMBERS {
+        return Err(Fail::from("no committee that is checked"));
     }
     Ok(find_violation(&profile, committee, property))
 }
@@ -149,6 +215,174 @@ fn properties(rt: HostRuntime) -> Result<(), Fail> {
         assert_eq!(rt; found.voters, wanted.voters, "{}", case.name);
         assert!(rt; found.contains(found.shared), "{}", case.name);
         assert!(rt; !found.contains(found.committee), "{}", case.name);
+    }
+    Ok(())
+}
+
+/// The committees and ballots of the small elections have these candidates alone.
+const FEW: u8 = 5;
+
+/// The candidates whose bit is set, of the first `FEW`.
+fn chosen(bits: u64) -> CandSet {
+    let mut set = CandSet::empty();
+    for candidate in 1..=FEW {
+        if bits >> candidate & 1 == 1 {
+            set = set.with(candidate);
+        }
+    }
+    set
+}
+
+/// A small election, the same for the same seed.
+fn small_election(alloc: Global, seed: u64) -> Result<Profile, Fail> {
+    let mut builder = ProfileBuilder::new(alloc, MOST_CANDIDATES)?;
+    let mut state = seed;
+    for _round in 0..6 {
+        state = state
+            .wrapping_mul(6_364_136_223_846_793_005)
+            .wrapping_add(1_442_695_040_888_963_407);
+        let ballot = chosen(state >> 32);
+        ballot.valid();
+        builder.add(ballot, (state >> 60) % 3 + 1)?;
+    }
+    Ok(builder.finish().ok().ok_or("a profile")?)
+}
+
+/// How many voters the violation's group has.
+fn members_of(profile: &Profile, violation: &Violation) -> u64 {
+    let mut voters = 0u64;
+    for (ballot, count) in profile.ballots() {
+        if violation.contains(ballot) {
+            voters = voters.saturating_add(count);
+        }
+    }
+    voters
+}
+
+/// The first violation at a level, found by trying each T and each U of the first candidates.
+fn slow_at(
+    profile: &Profile,
+    committee: CandSet,
+    property: Property,
+    level: u8,
+) -> Option<Violation> {
+    let places = if property == Property::Pjr {
+        level.saturating_sub(1)
+    } else {
+        0
+    };
+    let size = if property == Property::EjrPlus {
+        1
+    } else {
+        level
+    };
+    for shared in KSets::new(FEW, size.min(FEW)) {
+        if property == Property::EjrPlus && !shared.common(committee).is_empty() {
+            continue;
+        }
+        for within in KSets::new(FEW, places.min(FEW)) {
+            let mut violation = Violation {
+                property,
+                committee,
+                level,
+                shared,
+                within,
+                voters: 0,
+            };
+            violation.voters = members_of(profile, &violation);
+            let due = profile.voters().saturating_mul(u64::from(level));
+            let has = violation.voters.saturating_mul(u64::from(committee.len()));
+            if within.common(committee) == within && has >= due {
+                return Some(violation);
+            }
+        }
+    }
+    None
+}
+
+/// The first violation, found by trying all.
+fn slow(profile: &Profile, committee: CandSet, property: Property) -> Option<Violation> {
+    let levels = if property == Property::Jr {
+        1
+    } else {
+        committee.len()
+    };
+    for level in 1..=levels {
+        let found = slow_at(profile, committee, property, level);
+        if found.is_some() {
+            return found;
+        }
+    }
+    None
+}
+
+/// How many of the small elections' committees lack a property, each compared with the violation that is found by
+/// trying all.
+#[test]
+fn small_elections(rt: HostRuntime) -> Result<(), Fail> {
+    let mut violated = 0u64;
+    for seed in 0..100 {
+        let profile = small_election(rt.alloc(), seed)?;
+        for bits in 1..32 {
+            let committee = chosen(bits << 1);
+            committee.valid();
+            if committee.is_empty()
+                || committee.len() > MOST_MEMBERS
+                || profile.m() != MOST_CANDIDATES
+            {
+                return Err(Fail::from("no committee that is checked"));
+            }
+            for property in Property::ALL.iter().copied() {
+                let found = find_violation(&profile, committee, property);
+                let wanted = slow(&profile, committee, property);
+                assert!(rt; found == wanted, "{seed} {bits} {}", property.name());
+                violated = violated.saturating_add(u64::from(found.is_some()));
+            }
+        }
+    }
+    assert!(rt; violated > 100, "{violated} violations");
+    Ok(())
+}
+
+/// Twenty voters who approve 21 to 40 and one more each, or forty who approve one candidate each.
+fn large_election(alloc: Global, voters: u8, alike: CandSet) -> Result<Profile, Fail> {
+    let mut builder = ProfileBuilder::new(alloc, MOST_CANDIDATES)?;
+    for candidate in 1..=voters.min(MOST_CANDIDATES) {
+        let ballot = alike.with(candidate);
+        ballot.valid();
+        builder.add(ballot, 1)?;
+    }
+    Ok(builder.finish().ok().ok_or("a profile")?)
+}
+
+/// Elections with so many lists that no search that tries all ends: twenty voters who share twenty candidates and
+/// approve one member each, and forty who approve one candidate each.
+#[test]
+fn many_lists(rt: HostRuntime) -> Result<(), Fail> {
+    let committee = CandSet::all(20);
+    committee.valid();
+    let mut shared = CandSet::empty();
+    for candidate in 21..=40 {
+        shared = shared.with(candidate);
+    }
+    let alike = large_election(rt.alloc(), 20, shared)?;
+    let apart = large_election(rt.alloc(), 40, CandSet::empty())?;
+    if committee.is_empty()
+        || committee.len() > MOST_MEMBERS
+        || alike.m() != MOST_CANDIDATES
+        || apart.m() != MOST_CANDIDATES
+    {
+        return Err(Fail::from("no committee that is checked"));
+    }
+    for property in Property::ALL.iter().copied() {
+        let found = find_violation(&apart, committee, property);
+        assert!(rt; found.is_none(), "apart {}", property.name());
+        let found = find_violation(&alike, committee, property);
+        assert!(rt;
+            found.is_some() == (property == Property::Ejr || property == Property::EjrPlus),
+            "alike {}",
+            property.name()
+        );
     }
     Ok(())
 }

@@ -1,45 +1,50 @@
-use Rattle.std.proofs.Common.{◌≡◌, ap, sym, subst, ◌∙◌, arith}
-use Rattle.std.specs.Prelude.{flat_map}
-use Rattle.std.specs.List.{AllByRecursion}
-use Rattle.ballot_base.specs.Lists.{increasing_lists}
-use Rattle.ballot_base.proofs.Committees.{length-increasing, increasing_lists-chosen}
-use Rattle.group_check.specs.Report.{lists_within}
-use Rattle.group_check.specs.Checking.{IsChoice, first_of, pairs_of}
-use Rattle.group_check.proofs.CountedLemmas.{first_of-step, found_first, none_first, greatest_level-le}
+use Rattle.std.proofs.Common.{◌≡◌, ◌++◌, [], true, false, ap, sym, subst, ◌∙◌, arith, length, not, refl}
+use Rattle.std.specs.List.{list_all}
+use Rattle.ballot_base.specs.Lists.{IsIncreasing}
+use Rattle.group_check.specs.declared.property.Property.TheVariants.{Pjr}
+use Rattle.group_check.specs.Report.{first_violation}
+use Rattle.group_check.specs.Steps.Checking.{possible_candidates, shared_size, may_share, first_of_lists, completions}
+use Rattle.group_check.proofs.BeginningLemmas.{none_from_few, from_possible, is_pjr, possible_order, possible_share}
 use Rattle.group_check.proofs.checking.first_at.Goals as goal
+use Rattle.group_check.proofs.checking.first_at.Goals.{then-len-size-via-then-len-size, then-len-size-via-else-len-size+then-is_refuted, then-eq, else-eq}
 
-pub new-shared-items-requires-clause-fits : goal.new-shared-items-requires-clause-fits
-new-shared-items-requires-clause-fits g c =
-    omega (arith, c.m.ensures.value, c.requires.most, greatest_level-le c.args.property c.args.committee c.requires.some, length-increasing 1 c.args.profile.now.m c.args.committee c.requires.candidates)
-
-pub loop-shared-init : goal.loop-shared-init
-loop-shared-init g c =
+pub returns-then-len-size : goal.returns-then-len-size
+returns-then-len-size g c =
     let e = c.args.profile.now in
-    let sets : c.into_iter-shared-iterator.result ≡ increasing_lists 1 e.m c.args.level =
-    c.into_iter-shared-iterator.ensures.into_iter_gives ∙ c.new-shared-items.ensures ∙ ap (λ m. increasing_lists 1 m c.args.level) c.m.ensures.value in
-    record {
-      left = ap (λ lists. first_of c.args.property e c.args.committee c.args.level (flat_map (λ shared. pairs_of shared (lists_within c.args.property e.m c.args.committee c.args.level)) lists)) sets;
-      choices = subst (λ lists. AllByRecursion (IsChoice e.m c.args.level) lists) (sym sets) (increasing_lists-chosen 1 e.m c.args.level);
-    }
+    elim c.then-len-size.branch [
+      | then-len-size-via-then-len-size w ↦
+          none_from_few c.args.property e c.args.committee c.args.level [] (possible_candidates c.args.property e c.args.committee c.args.level) (shared_size c.args.property c.args.level)
+          (omega (arith, w.if-len-size.true, c.shared_size-size.ensures, c.len.ensures.count, ap length c.possible_candidates-pool.ensures.candidates))
+          ∙ from_possible c.args.property e c.args.committee c.args.level c.possible_candidates-pool.ensures.valid c.requires.least
+      | then-len-size-via-else-len-size+then-is_refuted w ↦ elim w.if-eq.branch [
+        | then-eq w' ↦
+            let is : c.args.property ≡ Pjr = is_pjr c.args.property false (sym (ap not (sym w.eq.ensures ∙ w'.if-eq.true))) refl in
+            sym (w'.is_refuted.ensures (sym w'.value-is ∙ w.if-is_refuted.true)) ∙ ap (λ p. first_violation p e c.args.committee c.args.level) (sym is)
+        | else-eq w' ↦ let clash : true ≡ false = sym w.if-is_refuted.true ∙ w'.value-is ∙ w'.if-eq.false in absurd (never clash)
+      ]
+    ]
+  where
+    never : true ≡ false → ⊥
+    never k = cc
 
-pub returns-then-is_some : goal.returns-then-is_some
-returns-then-is_some g c =
+pub first_beyond-requires-clause-order : goal.first_beyond-requires-clause-order
+first_beyond-requires-clause-order g c =
     let e = c.args.profile.now in
-    let lists = lists_within c.args.property e.m c.args.committee c.args.level in
-    found_first c.first_behind-found.result _ (first_of c.args.property e c.args.committee c.args.level (flat_map (λ first. pairs_of first lists) c.next.new.self))
-    c.first_behind-found.ensures (sym c.is_some.ensures ∙ c.if-is_some.true)
-    ∙ first_of-step c.args.property e c.args.committee c.args.level lists c.loop-shared.shared-iterator c.in-Some.shared c.next.new.self c.in-Some.ensures.steps
-    ∙ c.loop-shared.invariant.left
+    subst (λ set. IsIncreasing 1 e.m (set ++ c.possible_candidates-pool.result)) (sym c.empty.ensures)
+    (subst (IsIncreasing 1 e.m) (sym c.possible_candidates-pool.ensures.candidates) (possible_order c.args.property e c.args.committee c.args.level))
 
-pub loop-shared-preserved : goal.loop-shared-preserved
-loop-shared-preserved g c =
+pub first_beyond-requires-clause-shared : goal.first_beyond-requires-clause-shared
+first_beyond-requires-clause-shared g c =
     let e = c.args.profile.now in
-    let lists = lists_within c.args.property e.m c.args.committee c.args.level in
-    record {
-      left =
-          none_first c.first_behind-found.result _ (first_of c.args.property e c.args.committee c.args.level (flat_map (λ first. pairs_of first lists) c.next.new.self))
-          c.first_behind-found.ensures (sym c.is_some.ensures ∙ c.if-is_some.false)
-          ∙ first_of-step c.args.property e c.args.committee c.args.level lists c.loop-shared.shared-iterator c.in-Some.shared c.next.new.self c.in-Some.ensures.steps
-          ∙ c.loop-shared.invariant.left;
-      choices = (subst (λ sets. AllByRecursion (IsChoice e.m c.args.level) sets) c.in-Some.ensures.steps c.loop-shared.invariant.choices).1;
-    }
+    let may = may_share c.args.property c.args.committee in
+    subst (λ set. list_all may (set ++ c.possible_candidates-pool.result) ≡ true) (sym c.empty.ensures)
+    (subst (λ pool. list_all may pool ≡ true) (sym c.possible_candidates-pool.ensures.candidates) (possible_share c.args.property e c.args.committee c.args.level))
+
+pub returns : goal.returns
+returns g c =
+    let e = c.args.profile.now in
+    c.first_beyond.ensures
+    ∙ ap (λ set. first_of_lists c.args.property e c.args.committee c.args.level (completions set c.possible_candidates-pool.result c.shared_size-size.result)) c.empty.ensures
+    ∙ ap (λ size. first_of_lists c.args.property e c.args.committee c.args.level (completions [] c.possible_candidates-pool.result size)) c.shared_size-size.ensures
+    ∙ ap (λ pool. first_of_lists c.args.property e c.args.committee c.args.level (completions [] pool (shared_size c.args.property c.args.level))) c.possible_candidates-pool.ensures.candidates
+    ∙ from_possible c.args.property e c.args.committee c.args.level c.possible_candidates-pool.ensures.valid c.requires.least

@@ -1,16 +1,31 @@
-use Rattle.std.proofs.Common.{◌≡◌, [], ◌∷◌, ap, sym, ◌∙◌}
-use Rattle.group_check.specs.Report.{lists_within}
-use Rattle.group_check.specs.Checking.{first_of, pairs_of}
-use Rattle.group_check.proofs.CountedLemmas.{lists_within-one, lists_within-other}
+use Rattle.std.proofs.Common.{◌-◌, ap, sym, ◌∙◌}
+use Rattle.std.specs.Prelude.{find}
+use Rattle.group_check.specs.Steps.Checking.{is_enough_within, completions}
+use Rattle.group_check.proofs.BeginningLemmas.{is_pjr, first_pair, first_second, no_pair_with}
 use Rattle.group_check.proofs.checking.first_behind.Goals as goal
-use Rattle.group_check.proofs.checking.first_behind.Goals.{else-eq-via-then-eq+else-level-gt1, else-eq-via-else-eq}
 
-pub returns-else-eq : goal.returns-else-eq
-returns-else-eq g c =
+pub returns-in_err-within : goal.returns-in_err-within
+returns-in_err-within g c =
     let e = c.args.profile.now in
-    let empty = ap (λ within. first_of c.args.property e c.args.committee c.args.level ((c.args.shared, within) ∷ [])) c.empty.ensures in
-    let alone : lists_within c.args.property e.m c.args.committee c.args.level ≡ [] ∷ [] = elim c.else-eq.branch [
-      | else-eq-via-then-eq+else-level-gt1 w ↦ lists_within-one c.args.property e.m c.args.committee c.args.level c.requires.least w.if-level-gt1.false
-      | else-eq-via-else-eq w ↦ lists_within-other c.args.property e.m c.args.committee c.args.level (sym c.eq.ensures ∙ w.if-eq.false)
-    ] in
-    c.counted.ensures ∙ empty ∙ ap (λ lists. first_of c.args.property e c.args.committee c.args.level (pairs_of c.args.shared lists)) (sym alone)
+    let suits = is_enough_within e c.args.committee c.args.level c.args.shared in
+    c.from_residual.ensures
+    ∙ no_pair_with c.args.property e c.args.committee c.args.level c.args.shared c.requires.candidates
+    (ap (λ set. find suits (completions set c.args.committee (c.args.level - 1))) (sym c.empty-nobody.ensures) ∙ sym c.first_within.ensures ∙ c.in_err-within.was)
+    (is_pjr c.args.property c.ne.result c.ne.ensures c.if-ne.false)
+
+pub counted-requires-2-clause-within : goal.counted-requires-2-clause-within
+counted-requires-2-clause-within g c =
+    let e = c.args.profile.now in
+    let suits = is_enough_within e c.args.committee c.args.level c.args.shared in
+    first_second c.args.property e c.args.committee c.args.level c.args.shared c.in_ok-within.within c.requires.candidates
+    (ap (λ set. find suits (completions set c.args.committee (c.args.level - 1))) (sym c.empty-nobody.ensures) ∙ sym c.first_within.ensures ∙ c.in_ok-within.was)
+    (is_pjr c.args.property c.ne.result c.ne.ensures c.if-ne.false)
+
+pub returns : goal.returns
+returns g c =
+    let e = c.args.profile.now in
+    let suits = is_enough_within e c.args.committee c.args.level c.args.shared in
+    c.counted-2.ensures
+    ∙ first_pair c.args.property e c.args.committee c.args.level c.args.shared c.in_ok-within.within (is_pjr c.args.property c.ne.result c.ne.ensures c.if-ne.false)
+    c.requires.candidates c.requires.least c.requires.most c.requires.shared
+    (ap (λ set. find suits (completions set c.args.committee (c.args.level - 1))) (sym c.empty-nobody.ensures) ∙ sym c.first_within.ensures ∙ c.in_ok-within.was)

@@ -47,3 +47,6 @@ returns-clause-group g c = λ test is.
 pub returns-clause-most : goal.returns-clause-most
 returns-clause-most g c =
     omega (arith, c.loop-i.invariant.few, sum_by-take-le (votes_behind everyone) c.args.profile.now.rows c.loop-i.i, sum-votes-le everyone c.args.profile.now.rows, c.rows-i-end.ensures.valid.voters)
+
+pub returns-clause-valid : goal.returns-clause-valid
+returns-clause-valid g c = c.rows-i-end.ensures.valid

@@ -1,6 +1,6 @@
 use Rattle.std.proofs.Common.{◌≡◌, ℕ, ◌≤◌, Bool, List, take}
 use Rattle.std.specs.Prelude.{sum_by}
-use Rattle.group_check.specs.Checking.{Computes}
+use Rattle.group_check.specs.Steps.Checking.{Computes}
 use Rattle.group_check.proofs.VoterLemmas.{votes_behind, everyone}
 use Rattle.group_check.proofs.checking.voters_with.Given as goal
 

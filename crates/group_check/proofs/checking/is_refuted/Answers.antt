@@ -1,0 +1,12 @@
+use Rattle.std.proofs.Common.{ℕ, ◌-◌, List, ap, sym, ◌∙◌}
+use Rattle.std.specs.Prelude.{find}
+use Rattle.group_check.specs.Steps.Checking.{is_enough_within, completions}
+use Rattle.group_check.proofs.BeginningLemmas.{none_at_all, nothing_there}
+use Rattle.group_check.proofs.checking.is_refuted.Goals as goal
+
+pub returns-then-has_few_lists : goal.returns-then-has_few_lists
+returns-then-has_few_lists g c h =
+    let e = c.args.profile.now in
+    let at = λ (shared within : List ℕ). find (is_enough_within e c.args.committee c.args.level shared) (completions within c.args.committee (c.args.level - 1)) in
+    none_at_all e c.args.committee c.args.level c.requires.candidates
+    (ap (λ set. at set set) (sym c.empty-nobody.ensures) ∙ sym c.first_within.ensures ∙ nothing_there c.first_within.result c.is_none.result c.is_none.ensures h)

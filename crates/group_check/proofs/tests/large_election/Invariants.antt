@@ -1,0 +1,7 @@
+use Rattle.std.proofs.Common.{◌≡◌}
+use Rattle.ballot_base.specs.Limits.{most_candidates}
+use Rattle.group_check.proofs.tests.large_election.Given as goal
+
+-- the builder keeps its candidates
+abbrev pub invariant-loop-candidate : goal.invariant-loop-candidate
+invariant-loop-candidate l = l.builder.m ≡ most_candidates

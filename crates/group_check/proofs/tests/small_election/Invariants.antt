@@ -1,0 +1,7 @@
+use Rattle.std.proofs.Common.{◌≡◌}
+use Rattle.ballot_base.specs.Limits.{most_candidates}
+use Rattle.group_check.proofs.tests.small_election.Given as goal
+
+-- the builder keeps its candidates
+abbrev pub invariant-loop-round : goal.invariant-loop-round
+invariant-loop-round l = l.builder.m ≡ most_candidates
