@@ -1,13 +1,11 @@
 -- Where clap takes the words of the program, they name a command, with the values that it requires.
 use Rattle.std.proofs.Common.{◌≡◌, ◌⊎◌, ℕ, zero, suc, subst, ◌∙◌, ◌<◌, Bool, List, [], ◌∷◌, map, not, inl, inr, refl, sym, ap, codes, true, false, true≢false, arith}
-use Rattle.std.specs.Prelude.{Option, Some, None, if◌then◌else◌, is_some, option_map, pos}
+use Rattle.std.specs.Prelude.{◌||◌, Option, Some, None, cond, find, if◌then◌else◌, is_some, option_map, pos}
 use Rattle.std.specs.Borrow.{Bor}
 use Rattle.std.specs.List.{list_all, list_any}
-use Rattle.std.specs.Map.{keys_of, lookup}
 use Rattle.std.specs.Str.{bytes_eq}
 use Rattle.std.specs.Option.{IsSome, option_map_or}
 use Rattle.std.proofs.lemmas.Cmp.{nat_list_eq_equiv}
-use Rattle.std.proofs.lemmas.Map.Made.{is_some-lookup}
 use Rattle.std.proofs.lemmas.Slice.Eq.{bytes_eq-Decides}
 use Rattle.clap.specs.Words.{Row, Rule, Shape, Text, fault_of, subcommand_of, takes}
 use Rattle.clap.specs.Walk.{answers_to, arg_by_id, finished, one_of, reading_by, is_empty, nothing_held, first_of, rows_after, stop_after, walk, walk_from}
@@ -19,7 +17,12 @@ use Rattle.clap.specs.Takes.{default_passes, value_passes, entered_passes, is_gi
 use Rattle.clap.specs.declared.builder.value_parser.ValueParser.TheVariants as parser
 use Rattle.clap.proofs.ValueTestLemmas.{accepts-Accepts}
 use Rattle.clap.proofs.WalkLemmas.{both, list_any-map}
-use Rattle.request_words.specs.Words.{HasCheckValues, HasElectValues, HasName, HasNumberUpTo, HasShareValues, HasValues, IsCount, listed_names, methods_by_name, program, properties_by_name, rules_by_name, shown}
+use Rattle.ballot_base.specs.Limits.{most_members}
+use Rattle.group_check.specs.Names.{properties, property_name}
+use Rattle.seat_share.specs.Limits.{most_seats}
+use Rattle.seat_share.specs.Names.{methods, method_name}
+use Rattle.request_words.specs.Names.{rules, rule_name}
+use Rattle.request_words.specs.Words.{HasCheckValues, HasElectValues, HasName, HasNumberUpTo, HasShareValues, HasValues, IsCount, listed_names, program, shown}
 use Rattle.request_words.proofs.GivenValues.{Each, Good, IsOrdinary, any_value, given_value, level_fit, or_false, walk_stops}
 use Rattle.request_words.proofs.Refusals.{taken_none}
 
@@ -64,23 +67,36 @@ count_is a rows is (inr (v, pass, one)) =
     subst IsCount (sym (one ∙ ap (λ p. Some (read_as (reading_of (parser_of_value p)) v)) is))
     (v, refl, accepts-Accepts a.ignore_case (parser.Signed (pos 1) (pos 1000000)) v (subst (λ p. accepts a.ignore_case (parser_of_value p) v ≡ true) is pass))
 
--- a text that is among the keys of a list finds a value there
-named_there : {X : Type 0} (entries : List (Text × X)) (text : Text)
-    → list_any (λ (name : Bor Text). bytes_eq name.now text) (map shown (keys_of entries)) ≡ true
-    → IsSome (lookup (bytes_eq text) entries)
-named_there entries text passes =
-    is_some-lookup (bytes_eq text) entries ∙ (λ i. list_any (λ name. nat_list_eq_equiv.symm text name i) (keys_of entries))
-    ∙ list_any-map (λ (name : Bor Text). bytes_eq name.now text) shown (keys_of entries) ∙ passes
+-- a test finds an item exactly where one passes
+is_some-find : {X : Type 0} (passes : X → Bool) (items : List X) → is_some (find passes items) ≡ list_any passes items
+is_some-find passes [] = refl
+is_some-find passes (item ∷ items) = by (passes item) (is_some-find passes items)
+  where
+    by : (b : Bool) → is_some (find passes items) ≡ list_any passes items
+        → is_some (cond b (Some item) (find passes items)) ≡ b || list_any passes items
+    by true rest = refl
+    by false rest = rest
+
+-- a text that is among the names of some items finds one of them
+named_there : {X : Type 0} (name_of : X → Text) (items : List X) (text : Text)
+    → list_any (λ (name : Bor Text). bytes_eq name.now text) (map shown (map name_of items)) ≡ true
+    → IsSome (find (λ item. bytes_eq text (name_of item)) items)
+named_there name_of items text passes =
+    is_some-find (λ item. bytes_eq text (name_of item)) items
+    ∙ (λ i. list_any (λ item. nat_list_eq_equiv.symm text (name_of item) i) items)
+    ∙ list_any-map (λ name. bytes_eq name text) name_of items
+    ∙ list_any-map (λ (name : Bor Text). bytes_eq name.now text) shown (map name_of items) ∙ passes
 
 -- a required option has a name of a list
-name_given : {X : Type 0} (c : List Rule) (a : Rule) (entries : List (Text × X)) (rows : List Row) → Good c rows → arg_by_id c a.id ≡ Some a
-    → a.parser ≡ Some (parser.Names (listed_names (keys_of entries))) → a.ignore_case ≡ false → is_given a.id rows ≡ true
-    → HasName a.id (λ name. lookup (bytes_eq name) entries) rows
-name_given c a entries rows good own is case given =
+name_given : {X : Type 0} (c : List Rule) (a : Rule) (name_of : X → Text) (items : List X) (rows : List Row) → Good c rows
+    → arg_by_id c a.id ≡ Some a → a.parser ≡ Some (parser.Names (listed_names (map name_of items))) → a.ignore_case ≡ false
+    → is_given a.id rows ≡ true → HasName a.id (λ name. find (λ item. bytes_eq name (name_of item)) items) rows
+name_given c a name_of items rows good own is case given =
     let v = given_value c a rows good own given in
-    let pass : accepts false (parser_of_value (Some (parser.Names (listed_names (keys_of entries))))) v.0 ≡ true =
-    subst (λ p. accepts false (parser_of_value p) v.0 ≡ true) is (subst (λ b. accepts b (parser_of_value a.parser) v.0 ≡ true) case v.1) in
-    record { text = v.0; given = v.2; known = named_there entries v.0 pass }
+    let pass : accepts false (parser_of_value (Some (parser.Names (listed_names (map name_of items))))) v.0 ≡ true =
+    subst (λ p. accepts false (parser_of_value p) v.0 ≡ true) is
+    (subst (λ b. accepts b (parser_of_value a.parser) v.0 ≡ true) case v.1) in
+    record { text = v.0; given = v.2; known = named_there name_of items v.0 pass }
 
 -- a required option has a number in its range
 number_given : (c : List Rule) (a : Rule) (most : ℕ) (rows : List Row) → Good c rows → arg_by_id c a.id ≡ Some a
@@ -124,8 +140,8 @@ elect_values words pass =
     (refl, (refl, (refl, (refl, (refl, (refl, (refl, (refl, tt)))))))) pass in
     let given = both (is_given (codes "rule") rows) _ level.1 in
     let given_size = (both (is_given (codes "size") rows) _ given.1).0 in (
-      name_given elect.rules (at_place elect.rules 0) rules_by_name rows level.0 refl refl refl given.0,
-      number_given elect.rules (at_place elect.rules 1) 40 rows level.0 refl refl given_size,
+      name_given elect.rules (at_place elect.rules 0) rule_name rules rows level.0 refl refl refl given.0,
+      number_given elect.rules (at_place elect.rules 1) most_members rows level.0 refl refl given_size,
       record {
         category = count_given elect.rules (at_place elect.rules 3) rows level.0 refl refl;
         set_size = count_given elect.rules (at_place elect.rules 4) rows level.0 refl refl;
@@ -141,7 +157,7 @@ check_values words pass =
     (refl, (refl, (refl, (refl, (refl, (refl, (refl, (refl, tt)))))))) pass in
     let given = both (is_given (codes "property") rows) _ level.1 in
     let given_list = (both (is_given (codes "committee") rows) _ given.1).0 in (
-      name_given check.rules (at_place check.rules 0) properties_by_name rows level.0 refl refl refl given.0,
+      name_given check.rules (at_place check.rules 0) property_name properties rows level.0 refl refl refl given.0,
       text_given check.rules (at_place check.rules 1) rows level.0 refl given_list,
       record {
         category = count_given check.rules (at_place check.rules 3) rows level.0 refl refl;
@@ -158,8 +174,8 @@ share_values words pass =
     (refl, (refl, (refl, (refl, (refl, (refl, (refl, (refl, (refl, tt))))))))) pass in
     let given = both (is_given (codes "method") rows) _ level.1 in
     let given_seats = (both (is_given (codes "seats") rows) _ given.1).0 in (
-      name_given share.rules (at_place share.rules 0) methods_by_name rows level.0 refl refl refl given.0,
-      number_given share.rules (at_place share.rules 1) 10000 rows level.0 refl refl given_seats,
+      name_given share.rules (at_place share.rules 0) method_name methods rows level.0 refl refl refl given.0,
+      number_given share.rules (at_place share.rules 1) most_seats rows level.0 refl refl given_seats,
       record {
         category = count_given share.rules (at_place share.rules 4) rows level.0 refl refl;
         set_size = count_given share.rules (at_place share.rules 5) rows level.0 refl refl;

@@ -6,5 +6,6 @@ pub mod Places
 pub mod PlacesOfFaults
 pub mod ProgramPlaces
 pub mod Refusals
+pub mod TakenWords
 pub mod WordsExamples
 pub mod WordsLemmas

@@ -8,7 +8,8 @@ use Rattle.clap.specs.Walk.{Held, Walk, answers_to, nothing_held, stop_after, te
 use Rattle.clap.specs.Simple.{argument_words, built, entered, label_of, names_of, rows_at}
 use Rattle.clap.specs.Faults.{built_fault, entered_fault, level_fault}
 use Rattle.clap.proofs.WalkLemmas.{find-map}
-use Rattle.request_words.specs.Words.{Names, check_over, elect_over, kind_names, method_names, program, program_over, property_names, rule_names, share_over, shown}
+use Rattle.request_words.specs.Names.{kind_names, method_names, property_names, rule_names}
+use Rattle.request_words.specs.Words.{Names, check_over, elect_over, program, program_over, share_over, shown}
 use Rattle.request_words.proofs.Places.{placed, rows_after_placed, walk_placed}
 use Rattle.request_words.proofs.PlacesOfFaults.{at_place, level_placed}
 

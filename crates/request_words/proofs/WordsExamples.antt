@@ -6,7 +6,8 @@ use Rattle.clap.proofs.OnLiterals.{clap_on_literals}
 use Rattle.clap.specs.declared.error.kind.ErrorKind.TheVariants as kind
 use Rattle.ballot_base.specs.declared.increments.ThieleRule.TheVariants.{Av, Geom3}
 use Rattle.request_words.specs.declared.request.Rule.{Rule}
-use Rattle.request_words.specs.declared.request.Rule.TheVariants.{Scored}
+use Rattle.request_words.specs.declared.request.Rule.TheVariants.{Scored, Sequential}
+use Rattle.tie_walk.specs.declared.sequential.SeqRule.TheVariants.{SeqPav, SeqCc, RevSeqPav}
 use Rattle.request_words.specs.declared.request.ScoredRule.TheVariants.{Thiele, Satisfaction, Minimax}
 use Rattle.request_words.specs.Request.{Asked, Demand, checking, electing, sharing}
 use Rattle.preflib_text.specs.declared.pick.Kind.{Kind}
@@ -14,14 +15,16 @@ use Rattle.preflib_text.specs.declared.pick.Kind.TheVariants.{Cat, Soc, Soi, Toc
 use Rattle.preflib_text.specs.declared.pick.Pick.{Pick}
 use Rattle.preflib_text.specs.declared.pick.Way.{Way}
 use Rattle.preflib_text.specs.declared.pick.Way.TheVariants.{Usual, Category, SetSize, Classes}
-use Rattle.group_check.specs.declared.property.Property.TheVariants.{Jr, Pjr, Ejr}
+use Rattle.group_check.specs.declared.property.Property.TheVariants.{Jr, Pjr, Ejr, EjrPlus}
 use Rattle.seat_share.specs.declared.method.Method.TheVariants.{Hamilton, Dhondt, SainteLague, Huntington, Adams, Dean}
 use Rattle.request_words.specs.declared.words.LineFault.TheVariants.{BadList, TwoPicks, VotesAndInput, Memory}
 use Rattle.request_words.specs.declared.words.ListOption.TheVariants.{Committee, Votes}
 use Rattle.request_words.specs.Endings.{behind_last, kind_in_path}
 use Rattle.request_words.specs.NumberList.{all_there, entry_of, list_of}
-use Rattle.request_words.specs.Words.{IsMisused, line_of, listed, method_named, method_names, outcome_of, program, property_named, property_names}
-use Rattle.request_words.specs.Words.{request_of, rule_named, rule_names, way_by}
+use Rattle.group_check.specs.Names.{property_named}
+use Rattle.seat_share.specs.Names.{method_named}
+use Rattle.request_words.specs.Names.{method_names, property_names, rule_name, rule_named, rule_names}
+use Rattle.request_words.specs.Words.{IsMisused, line_of, listed, outcome_of, program, request_of, way_by}
 
 -- `committees elect` and these words
 abbrev elect_words : List Text → List Text
@@ -117,6 +120,10 @@ rules_of_names : (rule_named (codes "geom3") ≡ Some (Scored (Thiele Geom3))) �
     × (rule_named [] ≡ None)
 rules_of_names = (refl, refl, refl, refl)
 
+one_rule : (rule_name (Scored Satisfaction) ≡ codes "sav") × (rule_name (Sequential SeqPav) ≡ codes "seqpav")
+    × (rule_name (Sequential SeqCc) ≡ codes "seqcc") × (rule_name (Sequential RevSeqPav) ≡ codes "revseqpav")
+one_rule = (refl, refl, refl, refl)
+
 names_of_rules : rule_names ≡ codes "av" ∷ codes "pav" ∷ codes "cc" ∷ codes "geom2" ∷ codes "geom3" ∷ codes "geom4" ∷ codes "sav" ∷ codes "minimax"
     ∷ codes "seqpav" ∷ codes "seqcc" ∷ codes "revseqpav" ∷ []
 names_of_rules = refl
@@ -179,15 +186,15 @@ endings = (refl, refl, refl, refl, refl)
 -- ---- properties and methods
 
 properties_of_names : (property_named (codes "jr") ≡ Some Jr) × (property_named (codes "pjr") ≡ Some Pjr) × (property_named (codes "ejr") ≡ Some Ejr)
-    × (property_named (codes "ejrplus") ≡ None)
-properties_of_names = (refl, refl, refl, refl)
+    × (property_named (codes "ejrplus") ≡ Some EjrPlus) × (property_named (codes "ejr+") ≡ None)
+properties_of_names = (refl, refl, refl, refl, refl)
 
 methods_of_names : (method_named (codes "hamilton") ≡ Some Hamilton) × (method_named (codes "dhondt") ≡ Some Dhondt)
     × (method_named (codes "saintelague") ≡ Some SainteLague) × (method_named (codes "huntington") ≡ Some Huntington)
     × (method_named (codes "adams") ≡ Some Adams) × (method_named (codes "dean") ≡ Some Dean) × (method_named (codes "Dean") ≡ None)
 methods_of_names = (refl, refl, refl, refl, refl, refl, refl)
 
-names_of_properties : property_names ≡ codes "jr" ∷ codes "pjr" ∷ codes "ejr" ∷ []
+names_of_properties : property_names ≡ codes "jr" ∷ codes "pjr" ∷ codes "ejr" ∷ codes "ejrplus" ∷ []
 names_of_properties = refl
 
 names_of_methods : method_names ≡ codes "hamilton" ∷ codes "dhondt" ∷ codes "saintelague" ∷ codes "huntington" ∷ codes "adams" ∷ codes "dean" ∷ []
@@ -215,7 +222,7 @@ no_committee : fault_of program (codes "committees" ∷ codes "check" ∷ codes 
 unfolding clap_on_literals
 no_committee = refl
 
-no_such_property : fault_of program (codes "committees" ∷ codes "check" ∷ codes "--property" ∷ codes "ejrplus" ∷ codes "--committee" ∷ codes "1" ∷ []) ≡ kind.InvalidValue ∷ []
+no_such_property : fault_of program (codes "committees" ∷ codes "check" ∷ codes "--property" ∷ codes "ejr+" ∷ codes "--committee" ∷ codes "1" ∷ []) ≡ kind.InvalidValue ∷ []
 unfolding clap_on_literals
 no_such_property = refl
 

@@ -13,7 +13,7 @@ use Rattle.clap.proofs.WalkLemmas.{raw_values-rows}
 use Rattle.group_check.specs.declared.property.Property.{Property}
 use Rattle.preflib_text.specs.declared.pick.Pick.{Pick}
 use Rattle.preflib_text.specs.declared.pick.Way.{Way}
-use Rattle.preflib_text.specs.Metadata.{kind_of}
+use Rattle.preflib_text.specs.Names.{kind_named}
 use Rattle.request_words.specs.Endings.{kind_in_path}
 use Rattle.seat_share.specs.declared.method.Method.{Method}
 use Rattle.request_words.specs.NumberList.{list_of}
@@ -24,7 +24,10 @@ use Rattle.request_words.specs.declared.words.LineFault.TheVariants.{BadList, Me
 use Rattle.request_words.specs.declared.words.ListOption.{ListOption}
 use Rattle.request_words.specs.declared.words.ListOption.TheVariants.{Committee, Votes}
 use Rattle.request_words.specs.Words.{Gives, GivesAsked, HasCheckValues, HasElectValues, HasShareValues, IsCount, asking, check_in, elect_in}
-use Rattle.request_words.specs.Words.{has_input, is_given, listed, method_named, number_of, property_named, result_and_then, rule_named, share_in, votes_in, way_in, without_both}
+use Rattle.group_check.specs.Names.{property_named}
+use Rattle.seat_share.specs.Names.{method_named}
+use Rattle.request_words.specs.Names.{rule_named}
+use Rattle.request_words.specs.Words.{has_input, is_given, listed, number_of, result_and_then, share_in, votes_in, way_in, without_both}
 use Rattle.request_words.proofs.NumberListLemmas.{list_has_number}
 
 -- an argument that is not global leaves the command without one
@@ -118,7 +121,7 @@ gives_asked said step (Err e) is (inr fault) = inr (is ∙ ap Some fault)
 -- the request that the code makes of its values
 pub asking_is : (rows : List Row) (demand : Demand) (way : Way) (pick : Pick) (kind file path : Option Text) → Some way ≡ way_in rows
     → kind ≡ first_of (codes "kind") rows → file ≡ first_of (codes "file") rows → path ≡ first_of (codes "file") rows
-    → pick ≡ record { kind = option_and_then kind_of kind; ending = option_and_then kind_in_path path; way = way }
+    → pick ≡ record { kind = option_and_then kind_named kind; ending = option_and_then kind_in_path path; way = way }
     → asking rows demand ≡ Ok (record { demand = demand; pick = pick; file = file })
 asking_is rows demand way pick kind file path ways kinds files paths picked = rw (← ways, picked, kinds, files, paths) refl
 

@@ -2,7 +2,7 @@
 use Rattle.std.specs.Prelude.{ℕ, ◌==◌, List, [], ◌∷◌, Option, Some, None, option_and_then, unwrap_or, if◌then◌else◌}
 use Rattle.std.specs.Option.{option_or}
 use Rattle.preflib_text.specs.declared.pick.Kind.{Kind}
-use Rattle.preflib_text.specs.Metadata.{kind_of}
+use Rattle.preflib_text.specs.Names.{kind_named}
 
 -- what stands behind the last of these bytes; nothing where there is none
 unfoldable pub behind_last : ℕ → List ℕ → Option (List ℕ)
@@ -11,4 +11,4 @@ behind_last b (c ∷ cs) = option_or (behind_last b cs) (if c == b then Some cs 
 
 -- the type that stands behind the last `.` of what stands behind the last `/`, in letters of any case
 abbrev pub kind_in_path : List ℕ → Option Kind
-kind_in_path path = option_and_then kind_of (behind_last 46 (unwrap_or (behind_last 47 path) path))
+kind_in_path path = option_and_then kind_named (behind_last 46 (unwrap_or (behind_last 47 path) path))

@@ -1,4 +1,5 @@
 pub mod Endings
+pub mod Names
 pub mod NumberList
 pub mod Request
 pub mod Words

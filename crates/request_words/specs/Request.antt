@@ -1,8 +1,10 @@
 -- What a request asks for, as contracts see it.
 use Rattle.std.specs.Prelude.{◌≢◌, ◌≤◌, [], ℕ, List, Option, IfSome, option_map}
 use Rattle.std.specs.Vec.{vec_items}
+use Rattle.ballot_base.specs.Limits.{most_members}
 use Rattle.group_check.specs.declared.property.Property.{Property}
 use Rattle.preflib_text.specs.declared.pick.Pick.{Pick}
+use Rattle.seat_share.specs.Limits.{most_seats}
 use Rattle.seat_share.specs.declared.method.Method.{Method}
 use Rattle.request_words.specs.declared.request.Rule.{Rule}
 use Rattle.request_words.specs.declared.request.Task.{Task}
@@ -23,11 +25,11 @@ demand_of (Elect rule size) = electing rule size
 demand_of (Check property committee) = checking property (vec_items committee)
 demand_of (Share method seats votes) = sharing method seats (option_map vec_items votes)
 
--- the numbers lie in their ranges: 1 to 40 for a size, 1 to 10,000 for seats; and each list has a number
+-- the numbers lie in their ranges, a size and seats from 1 on; and each list has a number
 abbrev pub InRange : Demand → Type 0
-InRange (electing rule size) = (1 ≤ size) × (size ≤ 40)
+InRange (electing rule size) = (1 ≤ size) × (size ≤ most_members)
 InRange (checking property committee) = committee ≢ []
-InRange (sharing method seats votes) = (1 ≤ seats) × (seats ≤ 10000) × IfSome votes (λ list. list ≢ [])
+InRange (sharing method seats votes) = (1 ≤ seats) × (seats ≤ most_seats) × IfSome votes (λ list. list ≢ [])
 
 -- what is asked for, how the file is read, and the bytes of the file's path where a file is named
 pub record Asked : Type 0 where

@@ -2,7 +2,6 @@
 use Rattle.std.specs.Prelude.{◌≡◌, ◌≢◌, ◌⊎◌, ◌&&◌, ◌++◌, ⊤, ℕ, Bool, true, false, List, [], ◌∷◌, map, Option, Some, None, Result, Ok, Err}
 use Rattle.std.specs.Prelude.{codes, fold, if◌then◌else◌, option_and_then, option_map, pos}
 use Rattle.std.specs.List.{list_any}
-use Rattle.std.specs.Map.{keys_of, lookup}
 use Rattle.std.specs.Option.{IsSome, is_some, ok_or, option_transpose, option_zip}
 use Rattle.std.specs.Result.{MatchResult, result_ok}
 use Rattle.std.specs.Borrow.{Bor}
@@ -19,61 +18,22 @@ use Rattle.clap.specs.declared.builder.command.Command.TheViews.{out-Command as 
 use Rattle.clap.specs.declared.builder.value_parser.ValueParser.TheVariants as parser
 use Rattle.clap.specs.declared.error.kind.ErrorKind.{ErrorKind}
 use Rattle.clap.specs.declared.error.kind.ErrorKind.TheVariants as kind
-use Rattle.ballot_base.specs.declared.increments.ThieleRule.TheVariants.{Av, Pav, Cc, Geom2, Geom3, Geom4}
-use Rattle.group_check.specs.declared.property.Property.{Property}
-use Rattle.group_check.specs.declared.property.Property.TheVariants.{Jr, Pjr, Ejr}
+use Rattle.ballot_base.specs.Limits.{most_members}
+use Rattle.group_check.specs.Names.{property_named}
 use Rattle.preflib_text.specs.declared.pick.Pick.{Pick}
 use Rattle.preflib_text.specs.declared.pick.Way.{Way}
 use Rattle.preflib_text.specs.declared.pick.Way.TheVariants.{Usual, Category, SetSize, Classes}
-use Rattle.preflib_text.specs.Metadata.{kind_of}
-use Rattle.seat_share.specs.declared.method.Method.{Method}
-use Rattle.seat_share.specs.declared.method.Method.TheVariants.{Hamilton, Dhondt, SainteLague, Huntington, Adams, Dean}
-use Rattle.tie_walk.specs.declared.sequential.SeqRule.TheVariants.{SeqPav, SeqCc, RevSeqPav}
+use Rattle.preflib_text.specs.Names.{kind_named}
+use Rattle.seat_share.specs.Limits.{most_seats}
+use Rattle.seat_share.specs.Names.{method_named}
 use Rattle.request_words.specs.Endings.{kind_in_path}
+use Rattle.request_words.specs.Names.{kind_names, method_names, property_names, rule_named, rule_names}
 use Rattle.request_words.specs.NumberList.{list_of}
 use Rattle.request_words.specs.Request.{Asked, Demand, checking, electing, sharing}
-use Rattle.request_words.specs.declared.request.Rule.{Rule}
-use Rattle.request_words.specs.declared.request.Rule.TheVariants.{Scored, Sequential}
-use Rattle.request_words.specs.declared.request.ScoredRule.TheVariants.{Thiele, Satisfaction, Minimax}
 use Rattle.request_words.specs.declared.words.LineFault.{LineFault}
 use Rattle.request_words.specs.declared.words.LineFault.TheVariants.{Help, Usage, BadList, TwoPicks, VotesAndInput, Memory}
 use Rattle.request_words.specs.declared.words.ListOption.{ListOption}
 use Rattle.request_words.specs.declared.words.ListOption.TheVariants.{Committee, Votes}
-
--- ---- the names
-
--- the rules by their names (Lackner and Skowron, Multi-Winner Voting with Approval Preferences; the names are the
--- project's own)
-abbrev pub rules_by_name : List (Text × Rule)
-rules_by_name = (codes "av", Scored (Thiele Av)) ∷ (codes "pav", Scored (Thiele Pav)) ∷ (codes "cc", Scored (Thiele Cc))
-    ∷ (codes "geom2", Scored (Thiele Geom2)) ∷ (codes "geom3", Scored (Thiele Geom3)) ∷ (codes "geom4", Scored (Thiele Geom4))
-    ∷ (codes "sav", Scored Satisfaction) ∷ (codes "minimax", Scored Minimax)
-    ∷ (codes "seqpav", Sequential SeqPav) ∷ (codes "seqcc", Sequential SeqCc) ∷ (codes "revseqpav", Sequential RevSeqPav) ∷ []
-
--- the names of the rules
-abbrev pub rule_names : List Text
-rule_names = keys_of rules_by_name
-
--- the properties of committees by their names (Aziz and others; Sanchez-Fernandez and others)
-abbrev pub properties_by_name : List (Text × Property)
-properties_by_name = (codes "jr", Jr) ∷ (codes "pjr", Pjr) ∷ (codes "ejr", Ejr) ∷ []
-
--- the names of the properties
-abbrev pub property_names : List Text
-property_names = keys_of properties_by_name
-
--- the methods by their names (Balinski and Young, Fair Representation; Pukelsheim, Proportional Representation)
-abbrev pub methods_by_name : List (Text × Method)
-methods_by_name = (codes "hamilton", Hamilton) ∷ (codes "dhondt", Dhondt) ∷ (codes "saintelague", SainteLague)
-    ∷ (codes "huntington", Huntington) ∷ (codes "adams", Adams) ∷ (codes "dean", Dean) ∷ []
-
--- the names of the methods
-abbrev pub method_names : List Text
-method_names = keys_of methods_by_name
-
--- the names of the types of files
-abbrev pub kind_names : List Text
-kind_names = codes "cat" ∷ codes "soc" ∷ codes "soi" ∷ codes "toc" ∷ codes "toi" ∷ []
 
 -- ---- the commands
 
@@ -106,10 +66,10 @@ abbrev pub input_arguments : Names → List Argument
 input_arguments kinds = name_option (codes "kind") kinds ∷ number_option (codes "category") 1000000
     ∷ number_option (codes "setsize") 1000000 ∷ number_option (codes "classes") 1000000 ∷ file_word ∷ []
 
--- `elect --rule RULE --size SIZE`, with a size from 1 to 40
+-- `elect --rule RULE --size SIZE`, with a size from 1 to `most_members`
 abbrev pub elect_over : Names → Names → Shape
 elect_over rules kinds = record (new_shape (codes "elect")) {
-  rules = required (name_option (codes "rule") rules) ∷ required (number_option (codes "size") 40) ∷ input_arguments kinds;
+  rules = required (name_option (codes "rule") rules) ∷ required (number_option (codes "size") most_members) ∷ input_arguments kinds;
 }
 
 -- `check --property PROPERTY --committee LIST`
@@ -119,10 +79,10 @@ check_over properties kinds = record (new_shape (codes "check")) {
       ∷ input_arguments kinds;
 }
 
--- `share --method METHOD --seats SEATS`, with 1 to 10,000 seats, and perhaps `--votes LIST`
+-- `share --method METHOD --seats SEATS`, with 1 to `most_seats` seats, and perhaps `--votes LIST`
 abbrev pub share_over : Names → Names → Shape
 share_over methods kinds = record (new_shape (codes "share")) {
-  rules = required (name_option (codes "method") methods) ∷ required (number_option (codes "seats") 10000)
+  rules = required (name_option (codes "method") methods) ∷ required (number_option (codes "seats") most_seats)
       ∷ text_option (codes "votes") ∷ input_arguments kinds;
 }
 
@@ -149,18 +109,6 @@ program = program_over (elect_over (listed_names rule_names) (listed_names kind_
 
 -- ---- the request
 
--- the rule of a name
-abbrev pub rule_named : Text → Option Rule
-rule_named name = lookup (bytes_eq name) rules_by_name
-
--- the property of a name
-abbrev pub property_named : Text → Option Property
-property_named name = lookup (bytes_eq name) properties_by_name
-
--- the method of a name
-abbrev pub method_named : Text → Option Method
-method_named name = lookup (bytes_eq name) methods_by_name
-
 -- the value of a number's digits, of which the first may be zeros, and before which a `+` may stand
 abbrev pub number_of : Text → ℕ
 number_of digits = digits_value 10 (without_leading_plus digits)
@@ -186,7 +134,7 @@ way_in rows = way_by (number_at (codes "category") rows) (number_at (codes "sets
 -- how the ballots are read, in this way
 abbrev pub pick_in : List Row → Way → Pick
 pick_in rows way = record {
-  kind = option_and_then kind_of (first_of (codes "kind") rows);
+  kind = option_and_then kind_named (first_of (codes "kind") rows);
   ending = option_and_then kind_in_path (first_of (codes "file") rows);
   way = way;
 }
@@ -358,13 +306,13 @@ pub record HasNumberUpTo (option : Text) (most : ℕ) (rows : List Row) : Type 0
 
 -- what clap found for `elect`, `check` and `share` passed its parsers
 abbrev pub HasElectValues : List Row → Type 0
-HasElectValues rows = HasName (codes "rule") rule_named rows × HasNumberUpTo (codes "size") 40 rows × HasCounts rows
+HasElectValues rows = HasName (codes "rule") rule_named rows × HasNumberUpTo (codes "size") most_members rows × HasCounts rows
 
 abbrev pub HasCheckValues : List Row → Type 0
 HasCheckValues rows = HasName (codes "property") property_named rows × IsSome (first_of (codes "committee") rows) × HasCounts rows
 
 abbrev pub HasShareValues : List Row → Type 0
-HasShareValues rows = HasName (codes "method") method_named rows × HasNumberUpTo (codes "seats") 10000 rows × HasCounts rows
+HasShareValues rows = HasName (codes "method") method_named rows × HasNumberUpTo (codes "seats") most_seats rows × HasCounts rows
 
 -- the values of a command passed their parsers
 abbrev pub HasValues : Text → List Row → Type 0

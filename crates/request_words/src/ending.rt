@@ -2,7 +2,7 @@
 ghost use Rattle.std.specs.Prelude.{◌≡◌, option_map};
 ghost use Rattle.request_words.specs.Endings.{behind_last, kind_in_path};
 
-use preflib_text::{Kind, kind_of};
+use preflib_text::Kind;
 
 /// What stands behind the last of these bytes.
 #[tactic(auto, unfolding(crate::specs::Endings::behind_last))]
@@ -26,5 +26,5 @@ pub(crate) fn kind_in_path(path: &str) -> Option<Kind>
 {
     let path = path.as_bytes();
     let name = behind_last(path, b'/').unwrap_or(path);
-    kind_of(behind_last(name, b'.')?)
+    Kind::named(behind_last(name, b'.')?)
 }

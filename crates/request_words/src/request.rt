@@ -1,6 +1,7 @@
 //! What the words of a command line ask for.
 ghost use Rattle.std.specs.Prelude.{◌≡◌, option_map, string_bytes};
-ghost use Rattle.preflib_text.specs.BallotMarks.{HasNumber};
+ghost use Rattle.preflib_text.specs.Approvals.{HasNumber};
+ghost use Rattle.request_words.specs.Names.{rule_name, rule_named};
 ghost use Rattle.request_words.specs.Request.{InRange, demand_of};
 
 use ballot_base::ThieleRule;
@@ -18,6 +19,42 @@ pub enum Rule {
     Scored(ScoredRule),
     /// A committee is made one candidate at a time, over every tie.
     Sequential(SeqRule),
+}
+
+impl Rule {
+    /// All rules.
+    pub const ALL: [Rule; 11] = [
+        Rule::Scored(ScoredRule::Thiele(ThieleRule::Av)),
+        Rule::Scored(ScoredRule::Thiele(ThieleRule::Pav)),
+        Rule::Scored(ScoredRule::Thiele(ThieleRule::Cc)),
+        Rule::Scored(ScoredRule::Thiele(ThieleRule::Geom2)),
+        Rule::Scored(ScoredRule::Thiele(ThieleRule::Geom3)),
+        Rule::Scored(ScoredRule::Thiele(ThieleRule::Geom4)),
+        Rule::Scored(ScoredRule::Satisfaction),
+        Rule::Scored(ScoredRule::Minimax),
+        Rule::Sequential(SeqRule::SeqPav),
+        Rule::Sequential(SeqRule::SeqCc),
+        Rule::Sequential(SeqRule::RevSeqPav),
+    ];
+
+    /// The name, as it is written on the command line and in answers.
+    pub const fn name(self) -> &'static str
+        ensures { result.now ≡ rule_name self }
+    {
+        match self {
+            Rule::Scored(ScoredRule::Thiele(rule)) => rule.name(),
+            Rule::Scored(ScoredRule::Satisfaction) => "sav",
+            Rule::Scored(ScoredRule::Minimax) => "minimax",
+            Rule::Sequential(rule) => rule.name(),
+        }
+    }
+
+    /// The rule that has this name, if one has; upper and lower case differ.
+    pub fn named(name: &str) -> Option<Rule>
+        ensures { result ≡ rule_named name.now }
+    {
+        Rule::ALL.iter().copied().find(|rule| name == rule.name())
+    }
 }
 
 /// A rule by which each committee has a value.
@@ -38,12 +75,12 @@ pub enum ScoredRule {
 /// What a request asks for. Each list has at least one number.
 #[derive(Debug, Drop)]
 pub enum Task {
-    /// To elect committees by a rule, with so many seats, from 1 to 40.
+    /// To elect committees by a rule, with so many seats, from 1 to `MOST_MEMBERS`.
     Elect(Rule, u8),
     /// To check whether a committee has a property. The members are as they were given: any numbers,
     /// in any order.
     Check(Property, Vec<u64>),
-    /// To share out seats by a method, from 1 to 10,000, among parties with these votes. Without votes, they
+    /// To share out seats by a method, from 1 to `MOST_SEATS`, among parties with these votes. Without votes, they
     /// are those of the ballots.
     Share(Method, u16, Option<Vec<u64>>),
 }
@@ -59,7 +96,7 @@ pub struct Request {
 
 impl Model for Request {
     ghost use Rattle.std.specs.Prelude.{option_map, string_bytes};
-    ghost use Rattle.preflib_text.specs.BallotMarks.{HasNumber};
+    ghost use Rattle.preflib_text.specs.Approvals.{HasNumber};
     ghost use Rattle.request_words.specs.Request.{Asked, InRange, demand_of};
 
     ghost Value = { Asked };

@@ -3,29 +3,31 @@ ghost use Rattle.std.specs.Prelude.{◌≡◌, ◌≢◌, ◌≤◌, IfErr, IfOk
 ghost use Rattle.std.specs.List.{list_any};
 ghost use Rattle.std.specs.Vec.{vec_items};
 ghost use Rattle.clap.specs.Words.{found_of, kind_of as error_kind_of, one_of, rows_of, takes};
-ghost use Rattle.preflib_text.specs.BallotMarks.{HasNumber};
-ghost use Rattle.preflib_text.specs.Metadata.{kind_of};
+ghost use Rattle.ballot_base.specs.Limits.{most_members};
+ghost use Rattle.seat_share.specs.Limits.{most_seats};
+ghost use Rattle.preflib_text.specs.Approvals.{HasNumber};
+ghost use Rattle.preflib_text.specs.Names.{kind_named};
 ghost use Rattle.request_words.specs.Endings.{kind_in_path};
 ghost use Rattle.request_words.specs.Request.{InRange, demand_of};
 ghost use Rattle.request_words.specs.Words.{AddsInput, Gives, GivesAsked, HasCheckValues, HasCounts, HasElectValues};
 ghost use Rattle.request_words.specs.Words.{HasShareValues, HasValues, IsAfterClap, IsAnswerTo, IsArgument, IsCommand};
 ghost use Rattle.request_words.specs.Words.{IsCount, IsFaultOf, IsNameOption, IsProgram, asked_in, asking, check_in};
-ghost use Rattle.request_words.specs.Words.{check_over, elect_in, elect_over, file_word, has_input, is_given, kind_names, line_of};
-ghost use Rattle.request_words.specs.Words.{listed, method_named, method_names, name_option, number_at, number_option};
-ghost use Rattle.request_words.specs.Words.{program, property_named, property_names, request_of, required};
-ghost use Rattle.request_words.specs.Words.{rule_named, rule_names, share_in, share_over, text_option, votes_in, way_by, way_in, way_names};
+ghost use Rattle.request_words.specs.Words.{check_over, elect_in, elect_over, file_word, has_input, is_given, line_of};
+ghost use Rattle.request_words.specs.Names.{kind_names, method_names, property_names, rule_names};
+ghost use Rattle.request_words.specs.Words.{listed, name_option, number_at, number_option};
+ghost use Rattle.request_words.specs.Words.{program, request_of, required};
+ghost use Rattle.request_words.specs.Words.{share_in, share_over, text_option, votes_in, way_by, way_in, way_names};
 
 use crate::ending::kind_in_path;
 use crate::number_list::list_of;
-use crate::request::{Request, Rule, ScoredRule, Task};
-use ballot_base::ThieleRule;
+use crate::request::{Request, Rule, Task};
+use ballot_base::MOST_MEMBERS;
 use clap::error::ErrorKind;
 use clap::{Arg, ArgMatches, Command, Error, value_parser};
 use group_check::Property;
-use preflib_text::{Pick, Way, kind_of};
-use seat_share::Method;
+use preflib_text::{Kind, Pick, Way};
+use seat_share::{MOST_SEATS, Method};
 use std::alloc::{AllocError, Global};
-use tie_walk::SeqRule;
 
 /// An option whose value is a list of numbers.
 #[derive(Clone, Copy, Debug, PartialEq, Eq)]
@@ -97,22 +99,6 @@ static RULES: [&str; 11] = [
     "seqcc",
     "revseqpav",
 ];
-
-/// The values of `--property`.
-static PROPERTIES: [&str; 3] = ["jr", "pjr", "ejr"];
-
-/// The values of `--method`.
-static METHODS: [&str; 6] = [
-    "hamilton",
-    "dhondt",
-    "saintelague",
-    "huntington",
-    "adams",
-    "dean",
-];
-
-/// The values of `--kind`.
-static KINDS: [&str; 5] = ["cat", "soc", "soi", "toc", "toi"];
 
 /// The request of the words, of which the first is the program's name.
 pub fn read_request(alloc: Global, words: &[String]) -> Result<Request, LineFault>
@@ -204,13 +190,13 @@ fn rule_option<'a>(alloc: Global) -> Arg<'a>
 }
 
 fn size_option<'a>(alloc: Global) -> Arg<'a>
-    ensures { IsArgument (required (number_option (codes "size") 40)) result }
+    ensures { IsArgument (required (number_option (codes "size") most_members)) result }
 {
     Arg::new(alloc, "size")
         .long("size")
         .value_name("SIZE")
         .required(true)
-        .value_parser(value_parser!(u8).range(1..=40))
+        .value_parser(value_parser!(u8).range(1..=i64::from(MOST_MEMBERS)))
         .help("The number of seats, from 1 to 40")
 }
 
@@ -221,7 +207,7 @@ fn property_option<'a>(alloc: Global) -> Arg<'a>
         .long("property")
         .value_name("PROPERTY")
         .required(true)
-        .value_parser(PROPERTIES.as_slice())
+        .value_parser(Property::NAMES.as_slice())
         .help("The property that the committee may have")
 }
 
@@ -242,18 +228,18 @@ fn method_option<'a>(alloc: Global) -> Arg<'a>
         .long("method")
         .value_name("METHOD")
         .required(true)
-        .value_parser(METHODS.as_slice())
+        .value_parser(Method::NAMES.as_slice())
         .help("The method by which seats are shared out")
 }
 
 fn seats_option<'a>(alloc: Global) -> Arg<'a>
-    ensures { IsArgument (required (number_option (codes "seats") 10000)) result }
+    ensures { IsArgument (required (number_option (codes "seats") most_seats)) result }
 {
     Arg::new(alloc, "seats")
         .long("seats")
         .value_name("SEATS")
         .required(true)
-        .value_parser(value_parser!(u16).range(1..=10_000))
+        .value_parser(value_parser!(u16).range(1..=i64::from(MOST_SEATS)))
         .help("The number of seats, from 1 to 10000")
 }
 
@@ -272,7 +258,7 @@ fn kind_option<'a>(alloc: Global) -> Arg<'a>
     Arg::new(alloc, "kind")
         .long("kind")
         .value_name("KIND")
-        .value_parser(KINDS.as_slice())
+        .value_parser(Kind::NAMES.as_slice())
         .help("The type of the file, whatever the file says of it")
 }
 
@@ -331,7 +317,7 @@ fn elect_asked(alloc: Global, elect: &ArgMatches<'_>) -> Result<Request, LineFau
     requires { HasElectValues (rows_of (found_of elect.now)) }
     ensures { GivesAsked (elect_in (rows_of (found_of elect.now))) result }
 {
-    let rule = rule_named(elect.get_str("rule").unwrap()).unwrap();
+    let rule = Rule::named(elect.get_str("rule").unwrap()).unwrap();
     let size = elect.get_one::<u8>("size").unwrap();
     request(alloc, elect, Task::Elect(rule, size))
 }
@@ -341,7 +327,7 @@ fn check_asked(alloc: Global, check: &ArgMatches<'_>) -> Result<Request, LineFau
     requires { HasCheckValues (rows_of (found_of check.now)) }
     ensures { GivesAsked (check_in (rows_of (found_of check.now))) result }
 {
-    let property = property_named(check.get_str("property").unwrap()).unwrap();
+    let property = Property::named(check.get_str("property").unwrap()).unwrap();
     let committee = check.get_str("committee").unwrap();
     let committee = numbers(alloc, ListOption::Committee, committee)?;
     request(alloc, check, Task::Check(property, committee))
@@ -352,7 +338,7 @@ fn share_asked(alloc: Global, share: &ArgMatches<'_>) -> Result<Request, LineFau
     requires { HasShareValues (rows_of (found_of share.now)) }
     ensures { GivesAsked (share_in (rows_of (found_of share.now))) result }
 {
-    let method = method_named(share.get_str("method").unwrap()).unwrap();
+    let method = Method::named(share.get_str("method").unwrap()).unwrap();
     let seats = share.get_one::<u16>("seats").unwrap();
     let votes = votes(alloc, share)?;
     let request = request(alloc, share, Task::Share(method, seats, votes))?;
@@ -419,13 +405,13 @@ fn request(alloc: Global, command: &ArgMatches<'_>, task: Task) -> Result<Reques
 // How a file with this path is read.
 fn pick_of(kind: Option<&str>, path: Option<&str>, way: Way) -> Pick
     ensures { result ≡ record {
-      kind = option_and_then kind_of (option_map (λ s. s.now) kind.entry);
+      kind = option_and_then kind_named (option_map (λ s. s.now) kind.entry);
       ending = option_and_then kind_in_path (option_map (λ s. s.now) path.entry);
       way = way;
     } }
 {
     let kind = match kind {
-        Some(name) => kind_of(name.as_bytes()),
+        Some(name) => Kind::named(name.as_bytes()),
         None => None,
     };
     let ending = match path {
@@ -481,55 +467,6 @@ fn owned(alloc: Global, text: Option<&str>) -> Result<Option<String>, AllocError
         Some(text) => Ok(Some(text.to_string(alloc)?)),
         None => Ok(None),
     }
-}
-
-// The rule of a name.
-fn rule_named(name: &str) -> Option<Rule>
-    ensures { result ≡ rule_named name.now }
-{
-    let rule = match name {
-        "av" => Rule::Scored(ScoredRule::Thiele(ThieleRule::Av)),
-        "pav" => Rule::Scored(ScoredRule::Thiele(ThieleRule::Pav)),
-        "cc" => Rule::Scored(ScoredRule::Thiele(ThieleRule::Cc)),
-        "geom2" => Rule::Scored(ScoredRule::Thiele(ThieleRule::Geom2)),
-        "geom3" => Rule::Scored(ScoredRule::Thiele(ThieleRule::Geom3)),
-        "geom4" => Rule::Scored(ScoredRule::Thiele(ThieleRule::Geom4)),
-        "sav" => Rule::Scored(ScoredRule::Satisfaction),
-        "minimax" => Rule::Scored(ScoredRule::Minimax),
-        "seqpav" => Rule::Sequential(SeqRule::SeqPav),
-        "seqcc" => Rule::Sequential(SeqRule::SeqCc),
-        "revseqpav" => Rule::Sequential(SeqRule::RevSeqPav),
-        _ => return None,
-    };
-    Some(rule)
-}
-
-// The property of a name.
-fn property_named(name: &str) -> Option<Property>
-    ensures { result ≡ property_named name.now }
-{
-    match name {
-        "jr" => Some(Property::Jr),
-        "pjr" => Some(Property::Pjr),
-        "ejr" => Some(Property::Ejr),
-        _ => None,
-    }
-}
-
-// The method of a name.
-fn method_named(name: &str) -> Option<Method>
-    ensures { result ≡ method_named name.now }
-{
-    let method = match name {
-        "hamilton" => Method::Hamilton,
-        "dhondt" => Method::Dhondt,
-        "saintelague" => Method::SainteLague,
-        "huntington" => Method::Huntington,
-        "adams" => Method::Adams,
-        "dean" => Method::Dean,
-        _ => return None,
-    };
-    Some(method)
 }
 
 // Clap's answer to words that it does not take.

@@ -308,7 +308,7 @@ fn refuses_words(rt: HostRuntime) -> Result<(), Fail> {
         "committees share --rule av --size 1",
         "committees check --committee 1",
         "committees check --property jr",
-        "committees check --property ejrplus --committee 1",
+        "committees check --property ejr+ --committee 1",
         "committees check --property jr --committee 1 --votes 1",
         "committees share --method dean --seats 0",
         "committees share --method dean --seats 10001",

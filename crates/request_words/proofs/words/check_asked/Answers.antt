@@ -17,7 +17,7 @@ pub unwrap-property-requires : goal.unwrap-property-requires
 unwrap-property-requires c =
     let is : c.unwrap.result.now ≡ c.requires.0.text = text_is c.get_str.result c.unwrap.result c.requires.0.text c.unwrap.ensures
     (c.get_str.ensures ∙ first_value-rows (found_of c.args.check.now) (codes "property") ∙ c.requires.0.given) in
-    rw (c.property_named.ensures, is) c.requires.0.known
+    rw (c.named.ensures, is) c.requires.0.known
 
 pub unwrap-committee-requires : goal.unwrap-committee-requires
 unwrap-committee-requires c = some_there c.get_str-2.result _ (c.get_str-2.ensures ∙ first_value-rows (found_of c.args.check.now) (codes "committee")) c.requires.1
@@ -28,7 +28,7 @@ returns-in_err-committee c =
     let named : c.unwrap.result.now ≡ c.requires.0.text = text_is c.get_str.result c.unwrap.result c.requires.0.text c.unwrap.ensures
     (c.get_str.ensures ∙ first_value-rows (found_of c.args.check.now) (codes "property") ∙ c.requires.0.given) in
     let said = check_is rows c.requires c.unwrap.result.now c.unwrap-committee.result.now c.unwrap-property.result named
-    (sym c.property_named.ensures ∙ c.unwrap-property.ensures)
+    (sym c.named.ensures ∙ c.unwrap-property.ensures)
     (sym (c.get_str-2.ensures ∙ first_value-rows (found_of c.args.check.now) (codes "committee")) ∙ ap (option_map (λ s. s.now)) c.unwrap-committee.ensures) in
     passed_on (GivesAsked (check_in rows)) c.from_residual.result c.in_err-committee.field-0.0 c.from_residual.ensures.1
     (failed (check_in rows) (λ committee. asking rows (checking c.unwrap-property.result committee)) (listed Committee c.unwrap-committee.result.now)
@@ -40,7 +40,7 @@ returns c =
     let named : c.unwrap.result.now ≡ c.requires.0.text = text_is c.get_str.result c.unwrap.result c.requires.0.text c.unwrap.ensures
     (c.get_str.ensures ∙ first_value-rows (found_of c.args.check.now) (codes "property") ∙ c.requires.0.given) in
     let said = check_is rows c.requires c.unwrap.result.now c.unwrap-committee.result.now c.unwrap-property.result named
-    (sym c.property_named.ensures ∙ c.unwrap-property.ensures)
+    (sym c.named.ensures ∙ c.unwrap-property.ensures)
     (sym (c.get_str-2.ensures ∙ first_value-rows (found_of c.args.check.now) (codes "committee")) ∙ ap (option_map (λ s. s.now)) c.unwrap-committee.ensures) in
     check_given (check_in rows) (λ committee. asking rows (checking c.unwrap-property.result committee)) (vec_items c.in_ok-committee.committee)
     (listed Committee c.unwrap-committee.result.now) c.request.result said c.in_ok-committee.ensures.given c.request.ensures

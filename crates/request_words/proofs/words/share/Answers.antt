@@ -3,7 +3,8 @@ use Rattle.std.proofs.lemmas.Result.{IfOk-weaker}
 use Rattle.std.specs.Prelude.{fold}
 use Rattle.clap.specs.Words.{App, with_rule}
 use Rattle.clap.specs.Simple.{app_of_fields}
-use Rattle.request_words.specs.Words.{IsCommand, share_over, method_names, input_arguments}
+use Rattle.request_words.specs.Names.{method_names}
+use Rattle.request_words.specs.Words.{IsCommand, share_over, input_arguments}
 use Rattle.request_words.proofs.WordsLemmas.{stays_local}
 use Rattle.request_words.proofs.words.share.Goals as goal
 
