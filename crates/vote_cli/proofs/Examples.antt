@@ -1,26 +1,29 @@
 -- Each definition, computed on a small example.
-use Rattle.std.proofs.Common.{◌≡◌, ℕ, List, [], ◌∷◌, ◌++◌, true, false, Some, refl, map}
-use Rattle.std.specs.Map.{values_of}
+use Rattle.std.proofs.Common.{◌≡◌, ℕ, List, [], ◌∷◌, ◌++◌, true, false, Some, refl}
 use Rattle.std.specs.Prelude.{codes}
 use Rattle.std.specs.Fmt.{digits}
 use Rattle.ballot_base.specs.Lists.{lists_of}
 use Rattle.ballot_base.specs.Ballots.{Election, Row, election}
-use Rattle.ballot_base.specs.declared.increments.ThieleRule.TheVariants.{Av, Geom3}
+use Rattle.ballot_base.specs.declared.increments.ThieleRule.TheVariants.{Av}
 use Rattle.request_words.specs.declared.request.Rule.TheVariants.{Scored, Sequential}
-use Rattle.tie_walk.specs.declared.sequential.SeqRule.TheVariants.{SeqPav, RevSeqPav}
+use Rattle.tie_walk.specs.declared.sequential.SeqRule.TheVariants.{SeqPav}
 use Rattle.request_words.specs.declared.request.ScoredRule.TheVariants.{Thiele, Satisfaction, Minimax}
 use Rattle.ballot_base.specs.Increments.{increments}
 use Rattle.ballot_base.specs.CommonMultiple.{common_multiple}
-use Rattle.vote_cli.specs.Text.{line, numbers_text, following_text, rule_word, lists_text, head_text, elected_text}
-use Rattle.seat_share.specs.declared.method.Method.TheVariants.{Hamilton, Dhondt, SainteLague, Huntington, Adams, Dean}
-use Rattle.seat_share.specs.Allocations.{lists_with_sum, allocations}
-use Rattle.request_words.specs.Words.{rule_names, rules_by_name}
+use Rattle.tie_walk.specs.Sequences.{hit_weights}
+use Rattle.vote_cli.specs.ElectText.{best_text, elect_answers, elect_header, elect_text, rule_lines, score_text, scored_header}
+use Rattle.vote_cli.specs.Listing.{answer_text, answers_text, listing_text}
+use Rattle.vote_cli.specs.RuleValues.{value_by}
+use Rattle.vote_cli.specs.Steps.Numbers.{following_text}
+use Rattle.vote_cli.specs.Text.{line, numbers_text}
+use Rattle.seat_share.specs.declared.method.Method.TheVariants.{Dhondt, SainteLague, Adams}
+use Rattle.seat_share.specs.Allocations.{lists_with_sum}
 use Rattle.vote_cli.specs.Parties.{has_many_approved, approvals_of, party_votes}
-use Rattle.vote_cli.specs.ShareText.{method_word, method_lines, share_text}
+use Rattle.vote_cli.specs.ShareText.{share_header, share_text}
 use Rattle.group_check.specs.declared.property.Property.TheVariants.{Jr, Pjr, Ejr}
 use Rattle.group_check.specs.declared.property.Violation.{Violation}
 use Rattle.group_check.specs.Report.{violation_of, first_violation}
-use Rattle.vote_cli.specs.ReportText.{property_word, holds_text, set_or_dash, within_text, row_text, level_text, voters_text, group_text, claim_text, violation_text}
+use Rattle.vote_cli.specs.CheckText.{holds_text, set_or_dash, within_text, row_text, level_text, voters_text, group_text, claim_text, violation_text}
 
 -- two voters approve 1 and 2, and one approves 3
 abbrev rows : List Row
@@ -44,38 +47,65 @@ following : following_text (20 ∷ 3 ∷ []) ≡ codes ",20,3"
 unfolding digits
 following = refl
 
-rule_words : (rule_word (Scored (Thiele Av)) ≡ codes "av") × (rule_word (Scored (Thiele Geom3)) ≡ codes "geom3") × (rule_word (Scored Satisfaction) ≡ codes "sav")
-    × (rule_word (Scored Minimax) ≡ codes "minimax") × (rule_word (Sequential RevSeqPav) ≡ codes "revseqpav")
-rule_words = (refl, refl, refl, refl, refl)
-
--- the name of a rule is the word that is printed of it
-names_are_words : map rule_word (values_of rules_by_name) ≡ rule_names
-names_are_words = refl
-
-head : head_text (Thiele Av) 3 1 2 ≡ codes "rule av" ++ 10 ∷ codes "size 1" ++ 10 ∷ codes "score 2/1" ++ 10 ∷ []
+head : scored_header (Thiele Av) 3 1 2 ≡ codes "rule av" ++ 10 ∷ codes "size 1" ++ 10 ∷ codes "score 2/1" ++ 10 ∷ []
 unfolding digits
 head = refl
 
-committees : lists_text ((1 ∷ 2 ∷ []) ∷ (1 ∷ 3 ∷ []) ∷ []) ≡ codes "1,2" ++ 10 ∷ codes "1,3" ++ 10 ∷ []
+distance : best_text Minimax 3 1 2 ≡ codes "distance 1"
 unfolding digits
-committees = refl
+distance = refl
+
+score : score_text 9 6 ≡ codes "score 9/6"
+unfolding digits
+score = refl
+
+sequential_head : rule_lines (Sequential SeqPav) 12 ≡ line (codes "rule seqpav") ++ line (codes "size 12")
+unfolding digits
+sequential_head = refl
+
+-- ---- listings
+an_answer : answer_text (1 ∷ 20 ∷ []) ≡ codes "1,20" ++ 10 ∷ []
+unfolding digits
+an_answer = refl
+
+answers : answers_text ((1 ∷ 2 ∷ []) ∷ (1 ∷ 3 ∷ []) ∷ []) ≡ line (codes "1,2") ++ line (codes "1,3")
+unfolding digits
+answers = refl
+
+a_listing : listing_text (line (codes "size 1")) ((1 ∷ []) ∷ (2 ∷ []) ∷ []) ≡ line (codes "size 1") ++ line (codes "1") ++ line (codes "2") ++ line (codes "end")
+unfolding digits
+a_listing = refl
+
+no_answer : listing_text (line (codes "size 1")) [] ≡ line (codes "size 1") ++ line (codes "end")
+no_answer = refl
+
+-- ---- values
+-- of 1, whom two voters approve beside 2
+values : (value_by (Thiele Av) 1 three (1 ∷ []) ≡ 2) × (value_by Satisfaction 1 three (1 ∷ []) ≡ 6) × (value_by Minimax 1 three (1 ∷ []) ≡ 1)
+unfolding increments common_multiple
+values = (refl, refl, refl)
+
+-- ---- elections
+elect_parts : (elect_header (Scored (Thiele Av)) 1 three ≡ scored_header (Thiele Av) 3 1 2) × (elect_answers (Scored (Thiele Av)) 1 three ≡ (1 ∷ []) ∷ (2 ∷ []) ∷ [])
+unfolding digits lists_of increments
+elect_parts = (refl, refl)
 
 -- the answer to size 1
 abbrev text : List ℕ
 text = line (codes "rule av") ++ line (codes "size 1") ++ line (codes "score 2/1") ++ line (codes "1") ++ line (codes "2") ++ line (codes "end")
 
-elected : elected_text (Scored (Thiele Av)) 1 three ≡ text
+elected : elect_text (Scored (Thiele Av)) 1 three ≡ text
 unfolding digits lists_of increments
 elected = refl
 
-elected_pair : elected_text (Scored (Thiele Av)) 2 three ≡ line (codes "rule av") ++ line (codes "size 2") ++ line (codes "score 4/1") ++ line (codes "1,2") ++ line (codes "end")
+elected_pair : elect_text (Scored (Thiele Av)) 2 three ≡ line (codes "rule av") ++ line (codes "size 2") ++ line (codes "score 4/1") ++ line (codes "1,2") ++ line (codes "end")
 unfolding digits lists_of increments
 elected_pair = refl
 
 -- two seats by sequential proportional approval voting: each pair is reached, 1 and 2 in two ways
-elected_in_turn : elected_text (Sequential SeqPav) 2 three
+elected_in_turn : elect_text (Sequential SeqPav) 2 three
     ≡ line (codes "rule seqpav") ++ line (codes "size 2") ++ line (codes "1,2") ++ line (codes "1,3") ++ line (codes "2,3") ++ line (codes "end")
-unfolding digits lists_of increments common_multiple
+unfolding digits lists_of hit_weights common_multiple
 elected_in_turn = refl
 
 -- ---- reports
@@ -93,9 +123,6 @@ by_jr = violation_of Jr divided (3 ∷ 4 ∷ []) 1 (1 ∷ [], [])
 
 abbrev by_pjr : Violation
 by_pjr = violation_of Pjr divided (3 ∷ 4 ∷ []) 1 (1 ∷ [], [])
-
-property_words : (property_word Jr ≡ codes "jr") × (property_word Pjr ≡ codes "pjr") × (property_word Ejr ≡ codes "ejr")
-property_words = (refl, refl, refl)
 
 holds : holds_text ≡ codes "holds" ++ 10 ∷ []
 holds = refl
@@ -176,24 +203,20 @@ approvals = (refl, refl, refl)
 many_approved : (has_many_approved parties ≡ false) × (has_many_approved three ≡ true)
 many_approved = (refl, refl)
 
-method_words : (method_word Hamilton ≡ codes "hamilton") × (method_word Dhondt ≡ codes "dhondt") × (method_word SainteLague ≡ codes "saintelague")
-    × (method_word Huntington ≡ codes "huntington") × (method_word Adams ≡ codes "adams") × (method_word Dean ≡ codes "dean")
-method_words = (refl, refl, refl, refl, refl, refl)
-
-two_allocations : lists_text ((0 ∷ 10 ∷ []) ∷ (1 ∷ 9 ∷ []) ∷ []) ≡ line (codes "0,10") ++ line (codes "1,9")
+two_allocations : answers_text ((0 ∷ 10 ∷ []) ∷ (1 ∷ 9 ∷ []) ∷ []) ≡ line (codes "0,10") ++ line (codes "1,9")
 unfolding digits
 two_allocations = refl
 
-head_of_shares : method_lines Adams 12 ≡ codes "method adams" ++ 10 ∷ codes "seats 12" ++ 10 ∷ []
+head_of_shares : share_header Adams 12 ≡ codes "method adams" ++ 10 ∷ codes "seats 12" ++ 10 ∷ []
 unfolding digits
 head_of_shares = refl
 
-shared_one_way : share_text SainteLague 7 ((3 ∷ 2 ∷ 2 ∷ []) ∷ []) ≡ line (codes "method saintelague") ++ line (codes "seats 7") ++ line (codes "3,2,2") ++ line (codes "end")
+shared_one_way : listing_text (share_header SainteLague 7) ((3 ∷ 2 ∷ 2 ∷ []) ∷ []) ≡ line (codes "method saintelague") ++ line (codes "seats 7") ++ line (codes "3,2,2") ++ line (codes "end")
 unfolding digits
 shared_one_way = refl
 
 -- the votes of an election, and their tied allocations
-shared_two_ways : share_text Dhondt 2 (allocations Dhondt (party_votes parties) 2)
+shared_two_ways : share_text Dhondt 2 (party_votes parties)
     ≡ line (codes "method dhondt") ++ line (codes "seats 2") ++ line (codes "0,0,2") ++ line (codes "1,0,1") ++ line (codes "end")
 unfolding digits lists_with_sum
 shared_two_ways = refl

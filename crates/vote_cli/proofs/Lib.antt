@@ -1,3 +1,4 @@
+pub mod AnswerLaws
 pub mod Examples
 pub mod InputLemmas
 pub mod PartyLemmas
@@ -5,5 +6,4 @@ pub mod PrintingLemmas
 pub mod ReportLemmas
 pub mod RunExamples
 pub mod RunLemmas
-pub mod ShareLemmas
 pub mod TextLemmas

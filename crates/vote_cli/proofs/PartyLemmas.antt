@@ -1,7 +1,7 @@
--- The votes of parties, as rows are counted one behind the other.
-use Rattle.std.proofs.Common.{◌≡◌, ℕ, ◌+◌, ◌-◌, ◌<◌, ◌≤◌, ◌∙◌, Bool, true, false, cond, List, [], ◌∷◌, ◌++◌, Some, refl, sym, subst, ap, ap₂, arith, inl, inr, length, length-set, map, filter, take, get_or, set, slice_get, drop, replicate, take-append-drop}
+-- The votes of parties, as rows are counted one after the other.
+use Rattle.std.proofs.Common.{◌≡◌, ℕ, zero, suc, ◌+◌, ◌-◌, ◌<◌, ◌≤◌, ◌∙◌, Bool, true, false, cond, List, [], ◌∷◌, ◌++◌, Some, refl, sym, subst, ap, ap₂, arith, inl, inr, length, length-set, map, filter, take, get_or, set, slice_get, drop, replicate, take-append-drop}
 use Rattle.std.specs.Prelude.{nat_lt, ◌||◌}
-use Rattle.std.specs.List.{list_any, range_with_len}
+use Rattle.std.specs.List.{AllByRecursion, list_any, range_with_len}
 use Rattle.std.proofs.lemmas.Bool.{cases_eq, eq-eqb, ne_eqb, lt-ltb, le-ltb, or_left, or_right}
 use Rattle.std.proofs.lemmas.List.{ext_get_or, get_or-set_same, get_or-set_other}
 use Rattle.std.proofs.lemmas.List.Elements.{filter_more}
@@ -10,8 +10,9 @@ use Rattle.std.proofs.lemmas.List.FromFn.{length-map-range_with_len, get_or-map-
 use Rattle.std.proofs.lemmas.List.Sums.{sum_by-append, sum_by-cons, sum_by_more_le}
 use Rattle.std.proofs.lemmas.Option.{get_or_from_slice_get, slice_get_within}
 use Rattle.ballot_base.specs.CandSet.{has_member}
+use Rattle.ballot_base.specs.Limits.{most_candidates}
 use Rattle.ballot_base.specs.Lists.{IsIncreasing}
-use Rattle.ballot_base.specs.Ballots.{Row, voter_count}
+use Rattle.ballot_base.specs.Ballots.{Election, IsElection, Row, voter_count}
 use Rattle.vote_cli.specs.Parties.{approvals_of}
 
 -- the voters of a row who approve a candidate
@@ -57,26 +58,26 @@ many-found rows i row found more =
     ∙ list_any-append many (take (i + 1) rows) (drop (i + 1) rows)
     ∙ or_left (list_any many (take (i + 1) rows)) (list_any many (drop (i + 1) rows)) so_far
 
--- ---- the votes of forty parties
+-- ---- the votes of as many parties as there may be candidates
 unfoldable pub tallies : List Row → List ℕ
-tallies rows = map (approvals_of rows) (range_with_len 1 40)
+tallies rows = map (approvals_of rows) (range_with_len 1 most_candidates)
 
-pub tallies-none : (rows : List Row) → tallies (take 0 rows) ≡ replicate 40 0
+pub tallies-none : (rows : List Row) → tallies (take 0 rows) ≡ replicate most_candidates 0
 unfolding tallies
 tallies-none rows = refl
 
 -- those of the first parties
-pub tallies-first : (rows : List Row) (m : ℕ) → m ≤ 40 → take m (tallies rows) ≡ map (approvals_of rows) (range_with_len 1 m)
+pub tallies-first : (rows : List Row) (m : ℕ) → m ≤ most_candidates → take m (tallies rows) ≡ map (approvals_of rows) (range_with_len 1 m)
 unfolding tallies
-tallies-first rows m few = take-map-range_with_len (approvals_of rows) 1 40 m few
+tallies-first rows m few = take-map-range_with_len (approvals_of rows) 1 most_candidates m few
 
-pub tallies-length : (rows : List Row) → length (tallies rows) ≡ 40
+pub tallies-length : (rows : List Row) → length (tallies rows) ≡ most_candidates
 unfolding tallies
-tallies-length rows = length-map-range_with_len (approvals_of rows) 1 40
+tallies-length rows = length-map-range_with_len (approvals_of rows) 1 most_candidates
 
-pub tallies-at : (rows : List Row) (i : ℕ) → i < 40 → get_or (tallies rows) i 0 ≡ approvals_of rows (i + 1)
+pub tallies-at : (rows : List Row) (i : ℕ) → i < most_candidates → get_or (tallies rows) i 0 ≡ approvals_of rows (i + 1)
 unfolding tallies
-tallies-at rows i few = get_or-map-range_with_len (approvals_of rows) 1 40 i (i + 1) 0 few (omega arith)
+tallies-at rows i few = get_or-map-range_with_len (approvals_of rows) 1 most_candidates i (i + 1) 0 few (omega arith)
 
 -- a candidate has no more voters than there are
 filter-most : (p : Row → Bool) (rows : List Row) → voter_count (filter p rows) ≤ voter_count rows
@@ -88,7 +89,7 @@ filter-most p (row ∷ rows) = by (p row) (filter-most p rows)
     by false less = omega (arith, less, sum_by-cons (λ (r : Row). r.1) row rows)
 
 -- the votes so far and the next row's voters
-pub tallies-bound : (rows : List Row) (i : ℕ) (row : Row) (at : ℕ) → slice_get rows i ≡ Some row → at < 40
+pub tallies-bound : (rows : List Row) (i : ℕ) (row : Row) (at : ℕ) → slice_get rows i ≡ Some row → at < most_candidates
     → get_or (tallies (take i rows)) at 0 + row.1 ≤ voter_count rows
 tallies-bound rows i row at found within =
     let here : get_or rows i row ≡ row = get_or_from_slice_get rows i row row found in
@@ -100,20 +101,20 @@ pub tallies-empty : (rows : List Row) (i : ℕ) (row : Row) → slice_get rows i
 tallies-empty rows i row found none =
     ext_get_or 0 _ _ (tallies-length (take i rows) ∙ sym (tallies-length (take (i + 1) rows)))
     (λ k low.
-    let within : k < 40 = omega (arith, low, tallies-length (take i rows)) in
+    let within : k < most_candidates = omega (arith, low, tallies-length (take i rows)) in
     let nobody : voters_for row (k + 1) ≡ 0 = ap (λ b. cond (has_member b (k + 1)) row.1 0) none in
     omega (arith, tallies-at (take i rows) k within, tallies-at (take (i + 1) rows) k within, approvals_of-more rows i row (k + 1) found, nobody))
 
 -- and a ballot for one counts for that one
-pub tallies-one : (rows : List Row) (i : ℕ) (row : Row) (party : ℕ) → slice_get rows i ≡ Some row → row.0 ≡ party ∷ [] → 1 ≤ party → party ≤ 40
+pub tallies-one : (rows : List Row) (i : ℕ) (row : Row) (party : ℕ) → slice_get rows i ≡ Some row → row.0 ≡ party ∷ [] → 1 ≤ party → party ≤ most_candidates
     → set (tallies (take i rows)) (party - 1) (get_or (tallies (take i rows)) (party - 1) 0 + row.1) ≡ tallies (take (i + 1) rows)
 tallies-one rows i row party found one low high =
     let before : List ℕ = tallies (take i rows) in
     let sum : ℕ = get_or before (party - 1) 0 + row.1 in
-    let long : length (set before (party - 1) sum) ≡ 40 = length-set before (party - 1) sum ∙ tallies-length (take i rows) in
+    let long : length (set before (party - 1) sum) ≡ most_candidates = length-set before (party - 1) sum ∙ tallies-length (take i rows) in
     ext_get_or 0 _ _ (long ∙ sym (tallies-length (take (i + 1) rows)))
     (λ k less.
-    let within : k < 40 = omega (arith, less, long) in
+    let within : k < most_candidates = omega (arith, less, long) in
     let more = approvals_of-more rows i row (k + 1) found in
     let after = tallies-at (take (i + 1) rows) k within in
     let so_far = tallies-at (take i rows) k within in
@@ -136,7 +137,17 @@ pub alone : (ballot others : List ℕ) (first : ℕ) → ballot ≡ first ∷ ot
 alone ballot [] first parts few = parts
 alone ballot (next ∷ others) first parts few = absurd (omega (arith, few, ap length parts))
 
--- the first of the candidates 1 to 40 is one of them
-pub first_within : (ballot others : List ℕ) (first : ℕ) → ballot ≡ first ∷ others → IsIncreasing 1 40 ballot → (1 ≤ first) × (first ≤ 40)
-first_within ballot others first parts all =
-    let same : IsIncreasing 1 40 (first ∷ others) = subst (IsIncreasing 1 40) parts all in (same.0, same.1)
+-- the ballot of a row
+ballot_found : (m : ℕ) (rows : List Row) (i : ℕ) (row : Row) → AllByRecursion (λ (r : Row). IsIncreasing 1 m r.0) rows
+    → slice_get rows i ≡ Some row → IsIncreasing 1 m row.0
+ballot_found m [] i row all found = absurd (omega (arith, slice_get_within [] i row found))
+ballot_found m (r ∷ rows) zero row all found =
+    subst (λ (x : Row). IsIncreasing 1 m x.0) (get_or_from_slice_get (r ∷ rows) 0 row r found) all.0
+ballot_found m (r ∷ rows) (suc i) row all found = ballot_found m rows i row all.1 found
+
+-- the first candidate of a ballot is one that there may be
+pub first_within : (e : Election) (i : ℕ) (row : Row) (others : List ℕ) (first : ℕ) → IsElection e → slice_get e.rows i ≡ Some row
+    → row.0 ≡ first ∷ others → (1 ≤ first) × (first ≤ most_candidates)
+first_within e i row others first valid found parts =
+    let same : IsIncreasing 1 e.m (first ∷ others) = subst (IsIncreasing 1 e.m) parts (ballot_found e.m e.rows i row valid.ballots found) in
+    (same.0, omega (arith, same.1, valid.most))

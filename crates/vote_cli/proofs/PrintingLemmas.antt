@@ -1,15 +1,16 @@
--- Prints joined one behind the other.
+-- Prints joined one after the other.
 use Rattle.std.proofs.Common.{◌≡◌, ℕ, ◌<◌, ◌≤◌, ◌+◌, ◌-◌, Bool, true, false, not, ◌&&◌, ◌||◌, List, [], ◌++◌, Option, Some, None, Result, Ok, Err, refl, sym, ap, subst, ◌∙◌, append_assoc, append-nil, length, take, drop, take-append-drop, true≢false, arith, length-drop, get_or, suc}
 use Rattle.std.specs.Prelude.{◌==◌, is_ok, IsErr, flat_map}
 use Rattle.std.specs.Io.KnownBytes.{Appends, Keeps}
 use Rattle.std.proofs.KnownBytes.{Appends-nil, Appends-trans}
 use Rattle.std.proofs.Math.Seq.{take-add, drop-cons}
 use Rattle.std.proofs.lemmas.List.{take_rest, take_all}
-use Rattle.vote_cli.specs.Printing.{Outlet, Prints, outlet}
+use Rattle.vote_cli.specs.Steps.Printing.{Outlet, Passes, Prints, Sends}
+use Rattle.vote_cli.specs.declared.printing.Printer.{Printer}
 
--- a text behind a text that was printed
-pub Prints-then : {a b c : Outlet} {x y : List ℕ} {ok : Bool} → Prints a b true x → Prints b c ok y → Prints a c ok (x ++ y)
-Prints-then {a} {b} {c} {x} {y} first second = record {
+-- a text after a text that was printed
+Passes-then : {a b c : Outlet} {x y : List ℕ} {ok : Bool} → Passes a b true x → Passes b c ok y → Passes a c ok (x ++ y)
+Passes-then {a} {b} {c} {x} {y} first second = record {
   sent = first.sent ++ second.sent;
   rest = second.rest;
   order = append_assoc first.sent second.sent second.rest
@@ -24,8 +25,8 @@ Prints-then {a} {b} {c} {x} {y} first second = record {
 }
 
 -- what broke off is a beginning of whatever would have come
-pub Prints-broken : {a b : Outlet} {x : List ℕ} (y : List ℕ) → Prints a b false x → Prints a b false (x ++ y)
-Prints-broken {a} {b} {x} y broken = record {
+Passes-broken : {a b : Outlet} {x : List ℕ} (y : List ℕ) → Passes a b false x → Passes a b false (x ++ y)
+Passes-broken {a} {b} {x} y broken = record {
   sent = broken.sent;
   rest = broken.rest ++ y;
   order = sym (append_assoc broken.sent broken.rest y) ∙ ap (λ l. l ++ y) broken.order ∙ append_assoc a.waiting x y;
@@ -35,8 +36,8 @@ Prints-broken {a} {b} {x} y broken = record {
 }
 
 -- no text
-pub Prints-nothing : (a : Outlet) → Prints a a true []
-Prints-nothing a = record {
+Passes-nothing : (a : Outlet) → Passes a a true []
+Passes-nothing a = record {
   sent = [];
   rest = a.waiting;
   order = sym (append-nil a.waiting);
@@ -45,102 +46,130 @@ Prints-nothing a = record {
   broken = λ e. absurd (true≢false e);
 }
 
--- a text that waits
-pub Prints-waiting : {taken : Option (List ℕ)} {waiting waiting' : List ℕ} {has_failed : Bool} (x : List ℕ) → waiting' ≡ waiting ++ x → Prints (outlet taken waiting has_failed) (outlet taken waiting' has_failed) true x
-Prints-waiting {taken} {waiting} {waiting'} x same = record {
-  sent = [];
-  rest = waiting ++ x;
-  order = refl;
-  took = Appends-nil taken;
-  whole = λ e. (sym same, refl);
-  broken = λ e. absurd (true≢false e);
-}
-
--- what was printed by a call that gave `Ok`, and what was printed after it
-pub goes_on : {a b c : Outlet} {x y z : List ℕ} {ok : Bool} {V E : Type 0} (r : Result V E) (v : V) → r ≡ Ok v → z ≡ x ++ y → Prints a b (is_ok r) x → Prints b c ok y → Prints a c ok z
-goes_on {a} {b} {c} {x} {y} {z} {ok} r v e same first second =
-    let done : Prints a b true x = subst (λ s. Prints a b (is_ok s) x) e first in
-    subst (Prints a c ok) (sym same) (Prints-then done second)
-
--- where a call gave `Err`, and the function passes that on
-pub breaks_off : {a b : Outlet} {x z : List ℕ} {V W E F : Type 0} (y : List ℕ) (r : Result V E) (e : E) (q : Result W F) → r ≡ Err e → IsErr q → z ≡ x ++ y → Prints a b (is_ok r) x → Prints a b (is_ok q) z
-breaks_off y r e (Ok w) was bad same first = absurd (true≢false (sym bad))
-breaks_off {a} {b} {x} {z} y r e (Err f) was bad same first =
-    let broken : Prints a b false x = subst (λ s. Prints a b (is_ok s) x) was first in
-    subst (Prints a b false) (sym same) (Prints-broken y broken)
-
--- the same behind a text that was printed before
-pub goes_on_behind : {a b c : Outlet} {done x : List ℕ} {V E : Type 0} (r : Result V E) (v : V) → r ≡ Ok v → Prints a b true done → Prints b c (is_ok r) x → Prints a c true (done ++ x)
-goes_on_behind {a} {b} {c} {done} {x} r v e first second =
-    let went : Prints b c true x = subst (λ s. Prints b c (is_ok s) x) e second in
-    Prints-then first went
-
-pub breaks_off_behind : {a b c : Outlet} {done x z : List ℕ} {V W E F : Type 0} (rest : List ℕ) (r : Result V E) (e : E) (q : Result W F) → r ≡ Err e → IsErr q
-    → done ++ (x ++ rest) ≡ z → Prints a b true done → Prints b c (is_ok r) x → Prints a c (is_ok q) z
-breaks_off_behind {a} {b} {c} {done} {x} {z} rest r e q was bad same first second =
-    breaks_off rest r e q was bad (sym same ∙ sym (append_assoc done x rest)) (Prints-then first second)
-
--- what a call printed that gave `Ok`
-pub Prints-first : {a b : Outlet} {x : List ℕ} {V E : Type 0} (r : Result V E) (v : V) → r ≡ Ok v → Prints a b (is_ok r) x → Prints a b true x
-Prints-first {a} {b} {x} r v e h = subst (λ s. Prints a b (is_ok s) x) e h
-
--- a text behind what was printed before, as the last
-pub Prints-last : {a b c : Outlet} {x y z : List ℕ} {ok : Bool} → z ≡ x ++ y → Prints a b true x → Prints b c ok y → Prints a c ok z
-Prints-last {a} {b} {c} {x} {y} {z} {ok} same first second = subst (Prints a c ok) (sym same) (Prints-then first second)
-
--- what waited is the text in front
-pub Prints-sent : {taken : Option (List ℕ)} {after : Outlet} {waiting : List ℕ} {has_failed ok : Bool} → Prints (outlet taken [] has_failed) after ok waiting → Prints (outlet taken waiting has_failed) after ok []
-Prints-sent {taken} {after} {waiting} h = record {
-  sent = h.sent;
-  rest = h.rest;
-  order = h.order ∙ sym (append-nil waiting);
-  took = h.took;
-  whole = h.whole;
-  broken = h.broken;
-}
-
--- where nothing waits before
-pub Prints-from_empty : {taken : Option (List ℕ)} {after : Outlet} {waiting x : List ℕ} {has_failed ok : Bool} → waiting ≡ []
-    → Prints (outlet taken waiting has_failed) after ok x → Prints (outlet taken [] has_failed) after ok x
-Prints-from_empty {taken} {after} {waiting} {x} {has_failed} {ok} none h = subst (λ w. Prints (outlet taken w has_failed) after ok x) none h
-
--- what waits after a text that broke off does not matter
-pub Prints-dropped : {before : Outlet} {taken : Option (List ℕ)} {waiting x : List ℕ} {has_failed ok : Bool} → ok ≡ false
-    → Prints before (outlet taken waiting has_failed) ok x → Prints before (outlet taken [] has_failed) ok x
-Prints-dropped {before} {taken} {waiting} {x} {has_failed} {ok} bad h = record {
-  sent = h.sent;
-  rest = h.rest;
-  order = h.order;
-  took = h.took;
-  whole = λ e. absurd (true≢false (sym e ∙ bad));
-  broken = h.broken;
-}
-
--- and nothing waits after one that did not, where it says so
-pub Prints-to_empty : {before : Outlet} {taken : Option (List ℕ)} {waiting x : List ℕ} {has_failed ok : Bool} → (ok ≡ true → waiting ≡ [])
-    → Prints before (outlet taken waiting has_failed) ok x → Prints before (outlet taken [] has_failed) ok x
-Prints-to_empty {before} {taken} {waiting} {x} {has_failed} {ok} none h = record {
-  sent = h.sent;
-  rest = h.rest;
-  order = h.order;
-  took = h.took;
-  whole = λ e. ((h.whole e).0 ∙ none e, (h.whole e).1);
-  broken = h.broken;
-}
-
+-- a result that is an error
 pub is_ok-err : {V E : Type 0} (r : Result V E) → IsErr r → is_ok r ≡ false
 is_ok-err (Ok v) bad = absurd (true≢false (sym bad))
 is_ok-err (Err e) bad = refl
 
--- where nothing waits
-pub Prints-empty : {taken taken' : Option (List ℕ)} {waiting x : List ℕ} {has_failed has_failed' ok : Bool} → waiting ≡ []
-    → Prints (outlet taken [] has_failed) (outlet taken' [] has_failed') ok x → Prints (outlet taken waiting has_failed) (outlet taken' waiting has_failed') ok x
-Prints-empty {taken} {taken'} {waiting} {x} {has_failed} {has_failed'} {ok} none h =
-    subst (λ w. Prints (outlet taken w has_failed) (outlet taken' w has_failed') ok x) (sym none) h
+module _ {W : Type 0} {contents : W → Option (List ℕ)} {has_failed : W → Bool} where
+  -- a text after a text that was printed
+  pub Prints-then : {a b c : Printer W} {x y : List ℕ} {ok : Bool} → Prints contents has_failed a b true x
+      → Prints contents has_failed b c ok y → Prints contents has_failed a c ok (x ++ y)
+  Prints-then first second =
+      record { same_writer = second.same_writer ∙ first.same_writer; passed = Passes-then first.passed second.passed }
+
+  -- what broke off is a beginning of whatever would have come
+  pub Prints-broken : {a b : Printer W} {x : List ℕ} (y : List ℕ) → Prints contents has_failed a b false x
+      → Prints contents has_failed a b false (x ++ y)
+  Prints-broken y broken = record { same_writer = broken.same_writer; passed = Passes-broken y broken.passed }
+
+  -- no text
+  pub Prints-nothing : (a : Printer W) → Prints contents has_failed a a true []
+  Prints-nothing a = record { same_writer = refl; passed = Passes-nothing _ }
+
+  -- a text that waits
+  pub Prints-pending : {a b : Printer W} (x : List ℕ) → b.out ≡ a.out → b.pending ≡ a.pending ++ x
+      → Prints contents has_failed a b true x
+  Prints-pending {a} {b} x kept same = record {
+    same_writer = ap (λ out. out.ghost_name) kept;
+    passed = record {
+      sent = [];
+      rest = a.pending ++ x;
+      order = refl;
+      took = subst (λ out. Appends (contents a.out.now) (contents out.now) []) (sym kept) (Appends-nil (contents a.out.now));
+      whole = λ e. (sym same, ap (λ out. has_failed out.now) kept);
+      broken = λ e. absurd (true≢false e);
+    };
+  }
+
+  -- the text of a call that gave `Ok`
+  pub Prints-ok : {a b : Printer W} {x : List ℕ} {V E : Type 0} (r : Result V E) (v : V) → r ≡ Ok v
+      → Prints contents has_failed a b (is_ok r) x → Prints contents has_failed a b true x
+  Prints-ok {a} {b} {x} r v e h = subst (λ s. Prints contents has_failed a b (is_ok s) x) e h
+
+  -- the same text in other words
+  pub Prints-as : {a b : Printer W} {x y : List ℕ} {ok : Bool} → x ≡ y → Prints contents has_failed a b ok x → Prints contents has_failed a b ok y
+  Prints-as {a} {b} {x} {y} {ok} same h = subst (Prints contents has_failed a b ok) same h
+
+  -- what was printed by a call that gave `Ok`, and what was printed after it
+  pub goes_on : {a b c : Printer W} {x y z : List ℕ} {ok : Bool} {V E : Type 0} (r : Result V E) (v : V) → r ≡ Ok v → z ≡ x ++ y
+      → Prints contents has_failed a b (is_ok r) x → Prints contents has_failed b c ok y → Prints contents has_failed a c ok z
+  goes_on r v e same first second = Prints-as (sym same) (Prints-then (Prints-ok r v e first) second)
+
+  -- where a call gave `Err`, and the function passes that on
+  pub breaks_off : {a b : Printer W} {x z : List ℕ} {V U E F : Type 0} (y : List ℕ) (r : Result V E) (e : E) (q : Result U F) → r ≡ Err e → IsErr q
+      → z ≡ x ++ y → Prints contents has_failed a b (is_ok r) x → Prints contents has_failed a b (is_ok q) z
+  breaks_off y r e (Ok w) was bad same first = absurd (true≢false (sym bad))
+  breaks_off {a} {b} {x} {z} y r e (Err f) was bad same first =
+      let broken : Prints contents has_failed a b false x = subst (λ s. Prints contents has_failed a b (is_ok s) x) was first in
+      Prints-as (sym same) (Prints-broken y broken)
+
+  -- the same after a text that was printed before
+  pub goes_on_after : {a b c : Printer W} {done x : List ℕ} {V E : Type 0} (r : Result V E) (v : V) → r ≡ Ok v
+      → Prints contents has_failed a b true done → Prints contents has_failed b c (is_ok r) x → Prints contents has_failed a c true (done ++ x)
+  goes_on_after r v e first second = Prints-then first (Prints-ok r v e second)
+
+  pub breaks_off_after : {a b c : Printer W} {done x z : List ℕ} {V U E F : Type 0} (rest : List ℕ) (r : Result V E) (e : E) (q : Result U F) → r ≡ Err e → IsErr q
+      → done ++ (x ++ rest) ≡ z → Prints contents has_failed a b true done → Prints contents has_failed b c (is_ok r) x → Prints contents has_failed a c (is_ok q) z
+  breaks_off_after {a} {b} {c} {done} {x} {z} rest r e q was bad same first second =
+      breaks_off rest r e q was bad (sym same ∙ sym (append_assoc done x rest)) (Prints-then first second)
+
+  -- a text after what was printed before, as the last
+  pub Prints-last : {a b c : Printer W} {x y z : List ℕ} {ok : Bool} → z ≡ x ++ y → Prints contents has_failed a b true x
+      → Prints contents has_failed b c ok y → Prints contents has_failed a c ok z
+  Prints-last same first second = Prints-as (sym same) (Prints-then first second)
+
+  -- what waited was sent
+  pub Prints-sent : {a b : Printer W} {ok : Bool} → b.out.ghost_name ≡ a.out.ghost_name → (ok ≡ true → b.pending ≡ [])
+      → Sends contents has_failed a.out.now b.out.now ok a.pending → Prints contents has_failed a b ok []
+  Prints-sent {a} {b} {ok} same none h = record {
+    same_writer = same;
+    passed = record {
+      sent = h.sent;
+      rest = h.rest;
+      order = h.order ∙ sym (append-nil a.pending);
+      took = h.took;
+      whole = λ e. ((h.whole e).0 ∙ sym (none e), (h.whole e).1);
+      broken = h.broken;
+    };
+  }
+
+  -- nothing waits, and a text was sent
+  pub Prints-straight : {a b : Printer W} {x : List ℕ} {ok : Bool} → b.out.ghost_name ≡ a.out.ghost_name → a.pending ≡ [] → b.pending ≡ a.pending
+      → Sends contents has_failed a.out.now b.out.now ok x → Prints contents has_failed a b ok x
+  Prints-straight {a} {b} {x} {ok} same none kept h = record {
+    same_writer = same;
+    passed = record {
+      sent = h.sent;
+      rest = h.rest;
+      order = h.order ∙ ap (λ p. p ++ x) (sym none);
+      took = h.took;
+      whole = λ e. ((h.whole e).0 ∙ sym (kept ∙ none), (h.whole e).1);
+      broken = h.broken;
+    };
+  }
+
+  -- what a printer printed from its first byte to its last, its writer was sent
+  pub Sends-by : {a b : Printer W} {before after : W} {x : List ℕ} {ok : Bool} → a.out.now ≡ before → a.pending ≡ [] → (ok ≡ true → b.pending ≡ [])
+      → b.out.now ≡ after → Prints contents has_failed a b ok x → Sends contents has_failed before after ok x
+  Sends-by {a} {b} {before} {after} {x} {ok} first none done last h = record {
+    sent = h.passed.sent;
+    rest = h.passed.rest;
+    order = h.passed.order ∙ ap (λ p. p ++ x) none;
+    took = subst (λ w. Appends (contents before) (contents w) h.passed.sent) last
+        (subst (λ w. Appends (contents w) (contents b.out.now) h.passed.sent) first h.passed.took);
+    whole = λ e. ((h.passed.whole e).0 ∙ done e, ap has_failed (sym last) ∙ (h.passed.whole e).1 ∙ ap has_failed first);
+    broken = λ e. ap has_failed (sym last) ∙ h.passed.broken e;
+  }
+
+  -- the same of what it printed before a call that failed
+  pub Sends-cut : {a b : Printer W} {before after : W} {x : List ℕ} {V E : Type 0} → a.out.now ≡ before → a.pending ≡ [] → (q : Result V E) → IsErr q
+      → b.out.now ≡ after → Prints contents has_failed a b (is_ok q) x → Sends contents has_failed before after (is_ok q) x
+  Sends-cut first none q bad last h = Sends-by first none (λ e. absurd (true≢false (sym e ∙ is_ok-err q bad))) last h
 
 -- ---- pieces
 
--- the pieces from one on are that piece and those behind it
+-- the pieces from one on are that piece and those after it
 pub flat_map-drop : {X : Type 0} (f : X → List ℕ) (xs : List X) (i : ℕ) (d : X) → i < length xs → flat_map f (drop i xs) ≡ f (get_or xs i d) ++ flat_map f (drop (i + 1) xs)
 flat_map-drop f xs i d within = ap (flat_map f) (drop-cons xs i d within) ∙ ap (λ k. f (get_or xs i d) ++ flat_map f (drop k xs)) (add-one-sym i)
   where
@@ -148,6 +177,10 @@ flat_map-drop f xs i d within = ap (flat_map f) (drop-cons xs i d within) ∙ ap
     add-one-sym n = omega arith
 
 -- ---- the loop that writes
+
+-- a writer alone, of which no byte waits
+abbrev pub alone : Option (List ℕ) → Bool → Outlet
+alone taken has_failed = record { taken = taken; waiting = []; has_failed = has_failed }
 
 pub took-more : (a b c : Option (List ℕ)) (xs : List ℕ) (s n : ℕ) → Appends a b (take s xs) → Appends b c (take n (take (length xs - s) (drop s xs))) → Appends a c (take (s + n) xs)
 took-more a b c xs s n first second =
@@ -177,8 +210,8 @@ Appends-none a b n xs none h =
     subst (Appends a b) same h
 
 -- the loop broke off after the first s bytes
-pub Prints-part : (a b c : Option (List ℕ)) (xs : List ℕ) (s : ℕ) (before after : Bool) → Appends a b (take s xs) → Appends b c [] → after ≡ true → Prints (outlet a [] before) (outlet c [] after) false xs
-Prints-part a b c xs s before after first second failed = record {
+pub Passes-part : (a b c : Option (List ℕ)) (xs : List ℕ) (s : ℕ) (before after : Bool) → Appends a b (take s xs) → Appends b c [] → after ≡ true → Passes (alone a before) (alone c after) false xs
+Passes-part a b c xs s before after first second failed = record {
   sent = take s xs;
   rest = drop s xs;
   order = take-append-drop s xs;
@@ -188,8 +221,8 @@ Prints-part a b c xs s before after first second failed = record {
 }
 
 -- and here it came to the end
-pub Prints-whole : (a b : Option (List ℕ)) (xs : List ℕ) (s : ℕ) (before after : Bool) → length xs ≤ s → Appends a b (take s xs) → after ≡ before → Prints (outlet a [] before) (outlet b [] after) true xs
-Prints-whole a b xs s before after end first same = record {
+pub Passes-whole : (a b : Option (List ℕ)) (xs : List ℕ) (s : ℕ) (before after : Bool) → length xs ≤ s → Appends a b (take s xs) → after ≡ before → Passes (alone a before) (alone b after) true xs
+Passes-whole a b xs s before after end first same = record {
   sent = xs;
   rest = [];
   order = append-nil xs;

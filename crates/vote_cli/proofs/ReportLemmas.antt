@@ -1,4 +1,4 @@
--- The text of a report, in the parts that are printed one behind the other.
+-- The text of a report, in the parts that are printed one after the other.
 use Rattle.std.proofs.Common.{◌≡◌, ℕ, ◌+◌, Bool, true, false, cond, List, [], ◌∷◌, ◌++◌, Some, sym, ap, ◌∙◌, append_assoc, append-nil, drop, slice_get}
 use Rattle.std.specs.Prelude.{codes, decimal, flat_map, filter}
 use Rattle.std.proofs.lemmas.Grind.{flat_map-append}
@@ -9,7 +9,7 @@ use Rattle.ballot_base.specs.Ballots.{Row, Election, voter_count}
 use Rattle.group_check.specs.declared.property.Violation.{Violation}
 use Rattle.group_check.specs.Report.{is_in_group}
 use Rattle.vote_cli.specs.Text.{line, numbers_text}
-use Rattle.vote_cli.specs.ReportText.{row_text, group_text, claim_text, voters_text, violation_text}
+use Rattle.vote_cli.specs.CheckText.{row_text, group_text, claim_text, voters_text, violation_text}
 
 -- ---- the ballots of a group
 
@@ -25,7 +25,7 @@ group_text-append violation rows more =
     let test : Row → Bool = λ row. is_in_group violation row.0 in
     ap (flat_map row_text) (filter-append test rows more) ∙ flat_map-append row_text (filter test rows) (filter test more)
 
--- the rows from one on are that row and those behind it
+-- the rows from one on are that row and those after it
 pub group_text-drop : (violation : Violation) (rows : List Row) (i : ℕ) (row : Row) → slice_get rows i ≡ Some row
     → group_text violation (drop i rows) ≡ group_text violation (row ∷ []) ++ group_text violation (drop (i + 1) rows)
 group_text-drop violation rows i row found =

@@ -1,6 +1,7 @@
 -- Answers and what runs leave, computed on small examples.
-use Rattle.std.proofs.Common.{◌≡◌, ℕ, zero, suc, arith, List, [], ◌∷◌, ◌++◌, true, false, Some, None, Ok, Err, inl, inr, refl, lit≤}
+use Rattle.std.proofs.Common.{◌≡◌, ℕ, zero, suc, arith, List, [], ◌∷◌, ◌++◌, true, false, Some, None, Ok, Err, inl, inr, refl, lit≤, Bool, Option}
 use Rattle.std.specs.Prelude.{codes}
+use Rattle.std.specs.List.{range_with_len}
 use Rattle.std.proofs.lemmas.Bool.{both_ways}
 use Rattle.std.specs.Fmt.{digits}
 use Rattle.ballot_base.specs.Lists.{lists_of}
@@ -10,35 +11,37 @@ use Rattle.request_words.specs.declared.request.Rule.TheVariants.{Scored}
 use Rattle.request_words.specs.declared.request.ScoredRule.TheVariants.{Thiele}
 use Rattle.vote_cli.specs.declared.status.Status.TheVariants.{Answered, Violated, InputRefused, RequestRefused, NoMemory, DeviceFailed}
 use Rattle.vote_cli.specs.declared.input.InputFault.TheVariants as fault
-use Rattle.vote_cli.specs.declared.answers.Verdict.TheVariants as verdict
-use Rattle.vote_cli.specs.declared.refusal.Misfit.TheVariants as refusal_words
+use Rattle.vote_cli.specs.declared.answers.Outcome.TheVariants as outcome
+use Rattle.vote_cli.specs.declared.refusal.RequestFault.TheVariants as request_fault
 use Rattle.vote_cli.specs.declared.refusal.Refusal.TheVariants as refusal
 use Rattle.request_words.specs.Request.{Asked, Demand, electing, checking, sharing, InRange}
 use Rattle.vote_cli.specs.Device.{is_failed_write, AppendsBeginning}
-use Rattle.vote_cli.specs.Input.{TellsOfInput}
+use Rattle.vote_cli.specs.Steps.Input.{TellsOfInput}
 use Rattle.vote_cli.specs.Status.{code_of}
 use Rattle.ballot_base.specs.Increments.{increments}
 use Rattle.vote_cli.specs.Text.{line}
 use Rattle.seat_share.specs.declared.method.Method.TheVariants.{Dhondt}
 use Rattle.seat_share.specs.Allocations.{lists_with_sum}
-use Rattle.vote_cli.specs.Printing.{Prints, outlet}
-use Rattle.vote_cli.specs.Answer.{answered, violated, refused, misfit, election_answer, IsCheckAnswer, share_answer, share_answer_by, ballots_answer, IsAnswer, has_votes, Reports, Ends, TellsOf, memory_line, read_failed_line, write_failed_line}
-use Rattle.vote_cli.specs.Refusals.{IsRefusal, status_of, error_of, Prepares, TellsOfReads, TellsOfWrites, Concludes, IsWritten, verdict_status}
-use Rattle.vote_cli.specs.Misfits.{misfit_word, share_word}
+use Rattle.std.specs.Borrow.{MutBor}
+use Rattle.vote_cli.specs.declared.printing.Printer.{Printer}
+use Rattle.vote_cli.specs.Steps.Printing.{Prints, Sends}
+use Rattle.vote_cli.specs.Answer.{answered, violated, refused, request_refused, election_answer, IsCheckAnswer, IsCommittee, share_answer, share_answer_by, ballots_answer, IsAnswer, has_votes, input_for, Reports, ReadsAll, Ends, TellsOf, memory_line, read_failed_line, write_failed_line}
+use Rattle.vote_cli.specs.Steps.Refusals.{IsRefusal, status_of, error_of, ReadsBallots, TellsOfReads, TellsOfWrites, ReadsOn, WritesRight, IsWritten, outcome_status}
+use Rattle.vote_cli.specs.Steps.RequestFaults.{request_fault_word}
 use Rattle.ballot_base.specs.Lists.{IsIncreasing}
 use Rattle.group_check.specs.declared.property.Property.TheVariants.{Jr}
 use Rattle.group_check.specs.declared.property.Violation.{Violation}
 use Rattle.group_check.specs.Groups.{Breaks, HasProperty}
 use Rattle.group_check.specs.Report.{IsReport, first_violation}
 use Rattle.group_check.proofs.BreakLemmas.{no_group, above_greatest}
-use Rattle.seat_share.specs.declared.method.ShareFault.TheVariants.{NoParties, TooManyVotes, BadSeats}
-use Rattle.vote_cli.specs.FaultText.{fault_text, fault_word, place_text}
+use Rattle.seat_share.specs.declared.method.ShareFault.TheVariants.{NoParties, TooManyVotes}
+use Rattle.vote_cli.specs.FaultText.{fault_text, place_text}
 use Rattle.preflib_text.specs.declared.fault.FaultName.TheVariants as name
 use Rattle.preflib_text.specs.declared.pick.Pick.{Pick}
 use Rattle.preflib_text.specs.declared.pick.Way.TheVariants.{Usual}
 use Rattle.preflib_text.specs.Lines.{pieces_of, without_return, trim_start}
 use Rattle.preflib_text.specs.Reading.{Reads, at_end, at_line}
-use Rattle.preflib_text.specs.BallotTokens.{ballot_of, order_at, tokens_after}
+use Rattle.preflib_text.specs.Steps.Tokens.{ballot_of, order_at, tokens_after}
 use Rattle.preflib_text.specs.Metadata.{words_of}
 use Rattle.preflib_text.proofs.BallotLines.{ballot_of_reads}
 
@@ -67,15 +70,19 @@ answer_to_one : election_answer (Scored (Thiele Av)) 1 three ≡ record { text =
 unfolding digits lists_of increments
 answer_to_one = refl
 
-answer_to_four : election_answer (Scored (Thiele Av)) 4 three ≡ misfit (codes "SizeTooLarge")
+answer_to_four : election_answer (Scored (Thiele Av)) 4 three ≡ request_refused (codes "SizeTooLarge")
 answer_to_four = refl
 
 -- a list that falls is no committee
 falling : IsIncreasing 1 3 (3 ∷ 1 ∷ []) → ⊥
 falling h = omega (arith, h.2.0)
 
-answer_to_falling : IsCheckAnswer Jr (3 ∷ 1 ∷ []) three (misfit (codes "CommitteeMisfit"))
-answer_to_falling = inl (falling, refl)
+answer_to_falling : IsCheckAnswer Jr (3 ∷ 1 ∷ []) three (request_refused (codes "CommitteeMisfit"))
+answer_to_falling = inl ((λ committee. falling committee.order), refl)
+
+-- neither are 41 candidates
+too_many : IsCommittee 64 (range_with_len 1 41) → ⊥
+too_many committee = omega (arith, committee.few)
 
 -- 1 and 3 stand for all voters
 one_and_three : IsIncreasing 1 3 (1 ∷ 3 ∷ [])
@@ -91,7 +98,7 @@ all_stand (suc zero) least most some = no_group Jr three (1 ∷ 3 ∷ []) 1 one_
 all_stand (suc (suc level)) least most some = above_greatest Jr three (1 ∷ 3 ∷ []) (suc (suc level)) most (omega arith) some
 
 answer_to_holds : IsCheckAnswer Jr (1 ∷ 3 ∷ []) three (answered (line (codes "holds")))
-answer_to_holds = inr (inl (one_and_three, all_stand, refl))
+answer_to_holds = inr (inl (record { order = one_and_three; few = lit≤ tt }, all_stand, refl))
 
 -- three voters approve 1 and 2, and one approves 3 and 4: the committee of 3 and 4 leaves three of four with nobody
 divided : Election
@@ -111,24 +118,24 @@ report = record { low = lit≤ tt; high = lit≤ tt; breaks = its_group_breaks; 
 answer_to_violated : IsCheckAnswer Jr (3 ∷ 4 ∷ []) divided (violated
     (line (codes "violated jr") ++ line (codes "level 1") ++ line (codes "candidates 1") ++ line (codes "voters 3 of 4") ++ line (codes "3: 1,2")))
 unfolding divided digits
-answer_to_violated = inr (inr ((lit≤ tt, lit≤ tt, (lit≤ tt, lit≤ tt, tt)), (shown, report, refl)))
+answer_to_violated = inr (inr (record { order = (lit≤ tt, lit≤ tt, (lit≤ tt, lit≤ tt, tt)); few = lit≤ tt }, (shown, report, refl)))
 
 -- seats by votes, and by ballots: the ballot for 1 and 2 is for no one party
 answer_to_votes : share_answer Dhondt 2 (3 ∷ 1 ∷ []) ≡ answered (line (codes "method dhondt") ++ line (codes "seats 2") ++ line (codes "2,0") ++ line (codes "end"))
 unfolding digits lists_with_sum
 answer_to_votes = refl
 
-answer_to_no_votes : share_answer Dhondt 2 (0 ∷ 0 ∷ []) ≡ misfit (codes "NoVotes")
+answer_to_no_votes : share_answer Dhondt 2 (0 ∷ 0 ∷ []) ≡ request_refused (codes "NoVotes")
 answer_to_no_votes = refl
 
-answer_to_many : ballots_answer Dhondt 2 three ≡ misfit (codes "ManyApproved")
+answer_to_many : ballots_answer Dhondt 2 three ≡ request_refused (codes "ManyApproved")
 answer_to_many = refl
 
-fault_answers : (share_answer_by (Some TooManyVotes) [] ≡ misfit (codes "TooManyVotes")) × (share_answer_by None (codes "a") ≡ answered (codes "a"))
+fault_answers : (share_answer_by (Some TooManyVotes) [] ≡ request_refused (codes "TooManyVotes")) × (share_answer_by None (codes "a") ≡ answered (codes "a"))
 fault_answers = (refl, refl)
 
-words_of_misfits : (misfit_word refusal_words.ManyApproved ≡ codes "ManyApproved") × (misfit_word (refusal_words.Share NoParties) ≡ codes "NoParties") × (share_word BadSeats ≡ codes "BadSeats")
-words_of_misfits = (refl, refl, refl)
+words_of_request_faults : (request_fault_word request_fault.ManyApproved ≡ codes "ManyApproved") × (request_fault_word (request_fault.Share NoParties) ≡ codes "NoParties")
+words_of_request_faults = (refl, refl)
 
 votes_in_words : (has_votes (sharing Dhondt 2 (Some (1 ∷ []))) ≡ true) × (has_votes (sharing Dhondt 2 None) ≡ false)
 votes_in_words = (refl, refl)
@@ -147,9 +154,9 @@ fault_texts : (fault_text (at_line 20 name.BadBallot) ≡ codes "committees: inp
 unfolding digits
 fault_texts = (refl, refl)
 
-fault_parts : (place_text (Some 7) ≡ codes " line 7: ") × (place_text None ≡ codes ": ") × (fault_word name.PickMisfit ≡ codes "PickMisfit")
+fault_parts : (place_text (Some 7) ≡ codes " line 7: ") × (place_text None ≡ codes ": ")
 unfolding digits
-fault_parts = (refl, refl, refl)
+fault_parts = (refl, refl)
 
 -- the bytes of a file, and no bytes
 abbrev example_text : List ℕ
@@ -163,11 +170,11 @@ pub reads_nothing : Reads [] usual (Err (at_end name.NoAlternatives))
 unfolding pieces_of
 reads_nothing = (ballot_of, ballot_of_reads, refl)
 
-right_answer : IsAnswer (seats 4) example_text (misfit (codes "SizeTooLarge"))
+right_answer : IsAnswer (seats 4) example_text (request_refused (codes "SizeTooLarge"))
 right_answer = (Ok three, reads_three, refl)
 
 -- with votes in the words the bytes do not matter
-right_share : IsAnswer (asking (sharing Dhondt 2 (Some (0 ∷ 0 ∷ [])))) example_text (misfit (codes "NoVotes"))
+right_share : IsAnswer (asking (sharing Dhondt 2 (Some (0 ∷ 0 ∷ [])))) example_text (request_refused (codes "NoVotes"))
 right_share = refl
 
 lines : (memory_line ≡ codes "committees: memory" ++ 10 ∷ []) × (read_failed_line ≡ codes "committees: read failed" ++ 10 ∷ [])
@@ -193,19 +200,51 @@ reported = record { beginning = (line (codes "a"), [], refl, refl); whole = λ u
 reported_in_part : Reports (Some []) (Some (codes "a")) true (line (codes "a"))
 reported_in_part = record { beginning = (codes "a", 10 ∷ [], refl, refl); whole = λ unfailed. absurd (both_ways true unfailed refl) }
 
--- 3 is printed behind 1 and 2, of which 1 is sent
-printed : Prints (outlet (Some []) (1 ∷ 2 ∷ []) false) (outlet (Some (1 ∷ [])) (2 ∷ 3 ∷ []) false) true (3 ∷ [])
-printed = record { sent = 1 ∷ []; rest = 2 ∷ 3 ∷ []; order = refl; took = refl; whole = λ ok. (refl, refl); broken = λ ok. absurd (both_ways true ok refl) }
+-- a writer as the bytes that it took, and whether a call on it has failed
+abbrev Taken : Type 0
+Taken = List ℕ × Bool
 
--- a write of 1, 2 and 3 breaks off behind 1
-printed_in_part : Prints (outlet (Some []) (1 ∷ 2 ∷ []) false) (outlet (Some (1 ∷ [])) [] true) false (3 ∷ [])
-printed_in_part = record { sent = 1 ∷ []; rest = 2 ∷ 3 ∷ []; order = refl; took = refl; whole = λ ok. absurd (both_ways false refl ok); broken = λ ok. refl }
+abbrev taken : Taken → Option (List ℕ)
+taken writer = Some writer.0
+
+abbrev is_broken : Taken → Bool
+is_broken writer = writer.1
+
+-- a printer over such a writer, with what waits
+abbrev printer : MutBor Taken → Taken → List ℕ → Printer Taken
+printer out writer waiting = record { out = record out { now = writer }; pending = waiting }
+
+-- 3 is printed after 1 and 2, of which 1 is sent
+printed : (out : MutBor Taken)
+    → Prints taken is_broken (printer out ([], false) (1 ∷ 2 ∷ [])) (printer out (1 ∷ [], false) (2 ∷ 3 ∷ [])) true (3 ∷ [])
+printed out = record {
+  same_writer = refl;
+  passed = record {
+    sent = 1 ∷ [];
+    rest = 2 ∷ 3 ∷ [];
+    order = refl;
+    took = refl;
+    whole = λ ok. (refl, refl);
+    broken = λ ok. absurd (both_ways true ok refl);
+  };
+}
+
+-- a write of 1, 2 and 3 breaks off after 1
+sent_in_part : Sends taken is_broken ([], false) (1 ∷ [], true) false (1 ∷ 2 ∷ 3 ∷ [])
+sent_in_part = record {
+  sent = 1 ∷ [];
+  rest = 2 ∷ 3 ∷ [];
+  order = refl;
+  took = refl;
+  whole = λ ok. absurd (both_ways false refl ok);
+  broken = λ ok. refl;
+}
 
 -- ---- statuses
 status_codes : (code_of Answered ≡ 0) × (code_of Violated ≡ 1) × (code_of InputRefused ≡ 3) × (code_of RequestRefused ≡ 4) × (code_of NoMemory ≡ 5) × (code_of DeviceFailed ≡ 6)
 status_codes = (refl, refl, refl, refl, refl, refl)
 
-refusals : (status_of (refusal.Input (at_end name.NoAlternatives)) ≡ InputRefused) × (status_of refusal.WriteFailed ≡ DeviceFailed) × (error_of (refusal.Request refusal_words.ManyApproved) ≡ line (codes "committees: request: ManyApproved"))
+refusals : (status_of (refusal.Input (at_end name.NoAlternatives)) ≡ InputRefused) × (status_of refusal.WriteFailed ≡ DeviceFailed) × (error_of (refusal.Request request_fault.ManyApproved) ≡ line (codes "committees: request: ManyApproved"))
 refusals = (refl, refl, refl)
 
 refusals_of_faults : (IsRefusal (at_line 4 name.BadCount) (refusal.Input (at_line 4 name.BadCount))) × (IsRefusal (at_line 4 name.Memory) refusal.Memory)
@@ -216,10 +255,10 @@ right_of_one : IsAnswer (seats 1) example_text (answered text)
 unfolding digits lists_of increments
 right_of_one = (Ok three, reads_three, refl)
 
-ends_answered : Ends (seats 1) example_text (Some []) (Some text) (Some []) (Some []) false Answered
+ends_answered : Ends (seats 1) example_text (Some []) (Some text) (Some []) (Some []) false false false false false Answered
 ends_answered = record { answer = answered text; right = right_of_one; status_is = refl; text = refl; error = record { beginning = ([], [], refl, refl); whole = λ unfailed. refl } }
 
-ends_refused : Ends (seats 1) [] (Some []) (Some []) (Some []) (Some (line (codes "committees: input: NoAlternatives"))) false InputRefused
+ends_refused : Ends (seats 1) [] (Some []) (Some []) (Some []) (Some (line (codes "committees: input: NoAlternatives"))) false false false false false InputRefused
 ends_refused = record {
   answer = refused InputRefused (codes "committees: input: NoAlternatives");
   right = (Err (at_end name.NoAlternatives), reads_nothing, refl);
@@ -228,36 +267,46 @@ ends_refused = record {
   error = record { beginning = (line (codes "committees: input: NoAlternatives"), [], refl, refl); whole = λ unfailed. refl };
 }
 
-ends_without_memory : Ends (seats 1) [] (Some []) (Some []) (Some []) (Some memory_line) false NoMemory
+ends_without_memory : Ends (seats 1) [] (Some []) (Some []) (Some []) (Some memory_line) false false false false false NoMemory
 ends_without_memory = record { nothing = refl; error = record { beginning = (memory_line, [], refl, refl); whole = λ unfailed. refl } }
 
 -- a read failed, and the line on it was not taken whole
-ends_unread : Ends (seats 1) [] (Some []) (Some []) (Some []) (Some (codes "committees")) true DeviceFailed
-ends_unread = inl (record { nothing = refl; error = record { beginning = (codes "committees", codes ": read failed" ++ 10 ∷ [], refl, refl); whole = λ unfailed. absurd (both_ways true unfailed refl) } })
+ends_unread : Ends (seats 1) [] (Some []) (Some []) (Some []) (Some (codes "committees")) true false true false false DeviceFailed
+ends_unread = inl ((refl, refl), record { nothing = refl; error = record { beginning = (codes "committees", codes ": read failed" ++ 10 ∷ [], refl, refl); whole = λ unfailed. absurd (both_ways true unfailed refl) } })
 
--- a write failed behind the first line
-ends_in_part : Ends (seats 1) example_text (Some []) (Some (line (codes "rule av"))) (Some []) (Some write_failed_line) false DeviceFailed
-ends_in_part = inr (record {
-  answer = answered text;
-  right = right_of_one;
-  text = (line (codes "rule av"), line (codes "size 1") ++ line (codes "score 2/1") ++ line (codes "1") ++ line (codes "2") ++ line (codes "end"), refl, refl);
-  error = record { beginning = (write_failed_line, [], refl, refl); whole = λ unfailed. refl };
-})
+-- a write failed after the first line
+ends_in_part : Ends (seats 1) example_text (Some []) (Some (line (codes "rule av"))) (Some []) (Some write_failed_line) false false false false true DeviceFailed
+ends_in_part = inr (
+  (refl, refl),
+  record {
+    answer = answered text;
+    right = right_of_one;
+    text = (line (codes "rule av"), line (codes "size 1") ++ line (codes "score 2/1") ++ line (codes "1") ++ line (codes "2") ++ line (codes "end"), refl, refl);
+    error = record { beginning = (write_failed_line, [], refl, refl); whole = λ unfailed. refl };
+  },
+)
 
-devices_told : (TellsOf DeviceFailed false false false true) × (TellsOf Answered false false true true)
-devices_told = (refl, (refl, refl))
+-- only the writer failed, and nothing failed after an earlier failure of the writer
+devices_told : (TellsOf DeviceFailed false false false true (λ said. said ≡ write_failed_line)) × (TellsOf Answered false false true true (λ said. ⊥))
+devices_told = (inr ((refl, refl), refl), (refl, refl))
+
+all_read : (ReadsAll Answered (Some (1 ∷ [])) (Some [])) × (ReadsOn {T = ℕ} (Some (1 ∷ [])) (Some []) (Err refusal.WriteFailed))
+all_read = (refl, refl)
+
+input_of_demands : (input_for (sharing Dhondt 2 (Some (1 ∷ []))) None ≡ Some []) × (input_for (sharing Dhondt 2 None) (Some (1 ∷ [])) ≡ Some (1 ∷ []))
+input_of_demands = (refl, refl)
 
 refusals_told : (TellsOfReads {T = ℕ} false true (Err refusal.ReadFailed)) × (TellsOfReads {T = ℕ} false false (Err refusal.Memory)) × (TellsOfWrites {T = ℕ} false true (Err refusal.WriteFailed)) × (TellsOfWrites {T = ℕ} false false (Ok 1))
 refusals_told = (refl, refl, refl, refl)
 
-prepared : (Prepares usual example_text (Ok three)) × (Prepares usual [] (Err (refusal.Input (at_end name.NoAlternatives)))) × (Prepares usual [] (Err refusal.Memory))
+prepared : (ReadsBallots usual example_text (Ok three)) × (ReadsBallots usual [] (Err (refusal.Input (at_end name.NoAlternatives)))) × (ReadsBallots usual [] (Err refusal.Memory))
 prepared = (reads_three, reads_nothing, tt)
 
-concluded : Concludes (IsAnswer (seats 4) example_text) (Some []) (Some []) (Err (refusal.Request refusal_words.SizeTooLarge))
+concluded : WritesRight (IsAnswer (seats 4) example_text) (Some []) (Some []) (Err (refusal.Request request_fault.SizeTooLarge))
 concluded = (right_answer, refl)
 
-concluded_whole : Concludes (λ answer. answer ≡ answered (codes "a")) (Some []) (Some (codes "a")) (Ok verdict.Answered)
+concluded_whole : WritesRight (λ answer. answer ≡ answered (codes "a")) (Some []) (Some (codes "a")) (Ok outcome.Answered)
 concluded_whole = (codes "a", refl, refl)
 
-written_whole : (IsWritten verdict.Answered (Ok (record {})) (Ok verdict.Answered)) × (IsWritten verdict.Violated (Err (record {})) (Err refusal.WriteFailed)) × (verdict_status verdict.Violated ≡ Violated)
+written_whole : (IsWritten outcome.Answered (Ok (record {})) (Ok outcome.Answered)) × (IsWritten outcome.Violated (Err (record {})) (Err refusal.WriteFailed)) × (outcome_status outcome.Violated ≡ Violated)
 written_whole = (refl, refl, refl)

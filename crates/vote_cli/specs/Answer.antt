@@ -1,6 +1,8 @@
 -- The answer to a request and an input, and what a run leaves.
-use Rattle.std.specs.Prelude.{◌≡◌, ◌⊎◌, ◌||◌, ◌++◌, ℕ, Bool, true, false, List, [], Option, Some, None, Result, MatchResult, codes, nat_lt, if◌then◌else◌}
+use Rattle.std.specs.Prelude.{◌≡◌, ◌⊎◌, ◌≤◌, ◌++◌, ℕ, length, Bool, true, false, List}
+use Rattle.std.specs.Prelude.{[], Option, Some, None, Result, IfSome, MatchResult, codes, nat_lt, if◌then◌else◌}
 use Rattle.std.specs.Io.KnownBytes.{Appends}
+use Rattle.ballot_base.specs.Limits.{most_members}
 use Rattle.ballot_base.specs.Lists.{IsIncreasing}
 use Rattle.ballot_base.specs.Ballots.{Election}
 use Rattle.group_check.specs.Groups.{HasProperty}
@@ -10,21 +12,22 @@ use Rattle.group_check.specs.declared.property.Violation.{Violation}
 use Rattle.preflib_text.specs.declared.fault.ReadFault.{ReadFault}
 use Rattle.preflib_text.specs.declared.pick.Pick.{Pick}
 use Rattle.preflib_text.specs.Reading.{Reads}
-use Rattle.seat_share.specs.Allocations.{allocations}
 use Rattle.seat_share.specs.Faults.{first_fault}
+use Rattle.seat_share.specs.Names.{share_fault_name}
 use Rattle.seat_share.specs.declared.method.Method.{Method}
 use Rattle.seat_share.specs.declared.method.ShareFault.{ShareFault}
 use Rattle.request_words.specs.declared.request.Rule.{Rule}
 use Rattle.vote_cli.specs.declared.status.Status.{Status}
-use Rattle.vote_cli.specs.declared.status.Status.TheVariants.{Answered, Violated, InputRefused, RequestRefused, NoMemory, DeviceFailed}
+use Rattle.vote_cli.specs.declared.status.Status.TheVariants.{Answered, Violated, InputRefused}
+use Rattle.vote_cli.specs.declared.status.Status.TheVariants.{RequestRefused, NoMemory, DeviceFailed}
 use Rattle.request_words.specs.Request.{Asked, Demand, electing, checking, sharing}
 use Rattle.vote_cli.specs.Device.{AppendsBeginning}
+use Rattle.vote_cli.specs.ElectText.{elect_text}
 use Rattle.vote_cli.specs.FaultText.{fault_text}
-use Rattle.vote_cli.specs.Misfits.{share_word}
 use Rattle.vote_cli.specs.Parties.{has_many_approved, party_votes}
-use Rattle.vote_cli.specs.ReportText.{holds_text, violation_text}
+use Rattle.vote_cli.specs.CheckText.{holds_text, violation_text}
 use Rattle.vote_cli.specs.ShareText.{share_text}
-use Rattle.vote_cli.specs.Text.{line, elected_text}
+use Rattle.vote_cli.specs.Text.{line}
 
 -- the text, the status, and the error line with its end, or nothing where there is none
 pub record Answer : Type 0 where
@@ -44,35 +47,42 @@ abbrev pub refused : Status → List ℕ → Answer
 refused status error = record { text = []; status = status; error = line error }
 
 -- the refusal of a request that does not fit
-abbrev pub misfit : List ℕ → Answer
-misfit word = refused RequestRefused (codes "committees: request: " ++ word)
+abbrev pub request_refused : List ℕ → Answer
+request_refused word = refused RequestRefused (codes "committees: request: " ++ word)
 
 -- ---- by what is asked for
 
 -- the winners of an election
 abbrev pub election_answer : Rule → ℕ → Election → Answer
 election_answer rule size election =
-    if nat_lt election.m size then misfit (codes "SizeTooLarge") else answered (elected_text rule size election)
+    if nat_lt election.m size then request_refused (codes "SizeTooLarge") else answered (elect_text rule size election)
+
+-- the list is a committee of candidates 1 to m, in increasing order, and no larger than one that may be elected
+pub record IsCommittee (m : ℕ) (list : List ℕ) : Type 0 where
+  pub order : IsIncreasing 1 m list
+  pub few : length list ≤ most_members
 
 -- whether the committee of a list has a property, or the report that shows that it has not
 abbrev pub IsCheckAnswer : Property → List ℕ → Election → Answer → Type 0
 IsCheckAnswer property list election answer =
-    ((IsIncreasing 1 election.m list → ⊥) × (answer ≡ misfit (codes "CommitteeMisfit")))
-    ⊎ (IsIncreasing 1 election.m list × HasProperty property election list × (answer ≡ answered holds_text))
-    ⊎ (IsIncreasing 1 election.m list × ((report : Violation) × IsReport property election list report × (answer ≡ violated (violation_text report election))))
+    ((IsCommittee election.m list → ⊥) × (answer ≡ request_refused (codes "CommitteeMisfit")))
+    ⊎ (IsCommittee election.m list × HasProperty property election list × (answer ≡ answered holds_text))
+    ⊎ (IsCommittee election.m list × ((report : Violation) × IsReport property election list report
+    × (answer ≡ violated (violation_text report election))))
 
 -- the fair allocations of seats to parties with these votes
 abbrev pub share_answer_by : Option ShareFault → List ℕ → Answer
-share_answer_by (Some fault) text = misfit (share_word fault)
+share_answer_by (Some fault) text = request_refused (share_fault_name fault)
 share_answer_by None text = answered text
 
 abbrev pub share_answer : Method → ℕ → List ℕ → Answer
-share_answer method seats votes = share_answer_by (first_fault votes seats) (share_text method seats (allocations method votes seats))
+share_answer method seats votes = share_answer_by (first_fault votes seats None) (share_text method seats votes)
 
 -- the same, where a voter counts for the one party that the ballot approves
 abbrev pub ballots_answer : Method → ℕ → Election → Answer
 ballots_answer method seats election =
-    if has_many_approved election then misfit (codes "ManyApproved") else share_answer method seats (party_votes election)
+    if has_many_approved election then request_refused (codes "ManyApproved")
+    else share_answer method seats (party_votes election)
 
 -- the answer to what the bytes hold: one that is right of the election, or the line of their first fault
 abbrev pub IsAnswerOver : (Election → Answer → Type 0) → Pick → List ℕ → Answer → Type 0
@@ -95,6 +105,10 @@ abbrev pub has_votes : Demand → Bool
 has_votes (sharing method seats (Some votes)) = true
 has_votes demand = false
 
+-- the bytes that an answer is about, where they are known: none where the votes stand in the words
+abbrev pub input_for : Demand → Option (List ℕ) → Option (List ℕ)
+input_for demand remaining = if has_votes demand then Some [] else remaining
+
 -- ---- what a run leaves
 
 -- what a writer of errors took of a line: a beginning, and all of it where no call failed
@@ -112,7 +126,19 @@ read_failed_line = line (codes "committees: read failed")
 abbrev pub write_failed_line : List ℕ
 write_failed_line = line (codes "committees: write failed")
 
--- What two writers took in a run that ended with this status, over the bytes that were there to read.
+-- a call of the reader has failed, and none of the writer in this run
+abbrev pub BlamesReader : Bool → Bool → Bool → Bool → Type 0
+BlamesReader read_old read_new out_old out_new = (read_new ≡ true) × (out_new ≡ out_old)
+
+-- a call of the writer has failed, and none of the reader in this run
+abbrev pub BlamesWriter : Bool → Bool → Bool → Bool → Type 0
+BlamesWriter read_old read_new out_old out_new = (read_new ≡ read_old) × (out_new ≡ true)
+
+-- no call failed in this run
+abbrev pub BlamesNobody : Bool → Bool → Bool → Bool → Type 0
+BlamesNobody read_old read_new out_old out_new = (read_new ≡ read_old) × (out_new ≡ out_old)
+
+-- What two writers took in a run that ended with this status, over the bytes of the input.
 module _ (asked : Asked) (bytes : List ℕ) (out_old out_new err_old err_new : Option (List ℕ)) (err_failed : Bool) where
   -- all of the answer
   pub record WritesAnswer (status : Status) : Type 0 where
@@ -134,13 +160,30 @@ module _ (asked : Asked) (bytes : List ℕ) (out_old out_new err_old err_new : O
     pub text : AppendsBeginning out_old out_new answer.text
     pub error : Reports err_old err_new err_failed write_failed_line
 
-  abbrev pub Ends : Status → Type 0
-  Ends NoMemory = WritesNothing memory_line
-  Ends DeviceFailed = WritesNothing read_failed_line ⊎ WritesBeginning
-  Ends status = WritesAnswer status
+  -- Where a device failed, it is the one that the line names: after a failed read nothing was written, and after a
+  -- failed write a beginning.
+  abbrev pub Ends : Bool → Bool → Bool → Bool → Status → Type 0
+  Ends read_old read_new wrote_old wrote_new NoMemory = WritesNothing memory_line
+  Ends read_old read_new wrote_old wrote_new DeviceFailed =
+      (BlamesReader read_old read_new wrote_old wrote_new × WritesNothing read_failed_line)
+      ⊎ (BlamesWriter read_old read_new wrote_old wrote_new × WritesBeginning)
+  Ends read_old read_new wrote_old wrote_new status = WritesAnswer status
 
--- What the reader and the first writer tell of failures after a run that ended with this status. A status of failed
--- devices comes only where one of them has failed, and any other only where no call failed in the run.
-abbrev pub TellsOf : Status → Bool → Bool → Bool → Bool → Type 0
-TellsOf DeviceFailed read_old read_new out_old out_new = (read_new || out_new) ≡ true
-TellsOf status read_old read_new out_old out_new = (read_new ≡ read_old) × (out_new ≡ out_old)
+-- What the devices tell after a run that ended with this status, whether or not they tell their bytes: which of them
+-- failed, where one did, and the line on it.
+abbrev pub TellsOf : Status → Bool → Bool → Bool → Bool → (List ℕ → Type 0) → Type 0
+TellsOf DeviceFailed read_old read_new out_old out_new Says =
+    (BlamesReader read_old read_new out_old out_new × Says read_failed_line)
+    ⊎ (BlamesWriter read_old read_new out_old out_new × Says write_failed_line)
+TellsOf status read_old read_new out_old out_new Says = BlamesNobody read_old read_new out_old out_new
+
+-- a reader that told its bytes before has none left
+abbrev pub IsAllRead : Option (List ℕ) → Option (List ℕ) → Type 0
+IsAllRead before after = IfSome before (λ bytes. after ≡ Some [])
+
+-- a run that ended with this status has read its input to the end, whatever stands in it, but where memory ran out or a
+-- device failed
+abbrev pub ReadsAll : Status → Option (List ℕ) → Option (List ℕ) → Type 0
+ReadsAll NoMemory before after = Unit {0}
+ReadsAll DeviceFailed before after = Unit {0}
+ReadsAll status before after = IsAllRead before after

@@ -1,12 +1,12 @@
 pub mod Answer
+pub mod CheckText
 pub mod Device
+pub mod ElectText
 pub mod FaultText
-pub mod Input
-pub mod Misfits
+pub mod Listing
 pub mod Parties
-pub mod Printing
-pub mod Refusals
-pub mod ReportText
+pub mod RuleValues
 pub mod ShareText
 pub mod Status
+pub mod Steps
 pub mod Text

@@ -1,7 +1,8 @@
 -- The exit statuses of the program.
 use Rattle.std.specs.Prelude.{ℕ}
 use Rattle.vote_cli.specs.declared.status.Status.{Status}
-use Rattle.vote_cli.specs.declared.status.Status.TheVariants.{Answered, Violated, InputRefused, RequestRefused, NoMemory, DeviceFailed}
+use Rattle.vote_cli.specs.declared.status.Status.TheVariants.{Answered, Violated, InputRefused}
+use Rattle.vote_cli.specs.declared.status.Status.TheVariants.{RequestRefused, NoMemory, DeviceFailed}
 
 -- the exit status; 2, for words that were refused, is the program's alone
 abbrev pub code_of : Status → ℕ

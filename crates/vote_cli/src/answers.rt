@@ -1,15 +1,17 @@
 //! The answers to what a request asks for, about ballots that were read.
 ghost use Rattle.std.specs.Prelude.{◌≡◌, ◌≢◌, ◌≤◌, [], Err};
+ghost use Rattle.ballot_base.specs.Limits.{most_members};
 ghost use Rattle.vote_cli.specs.Answer.{IsCheckAnswer, ballots_answer, election_answer, share_answer};
-ghost use Rattle.vote_cli.specs.Refusals.{Concludes, IsWritten, TellsOfWrites, verdict_status};
+ghost use Rattle.vote_cli.specs.Steps.Refusals.{WritesRight, IsWritten, TellsOfWrites, outcome_status};
 
-use crate::checked::{committee_of, print_holds, print_violation};
+use crate::check_text::{write_holds, write_violation};
+use crate::committee::committee_of;
 use crate::device::Sink;
-use crate::elected::{print_scored, print_sequential};
+use crate::elect_text::{write_scored, write_sequential};
 use crate::parties::votes_of;
 use crate::printing::WriteFailed;
-use crate::refusal::{Misfit, Refusal};
-use crate::shared::print_shares;
+use crate::refusal::{Refusal, RequestFault};
+use crate::share_text::write_shares;
 use crate::status::Status;
 use ballot_base::Profile;
 use group_check::{Property, find_violation};
@@ -20,20 +22,20 @@ use tie_walk::SeqWinners;
 
 /// What an answer that was written says.
 #[derive(Clone, Copy, Debug, PartialEq, Eq)]
-pub(crate) enum Verdict {
+pub(crate) enum Outcome {
     /// It is the answer.
     Answered,
     /// It is the report of a property that does not hold.
     Violated,
 }
 
-impl Verdict {
+impl Outcome {
     pub(crate) fn status(self) -> Status
-        ensures { result ≡ verdict_status self }
+        ensures { result ≡ outcome_status self }
     {
         match self {
-            Verdict::Answered => Status::Answered,
-            Verdict::Violated => Status::Violated,
+            Outcome::Answered => Status::Answered,
+            Outcome::Violated => Status::Violated,
         }
     }
 }
@@ -45,22 +47,23 @@ pub(crate) fn answer_election<A: Allocator + Copy + Drop, W: Sink>(
     profile: &Profile<A>,
     rule: Rule,
     size: u8,
-) -> Result<Verdict, Refusal>
+) -> Result<Outcome, Refusal>
     requires least { 1 ≤ size }
-    requires most { size ≤ 40 }
-    ensures answer { Concludes (λ answer. answer ≡ election_answer rule size profile.now) (W.contents out.old) (W.contents out.new) result }
+    requires most { size ≤ most_members }
+    ensures answer { WritesRight (λ answer. answer ≡ election_answer rule size profile.now)
+        (W.contents out.old) (W.contents out.new) result }
     ensures writes { TellsOfWrites (W.has_failed out.old) (W.has_failed out.new) result }
     ensures unread { result ≢ Err Refusal.ReadFailed }
 {
     if size > profile.m() {
-        return Err(Refusal::Request(Misfit::SizeTooLarge));
+        return Err(Refusal::Request(RequestFault::SizeTooLarge));
     }
     match rule {
-        Rule::Scored(rule) => written(print_scored(out, profile, rule, size), Verdict::Answered),
+        Rule::Scored(rule) => written(write_scored(out, profile, rule, size), Outcome::Answered),
         Rule::Sequential(rule) => match SeqWinners::new(alloc, profile, rule, size, None) {
             Ok(winners) => written(
-                print_sequential(out, winners, rule, size),
-                Verdict::Answered,
+                write_sequential(out, winners, rule, size),
+                Outcome::Answered,
             ),
             Err(_) => Err(Refusal::Memory),
         },
@@ -73,19 +76,20 @@ pub(crate) fn answer_check<A: Allocator + Copy, W: Sink>(
     profile: &Profile<A>,
     property: Property,
     list: &[u64],
-) -> Result<Verdict, Refusal>
+) -> Result<Outcome, Refusal>
     requires some { list.now ≢ [] }
-    ensures answer { Concludes (IsCheckAnswer property list.now profile.now) (W.contents out.old) (W.contents out.new) result }
+    ensures answer { WritesRight (IsCheckAnswer property list.now profile.now)
+        (W.contents out.old) (W.contents out.new) result }
     ensures writes { TellsOfWrites (W.has_failed out.old) (W.has_failed out.new) result }
     ensures unread { result ≢ Err Refusal.ReadFailed }
     ensures memory { result ≢ Err Refusal.Memory }
 {
     let Some(committee) = committee_of(list, profile.m()) else {
-        return Err(Refusal::Request(Misfit::CommitteeMisfit));
+        return Err(Refusal::Request(RequestFault::CommitteeMisfit));
     };
     match find_violation(profile, committee, property) {
-        None => written(print_holds(out), Verdict::Answered),
-        Some(violation) => written(print_violation(out, profile, &violation), Verdict::Violated),
+        None => written(write_holds(out), Outcome::Answered),
+        Some(violation) => written(write_violation(out, profile, &violation), Outcome::Violated),
     }
 }
 
@@ -95,15 +99,16 @@ pub(crate) fn answer_share<W: Sink>(
     votes: &[u64],
     method: Method,
     seats: u16,
-) -> Result<Verdict, Refusal>
-    ensures answer { Concludes (λ answer. answer ≡ share_answer method seats votes.now) (W.contents out.old) (W.contents out.new) result }
+) -> Result<Outcome, Refusal>
+    ensures answer { WritesRight (λ answer. answer ≡ share_answer method seats votes.now)
+        (W.contents out.old) (W.contents out.new) result }
     ensures writes { TellsOfWrites (W.has_failed out.old) (W.has_failed out.new) result }
     ensures unread { result ≢ Err Refusal.ReadFailed }
     ensures memory { result ≢ Err Refusal.Memory }
 {
     match Shares::new(votes, method, seats, None) {
-        Ok(shares) => written(print_shares(out, shares, method, seats), Verdict::Answered),
-        Err(fault) => Err(Refusal::Request(Misfit::Share(fault))),
+        Ok(shares) => written(write_shares(out, shares, method, seats), Outcome::Answered),
+        Err(fault) => Err(Refusal::Request(RequestFault::Share(fault))),
     }
 }
 
@@ -113,24 +118,25 @@ pub(crate) fn answer_share_of_ballots<A: Allocator + Copy, W: Sink>(
     profile: &Profile<A>,
     method: Method,
     seats: u16,
-) -> Result<Verdict, Refusal>
-    ensures answer { Concludes (λ answer. answer ≡ ballots_answer method seats profile.now) (W.contents out.old) (W.contents out.new) result }
+) -> Result<Outcome, Refusal>
+    ensures answer { WritesRight (λ answer. answer ≡ ballots_answer method seats profile.now)
+        (W.contents out.old) (W.contents out.new) result }
     ensures writes { TellsOfWrites (W.has_failed out.old) (W.has_failed out.new) result }
     ensures unread { result ≢ Err Refusal.ReadFailed }
     ensures memory { result ≢ Err Refusal.Memory }
 {
     match votes_of(profile) {
         Some(votes) => answer_share(out, votes.as_slice(), method, seats),
-        None => Err(Refusal::Request(Misfit::ManyApproved)),
+        None => Err(Refusal::Request(RequestFault::ManyApproved)),
     }
 }
 
-/// What a run ends with where this was printed: the verdict, or a failed write.
-fn written(printed: Result<(), WriteFailed>, verdict: Verdict) -> Result<Verdict, Refusal>
-    ensures { IsWritten verdict printed result }
+/// What a run ends with where this was printed: the outcome, or a failed write.
+fn written(printed: Result<(), WriteFailed>, outcome: Outcome) -> Result<Outcome, Refusal>
+    ensures { IsWritten outcome printed result }
 {
     match printed {
-        Ok(()) => Ok(verdict),
+        Ok(()) => Ok(outcome),
         Err(_) => Err(Refusal::WriteFailed),
     }
 }

@@ -1,6 +1,7 @@
 //! The whole input of a run.
 ghost use Rattle.std.specs.Prelude.{◌≡◌, IfOk, IfSome};
-ghost use Rattle.vote_cli.specs.Input.{TellsOfInput};
+ghost use Rattle.vote_cli.specs.Answer.{IsAllRead};
+ghost use Rattle.vote_cli.specs.Steps.Input.{TellsOfInput};
 
 use crate::device::Source;
 use std::alloc::Allocator;
@@ -23,6 +24,7 @@ pub(crate) fn read_to_end<A: Allocator, R: Source>(
     reader: &mut R,
 ) -> Result<Vec<u8, A>, InputFault>
     ensures bytes { IfOk result (λ input. IfSome (R.remaining reader.old) (λ bytes. input.items ≡ bytes)) }
+    ensures end { IfOk result (λ _. IsAllRead (R.remaining reader.old) (R.remaining reader.new)) }
     ensures failed { TellsOfInput (R.has_failed reader.old) (R.has_failed reader.new) result }
 {
     let mut input = Vec::new(alloc);

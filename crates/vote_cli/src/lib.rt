@@ -2,20 +2,23 @@
 #![tactic(auto)]
 
 mod answers;
-mod checked;
+mod check_text;
+mod committee;
 pub mod device;
-mod elected;
+mod elect_text;
 mod fault_text;
 mod input;
+pub mod laws;
+mod listing;
 mod numbers;
 mod parties;
 mod printing;
 mod refusal;
-mod shared;
+pub mod run_request;
+mod share_text;
 pub mod status;
-pub mod whole_run;
 
 pub use device::{Device, Sink, Source, Told};
 pub use request_words::{LineFault, ListOption, Request, Rule, ScoredRule, Task, read_request};
+pub use run_request::run;
 pub use status::Status;
-pub use whole_run::run;

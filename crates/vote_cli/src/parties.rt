@@ -2,28 +2,26 @@
 ghost use Rattle.std.specs.Prelude.{◌≡◌, IfSome, None, true, false};
 ghost use Rattle.vote_cli.specs.Parties.{has_many_approved, party_votes};
 
-use ballot_base::Profile;
+use ballot_base::{MOST_CANDIDATES, Profile};
 use std::alloc::Allocator;
 use std::marker::Model;
-
-/// The most parties.
-const MOST_PARTIES: usize = 40;
 
 /// The votes of each party, in the order of the parties.
 #[derive(Drop)]
 pub(crate) struct PartyVotes {
-    votes: [u64; MOST_PARTIES],
+    votes: [u64; MOST_CANDIDATES as usize],
     parties: usize,
 }
 
 impl Model for PartyVotes {
     ghost use Rattle.std.specs.Prelude.{ℕ, ◌≤◌, List, take};
+    ghost use Rattle.ballot_base.specs.Limits.{most_candidates};
 
     ghost Value = { List ℕ };
 
     ghost view = { λ votes. take votes.parties votes.votes };
 
-    ghost invariant = { λ votes. votes.parties ≤ 40 };
+    ghost invariant = { λ votes. votes.parties ≤ most_candidates };
 }
 
 impl PartyVotes {
@@ -39,9 +37,10 @@ impl PartyVotes {
 /// is empty. There is no answer where a ballot approves two or more. It takes no memory.
 pub(crate) fn votes_of<A: Allocator + Copy>(profile: &Profile<A>) -> Option<PartyVotes>
     ensures none { result ≡ None → has_many_approved profile.now ≡ true }
-    ensures some { IfSome result (λ votes. (has_many_approved profile.now ≡ false) × (votes ≡ party_votes profile.now)) }
+    ensures some { IfSome result (λ votes.
+        (has_many_approved profile.now ≡ false) × (votes ≡ party_votes profile.now)) }
 {
-    let mut votes = [0; MOST_PARTIES];
+    let mut votes = [0; MOST_CANDIDATES as usize];
     for i in 0..profile.rows() {
         let (ballot, voters) = profile.row(i);
         if ballot.len() > 1 {

@@ -1,12 +1,12 @@
 //! Text on its way to a writer: what a failed write leaves is a beginning of the text, and no byte is written twice.
-ghost use Rattle.std.specs.Prelude.{◌≡◌, ℕ, ◌+◌, ◌<◌, ◌≤◌, ◌++◌, List, [], flat_map, length, is_ok, true};
-ghost use Rattle.vote_cli.specs.Printing.{Prints, outlet};
+ghost use Rattle.std.specs.Prelude.{◌≡◌, ℕ, ◌+◌, ◌<◌, ◌≤◌, ◌++◌, List, [], flat_map, length, is_ok, true, false};
+ghost use Rattle.vote_cli.specs.Steps.Printing.{Prints, Sends};
 
 use crate::device::Sink;
 use std::marker::Model;
 
 /// How many bytes wait at most.
-const ROOM: usize = 4096;
+const ROOM: usize = 32768;
 
 /// A call of the writer failed.
 #[derive(Clone, Copy, Debug, PartialEq, Eq)]
@@ -14,27 +14,27 @@ pub(crate) struct WriteFailed;
 
 /// Bytes that wait until there are enough of them for a write.
 #[derive(Drop)]
-pub(crate) struct Waiting {
+pub(crate) struct Pending {
     bytes: [u8; ROOM],
     len: usize,
 }
 
-impl Model for Waiting {
+impl Model for Pending {
     ghost use Rattle.std.specs.Prelude.{ℕ, ◌≤◌, List, take};
 
     ghost Value = { List ℕ };
 
     ghost view = { λ waiting. take waiting.len waiting.bytes };
 
-    ghost invariant = { λ waiting. waiting.len ≤ 4096 };
+    ghost invariant = { λ waiting. waiting.len ≤ 32768 };
 }
 
-impl Waiting {
+impl Pending {
     /// No byte yet.
-    pub(crate) fn new() -> Waiting
+    fn new() -> Pending
         ensures { result ≡ [] }
     {
-        Waiting {
+        Pending {
             bytes: [0; ROOM],
             len: 0,
         }
@@ -42,46 +42,114 @@ impl Waiting {
 
     fn len(&self) -> usize
         ensures count { result ≡ length self.now }
-        ensures room { result ≤ 4096 }
+        ensures room { result ≤ ROOM }
     {
         self.len
     }
 
+    fn as_slice(&self) -> &[u8]
+        ensures { result.now ≡ self.now }
+    {
+        &self.bytes[..self.len]
+    }
+
+    fn clear(&mut self)
+        ensures { self.new ≡ [] }
+    {
+        self.len = 0;
+    }
+
     fn push(&mut self, bytes: &[u8])
-        requires { length self.old + length bytes.now ≤ 4096 }
+        requires { length self.old + length bytes.now ≤ ROOM }
         ensures { self.new ≡ self.old ++ bytes.now }
     {
         let end = self.len + bytes.len();
         self.bytes[self.len..end].copy_from_slice(bytes);
         self.len = end;
     }
+}
 
-    /// Writes what waits.
-    fn send<W: Sink>(&mut self, out: &mut W) -> Result<(), WriteFailed>
-        ensures sent { Prints (outlet (W.contents out.old) self.old (W.has_failed out.old)) (outlet (W.contents out.new) self.new (W.has_failed out.new)) (is_ok result) [] }
-        ensures none { is_ok result ≡ true → self.new ≡ [] }
+/// A writer, and what waits for it.
+#[derive(Drop)]
+pub(crate) struct Printer<'a, W> {
+    out: &'a mut W,
+    pending: Pending,
+}
+
+impl<'a, W: Sink> Printer<'a, W> {
+    /// A printer over the writer, with no byte yet.
+    pub(crate) fn new(out: &'a mut W) -> Printer<'a, W>
+        ensures same_writer { result.out.ghost_name ≡ out.entry.ghost_name }
+        ensures writer { result.out.now ≡ out.entry.now }
+        ensures nothing { result.pending ≡ [] }
     {
-        write_whole(out, &self.bytes[..self.len])?;
-        self.len = 0;
+        Printer {
+            out,
+            pending: Pending::new(),
+        }
+    }
+
+    /// Sends what waits.
+    pub(crate) fn send(&mut self) -> Result<(), WriteFailed>
+        ensures printed { Prints W.contents W.has_failed self.old self.new (is_ok result) [] }
+        ensures nothing { is_ok result ≡ true → self.new.pending ≡ [] }
+    {
+        write_whole(self.out, self.pending.as_slice())?;
+        self.pending.clear();
         Ok(())
     }
 
-    /// Writes what waits where `count` bytes more do not fit behind it.
-    fn make_room<W: Sink>(&mut self, out: &mut W, count: usize) -> Result<(), WriteFailed>
-        ensures sent { Prints (outlet (W.contents out.old) self.old (W.has_failed out.old)) (outlet (W.contents out.new) self.new (W.has_failed out.new)) (is_ok result) [] }
-        ensures room { is_ok result ≡ true → count ≤ 4096 → length self.new + count ≤ 4096 }
-        ensures none { is_ok result ≡ true → 4096 < count → self.new ≡ [] }
+    /// Sends what waits where `count` bytes more do not fit after it.
+    fn make_room(&mut self, count: usize) -> Result<(), WriteFailed>
+        ensures printed { Prints W.contents W.has_failed self.old self.new (is_ok result) [] }
+        ensures room { is_ok result ≡ true → count ≤ ROOM → length self.new.pending + count ≤ ROOM }
+        ensures nothing { is_ok result ≡ true → ROOM < count → self.new.pending ≡ [] }
     {
-        if count <= ROOM - self.len() {
+        if count <= ROOM - self.pending.len() {
             return Ok(());
         }
-        self.send(out)
+        self.send()
+    }
+
+    /// Prints the bytes after those that wait.
+    pub(crate) fn print(&mut self, bytes: &[u8]) -> Result<(), WriteFailed>
+        ensures { Prints W.contents W.has_failed self.old self.new (is_ok result) bytes.now }
+    {
+        self.make_room(bytes.len())?;
+        if bytes.len() > ROOM {
+            return write_whole(self.out, bytes);
+        }
+        self.pending.push(bytes);
+        Ok(())
+    }
+
+    /// Prints the pieces, one after the other.
+    pub(crate) fn print_all(&mut self, pieces: &[&[u8]]) -> Result<(), WriteFailed>
+        ensures { Prints W.contents W.has_failed self.old self.new (is_ok result)
+            (flat_map (λ piece. piece.now) pieces.now) }
+    {
+        for piece in pieces {
+            self.print(piece)?;
+        }
+        Ok(())
+    }
+
+    /// Sends what waits, and flushes the writer once.
+    pub(crate) fn finish(&mut self) -> Result<(), WriteFailed>
+        ensures printed { Prints W.contents W.has_failed self.old self.new (is_ok result) [] }
+        ensures nothing { is_ok result ≡ true → self.new.pending ≡ [] }
+    {
+        self.send()?;
+        match self.out.flush() {
+            Ok(()) => Ok(()),
+            Err(_) => Err(WriteFailed),
+        }
     }
 }
 
 /// Writes all of the bytes, in as many calls as it takes.
 pub(crate) fn write_whole<W: Sink>(out: &mut W, bytes: &[u8]) -> Result<(), WriteFailed>
-    ensures { Prints (outlet (W.contents out.old) [] (W.has_failed out.old)) (outlet (W.contents out.new) [] (W.has_failed out.new)) (is_ok result) bytes.now }
+    ensures { Sends W.contents W.has_failed out.old out.new (is_ok result) bytes.now }
 {
     let mut sent = 0;
     while sent < bytes.len() {
@@ -93,53 +161,11 @@ pub(crate) fn write_whole<W: Sink>(out: &mut W, bytes: &[u8]) -> Result<(), Writ
     Ok(())
 }
 
-/// Prints the bytes behind those that wait.
-pub(crate) fn print<W: Sink>(
-    out: &mut W,
-    waiting: &mut Waiting,
-    bytes: &[u8],
-) -> Result<(), WriteFailed>
-    ensures { Prints (outlet (W.contents out.old) waiting.old (W.has_failed out.old)) (outlet (W.contents out.new) waiting.new (W.has_failed out.new)) (is_ok result) bytes.now }
-{
-    waiting.make_room(out, bytes.len())?;
-    if bytes.len() > ROOM {
-        return write_whole(out, bytes);
-    }
-    waiting.push(bytes);
-    Ok(())
-}
-
-/// Writes what waits, and flushes the writer once.
-pub(crate) fn finish<W: Sink>(out: &mut W, waiting: &mut Waiting) -> Result<(), WriteFailed>
-    ensures printed { Prints (outlet (W.contents out.old) waiting.old (W.has_failed out.old)) (outlet (W.contents out.new) waiting.new (W.has_failed out.new)) (is_ok result) [] }
-    ensures none { is_ok result ≡ true → waiting.new ≡ [] }
-{
-    waiting.send(out)?;
-    match out.flush() {
-        Ok(()) => Ok(()),
-        Err(_) => Err(WriteFailed),
-    }
-}
-
-/// Prints the pieces, one behind the other.
-pub(crate) fn print_all<W: Sink>(
-    out: &mut W,
-    waiting: &mut Waiting,
-    pieces: &[&[u8]],
-) -> Result<(), WriteFailed>
-    ensures { Prints (outlet (W.contents out.old) waiting.old (W.has_failed out.old)) (outlet (W.contents out.new) waiting.new (W.has_failed out.new)) (is_ok result) (flat_map (λ piece. piece.now) pieces.now) }
-{
-    for piece in pieces {
-        print(out, waiting, piece)?;
-    }
-    Ok(())
-}
-
-/// Writes the pieces, one behind the other, and takes no memory for them.
+/// Writes the pieces, one after the other, and takes no memory for them.
 pub(crate) fn write_pieces<W: Sink>(out: &mut W, pieces: &[&[u8]]) -> Result<(), WriteFailed>
-    ensures { Prints (outlet (W.contents out.old) [] (W.has_failed out.old)) (outlet (W.contents out.new) [] (W.has_failed out.new)) (is_ok result) (flat_map (λ piece. piece.now) pieces.now) }
+    ensures { Sends W.contents W.has_failed out.old out.new (is_ok result) (flat_map (λ piece. piece.now) pieces.now) }
 {
-    let mut waiting = Waiting::new();
-    print_all(out, &mut waiting, pieces)?;
-    waiting.send(out)
+    let mut printer = Printer::new(out);
+    printer.print_all(pieces)?;
+    printer.send()
 }

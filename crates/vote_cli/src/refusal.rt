@@ -1,8 +1,8 @@
 //! Why a run ends with no answer, or with a part of one.
 ghost use Rattle.std.specs.Prelude.{◌≡◌, ◌++◌, [], codes, is_ok};
-ghost use Rattle.vote_cli.specs.Misfits.{misfit_word, share_word};
-ghost use Rattle.vote_cli.specs.Refusals.{IsRefusal, error_of, status_of};
-ghost use Rattle.vote_cli.specs.Printing.{Prints, outlet};
+ghost use Rattle.vote_cli.specs.Steps.RequestFaults.{request_fault_word};
+ghost use Rattle.vote_cli.specs.Steps.Refusals.{IsRefusal, error_of, status_of};
+ghost use Rattle.vote_cli.specs.Steps.Printing.{Sends};
 ghost use Rattle.vote_cli.specs.Text.{line};
 
 use crate::device::Sink;
@@ -14,10 +14,10 @@ use seat_share::ShareFault;
 
 /// Why a request does not fit the input, or its votes.
 #[derive(Clone, Copy, Debug, PartialEq, Eq)]
-pub(crate) enum Misfit {
+pub(crate) enum RequestFault {
     /// There are fewer candidates than seats.
     SizeTooLarge,
-    /// The list of a committee does not rise strictly, or has a number that is no candidate's.
+    /// The list of a committee does not rise strictly, has a number that is no candidate's, or has too many.
     CommitteeMisfit,
     /// Some ballot approves two candidates or more, so that it has no one party.
     ManyApproved,
@@ -25,28 +25,16 @@ pub(crate) enum Misfit {
     Share(ShareFault),
 }
 
-impl Misfit {
+impl RequestFault {
     fn word(self) -> &'static [u8]
-        ensures { result.now ≡ misfit_word self }
+        ensures { result.now ≡ request_fault_word self }
     {
         match self {
-            Misfit::SizeTooLarge => b"SizeTooLarge",
-            Misfit::CommitteeMisfit => b"CommitteeMisfit",
-            Misfit::ManyApproved => b"ManyApproved",
-            Misfit::Share(fault) => share_word_of(fault),
+            RequestFault::SizeTooLarge => b"SizeTooLarge",
+            RequestFault::CommitteeMisfit => b"CommitteeMisfit",
+            RequestFault::ManyApproved => b"ManyApproved",
+            RequestFault::Share(fault) => fault.name().as_bytes(),
         }
-    }
-}
-
-fn share_word_of(fault: ShareFault) -> &'static [u8]
-    ensures { result.now ≡ share_word fault }
-{
-    match fault {
-        ShareFault::NoParties => b"NoParties",
-        ShareFault::TooManyParties => b"TooManyParties",
-        ShareFault::NoVotes => b"NoVotes",
-        ShareFault::TooManyVotes => b"TooManyVotes",
-        ShareFault::BadSeats => b"BadSeats",
     }
 }
 
@@ -56,7 +44,7 @@ pub(crate) enum Refusal {
     /// The input has a fault.
     Input(ReadFault),
     /// The request does not fit.
-    Request(Misfit),
+    Request(RequestFault),
     /// A growth was refused.
     Memory,
     /// A read failed.
@@ -79,11 +67,11 @@ impl Refusal {
 
     /// Writes the line on the errors.
     pub(crate) fn write<E: Sink>(self, err: &mut E) -> Result<(), WriteFailed>
-        ensures { Prints (outlet (E.contents err.old) [] (E.has_failed err.old)) (outlet (E.contents err.new) [] (E.has_failed err.new)) (is_ok result) (error_of self) }
+        ensures { Sends E.contents E.has_failed err.old err.new (is_ok result) (error_of self) }
     {
         match self {
             Refusal::Input(fault) => write_fault(err, fault),
-            Refusal::Request(misfit) => write_misfit(err, misfit),
+            Refusal::Request(fault) => write_request_fault(err, fault),
             Refusal::Memory => write_whole(err, b"committees: memory\n"),
             Refusal::ReadFailed => write_whole(err, b"committees: read failed\n"),
             Refusal::WriteFailed => write_whole(err, b"committees: write failed\n"),
@@ -92,10 +80,11 @@ impl Refusal {
 }
 
 /// Writes a line on a request that does not fit.
-fn write_misfit<E: Sink>(err: &mut E, misfit: Misfit) -> Result<(), WriteFailed>
-    ensures { Prints (outlet (E.contents err.old) [] (E.has_failed err.old)) (outlet (E.contents err.new) [] (E.has_failed err.new)) (is_ok result) (line (codes "committees: request: " ++ misfit_word misfit)) }
+fn write_request_fault<E: Sink>(err: &mut E, fault: RequestFault) -> Result<(), WriteFailed>
+    ensures { Sends E.contents E.has_failed err.old err.new (is_ok result)
+        (line (codes "committees: request: " ++ request_fault_word fault)) }
 {
-    write_pieces(err, &[b"committees: request: ", misfit.word(), b"\n"])
+    write_pieces(err, &[b"committees: request: ", fault.word(), b"\n"])
 }
 
 /// The refusal of an input with a fault.

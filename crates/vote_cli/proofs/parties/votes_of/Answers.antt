@@ -15,14 +15,28 @@ loop-i-init g c = record { single = refl; votes = sym (tallies-none c.args.profi
 
 pub bounds-votes-from : goal.bounds-votes-from
 bounds-votes-from g c =
-    let found = first_within c.row-ballot.result.0 c.in-Some.parts.1 c.in-Some.parts.0 c.in-Some.ensures.parts c.in-Some.ensures.candidates in
+    let found = first_within c.args.profile.now c.loop-i.i c.row-ballot.result c.in-Some.parts.1 c.in-Some.parts.0 c.rows-i-end.ensures.valid c.row-ballot.ensures
+    c.in-Some.ensures in
+    omega (arith, c.from.ensures, found.0, found.1)
+
+pub overflow_sub-votes : goal.overflow_sub-votes
+overflow_sub-votes g c =
+    let found = first_within c.args.profile.now c.loop-i.i c.row-ballot.result c.in-Some.parts.1 c.in-Some.parts.0 c.rows-i-end.ensures.valid c.row-ballot.ensures
+    c.in-Some.ensures in
+    omega (arith, c.from.ensures, found.0, found.1)
+
+pub bounds-votes-from-in-Some : goal.bounds-votes-from-in-Some
+bounds-votes-from-in-Some g c =
+    let found = first_within c.args.profile.now c.loop-i.i c.row-ballot.result c.in-Some.parts.1 c.in-Some.parts.0 c.rows-i-end.ensures.valid c.row-ballot.ensures
+    c.in-Some.ensures in
     omega (arith, c.from.ensures, found.0, found.1)
 
 pub overflow_add-votes : goal.overflow_add-votes
 overflow_add-votes g c =
     let rows = c.args.profile.now.rows in
     let at = c.from.result - 1 in
-    let found = first_within c.row-ballot.result.0 c.in-Some.parts.1 c.in-Some.parts.0 c.in-Some.ensures.parts c.in-Some.ensures.candidates in
+    let found = first_within c.args.profile.now c.loop-i.i c.row-ballot.result c.in-Some.parts.1 c.in-Some.parts.0 c.rows-i-end.ensures.valid c.row-ballot.ensures
+    c.in-Some.ensures in
     let so_far : get_or c.loop-i.votes at 0 ≡ get_or (tallies (take c.loop-i.i rows)) at 0 = ap (λ l. get_or l at 0) c.loop-i.invariant.votes in
     omega (arith, so_far, tallies-bound rows c.loop-i.i c.row-ballot.result at c.row-ballot.ensures (omega (arith, c.from.ensures, found.0, found.1)), c.rows-i-end.ensures.valid.voters)
 
@@ -35,11 +49,12 @@ loop-i-preserved g c =
       single = single-more rows c.loop-i.i row c.row-ballot.ensures few c.loop-i.invariant.single;
       votes = elim c.match-split_first.branch [
         | in-Some w ↦
-            let found = first_within row.0 w.in-Some.parts.1 w.in-Some.parts.0 w.in-Some.ensures.parts w.in-Some.ensures.candidates in
+            let found = first_within c.args.profile.now c.loop-i.i row w.in-Some.parts.1 w.in-Some.parts.0 c.rows-i-end.ensures.valid c.row-ballot.ensures
+            w.in-Some.ensures in
             w.votes-is
             ∙ ap₂ (λ l n. set l (n - 1) (get_or l (n - 1) 0 + row.1)) c.loop-i.invariant.votes w.from.ensures
-            ∙ tallies-one rows c.loop-i.i row w.in-Some.parts.0 c.row-ballot.ensures (alone row.0 w.in-Some.parts.1 w.in-Some.parts.0 w.in-Some.ensures.parts few) found.0 found.1
-        | in_default w ↦ w.votes-is ∙ c.loop-i.invariant.votes ∙ tallies-empty rows c.loop-i.i row c.row-ballot.ensures w.in_default.ensures.parts
+            ∙ tallies-one rows c.loop-i.i row w.in-Some.parts.0 c.row-ballot.ensures (alone row.0 w.in-Some.parts.1 w.in-Some.parts.0 w.in-Some.ensures few) found.0 found.1
+        | in_default w ↦ w.votes-is ∙ c.loop-i.invariant.votes ∙ tallies-empty rows c.loop-i.i row c.row-ballot.ensures w.in_default.ensures
       ];
     }
 

@@ -1,9 +1,11 @@
-use Rattle.std.proofs.Common.{sym, append-nil}
+use Rattle.std.proofs.Common.{rules, sym, append-nil}
 use Rattle.std.specs.Prelude.{flat_map}
-use Rattle.vote_cli.proofs.PrintingLemmas.{Prints-first, Prints-from_empty, Prints-last, Prints-to_empty}
+use Rattle.vote_cli.proofs.PrintingLemmas.{Prints-last, Prints-ok, Sends-by}
 use Rattle.vote_cli.proofs.printing.write_pieces.Goals as goal
 
 pub returns : goal.returns
 returns g c =
-    let all = Prints-first c.print_all.result _ c.in_ok-print_all.was (Prints-from_empty c.new-waiting.ensures c.print_all.ensures) in
-    Prints-to_empty c.send.ensures.none (Prints-last (sym (append-nil (flat_map (λ piece. piece.now) c.args.pieces.now))) all c.send.ensures.sent)
+    let all = Prints-ok c.print_all.result _ c.in_ok-print_all.was c.print_all.ensures in
+    let text = flat_map (λ piece. piece.now) c.args.pieces.now in
+    Sends-by c.new-printer.ensures.writer c.new-printer.ensures.nothing c.send.ensures.nothing (search rules)
+    (Prints-last (sym (append-nil text)) all c.send.ensures.printed)

@@ -1,0 +1,150 @@
+-- Each request has one answer over each input.
+use Rattle.std.proofs.Common.{◌≡◌, ◌⊎◌, ℕ, zero, suc, ◌+◌, ◌≤◌, ◌<◌, Bool, true, false, List, [], ◌∷◌, length, Option, Some, None, IfSome, Result, Ok, Err, inl, inr, refl, sym, subst, ap, ◌∙◌, arith}
+use Rattle.std.specs.Prelude.{MatchResult, codes, is_some}
+use Rattle.std.proofs.Math.Dec.{leb}
+use Rattle.std.proofs.lemmas.Bool.Decides.{leb_tells}
+use Rattle.ballot_base.specs.Limits.{most_members}
+use Rattle.ballot_base.specs.Lists.{IsIncreasing}
+use Rattle.ballot_base.specs.Ballots.{Election}
+use Rattle.group_check.specs.Groups.{HasProperty, SomeGroupBreaks}
+use Rattle.group_check.specs.Report.{IsReport, first_violation}
+use Rattle.group_check.specs.declared.property.Property.{Property}
+use Rattle.group_check.specs.declared.property.Violation.{Violation}
+use Rattle.group_check.proofs.BreakLemmas.{some_group}
+use Rattle.group_check.proofs.ReportLemmas.{NoneBelow, none_more, one_report, report_found}
+use Rattle.preflib_text.specs.Reading.{Reads}
+use Rattle.preflib_text.specs.declared.fault.ReadFault.{ReadFault}
+use Rattle.preflib_text.specs.declared.pick.Pick.{Pick}
+use Rattle.preflib_text.proofs.ReadLemmas.{outcome_is_one, some_outcome_is}
+use Rattle.request_words.specs.Request.{Asked, Demand, electing, checking, sharing}
+use Rattle.vote_cli.specs.FaultText.{fault_text}
+use Rattle.vote_cli.specs.CheckText.{holds_text, violation_text}
+use Rattle.vote_cli.specs.declared.status.Status.TheVariants.{InputRefused}
+use Rattle.vote_cli.specs.Answer.{Answer, IsAnswer, IsAnswerOver, IsAnswerTo, IsCheckAnswer, IsCommittee, answered, ballots_answer, election_answer, request_refused, refused, share_answer, violated}
+
+-- ---- a list is a committee, or not
+
+decide_increasing : (first last : ℕ) (list : List ℕ) → IsIncreasing first last list ⊎ (IsIncreasing first last list → ⊥)
+decide_increasing first last [] = inl tt
+decide_increasing first last (n ∷ rest) = by (leb_tells first n) (leb_tells n last) (decide_increasing (n + 1) last rest)
+  where
+    by : ((leb first n ≡ true) × (first ≤ n)) ⊎ ((leb first n ≡ false) × (n < first))
+        → ((leb n last ≡ true) × (n ≤ last)) ⊎ ((leb n last ≡ false) × (last < n))
+        → IsIncreasing (n + 1) last rest ⊎ (IsIncreasing (n + 1) last rest → ⊥)
+        → IsIncreasing first last (n ∷ rest) ⊎ (IsIncreasing first last (n ∷ rest) → ⊥)
+    by (inl low) (inl high) (inl others) = inl (low.1, high.1, others)
+    by (inl low) (inl high) (inr none) = inr (λ h. none h.2)
+    by (inl low) (inr high) others = inr (λ h. omega (arith, h.1, high.1))
+    by (inr low) high others = inr (λ h. omega (arith, h.0, low.1))
+
+decide_committee : (m : ℕ) (list : List ℕ) → IsCommittee m list ⊎ (IsCommittee m list → ⊥)
+decide_committee m list = by (decide_increasing 1 m list) (leb_tells (length list) most_members)
+  where
+    by : IsIncreasing 1 m list ⊎ (IsIncreasing 1 m list → ⊥)
+        → ((leb (length list) most_members ≡ true) × (length list ≤ most_members)) ⊎ ((leb (length list) most_members ≡ false) × (most_members < length list))
+        → IsCommittee m list ⊎ (IsCommittee m list → ⊥)
+    by (inl order) (inl few) = inl (record { order = order; few = few.1 })
+    by (inl order) (inr many) = inr (λ h. omega (arith, h.few, many.1))
+    by (inr none) few = inr (λ h. none h.order)
+
+-- ---- a committee has the property, or there is a report
+
+module _ (property : Property) (e : Election) (committee : List ℕ) (rises : IsIncreasing 1 e.m committee) where
+  abbrev pub Checked : Type 0
+  Checked = HasProperty property e committee ⊎ ((report : Violation) × IsReport property e committee report)
+
+  -- from a level on, below which no group breaks the property
+  checked_from : (fuel level : ℕ) → fuel + level ≡ length committee + 1 → 1 ≤ level → NoneBelow property e committee level → Checked
+  checked_from zero level all least below = inl (λ l low high some. below l low (omega (arith, all, high)) some)
+  checked_from (suc fuel) level all least below =
+      by (first_violation property e committee level) refl
+      (λ found is none. checked_from fuel (level + 1) (omega (arith, all)) (omega (arith, least))
+      (none_more property e committee level found rises least (omega (arith, all)) is none below))
+    where
+      by : (found : Option Violation) → found ≡ first_violation property e committee level
+          → ((found : Option Violation) → found ≡ first_violation property e committee level → is_some found ≡ false → Checked) → Checked
+      by None is next = next None is refl
+      by (Some report) is next =
+          inr (report, report_found property e committee level (Some report) least (omega (arith, all)) is refl below)
+
+  pub checked : Checked
+  checked = checked_from (length committee) 1 (omega arith) (omega arith) (λ level low high some. omega (arith, low, high))
+
+  -- and not both
+  pub not_both : (report : Violation) → HasProperty property e committee → IsReport property e committee report → ⊥
+  not_both report has is = has report.level is.low is.high (some_group property e committee report.level report is.first)
+
+-- ---- one answer at most
+
+one_check_answer : (property : Property) (list : List ℕ) (e : Election) (a b : Answer)
+    → IsCheckAnswer property list e a → IsCheckAnswer property list e b → a ≡ b
+one_check_answer property list e a b (inl x) (inl y) = x.1 ∙ sym y.1
+one_check_answer property list e a b (inl x) (inr (inl y)) = absurd (x.0 y.0)
+one_check_answer property list e a b (inl x) (inr (inr y)) = absurd (x.0 y.0)
+one_check_answer property list e a b (inr (inl x)) (inl y) = absurd (y.0 x.0)
+one_check_answer property list e a b (inr (inl x)) (inr (inl y)) = x.2 ∙ sym y.2
+one_check_answer property list e a b (inr (inl x)) (inr (inr y)) =
+    absurd (not_both property e list x.0.order y.1.0 x.1 y.1.1)
+one_check_answer property list e a b (inr (inr x)) (inl y) = absurd (y.0 x.0)
+one_check_answer property list e a b (inr (inr x)) (inr (inl y)) =
+    absurd (not_both property e list x.0.order x.1.0 y.1 x.1.1)
+one_check_answer property list e a b (inr (inr x)) (inr (inr y)) =
+    x.1.2 ∙ ap (λ report. violated (violation_text report e)) (one_report property e list x.1.0 y.1.0 x.1.1 y.1.1) ∙ sym y.1.2
+
+module _ (IsRight : Election → Answer → Type 0) (one : (e : Election) (a b : Answer) → IsRight e a → IsRight e b → a ≡ b)
+    (pick : Pick) (bytes : List ℕ) where
+  one_of_outcome : (read : Result Election ReadFault) (a b : Answer)
+      → MatchResult read (λ e. IsRight e a) (λ fault. a ≡ refused InputRefused (fault_text fault))
+      → MatchResult read (λ e. IsRight e b) (λ fault. b ≡ refused InputRefused (fault_text fault)) → a ≡ b
+  one_of_outcome (Ok e) a b x y = one e a b x y
+  one_of_outcome (Err fault) a b x y = x ∙ sym y
+
+  one_over : (a b : Answer) → IsAnswerOver IsRight pick bytes a → IsAnswerOver IsRight pick bytes b → a ≡ b
+  one_over a b x y =
+      one_of_outcome x.0 a b x.2
+      (subst (λ read. MatchResult read (λ e. IsRight e b) (λ fault. b ≡ refused InputRefused (fault_text fault)))
+      (outcome_is_one bytes pick y.0 x.0 y.1 x.1) y.2)
+
+one_answer_to : (demand : Demand) (pick : Pick) (bytes : List ℕ) (a b : Answer) → IsAnswerTo demand pick bytes a → IsAnswerTo demand pick bytes b → a ≡ b
+one_answer_to (electing rule size) pick bytes a b x y =
+    one_over (λ e answer. answer ≡ election_answer rule size e) (λ e a b x y. x ∙ sym y) pick bytes a b x y
+one_answer_to (checking property list) pick bytes a b x y =
+    one_over (IsCheckAnswer property list) (one_check_answer property list) pick bytes a b x y
+one_answer_to (sharing method seats None) pick bytes a b x y =
+    one_over (λ e answer. answer ≡ ballots_answer method seats e) (λ e a b x y. x ∙ sym y) pick bytes a b x y
+one_answer_to (sharing method seats (Some votes)) pick bytes a b x y = x ∙ sym y
+
+pub one_answer : (asked : Asked) (bytes : List ℕ) (a b : Answer) → IsAnswer asked bytes a → IsAnswer asked bytes b → a ≡ b
+one_answer asked bytes a b x y = one_answer_to asked.demand asked.pick bytes a b x y
+
+-- ---- and one at least
+
+some_check_answer : (property : Property) (list : List ℕ) (e : Election) → (answer : Answer) × IsCheckAnswer property list e answer
+some_check_answer property list e = by (decide_committee e.m list)
+  where
+    by : IsCommittee e.m list ⊎ (IsCommittee e.m list → ⊥) → (answer : Answer) × IsCheckAnswer property list e answer
+    by (inr none) = (request_refused (codes "CommitteeMisfit"), inl (none, refl))
+    by (inl committee) = go (checked property e list committee.order)
+      where
+        go : HasProperty property e list ⊎ ((report : Violation) × IsReport property e list report) → (answer : Answer) × IsCheckAnswer property list e answer
+        go (inl has) = (answered holds_text, inr (inl (committee, has, refl)))
+        go (inr found) = (violated (violation_text found.0 e), inr (inr (committee, (found.0, found.1, refl))))
+
+module _ (IsRight : Election → Answer → Type 0) (some : (e : Election) → (answer : Answer) × IsRight e answer) (pick : Pick) (bytes : List ℕ) where
+  some_over : (answer : Answer) × IsAnswerOver IsRight pick bytes answer
+  some_over = by (some_outcome_is bytes pick)
+    where
+      by : (read : Result Election ReadFault) × Reads bytes pick read → (answer : Answer) × IsAnswerOver IsRight pick bytes answer
+      by (Ok e, reads) = ((some e).0, (Ok e, reads, (some e).1))
+      by (Err fault, reads) = (refused InputRefused (fault_text fault), (Err fault, reads, refl))
+
+some_answer_to : (demand : Demand) (pick : Pick) (bytes : List ℕ) → (answer : Answer) × IsAnswerTo demand pick bytes answer
+some_answer_to (electing rule size) pick bytes =
+    some_over (λ e answer. answer ≡ election_answer rule size e) (λ e. (election_answer rule size e, refl)) pick bytes
+some_answer_to (checking property list) pick bytes = some_over (IsCheckAnswer property list) (some_check_answer property list) pick bytes
+some_answer_to (sharing method seats None) pick bytes =
+    some_over (λ e answer. answer ≡ ballots_answer method seats e) (λ e. (ballots_answer method seats e, refl)) pick bytes
+some_answer_to (sharing method seats (Some votes)) pick bytes = (share_answer method seats votes, refl)
+
+pub some_answer : (asked : Asked) (bytes : List ℕ) → (answer : Answer) × IsAnswer asked bytes answer
+some_answer asked bytes = some_answer_to asked.demand asked.pick bytes

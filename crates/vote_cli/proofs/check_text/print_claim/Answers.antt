@@ -1,0 +1,24 @@
+use Rattle.std.proofs.Common.{sym, refl, ◌++◌, append_assoc}
+use Rattle.std.specs.Prelude.{codes}
+use Rattle.vote_cli.specs.Text.{line, numbers_text}
+use Rattle.vote_cli.specs.CheckText.{level_text, within_text}
+use Rattle.vote_cli.proofs.PrintingLemmas.{breaks_off, breaks_off_after, goes_on_after, Prints-ok, Prints-last}
+use Rattle.vote_cli.proofs.check_text.print_claim.Goals as goal
+
+pub returns-in_err-print_level : goal.returns-in_err-print_level
+returns-in_err-print_level g c =
+    let v = c.args.violation.now in
+    breaks_off (line (codes "candidates " ++ numbers_text v.shared) ++ within_text v.property v.within) c.print_level.result _ c.from_residual.result c.in_err-print_level.was c.from_residual.ensures.0
+    (append_assoc (level_text v.property v.level) (line (codes "candidates " ++ numbers_text v.shared)) (within_text v.property v.within)) c.print_level.ensures
+
+pub returns-in_err-print_candidates : goal.returns-in_err-print_candidates
+returns-in_err-print_candidates g c =
+    let v = c.args.violation.now in
+    breaks_off_after (within_text v.property v.within) c.print_candidates.result _ c.from_residual-in_err-print_candidates.result c.in_err-print_candidates.was c.from_residual-in_err-print_candidates.ensures.0
+    (sym (append_assoc (level_text v.property v.level) (line (codes "candidates " ++ numbers_text v.shared)) (within_text v.property v.within)))
+    (Prints-ok c.print_level.result _ c.in_ok-print_level.was c.print_level.ensures) c.print_candidates.ensures
+
+pub returns : goal.returns
+returns g c =
+    let level = Prints-ok c.print_level.result _ c.in_ok-print_level.was c.print_level.ensures in
+    Prints-last refl (goes_on_after c.print_candidates.result _ c.in_ok-print_candidates.was level c.print_candidates.ensures) c.print_within.ensures

@@ -1,0 +1,5 @@
+pub mod Input
+pub mod Numbers
+pub mod Printing
+pub mod Refusals
+pub mod RequestFaults

@@ -1,0 +1,90 @@
+-- Why a run ends with no answer, or with a part of one, and what is true then.
+use Rattle.std.specs.Prelude.{◌≡◌, ◌≢◌, ◌++◌, ℕ, Bool, true, List, [], Option, Result, Ok, Err, codes}
+use Rattle.std.specs.Io.KnownBytes.{Appends}
+use Rattle.ballot_base.specs.Ballots.{Election}
+use Rattle.vote_cli.specs.declared.status.Status.{Status}
+use Rattle.vote_cli.specs.declared.status.Status.TheVariants as status
+use Rattle.vote_cli.specs.declared.answers.Outcome.{Outcome}
+use Rattle.vote_cli.specs.declared.answers.Outcome.TheVariants as outcome
+use Rattle.vote_cli.specs.declared.refusal.Refusal.{Refusal}
+use Rattle.vote_cli.specs.declared.refusal.Refusal.TheVariants.{Input, Request, Memory, ReadFailed, WriteFailed}
+use Rattle.vote_cli.specs.declared.printing.WriteFailed.{WriteFailed as Broken}
+use Rattle.vote_cli.specs.Device.{AppendsBeginning}
+use Rattle.vote_cli.specs.Steps.RequestFaults.{request_fault_word}
+use Rattle.vote_cli.specs.Text.{line}
+use Rattle.preflib_text.specs.declared.fault.FaultName.TheVariants as name
+use Rattle.preflib_text.specs.declared.fault.ReadFault.{ReadFault}
+use Rattle.preflib_text.specs.declared.pick.Pick.{Pick}
+use Rattle.preflib_text.specs.Reading.{Reads}
+use Rattle.vote_cli.specs.FaultText.{fault_text}
+use Rattle.vote_cli.specs.Answer.{Answer, answered, violated, refused}
+use Rattle.vote_cli.specs.Answer.{request_refused, IsAllRead, memory_line, read_failed_line, write_failed_line}
+
+-- the statuses of outcomes and refusals
+abbrev pub outcome_status : Outcome → Status
+outcome_status outcome.Answered = status.Answered
+outcome_status outcome.Violated = status.Violated
+
+abbrev pub status_of : Refusal → Status
+status_of (Input fault) = status.InputRefused
+status_of (Request fault) = status.RequestRefused
+status_of Memory = status.NoMemory
+status_of ReadFailed = status.DeviceFailed
+status_of WriteFailed = status.DeviceFailed
+
+-- the line on the errors
+abbrev pub error_of : Refusal → List ℕ
+error_of (Input fault) = line (fault_text fault)
+error_of (Request fault) = line (codes "committees: request: " ++ request_fault_word fault)
+error_of Memory = memory_line
+error_of ReadFailed = read_failed_line
+error_of WriteFailed = write_failed_line
+
+-- the refusal of an input with this fault
+abbrev pub IsRefusal : ReadFault → Refusal → Type 0
+IsRefusal fault (Input reported) = (reported ≡ fault) × (fault.name ≢ name.Memory)
+IsRefusal fault Memory = fault.name ≡ name.Memory
+IsRefusal fault refusal = ⊥
+
+-- what is known of the input before anything is written
+abbrev pub ReadsBallots : Pick → List ℕ → Result Election Refusal → Type 0
+ReadsBallots pick bytes (Ok election) = Reads bytes pick (Ok election)
+ReadsBallots pick bytes (Err (Input fault)) = Reads bytes pick (Err fault)
+ReadsBallots pick bytes (Err Memory) = Unit {0}
+ReadsBallots pick bytes (Err ReadFailed) = Unit {0}
+ReadsBallots pick bytes (Err refusal) = ⊥
+
+-- a call of the reader has failed just where that is the refusal
+abbrev pub TellsOfReads : {T : Type 0} → Bool → Bool → Result T Refusal → Type 0
+TellsOfReads old new (Err ReadFailed) = new ≡ true
+TellsOfReads old new result = new ≡ old
+
+-- a call of the writer has failed just where that is the refusal
+abbrev pub TellsOfWrites : {T : Type 0} → Bool → Bool → Result T Refusal → Type 0
+TellsOfWrites old new (Err WriteFailed) = new ≡ true
+TellsOfWrites old new result = new ≡ old
+
+-- the input was read to its end before this was known, but where memory ran out or a read failed
+abbrev pub ReadsOn : {T : Type 0} → Option (List ℕ) → Option (List ℕ) → Result T Refusal → Type 0
+ReadsOn before after (Err Memory) = Unit {0}
+ReadsOn before after (Err ReadFailed) = Unit {0}
+ReadsOn before after result = IsAllRead before after
+
+-- What was written, and what it ends with, where this says which answers are right: one of them whole, a beginning of
+-- one where a write failed, and else nothing. A refusal for the input or the request is then a right answer.
+abbrev pub WritesRight : (Answer → Type 0) → Option (List ℕ) → Option (List ℕ) → Result Outcome Refusal → Type 0
+WritesRight IsRight old new (Ok outcome.Answered) = (text : List ℕ) × IsRight (answered text) × Appends old new text
+WritesRight IsRight old new (Ok outcome.Violated) = (text : List ℕ) × IsRight (violated text) × Appends old new text
+WritesRight IsRight old new (Err (Input fault)) =
+    IsRight (refused status.InputRefused (fault_text fault)) × Appends old new []
+WritesRight IsRight old new (Err (Request fault)) =
+    IsRight (request_refused (request_fault_word fault)) × Appends old new []
+WritesRight IsRight old new (Err Memory) = Appends old new []
+WritesRight IsRight old new (Err ReadFailed) = Appends old new []
+WritesRight IsRight old new (Err WriteFailed) =
+    (answer : Answer) × IsRight answer × AppendsBeginning old new answer.text
+
+-- what was printed whole ends with this outcome, and what was not is a failed write
+abbrev pub IsWritten : Outcome → Result (Unit {0}) Broken → Result Outcome Refusal → Type 0
+IsWritten ended (Ok done) result = result ≡ Ok ended
+IsWritten ended (Err broken) result = result ≡ Err WriteFailed

@@ -1,0 +1,12 @@
+-- The words for a request that does not fit the input.
+use Rattle.std.specs.Prelude.{ℕ, List, codes}
+use Rattle.seat_share.specs.Names.{share_fault_name}
+use Rattle.vote_cli.specs.declared.refusal.RequestFault.{RequestFault}
+use Rattle.vote_cli.specs.declared.refusal.RequestFault.TheVariants.{SizeTooLarge, CommitteeMisfit, ManyApproved, Share}
+
+-- the word for a request that does not fit
+abbrev pub request_fault_word : RequestFault → List ℕ
+request_fault_word SizeTooLarge = codes "SizeTooLarge"
+request_fault_word CommitteeMisfit = codes "CommitteeMisfit"
+request_fault_word ManyApproved = codes "ManyApproved"
+request_fault_word (Share fault) = share_fault_name fault

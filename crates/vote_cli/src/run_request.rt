@@ -1,0 +1,134 @@
+//! A whole run, from the bytes of the input to the bytes of the answer.
+ghost use Rattle.std.specs.Prelude.{◌≡◌, ◌≢◌, Err, IfSome, true, false};
+ghost use Rattle.preflib_text.specs.Approvals.{HasNumber};
+ghost use Rattle.vote_cli.specs.Answer.{Ends, IsAnswer, ReadsAll, Reports, TellsOf, has_votes, input_for};
+ghost use Rattle.vote_cli.specs.Steps.Refusals.{WritesRight, ReadsBallots, ReadsOn};
+ghost use Rattle.vote_cli.specs.Steps.Refusals.{TellsOfReads, TellsOfWrites, error_of, status_of};
+
+use crate::answers::{
+    Outcome, answer_check, answer_election, answer_share, answer_share_of_ballots,
+};
+use crate::device::{Sink, Source};
+use crate::input::{InputFault, read_to_end};
+use crate::refusal::{Refusal, refusal_of};
+use crate::status::Status;
+use ballot_base::Profile;
+use preflib_text::{Pick, read_profile};
+use request_words::{Request, Task};
+use std::alloc::Allocator;
+
+/// The ballots of these bytes, or why there are none.
+fn ballots_of<A: Allocator + Copy + Drop>(
+    alloc: A,
+    bytes: &[u8],
+    pick: &Pick,
+) -> Result<Profile<A>, Refusal>
+    requires { HasNumber pick.now.way }
+    ensures ballots { ReadsBallots pick.now bytes.now result }
+    ensures unread { result ≢ Err Refusal.ReadFailed }
+    ensures unwritten { result ≢ Err Refusal.WriteFailed }
+{
+    match read_profile(alloc, bytes, pick) {
+        Ok(profile) => Ok(profile),
+        Err(fault) => Err(refusal_of(fault)),
+    }
+}
+
+/// Reads the ballots of the whole input.
+fn read_ballots<A: Allocator + Copy + Drop, R: Source>(
+    alloc: A,
+    pick: &Pick,
+    reader: &mut R,
+) -> Result<Profile<A>, Refusal>
+    requires way { HasNumber pick.now.way }
+    ensures input { IfSome (R.remaining reader.old) (λ bytes. ReadsBallots pick.now bytes result) }
+    ensures reads { TellsOfReads (R.has_failed reader.old) (R.has_failed reader.new) result }
+    ensures end { ReadsOn (R.remaining reader.old) (R.remaining reader.new) result }
+    ensures unwritten { result ≢ Err Refusal.WriteFailed }
+{
+    let input = match read_to_end(alloc, reader) {
+        Ok(input) => input,
+        Err(InputFault::Memory) => return Err(Refusal::Memory),
+        Err(InputFault::ReadFailed) => return Err(Refusal::ReadFailed),
+    };
+    ballots_of(alloc, &input, pick)
+}
+
+/// Writes the answer where there is one. The input is read only where its ballots are asked about.
+fn answer<A: Allocator + Copy + Drop, R: Source, W: Sink>(
+    alloc: A,
+    request: &Request,
+    reader: &mut R,
+    out: &mut W,
+) -> Result<Outcome, Refusal>
+    ensures answer { IfSome (input_for request.now.demand (R.remaining reader.old)) (λ bytes.
+        WritesRight (IsAnswer request.now bytes) (W.contents out.old) (W.contents out.new) result) }
+    ensures reads { TellsOfReads (R.has_failed reader.old) (R.has_failed reader.new) result }
+    ensures writes { TellsOfWrites (W.has_failed out.old) (W.has_failed out.new) result }
+    ensures end { has_votes request.now.demand ≡ false →
+        ReadsOn (R.remaining reader.old) (R.remaining reader.new) result }
+    ensures votes { has_votes request.now.demand ≡ true → (reader.new ≡ reader.old) × (result ≢ Err Refusal.Memory) }
+{
+    match request.task() {
+        Task::Elect(rule, size) => {
+            let profile = read_ballots(alloc, &request.pick(), reader)?;
+            answer_election(alloc, out, &profile, *rule, *size)
+        }
+        Task::Check(property, committee) => {
+            let profile = read_ballots(alloc, &request.pick(), reader)?;
+            answer_check(out, &profile, *property, committee.as_slice())
+        }
+        Task::Share(method, seats, votes) => match votes {
+            Some(votes) => answer_share(out, votes.as_slice(), *method, *seats),
+            None => {
+                let profile = read_ballots(alloc, &request.pick(), reader)?;
+                answer_share_of_ballots(out, &profile, *method, *seats)
+            }
+        },
+    }
+}
+
+/// Ends a run that was refused, with a line on the errors.
+fn refuse<E: Sink>(err: &mut E, refusal: Refusal) -> Status
+    ensures status { result ≡ status_of refusal }
+    ensures error { Reports (E.contents err.old) (E.contents err.new) (E.has_failed err.new) (error_of refusal) }
+{
+    let _ = refusal.write(err);
+    refusal.status()
+}
+
+/// Answers a request over the bytes of a reader: writes the answer to `out`, or a line to `err`.
+///
+/// The input is read to its end, whatever stands in it. Only then is the request tested, and only then something
+/// written. No memory is taken after the first write. Where the votes stand in the request, nothing is read, and no
+/// memory is taken.
+pub fn run<A: Allocator + Copy + Drop, R: Source, W: Sink, E: Sink>(
+    alloc: A,
+    request: &Request,
+    reader: &mut R,
+    out: &mut W,
+    err: &mut E,
+) -> Status
+    // What was written is the answer of the request and the bytes, or what the status says of it.
+    ensures ends { IfSome (input_for request.now.demand (R.remaining reader.old)) (λ bytes.
+        Ends request.now bytes (W.contents out.old) (W.contents out.new)
+        (E.contents err.old) (E.contents err.new) (E.has_failed err.new)
+        (R.has_failed reader.old) (R.has_failed reader.new) (W.has_failed out.old) (W.has_failed out.new) result) }
+    // A device is blamed exactly where it has failed, by its own line, whether or not the devices tell their bytes.
+    ensures devices { TellsOf result
+        (R.has_failed reader.old) (R.has_failed reader.new) (W.has_failed out.old) (W.has_failed out.new)
+        (Reports (E.contents err.old) (E.contents err.new) (E.has_failed err.new)) }
+    // The input is read to its end, whatever stands in it.
+    ensures input { has_votes request.now.demand ≡ false →
+        ReadsAll result (R.remaining reader.old) (R.remaining reader.new) }
+    // With votes in the request the reader is left alone, and no memory is taken.
+    ensures votes { has_votes request.now.demand ≡ true → (reader.new ≡ reader.old) × (result ≢ Status.NoMemory) }
+{
+    match answer(alloc, request, reader, out) {
+        Ok(outcome) => outcome.status(),
+        Err(refusal) => refuse(err, refusal),
+    }
+}
+
+#[cfg(test)]
+mod tests;

@@ -1,0 +1,45 @@
+//! The text of allocations of seats.
+ghost use Rattle.std.specs.Prelude.{◌≡◌, is_ok};
+ghost use Rattle.vote_cli.specs.Listing.{listing_text};
+ghost use Rattle.vote_cli.specs.Steps.Printing.{Prints, Sends};
+ghost use Rattle.vote_cli.specs.ShareText.{share_header};
+
+use crate::device::Sink;
+use crate::listing::print_listing;
+use crate::printing::{Printer, WriteFailed};
+use itoa::Buffer;
+use seat_share::{Method, Shares};
+
+/// Prints the lines of the method and the seats.
+fn print_header<W: Sink>(
+    printer: &mut Printer<'_, W>,
+    method: Method,
+    seats: u16,
+) -> Result<(), WriteFailed>
+    ensures { Prints W.contents W.has_failed printer.old printer.new (is_ok result) (share_header method seats) }
+{
+    let mut seat_digits = Buffer::new();
+    let pieces = [
+        b"method ".as_slice(),
+        method.name().as_bytes(),
+        b"\nseats ",
+        seat_digits.format(seats).as_bytes(),
+        b"\n",
+    ];
+    printer.print_all(&pieces)
+}
+
+/// Writes the answer of a method, and flushes the writer.
+pub(crate) fn write_shares<W: Sink>(
+    out: &mut W,
+    shares: Shares,
+    method: Method,
+    seats: u16,
+) -> Result<(), WriteFailed>
+    ensures { Sends W.contents W.has_failed out.old out.new (is_ok result)
+        (listing_text (share_header method seats) shares) }
+{
+    let mut printer = Printer::new(out);
+    print_header(&mut printer, method, seats)?;
+    print_listing(&mut printer, shares)
+}
