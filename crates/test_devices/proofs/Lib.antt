@@ -1,1 +1,2 @@
 mod Due
+mod Examples

@@ -1,5 +1,9 @@
 //! Devices that give and take few bytes at a time, and fail where they are told to.
-ghost use Rattle.std.specs.Prelude.{◌≡◌, ◌≤◌, ◌+◌, ◌-◌, ◌^◌, ◌||◌, [], Some, false, is_err, min};
+ghost use Rattle.std.specs.Prelude.{◌≡◌, ◌≢◌, ◌↔◌, ◌≤◌, ◌+◌, ◌-◌, ◌^◌, ◌==◌, ◌||◌, [], Some, true, false, IsErr, is_err, length, min};
+ghost use Rattle.std.specs.Io.{ReadsAtMost, WritesAtMost};
+ghost use Rattle.std.specs.Io.KnownBytes.{ReadConsumes, WriteAppends};
+ghost use Rattle.vote_cli.specs.Device.{is_failed_write};
+ghost use Rattle.test_devices.specs.Faults.{IsDue};
 
 use std::alloc::Global;
 use std::io;
@@ -7,7 +11,8 @@ use std::io::ErrorKind;
 use std::marker::Model;
 use vote_cli::{Device, Sink, Source};
 
-/// A reader over bytes. Contracts see the bytes that it has still to give, and whether a call has failed.
+/// A reader over bytes. Contracts see the bytes that it has still to give, whether a call has failed, and how many calls
+/// there are up to the one that fails: 0 where none is to.
 #[derive(Drop)]
 pub struct SliceReader<'a> {
     rest: &'a [u8],
@@ -20,9 +25,9 @@ pub struct SliceReader<'a> {
 impl<'a> Model for SliceReader<'a> {
     ghost use Rattle.std.specs.Prelude.{ℕ, ◌≤◌, Bool, List};
 
-    ghost Value = { List ℕ × Bool };
+    ghost Value = { List ℕ × Bool × ℕ };
 
-    ghost view = { λ reader. (reader.rest.now, reader.has_failed) };
+    ghost view = { λ reader. (reader.rest.now, reader.has_failed, reader.left) };
 
     ghost invariant = { λ reader. 1 ≤ reader.piece };
 }
@@ -31,16 +36,16 @@ impl<'a> SliceReader<'a> {
     /// Gives at most `piece` bytes a call, and never fails.
     pub fn new(bytes: &'a [u8], piece: usize) -> SliceReader<'a>
         requires some { 1 ≤ piece }
-        ensures { result ≡ (bytes.now, false) }
+        ensures { result ≡ (bytes.now, false, 0) }
     {
         SliceReader::failing(bytes, piece, 0)
     }
 
     /// Gives at most `piece` bytes a call. The call of the number `fails`, counted from 1, is an error, and those
-    /// after it are not.
+    /// after it are not. With 0 no call is.
     pub fn failing(bytes: &'a [u8], piece: usize, fails: u64) -> SliceReader<'a>
         requires some { 1 ≤ piece }
-        ensures { result ≡ (bytes.now, false) }
+        ensures { result ≡ (bytes.now, false, fails) }
     {
         SliceReader {
             rest: bytes,
@@ -62,7 +67,13 @@ impl<'a> Device for SliceReader<'a> {
 impl<'a> Source for SliceReader<'a> {
     ghost remaining = { λ reader. Some reader.0 };
 
-    fn read(&mut self, buf: &mut [u8]) -> io::Result<usize> {
+    fn read(&mut self, buf: &mut [u8]) -> io::Result<usize>
+        ensures bound { ReadsAtMost result buf.new }
+        ensures bytes { ReadConsumes (Some self.old.0) (Some self.new.0) result buf.new }
+        ensures failed { self.new.1 ≡ (self.old.1 || is_err result) }
+        ensures due { is_err result ≡ (self.old.2 == 1) }
+        ensures left { self.new.2 ≡ self.old.2 - 1 }
+    {
         let is_due = self.left == 1;
         self.left = self.left.saturating_sub(1);
         if is_due {
@@ -90,8 +101,8 @@ pub enum Fault {
     AtFlush,
 }
 
-/// A writer that keeps what it took, and counts its flushes. Contracts see the bytes, the count, and whether a call
-/// has failed.
+/// A writer that keeps what it took, and counts its flushes. Contracts see the bytes, the count, whether a call has
+/// failed, and the fault that has still to show.
 #[derive(Drop)]
 pub struct Recorder {
     taken: Vec<u8>,
@@ -104,16 +115,17 @@ pub struct Recorder {
 impl Model for Recorder {
     ghost use Rattle.std.specs.Prelude.{ℕ, Bool, List};
     ghost use Rattle.std.specs.Vec.{vec_items};
+    ghost use Rattle.test_devices.specs.declared.devices.Fault.{Fault};
 
-    ghost Value = { List ℕ × ℕ × Bool };
+    ghost Value = { List ℕ × ℕ × Bool × Fault };
 
-    ghost view = { λ writer. (vec_items writer.taken, writer.flushes, writer.has_failed) };
+    ghost view = { λ writer. (vec_items writer.taken, writer.flushes, writer.has_failed, writer.fault) };
 }
 
 impl Recorder {
     /// Took nothing yet, and takes at most `piece` bytes a call.
     pub fn new(alloc: Global, piece: usize, fault: Fault) -> Recorder
-        ensures { result ≡ ([], 0, false) }
+        ensures { result ≡ ([], 0, false, fault) }
     {
         Recorder {
             taken: Vec::new(alloc),
@@ -139,7 +151,9 @@ impl Recorder {
     }
 
     /// How many bytes more it takes before its fault shows.
-    fn room(&self) -> usize {
+    fn room(&self) -> usize
+        ensures { IsDue self.now.3 (length self.now.0) → result ≡ 0 }
+    {
         match self.fault {
             Fault::ErrorAfter(most) | Fault::ZeroAfter(most) => {
                 most.saturating_sub(self.taken.len())
@@ -160,7 +174,13 @@ impl Device for Recorder {
 impl Sink for Recorder {
     ghost contents = { λ writer. Some writer.0 };
 
-    fn write(&mut self, buf: &[u8]) -> io::Result<usize> {
+    fn write(&mut self, buf: &[u8]) -> io::Result<usize>
+        ensures bound { WritesAtMost result buf.now }
+        ensures bytes { WriteAppends (Some self.old.0) (Some self.new.0) result buf.now }
+        ensures failed { self.new.2 ≡ (self.old.2 || is_failed_write result buf.now) }
+        ensures count { self.new.1 ≡ self.old.1 }
+        ensures due { IsDue self.old.3 (length self.old.0) → buf.now ≢ [] → is_failed_write result buf.now ≡ true }
+    {
         let count = buf.len().min(self.piece).min(self.room());
         if count > 0 && self.taken.extend_from_slice(&buf[..count]).is_ok() {
             return Ok(count);
@@ -177,6 +197,7 @@ impl Sink for Recorder {
     fn flush(&mut self) -> io::Result<()>
         ensures bytes { self.new.0 ≡ self.old.0 }
         ensures count { self.new.1 ≡ min (self.old.1 + 1) (2 ^ 64 - 1) }
+        ensures due { IsErr result ↔ (self.old.3 ≡ Fault.AtFlush) }
         ensures failed { self.new.2 ≡ (self.old.2 || is_err result) }
     {
         self.flushes = self.flushes.saturating_add(1);
