@@ -10,6 +10,7 @@ mod refusals;
 mod rows;
 mod scores;
 mod shares;
+mod sixty_four;
 mod support;
 mod ways;
 mod word_faults;

@@ -1,12 +1,14 @@
 //! Candidate sets, committees in order, and profiles.
 use super::support::add;
-use ballot_base::{AddFault, CandSet, FinishFault, KSets, ProfileBuilder};
+use ballot_base::{
+    AddFault, CandSet, FinishFault, KSets, MOST_CANDIDATES, ProfileBuilder, common_multiple,
+};
 use std::cmp::Ordering;
 use std::test::Fail;
 
 #[test]
 fn sets_of_lists(rt: HostRuntime) -> Result<(), Fail> {
-    let lists: [&[u8]; 5] = [&[], &[1], &[40], &[1, 3], &[2, 3, 5, 40]];
+    let lists: [&[u8]; 6] = [&[], &[1], &[40], &[64], &[1, 3], &[2, 3, 5, 41, 63, 64]];
     for list in lists {
         let set = CandSet::of_list(list).ok_or("a set")?;
         assert_eq!(rt; set.len() as usize, list.len(), "{list:?}");
@@ -15,7 +17,7 @@ fn sets_of_lists(rt: HostRuntime) -> Result<(), Fail> {
             assert_eq!(rt; set.has(n), list.contains(&n), "{n} in {list:?}");
         }
     }
-    let lists: [&[u8]; 6] = [&[0], &[41], &[0, 1], &[1, 3, 3], &[3, 1], &[40, 41]];
+    let lists: [&[u8]; 6] = [&[0], &[65], &[0, 1], &[1, 3, 3], &[3, 1], &[64, 65]];
     for list in lists {
         assert!(rt; CandSet::of_list(list).is_none(), "{list:?}");
     }
@@ -47,10 +49,10 @@ fn lexicographic_order(rt: HostRuntime) -> Result<(), Fail> {
         &[1, 2],
         &[1, 2, 4],
         &[1, 3],
-        &[1, 39],
-        &[1, 40],
+        &[1, 63],
+        &[1, 64],
         &[2],
-        &[40],
+        &[64],
     ];
     for (i, first) in lists.iter().enumerate() {
         for (j, second) in lists.iter().enumerate() {
@@ -77,12 +79,20 @@ fn committees_in_order(rt: HostRuntime) -> Result<(), Fail> {
         count = count.saturating_add(1);
     }
     assert_eq!(rt; count, 780);
+    let mut last = CandSet::empty();
+    for set in KSets::new(64, 2) {
+        last = set;
+        count = count.saturating_add(1);
+    }
+    assert_eq!(rt; count, 780 + 2016);
+    assert!(rt; Some(last) == CandSet::of_list(&[63, 64]));
+    assert_eq!(rt; common_multiple(64), 1_182_266_884_102_822_267_511_361_600);
     Ok(())
 }
 
 #[test]
 fn profiles(rt: HostRuntime) -> Result<(), Fail> {
-    let builder = ProfileBuilder::new(rt.alloc(), 40)?;
+    let builder = ProfileBuilder::new(rt.alloc(), MOST_CANDIDATES)?;
     let Err((FinishFault::NoVoters, mut builder)) = builder.finish() else {
         panic!(rt; "no ballot was added");
     };
@@ -100,7 +110,7 @@ fn profiles(rt: HostRuntime) -> Result<(), Fail> {
     let Ok(profile) = builder.finish() else {
         panic!(rt; "ballots were added");
     };
-    assert_eq!(rt; profile.m(), 40);
+    assert_eq!(rt; profile.m(), MOST_CANDIDATES);
     assert_eq!(rt; profile.voters(), 4_294_967_296);
     let wanted = [(pair, 5), (single, 4_294_967_287), (CandSet::empty(), 4)];
     assert_eq!(rt; profile.rows(), wanted.len());

@@ -6,6 +6,9 @@ use std::process::Abort;
 use std::test::Fail;
 use test_devices::{answered, refused, violated};
 
+/// All properties.
+static PROPERTIES: [&str; 4] = ["jr", "pjr", "ejr", "ejrplus"];
+
 /// Two groups of voters with nothing in common.
 static PARTED: &[u8] = b"# DATA TYPE: cat\n# NUMBER ALTERNATIVES: 4\n3: {1,2}\n1: {3,4}\n";
 
@@ -18,6 +21,8 @@ jr 1,2|holds
 pjr 1,2|holds
 ejr 1,2|holds
 ejr 1,3|holds
+ejrplus 3,4|violated ejrplus;level 1;candidates 1;voters 3 of 4;3: 1,2
+ejrplus 1,2|holds
 jr 3|holds
 ejr 3|holds
 jr 1,3,4|holds
@@ -43,9 +48,24 @@ static OVER_LINKED: &str = "\
 jr 3,4|holds
 pjr 3,4|holds
 ejr 3,4|violated ejr;level 2;candidates 1,2;voters 2 of 2;1: 1,2,3;1: 1,2,4
+ejrplus 3,4|violated ejrplus;level 2;candidates 1;voters 2 of 2;1: 1,2,3;1: 1,2,4
 pjr 1,3|holds
 ejr 1,3|holds
-ejr 1,2|holds";
+ejr 1,2|holds
+ejrplus 1,2|holds";
+
+/// Two voters with one candidate in common, each with another of their own.
+static SHARED: &[u8] = b"# DATA TYPE: cat\n# NUMBER ALTERNATIVES: 3\n1: {1,2}\n1: {1,3}\n";
+
+/// The properties that ask for as many candidates in common as seats hold where EJR+ does not.
+static OVER_SHARED: &str = "\
+pjr 2,3|holds
+ejr 2,3|holds
+ejrplus 2,3|violated ejrplus;level 2;candidates 1;voters 2 of 2;1: 1,2;1: 1,3
+ejrplus 1,2|holds
+ejrplus 1,2,3|holds
+ejrplus 1|holds
+ejrplus 2|holds";
 
 /// All voters have four candidates in common.
 static UNITED: &[u8] = b"# DATA TYPE: cat\n# NUMBER ALTERNATIVES: 5\n2: {1,2,3,4}\n";
@@ -120,6 +140,7 @@ fn tables(rt: HostRuntime) -> Result<(), Fail> {
     assert_table(&rt, alloc, PARTED, OVER_PARTED)?;
     assert_table(&rt, alloc, THREE, OVER_THREE)?;
     assert_table(&rt, alloc, LINKED, OVER_LINKED)?;
+    assert_table(&rt, alloc, SHARED, OVER_SHARED)?;
     assert_table(&rt, alloc, UNITED, OVER_UNITED)?;
     assert_table(&rt, alloc, TURNING, OVER_TURNING)?;
     assert_table(&rt, alloc, RANKED, OVER_RANKED)
@@ -167,7 +188,7 @@ fn groups(rt: HostRuntime) -> Result<(), Fail> {
 }
 
 #[test]
-fn forty_candidates(rt: HostRuntime) -> Result<(), Fail> {
+fn the_largest_committees(rt: HostRuntime) -> Result<(), Fail> {
     let alloc = rt.alloc();
     let text = cat_file(alloc, "40", "1: {40}")?;
     let all = numbers_to(alloc, 40)?;
@@ -176,7 +197,62 @@ fn forty_candidates(rt: HostRuntime) -> Result<(), Fail> {
     let most = numbers_to(alloc, 39)?;
     let words = format!(in alloc; "jr {most}")?;
     let report = "violated jr;level 1;candidates 40;voters 1 of 1;1: 40";
-    assert_checks(&rt, alloc, words.as_str(), text.as_bytes(), report)
+    assert_checks(&rt, alloc, words.as_str(), text.as_bytes(), report)?;
+    let text = cat_file(alloc, "64", "1: {41,64}")?;
+    let words = format!(in alloc; "jr {all}")?;
+    let report = "violated jr;level 1;candidates 41;voters 1 of 1;1: 41,64";
+    assert_checks(&rt, alloc, words.as_str(), text.as_bytes(), report)?;
+    for property in PROPERTIES {
+        let words = format!(in alloc; "{property} 63,64")?;
+        assert_checks(&rt, alloc, words.as_str(), text.as_bytes(), "holds")?;
+    }
+    Ok(())
+}
+
+/// Forty voters who approve one candidate each: each is a fortieth of all, and the committee has half of them.
+#[test]
+fn voters_apart(rt: HostRuntime) -> Result<(), Fail> {
+    let alloc = rt.alloc();
+    let mut ballots = String::from_str(alloc, "1: {1}")?;
+    for n in 2..=40u8 {
+        ballots.push_str(format!(in alloc; ";1: {{{n}}}")?.as_str())?;
+    }
+    let text = cat_file(alloc, "40", ballots.as_str())?;
+    let committee = numbers_to(alloc, 20)?;
+    for property in PROPERTIES {
+        let words = format!(in alloc; "{property} {committee}")?;
+        assert_checks(&rt, alloc, words.as_str(), text.as_bytes(), "holds")?;
+    }
+    Ok(())
+}
+
+/// Twenty voters who have the candidates 21 to 40 in common, each with one of 1 to 20, who are the committee; and one
+/// voter who approves all.
+#[test]
+fn voters_of_one_mind(rt: HostRuntime) -> Result<(), Fail> {
+    let alloc = rt.alloc();
+    let mut common = String::new(alloc);
+    for n in 21..=40u8 {
+        common.push_str(format!(in alloc; ",{n}")?.as_str())?;
+    }
+    let mut ballots = format!(in alloc; "1: {{1{common}}}")?;
+    for n in 2..=20u8 {
+        ballots.push_str(format!(in alloc; ";1: {{{n}{common}}}")?.as_str())?;
+    }
+    let text = cat_file(alloc, "40", ballots.as_str())?;
+    let committee = numbers_to(alloc, 20)?;
+    for property in ["jr", "pjr"] {
+        let words = format!(in alloc; "{property} {committee}")?;
+        assert_checks(&rt, alloc, words.as_str(), text.as_bytes(), "holds")?;
+    }
+    let all = numbers_to(alloc, 40)?;
+    let ballot = format!(in alloc; "1: {{{all}}}")?;
+    let text = cat_file(alloc, "40", ballot.as_str())?;
+    for property in PROPERTIES {
+        let words = format!(in alloc; "{property} 1,2,3,4,5,6,7,8")?;
+        assert_checks(&rt, alloc, words.as_str(), text.as_bytes(), "holds")?;
+    }
+    Ok(())
 }
 
 /// One voter for each two of the candidates 2 to 39, who approves 1 beside them: the lines of the input, or those of
@@ -245,23 +321,21 @@ static MISFITS: &str = "\
 fn misfits(rt: HostRuntime) -> Result<(), Fail> {
     let alloc = rt.alloc();
     for list in MISFITS.lines() {
-        for property in ["jr", "pjr", "ejr"] {
+        for property in PROPERTIES {
             let words = format!(in alloc; "check --property {property} --committee {list}")?;
             assert_misfit(&rt, alloc, words.as_str(), PARTED, "CommitteeMisfit")?;
         }
     }
     let words = "check --property jr --committee 3,1";
     assert_misfit(&rt, alloc, words, THREE, "CommitteeMisfit")?;
-    let text = cat_file(alloc, "40", "1: {1}")?;
     let many = numbers_to(alloc, 41)?;
     let words = format!(in alloc; "check --property jr --committee {many}")?;
-    assert_misfit(
-        &rt,
-        alloc,
-        words.as_str(),
-        text.as_bytes(),
-        "CommitteeMisfit",
-    )
+    for alternatives in ["40", "41", "64"] {
+        let text = cat_file(alloc, alternatives, "1: {1}")?;
+        let bytes = text.as_bytes();
+        assert_misfit(&rt, alloc, words.as_str(), bytes, "CommitteeMisfit")?;
+    }
+    Ok(())
 }
 
 /// The input is tested before the committee.

@@ -1,8 +1,9 @@
 //! Growths that are refused, one after the other.
 ghost use Rattle.std.specs.Prelude.{◌≡◌};
+ghost use Rattle.ballot_base.specs.Limits.{most_candidates};
 
 use super::support::{ANSWER, THREE, add, assert_ended, name_in, read_line, request, set_name};
-use ballot_base::{AddFault, CandSet, FinishFault, Profile, ProfileBuilder};
+use ballot_base::{AddFault, CandSet, FinishFault, MOST_CANDIDATES, Profile, ProfileBuilder};
 use preflib_text::{FaultName, ReadFault, read_profile};
 use std::alloc::{Allocator, Global};
 use std::process::Abort;
@@ -220,14 +221,14 @@ fn the_first_growth_of_a_reading(rt: HostRuntime) -> Result<(), Fail> {
         (b"\xEF\xBB\xBF", FaultName::NoAlternatives, None),
         (b"x\n", FaultName::NoAlternatives, None),
         (
-            b"# NUMBER ALTERNATIVES: 41\n",
+            b"# NUMBER ALTERNATIVES: 65\n",
             FaultName::TooManyCandidates,
             Some(1),
         ),
         (b"\n", FaultName::Memory, Some(1)),
         (b"# NUMBER ALTERNATIVES: 3", FaultName::Memory, Some(1)),
         (
-            b"# DATA TYPE: cat\n# NUMBER ALTERNATIVES: 41\n",
+            b"# DATA TYPE: cat\n# NUMBER ALTERNATIVES: 65\n",
             FaultName::Memory,
             Some(1),
         ),
@@ -249,7 +250,7 @@ fn add_nine<A: Allocator + Copy + Drop>(
     builder: &mut ProfileBuilder<A>,
     again: bool,
 ) -> Result<Option<u8>, AddFault>
-    requires { builder.old.m ≡ 40 }
+    requires { builder.old.m ≡ most_candidates }
 {
     let mut refused = None;
     for n in 1..=9u8 {
@@ -298,7 +299,7 @@ fn each_growth_of_a_builder(rt: HostRuntime) -> Result<(), Fail> {
     for again in [true, false] {
         for n in 1..=MANY {
             let heap = Refusing::new(alloc, n);
-            let Ok(mut builder) = ProfileBuilder::new(&heap, 40) else {
+            let Ok(mut builder) = ProfileBuilder::new(&heap, MOST_CANDIDATES) else {
                 assert!(rt; n == 1 && has_refused(&heap), "growth {n}");
                 continue;
             };
@@ -322,7 +323,7 @@ fn each_growth_of_a_builder(rt: HostRuntime) -> Result<(), Fail> {
 fn the_first_ballot_of_a_builder(rt: HostRuntime) -> Result<(), Fail> {
     // The first growth is the builder's own.
     let heap = Refusing::new(rt.alloc(), 2);
-    let mut builder = ProfileBuilder::new(&heap, 40)?;
+    let mut builder = ProfileBuilder::new(&heap, MOST_CANDIDATES)?;
     let set = CandSet::empty().with(7);
     assert_eq!(rt; add(&mut builder, set, 1), Err(AddFault::Memory));
     let Err((fault, mut builder)) = builder.finish() else {
@@ -342,10 +343,10 @@ fn the_first_ballot_of_a_builder(rt: HostRuntime) -> Result<(), Fail> {
 static NAMES: [(u8, &[u8]); 6] = [
     (1, b"Red"),
     (2, b"Blue"),
-    (40, b"Green"),
+    (64, b"Green"),
     (1, b"Rose"),
     (2, b"Navy"),
-    (40, b""),
+    (64, b""),
 ];
 
 /// Adds three voters, and then gives those names. Where a growth is refused for a name it gives the name again, or
@@ -354,7 +355,7 @@ fn add_names<A: Allocator + Copy + Drop>(
     builder: &mut ProfileBuilder<A>,
     again: bool,
 ) -> Result<Option<usize>, AddFault>
-    requires { builder.old.m ≡ 40 }
+    requires { builder.old.m ≡ most_candidates }
 {
     let set = CandSet::empty().with(7);
     if add(builder, set, 3).is_err() {
@@ -363,7 +364,7 @@ fn add_names<A: Allocator + Copy + Drop>(
     let mut refused = None;
     for i in 0..NAMES.len() {
         let (n, name) = NAMES[i];
-        let n = n.clamp(1, 40);
+        let n = n.clamp(1, MOST_CANDIDATES);
         if set_name(builder, n, name).is_err() {
             refused = Some(i);
             if again {
@@ -374,7 +375,7 @@ fn add_names<A: Allocator + Copy + Drop>(
     Ok(refused)
 }
 
-/// The names of candidates 1, 2 and 40 where the name at this place was left out.
+/// The names of candidates 1, 2 and 64 where the name at this place was left out.
 fn names_without(left_out: Option<usize>) -> [Option<&'static [u8]>; 3] {
     match left_out {
         Some(3) => [Some(b"Red"), Some(b"Navy"), None],
@@ -390,7 +391,7 @@ fn assert_names<A: Allocator + Copy + Drop>(
     profile: &Profile<A>,
     left_out: Option<usize>,
 ) {
-    assert_eq!(rt; profile.m(), 40);
+    assert_eq!(rt; profile.m(), MOST_CANDIDATES);
     assert_eq!(rt; profile.rows(), 1);
     assert!(rt; profile.row(0) == (CandSet::empty().with(7), 3));
     assert_eq!(rt; profile.voters(), 3);
@@ -404,10 +405,10 @@ fn assert_names<A: Allocator + Copy + Drop>(
         "candidate 2 without {left_out:?}"
     );
     assert!(rt;
-        name_in(profile, 40) == names[2],
-        "candidate 40 without {left_out:?}"
+        name_in(profile, MOST_CANDIDATES) == names[2],
+        "candidate 64 without {left_out:?}"
     );
-    for n in 3..40u8 {
+    for n in 3..MOST_CANDIDATES {
         assert!(rt; name_in(profile, n).is_none(), "candidate {n}");
     }
 }
@@ -419,7 +420,7 @@ fn each_growth_of_names(rt: HostRuntime) -> Result<(), Fail> {
         let mut refusals = 0u32;
         for n in 2..=MANY {
             let heap = Refusing::new(alloc, n);
-            let mut builder = ProfileBuilder::new(&heap, 40)?;
+            let mut builder = ProfileBuilder::new(&heap, MOST_CANDIDATES)?;
             let refused = add_names(&mut builder, again)?;
             let Ok(profile) = builder.finish() else {
                 panic!(rt; "no ballot after growth {n}");

@@ -25,6 +25,8 @@ fn numbers(rt: HostRuntime) -> Result<(), Fail> {
     let alloc = rt.alloc();
     let cases = [
         ("40 alternatives", "40", "1", "1: 40\n", "score 1/1\n40\n"),
+        ("41 alternatives", "41", "1", "1: 41\n", "score 1/1\n41\n"),
+        ("64 alternatives", "64", "1", "1: 64\n", "score 1/1\n64\n"),
         ("one alternative", "1", "1", "1: 1\n", "score 1/1\n1\n"),
         (
             "zeros ahead",

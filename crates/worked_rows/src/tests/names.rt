@@ -1,6 +1,6 @@
 //! The names of candidates.
 use super::support::{lines, name_in, request, set_name};
-use ballot_base::{CandSet, Profile, ProfileBuilder};
+use ballot_base::{CandSet, MOST_CANDIDATES, Profile, ProfileBuilder};
 use preflib_text::read_profile;
 use std::alloc::Global;
 use std::test::Fail;
@@ -9,7 +9,7 @@ use std::test::Fail;
 static NAMES: &str = "\
 no name|# NUMBER ALTERNATIVES: 3|||
 before and behind the number|# ALTERNATIVE NAME 3: Red;# ALTERNATIVE NAME 1: Blue;# NUMBER ALTERNATIVES: 3;# ALTERNATIVE NAME 2: Green;# ALTERNATIVE NAME 1: Navy|Navy|Green|Red
-of candidates that there are not|# ALTERNATIVE NAME 4: a;# ALTERNATIVE NAME 40: b;# NUMBER ALTERNATIVES: 3;# ALTERNATIVE NAME 4: c;# ALTERNATIVE NAME 0: d;# ALTERNATIVE NAME 41: e;# ALTERNATIVE NAME 257: f;# ALTERNATIVE NAME 18446744073709551617: g|||
+of candidates that there are not|# ALTERNATIVE NAME 4: a;# ALTERNATIVE NAME 64: b;# NUMBER ALTERNATIVES: 3;# ALTERNATIVE NAME 4: c;# ALTERNATIVE NAME 0: d;# ALTERNATIVE NAME 65: e;# ALTERNATIVE NAME 257: f;# ALTERNATIVE NAME 18446744073709551617: g|||
 an empty name|# ALTERNATIVE NAME 1: Red;# ALTERNATIVE NAME 1: \t;# ALTERNATIVE NAME 2:;# NUMBER ALTERNATIVES: 3|||
 blanks and colons|# NUMBER ALTERNATIVES: 3;#alternative\tName 002 : \t a: b \t c:  ||a: b \t c:|
 returns|# NUMBER ALTERNATIVES: 3\r;# ALTERNATIVE NAME 3: a\rb\r\r|||a\rb\r
@@ -55,8 +55,8 @@ fn names_that_are_no_text(rt: HostRuntime) -> Result<(), Fail> {
 
 #[test]
 fn names_of_fewer_candidates(rt: HostRuntime) -> Result<(), Fail> {
-    let mut builder = ProfileBuilder::new(rt.alloc(), 40)?;
-    builder.set_name(40, b"Red")?;
+    let mut builder = ProfileBuilder::new(rt.alloc(), MOST_CANDIDATES)?;
+    builder.set_name(64, b"Red")?;
     builder.set_name(3, b"Blue")?;
     builder.set_name(2, b"Green")?;
     builder.narrow(3);
@@ -76,8 +76,8 @@ fn names_of_fewer_candidates(rt: HostRuntime) -> Result<(), Fail> {
 
 #[test]
 fn names_of_all_candidates(rt: HostRuntime) -> Result<(), Fail> {
-    let mut builder = ProfileBuilder::new(rt.alloc(), 40)?;
-    set_name(&mut builder, 40, b"last")?;
+    let mut builder = ProfileBuilder::new(rt.alloc(), MOST_CANDIDATES)?;
+    set_name(&mut builder, 64, b"last")?;
     set_name(&mut builder, 1, b"first")?;
     let Err((_, mut builder)) = builder.finish() else {
         panic!(rt; "no ballot was added");
@@ -87,11 +87,11 @@ fn names_of_all_candidates(rt: HostRuntime) -> Result<(), Fail> {
     let Ok(profile) = builder.finish() else {
         panic!(rt; "a ballot was added");
     };
-    for n in 1..=40u8 {
+    for n in 1..=MOST_CANDIDATES {
         let name: Option<&[u8]> = match n {
             1 => Some(b"first"),
             2 => Some(b"second"),
-            40 => Some(b"last"),
+            64 => Some(b"last"),
             _ => None,
         };
         assert!(rt; name_in(&profile, n) == name, "candidate {n}");

@@ -13,12 +13,12 @@ a signed number|+3|2| line 2: BadNumber
 two numbers|3 3|2| line 2: BadNumber
 a second colon|3: 3|2| line 2: BadNumber
 a return before the end|3\r\r|2| line 2: BadNumber
-41 alternatives|41|2| line 2: TooManyCandidates
+65 alternatives|65|2| line 2: TooManyCandidates
 256 and 3 alternatives|259|2| line 2: TooManyCandidates
 2^64 and 3 alternatives|18446744073709551619|2| line 2: TooManyCandidates
 other alternatives|3;# NUMBER ALTERNATIVES: 4|2| line 3: ConflictingKey
 other and bad alternatives|3;# NUMBER ALTERNATIVES: 0|2| line 3: BadNumber
-other and many alternatives|3;# NUMBER ALTERNATIVES: 41|2| line 3: TooManyCandidates
+other and many alternatives|3;# NUMBER ALTERNATIVES: 65|2| line 3: TooManyCandidates
 no number of categories|3|| line 3: BadNumber
 no category|3|00| line 3: BadNumber
 a letter|3|2x| line 3: BadNumber

@@ -144,11 +144,11 @@ fn equal_votes(alloc: Global, votes: &str, parties: usize) -> Result<String, All
     Ok(list)
 }
 
-/// Forty lists, joined by `;`: each has one party of forty that goes without, and the others have a seat.
-fn one_goes_without(alloc: Global) -> Result<String, AllocError> {
+/// As many lists as parties, joined by `;`: each has one party that goes without, and the others have a seat.
+fn one_goes_without(alloc: Global, parties: u8) -> Result<String, AllocError> {
     let mut allocations = String::new(alloc);
-    for without in 1..=40u8 {
-        for party in 1..=40u8 {
+    for without in 1..=parties {
+        for party in 1..=parties {
             if party > 1 {
                 allocations.push_str(",")?;
             } else if without > 1 {
@@ -161,21 +161,23 @@ fn one_goes_without(alloc: Global) -> Result<String, AllocError> {
 }
 
 #[test]
-fn forty_equal_parties(rt: HostRuntime) -> Result<(), Fail> {
+fn many_equal_parties(rt: HostRuntime) -> Result<(), Fail> {
     let alloc = rt.alloc();
-    let votes = equal_votes(alloc, "7", 40)?;
-    let rest = format!(in alloc; "--votes {votes}")?;
-    let allocations = one_goes_without(alloc)?;
-    for method in METHODS {
-        let method_and_seats = format!(in alloc; "{method} 39")?;
-        assert_shares(
-            &rt,
-            alloc,
-            method_and_seats.as_str(),
-            rest.as_str(),
-            b"",
-            allocations.as_str(),
-        )?;
+    for (parties, seats) in [(40u8, "39"), (41, "40"), (64, "63")] {
+        let votes = equal_votes(alloc, "7", usize::from(parties))?;
+        let rest = format!(in alloc; "--votes {votes}")?;
+        let allocations = one_goes_without(alloc, parties)?;
+        for method in METHODS {
+            let method_and_seats = format!(in alloc; "{method} {seats}")?;
+            assert_shares(
+                &rt,
+                alloc,
+                method_and_seats.as_str(),
+                rest.as_str(),
+                b"",
+                allocations.as_str(),
+            )?;
+        }
     }
     Ok(())
 }
@@ -210,16 +212,16 @@ fn many_allocations(rt: HostRuntime) -> Result<(), Fail> {
 
 /// Each candidate has one voter: the same by ballots.
 #[test]
-fn forty_equal_candidates(rt: HostRuntime) -> Result<(), Fail> {
+fn many_equal_candidates(rt: HostRuntime) -> Result<(), Fail> {
     let alloc = rt.alloc();
     let mut ballots = String::new(alloc);
-    for n in 1..=40u8 {
+    for n in 1..=64u8 {
         ballots.push_str(format!(in alloc; "1: {n}\n")?.as_str())?;
     }
-    let text = cat_file(alloc, "40", ballots.as_str())?;
-    let allocations = one_goes_without(alloc)?;
+    let text = cat_file(alloc, "64", ballots.as_str())?;
+    let allocations = one_goes_without(alloc, 64)?;
     let bytes = text.as_bytes();
-    assert_shares(&rt, alloc, "dhondt 39", "", bytes, allocations.as_str())
+    assert_shares(&rt, alloc, "dhondt 63", "", bytes, allocations.as_str())
 }
 
 /// Votes that no seats can be shared out by, and the name of the fault.
@@ -227,8 +229,10 @@ static FAULTS: &str = "\
 0|NoVotes
 0,0|NoVotes
 0,0,0,0,0,0,0,0,0,0,0,0,0,0,0,0,0,0,0,0,0,0,0,0,0,0,0,0,0,0,0,0,0,0,0,0,0,0,0,0|NoVotes
-0,0,0,0,0,0,0,0,0,0,0,0,0,0,0,0,0,0,0,0,0,0,0,0,0,0,0,0,0,0,0,0,0,0,0,0,0,0,0,0,0|TooManyParties
-1,1,1,1,1,1,1,1,1,1,1,1,1,1,1,1,1,1,1,1,1,1,1,1,1,1,1,1,1,1,1,1,1,1,1,1,1,1,1,1,1|TooManyParties
+0,0,0,0,0,0,0,0,0,0,0,0,0,0,0,0,0,0,0,0,0,0,0,0,0,0,0,0,0,0,0,0,0,0,0,0,0,0,0,0,0|NoVotes
+0,0,0,0,0,0,0,0,0,0,0,0,0,0,0,0,0,0,0,0,0,0,0,0,0,0,0,0,0,0,0,0,0,0,0,0,0,0,0,0,0,0,0,0,0,0,0,0,0,0,0,0,0,0,0,0,0,0,0,0,0,0,0,0|NoVotes
+0,0,0,0,0,0,0,0,0,0,0,0,0,0,0,0,0,0,0,0,0,0,0,0,0,0,0,0,0,0,0,0,0,0,0,0,0,0,0,0,0,0,0,0,0,0,0,0,0,0,0,0,0,0,0,0,0,0,0,0,0,0,0,0,0|TooManyParties
+1,1,1,1,1,1,1,1,1,1,1,1,1,1,1,1,1,1,1,1,1,1,1,1,1,1,1,1,1,1,1,1,1,1,1,1,1,1,1,1,1,1,1,1,1,1,1,1,1,1,1,1,1,1,1,1,1,1,1,1,1,1,1,1,1|TooManyParties
 4294967296,1|TooManyVotes
 4294967297|TooManyVotes
 2147483648,2147483648,1|TooManyVotes
@@ -250,7 +254,7 @@ fn faults_of_votes(rt: HostRuntime) -> Result<(), Fail> {
             }
         }
     }
-    let votes = equal_votes(alloc, "4294967296", 41)?;
+    let votes = equal_votes(alloc, "4294967296", 65)?;
     let words = format!(in alloc; "share --method dhondt --seats 1 --votes {votes}")?;
     assert_misfit(&rt, alloc, words.as_str(), b"", "TooManyParties")
 }
@@ -292,9 +296,9 @@ fn faults_of_the_input(rt: HostRuntime) -> Result<(), Fail> {
     assert_leaves(&rt, alloc, words, b"", wanted)?;
     let wanted = refused(3, b"committees: input: NoVoters\n");
     assert_leaves(&rt, alloc, words, &THREE[..42], wanted)?;
-    let all = numbers_to(alloc, 40)?;
-    let ballots = format!(in alloc; "1: {{{all}}};1: 41")?;
-    let text = cat_file(alloc, "40", ballots.as_str())?;
+    let all = numbers_to(alloc, 64)?;
+    let ballots = format!(in alloc; "1: {{{all}}};1: 65")?;
+    let text = cat_file(alloc, "64", ballots.as_str())?;
     let wanted = refused(3, b"committees: input line 4: NoSuchCandidate\n");
     assert_leaves(&rt, alloc, words, text.as_bytes(), wanted)
 }

@@ -1,5 +1,6 @@
 //! What the tests share: requests from words, what runs leave, and texts of tables.
-ghost use Rattle.std.specs.Prelude.{◌≡◌, ◌≤◌};
+ghost use Rattle.std.specs.Prelude.{◌≡◌, ◌≤◌, ◌==◌, ◌||◌};
+ghost use Rattle.ballot_base.specs.Limits.{most_candidates};
 ghost use Rattle.vote_cli.specs.Status.{code_of};
 
 use ballot_base::{AddFault, CandSet, Profile, ProfileBuilder};
@@ -7,7 +8,7 @@ use std::alloc::{AllocError, Allocator, Global};
 use std::process::Abort;
 use std::test::Fail;
 use test_devices::{Ended, Wanted, answered, reader, refused, run_on, writer};
-use vote_cli::{LineFault, Request, read_request};
+use vote_cli::{Device, LineFault, Request, read_request};
 
 /// Three candidates and two ballots: two voters approve 1 and 2, and one voter approves 3.
 pub(super) static THREE: &[u8] =
@@ -113,15 +114,17 @@ pub(super) fn assert_refuses(
     assert_runs(rt, alloc, case, words.as_str(), bytes, wanted)
 }
 
-/// Asserts that the run left this. The number tells cases of one name apart.
+/// Asserts that the run left this, and that a device failed exactly where its status says so. The number tells cases of
+/// one name apart.
 pub(super) fn assert_ended(
     rt: &impl Abort,
     case: &str,
     number: usize,
-    ended: &Ended,
+    ended: &Ended<'_>,
     wanted: Wanted<'_>,
 )
     ensures status { code_of ended.now.status ≡ wanted.entry.status }
+    ensures devices { (ended.now.reader.1 || ended.now.out.2) ≡ (wanted.entry.status == 6) }
     ensures out { ended.now.out.0 ≡ wanted.entry.out.now }
     ensures err { ended.now.err.0 ≡ wanted.entry.err.now }
 {
@@ -129,6 +132,11 @@ pub(super) fn assert_ended(
         ended.status.code(),
         wanted.status,
         "the status of {case} {number}"
+    );
+    assert_eq!(rt;
+        ended.reader.failed() || ended.out.failed(),
+        wanted.status == 6,
+        "the devices of {case} {number}"
     );
     assert_eq!(rt;
         ended.out.taken(),
@@ -173,31 +181,30 @@ pub(super) fn numbers_to(alloc: Global, last: u8) -> Result<String, AllocError> 
     Ok(list)
 }
 
-/// Adds voters with one ballot over 40 candidates.
+/// Adds voters with one ballot over as many candidates as there may be.
 pub(super) fn add<A: Allocator + Copy + Drop>(
     builder: &mut ProfileBuilder<A>,
     set: CandSet,
     count: u64,
 ) -> Result<(), AddFault>
-    requires alternatives { builder.old.m ≡ 40 }
+    requires alternatives { builder.old.m ≡ most_candidates }
     requires voters { 1 ≤ count }
-    ensures { builder.new.m ≡ 40 }
+    ensures { builder.new.m ≡ most_candidates }
 {
-    // The length tells that the members are candidates from 1 to 40.
-    let _ = set.len();
+    set.valid();
     builder.add(set, count)
 }
 
-/// Gives a candidate a name, of 40.
+/// Gives a candidate a name, of as many as there may be.
 pub(super) fn set_name<A: Allocator + Copy + Drop>(
     builder: &mut ProfileBuilder<A>,
     n: u8,
     name: &[u8],
 ) -> Result<(), AddFault>
-    requires alternatives { builder.old.m ≡ 40 }
+    requires alternatives { builder.old.m ≡ most_candidates }
     requires low { 1 ≤ n }
-    requires high { n ≤ 40 }
-    ensures { builder.new.m ≡ 40 }
+    requires high { n ≤ most_candidates }
+    ensures { builder.new.m ≡ most_candidates }
 {
     builder.set_name(n, name)
 }
