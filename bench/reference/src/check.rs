@@ -1,7 +1,7 @@
 //! Checks of a committee: the first list of candidates whose voters show that it lacks a property.
 use crate::elect::{write_list, write_set};
 use crate::profile::Profile;
-use crate::sets::{KSets, members};
+use crate::sets::members;
 use std::io::{self, Write};
 
 struct Violation {
@@ -10,6 +10,9 @@ struct Violation {
     within: Option<u64>,
     voters: u64,
 }
+
+/// So many lists of members are few enough to be tried before any candidates.
+const FEW_LISTS: u64 = 1 << 20;
 
 /// Whether a ballot's voters belong to the group of these lists.
 fn is_behind(ballot: u64, committee: u64, level: u32, shared: u64, within: Option<u64>) -> bool {
@@ -20,33 +23,97 @@ fn is_behind(ballot: u64, committee: u64, level: u32, shared: u64, within: Optio
         }
 }
 
+/// A check at one level.
+struct Check<'a> {
+    profile: &'a Profile,
+    property: &'a str,
+    committee: u64,
+    level: u32,
+    all: u64,
+}
+
+impl Check<'_> {
+    fn voters(&self, test: impl Fn(u64) -> bool) -> u64 {
+        self.profile.rows.iter().filter(|row| test(row.0)).map(|row| row.1).sum()
+    }
+
+    fn is_enough(&self, voters: u64) -> bool {
+        voters * u64::from(self.committee.count_ones()) >= u64::from(self.level) * self.all
+    }
+
+    fn voters_below(&self, shared: u64) -> u64 {
+        self.voters(|ballot| ballot & shared == shared && (ballot & self.committee).count_ones() < self.level)
+    }
+
+    fn first(&self) -> Option<Violation> {
+        let is_plus = self.property == "ejrplus";
+        let candidates = (1..=self.profile.candidates).filter(|c| !is_plus || self.committee >> c & 1 == 0);
+        let pool = candidates.filter(|c| self.is_enough(self.voters_below(1 << c))).fold(0, |set: u64, c| set | 1 << c);
+        let size = if is_plus { 1 } else { self.level };
+        if pool.count_ones() < size || self.property == "pjr" && self.is_refuted() {
+            return None;
+        }
+        self.beyond(0, pool, size)
+    }
+
+    fn is_refuted(&self) -> bool {
+        let (k, size) = (self.committee.count_ones(), self.level - 1);
+        let mut lists = 1;
+        for taken in 0..size.min(k - size) {
+            if lists > FEW_LISTS {
+                return false;
+            }
+            lists = lists * u64::from(k - taken) / (u64::from(taken) + 1);
+        }
+        lists <= FEW_LISTS && self.within(0, 0, self.committee, size).is_none()
+    }
+
+    /// The first violation that shares these candidates and `left` of the pool.
+    fn beyond(&self, shared: u64, pool: u64, left: u32) -> Option<Violation> {
+        if left == 0 {
+            let within = if self.property == "pjr" { Some(self.within(shared, 0, self.committee, self.level - 1)?) } else { None };
+            let voters = self.voters(|ballot| is_behind(ballot, self.committee, self.level, shared, within));
+            let violation = Violation { level: self.level, shared, within, voters };
+            return self.is_enough(voters).then_some(violation);
+        }
+        if pool.count_ones() < left {
+            return None;
+        }
+        let first = pool & pool.wrapping_neg();
+        let more = shared | first;
+        if self.is_enough(self.voters_below(more)) {
+            if let Some(found) = self.beyond(more, pool & !first, left - 1) {
+                return Some(found);
+            }
+        }
+        self.beyond(shared, pool & !first, left)
+    }
+
+    /// The first list of these members and `left` of the pool that has enough voters who approve all the candidates.
+    fn within(&self, shared: u64, within: u64, pool: u64, left: u32) -> Option<u64> {
+        if pool.count_ones() < left {
+            return None;
+        }
+        let voters = self.voters(|ballot| {
+            let members = ballot & self.committee & !within;
+            ballot & shared == shared && members & !pool == 0 && members.count_ones() <= left
+        });
+        if !self.is_enough(voters) {
+            return None;
+        }
+        if left == 0 {
+            return Some(within);
+        }
+        let first = pool & pool.wrapping_neg();
+        let found = self.within(shared, within | first, pool & !first, left - 1);
+        found.or_else(|| self.within(shared, within, pool & !first, left))
+    }
+}
+
 fn find(profile: &Profile, property: &str, committee: u64) -> Option<Violation> {
-    let size = committee.count_ones();
-    let levels = if property == "jr" { 1 } else { size };
+    let levels = if property == "jr" { 1 } else { committee.count_ones() };
     let all = profile.voters();
-    let seats: Vec<u32> = members(committee).collect();
-    let group = |level, shared, within| -> Option<Violation> {
-        let behind = profile.rows.iter().filter(|row| is_behind(row.0, committee, level, shared, within));
-        let voters: u64 = behind.map(|row| row.1).sum();
-        (voters * u64::from(size) >= u64::from(level) * all).then_some(Violation { level, shared, within, voters })
-    };
-    (1..=levels).find_map(|level| {
-        KSets::new(profile.candidates, level).find_map(|shared| {
-            if property != "pjr" {
-                return group(level, shared, None);
-            }
-            // Too few approve these candidates, whomever else they approve.
-            let approvers = profile.rows.iter().filter(|row| row.0 & shared == shared);
-            let approvers: u64 = approvers.map(|row| row.1).sum();
-            if approvers * u64::from(size) < u64::from(level) * all {
-                return None;
-            }
-            KSets::new(size, level - 1).find_map(|places| {
-                let within = members(places).fold(0, |set, i| set | 1 << seats[i as usize - 1]);
-                group(level, shared, Some(within))
-            })
-        })
-    })
+    (1..=levels).find_map(|level| Check { profile, property, committee, level, all }.first())
 }
 
 pub fn write(out: &mut impl Write, profile: &Profile, property: &str, list: &[u64]) -> io::Result<bool> {
