@@ -1,17 +1,17 @@
 -- A walk over committees: what is below a prefix, and what comes after it.
-use Rattle.std.proofs.Common.{◌≡◌, ℕ, zero, suc, ◌+◌, ◌-◌, ◌*◌, ◌^◌, ◌<◌, ◌≤◌, ◌==◌, ◌∙◌, Bool, true, false, cond, List, [], ◌∷◌, ◌++◌, Option, None, Some, SomeIff, unwrap_or, MatchOption, not, refl, sym, ap, subst, arith, inl, inr, length, length-append, map, filter, max, sum_by, append_assoc}
+use Rattle.std.proofs.Common.{◌≡◌, ℕ, zero, suc, ◌+◌, ◌-◌, ◌*◌, ◌^◌, ◌<◌, ◌≤◌, ◌==◌, ◌∙◌, true, false, List, [], ◌∷◌, ◌++◌, Option, None, Some, SomeIff, unwrap_or, not, refl, sym, ap, subst, arith, inl, inr, length, length-append, map, filter, sum_by, append_assoc}
 use Rattle.std.specs.Prelude.{nat_lt, nat_le}
 use Rattle.std.proofs.Math.Nat.{pow-le-pow_right}
 use Rattle.std.proofs.lemmas.Nat.{pow-add}
 use Rattle.std.specs.List.{AllByRecursion}
-use Rattle.std.proofs.lemmas.Bool.{cases_eq, cases_Bool, le-ltb, eq-eqb, ne_eqb, or_left}
+use Rattle.std.proofs.lemmas.Bool.{cases_eq, le-ltb, eq-eqb, ne_eqb, or_left}
 use Rattle.std.proofs.lemmas.List.{map-append}
 use Rattle.std.proofs.lemmas.List.Elements.{filter-append}
-use Rattle.std.proofs.lemmas.List.Sums.{sum_by-append, sum_by-cons}
-use Rattle.ballot_base.specs.Lists.{IsIncreasing, lists_of, increasing_lists, AreInOrder, later_than}
+use Rattle.std.proofs.lemmas.List.Sums.{sum_by-append}
+use Rattle.ballot_base.specs.Lists.{IsIncreasing, lists_of, increasing_lists, later_than}
 use Rattle.ballot_base.specs.CandSet.{has_member, without_member}
 use Rattle.ballot_base.proofs.Committees.{IsChosen, increasing_lists-chosen, increasing_lists-order}
-use Rattle.ballot_base.proofs.Increasing.{IsIncreasing-higher, IsIncreasing-lower, IsIncreasing-filter, IsIncreasing-push, has_member-above}
+use Rattle.ballot_base.proofs.Increasing.{IsIncreasing-filter, IsIncreasing-push}
 use Rattle.tie_walk.specs.Ceilings.{IsBound}
 use Rattle.tie_walk.specs.Steps.Walks.{committees_below, committees_after, committees_from, IsPlace, IsPast, work_left, is_above, those_above, IsFound}
 use Rattle.tie_walk.specs.declared.prefix.Prefix.{Prefix}
@@ -93,20 +93,18 @@ module _ (m k : ℕ) where
     | inl same ↦
         let here = start-split n (c + 1) (front ++ x ∷ []) rest (omega arith) (omega (arith, length-append front (x ∷ []))) (subst (λ y. IsIncreasing (y + 1) m rest) same up.2) in
         let split : committees_below m k c front ≡ committees_below m k (c + 1) (front ++ x ∷ []) ++ committees_below m k x front =
-        subst (λ y. committees_below m k c front ≡ committees_below m k (c + 1) (front ++ y ∷ []) ++ committees_below m k y front) (sym same) (below-split c front (omega arith) (omega arith)) in
-        (
+        subst (λ y. committees_below m k c front ≡ committees_below m k (c + 1) (front ++ y ∷ []) ++ committees_below m k y front) (sym same) (below-split c front (omega arith) (omega arith)) in (
           here.0,
           split ∙ ap (λ ls. ls ++ committees_below m k x front) here.1
-          ∙ append_assoc here.0 (((front ++ x ∷ []) ++ rest) ∷ committees_after m k (front ++ x ∷ []) rest) (committees_below m k x front)
-          ∙ ap (λ s. here.0 ++ s ∷ committees_after m k front (x ∷ rest)) (append_assoc front (x ∷ []) rest),
+              ∙ append_assoc here.0 (((front ++ x ∷ []) ++ rest) ∷ committees_after m k (front ++ x ∷ []) rest) (committees_below m k x front)
+              ∙ ap (λ s. here.0 ++ s ∷ committees_after m k front (x ∷ rest)) (append_assoc front (x ∷ []) rest),
         )
     | inr other ↦
         let here = start-split n (c + 1) front (x ∷ rest) (omega arith) size (omega (arith, up.0, other), up.1, up.2) in
-        let first = committees_below m k (c + 1) (front ++ (c + 1) ∷ []) in
-        (
+        let first = committees_below m k (c + 1) (front ++ (c + 1) ∷ []) in (
           first ++ here.0,
           below-split c front (omega arith) (omega arith) ∙ ap (λ ls. first ++ ls) here.1
-          ∙ sym (append_assoc first here.0 ((front ++ x ∷ rest) ∷ committees_after m k front (x ∷ rest))),
+              ∙ sym (append_assoc first here.0 ((front ++ x ∷ rest) ∷ committees_after m k front (x ∷ rest))),
         )
   ]
 
@@ -230,14 +228,13 @@ module _ (value : List ℕ → ℕ) (m k : ℕ) (floor : Option ℕ) (prefix : P
       × (work_left m (Some next) < work_left m (Some prefix)) × (IsPlace m k (Some prefix) → IsPlace m k (Some next))
   step-grown next at is inside few =
       let grown : committees_from m k (Some next) ≡ committees_from m k (Some prefix) = rw (at, is) (from-grown m k prefix.c prefix.set inside few) in
-      let work : work_left m (Some next) < work_left m (Some prefix) = rw (at, is) (work-grown m k prefix.c prefix.set inside) in
-      (
+      let work : work_left m (Some next) < work_left m (Some prefix) = rw (at, is) (work-grown m k prefix.c prefix.set inside) in (
         ap (those_above value floor) grown,
         work,
         λ here. (
           omega (arith, at),
           subst (λ s. IsIncreasing 1 next.c s) (sym is) (subst (λ n. IsIncreasing 1 n (prefix.set ++ (prefix.c + 1) ∷ [])) (sym at)
-          (IsIncreasing-push 1 prefix.c prefix.set (prefix.c + 1) here.1 (omega arith) (omega arith))),
+              (IsIncreasing-push 1 prefix.c prefix.set (prefix.c + 1) here.1 (omega arith) (omega arith))),
           omega (arith, ap length is, length-append prefix.set ((prefix.c + 1) ∷ [])),
         ),
       )
@@ -265,7 +262,7 @@ module _ (value : List ℕ → ℕ) (m k : ℕ) (floor : Option ℕ) (prefix : P
 pub at_root : (m k : ℕ) (root : Prefix) → root.c ≡ 0 → root.set ≡ [] → (committees_from m k (Some root) ≡ increasing_lists 1 m k) × IsPlace m k (Some root)
 at_root m k root none nobody = (
   ap (λ n. committees_below m k n root.set ++ committees_after m k [] root.set) none ∙ ap (λ s. committees_below m k 0 s ++ committees_after m k [] s) nobody
-  ∙ append_none (committees_below m k 0 []) ∙ from-root m k,
+      ∙ append_none (committees_below m k 0 []) ∙ from-root m k,
   (omega (arith, none), subst (λ s. IsIncreasing 1 root.c s) (sym nobody) tt, omega (arith, ap length nobody)),
 )
 

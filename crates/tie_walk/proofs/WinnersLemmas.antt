@@ -1,5 +1,5 @@
 -- The winners are the committees with the greatest value.
-use Rattle.std.proofs.Common.{◌≡◌, ℕ, zero, suc, ◌-◌, ◌≤◌, ◌==◌, ◌&&◌, Bool, true, false, cond, List, [], ◌∷◌, refl, sym, ap, ◌∙◌, arith, map, filter, max, length, ◌<◌, Option, None, Some, unwrap_or, SomeIff, inl, inr}
+use Rattle.std.proofs.Common.{◌≡◌, ℕ, zero, suc, ◌-◌, ◌≤◌, ◌==◌, ◌&&◌, Bool, true, false, cond, List, [], ◌∷◌, refl, sym, ap, ◌∙◌, arith, map, filter, max, length, Option, None, Some, unwrap_or, SomeIff, inl, inr}
 use Rattle.std.specs.Prelude.{fold, nat_le, nat_lt}
 use Rattle.std.specs.List.{list_all, AllByRecursion}
 use Rattle.std.proofs.lemmas.Bool.{cases_lt, lt-ltb, le-ltb}
@@ -96,8 +96,8 @@ greatest-next value floor sets rest set next above =
     let over : unwrap_or floor 0 ≤ value set = no_less floor above in
     let same : max (unwrap_or floor 0) (value set) ≡ value set = omega (arith, over) in
     sym (
-      sym (greatest-above value floor (unwrap_or floor 0) sets (omega arith)) ∙ ap (greatest value (unwrap_or floor 0)) next ∙ ap (λ n. greatest value n (those_above value floor rest)) same
-      ∙ greatest-above value floor (value set) rest over)
+    sym (greatest-above value floor (unwrap_or floor 0) sets (omega arith)) ∙ ap (greatest value (unwrap_or floor 0)) next ∙ ap (λ n. greatest value n (those_above value floor rest)) same
+    ∙ greatest-above value floor (value set) rest over)
   where
     no_less : (f : Option ℕ) → is_above f (value set) ≡ true → unwrap_or f 0 ≤ value set
     no_less None h = omega arith

@@ -178,7 +178,13 @@ fn visit<T: Tally>(
 
 /// The next place after a prefix that is no whole committee: below it, where a committee there may have a value above
 /// the floor, else past it.
-fn next_place<T: Tally>(tally: &T, m: u8, k: u8, prefix: Prefix, floor: Option<u128>) -> Option<Prefix>
+fn next_place<T: Tally>(
+    tally: &T,
+    m: u8,
+    k: u8,
+    prefix: Prefix,
+    floor: Option<u128>,
+) -> Option<Prefix>
     requires candidates { m ≡ T.candidates tally.now }
     requires most { m ≤ most_candidates }
     requires place { IsPlace m k (Some prefix) }

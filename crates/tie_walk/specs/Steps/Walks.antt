@@ -1,5 +1,5 @@
 -- A walk over all committees, in lexicographic order, from prefix to prefix.
-use Rattle.std.specs.Prelude.{◌≡◌, ℕ, ◌+◌, ◌-◌, ◌*◌, ◌^◌, ◌<◌, ◌≤◌, Bool, true, List, [], ◌∷◌, ◌++◌, Option, None, Some, ⊤, length, map, filter, sum_by, nat_lt, MatchOption, option_to_list}
+use Rattle.std.specs.Prelude.{◌≡◌, ℕ, ◌+◌, ◌-◌, ◌^◌, ◌<◌, ◌≤◌, Bool, true, List, [], ◌∷◌, ◌++◌, Option, None, Some, ⊤, length, map, filter, sum_by, nat_lt, MatchOption, option_to_list}
 use Rattle.ballot_base.specs.Limits.{most_candidates}
 use Rattle.ballot_base.specs.Lists.{IsIncreasing, increasing_lists}
 use Rattle.tie_walk.specs.declared.prefix.Prefix.{Prefix}
@@ -43,15 +43,18 @@ abbrev pub those_above : (List ℕ → ℕ) → Option ℕ → List (List ℕ) �
 those_above value floor committees = filter (λ set. is_above floor (value set)) committees
 
 -- the next committee with a value above the floor, and where the walk goes on
-pub record IsFound (value : List ℕ → ℕ) (m k : ℕ) (floor : Option ℕ) (from : Option Prefix) (set : List ℕ) (rest : Option Prefix) : Type 0 where
-  pub next : those_above value floor (committees_from m k from) ≡ set ∷ those_above value floor (committees_from m k rest)
+pub record IsFound (value : List ℕ → ℕ) (m k : ℕ) (floor : Option ℕ) (from : Option Prefix)
+    (set : List ℕ) (rest : Option Prefix) : Type 0 where
+  pub next : those_above value floor (committees_from m k from)
+      ≡ set ∷ those_above value floor (committees_from m k rest)
   pub candidates : IsIncreasing 1 m set
   pub above : is_above floor (value set) ≡ true
   pub place : IsPlace m k rest
   pub work : work_left m rest < work_left m from
 
 -- a visit of a prefix: what the walk finds there, and where it goes on
-pub record IsVisit (value : List ℕ → ℕ) (m k : ℕ) (floor : Option ℕ) (prefix : Prefix) (found : Option (List ℕ)) (rest : Option Prefix) : Type 0 where
+pub record IsVisit (value : List ℕ → ℕ) (m k : ℕ) (floor : Option ℕ) (prefix : Prefix)
+    (found : Option (List ℕ)) (rest : Option Prefix) : Type 0 where
   pub next : those_above value floor (committees_from m k (Some prefix))
       ≡ option_to_list found ++ those_above value floor (committees_from m k rest)
   pub committee : MatchOption found ⊤ (λ set. IsIncreasing 1 m set × (is_above floor (value set) ≡ true))

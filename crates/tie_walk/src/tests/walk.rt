@@ -59,14 +59,7 @@ fn plain_best<T: Tally>(tally: &T, m: u8, k: u8) -> u128
 }
 
 /// Asserts that the winners after a start are those that a pass over the committees after it finds.
-fn assert_after<T: Tally>(
-    rt: &impl Abort,
-    tally: &T,
-    m: u8,
-    k: u8,
-    best: u128,
-    start: CandSet,
-)
+fn assert_after<T: Tally>(rt: &impl Abort, tally: &T, m: u8, k: u8, best: u128, start: CandSet)
     requires candidates { m ≡ T.candidates tally.now }
     requires most { m ≤ most_candidates }
     requires some { 1 ≤ k }
@@ -170,7 +163,8 @@ fn bounds_of_two_seats(rt: HostRuntime) -> Result<(), Fail> {
     Ok(())
 }
 
-/// Of 40 candidates a voter approves the first 20: they win 20 seats, and none of the 137,846,528,820 others is visited.
+/// Of 40 candidates a voter approves the first 20: they win 20 seats. A pass over all 137,846,528,820 committees would
+/// not end in a test's time.
 #[test]
 fn twenty_of_forty(rt: HostRuntime) -> Result<(), Fail> {
     let mut builder = ProfileBuilder::new(rt.alloc(), 40)?;
@@ -183,7 +177,10 @@ fn twenty_of_forty(rt: HostRuntime) -> Result<(), Fail> {
     let tally = ThieleTally::new(&profile, ThieleRule::Av, 20);
     let mut winners = Winners::new(&tally, 40, 20, None);
     assert_eq!(rt; winners.best(), 20);
-    assert!(rt; winners.next() == Some(CandSet::all(20)), "the first twenty");
+    assert!(rt;
+        winners.next() == Some(CandSet::all(20)),
+        "the first twenty"
+    );
     assert!(rt; winners.next().is_none(), "after the first twenty");
     Ok(())
 }

@@ -1,4 +1,4 @@
-use Rattle.std.proofs.Common.{◌≡◌, ◌∙◌, refl, sym, ap}
+use Rattle.std.proofs.Common.{◌∙◌, sym, ap}
 use Rattle.tie_walk.specs.Steps.Walks.{committees_from}
 use Rattle.tie_walk.proofs.WalkLemmas.{at_root, greatest-found}
 use Rattle.tie_walk.proofs.WinnersLemmas.{greatest, greatest-done}

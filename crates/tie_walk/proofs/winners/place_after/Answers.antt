@@ -1,6 +1,6 @@
-use Rattle.std.proofs.Common.{◌≡◌, ℕ, ◌∙◌, List, [], ◌++◌, Option, None, Some, sym, ap, subst, arith}
+use Rattle.std.proofs.Common.{◌≡◌, ◌∙◌, [], ◌++◌, None, Some, sym, ap, subst}
 use Rattle.ballot_base.specs.Lists.{increasing_lists, later_than}
-use Rattle.tie_walk.specs.Steps.Walks.{committees_below, committees_after, committees_from}
+use Rattle.tie_walk.specs.Steps.Walks.{committees_below, committees_after}
 use Rattle.tie_walk.specs.Winners.{IsStart}
 use Rattle.tie_walk.specs.declared.prefix.Prefix.{Prefix}
 use Rattle.tie_walk.proofs.WalkLemmas.{from-past, from-root, after-start, append_none}

@@ -2,7 +2,7 @@ use Rattle.std.proofs.Common.{◌≡◌, ◌∙◌, ap, sym, filter}
 use Rattle.std.specs.Prelude.{nat_le}
 use Rattle.ballot_base.specs.Lists.{increasing_lists, later_than}
 use Rattle.tie_walk.specs.Steps.Walks.{committees_from}
-use Rattle.tie_walk.specs.Winners.{best_value, winners}
+use Rattle.tie_walk.specs.Winners.{best_value}
 use Rattle.tie_walk.proofs.StartLemmas.{later_than-filter}
 use Rattle.tie_walk.proofs.WinnersLemmas.{winners-from_best}
 use Rattle.tie_walk.proofs.winners.Winners.new.Goals as goal

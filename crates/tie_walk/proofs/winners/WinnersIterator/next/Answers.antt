@@ -1,4 +1,4 @@
-use Rattle.std.proofs.Common.{◌≡◌, ◌∙◌, refl, sym, ap}
+use Rattle.std.proofs.Common.{◌∙◌, refl, sym}
 use Rattle.tie_walk.specs.Steps.Walks.{committees_from}
 use Rattle.tie_walk.proofs.WalkLemmas.{left-of, nothing-left, next-found}
 use Rattle.tie_walk.proofs.WinnersLemmas.{floor-is}
