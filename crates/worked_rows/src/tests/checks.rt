@@ -203,7 +203,7 @@ fn the_largest_committees(rt: HostRuntime) -> Result<(), Fail> {
     let report = "violated jr;level 1;candidates 41;voters 1 of 1;1: 41,64";
     assert_checks(&rt, alloc, words.as_str(), text.as_bytes(), report)?;
     for property in PROPERTIES {
-        let words = format!(in alloc; "{property} 63,64")?;
+        let words = format!(in alloc; "{property} 41,64")?;
         assert_checks(&rt, alloc, words.as_str(), text.as_bytes(), "holds")?;
     }
     Ok(())
