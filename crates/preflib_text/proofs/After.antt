@@ -1,7 +1,6 @@
 -- The notes and the profile after some lines, and after one more.
 use Rattle.std.proofs.Common.{◌==◌, ◌<◌, ◌≡◌, ◌≢◌, ℕ, ◌+◌, ◌≤◌, ◌&&◌, ◌||◌, Bool, true, false, not, cond, List, [], ◌∷◌, ◌++◌, refl, sym, ap, subst, ◌∙◌, arith, length, map, take, sum_by, Option, Some, None, option_map, unwrap_or, is_some, Result, Ok, Err, IfSome, replicate}
 use Rattle.std.specs.Prelude.{nat_lt, nat_le}
-use Rattle.std.specs.List.{list_any}
 use Rattle.std.proofs.lemmas.List.{append_assoc, append-nil}
 use Rattle.std.proofs.lemmas.Bool.{lt-ltb}
 use Rattle.std.proofs.lemmas.List.FromFn.{take-map-range_with_len}
@@ -17,27 +16,11 @@ use Rattle.preflib_text.specs.Lines.{is_ballot_line, lines_of, pieces_of, withou
 use Rattle.preflib_text.specs.Metadata.{Told, TypeIs, AlternativesAre, CategoriesAre, NameIs, Nothing, told_of, written_number}
 use Rattle.preflib_text.specs.Approvals.{approved}
 use Rattle.preflib_text.specs.Steps.Tokens.{ballot_of}
-use Rattle.preflib_text.specs.Reading.{Cast, or_else, fault_if, told_before, kind_or_usual, is_fitting, ballot_fault, alternatives_in, categories_in, casts_in, votes_in, rows_in, election_in, line_fault, told_fault, first_fault, first_faulty_line, FaultyLine, faulty_line, fault_of_line, end_fault, at_end, is_name, takes_memory, kind_in, at_line, cast_fault, kind_fault, ballot_line_fault, number_fault, kind_or, kind_by}
+use Rattle.preflib_text.specs.Reading.{Cast, or_else, fault_if, told_before, kind_or_usual, is_fitting, ballot_fault, alternatives_in, categories_in, casts_in, rows_in, election_in, line_fault, told_fault, first_fault, first_faulty_line, FaultyLine, faulty_line, fault_of_line, end_fault, at_end, is_name, is_growth, takes_memory, kind_in, at_line, cast_fault, kind_fault, ballot_line_fault, number_fault, kind_or, kind_by}
 use Rattle.preflib_text.specs.Steps.Notes.{Effect, NoEffect, Names, Casts, fresh_notes, first_kind, told_error, told_notes, told_effect, cast_error, kind_error, alternatives_error, ballot_error, cast_effect, line_error, line_notes, line_effect, effect_error, with_effect, end_error, is_empty, effect_takes}
-use Rattle.preflib_text.proofs.ToldSteps.{IsTold, told-step, told_before-kept, told_before-more}
-use Rattle.preflib_text.proofs.ProfileSteps.{last_name, last_names, last_names-told, last_names-kept, name_value-other, casts_in-other, casts_in-ballot, casts_in-none, votes_in-ballot, rows_of, rows_of-push, with_votes-some, length-with_votes, voters-more}
-
--- whether a ballot is among the lines
-abbrev pub has_ballot : List (List ℕ) → Bool
-has_ballot lines = list_any is_ballot_line lines
-
--- the profile where a ballot was read
-abbrev pub IsBegun : Pick → List (List ℕ) → Notes → Election → Type 0
-IsBegun pick before notes e = (m : ℕ) × (notes.alternatives ≡ Some m)
-    × (e ≡ election m (last_names (told_before before) m) (rows_of (kind_or_usual notes.kind) pick.way (casts_in pick ballot_of before))) × (e.rows ≢ [])
-
--- what the notes and the profile are after these lines
-pub record IsAfter (pick : Pick) (before : List (List ℕ)) (notes : Notes) (e : Election) : Type 0 where
-  pub told : IsTold pick (told_before before) notes
-  pub ballots : notes.has_ballot ≡ has_ballot before
-  pub opened : notes.has_ballot ≡ false → e ≡ election most_candidates (last_names (told_before before) most_candidates) []
-  pub begun : notes.has_ballot ≡ true → IsBegun pick before notes e
-  pub votes : voter_count e.rows ≡ votes_in pick ballot_of before
+use Rattle.preflib_text.specs.Steps.After.{IsTold, last_name, last_names, rows_of, has_ballot, IsAfter, IsFine}
+use Rattle.preflib_text.proofs.ToldSteps.{told-step, told_before-kept, told_before-more}
+use Rattle.preflib_text.proofs.ProfileSteps.{last_names-told, last_names-kept, name_value-other, casts_in-other, casts_in-ballot, casts_in-none, votes_in-ballot, rows_of-push, with_votes-some, length-with_votes, voters-more}
 
 -- ---- before the first line
 
@@ -60,7 +43,7 @@ or_else-none : {X : Type 0} (o : Option X) → or_else o None ≡ o
 or_else-none None = refl
 or_else-none (Some x) = refl
 
-or_else-assoc : {X : Type 0} (a b c : Option X) → or_else (or_else a b) c ≡ or_else a (or_else b c)
+pub or_else-assoc : {X : Type 0} (a b c : Option X) → or_else (or_else a b) c ≡ or_else a (or_else b c)
 or_else-assoc None b c = refl
 or_else-assoc (Some x) b c = refl
 
@@ -337,15 +320,13 @@ after-line pick before line notes e is fine = by (is_ballot_line line) notes.has
 
 -- ---- a line that takes memory
 
-or_last : (a b c : Bool) → c ≡ true → (a || (b || c)) ≡ true
-or_last true b c h = refl
-or_last false true c h = refl
-or_last false false c h = h
+or_second : (a b : Bool) → b ≡ true → (a || b) ≡ true
+or_second true b h = refl
+or_second false b h = h
 
-or_middle : (a b c : Bool) → b ≡ true → (a || (b || c)) ≡ true
-or_middle true b c h = refl
-or_middle false true c h = refl
-or_middle false false c h = absurd (cc)
+or_first : (a b : Bool) → a ≡ true → (a || b) ≡ true
+or_first true b h = refl
+or_first false b h = absurd (cc)
 
 -- a name of a candidate
 takes_name : (e : Election) (told : Told) → effect_takes e (told_effect told) ≡ true → is_name told ≡ true
@@ -370,14 +351,12 @@ takes_row e true alternatives m set count is empty h = length-with_votes e.rows 
 takes_row e false None m set count is empty h = absurd (cc)
 takes_row e false (Some k) m set count is empty h = omega (arith, ap length (empty refl))
 
-pub takes_memory-is : (pick : Pick) (before : List (List ℕ)) (line : List ℕ) (notes : Notes) (e : Election) → IsAfter pick before notes e → line_error pick notes line ≡ None
-    → effect_takes e (line_effect pick notes line) ≡ true → takes_memory pick ballot_of before line ≡ true
-takes_memory-is pick before line notes e is fine takes =
+-- what takes memory is a growth
+pub is_growth-is : (pick : Pick) (before : List (List ℕ)) (line : List ℕ) (notes : Notes) (e : Election) → IsAfter pick before notes e → line_error pick notes line ≡ None
+    → effect_takes e (line_effect pick notes line) ≡ true → is_growth pick ballot_of before line ≡ true
+is_growth-is pick before line notes e is fine takes =
     by (is_ballot_line line) notes.has_ballot refl refl (or_else-second (fault_if (nat_lt most_line_bytes (length line)) LongLine) _ fine) takes
   where
-    first : Bool
-    first = length before == 0
-
     name : Bool
     name = not (has_ballot before) && is_name (told_of line)
 
@@ -401,10 +380,14 @@ takes_memory-is pick before line notes e is fine takes =
         (takes_row e notes.has_ballot notes.alternatives m (approved (kind_or_usual notes.kind) pick.way cast.classes) cast.count alternatives (λ none. ap (λ (g : Election). g.rows) (is.opened none)) (sym (ap (effect_takes e) effect) ∙ h))
 
     by : (b s : Bool) → is_ballot_line line ≡ b → notes.has_ballot ≡ s → cond b (ballot_error pick notes (ballot_of line)) (cond s None (told_error notes (told_of line))) ≡ None
-        → effect_takes e (cond b (cast_effect pick notes (ballot_of line)) (cond s NoEffect (told_effect (told_of line)))) ≡ true → (first || (name || row)) ≡ true
-    by true s f g h t = or_last first name row (of_ballot f (is_cast pick before line notes h) t)
+        → effect_takes e (cond b (cast_effect pick notes (ballot_of line)) (cond s NoEffect (told_effect (told_of line)))) ≡ true → (name || row) ≡ true
+    by true s f g h t = or_second name row (of_ballot f (is_cast pick before line notes h) t)
     by false true f g h t = absurd (cc)
-    by false false f g h t = or_middle first name row (ap (λ b. not b && is_name (told_of line)) (sym is.ballots ∙ g) ∙ takes_name e (told_of line) t)
+    by false false f g h t = or_first name row (ap (λ b. not b && is_name (told_of line)) (sym is.ballots ∙ g) ∙ takes_name e (told_of line) t)
+
+pub takes_memory-is : (pick : Pick) (before : List (List ℕ)) (line : List ℕ) (notes : Notes) (e : Election) → IsAfter pick before notes e → line_error pick notes line ≡ None
+    → effect_takes e (line_effect pick notes line) ≡ true → takes_memory pick ballot_of before line ≡ true
+takes_memory-is pick before line notes e is fine takes = or_second (length before == 0) _ (is_growth-is pick before line notes e is fine takes)
 
 -- ---- the end
 
@@ -443,10 +426,6 @@ election_in-is pick lines notes e is fine = by notes.has_ballot refl
         no_voters (row ∷ rows) g i = absurd (cc)
 
 -- ---- all lines
-
--- lines without a fault before others
-abbrev pub IsFine : Pick → List (List ℕ) → Type 0
-IsFine pick before = (more : List (List ℕ)) → first_faulty_line pick ballot_of [] (before ++ more) ≡ first_faulty_line pick ballot_of before more
 
 pub is_fine-none : (pick : Pick) → IsFine pick []
 is_fine-none pick more = refl

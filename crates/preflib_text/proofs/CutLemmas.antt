@@ -8,11 +8,11 @@ use Rattle.preflib_text.specs.Lines.{onto_first, pieces_of, without_return, is_b
 
 -- ---- lines
 
-pieces_of-line : (bytes : List ℕ) → pieces_of (10 ∷ bytes) ≡ [] ∷ pieces_of bytes
+pub pieces_of-line : (bytes : List ℕ) → pieces_of (10 ∷ bytes) ≡ [] ∷ pieces_of bytes
 unfolding pieces_of
 pieces_of-line bytes = refl
 
-pieces_of-byte : (b : ℕ) (bytes : List ℕ) → b ≢ 10 → pieces_of (b ∷ bytes) ≡ onto_first b (pieces_of bytes)
+pub pieces_of-byte : (b : ℕ) (bytes : List ℕ) → b ≢ 10 → pieces_of (b ∷ bytes) ≡ onto_first b (pieces_of bytes)
 unfolding pieces_of
 pieces_of-byte b bytes other = ap (λ t. cond t ([] ∷ pieces_of bytes) (onto_first b (pieces_of bytes))) (ne_eqb b 10 other)
 
@@ -33,7 +33,7 @@ pieces_of-whole (b ∷ c ∷ bytes) some none =
     pieces_of-byte b (c ∷ bytes) (none 0 (omega arith))
     ∙ ap (onto_first b) (pieces_of-whole (c ∷ bytes) (omega arith) (λ i h. none (suc i) (omega arith)))
 
-equal_byte : (n : ℕ) → (n == 10) ≡ true → n ≡ 10
+pub equal_byte : (n : ℕ) → (n == 10) ≡ true → n ≡ 10
 equal_byte n h = grind arith
 
 -- the same, as a search for LF says it

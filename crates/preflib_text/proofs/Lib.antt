@@ -15,3 +15,6 @@ pub mod BallotLines
 pub mod BallotExamples
 pub mod ReadingExamples
 pub mod ReadLemmas
+pub mod EndLemmas
+pub mod PieceLemmas
+pub mod PieceExamples

@@ -1,5 +1,5 @@
 -- The names and the ballots of the lines, line by line.
-use Rattle.std.proofs.Common.{◌≡◌, ◌≢◌, ℕ, zero, suc, ◌+◌, ◌-◌, ◌<◌, ◌≤◌, ◌||◌, Bool, true, false, cond, List, [], ◌∷◌, ◌++◌, refl, sym, ap, ◌∙◌, arith, map, filter, filter_map, fold, length, sum_by, append-nil, Option, Some, None, unwrap_or}
+use Rattle.std.proofs.Common.{◌≡◌, ◌≢◌, ℕ, zero, suc, ◌+◌, ◌-◌, ◌<◌, ◌≤◌, ◌||◌, Bool, true, false, cond, List, [], ◌∷◌, ◌++◌, refl, sym, ap, ◌∙◌, arith, map, filter, filter_map, length, sum_by, append-nil, Option, Some, None, unwrap_or}
 use Rattle.std.specs.Prelude.{slice_set, slice_get}
 use Rattle.std.specs.List.{list_any, range_with_len, cons_option}
 use Rattle.std.proofs.lemmas.List.{reverse-append}
@@ -15,15 +15,9 @@ use Rattle.preflib_text.specs.Lines.{is_ballot_line}
 use Rattle.preflib_text.specs.Metadata.{Told, NameIs}
 use Rattle.preflib_text.specs.Approvals.{approved}
 use Rattle.preflib_text.specs.Reading.{Cast, last_of, name_value, casts_in, votes_in}
+use Rattle.preflib_text.specs.Steps.After.{last_name, last_names, rows_of}
 
 -- ---- names
-
--- the name that is told last, or none
-abbrev pub last_name : List Told → ℕ → List ℕ
-last_name tolds n = unwrap_or (last_of (filter_map (name_value n) tolds)) []
-
-abbrev pub last_names : List Told → ℕ → List (List ℕ)
-last_names tolds count = map (last_name tolds) (range_with_len 1 count)
 
 pub map-range-same : (f g : ℕ → List ℕ) (first count : ℕ) → ((k : ℕ) → first ≤ k → k < first + count → f k ≡ g k) → map f (range_with_len first count) ≡ map g (range_with_len first count)
 map-range-same f g first zero same = refl
@@ -94,10 +88,6 @@ module _ (pick : Pick) (read : List ℕ → Option Cast) where
   votes_in-ballot before line cast is read_is =
       let one : 0 + cast.count ≡ cast.count = omega arith in
       ap (sum_by (λ (c : Cast). c.count)) (casts_in-ballot before line cast is read_is) ∙ sum_by-append (λ (c : Cast). c.count) (casts_in pick read before) (cast ∷ []) ∙ ap (λ n. votes_in pick read before + n) one
-
--- the rows of these ballots
-abbrev pub rows_of : Kind → Way → List Cast → List Row
-rows_of kind way casts = fold (λ rows cast. with_votes rows (approved kind way cast.classes) cast.count) [] casts
 
 pub rows_of-push : (kind : Kind) (way : Way) (casts : List Cast) (cast : Cast) → rows_of kind way (casts ++ cast ∷ []) ≡ with_votes (rows_of kind way casts) (approved kind way cast.classes) cast.count
 rows_of-push kind way casts cast = fold-append (λ rows (c : Cast). with_votes rows (approved kind way c.classes) c.count) [] casts (cast ∷ [])

@@ -18,15 +18,16 @@ use Rattle.preflib_text.specs.Steps.Tokens.{ballot_of}
 use Rattle.preflib_text.specs.Reading.{Cast, outcome_in, Reads, RunsShort, or_else, fault_if, first_fault, takes_memory, line_fault, at_end, at_line, outcome_by, election_in}
 use Rattle.preflib_text.specs.Steps.Notes.{Refuses, effect_takes, fresh_notes, told_error, told_effect, ballot_error, cast_effect, line_error, line_notes, line_effect, effect_error, with_effect, end_error}
 use Rattle.preflib_text.proofs.BallotLines.{ballot_of_reads, one_reading}
-use Rattle.preflib_text.proofs.After.{IsAfter, IsAt, IsFine, is_after-none, is_fine-none, is_fine-more, fault_at, line_error-is, after-line, end_error-is, election_in-is, none_faulty, fault_at_end, takes_memory-is, or_else-first, or_else-second, told_effect-fine}
+use Rattle.preflib_text.specs.Steps.After.{IsAfter, IsFine}
+use Rattle.preflib_text.proofs.After.{IsAt, is_after-none, is_fine-none, is_fine-more, fault_at, line_error-is, after-line, end_error-is, election_in-is, none_faulty, fault_at_end, takes_memory-is, or_else-first, or_else-second, told_effect-fine}
 
 -- ---- what an input holds
 
-reads_fault : (bytes : List ℕ) (pick : Pick) (lines : List (List ℕ)) (fault : ReadFault) → lines_of bytes ≡ lines → first_fault pick ballot_of lines ≡ Some fault → Reads bytes pick (Err fault)
+pub reads_fault : (bytes : List ℕ) (pick : Pick) (lines : List (List ℕ)) (fault : ReadFault) → lines_of bytes ≡ lines → first_fault pick ballot_of lines ≡ Some fault → Reads bytes pick (Err fault)
 reads_fault bytes pick lines fault is first =
     (ballot_of, ballot_of_reads, sym (ap (λ l. outcome_by (election_in pick ballot_of l) (first_fault pick ballot_of l)) is ∙ ap (outcome_by (election_in pick ballot_of lines)) first))
 
-reads_election : (bytes : List ℕ) (pick : Pick) (lines : List (List ℕ)) (e : Election) → lines_of bytes ≡ lines → first_fault pick ballot_of lines ≡ None → e ≡ election_in pick ballot_of lines → Reads bytes pick (Ok e)
+pub reads_election : (bytes : List ℕ) (pick : Pick) (lines : List (List ℕ)) (e : Election) → lines_of bytes ≡ lines → first_fault pick ballot_of lines ≡ None → e ≡ election_in pick ballot_of lines → Reads bytes pick (Ok e)
 reads_election bytes pick lines e is none same =
     (ballot_of, ballot_of_reads, ap Ok same ∙ sym (ap (λ l. outcome_by (election_in pick ballot_of l) (first_fault pick ballot_of l)) is ∙ ap (outcome_by (election_in pick ballot_of lines)) none))
 

@@ -14,7 +14,8 @@ use Rattle.preflib_text.specs.declared.notes.Notes.{Notes}
 use Rattle.preflib_text.specs.Lines.{is_ballot_line}
 use Rattle.preflib_text.specs.Metadata.{Told, TypeIs, AlternativesAre, CategoriesAre, NameIs, Nothing, told_of, written_number}
 use Rattle.preflib_text.specs.Reading.{or_else, told_before, alternatives_value, categories_value, type_value, last_of, kind_by, number_fault}
-use Rattle.preflib_text.specs.Steps.Notes.{IsSound, kind_with, told_error, told_notes}
+use Rattle.preflib_text.specs.Steps.Notes.{kind_with, told_error, told_notes}
+use Rattle.preflib_text.specs.Steps.After.{first_number, IsTold}
 
 -- ---- what is told when a line more comes
 
@@ -62,10 +63,6 @@ module _ (h : Told → Option (List ℕ)) (tolds : List Told) (told : Told) wher
   values-more : (value : List ℕ) → h told ≡ Some value → filter_map h (tolds ++ told ∷ []) ≡ filter_map h tolds ++ value ∷ []
   values-more value some = filter_map-append h tolds (told ∷ []) ∙ ap (λ o. filter_map h tolds ++ cons_option o []) some
 
--- the number that is told first
-abbrev pub first_number : (Told → Option (List ℕ)) → List Told → Option ℕ
-first_number h tolds = option_and_then written_number (slice_get (filter_map h tolds) 0)
-
 last_of-push : (values : List (List ℕ)) (value : List ℕ) → last_of (values ++ value ∷ []) ≡ Some value
 last_of-push values value = ap (λ l. slice_get l 0) (reverse-append values (value ∷ []))
 
@@ -99,15 +96,6 @@ number-again h tolds told value noted most is first none (n, is_n, low, high, sa
         is_n ∙ ap Some (sym equal) ∙ f ∙ ap (λ l. option_and_then written_number (slice_get l 0)) e ∙ sym (ap (λ l. option_and_then written_number (slice_get (l ++ value ∷ []) 0)) e)
 
 -- ---- the notes
-
--- the notes hold what was told
-pub record IsTold (pick : Pick) (tolds : List Told) (notes : Notes) : Type 0 where
-  pub alternatives : notes.alternatives ≡ first_number alternatives_value tolds
-  pub categories : notes.categories ≡ first_number categories_value tolds
-  pub kind : notes.kind ≡ kind_by pick.kind (last_of (filter_map type_value tolds)) pick.ending
-  pub no_alternatives : notes.alternatives ≡ None → filter_map alternatives_value tolds ≡ []
-  pub no_categories : notes.categories ≡ None → filter_map categories_value tolds ≡ []
-  pub sound : IsSound notes
 
 -- something is told that is neither number nor type
 told-other : (pick : Pick) (tolds : List Told) (notes : Notes) (told : Told) → IsTold pick tolds notes → alternatives_value told ≡ None → categories_value told ≡ None → type_value told ≡ None → IsTold pick (tolds ++ told ∷ []) notes

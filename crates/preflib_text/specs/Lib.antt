@@ -5,4 +5,5 @@ pub mod Ballot
 pub mod Approvals
 pub mod Metadata
 pub mod Reading
+pub mod Pieces
 pub mod Steps

@@ -258,12 +258,15 @@ module _ (pick : Pick) (read : List ℕ → Option Cast) where
   abbrev pub outcome_in : List (List ℕ) → Result Election ReadFault
   outcome_in lines = outcome_by (election_in lines) (first_fault lines)
 
-  -- whether a line takes memory, after these lines: the first, where the room of names and rows is taken; the name of a
-  -- candidate before the first ballot; and a ballot that makes a new row
+  -- whether a line makes the profile grow, after these lines: the name of a candidate before the first ballot, and a
+  -- ballot that makes a new row
+  abbrev pub is_growth : List (List ℕ) → List ℕ → Bool
+  is_growth before line = (not (list_any is_ballot_line before) && is_name (told_of line))
+      || nat_lt (length (rows_in before)) (length (rows_in (before ++ line ∷ [])))
+
+  -- whether a line takes memory: the first, where the room of names and rows is taken, and one that makes them grow
   abbrev pub takes_memory : List (List ℕ) → List ℕ → Bool
-  takes_memory before line = (length before == 0)
-      || ((not (list_any is_ballot_line before) && is_name (told_of line))
-      || nat_lt (length (rows_in before)) (length (rows_in (before ++ line ∷ []))))
+  takes_memory before line = (length before == 0) || is_growth before line
 
 -- what an input holds
 abbrev pub Reads : List ℕ → Pick → Result Election ReadFault → Type 0

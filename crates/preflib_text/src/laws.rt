@@ -1,9 +1,14 @@
-//! Laws of the names. The function does nothing, and its contract is the law.
-ghost use Rattle.std.specs.Prelude.{◌≡◌, Some};
+//! Laws of the names, and of what bytes tell. The functions do nothing, and their contracts are the laws.
+ghost use Rattle.std.specs.Prelude.{◌≡◌, ℕ, ◌≤◌, ◌==◌, false, List, [], ◌∷◌, ◌++◌, length, map, Option, Some, Err};
+ghost use Rattle.std.specs.List.{list_any};
+ghost use Rattle.preflib_text.specs.Limits.{most_line_bytes};
+ghost use Rattle.preflib_text.specs.Lines.{lines_of, pieces_of, without_return};
+ghost use Rattle.preflib_text.specs.Reading.{Reads, RunsShort};
+ghost use Rattle.preflib_text.specs.Pieces.{LacksMemory, Tells, ended_lines, unfinished_line, is_too_long};
 ghost use Rattle.preflib_text.specs.Names.{kind_name, kind_named, kinds, fault_name, fault_named, faults};
 
-use crate::fault::FaultName;
-use crate::pick::Kind;
+use crate::fault::{FaultName, ReadFault};
+use crate::pick::{Kind, Pick};
 
 /// `ALL` has each type and each fault, and no two of them share a name.
 pub fn names()
@@ -11,4 +16,28 @@ pub fn names()
     ensures faults { FaultName.ALL ≡ faults }
     ensures kind { (kind : Kind) → kind_named (kind_name kind) ≡ Some kind }
     ensures fault { (fault : FaultName) → fault_named (fault_name fault) ≡ Some fault }
+{}
+
+/// The lines of an input are those that have ended and, where bytes come after the last LF, the one that they make. A
+/// line that is not too long so far comes within the limit if it ends there.
+pub fn unfinished_lines()
+    ensures all { (bytes : List ℕ) → lines_of bytes
+        ≡ ended_lines bytes ++ map without_return (pieces_of (unfinished_line bytes)) }
+    ensures one { (bytes : List ℕ) → list_any (λ b. b == 10) (unfinished_line bytes) ≡ false }
+    ensures next { (bytes : List ℕ) → ended_lines (bytes ++ 10 ∷ [])
+        ≡ ended_lines bytes ++ without_return (unfinished_line bytes) ∷ [] }
+    ensures fits { (bytes : List ℕ) → is_too_long (unfinished_line bytes) ≡ false
+        → length (without_return (unfinished_line bytes)) ≤ most_line_bytes }
+{}
+
+/// Bytes tell one thing under one pick, and a fault that they tell is that of every input that begins with them. Want
+/// of memory of a reader in pieces is also one of a reader of the whole.
+pub fn pieces()
+    ensures some { (bytes : List ℕ) (pick : Pick) → (fault : Option ReadFault) × Tells bytes pick fault }
+    ensures one { (bytes : List ℕ) (pick : Pick) (a b : Option ReadFault) → Tells bytes pick a → Tells bytes pick b
+        → a ≡ b }
+    ensures every { (bytes more : List ℕ) (pick : Pick) (fault : ReadFault) → Tells bytes pick (Some fault)
+        → Reads (bytes ++ more) pick (Err fault) }
+    ensures memory { (bytes : List ℕ) (pick : Pick) (fault : ReadFault) → LacksMemory (lines_of bytes) pick fault
+        → RunsShort bytes pick fault }
 {}

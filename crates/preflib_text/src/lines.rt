@@ -51,7 +51,7 @@ pub(crate) fn first_line(text: &[u8]) -> Cut<'_>
 }
 
 /// The line without a CR at its end.
-fn without_return(line: &[u8]) -> &[u8]
+pub(crate) fn without_return(line: &[u8]) -> &[u8]
     ensures { result.now ≡ without_return line.now }
 {
     match line {

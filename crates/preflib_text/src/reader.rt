@@ -84,7 +84,7 @@ fn apply<A: Allocator + Copy + Drop>(
 }
 
 /// The profile of the lines, or the fault of the end.
-fn finish<A: Allocator + Copy + Drop>(
+pub(crate) fn finish<A: Allocator + Copy + Drop>(
     builder: ProfileBuilder<A>,
     notes: &Notes,
 ) -> Result<Profile<A>, ReadFault>
@@ -108,7 +108,7 @@ fn finish<A: Allocator + Copy + Drop>(
 }
 
 /// Reads a line, and does to the profile what it does.
-fn take_line<A: Allocator + Copy + Drop>(
+pub(crate) fn take_line<A: Allocator + Copy + Drop>(
     builder: &mut ProfileBuilder<A>,
     notes: &mut Notes,
     pick: &Pick,
@@ -136,7 +136,7 @@ fn take_line<A: Allocator + Copy + Drop>(
 }
 
 /// The fault of a line. The want of a number of alternatives has no line.
-fn fault_of_line(number: u64, name: FaultName) -> ReadFault
+pub(crate) fn fault_of_line(number: u64, name: FaultName) -> ReadFault
     ensures { result ≡ at_line number name }
 {
     let line = match name {

@@ -1,14 +1,16 @@
 //! Reading whole ballot files.
-ghost use Rattle.std.specs.Prelude.{◌≡◌};
+ghost use Rattle.std.specs.Prelude.{◌≡◌, ◌<◌};
+ghost use Rattle.preflib_text.specs.Approvals.{HasNumber};
 
 mod faults;
 mod headers;
 mod lines;
 mod metadata;
 mod order;
+mod pieces;
 mod rows;
 
-use crate::{FaultName, Kind, Pick, ReadFault, Way, read_profile};
+use crate::{FaultName, Kind, LineReader, Pick, ReadFault, Way, read_profile};
 use ballot_base::{CandSet, Profile};
 use std::alloc::Global;
 use std::process::Abort;
@@ -43,17 +45,64 @@ fn assert_rows(rt: &impl Abort, profile: &Profile, rows: &[Row<'_>]) {
     }
 }
 
-/// Asserts that each file has its fault, at its line.
+/// What a file holds that is fed in pieces of so many bytes.
+fn by_pieces(alloc: Global, pick: &Pick, file: &[u8], size: usize) -> Result<Profile, ReadFault>
+    requires way { HasNumber pick.now.way }
+    requires some { 0 < size }
+{
+    let mut reader = LineReader::new(alloc, *pick)?;
+    let mut rest = file;
+    while !rest.is_empty() {
+        let (piece, after) = rest.split_at(rest.len().min(size));
+        reader.feed(piece)?;
+        rest = after;
+    }
+    reader.finish()
+}
+
+/// What a file holds that is cut in three, before the bytes of these numbers.
+fn in_three(
+    alloc: Global,
+    pick: &Pick,
+    file: &[u8],
+    first: usize,
+    second: usize,
+) -> Result<Profile, ReadFault>
+    requires { HasNumber pick.now.way }
+{
+    let (front, last) = file.split_at(second.min(file.len()));
+    let (begin, middle) = front.split_at(first.min(front.len()));
+    let mut reader = LineReader::new(alloc, *pick)?;
+    reader.feed(begin)?;
+    reader.feed(middle)?;
+    reader.feed(last)?;
+    reader.finish()
+}
+
+/// Asserts that a file has this fault as a whole, in single bytes, and cut in two at each place.
+fn assert_fault(rt: &impl Abort, alloc: Global, pick: &Pick, file: &[u8], wanted: ReadFault)
+    requires { HasNumber pick.now.way }
+{
+    let fault = read_profile(alloc, file, pick).err();
+    assert_eq!(rt; fault, Some(wanted), "at {file:?}");
+    let fault = by_pieces(alloc, pick, file, 1).err();
+    assert_eq!(rt; fault, Some(wanted), "in bytes, at {file:?}");
+    for at in 0..=file.len() {
+        let fault = in_three(alloc, pick, file, at, file.len()).err();
+        assert_eq!(rt; fault, Some(wanted), "cut before {at}, at {file:?}");
+    }
+}
+
+/// Asserts that each file has its fault, at its line, as a whole and in pieces.
 fn assert_faults(rt: &impl Abort, alloc: Global, pick: &Pick, cases: &[(&[u8], FaultName, u64)])
     requires { pick.now.way ≡ Way.Usual }
 {
     for (file, name, line) in cases {
-        let fault = read_profile(alloc, file, pick).err();
         let wanted = ReadFault {
             name: *name,
             line: Some(*line),
         };
-        assert_eq!(rt; fault, Some(wanted), "at {file:?}");
+        assert_fault(rt, alloc, pick, file, wanted);
     }
 }
 

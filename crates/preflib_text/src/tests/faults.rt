@@ -223,16 +223,19 @@ fn the_end(rt: HostRuntime) {
         ),
     ];
     for (file, name) in cases {
-        let fault = read_profile(rt.alloc(), file, &TOLD).err();
-        assert_eq!(rt; fault, Some(ReadFault { name, line: None }), "at {file:?}");
+        let wanted = ReadFault { name, line: None };
+        assert_fault(&rt, rt.alloc(), &TOLD, file, wanted);
     }
 }
 
 #[test]
 fn a_ballot_before_the_number_of_alternatives(rt: HostRuntime) {
     let file = b"# DATA TYPE: toi\n1: 1\n# NUMBER ALTERNATIVES: 3\n";
-    let fault = read_profile(rt.alloc(), file, &TOLD).err();
-    assert!(rt; fault.is_some_and(|fault| fault.name == FaultName::NoAlternatives));
+    let wanted = ReadFault {
+        name: FaultName::NoAlternatives,
+        line: None,
+    };
+    assert_fault(&rt, rt.alloc(), &TOLD, file, wanted);
 }
 
 #[test]
@@ -257,11 +260,7 @@ fn ways_that_do_not_fit(rt: HostRuntime) {
             ending: None,
             way,
         };
-        assert_eq!(rt;
-            read_profile(rt.alloc(), file, &pick).err(),
-            Some(misfit),
-            "for {pick:?}"
-        );
+        assert_fault(&rt, rt.alloc(), &pick, file, misfit);
     }
 }
 
@@ -304,6 +303,12 @@ fn long_lines(rt: HostRuntime) -> Result<(), Fail> {
             Some(long),
             "{before:?}, {blanks} blanks, {behind:?}"
         );
+        let fault = by_pieces(rt.alloc(), &TOLD, &file, 8192).err();
+        assert_eq!(rt;
+            fault,
+            Some(long),
+            "in pieces, {before:?}, {blanks} blanks, {behind:?}"
+        );
     }
     Ok(())
 }
@@ -321,6 +326,9 @@ fn longest_lines(rt: HostRuntime) -> Result<(), Fail> {
         let file = with_blanks(rt.alloc(), begun, blanks, behind)?;
         let read = read_profile(rt.alloc(), &file, &TOLD);
         assert!(rt; read.is_ok(), "{blanks} blanks, {behind:?}");
+        // The line lies in 130 pieces.
+        let read = by_pieces(rt.alloc(), &TOLD, &file, 8067);
+        assert!(rt; read.is_ok(), "in pieces, {blanks} blanks, {behind:?}");
     }
     Ok(())
 }

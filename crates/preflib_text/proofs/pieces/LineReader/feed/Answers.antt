@@ -1,0 +1,28 @@
+use Rattle.std.proofs.Common.{◌≡◌, ◌++◌, sym, ap, subst, ◌∙◌, append-nil}
+use Rattle.preflib_text.specs.Pieces.{feeding, IsTrue}
+use Rattle.preflib_text.proofs.ReadLemmas.{if_err}
+use Rattle.preflib_text.proofs.PieceLemmas.{agrees_true, every_more, nothing_new}
+use Rattle.preflib_text.proofs.pieces.LineReader.feed.Goals as goal
+
+pub returns-clause-told : goal.returns-clause-told
+returns-clause-told g c =
+    subst (λ l. IsTrue (feeding c.self.inside.pick l c.fault_after-self-inside.result)) (sym c.add.ensures)
+    (agrees_true c.self.inside.pick (c.self.inside.fed.bytes ++ c.args.bytes.now) c.fault_after-self-inside.result _ _ _ _ c.fault_after-self-inside.ensures.agrees)
+
+pub returns-clause-every : goal.returns-clause-every
+returns-clause-every g c =
+    if_err c.answer_of.result _ _ _ c.answer_of.ensures (λ fault is.
+    every_more c.self.inside.pick c.add.new.self.bytes c.fault_after-self-inside.result fault is (
+    subst (λ l. IsTrue (feeding c.self.inside.pick l c.fault_after-self-inside.result)) (sym c.add.ensures)
+    (agrees_true c.self.inside.pick (c.self.inside.fed.bytes ++ c.args.bytes.now) c.fault_after-self-inside.result _ _ _ _ c.fault_after-self-inside.ensures.agrees)))
+
+pub returns-clause-nothing : goal.returns-clause-nothing
+returns-clause-nothing g c none =
+    let pick = c.self.inside.pick in
+    let before = c.self.inside.fed.bytes in
+    let next = c.fault_after-self-inside.result in
+    let same : before ++ c.args.bytes.now ≡ before = ap (λ l. before ++ l) none ∙ append-nil before in
+    let holds = agrees_true pick (before ++ c.args.bytes.now) next _ _ _ _ c.fault_after-self-inside.ensures.agrees in
+    let fault : next ≡ c.self.inside.fault = nothing_new pick before c.self.inside.fault next _ _ _ _ c.self.invariant.3
+    (subst (λ l. IsTrue (feeding pick l next)) same holds) c.fault_after-self-inside.ensures.again c.fault_after-self-inside.ensures.late in
+    ap (λ l. feeding pick l next) (c.add.ensures ∙ same) ∙ ap (feeding pick before) fault ∙ c.self.view_is

@@ -1,0 +1,17 @@
+use Rattle.std.proofs.Common.{arith, sym, ◌∙◌}
+use Rattle.preflib_text.proofs.PieceLemmas.{input_ended, input_count, input_read, input_refused, on_ok, on_err}
+use Rattle.preflib_text.proofs.pieces.end_input.Goals as goal
+
+pub returns-then-is_empty-clause-ok : goal.returns-then-is_empty-clause-ok
+returns-then-is_empty-clause-ok g c = input_ended _ _ _ _ _ _ c.requires.fed c.unmarked.result.now c.unmarked.ensures (sym c.is_empty.ensures ∙ c.if-is_empty.true)
+
+pub take-requires-clause-number : goal.take-requires-clause-number
+take-requires-clause-number g c =
+    let count = input_count _ _ _ _ _ _ c.requires.fed c.unmarked.result.now c.unmarked.ensures (sym c.is_empty.ensures ∙ c.if-is_empty.false) in
+    omega (arith, count, c.requires.length)
+
+pub returns-clause-ok : goal.returns-clause-ok
+returns-clause-ok g c = on_ok c.take.result _ _ c.take.ensures.ok (λ read. input_read _ _ _ _ _ _ c.requires.fed c.unmarked.result.now c.unmarked.ensures (sym c.is_empty.ensures ∙ c.if-is_empty.false) _ _ read)
+
+pub returns-clause-err : goal.returns-clause-err
+returns-clause-err g c = on_err c.take.result _ _ c.take.ensures.err (λ fault refused. input_refused _ _ _ _ _ _ c.requires.fed c.unmarked.result.now c.unmarked.ensures (sym c.is_empty.ensures ∙ c.if-is_empty.false) fault refused)

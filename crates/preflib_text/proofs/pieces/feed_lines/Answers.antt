@@ -1,0 +1,58 @@
+use Rattle.std.proofs.Common.{refl, arith}
+use Rattle.std.proofs.lemmas.List.{length-append}
+use Rattle.preflib_text.proofs.PieceLemmas.{loop_count, loop_refused, loop_next, loop_kept, loop_long, sound, opened, begun, room_left, held_short, on_ok, on_err}
+use Rattle.preflib_text.proofs.pieces.feed_lines.Goals as goal
+
+pub loop-at-init : goal.loop-at-init
+loop-at-init g c = ((c.args._fed.now.bytes, refl, c.requires.fed), c.requires.room, omega arith)
+
+pub end_line-requires-clause-notes : goal.end_line-requires-clause-notes
+end_line-requires-clause-notes g c = sound _ _ _ _ _ _ c.loop-at.invariant.0.2
+
+pub end_line-requires-clause-opened : goal.end_line-requires-clause-opened
+end_line-requires-clause-opened g c = opened _ _ _ _ _ _ c.loop-at.invariant.0.2
+
+pub end_line-requires-clause-begun : goal.end_line-requires-clause-begun
+end_line-requires-clause-begun g c = begun _ _ _ _ _ _ c.loop-at.invariant.0.2
+
+pub end_line-requires-clause-number : goal.end_line-requires-clause-number
+end_line-requires-clause-number g c =
+    let count = loop_count _ _ _ _ _ _ _ _ c.loop-at.invariant.0.1 c.loop-at.invariant.0.2 in
+    let whole = length-append c.args._fed.now.bytes c.args.bytes.now in
+    omega (arith, count, whole, c.requires.length, c.in-Some.ensures.0.high)
+
+pub end_line-requires-clause-held : goal.end_line-requires-clause-held
+end_line-requires-clause-held g c = room_left c.loop-at.progress.number c.loop-at.held.items (held_short _ _ _ _ _ _ c.loop-at.invariant.0.2)
+
+pub returns-in-Err-clause-err : goal.returns-in-Err-clause-err
+returns-in-Err-clause-err g c =
+    loop_refused _ _ _ _ _ _ _ _ c.loop-at.invariant.0.1 c.loop-at.invariant.0.2 c.in-Some.at c.in-Some.ensures.0.high c.in-Some.ensures.1 c.in-Some.ensures.0.before c.in-Err.fault c.in-Err.ensures.err
+
+pub overflow_add-rest : goal.overflow_add-rest
+overflow_add-rest g c =
+    let count = loop_count _ _ _ _ _ _ _ _ c.loop-at.invariant.0.1 c.loop-at.invariant.0.2 in
+    let whole = length-append c.args._fed.now.bytes c.args.bytes.now in
+    record { fits = omega (arith, count, whole, c.requires.length, c.in-Some.ensures.0.high) }
+
+pub loop-at-preserved : goal.loop-at-preserved
+loop-at-preserved g c = (
+  loop_next _ _ _ _ _ _ _ _ c.loop-at.invariant.0.1 c.loop-at.invariant.0.2 c.in-Some.at c.in-Some.ensures.0.high c.in-Some.ensures.1 c.in-Some.ensures.0.before _ _ _ _ c.in_default-end_line.ensures.ok c.in_default-end_line.ensures.number c.in_default-end_line.ensures.held,
+  c.in_default-end_line.ensures.room,
+  omega (arith, c.loop-at.invariant.2, c.in_default-end_line.ensures.number),
+)
+
+pub hold-requires-clause-number : goal.hold-requires-clause-number
+hold-requires-clause-number g c =
+    let count = loop_count _ _ _ _ _ _ _ _ c.loop-at.invariant.0.1 c.loop-at.invariant.0.2 in
+    let whole = length-append c.args._fed.now.bytes c.args.bytes.now in
+    let some = c.if-is_empty.false in
+    grind (arith, count, whole, c.requires.length, some, c.is_empty.ensures)
+
+pub hold-requires-clause-held : goal.hold-requires-clause-held
+hold-requires-clause-held g c = room_left c.loop-at.progress.number c.loop-at.held.items (held_short _ _ _ _ _ _ c.loop-at.invariant.0.2)
+
+pub returns-clause-ok : goal.returns-clause-ok
+returns-clause-ok g c = on_ok c.hold.result _ _ c.hold.ensures.ok (λ h. loop_kept _ _ _ _ _ _ _ _ c.loop-at.invariant.0.1 c.loop-at.invariant.0.2 c.in_default.ensures _ h.0 h.1)
+
+pub returns-clause-err : goal.returns-clause-err
+returns-clause-err g c = on_err c.hold.result _ _ c.hold.ensures.err (λ fault h. loop_long _ _ _ _ _ _ _ _ c.loop-at.invariant.0.1 c.loop-at.invariant.0.2 c.in_default.ensures fault h.0 h.1)

@@ -1,0 +1,10 @@
+use Rattle.std.proofs.Common.{inl}
+use Rattle.preflib_text.proofs.ReadLemmas.{if_ok, if_err}
+use Rattle.preflib_text.proofs.PieceLemmas.{finished-ok, finished-fault}
+use Rattle.preflib_text.proofs.pieces.finish_lines.Goals as goal
+
+pub returns-clause-ok : goal.returns-clause-ok
+returns-clause-ok g c = if_ok c.finish.result _ _ _ c.finish.ensures (λ profile h. finished-ok c.args.pick.now c.args.fed.now.bytes _ _ c.in_default.ensures.ok.0 c.in_default.ensures.ok.1 profile h.0 h.1)
+
+pub returns-clause-err : goal.returns-clause-err
+returns-clause-err g c = if_err c.finish.result _ _ _ c.finish.ensures (λ fault h. inl (finished-fault c.args.pick.now c.args.fed.now.bytes _ _ c.in_default.ensures.ok.0 c.in_default.ensures.ok.1 fault h.0 h.1))

@@ -1,0 +1,371 @@
+//! Reading a ballot file in pieces.
+ghost use Rattle.std.specs.Prelude.{◌≡◌, ◌⊎◌, ℕ, ◌^◌, ◌<◌, ◌≤◌, ◌+◌, true, false, List, [], ◌∷◌, ◌++◌, length, Some};
+ghost use Rattle.std.specs.Prelude.{None, Result, Ok, Err, MatchResult, IfSome, IfOk, IfErr, OnOk};
+ghost use Rattle.std.specs.Vec.{vec_capacity, vec_len};
+ghost use Rattle.ballot_base.specs.Limits.{most_candidates};
+ghost use Rattle.preflib_text.specs.Limits.{most_line_bytes, word_limit};
+ghost use Rattle.preflib_text.specs.Lines.{lines_of};
+ghost use Rattle.preflib_text.specs.Approvals.{HasNumber};
+ghost use Rattle.preflib_text.specs.Reading.{Reads, at_end, at_line};
+ghost use Rattle.preflib_text.specs.Pieces.{ended_lines, unfinished_line, is_too_long, LacksMemory, IsLate, feeding};
+ghost use Rattle.preflib_text.specs.Pieces.{IsTrue};
+ghost use Rattle.preflib_text.specs.Steps.Notes.{IsSound};
+ghost use Rattle.preflib_text.specs.Steps.After.{IsAfter, IsFine};
+ghost use Rattle.preflib_text.specs.Steps.Pieces.{line_room, unmarked, line_with, IsRead, IsRefused, IsFed, Agrees};
+
+use crate::fault::{FaultName, ReadFault};
+use crate::fed::Fed;
+use crate::limits::MOST_LINE_BYTES;
+use crate::lines::{without_mark, without_return};
+use crate::notes::Notes;
+use crate::pick::Pick;
+use crate::reader::{fault_of_line, finish, take_line};
+use ballot_base::{MOST_CANDIDATES, Profile, ProfileBuilder};
+use bstr::ByteSlice;
+use std::alloc::{Allocator, Global};
+use std::marker::Model;
+
+/// The room for a line: the longest, a CR at its end and a mark before it.
+const LINE_ROOM: usize = MOST_LINE_BYTES + 4;
+
+/// What the lines that have ended have told.
+#[derive(Drop)]
+struct Progress<A: Allocator + Copy> {
+    builder: ProfileBuilder<A>,
+    notes: Notes,
+    /// How many lines have ended.
+    number: u64,
+}
+
+/// The bytes of a line after so many others, without a mark before the first.
+fn unmarked(number: u64, bytes: &[u8]) -> &[u8]
+    ensures { result.now ≡ unmarked number bytes.now }
+{
+    if number == 0 {
+        without_mark(bytes)
+    } else {
+        bytes
+    }
+}
+
+impl<A: Allocator + Copy + Drop> Progress<A> {
+    /// Reads the next line, which has these bytes before its LF or before the end.
+    fn take(&mut self, pick: &Pick, bytes: &[u8]) -> Result<(), ReadFault>
+        requires way { HasNumber pick.now.way }
+        requires notes { IsSound self.old.notes }
+        requires opened { self.old.notes.has_ballot ≡ false
+            → (self.old.builder.m ≡ most_candidates) × (self.old.builder.rows ≡ []) }
+        requires begun { self.old.notes.has_ballot ≡ true
+            → self.old.notes.alternatives ≡ Some self.old.builder.m }
+        requires number { self.old.number + 1 < word_limit }
+        ensures ok { OnOk result (IsRead pick.now self.old.notes self.old.builder
+            (line_with self.old.number bytes.now) self.new.notes self.new.builder) }
+        ensures number { OnOk result (self.new.number ≡ self.old.number + 1) }
+        ensures err { IfErr result (λ fault. IsRefused pick.now self.old.notes self.old.builder
+            (line_with self.old.number bytes.now) (self.old.number + 1) fault) }
+    {
+        let line = without_return(unmarked(self.number, bytes));
+        self.number += 1;
+        match take_line(&mut self.builder, &mut self.notes, pick, line) {
+            Ok(()) => Ok(()),
+            Err(name) => Err(fault_of_line(self.number, name)),
+        }
+    }
+}
+
+/// Keeps bytes of a line that has not ended.
+fn hold<A: Allocator + Copy>(
+    held: &mut Vec<u8, A>,
+    number: u64,
+    bytes: &[u8],
+) -> Result<(), ReadFault>
+    requires number { number + 1 < word_limit }
+    requires room { line_room ≤ vec_capacity held.old }
+    requires held { length held.old.items ≤ line_room }
+    ensures ok { OnOk result ((held.new.items ≡ held.old.items ++ bytes.now)
+        × (is_too_long (unmarked number (held.old.items ++ bytes.now)) ≡ false)) }
+    ensures err { IfErr result (λ fault. (is_too_long (unmarked number (held.old.items ++ bytes.now)) ≡ true)
+        × (fault ≡ at_line (number + 1) FaultName.LongLine)) }
+    ensures room { line_room ≤ vec_capacity held.new }
+{
+    if bytes.len() > LINE_ROOM - held.len() {
+        return Err(fault_of_line(number + 1, FaultName::LongLine));
+    }
+    let Ok(()) = held.extend_from_slice(bytes) else {
+        unreachable!();
+    };
+    if without_return(unmarked(number, held)).len() > MOST_LINE_BYTES {
+        return Err(fault_of_line(number + 1, FaultName::LongLine));
+    }
+    Ok(())
+}
+
+/// Reads the line that ends after these bytes. A line that lies whole in a piece is read where it lies.
+fn end_line<A: Allocator + Copy + Drop>(
+    progress: &mut Progress<A>,
+    held: &mut Vec<u8, A>,
+    pick: &Pick,
+    bytes: &[u8],
+) -> Result<(), ReadFault>
+    requires way { HasNumber pick.now.way }
+    requires notes { IsSound progress.old.notes }
+    requires opened { progress.old.notes.has_ballot ≡ false
+        → (progress.old.builder.m ≡ most_candidates) × (progress.old.builder.rows ≡ []) }
+    requires begun { progress.old.notes.has_ballot ≡ true
+        → progress.old.notes.alternatives ≡ Some progress.old.builder.m }
+    requires number { progress.old.number + 1 < word_limit }
+    requires room { line_room ≤ vec_capacity held.old }
+    requires held { length held.old.items ≤ line_room }
+    ensures ok { OnOk result (IsRead pick.now progress.old.notes progress.old.builder
+        (line_with progress.old.number (held.old.items ++ bytes.now)) progress.new.notes progress.new.builder) }
+    ensures number { OnOk result (progress.new.number ≡ progress.old.number + 1) }
+    ensures held { OnOk result (held.new.items ≡ []) }
+    ensures err { IfErr result (λ fault. IsRefused pick.now progress.old.notes progress.old.builder
+        (line_with progress.old.number (held.old.items ++ bytes.now)) (progress.old.number + 1) fault) }
+    ensures room { line_room ≤ vec_capacity held.new }
+{
+    if held.is_empty() {
+        return progress.take(pick, bytes);
+    }
+    if let Err(fault) = hold(held, progress.number, bytes) {
+        return Err(fault);
+    }
+    let taken = progress.take(pick, held);
+    held.clear();
+    taken
+}
+
+/// Reads the lines that end in a piece, and keeps what comes of the next one.
+fn feed_lines<A: Allocator + Copy + Drop>(
+    progress: &mut Progress<A>,
+    held: &mut Vec<u8, A>,
+    pick: &Pick,
+    _fed: &Fed,
+    bytes: &[u8],
+) -> Result<(), ReadFault>
+    requires way { HasNumber pick.now.way }
+    requires fed { IsFed pick.now _fed.now.bytes progress.old.notes progress.old.builder progress.old.number
+        held.old.items }
+    requires length { length _fed.now.bytes + length bytes.now < word_limit }
+    requires room { line_room ≤ vec_capacity held.old }
+    ensures ok { OnOk result (IsFed pick.now (_fed.now.bytes ++ bytes.now) progress.new.notes progress.new.builder
+        progress.new.number held.new.items) }
+    ensures err { IfErr result (λ fault. IsTrue (feeding pick.now (_fed.now.bytes ++ bytes.now) (Some fault))) }
+    ensures late { IfErr result (λ fault. IsLate (ended_lines _fed.now.bytes) fault) }
+    ensures room { line_room ≤ vec_capacity held.new }
+{
+    let mut rest = bytes;
+    while let Some(at) = rest.find_byte(b'\n') {
+        if let Err(fault) = end_line(progress, held, pick, &rest[..at]) {
+            return Err(fault);
+        }
+        rest = &rest[at + 1..];
+    }
+    if rest.is_empty() {
+        return Ok(());
+    }
+    hold(held, progress.number, rest)
+}
+
+/// The fault that was answered, else the first one of a piece.
+fn fault_after<A: Allocator + Copy + Drop>(
+    fault: Option<ReadFault>,
+    progress: &mut Progress<A>,
+    held: &mut Vec<u8, A>,
+    pick: &Pick,
+    fed: &Fed,
+    bytes: &[u8],
+) -> Option<ReadFault>
+    requires way { HasNumber pick.now.way }
+    requires fed { Agrees pick.now fed.now.bytes fault progress.old.notes progress.old.builder progress.old.number
+        held.old.items }
+    requires length { length fed.now.bytes + length bytes.now < word_limit }
+    requires room { line_room ≤ vec_capacity held.old }
+    ensures agrees { Agrees pick.now (fed.now.bytes ++ bytes.now) result progress.new.notes progress.new.builder
+        progress.new.number held.new.items }
+    ensures again { IfSome fault (λ before. result ≡ Some before) }
+    ensures late { fault ≡ None → IfSome result (λ after. IsLate (ended_lines fed.now.bytes) after) }
+    ensures room { line_room ≤ vec_capacity held.new }
+{
+    if fault.is_some() {
+        return fault;
+    }
+    match feed_lines(progress, held, pick, fed, bytes) {
+        Ok(()) => None,
+        Err(after) => Some(after),
+    }
+}
+
+/// The answer of a reader with this fault.
+fn answer_of(fault: Option<ReadFault>) -> Result<(), ReadFault>
+    ensures { MatchResult result (λ _. fault ≡ None) (λ known. fault ≡ Some known) }
+{
+    match fault {
+        None => Ok(()),
+        Some(known) => Err(known),
+    }
+}
+
+/// Reads the last line, where it has no end.
+fn end_input<A: Allocator + Copy + Drop>(
+    progress: &mut Progress<A>,
+    held: &[u8],
+    pick: &Pick,
+    _fed: &Fed,
+) -> Result<(), ReadFault>
+    requires way { HasNumber pick.now.way }
+    requires fed { IsFed pick.now _fed.now.bytes progress.old.notes progress.old.builder progress.old.number held.now }
+    requires length { length _fed.now.bytes < word_limit }
+    ensures ok { OnOk result (IsFine pick.now (lines_of _fed.now.bytes)
+        × IsAfter pick.now (lines_of _fed.now.bytes) progress.new.notes progress.new.builder) }
+    ensures err { IfErr result (λ fault. Reads _fed.now.bytes pick.now (Err fault)
+        ⊎ LacksMemory (lines_of _fed.now.bytes) pick.now fault) }
+    ensures late { IfErr result (λ fault. IsLate (ended_lines _fed.now.bytes) fault) }
+{
+    if unmarked(progress.number, held).is_empty() {
+        return Ok(());
+    }
+    progress.take(pick, held)
+}
+
+/// The profile of all lines, or their first fault.
+fn finish_lines<A: Allocator + Copy + Drop>(
+    mut progress: Progress<A>,
+    held: &[u8],
+    pick: &Pick,
+    fed: &Fed,
+) -> Result<Profile<A>, ReadFault>
+    requires way { HasNumber pick.now.way }
+    requires fed { IsFed pick.now fed.now.bytes progress.notes progress.builder progress.number held.now }
+    requires length { length fed.now.bytes < word_limit }
+    ensures ok { IfOk result (λ profile. Reads fed.now.bytes pick.now (Ok profile)) }
+    ensures err { IfErr result (λ fault. Reads fed.now.bytes pick.now (Err fault)
+        ⊎ LacksMemory (lines_of fed.now.bytes) pick.now fault) }
+    ensures late { IfErr result (λ fault. IsLate (ended_lines fed.now.bytes) fault) }
+{
+    if let Err(fault) = end_input(&mut progress, held, pick, fed) {
+        return Err(fault);
+    }
+    let Progress {
+        builder,
+        notes,
+        number: _,
+    } = progress;
+    finish(builder, &notes)
+}
+
+/// Reads a ballot file in pieces, however it is cut: what it answers is the outcome of all bytes together.
+///
+/// Contracts see how the file is read, all bytes that were fed and the fault that was answered. Kept are the
+/// unfinished line, the names and the different ballots.
+#[derive(Drop)]
+pub struct LineReader<A: Allocator + Copy = Global> {
+    pick: Pick,
+    progress: Progress<A>,
+    /// The bytes since the last LF.
+    held: Vec<u8, A>,
+    fault: Option<ReadFault>,
+    fed: Fed,
+}
+
+impl<A: Allocator + Copy> Model for LineReader<A> {
+    ghost use Rattle.std.specs.Prelude.{◌<◌, ◌≤◌, length};
+    ghost use Rattle.std.specs.Vec.{vec_capacity};
+    ghost use Rattle.preflib_text.specs.Limits.{word_limit};
+    ghost use Rattle.preflib_text.specs.Approvals.{HasNumber};
+    ghost use Rattle.preflib_text.specs.Pieces.{Feeding, feeding};
+    ghost use Rattle.preflib_text.specs.Steps.Pieces.{line_room, Agrees};
+
+    ghost Value = { Feeding };
+
+    ghost view = { λ r. feeding r.pick r.fed.bytes r.fault };
+
+    ghost invariant = { λ r. HasNumber r.pick.way × (length r.fed.bytes < word_limit)
+        × (line_room ≤ vec_capacity r.held)
+        × Agrees r.pick r.fed.bytes r.fault r.progress.notes r.progress.builder r.progress.number r.held.items };
+}
+
+impl<A: Allocator + Copy + Drop> LineReader<A> {
+    /// A reader to which nothing was fed. The room for a line is taken here. Want of memory has no line.
+    pub fn new(alloc: A, pick: Pick) -> Result<LineReader<A>, ReadFault>
+        requires { HasNumber pick.way }
+        ensures ok { IfOk result (λ reader. reader ≡ feeding pick [] None) }
+        ensures err { IfErr result (λ fault. fault ≡ at_end FaultName.Memory) }
+    {
+        let memory = ReadFault {
+            name: FaultName::Memory,
+            line: None,
+        };
+        let Ok(builder) = ProfileBuilder::new(alloc, MOST_CANDIDATES) else {
+            return Err(memory);
+        };
+        let Ok(held) = Vec::with_capacity(alloc, LINE_ROOM) else {
+            return Err(memory);
+        };
+        let notes = Notes::new(&pick);
+        Ok(LineReader {
+            pick,
+            progress: Progress {
+                builder,
+                notes,
+                number: 0,
+            },
+            held,
+            fault: None,
+            fed: Fed::new(),
+        })
+    }
+
+    /// Reads the next bytes. The first fault of a line comes as soon as its line has ended, and that a line is too long
+    /// as soon as it can no longer come within the limit; it is the first fault of every input that begins with the
+    /// bytes so far, and each later call answers it again. Memory is taken for names and new ballots alone.
+    pub fn feed(&mut self, bytes: &[u8]) -> Result<(), ReadFault>
+        requires { length self.old.fed + length bytes.now < word_limit }
+        ensures fed { self.new ≡ feeding self.old.pick (self.old.fed ++ bytes.now) self.new.fault }
+        ensures answer { MatchResult result (λ _. self.new.fault ≡ None) (λ fault. self.new.fault ≡ Some fault) }
+        ensures again { IfSome self.old.fault (λ fault. self.new.fault ≡ Some fault) }
+        ensures told { IsTrue self.new }
+        ensures late { self.old.fault ≡ None → IfErr result (λ fault. IsLate (ended_lines self.old.fed) fault) }
+        ensures nothing { bytes.now ≡ [] → self.new ≡ self.old }
+        ensures every { IfErr result (λ fault. (more : List ℕ) → Reads (self.new.fed ++ more) self.new.pick (Err fault)
+            ⊎ LacksMemory (lines_of (self.new.fed ++ more)) self.new.pick fault) }
+    {
+        self.fault = fault_after(
+            self.fault,
+            &mut self.progress,
+            &mut self.held,
+            &self.pick,
+            &self.fed,
+            bytes,
+        );
+        self.fed.add(bytes);
+        answer_of(self.fault)
+    }
+
+    /// How many bytes are kept of the line that has not ended, at most `MOST_LINE_BYTES` and a CR. A CR that may belong
+    /// to the end of the line counts, a mark at the start of the input does not.
+    pub fn held(&self) -> usize
+        ensures held { self.now.fault ≡ None → result ≡ length (unfinished_line self.now.fed) }
+        ensures most { result ≤ most_line_bytes + 1 }
+    {
+        if self.fault.is_some() {
+            return 0;
+        }
+        unmarked(self.progress.number, &self.held).len()
+    }
+
+    /// What all bytes hold: the profile, or the first fault. Memory is taken where the last line has no end, for a name
+    /// or a new ballot. A fault that was answered is answered again.
+    pub fn finish(self) -> Result<Profile<A>, ReadFault>
+        ensures ok { IfOk result (λ profile. Reads self.fed self.pick (Ok profile)) }
+        ensures err { IfErr result (λ fault. Reads self.fed self.pick (Err fault)
+            ⊎ LacksMemory (lines_of self.fed) self.pick fault) }
+        ensures again { IfSome self.fault (λ fault. result ≡ Err fault) }
+        ensures late { self.fault ≡ None → IfErr result (λ fault. IsLate (ended_lines self.fed) fault) }
+    {
+        if let Some(fault) = self.fault {
+            return Err(fault);
+        }
+        finish_lines(self.progress, &self.held, &self.pick, &self.fed)
+    }
+}
