@@ -15,9 +15,10 @@ use Rattle.request_words.specs.declared.words.LineFault.{LineFault}
 use Rattle.request_words.specs.declared.words.LineFault.TheVariants.{Help, Usage, BadList, TwoPicks, VotesAndInput, Memory}
 use Rattle.request_words.specs.Request.{Asked, Demand, checking, electing, sharing}
 use Rattle.request_words.specs.NumberList.{list_of}
-use Rattle.request_words.specs.declared.words.ListOption.TheVariants.{Committee, Votes}
-use Rattle.request_words.specs.Words.{GivesAsked, HasValues, IsAfterClap, IsAnswerTo, IsFaultOf, IsProgram, asked_in, asking, check_in, elect_in, has_input, is_given, listed}
-use Rattle.request_words.specs.Words.{number_of, outcome_of, program, request_of, result_and_then, share_in, votes_in, way_in, without_both}
+use Rattle.request_words.specs.declared.words.ListOption.{ListOption}
+use Rattle.request_words.specs.declared.words.ListOption.TheVariants.{Committee, Votes, After}
+use Rattle.request_words.specs.Words.{GivesAsked, HasValues, IsAfterClap, IsAnswerTo, IsFaultOf, IsProgram, asked_in, asking, check_in, elect_in, has_input, is_given, list_in, listed, page_in}
+use Rattle.request_words.specs.Words.{number_of, outcome_of, program, request_of, result_and_then, share_in, way_in, without_both}
 use Rattle.request_words.proofs.GivenRequest.{program_taken, taken_values}
 use Rattle.request_words.proofs.ProgramPlaces.{program_fault, program_free, program_simple, program_sub}
 use Rattle.request_words.proofs.Refusals.{some_kind}
@@ -150,16 +151,19 @@ then_own next (Err f) later own = own
 asking_own : (rows : List Row) (demand : Demand) → FailsAfterClap (asking rows demand)
 asking_own rows demand = ok_or_own (option_map _ (way_in rows)) TwoPicks tt
 
-votes_own : (rows : List Row) → FailsAfterClap (votes_in rows)
-votes_own rows = go (first_of (codes "votes") rows)
+list_own : (option : ListOption) (name : Text) (rows : List Row) → FailsAfterClap (list_in option name rows)
+list_own option name rows = go (first_of name rows)
   where
     inside : (r : Result (List ℕ) LineFault) → FailsAfterClap r → FailsAfterClap (option_transpose (Some r))
     inside (Ok list) own = tt
     inside (Err f) own = own
 
-    go : (o : Option Text) → FailsAfterClap (option_transpose (option_map (listed Votes) o))
+    go : (o : Option Text) → FailsAfterClap (option_transpose (option_map (listed option) o))
     go None = tt
-    go (Some text) = inside (listed Votes text) (ok_or_own (list_of text) (BadList Votes) tt)
+    go (Some text) = inside (listed option text) (ok_or_own (list_of text) (BadList option) tt)
+
+page_own : (rows : List Row) → FailsAfterClap (page_in rows)
+page_own rows = then_own _ (list_in After (codes "after") rows) (λ after. tt) (list_own After (codes "after") rows)
 
 without_both_own : (rows : List Row) (asked : Asked) → FailsAfterClap (without_both rows asked)
 without_both_own rows asked = go (is_given rows (codes "votes") && has_input rows)
@@ -183,8 +187,10 @@ asked_own name rows f = go (bytes_eq name (codes "check")) (bytes_eq name (codes
     go true is_share is = map_own _ _ f (λ p. then_own _ (listed Committee p.1) (λ committee. asking_own rows (checking p.0 committee))
         (ok_or_own (list_of p.1) (BadList Committee) tt)) is
     go false true is = map_own _ _ f (λ p. then_own (without_both rows) _ (without_both_own rows)
-        (then_own _ (votes_in rows) (λ votes. asking_own rows (sharing p.0 (number_of p.1) votes)) (votes_own rows))) is
-    go false false is = map_own _ _ f (λ p. asking_own rows (electing p.0 (number_of p.1))) is
+        (then_own _ (list_in Votes (codes "votes") rows) (λ votes. then_own _ (page_in rows)
+        (λ page. asking_own rows (sharing p.0 (number_of p.1) votes page)) (page_own rows)) (list_own Votes (codes "votes") rows))) is
+    go false false is = map_own _ _ f (λ p. then_own _ (page_in rows)
+        (λ page. asking_own rows (electing p.0 (number_of p.1) page)) (page_own rows)) is
 
 refused_is : (words : List Text) (sub : Text × List Row) (f : LineFault) → IsFound words sub → (f ≡ Memory) ⊎ (asked_in sub.0 sub.1 ≡ Some (Err f)) → IsAnswerTo words f
 refused_is words sub f found (inl memory) = subst (IsAnswerTo words) (sym memory) tt

@@ -1,5 +1,5 @@
 -- Where clap takes the words of the program, they name a command, with the values that it requires.
-use Rattle.std.proofs.Common.{◌≡◌, ◌⊎◌, ℕ, zero, suc, subst, ◌∙◌, ◌<◌, Bool, List, [], ◌∷◌, map, not, inl, inr, refl, sym, ap, codes, true, false, true≢false, arith}
+use Rattle.std.proofs.Common.{◌≡◌, ◌⊎◌, ℕ, zero, suc, subst, ◌∙◌, ◌<◌, ◌^◌, Bool, List, [], ◌∷◌, map, not, inl, inr, refl, sym, ap, codes, true, false, true≢false, arith}
 use Rattle.std.specs.Prelude.{◌||◌, Option, Some, None, cond, find, if◌then◌else◌, is_some, option_map, pos}
 use Rattle.std.specs.Borrow.{Bor}
 use Rattle.std.specs.List.{list_all, list_any}
@@ -13,7 +13,7 @@ use Rattle.clap.specs.Simple.{argument_words, built, entered, label_of, names_of
 use Rattle.clap.specs.Values.{read_as, reading_of}
 use Rattle.clap.specs.ValueTests.{accepts}
 use Rattle.clap.specs.Facts.{parser_of_value}
-use Rattle.clap.specs.Takes.{default_passes, value_passes, entered_passes, is_given, is_valid, level_passes, settle_passes, walk_passes}
+use Rattle.clap.specs.Takes.{default_passes, value_passes, entered_passes, is_given, is_valid, level_passes, settle_passes, values_pass, walk_passes}
 use Rattle.clap.specs.declared.builder.value_parser.ValueParser.TheVariants as parser
 use Rattle.clap.proofs.ValueTestLemmas.{accepts-Accepts}
 use Rattle.clap.proofs.WalkLemmas.{both, list_any-map}
@@ -21,8 +21,9 @@ use Rattle.ballot_base.specs.Limits.{most_members}
 use Rattle.group_check.specs.Names.{properties, property_name}
 use Rattle.seat_share.specs.Limits.{most_seats}
 use Rattle.seat_share.specs.Names.{methods, method_name}
+use Rattle.request_words.specs.Limits.{most_limit}
 use Rattle.request_words.specs.Names.{rules, rule_name}
-use Rattle.request_words.specs.Words.{HasCheckValues, HasElectValues, HasName, HasNumberUpTo, HasShareValues, HasValues, IsCount, listed_names, program, shown}
+use Rattle.request_words.specs.Words.{HasCheckValues, HasElectValues, HasName, HasNumberUpTo, HasShareValues, HasValues, IsCount, IsFlag, listed_names, program, shown}
 use Rattle.request_words.proofs.GivenValues.{Each, Good, IsOrdinary, any_value, given_value, level_fit, or_false, walk_stops}
 use Rattle.request_words.proofs.Refusals.{taken_none}
 
@@ -58,14 +59,36 @@ at_place (a ∷ rest) (suc i) = at_place rest i
 
 -- ---- a value that passed its parser
 
--- an option for a number has none, or one from 1 to 1,000,000
-count_is : (a : Rule) (rows : List Row) → a.parser ≡ Some (parser.Signed (pos 1) (pos 1000000))
+-- an option for a number has none, or one in its range
+count_is : (most : ℕ) → most < 2 ^ 32 → (a : Rule) (rows : List Row) → a.parser ≡ Some (parser.Signed (pos 1) (pos most))
     → (one_of a.id rows ≡ None) ⊎ ((v : Text) × (value_passes a v ≡ true) × (one_of a.id rows ≡ Some (read_as (reading_by a) v)))
     → IsCount (one_of a.id rows)
-count_is a rows is (inl none) = subst IsCount (sym none) tt
-count_is a rows is (inr (v, pass, one)) =
-    subst IsCount (sym (one ∙ ap (λ p. Some (read_as (reading_of (parser_of_value p)) v)) is))
-    (v, refl, accepts-Accepts a.ignore_case (parser.Signed (pos 1) (pos 1000000)) v (subst (λ p. accepts a.ignore_case (parser_of_value p) v ≡ true) is pass))
+count_is most small a rows is (inl none) = subst IsCount (sym none) tt
+count_is most small a rows is (inr (v, pass, one)) =
+    subst IsCount (sym (one ∙ ap (λ p. Some (read_as (reading_of (parser_of_value p)) v)) is)) (
+      v,
+      most,
+      refl,
+      small,
+      accepts-Accepts a.ignore_case (parser.Signed (pos 1) (pos most)) v (subst (λ p. accepts a.ignore_case (parser_of_value p) v ≡ true) is pass),
+    )
+
+-- the text of a truth value
+flag_text : (v : Text) → (bytes_eq v (codes "true") || bytes_eq v (codes "false")) ≡ true → IsFlag (Some v)
+flag_text v pass = go (bytes_eq v (codes "true")) refl pass
+  where
+    go : (t : Bool) → bytes_eq v (codes "true") ≡ t → (t || bytes_eq v (codes "false")) ≡ true → IsFlag (Some v)
+    go true is e = inl ((bytes_eq-Decides v (codes "true")).0 is)
+    go false is e = inr ((bytes_eq-Decides v (codes "false")).0 e)
+
+-- a flag has no value, or the text of a truth value
+flag_is : (a : Rule) (rows : List Row) → a.parser ≡ Some parser.Bool
+    → (one_of a.id rows ≡ None) ⊎ ((v : Text) × (value_passes a v ≡ true) × (one_of a.id rows ≡ Some (read_as (reading_by a) v)))
+    → IsFlag (one_of a.id rows)
+flag_is a rows is (inl none) = subst IsFlag (sym none) tt
+flag_is a rows is (inr (v, pass, one)) =
+    subst IsFlag (sym (one ∙ ap (λ p. Some (read_as (reading_of (parser_of_value p)) v)) is))
+    (flag_text v (subst (λ p. accepts a.ignore_case (parser_of_value p) v ≡ true) is pass))
 
 -- a test finds an item exactly where one passes
 is_some-find : {X : Type 0} (passes : X → Bool) (items : List X) → is_some (find passes items) ≡ list_any passes items
@@ -115,37 +138,50 @@ text_given : (c : List Rule) (a : Rule) (rows : List Row) → Good c rows → ar
 text_given c a rows good own given = ap is_some (given_value c a rows good own given).2
 
 -- an option for a count
-count_given : (c : List Rule) (a : Rule) (rows : List Row) → Good c rows → arg_by_id c a.id ≡ Some a
-    → a.parser ≡ Some (parser.Signed (pos 1) (pos 1000000)) → IsCount (one_of a.id rows)
-count_given c a rows good own is = count_is a rows is (any_value c a rows good own)
+count_given : (c : List Rule) (a : Rule) (most : ℕ) (rows : List Row) → Good c rows → arg_by_id c a.id ≡ Some a → most < 2 ^ 32
+    → a.parser ≡ Some (parser.Signed (pos 1) (pos most)) → IsCount (one_of a.id rows)
+count_given c a most rows good own small is = count_is most small a rows is (any_value c a rows good own)
+
+-- a flag
+flag_given : (c : List Rule) (a : Rule) (rows : List Row) → Good c rows → arg_by_id c a.id ≡ Some a → a.parser ≡ Some parser.Bool → IsFlag (one_of a.id rows)
+flag_given c a rows good own is = flag_is a rows is (any_value c a rows good own)
 
 -- ---- a level that passes
 
-level_given : (s : Shape) (words : List Text) → Each (IsOrdinary s.rules) s.rules → Each (λ (a : Rule). a.defaults ≡ []) s.rules
+level_given : (s : Shape) (words : List Text) → Each (IsOrdinary s.rules) s.rules → Each (λ (a : Rule). values_pass a a.defaults ≡ true) s.rules
     → level_passes s [] nothing_held words false ≡ true → Good s.rules (rows_after s.rules [] words) × (is_valid s (rows_after s.rules [] words) false ≡ true)
-level_given s words ordinary none pass =
+level_given s words ordinary defaults pass =
     let end = (walk s.rules [] nothing_held words).held in
     let walks = both (walk_passes s [] (walk_from nothing_held) words) _ pass in
     let settles = both (settle_passes s.rules s.args_override_self end) _ walks.1 in
-    (level_fit s [] words false ordinary none pass, (both (list_all default_passes s.rules) _ settles.1).1)
+    (level_fit s [] words false ordinary defaults pass, (both (list_all default_passes s.rules) _ settles.1).1)
 
 one : 0 < 1
 one = omega arith
+
+-- a count fits 32 bits
+small_count : 1000000 < 2 ^ 32
+small_count = omega arith
+
+small_limit : most_limit < 2 ^ 32
+small_limit = omega arith
 
 elect_values : (words : List Text) → level_passes elect [] nothing_held words false ≡ true → HasElectValues (rows_after elect.rules [] words)
 elect_values words pass =
     let rows = rows_after elect.rules [] words in
     let level = level_given elect words
-    ((refl, inl (refl, one)), ((refl, inl (refl, one)), ((refl, inl (refl, one)), ((refl, inl (refl, one)), ((refl, inl (refl, one)), ((refl, inl (refl, one)), ((refl, inl (refl, one)), ((refl, inr refl), tt))))))))
-    (refl, (refl, (refl, (refl, (refl, (refl, (refl, (refl, tt)))))))) pass in
+    ((refl, inl (refl, one)), ((refl, inl (refl, one)), ((refl, inl (refl, one)), ((refl, inl (refl, one)), ((refl, inl (refl, one)), ((refl, inl (refl, one)), ((refl, inl (refl, one)), ((refl, inl (refl, one)), ((refl, inr (inl (refl, one))), ((refl, inl (refl, one)), ((refl, inr (inr refl)), tt)))))))))))
+    (refl, (refl, (refl, (refl, (refl, (refl, (refl, (refl, (refl, (refl, (refl, tt))))))))))) pass in
     let given = both (is_given (codes "rule") rows) _ level.1 in
     let given_size = (both (is_given (codes "size") rows) _ given.1).0 in (
       name_given elect.rules (at_place elect.rules 0) rule_name rules rows level.0 refl refl refl given.0,
       number_given elect.rules (at_place elect.rules 1) most_members rows level.0 refl refl given_size,
+      count_given elect.rules (at_place elect.rules 3) most_limit rows level.0 refl small_limit refl,
       record {
-        category = count_given elect.rules (at_place elect.rules 3) rows level.0 refl refl;
-        set_size = count_given elect.rules (at_place elect.rules 4) rows level.0 refl refl;
-        classes = count_given elect.rules (at_place elect.rules 5) rows level.0 refl refl;
+        category = count_given elect.rules (at_place elect.rules 5) 1000000 rows level.0 refl small_count refl;
+        set_size = count_given elect.rules (at_place elect.rules 6) 1000000 rows level.0 refl small_count refl;
+        classes = count_given elect.rules (at_place elect.rules 7) 1000000 rows level.0 refl small_count refl;
+        names = flag_given elect.rules (at_place elect.rules 8) rows level.0 refl refl;
       },
     )
 
@@ -153,16 +189,17 @@ check_values : (words : List Text) → level_passes check [] nothing_held words 
 check_values words pass =
     let rows = rows_after check.rules [] words in
     let level = level_given check words
-    ((refl, inl (refl, one)), ((refl, inl (refl, one)), ((refl, inl (refl, one)), ((refl, inl (refl, one)), ((refl, inl (refl, one)), ((refl, inl (refl, one)), ((refl, inl (refl, one)), ((refl, inr refl), tt))))))))
-    (refl, (refl, (refl, (refl, (refl, (refl, (refl, (refl, tt)))))))) pass in
+    ((refl, inl (refl, one)), ((refl, inl (refl, one)), ((refl, inl (refl, one)), ((refl, inl (refl, one)), ((refl, inl (refl, one)), ((refl, inl (refl, one)), ((refl, inr (inl (refl, one))), ((refl, inl (refl, one)), ((refl, inr (inr refl)), tt)))))))))
+    (refl, (refl, (refl, (refl, (refl, (refl, (refl, (refl, (refl, tt))))))))) pass in
     let given = both (is_given (codes "property") rows) _ level.1 in
     let given_list = (both (is_given (codes "committee") rows) _ given.1).0 in (
       name_given check.rules (at_place check.rules 0) property_name properties rows level.0 refl refl refl given.0,
       text_given check.rules (at_place check.rules 1) rows level.0 refl given_list,
       record {
-        category = count_given check.rules (at_place check.rules 3) rows level.0 refl refl;
-        set_size = count_given check.rules (at_place check.rules 4) rows level.0 refl refl;
-        classes = count_given check.rules (at_place check.rules 5) rows level.0 refl refl;
+        category = count_given check.rules (at_place check.rules 3) 1000000 rows level.0 refl small_count refl;
+        set_size = count_given check.rules (at_place check.rules 4) 1000000 rows level.0 refl small_count refl;
+        classes = count_given check.rules (at_place check.rules 5) 1000000 rows level.0 refl small_count refl;
+        names = flag_given check.rules (at_place check.rules 6) rows level.0 refl refl;
       },
     )
 
@@ -170,16 +207,18 @@ share_values : (words : List Text) → level_passes share [] nothing_held words 
 share_values words pass =
     let rows = rows_after share.rules [] words in
     let level = level_given share words
-    ((refl, inl (refl, one)), ((refl, inl (refl, one)), ((refl, inl (refl, one)), ((refl, inl (refl, one)), ((refl, inl (refl, one)), ((refl, inl (refl, one)), ((refl, inl (refl, one)), ((refl, inl (refl, one)), ((refl, inr refl), tt)))))))))
-    (refl, (refl, (refl, (refl, (refl, (refl, (refl, (refl, (refl, tt))))))))) pass in
+    ((refl, inl (refl, one)), ((refl, inl (refl, one)), ((refl, inl (refl, one)), ((refl, inl (refl, one)), ((refl, inl (refl, one)), ((refl, inl (refl, one)), ((refl, inl (refl, one)), ((refl, inl (refl, one)), ((refl, inl (refl, one)), ((refl, inr (inl (refl, one))), ((refl, inl (refl, one)), ((refl, inr (inr refl)), tt))))))))))))
+    (refl, (refl, (refl, (refl, (refl, (refl, (refl, (refl, (refl, (refl, (refl, (refl, tt)))))))))))) pass in
     let given = both (is_given (codes "method") rows) _ level.1 in
     let given_seats = (both (is_given (codes "seats") rows) _ given.1).0 in (
       name_given share.rules (at_place share.rules 0) method_name methods rows level.0 refl refl refl given.0,
       number_given share.rules (at_place share.rules 1) most_seats rows level.0 refl refl given_seats,
+      count_given share.rules (at_place share.rules 4) most_limit rows level.0 refl small_limit refl,
       record {
-        category = count_given share.rules (at_place share.rules 4) rows level.0 refl refl;
-        set_size = count_given share.rules (at_place share.rules 5) rows level.0 refl refl;
-        classes = count_given share.rules (at_place share.rules 6) rows level.0 refl refl;
+        category = count_given share.rules (at_place share.rules 6) 1000000 rows level.0 refl small_count refl;
+        set_size = count_given share.rules (at_place share.rules 7) 1000000 rows level.0 refl small_count refl;
+        classes = count_given share.rules (at_place share.rules 8) 1000000 rows level.0 refl small_count refl;
+        names = flag_given share.rules (at_place share.rules 9) rows level.0 refl refl;
       },
     )
 

@@ -14,7 +14,8 @@ use Rattle.clap.specs.Simple.{Shape}
 use Rattle.clap.specs.Takes.{action_passes, bundle_passes, bundle_step_passes, flag_word_passes, flags_pass, is_given, level_passes, long_passes, option_passes, other_passes, positional_passes, react_passes, settle_passes, short_passes, step_passes, turn_passes, use_passes, value_passes, values_pass, walk_passes, word_passes}
 use Rattle.clap.specs.declared.builder.action.ArgAction.{ArgAction}
 use Rattle.clap.specs.declared.builder.action.ArgAction.TheVariants as action
-use Rattle.clap.specs.declared.parser.matches.ValueSource.TheVariants.{CommandLine}
+use Rattle.clap.specs.declared.parser.matches.ValueSource.{ValueSource}
+use Rattle.clap.specs.declared.parser.matches.ValueSource.TheVariants.{CommandLine, DefaultValue}
 use Rattle.clap.proofs.WalkLemmas.{both}
 
 -- ---- lists
@@ -64,20 +65,21 @@ each_at_row P id change missing (r ∷ rs) each none changed =
     go false hit later = (each.0, later)
 
 module _ (c : List Rule) where
-  -- the argument is the first with its id; it is set with one value or more, or asks for a text
+  -- the argument is the first with its id; it is set with one value or more, is a flag with a value for its use, or asks
+  -- for a text
   abbrev pub IsOrdinary : Rule → Type 0
   IsOrdinary a = (arg_by_id c a.id ≡ Some a)
-      × (((action_of a ≡ action.Set) × (0 < (unwrap_or_range a.range).start_inclusive)) ⊎ (is_request (action_of a) ≡ true))
+      × (((action_of a ≡ action.Set) × (0 < (unwrap_or_range a.range).start_inclusive))
+      ⊎ (((action_of a ≡ action.SetTrue) × (0 < length a.missing)) ⊎ (is_request (action_of a) ≡ true)))
 
   abbrev pub Good : List Row → Type 0
   Good rows = Each (Fits c) rows
 
-  set_fits : (a : Rule) (values : List Text) (rows : List Row) → arg_by_id c a.id ≡ Some a → 0 < length values → values_pass a values ≡ true → Good rows
-      → Good (with_values a.id (reading_by a) CommandLine values (without a.id rows))
-  set_fits a values rows own some pass good =
+  with_values_fit : (a : Rule) (source : ValueSource) (values : List Text) (rows : List Row) → arg_by_id c a.id ≡ Some a → 0 < length values
+      → values_pass a values ≡ true → Good rows → Good (with_values a.id (reading_by a) source values rows)
+  with_values_fit a source values rows own some pass good =
       let is_own : (b : Rule) → arg_by_id c a.id ≡ Some b → a ≡ b = λ b e. let same : Some a ≡ Some b = sym own ∙ e in cc in
-      each_at_row (Fits c) a.id (more_values CommandLine values) _ (without a.id rows)
-      (each_at_row (Fits c) a.id (λ _. []) [] rows good tt (λ r fits hit. tt))
+      each_at_row (Fits c) a.id (more_values source values) _ rows good
       ((λ b e. subst (λ (x : Rule). (0 < length values) × (values_pass x values ≡ true) × (reading_by a ≡ reading_by x)) (is_own b e) (some, pass, refl)), tt)
       (λ r fits hit.
       let id : r.id ≡ a.id = (bytes_eq-Decides r.id a.id).0 hit in
@@ -88,6 +90,11 @@ module _ (c : List Rule) where
             (omega (arith, length-append r.values values, f.0), passes_append a r.values values f.1 pass, f.2)),
         tt,
       ))
+
+  set_fits : (a : Rule) (values : List Text) (rows : List Row) → arg_by_id c a.id ≡ Some a → 0 < length values → values_pass a values ≡ true → Good rows
+      → Good (with_values a.id (reading_by a) CommandLine values (without a.id rows))
+  set_fits a values rows own some pass good = with_values_fit a CommandLine values (without a.id rows) own some pass
+      (each_at_row (Fits c) a.id (λ _. []) [] rows good tt (λ r fits hit. tt))
 
   -- ---- one use of an argument
 
@@ -104,6 +111,10 @@ module _ (c : List Rule) where
   values_there a [] least e = absurd (omega (arith, leb-true _ _ e))
   values_there a (v ∷ vs) least e = omega arith
 
+  flag_there : (a : Rule) (values : List Text) → 0 < length a.missing → 0 < length (values_or_missing a values)
+  flag_there a [] some = some
+  flag_there a (v ∷ vs) some = omega arith
+
   used_fits : (again : Bool) (a : Rule) (values : List Text) (rows : List Row) → IsOrdinary a → use_passes again a values rows ≡ true → Good rows → Good (used a values rows)
   used_fits again a values rows ordinary pass good =
       let parts = both (nat_le (unwrap_or_range a.range).start_inclusive (length values)) _ pass in
@@ -114,7 +125,12 @@ module _ (c : List Rule) where
             subst (λ (x : ArgAction). action_passes x again a (values_or_missing a values) rows ≡ true) set.0 acts in
             subst (λ (x : ArgAction). Good (used_as x a.id (reading_by a) (values_or_missing a values) rows)) (sym set.0)
             (set_fits a (values_or_missing a values) rows ordinary.0 (values_there a values set.1 parts.0) (both _ _ as_set).1 good)
-        | inr request ↦ absurd (no_request (action_of a) again a (values_or_missing a values) rows request acts)
+        | inr (inl flag) ↦
+            let as_set : action_passes action.SetTrue again a (values_or_missing a values) rows ≡ true =
+            subst (λ (x : ArgAction). action_passes x again a (values_or_missing a values) rows ≡ true) flag.0 acts in
+            subst (λ (x : ArgAction). Good (used_as x a.id (reading_by a) (values_or_missing a values) rows)) (sym flag.0)
+            (set_fits a (values_or_missing a values) rows ordinary.0 (flag_there a values flag.1) (both _ _ as_set).1 good)
+        | inr (inr request) ↦ absurd (no_request (action_of a) again a (values_or_missing a values) rows request acts)
       ]
 
   module _ (ordinary : Each IsOrdinary c) where
@@ -292,27 +308,39 @@ module _ (s : Shape) (ordinary : Each (IsOrdinary s.rules) s.rules) where
 
 -- ---- after the walk
 
-no_defaults : (c : List Rule) (rows : List Row) → Each (λ (a : Rule). a.defaults ≡ []) c → fold with_default rows c ≡ rows
-no_defaults [] rows none = refl
-no_defaults (a ∷ c) rows none = ap (λ r. fold with_default r c) same ∙ no_defaults c rows none.1
-  where
-    go : (t : Bool) → (if t then rows else default_rows a.id (reading_by a) [] rows) ≡ rows
-    go true = refl
-    go false = refl
+module _ (c : List Rule) where
+  default_fits : (a : Rule) (values : List Text) (rows : List Row) → arg_by_id c a.id ≡ Some a → values_pass a values ≡ true → Good c rows
+      → Good c (default_rows a.id (reading_by a) values rows)
+  default_fits a [] rows own pass good = good
+  default_fits a (v ∷ vs) rows own pass good = with_values_fit c a DefaultValue (v ∷ vs) rows own (omega arith) pass good
 
-    same : with_default rows a ≡ rows
-    same = rw none.0 (go (has_row a.id rows))
+  with_default_fits : (a : Rule) (rows : List Row) → arg_by_id c a.id ≡ Some a → values_pass a a.defaults ≡ true → Good c rows → Good c (with_default rows a)
+  with_default_fits a rows own pass good = go (has_row a.id rows)
+    where
+      go : (t : Bool) → Good c (if t then rows else default_rows a.id (reading_by a) a.defaults rows)
+      go true = good
+      go false = default_fits a a.defaults rows own pass good
+
+  defaults_fit : (rules : List Rule) (rows : List Row) → Each (λ (a : Rule). arg_by_id c a.id ≡ Some a) rules
+      → Each (λ (a : Rule). values_pass a a.defaults ≡ true) rules → Good c rows → Good c (fold with_default rows rules)
+  defaults_fit [] rows own pass good = good
+  defaults_fit (a ∷ rules) rows own pass good =
+      defaults_fit rules (with_default rows a) own.1 pass.1 (with_default_fits a rows own.0 pass.0 good)
+
+own_ids : (c rules : List Rule) → Each (IsOrdinary c) rules → Each (λ (a : Rule). arg_by_id c a.id ≡ Some a) rules
+own_ids c [] each = tt
+own_ids c (a ∷ rules) each = (each.0.0, own_ids c rules each.1)
 
 -- a level that passes leaves rows that fit
 pub level_fit : (s : Shape) (names : Names) (words : List Text) (has : Bool) → Each (IsOrdinary s.rules) s.rules
-    → Each (λ (a : Rule). a.defaults ≡ []) s.rules → level_passes s names nothing_held words has ≡ true
+    → Each (λ (a : Rule). values_pass a a.defaults ≡ true) s.rules → level_passes s names nothing_held words has ≡ true
     → Good s.rules (finished s.rules (walk s.rules names nothing_held words).held)
-level_fit s names words has ordinary none pass =
+level_fit s names words has ordinary defaults pass =
     let end = (walk s.rules names nothing_held words).held in
     let parts = both (walk_passes s names (walk_from nothing_held) words) _ pass in
     let settles = (both (settle_passes s.rules s.args_override_self end) _ parts.1).0 in
-    let fits = settled_fit s.rules ordinary s.args_override_self end settles (walk_fit s ordinary names (walk_from nothing_held) words parts.0 tt) in
-    subst (Good s.rules) (sym (no_defaults s.rules (settled s.rules end).rows none)) fits
+    defaults_fit s.rules s.rules (settled s.rules end).rows (own_ids s.rules s.rules ordinary) defaults
+    (settled_fit s.rules ordinary s.args_override_self end settles (walk_fit s ordinary names (walk_from nothing_held) words parts.0 tt))
 
 -- an argument that was given has a value that passed, and the getters read it
 pub given_value : (c : List Rule) (a : Rule) (rows : List Row) → Good c rows → arg_by_id c a.id ≡ Some a → is_given a.id rows ≡ true

@@ -1,4 +1,4 @@
--- A command whose arguments have no defaults takes the words exactly where clap has no refusal for them.
+-- A command whose defaults pass takes the words exactly where clap has no refusal for them.
 use Rattle.std.proofs.Common.{◌≡◌, ◌∙◌, ◌+◌, ◌&&◌, ◌||◌, ℕ, Bool, List, [], ◌∷◌, length, drop, not, refl, sym, ap, ap₂, zero, suc, codes, min, true, false, arith, nat_le}
 use Rattle.std.specs.Prelude.{Option, Some, None, encode_utf8, slice_get, if◌then◌else◌, is_some, find}
 use Rattle.std.specs.List.{list_all, list_any}
@@ -9,11 +9,11 @@ use Rattle.std.proofs.lemmas.Bool.Decides.{nat_tests}
 use Rattle.clap.specs.Lexer.{long_of, short_of}
 use Rattle.clap.specs.Matches.{count_text}
 use Rattle.clap.specs.Facts.{explicit_source, parser_of_value, unwrap_or_range}
-use Rattle.clap.specs.Values.{refused_kind}
+use Rattle.clap.specs.Values.{is_request, refused_kind}
 use Rattle.clap.specs.ValueTests.{accepts}
 use Rattle.clap.specs.Walk.{Held, Names, Row, Rule, Step, Text, Waiting, Walk, action_of, answers_to, arg_by_id, arg_by_index, arg_by_long, arg_by_short, attached_value, count_of, finished, has_row, is_empty, is_pending, next, nothing_held, reacted, settled, subcommand, subcommand_met, takes_several, takes_values, trailing, value, values_or_missing, walk, walk_from, walked, with_default, word_met}
 use Rattle.clap.specs.Simple.{App, Shape, argument_words, built, entered, label_of, names_of}
-use Rattle.clap.specs.Kinds.{Kinds, check_kinds, or_else, range_kinds, value_kinds}
+use Rattle.clap.specs.Kinds.{Kinds, check_kinds, or_else, range_kinds, request_kinds, value_kinds}
 use Rattle.clap.specs.Words.{fault_of, is_simple, takes}
 use Rattle.clap.specs.Takes.{action_passes, bundle_passes, bundle_step_passes, default_passes, entered_passes, flag_word_passes, flags_pass, is_given, is_valid, level_passes, long_passes, option_passes, other_passes, positional_passes, react_passes, settle_passes, short_passes, step_passes, turn_passes, use_passes, value_passes, values_pass, walk_passes, word_passes}
 use Rattle.clap.specs.Faults.{action_fault, bundle_fault, bundle_step_fault, check_fault, default_fault, defaults_fault, entered_fault, flag_word_fault, flags_fault, level_fault, long_fault, option_fault, other_fault, positional_fault, react_fault, settle_fault, short_fault, step_fault, stray_fault, turn_fault, use_fault, values_fault, walk_fault, word_fault}
@@ -191,23 +191,39 @@ walk_none s names w (word ∷ rest) = both_none _ _ _ _ (turn_none s names w wor
 
 -- ---- after the walk
 
-or_true : (a : Bool) → (a || true) ≡ true
-or_true true = refl
-or_true false = refl
+none_empty : (ks : Kinds) → is_empty ks ≡ true → ks ≡ []
+none_empty [] e = refl
+none_empty (k ∷ ks) e = absurd (let bad : false ≡ true = sym (some_kind k ks) ∙ e in cc)
 
--- the argument has no default
-abbrev pub has_none : Rule → Bool
-has_none a = is_empty a.defaults
+no_request_kinds : (x : ArgAction) → not (is_request x) ≡ is_empty (request_kinds x)
+no_request_kinds action.Set = refl
+no_request_kinds action.Append = refl
+no_request_kinds action.SetTrue = refl
+no_request_kinds action.SetFalse = refl
+no_request_kinds action.Count = refl
+no_request_kinds action.Help = refl
+no_request_kinds action.HelpShort = refl
+no_request_kinds action.HelpLong = refl
+no_request_kinds action.Version = refl
 
-defaults_none : (rows : List Row) (c : List Rule) → list_all has_none c ≡ true → (list_all default_passes c ≡ true) × (defaults_fault rows c ≡ [])
+default_none : (rows : List Row) (a : Rule) → default_passes a ≡ true → default_fault rows a ≡ []
+default_none rows a e = go (has_row a.id rows) (is_empty a.defaults) e
+  where
+    checked : (not (is_request (action_of a)) && values_pass a a.defaults) ≡ is_empty (or_else (request_kinds (action_of a)) (values_fault a a.defaults))
+    checked = both_none _ _ _ _ (no_request_kinds (action_of a)) (values_none a a.defaults)
+
+    go : (has none : Bool) → (none || (not (is_request (action_of a)) && values_pass a a.defaults)) ≡ true
+        → (if has || none then [] else or_else (request_kinds (action_of a)) (values_fault a a.defaults)) ≡ []
+    go true none passes = refl
+    go false true passes = refl
+    go false false passes = none_empty _ (sym checked ∙ passes)
+
+defaults_none : (rows : List Row) (c : List Rule) → list_all default_passes c ≡ true → defaults_fault rows c ≡ []
 unfolding defaults_fault
-defaults_none rows [] e = (refl, refl)
+defaults_none rows [] e = refl
 defaults_none rows (a ∷ c) e =
-    let parts = both (has_none a) (list_all has_none c) e in
-    let rest = defaults_none (with_default rows a) c parts.1 in
-    let passes : default_passes a ≡ true = rw parts.0 refl in
-    let no_fault : default_fault rows a ≡ [] = rw (parts.0, or_true (has_row a.id rows)) refl in
-    (rw (passes, rest.0) refl, rw no_fault rest.1)
+    let parts = both (default_passes a) (list_all default_passes c) e in
+    rw (default_none rows a parts.0) (defaults_none (with_default rows a) c parts.1)
 
 missing_none : (rows : List Row) (c : List Rule)
     → list_all (λ (a : Rule). not a.required || is_given a.id rows) c ≡ not (list_any (λ (a : Rule). a.required && not (is_given a.id rows)) c)
@@ -221,9 +237,9 @@ missing_none rows (a ∷ c) = go a.required (is_given a.id rows) (missing_none r
     go true false e = refl
     go false g e = e
 
--- the command has no defaults and no rule on two arguments, and wants its arguments beside a subcommand
+-- the command's defaults pass, it has no rule on two arguments, and wants its arguments beside a subcommand
 abbrev pub is_bare : Shape → Bool
-is_bare s = (not s.arg_required_else_help && not s.subcommand_negates_reqs) && (list_all (λ a. a.is_free) s.rules && list_all has_none s.rules)
+is_bare s = (not s.arg_required_else_help && not s.subcommand_negates_reqs) && (list_all (λ a. a.is_free) s.rules && list_all default_passes s.rules)
 
 check_none : (has req missing any : Bool)
     → ((not req || has) && not missing) ≡ is_empty (check_kinds (not has && (false && not any)) (not has && req) (not (false && has) && missing))
@@ -261,9 +277,9 @@ level_none : (s : Shape) (names : Names) (h : Held) (words : List Text) (has : B
 level_none s names h words has below passes bare e =
     let end = (walk s.rules names h words).held in
     let parts = both (not s.arg_required_else_help && not s.subcommand_negates_reqs) _ bare in
-    let none = (both (list_all (λ a. a.is_free) s.rules) _ parts.1).1 in
-    let defaults = defaults_none (settled s.rules end).rows s.rules none in
-    let no_default : list_all default_passes s.rules ≡ is_empty (defaults_fault (settled s.rules end).rows s.rules) = rw (defaults.0, defaults.1) refl in
+    let passing = (both (list_all (λ a. a.is_free) s.rules) _ parts.1).1 in
+    let no_fault = defaults_none (settled s.rules end).rows s.rules passing in
+    let no_default : list_all default_passes s.rules ≡ is_empty (defaults_fault (settled s.rules end).rows s.rules) = rw (passing, no_fault) refl in
     swapped passes (walk_passes s names (walk_from h) words) _
     ∙ both_none _ _ _ _ (walk_none s names (walk_from h) words)
     (both_none _ _ _ _ e

@@ -1,13 +1,10 @@
 -- Words that clap takes have an outcome.
-use Rattle.std.proofs.Common.{◌≡◌, ◌∙◌, List, Option, Some, None, inl, inr, refl, sym, subst, ap, codes, true, false, true≢false}
+use Rattle.std.proofs.Common.{◌≡◌, List, Option, Some, None, inl, inr, refl, sym, subst, ap, true, true≢false}
 use Rattle.std.specs.Prelude.{is_some}
 use Rattle.std.specs.Option.{IsSome}
 use Rattle.clap.specs.Words.{Row, Text, takes, without_minus}
 use Rattle.group_check.specs.Names.{property_named}
-use Rattle.group_check.specs.declared.property.Property.{Property}
 use Rattle.seat_share.specs.Names.{method_named}
-use Rattle.seat_share.specs.declared.method.Method.{Method}
-use Rattle.request_words.specs.declared.request.Rule.{Rule}
 use Rattle.request_words.specs.Names.{rule_named}
 use Rattle.request_words.specs.Words.{HasCheckValues, HasElectValues, HasShareValues, HasValues, asked_in, check_in, elect_in, number_of, outcome_of, program, share_in}
 use Rattle.request_words.proofs.GivenRequest.{taken_values}

@@ -1,5 +1,5 @@
 -- `request_of`, the refusals after clap and clap's kinds of refusal, computed.
-use Rattle.std.proofs.Common.{◌≡◌, refl, List, [], ◌∷◌, codes, inl, ℕ}
+use Rattle.std.proofs.Common.{◌≡◌, false, refl, true, List, [], ◌∷◌, codes, inl, ℕ}
 use Rattle.std.specs.Prelude.{Option, Some, None, Ok, Err}
 use Rattle.clap.specs.Words.{Text, fault_of}
 use Rattle.clap.proofs.OnLiterals.{clap_on_literals}
@@ -9,7 +9,7 @@ use Rattle.request_words.specs.declared.request.Rule.{Rule}
 use Rattle.request_words.specs.declared.request.Rule.TheVariants.{Scored, Sequential}
 use Rattle.tie_walk.specs.declared.sequential.SeqRule.TheVariants.{SeqPav, SeqCc, RevSeqPav}
 use Rattle.request_words.specs.declared.request.ScoredRule.TheVariants.{Thiele, Satisfaction, Minimax}
-use Rattle.request_words.specs.Request.{Asked, Demand, checking, electing, sharing}
+use Rattle.request_words.specs.Request.{Asked, Demand, checking, electing, sharing, whole}
 use Rattle.preflib_text.specs.declared.pick.Kind.{Kind}
 use Rattle.preflib_text.specs.declared.pick.Kind.TheVariants.{Cat, Soc, Soi, Toc, Toi}
 use Rattle.preflib_text.specs.declared.pick.Pick.{Pick}
@@ -18,7 +18,7 @@ use Rattle.preflib_text.specs.declared.pick.Way.TheVariants.{Usual, Category, Se
 use Rattle.group_check.specs.declared.property.Property.TheVariants.{Jr, Pjr, Ejr, EjrPlus}
 use Rattle.seat_share.specs.declared.method.Method.TheVariants.{Hamilton, Dhondt, SainteLague, Huntington, Adams, Dean}
 use Rattle.request_words.specs.declared.words.LineFault.TheVariants.{BadList, TwoPicks, VotesAndInput, Memory}
-use Rattle.request_words.specs.declared.words.ListOption.TheVariants.{Committee, Votes}
+use Rattle.request_words.specs.declared.words.ListOption.TheVariants.{Committee, Votes, After}
 use Rattle.request_words.specs.Endings.{behind_last, kind_in_path}
 use Rattle.request_words.specs.NumberList.{all_there, entry_of, list_of}
 use Rattle.group_check.specs.Names.{property_named}
@@ -33,7 +33,7 @@ elect_words rest = codes "committees" ∷ codes "elect" ∷ rest
 -- approval voting, for a file of this type and this ending, in this way
 abbrev asked : ℕ → Option Kind → Option Kind → Way → Option Text → Option Asked
 asked size kind ending way file =
-    Some (record { demand = electing (Scored (Thiele Av)) size; pick = record { kind = kind; ending = ending; way = way }; file = file })
+    Some (record { demand = electing (Scored (Thiele Av)) size whole; pick = record { kind = kind; ending = ending; way = way }; file = file; names = false })
 
 abbrev av : ℕ → Option Text → Option Asked
 av size file = asked size None None Usual file
@@ -74,7 +74,7 @@ repeated : fault_of program (elect_words (codes "--rule" ∷ codes "av" ∷ code
 unfolding clap_on_literals
 repeated = refl
 
-unknown_option : request_of (elect_words (codes "--rule" ∷ codes "av" ∷ codes "--size" ∷ codes "1" ∷ codes "--limit" ∷ codes "1" ∷ [])) ≡ None
+unknown_option : request_of (elect_words (codes "--rule" ∷ codes "av" ∷ codes "--size" ∷ codes "1" ∷ codes "--seats" ∷ codes "1" ∷ [])) ≡ None
 unfolding clap_on_literals
 unknown_option = refl
 
@@ -102,7 +102,7 @@ usual = record { kind = None; ending = None; way = Usual }
 
 -- two seats by a rule
 abbrev two_seats : Rule → Option Asked
-two_seats rule = Some (record { demand = electing rule 2; pick = usual; file = None })
+two_seats rule = Some (record { demand = electing rule 2 whole; pick = usual; file = None; names = false })
 
 geometric_rule : request_of (elect_words (codes "--rule" ∷ codes "geom3" ∷ codes "--size" ∷ codes "2" ∷ [])) ≡ two_seats (Scored (Thiele Geom3))
 unfolding clap_on_literals
@@ -204,7 +204,7 @@ names_of_methods = refl
 
 -- this, over standard input
 abbrev over_input : Demand → Option Asked
-over_input demand = Some (record { demand = demand; pick = usual; file = None })
+over_input demand = Some (record { demand = demand; pick = usual; file = None; names = false })
 
 a_check : request_of (codes "committees" ∷ codes "check" ∷ codes "--property" ∷ codes "pjr" ∷ codes "--committee" ∷ codes "3,1" ∷ []) ≡ over_input (checking Pjr (3 ∷ 1 ∷ []))
 unfolding clap_on_literals
@@ -214,6 +214,7 @@ a_check_of_a_file : request_of (codes "committees" ∷ codes "check" ∷ codes "
   demand = checking Ejr (2 ∷ []);
   pick = record { kind = None; ending = Some Soi; way = Classes 2 };
   file = Some (codes "a.soi");
+  names = false;
 })
 unfolding clap_on_literals behind_last
 a_check_of_a_file = refl
@@ -240,11 +241,11 @@ two_ways_of_a_check = refl
 
 -- ---- share
 
-a_sharing : request_of (codes "committees" ∷ codes "share" ∷ codes "--method" ∷ codes "dhondt" ∷ codes "--seats" ∷ codes "7" ∷ []) ≡ over_input (sharing Dhondt 7 None)
+a_sharing : request_of (codes "committees" ∷ codes "share" ∷ codes "--method" ∷ codes "dhondt" ∷ codes "--seats" ∷ codes "7" ∷ []) ≡ over_input (sharing Dhondt 7 None whole)
 unfolding clap_on_literals
 a_sharing = refl
 
-a_sharing_of_votes : request_of (codes "committees" ∷ codes "share" ∷ codes "--votes" ∷ codes "53,24,23" ∷ codes "--method" ∷ codes "hamilton" ∷ codes "--seats" ∷ codes "010000" ∷ []) ≡ over_input (sharing Hamilton 10000 (Some (53 ∷ 24 ∷ 23 ∷ [])))
+a_sharing_of_votes : request_of (codes "committees" ∷ codes "share" ∷ codes "--votes" ∷ codes "53,24,23" ∷ codes "--method" ∷ codes "hamilton" ∷ codes "--seats" ∷ codes "010000" ∷ []) ≡ over_input (sharing Hamilton 10000 (Some (53 ∷ 24 ∷ 23 ∷ [])) whole)
 unfolding clap_on_literals
 a_sharing_of_votes = refl
 
@@ -255,10 +256,6 @@ no_seats = refl
 too_many_seats : fault_of program (codes "committees" ∷ codes "share" ∷ codes "--method" ∷ codes "dean" ∷ codes "--seats" ∷ codes "10001" ∷ []) ≡ kind.ValueValidation ∷ []
 unfolding clap_on_literals
 too_many_seats = refl
-
-not_yet : fault_of program (codes "committees" ∷ codes "share" ∷ codes "--method" ∷ codes "dean" ∷ codes "--seats" ∷ codes "1" ∷ codes "--after" ∷ codes "1" ∷ []) ≡ kind.UnknownArgument ∷ []
-unfolding clap_on_literals
-not_yet = refl
 
 no_votes : outcome_of (codes "committees" ∷ codes "share" ∷ codes "--method" ∷ codes "adams" ∷ codes "--seats" ∷ codes "1" ∷ codes "--votes=" ∷ []) ≡ Some (Err (BadList Votes))
 unfolding clap_on_literals
@@ -291,9 +288,10 @@ the_votes_before_the_ways = refl
 -- ---- the lines on refused words
 
 lines_of_faults : (line_of (BadList Committee) ≡ Some (codes "committees: words: BadList --committee"))
-    × (line_of (BadList Votes) ≡ Some (codes "committees: words: BadList --votes")) × (line_of TwoPicks ≡ Some (codes "committees: words: TwoPicks"))
+    × (line_of (BadList Votes) ≡ Some (codes "committees: words: BadList --votes"))
+    × (line_of (BadList After) ≡ Some (codes "committees: words: BadList --after")) × (line_of TwoPicks ≡ Some (codes "committees: words: TwoPicks"))
     × (line_of VotesAndInput ≡ Some (codes "committees: words: VotesAndInput")) × (line_of Memory ≡ None)
-lines_of_faults = (refl, refl, refl, refl, refl)
+lines_of_faults = (refl, refl, refl, refl, refl, refl)
 
 -- ---- lists
 
@@ -310,3 +308,68 @@ entries = (refl, refl, refl, refl)
 
 a_list_of_an_option : (listed Votes (codes "1,2") ≡ Ok (1 ∷ 2 ∷ [])) × (listed Votes (codes "1 2") ≡ Err (BadList Votes))
 a_list_of_an_option = (refl, refl)
+
+-- ---- starts, limits and names
+
+-- one seat by approval voting, and these answers
+abbrev paged : Option (List ℕ) → Option ℕ → Option Asked
+paged after limit =
+    Some (record { demand = electing (Scored (Thiele Av)) 1 (record { after = after; limit = limit }); pick = usual; file = None; names = false })
+
+-- `committees elect --rule av --size 1` and these words
+abbrev av_words : List Text → List Text
+av_words rest = elect_words (codes "--rule" ∷ codes "av" ∷ codes "--size" ∷ codes "1" ∷ rest)
+
+a_start : request_of (av_words (codes "--after" ∷ codes "2,1" ∷ [])) ≡ paged (Some (2 ∷ 1 ∷ [])) None
+unfolding clap_on_literals
+a_start = refl
+
+a_limit : request_of (av_words (codes "--limit" ∷ codes "4294967295" ∷ [])) ≡ paged None (Some 4294967295)
+unfolding clap_on_literals
+a_limit = refl
+
+a_start_and_a_limit : request_of (av_words (codes "--limit=01" ∷ codes "--after=3" ∷ [])) ≡ paged (Some (3 ∷ [])) (Some 1)
+unfolding clap_on_literals
+a_start_and_a_limit = refl
+
+limits_refused : (fault_of program (av_words (codes "--limit" ∷ codes "0" ∷ [])) ≡ kind.ValueValidation ∷ [])
+    × (fault_of program (av_words (codes "--limit" ∷ codes "4294967296" ∷ [])) ≡ kind.ValueValidation ∷ [])
+unfolding clap_on_literals
+limits_refused = (refl, refl)
+
+a_start_that_is_no_list : outcome_of (av_words (codes "--after=" ∷ codes "--category" ∷ codes "1" ∷ codes "--classes" ∷ codes "1" ∷ [])) ≡ Some (Err (BadList After))
+unfolding clap_on_literals
+a_start_that_is_no_list = refl
+
+names_wanted : request_of (av_words (codes "--names" ∷ [])) ≡ Some (record { demand = electing (Scored (Thiele Av)) 1 whole; pick = usual; file = None; names = true })
+unfolding clap_on_literals
+names_wanted = refl
+
+names_take_no_value : fault_of program (av_words (codes "--names=true" ∷ [])) ≡ kind.TooManyValues ∷ []
+unfolding clap_on_literals
+names_take_no_value = refl
+
+names_twice : fault_of program (av_words (codes "--names" ∷ codes "--names" ∷ [])) ≡ kind.ArgumentConflict ∷ []
+unfolding clap_on_literals
+names_twice = refl
+
+no_start_of_a_check : fault_of program (codes "committees" ∷ codes "check" ∷ codes "--property" ∷ codes "jr" ∷ codes "--committee" ∷ codes "1" ∷ codes "--after" ∷ codes "1" ∷ []) ≡ kind.UnknownArgument ∷ []
+unfolding clap_on_literals
+no_start_of_a_check = refl
+
+-- shares of one seat by Adams' method, and these words
+abbrev adams : List Text → List Text
+adams rest = codes "committees" ∷ codes "share" ∷ codes "--method=adams" ∷ codes "--seats=1" ∷ rest
+
+a_page_of_shares : request_of (adams (codes "--votes=1,1" ∷ codes "--after=0,1" ∷ codes "--limit=2" ∷ codes "--names" ∷ []))
+    ≡ Some (record { demand = sharing Adams 1 (Some (1 ∷ 1 ∷ [])) (record { after = Some (0 ∷ 1 ∷ []); limit = Some 2 }); pick = usual; file = None; names = true })
+unfolding clap_on_literals
+a_page_of_shares = refl
+
+the_votes_before_the_start : outcome_of (adams (codes "--after=," ∷ codes "--votes=," ∷ [])) ≡ Some (Err (BadList Votes))
+unfolding clap_on_literals
+the_votes_before_the_start = refl
+
+the_start_before_votes_and_input : outcome_of (adams (codes "--votes=1" ∷ codes "--after=1," ∷ codes "a.soi" ∷ [])) ≡ Some (Err (BadList After))
+unfolding clap_on_literals behind_last
+the_start_before_votes_and_input = refl

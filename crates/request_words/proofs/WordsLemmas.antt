@@ -1,7 +1,8 @@
 -- What the code reads of the rows that clap found.
 use Rattle.std.proofs.Common.{◌≡◌, ◌≢◌, ◌⊎◌, ◌≤◌, ◌<◌, ◌^◌, ◌∙◌, ◌&&◌, ◌||◌, ℕ, Bool, true, false, List, [], Bor, Vec, Global, inl, inr, refl, sym, ap, subst, arith, rules, codes}
 use Rattle.std.specs.Prelude.{IfSome, IfOk, if◌then◌else◌, option_and_then, Option, Some, None, Result, Ok, Err, IsSome, pos, option_map}
-use Rattle.std.specs.Option.{is_some, ok_or, option_transpose}
+use Rattle.std.specs.Option.{is_some, ok_or, option_map_or, option_transpose}
+use Rattle.std.specs.Str.{bytes_eq}
 use Rattle.std.specs.Result.{IsErrAnd}
 use Rattle.std.specs.Str.Parse.{ParsesUnsigned}
 use Rattle.std.specs.Vec.{vec_items}
@@ -17,17 +18,18 @@ use Rattle.preflib_text.specs.Names.{kind_named}
 use Rattle.request_words.specs.Endings.{kind_in_path}
 use Rattle.seat_share.specs.declared.method.Method.{Method}
 use Rattle.request_words.specs.NumberList.{list_of}
-use Rattle.request_words.specs.Request.{Asked, Demand, checking, electing, sharing}
+use Rattle.request_words.specs.Limits.{most_limit}
+use Rattle.request_words.specs.Request.{Asked, Demand, checking}
 use Rattle.request_words.specs.declared.request.Rule.{Rule}
 use Rattle.request_words.specs.declared.words.LineFault.{LineFault}
 use Rattle.request_words.specs.declared.words.LineFault.TheVariants.{BadList, Memory, VotesAndInput}
 use Rattle.request_words.specs.declared.words.ListOption.{ListOption}
-use Rattle.request_words.specs.declared.words.ListOption.TheVariants.{Committee, Votes}
-use Rattle.request_words.specs.Words.{Gives, GivesAsked, HasCheckValues, HasElectValues, HasShareValues, IsCount, asking, check_in, elect_in}
+use Rattle.request_words.specs.declared.words.ListOption.TheVariants.{Committee, Votes, After}
+use Rattle.request_words.specs.Words.{Gives, GivesAsked, HasCheckValues, HasElectValues, HasShareValues, IsCount, IsFlag, asking, check_in, elect_in, elect_over_page}
 use Rattle.group_check.specs.Names.{property_named}
 use Rattle.seat_share.specs.Names.{method_named}
 use Rattle.request_words.specs.Names.{rule_named}
-use Rattle.request_words.specs.Words.{has_input, is_given, listed, number_of, result_and_then, share_in, votes_in, way_in, without_both}
+use Rattle.request_words.specs.Words.{has_input, is_given, list_in, listed, number_at, number_of, page_in, result_and_then, share_in, share_over_votes, wants_names, way_in, without_both}
 use Rattle.request_words.proofs.NumberListLemmas.{list_has_number}
 
 -- an argument that is not global leaves the command without one
@@ -72,11 +74,20 @@ number_facts k most E G t r m read only small passed is =
 
 -- the number of an option that is not given, and of one that is
 pub count_read : (E : Type 0) (G : List ℕ → Result ℕ E → Type 0) (o : Option Text) (r : Option ℕ) → (o ≡ None → r ≡ None) → ((t : Text) → o ≡ Some t → ReadsOne G t r)
-    → ((u : List ℕ) (x : Result ℕ E) → G u x → ParsesUnsigned 32 10 u x) → IsCount o → (r ≡ option_map number_of o) × IfSome r (λ n. 1 ≤ n)
-count_read E G None r none value only is = (none refl, subst (λ x. IfSome x (λ n. 1 ≤ n)) (sym (none refl)) tt)
-count_read E G (Some digits) r none value only (t, same, passed) =
-    let got = number_read 32 1000000 E G t r (subst (λ d. ReadsOne G d r) same (value digits refl)) only (omega arith) passed in
-    (got.1 ∙ ap Some (got.4 ∙ ap number_of (sym same)), subst (λ x. IfSome x (λ n. 1 ≤ n)) (sym got.1) got.2)
+    → ((u : List ℕ) (x : Result ℕ E) → G u x → ParsesUnsigned 32 10 u x) → IsCount o
+    → (r ≡ option_map number_of o) × IfSome r (λ n. 1 ≤ n) × IfSome r (λ n. n ≤ most_limit)
+count_read E G None r none value only is = (
+  none refl,
+  subst (λ x. IfSome x (λ n. 1 ≤ n)) (sym (none refl)) tt,
+  subst (λ x. IfSome x (λ n. n ≤ most_limit)) (sym (none refl)) tt,
+)
+count_read E G (Some digits) r none value only (t, most, same, small, passed) =
+    let got = number_read 32 most E G t r (subst (λ d. ReadsOne G d r) same (value digits refl)) only small passed in
+    let fits : got.0 ≤ most_limit = omega (arith, got.3, small) in (
+      got.1 ∙ ap Some (got.4 ∙ ap number_of (sym same)),
+      subst (λ x. IfSome x (λ n. 1 ≤ n)) (sym got.1) got.2,
+      subst (λ x. IfSome x (λ n. n ≤ most_limit)) (sym got.1) fits,
+    )
 
 -- ---- lists
 
@@ -119,15 +130,23 @@ gives_asked said step (Err e) is (inl memory) = inl memory
 gives_asked said step (Err e) is (inr fault) = inr (is ∙ ap Some fault)
 
 -- the request that the code makes of its values
-pub asking_is : (rows : List Row) (demand : Demand) (way : Way) (pick : Pick) (kind file path : Option Text) → Some way ≡ way_in rows
+pub asking_is : (rows : List Row) (demand : Demand) (way : Way) (pick : Pick) (kind file path : Option Text) (names : Bool) → Some way ≡ way_in rows
     → kind ≡ first_of (codes "kind") rows → file ≡ first_of (codes "file") rows → path ≡ first_of (codes "file") rows
-    → pick ≡ record { kind = option_and_then kind_named kind; ending = option_and_then kind_in_path path; way = way }
-    → asking rows demand ≡ Ok (record { demand = demand; pick = pick; file = file })
-asking_is rows demand way pick kind file path ways kinds files paths picked = rw (← ways, picked, kinds, files, paths) refl
+    → pick ≡ record { kind = option_and_then kind_named kind; ending = option_and_then kind_in_path path; way = way } → names ≡ wants_names rows
+    → asking rows demand ≡ Ok (record { demand = demand; pick = pick; file = file; names = names })
+asking_is rows demand way pick kind file path names ways kinds files paths picked wants = rw (← ways, picked, kinds, files, paths, wants) refl
+
+-- the flag that the code reads is that of the rows
+pub flag_read : (o : Option Text) (r : Bool) → IsFlag o → (o ≡ None → r ≡ false) → (o ≡ Some (codes "true") → r ≡ true)
+    → (o ≡ Some (codes "false") → r ≡ false) → r ≡ option_map_or (bytes_eq (codes "true")) o false
+flag_read None r is none on off = none refl
+flag_read (Some text) r (inl is) none on off = on (ap Some is) ∙ ap (λ t. option_map_or (bytes_eq (codes "true")) (Some t) false) (sym is)
+flag_read (Some text) r (inr is) none on off = off (ap Some is) ∙ ap (λ t. option_map_or (bytes_eq (codes "true")) (Some t) false) (sym is)
 
 -- what `elect` asks for, by its values
 pub elect_is : (rows : List Row) (h : HasElectValues rows) (name : Text) (rule : Rule) (m : ℕ) → name ≡ h.0.text → rule_named name ≡ Some rule
-    → m ≡ number_of (without_minus h.1.text) → elect_in rows ≡ Some (asking rows (electing rule m))
+    → m ≡ number_of (without_minus h.1.text)
+    → elect_in rows ≡ Some (result_and_then (elect_over_page rows rule m) (page_in rows))
 elect_is rows h name rule m named is size =
     let known : rule_named h.0.text ≡ Some rule = ap rule_named (sym named) ∙ is in
     rw (h.0.given, h.1.given, known, size) refl
@@ -143,7 +162,7 @@ check_is rows h name text property named is given =
 -- what `share` asks for
 pub share_is : (rows : List Row) (h : HasShareValues rows) (name : Text) (method : Method) (m : ℕ) → name ≡ h.0.text → method_named name ≡ Some method
     → m ≡ number_of (without_minus h.1.text)
-    → share_in rows ≡ Some (result_and_then (without_both rows) (result_and_then (λ votes. asking rows (sharing method m votes)) (votes_in rows)))
+    → share_in rows ≡ Some (result_and_then (without_both rows) (result_and_then (share_over_votes rows method m) (list_in Votes (codes "votes") rows)))
 share_is rows h name method m named is seats =
     let known : method_named h.0.text ≡ Some method = ap method_named (sym named) ∙ is in
     rw (h.0.given, h.1.given, known, seats) refl
@@ -159,23 +178,32 @@ pub failed : {A : Type 0} (said : Option (Result Asked LineFault)) (next : A →
 failed said next r f is (inl memory) = inl memory
 failed said next r f is (inr err) = inr (is ∙ ap (λ x. Some (result_and_then next x)) err)
 
--- ---- the votes
+-- ---- the list of an option
 
-votes_of : (rows : List Row) (o : Option Text) (r : Result (Option (List ℕ)) LineFault) → first_of (codes "votes") rows ≡ o
-    → option_transpose (option_map (listed Votes) o) ≡ r → votes_in rows ≡ r
-votes_of rows o r given is = ap (λ x. option_transpose (option_map (listed Votes) x)) given ∙ is
+list_by : (option : ListOption) (name : Text) (rows : List Row) (o : Option Text) (r : Result (Option (List ℕ)) LineFault) → first_of name rows ≡ o
+    → option_transpose (option_map (listed option) o) ≡ r → list_in option name rows ≡ r
+list_by option name rows o r given is = ap (λ x. option_transpose (option_map (listed option) x)) given ∙ is
 
-pub no_votes : (rows : List Row) → first_of (codes "votes") rows ≡ None → votes_in rows ≡ Ok None
-no_votes rows given = votes_of rows None (Ok None) given refl
+pub no_list : (option : ListOption) (name : Text) (rows : List Row) → first_of name rows ≡ None → list_in option name rows ≡ Ok None
+no_list option name rows given = list_by option name rows None (Ok None) given refl
 
-pub votes_read : (rows : List Row) (text : Text) (list : List ℕ) → first_of (codes "votes") rows ≡ Some text → listed Votes text ≡ Ok list
-    → votes_in rows ≡ Ok (Some list)
-votes_read rows text list given is = votes_of rows (Some text) (Ok (Some list)) given (ap (λ r. option_transpose (Some r)) is)
+pub list_read : (option : ListOption) (name : Text) (rows : List Row) (text : Text) (list : List ℕ) → first_of name rows ≡ Some text
+    → listed option text ≡ Ok list → list_in option name rows ≡ Ok (Some list)
+list_read option name rows text list given is = list_by option name rows (Some text) (Ok (Some list)) given (ap (λ r. option_transpose (Some r)) is)
 
-pub votes_failed : (rows : List Row) (text : Text) (f : LineFault) → first_of (codes "votes") rows ≡ Some text → (f ≡ Memory) ⊎ (listed Votes text ≡ Err f)
-    → (f ≡ Memory) ⊎ (votes_in rows ≡ Err f)
-votes_failed rows text f given (inl memory) = inl memory
-votes_failed rows text f given (inr err) = inr (votes_of rows (Some text) (Err f) given (ap (λ r. option_transpose (Some r)) err))
+pub list_failed : (option : ListOption) (name : Text) (rows : List Row) (text : Text) (f : LineFault) → first_of name rows ≡ Some text
+    → (f ≡ Memory) ⊎ (listed option text ≡ Err f) → (f ≡ Memory) ⊎ (list_in option name rows ≡ Err f)
+list_failed option name rows text f given (inl memory) = inl memory
+list_failed option name rows text f given (inr err) = inr (list_by option name rows (Some text) (Err f) given (ap (λ r. option_transpose (Some r)) err))
+
+-- which answers are asked for, by the start and the limit
+pub page_read : (rows : List Row) (after : Option (List ℕ)) (limit : Option ℕ) → list_in After (codes "after") rows ≡ Ok after → limit ≡ number_at (codes "limit") rows
+    → page_in rows ≡ Ok (record { after = after; limit = limit })
+page_read rows after limit read is = rw (is, read) refl
+
+pub page_failed : (rows : List Row) (f : LineFault) → (f ≡ Memory) ⊎ (list_in After (codes "after") rows ≡ Err f) → (f ≡ Memory) ⊎ (page_in rows ≡ Err f)
+page_failed rows f (inl memory) = inl memory
+page_failed rows f (inr err) = inr (rw err refl)
 
 -- a fault that is passed on is the same
 pub passed_on : {B : Type 0} (P : Result B LineFault → Type 0) (r : Result B LineFault) (f : LineFault) → IsErrAnd r (λ e. e ≡ f) → P (Err f) → P r
@@ -184,11 +212,16 @@ passed_on P (Err e) f is p = subst (λ x. P (Err x)) (sym is) p
 
 -- ---- the end of a sharing
 
-pub votes_broken : (rows : List Row) (said : Option (Result Asked LineFault)) (next : Option (List ℕ) → Result Asked LineFault) (f : LineFault)
-    → said ≡ Some (result_and_then (without_both rows) (result_and_then next (votes_in rows)))
-    → (f ≡ Memory) ⊎ (votes_in rows ≡ Err f) → (f ≡ Memory) ⊎ (said ≡ Some (Err f))
-votes_broken rows said next f is (inl memory) = inl memory
-votes_broken rows said next f is (inr err) = inr (is ∙ ap (λ r. Some (result_and_then (without_both rows) (result_and_then next r))) err)
+-- a step was taken
+pub then_read : {A B : Type 0} (said : Option (Result Asked LineFault)) (last : B → Result Asked LineFault) (next : A → Result B LineFault) (r : Result A LineFault)
+    (x : A) → said ≡ Some (result_and_then last (result_and_then next r)) → r ≡ Ok x → said ≡ Some (result_and_then last (next x))
+then_read said last next r x is read = is ∙ ap (λ s. Some (result_and_then last (result_and_then next s))) read
+
+-- a step failed, and with it the command
+pub broken : {A B : Type 0} (said : Option (Result Asked LineFault)) (last : B → Result Asked LineFault) (next : A → Result B LineFault) (r : Result A LineFault)
+    (f : LineFault) → said ≡ Some (result_and_then last (result_and_then next r)) → (f ≡ Memory) ⊎ (r ≡ Err f) → (f ≡ Memory) ⊎ (said ≡ Some (Err f))
+broken said last next r f is (inl memory) = inl memory
+broken said last next r f is (inr err) = inr (is ∙ ap (λ s. Some (result_and_then last (result_and_then next s))) err)
 
 -- two tests of the code
 pub both_true : (a b r s : Bool) → r ≡ a → s ≡ b → r ≡ true → s ≡ true → (a && b) ≡ true
@@ -206,16 +239,10 @@ pub some_items : (o : Option (Vec ℕ Global)) → IfSome o (λ v. vec_items v �
 some_items None some = some
 some_items (Some v) some = some
 
-pub shared_failed : (rows : List Row) (said : Option (Result Asked LineFault)) (next : Option (List ℕ) → Result Asked LineFault) (votes : Option (List ℕ)) (f : LineFault)
-    → said ≡ Some (result_and_then (without_both rows) (result_and_then next (votes_in rows))) → votes_in rows ≡ Ok votes
-    → (f ≡ Memory) ⊎ (next votes ≡ Err f) → (f ≡ Memory) ⊎ (said ≡ Some (Err f))
-shared_failed rows said next votes f is read (inl memory) = inl memory
-shared_failed rows said next votes f is read (inr err) = inr (is
-    ∙ ap (λ r. Some (result_and_then (without_both rows) (result_and_then next r))) read ∙ ap (λ r. Some (result_and_then (without_both rows) r)) err)
-
-pub shared : (rows : List Row) (said : Option (Result Asked LineFault)) (next : Option (List ℕ) → Result Asked LineFault) (votes : Option (List ℕ)) (asked : Asked) (both : Bool)
-    → said ≡ Some (result_and_then (without_both rows) (result_and_then next (votes_in rows))) → votes_in rows ≡ Ok votes → next votes ≡ Ok asked
+-- a sharing is refused where votes and an input are given, and else as it is
+pub shared : (rows : List Row) (said : Option (Result Asked LineFault)) (step : Result Asked LineFault) (asked : Asked) (both : Bool)
+    → said ≡ Some (result_and_then (without_both rows) step) → step ≡ Ok asked
     → (is_given rows (codes "votes") && has_input rows) ≡ both → said ≡ Some (if both then Err VotesAndInput else Ok asked)
-shared rows said next votes asked both is read ok test = is
-    ∙ ap (λ r. Some (result_and_then (without_both rows) (result_and_then next r))) read ∙ ap (λ r. Some (result_and_then (without_both rows) r)) ok
+shared rows said step asked both is ok test = is
+    ∙ ap (λ r. Some (result_and_then (without_both rows) r)) ok
     ∙ ap (λ t. Some (if t then Err VotesAndInput else Ok asked)) test

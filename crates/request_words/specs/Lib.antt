@@ -1,4 +1,5 @@
 pub mod Endings
+pub mod Limits
 pub mod Names
 pub mod NumberList
 pub mod Request

@@ -1,8 +1,8 @@
 -- What the words of a command line ask for, by clap's published meaning of a command.
-use Rattle.std.specs.Prelude.{◌≡◌, ◌≢◌, ◌⊎◌, ◌&&◌, ◌++◌, ⊤, ℕ, Bool, true, false, List, [], ◌∷◌, map, Option, Some, None, Result, Ok, Err}
+use Rattle.std.specs.Prelude.{◌≡◌, ◌≢◌, ◌<◌, ◌^◌, ◌⊎◌, ◌&&◌, ◌++◌, ⊤, ℕ, Bool, true, false, List, [], ◌∷◌, map, Option, Some, None, Result, Ok, Err}
 use Rattle.std.specs.Prelude.{codes, fold, if◌then◌else◌, option_and_then, option_map, pos}
 use Rattle.std.specs.List.{list_any}
-use Rattle.std.specs.Option.{IsSome, is_some, ok_or, option_transpose, option_zip}
+use Rattle.std.specs.Option.{IsSome, is_some, ok_or, option_map_or, option_transpose, option_zip}
 use Rattle.std.specs.Result.{MatchResult, result_ok}
 use Rattle.std.specs.Borrow.{Bor}
 use Rattle.std.specs.Str.{bytes_eq}
@@ -12,6 +12,7 @@ use Rattle.clap.specs.Walk.{texts}
 use Rattle.clap.specs.Words.{App, IsAmong, IsSignedIn, Row, Shape, Text, all_of, app_of, fault_of, first_of}
 use Rattle.clap.specs.Words.{new_rule, one_of, rule_of, shape_of, subcommand_of, takes}
 use Rattle.clap.specs.Words.{with_rule, with_subcommand, without_minus, Rule as Argument}
+use Rattle.clap.specs.declared.builder.action.ArgAction.TheVariants as action
 use Rattle.clap.specs.declared.builder.arg.Arg.{Arg}
 use Rattle.clap.specs.declared.builder.command.Command.{Command}
 use Rattle.clap.specs.declared.builder.command.Command.TheViews.{out-Command as fields_of}
@@ -26,14 +27,17 @@ use Rattle.preflib_text.specs.declared.pick.Way.TheVariants.{Usual, Category, Se
 use Rattle.preflib_text.specs.Names.{kind_named}
 use Rattle.seat_share.specs.Limits.{most_seats}
 use Rattle.seat_share.specs.Names.{method_named}
+use Rattle.seat_share.specs.declared.method.Method.{Method}
 use Rattle.request_words.specs.Endings.{kind_in_path}
 use Rattle.request_words.specs.Names.{kind_names, method_names, property_names, rule_named, rule_names}
 use Rattle.request_words.specs.NumberList.{list_of}
-use Rattle.request_words.specs.Request.{Asked, Demand, checking, electing, sharing}
+use Rattle.request_words.specs.Limits.{most_limit}
+use Rattle.request_words.specs.Request.{Asked, Demand, Paging, checking, electing, sharing}
+use Rattle.request_words.specs.declared.request.Rule.{Rule}
 use Rattle.request_words.specs.declared.words.LineFault.{LineFault}
 use Rattle.request_words.specs.declared.words.LineFault.TheVariants.{Help, Usage, BadList, TwoPicks, VotesAndInput, Memory}
 use Rattle.request_words.specs.declared.words.ListOption.{ListOption}
-use Rattle.request_words.specs.declared.words.ListOption.TheVariants.{Committee, Votes}
+use Rattle.request_words.specs.declared.words.ListOption.TheVariants.{Committee, Votes, After}
 
 -- ---- the commands
 
@@ -57,19 +61,29 @@ number_option name most = record (text_option name) { parser = Some (parser.Sign
 abbrev pub required : Argument → Argument
 required option = record option { required = true }
 
+-- an option without a value
+abbrev pub flag_option : Text → Argument
+flag_option name = record (new_rule name) { long = Some name; action = Some action.SetTrue }
+
 -- `FILE`, which takes any text
 abbrev pub file_word : Argument
 file_word = record (new_rule (codes "file")) { value_names = 1 }
 
--- what all commands take: how the ballots are read, and where they are
+-- what all commands take: how the ballots are read, where they are, and whether names are printed
 abbrev pub input_arguments : Names → List Argument
 input_arguments kinds = name_option (codes "kind") kinds ∷ number_option (codes "category") 1000000
-    ∷ number_option (codes "setsize") 1000000 ∷ number_option (codes "classes") 1000000 ∷ file_word ∷ []
+    ∷ number_option (codes "setsize") 1000000 ∷ number_option (codes "classes") 1000000 ∷ flag_option (codes "names")
+    ∷ file_word ∷ []
+
+-- what the commands take that print lists of answers: which of them
+abbrev pub page_arguments : List Argument
+page_arguments = text_option (codes "after") ∷ number_option (codes "limit") most_limit ∷ []
 
 -- `elect --rule RULE --size SIZE`, with a size from 1 to `most_members`
 abbrev pub elect_over : Names → Names → Shape
 elect_over rules kinds = record (new_shape (codes "elect")) {
-  rules = required (name_option (codes "rule") rules) ∷ required (number_option (codes "size") most_members) ∷ input_arguments kinds;
+  rules = required (name_option (codes "rule") rules) ∷ required (number_option (codes "size") most_members)
+      ∷ page_arguments ++ input_arguments kinds;
 }
 
 -- `check --property PROPERTY --committee LIST`
@@ -83,7 +97,7 @@ check_over properties kinds = record (new_shape (codes "check")) {
 abbrev pub share_over : Names → Names → Shape
 share_over methods kinds = record (new_shape (codes "share")) {
   rules = required (name_option (codes "method") methods) ∷ required (number_option (codes "seats") most_seats)
-      ∷ text_option (codes "votes") ∷ input_arguments kinds;
+      ∷ text_option (codes "votes") ∷ page_arguments ++ input_arguments kinds;
 }
 
 -- `committees`, which requires one of these three commands
@@ -148,17 +162,35 @@ result_and_then f (Err e) = Err e
 abbrev pub listed : ListOption → Text → Result (List ℕ) LineFault
 listed option text = ok_or (list_of text) (BadList option)
 
+-- the list of an option that is given, if it is
+abbrev pub list_in : ListOption → Text → List Row → Result (Option (List ℕ)) LineFault
+list_in option name rows = option_transpose (option_map (listed option) (first_of name rows))
+
+-- which of the answers are asked for
+abbrev pub page_in : List Row → Result Paging LineFault
+page_in rows = result_and_then (λ after. Ok (record { after = after; limit = number_at (codes "limit") rows }))
+    (list_in After (codes "after") rows)
+
+-- whether names are asked for
+abbrev pub wants_names : List Row → Bool
+wants_names rows = option_map_or (bytes_eq (codes "true")) (one_of (codes "names") rows) false
+
 -- a request for this, unless two ways are given
 abbrev pub asking : List Row → Demand → Result Asked LineFault
 asking rows demand = ok_or (option_map (λ way. record {
   demand = demand;
   pick = pick_in rows way;
   file = first_of (codes "file") rows;
+  names = wants_names rows;
 }) (way_in rows)) TwoPicks
+
+-- an election by a rule, of so many seats
+abbrev pub elect_over_page : List Row → Rule → ℕ → Paging → Result Asked LineFault
+elect_over_page rows rule size page = asking rows (electing rule size page)
 
 -- what `elect` asks for
 abbrev pub elect_in : List Row → Option (Result Asked LineFault)
-elect_in rows = option_map (λ p. asking rows (electing p.0 (number_of p.1)))
+elect_in rows = option_map (λ p. result_and_then (elect_over_page rows p.0 (number_of p.1)) (page_in rows))
     (option_zip (option_and_then rule_named (first_of (codes "rule") rows)) (one_of (codes "size") rows))
 
 -- what `check` asks for
@@ -166,10 +198,6 @@ abbrev pub check_in : List Row → Option (Result Asked LineFault)
 check_in rows =
     option_map (λ p. result_and_then (λ committee. asking rows (checking p.0 committee)) (listed Committee p.1))
     (option_zip (option_and_then property_named (first_of (codes "property") rows)) (first_of (codes "committee") rows))
-
--- the votes that are given, if any are
-abbrev pub votes_in : List Row → Result (Option (List ℕ)) LineFault
-votes_in rows = option_transpose (option_map (listed Votes) (first_of (codes "votes") rows))
 
 -- whether an argument is given
 abbrev pub is_given : List Row → Text → Bool
@@ -187,10 +215,17 @@ has_input rows = list_any (is_given rows) (codes "file" ∷ codes "kind" ∷ way
 abbrev pub without_both : List Row → Asked → Result Asked LineFault
 without_both rows asked = if is_given rows (codes "votes") && has_input rows then Err VotesAndInput else Ok asked
 
+-- a sharing by a method, of so many seats, over these votes
+abbrev pub share_over_page : List Row → Method → ℕ → Option (List ℕ) → Paging → Result Asked LineFault
+share_over_page rows method seats votes page = asking rows (sharing method seats votes page)
+
+abbrev pub share_over_votes : List Row → Method → ℕ → Option (List ℕ) → Result Asked LineFault
+share_over_votes rows method seats votes = result_and_then (share_over_page rows method seats votes) (page_in rows)
+
 -- what `share` asks for
 abbrev pub share_in : List Row → Option (Result Asked LineFault)
 share_in rows = option_map (λ p. result_and_then (without_both rows)
-    (result_and_then (λ votes. asking rows (sharing p.0 (number_of p.1) votes)) (votes_in rows)))
+    (result_and_then (share_over_votes rows p.0 (number_of p.1)) (list_in Votes (codes "votes") rows)))
     (option_zip (option_and_then method_named (first_of (codes "method") rows)) (one_of (codes "seats") rows))
 
 -- what a command asks for in what clap found, or the first fault that clap does not know of: nothing where a required
@@ -239,6 +274,7 @@ IsAfterClap fault = ⊤
 abbrev pub option_word : ListOption → Text
 option_word Committee = codes "--committee"
 option_word Votes = codes "--votes"
+option_word After = codes "--after"
 
 -- the line on standard error on words that are refused: none where clap has a text, or memory ran out
 abbrev pub line_of : LineFault → Option Text
@@ -263,6 +299,11 @@ abbrev pub AddsInput : Command → Command → Type 0
 AddsInput c r = (kinds : Names) × (texts kinds.now ≡ kind_names) × (app_of r ≡ fold with_rule (app_of c) (input_arguments kinds))
     × ((fields_of r).has_globals ≡ (fields_of c).has_globals)
 
+-- the second command is the first with the arguments that tell which answers are asked for
+pub record AddsPage (c r : Command) : Type 0 where
+  pub app : app_of r ≡ fold with_rule (app_of c) page_arguments
+  pub globals : (fields_of r).has_globals ≡ (fields_of c).has_globals
+
 -- a command of this shape, wherever the names lie: its own, and those of the types
 abbrev pub IsCommand : List Text → (Names → Names → Shape) → Command → Type 0
 IsCommand values shape c = (names : Names) × (kinds : Names) × (texts names.now ≡ values) × (texts kinds.now ≡ kind_names)
@@ -281,16 +322,27 @@ IsFaultOf k (Usage text) = (k ≢ kind.DisplayHelp) × (k ≢ kind.OutOfMemory)
 IsFaultOf k Memory = ⊤
 IsFaultOf k fault = ⊥
 
--- the option is not given, or has a number from 1 to 1,000,000
+-- the option is not given, or has a number of 32 bits from 1 on
 abbrev pub IsCount : Option Text → Type 0
 IsCount None = ⊤
-IsCount (Some digits) = (text : Text) × (digits ≡ without_minus text) × IsSignedIn (pos 1) (pos 1000000) text
+IsCount (Some digits) = (text : Text) × (most : ℕ) × (digits ≡ without_minus text) × (most < 2 ^ 32)
+    × IsSignedIn (pos 1) (pos most) text
 
--- the counts passed their parsers
+-- the option without a value has the text of a truth value
+abbrev pub IsFlag : Option Text → Type 0
+IsFlag None = ⊤
+IsFlag (Some text) = (text ≡ codes "true") ⊎ (text ≡ codes "false")
+
+-- the counts and the flag passed their parsers
 pub record HasCounts (rows : List Row) : Type 0 where
   pub category : IsCount (one_of (codes "category") rows)
   pub set_size : IsCount (one_of (codes "setsize") rows)
   pub classes : IsCount (one_of (codes "classes") rows)
+  pub names : IsFlag (one_of (codes "names") rows)
+
+-- the limit passed its parser
+abbrev pub HasLimit : List Row → Type 0
+HasLimit rows = IsCount (one_of (codes "limit") rows)
 
 -- an option has a name of a list
 pub record HasName {X : Type 0} (option : Text) (named : Text → Option X) (rows : List Row) : Type 0 where
@@ -306,13 +358,15 @@ pub record HasNumberUpTo (option : Text) (most : ℕ) (rows : List Row) : Type 0
 
 -- what clap found for `elect`, `check` and `share` passed its parsers
 abbrev pub HasElectValues : List Row → Type 0
-HasElectValues rows = HasName (codes "rule") rule_named rows × HasNumberUpTo (codes "size") most_members rows × HasCounts rows
+HasElectValues rows = HasName (codes "rule") rule_named rows × HasNumberUpTo (codes "size") most_members rows
+    × HasLimit rows × HasCounts rows
 
 abbrev pub HasCheckValues : List Row → Type 0
 HasCheckValues rows = HasName (codes "property") property_named rows × IsSome (first_of (codes "committee") rows) × HasCounts rows
 
 abbrev pub HasShareValues : List Row → Type 0
-HasShareValues rows = HasName (codes "method") method_named rows × HasNumberUpTo (codes "seats") most_seats rows × HasCounts rows
+HasShareValues rows = HasName (codes "method") method_named rows × HasNumberUpTo (codes "seats") most_seats rows
+    × HasLimit rows × HasCounts rows
 
 -- the values of a command passed their parsers
 abbrev pub HasValues : Text → List Row → Type 0

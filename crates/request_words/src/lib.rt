@@ -7,5 +7,5 @@ mod number_list;
 pub mod request;
 pub mod words;
 
-pub use request::{Request, Rule, ScoredRule, Task};
+pub use request::{MOST_LIMIT, Page, Request, Rule, ScoredRule, Task};
 pub use words::{LineFault, ListOption, read_request};

@@ -72,26 +72,40 @@ pub enum ScoredRule {
     Minimax,
 }
 
+/// How many answers a request may ask for at most.
+pub const MOST_LIMIT: u32 = 4_294_967_295;
+
+/// Which of the answers are asked for.
+#[derive(Debug, Drop)]
+pub struct Page {
+    /// The start: the answers that are later than this list, whether or not it is an answer itself. It has at least one
+    /// number.
+    pub after: Option<Vec<u64>>,
+    /// The first so many of these, from 1 to `MOST_LIMIT`.
+    pub limit: Option<u32>,
+}
+
 /// What a request asks for. Each list has at least one number.
 #[derive(Debug, Drop)]
 pub enum Task {
     /// To elect committees by a rule, with so many seats, from 1 to `MOST_MEMBERS`.
-    Elect(Rule, u8),
+    Elect(Rule, u8, Page),
     /// To check whether a committee has a property. The members are as they were given: any numbers,
     /// in any order.
     Check(Property, Vec<u64>),
     /// To share out seats by a method, from 1 to `MOST_SEATS`, among parties with these votes. Without votes, they
     /// are those of the ballots.
-    Share(Method, u16, Option<Vec<u64>>),
+    Share(Method, u16, Option<Vec<u64>>, Page),
 }
 
-/// A request: its task, how the file is read, and the file to read, where one is named. Each one comes from
-/// `read_request`.
+/// A request: its task, how the file is read, the file to read, where one is named, and whether answers have names. Each
+/// one comes from `read_request`.
 #[derive(Debug, Drop)]
 pub struct Request {
     task: Task,
     pick: Pick,
     file: Option<String>,
+    names: bool,
 }
 
 impl Model for Request {
@@ -105,22 +119,29 @@ impl Model for Request {
       demand = demand_of a.task;
       pick = a.pick;
       file = option_map string_bytes a.file;
+      names = a.names;
     } };
 
     ghost invariant = { λ a. InRange (demand_of a.task) × HasNumber a.pick.way };
 }
 
 impl Request {
-    pub(crate) fn new(task: Task, pick: Pick, file: Option<String>) -> Request
+    pub(crate) fn new(task: Task, pick: Pick, file: Option<String>, names: bool) -> Request
         requires range { InRange (demand_of task) }
         requires way { HasNumber pick.way }
         ensures { result ≡ record {
           demand = demand_of task;
           pick = pick;
           file = option_map string_bytes file;
+          names = names;
         } }
     {
-        Request { task, pick, file }
+        Request {
+            task,
+            pick,
+            file,
+            names,
+        }
     }
 
     /// What it asks for.
@@ -144,5 +165,12 @@ impl Request {
         ensures { option_map (λ s. s.now) result ≡ self.now.file }
     {
         self.file.as_deref()
+    }
+
+    /// Whether the names of the candidates stand beside their numbers in the answers.
+    pub fn names(&self) -> bool
+        ensures { result ≡ self.now.names }
+    {
+        self.names
     }
 }

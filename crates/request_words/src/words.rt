@@ -8,22 +8,25 @@ ghost use Rattle.seat_share.specs.Limits.{most_seats};
 ghost use Rattle.preflib_text.specs.Approvals.{HasNumber};
 ghost use Rattle.preflib_text.specs.Names.{kind_named};
 ghost use Rattle.request_words.specs.Endings.{kind_in_path};
-ghost use Rattle.request_words.specs.Request.{InRange, demand_of};
-ghost use Rattle.request_words.specs.Words.{AddsInput, Gives, GivesAsked, HasCheckValues, HasCounts, HasElectValues};
-ghost use Rattle.request_words.specs.Words.{HasShareValues, HasValues, IsAfterClap, IsAnswerTo, IsArgument, IsCommand};
-ghost use Rattle.request_words.specs.Words.{IsCount, IsFaultOf, IsNameOption, IsProgram, asked_in, asking, check_in};
-ghost use Rattle.request_words.specs.Words.{check_over, elect_in, elect_over, file_word, has_input, is_given, line_of};
+ghost use Rattle.request_words.specs.Limits.{most_limit};
+ghost use Rattle.request_words.specs.Request.{InRange, IsPage, demand_of, paging_of};
+ghost use Rattle.request_words.specs.declared.words.ListOption.TheVariants.{Votes};
 ghost use Rattle.request_words.specs.Names.{kind_names, method_names, property_names, rule_names};
-ghost use Rattle.request_words.specs.Words.{listed, name_option, number_at, number_option};
-ghost use Rattle.request_words.specs.Words.{program, request_of, required};
-ghost use Rattle.request_words.specs.Words.{share_in, share_over, text_option, votes_in, way_by, way_in, way_names};
+ghost use Rattle.request_words.specs.Words.{AddsInput, AddsPage, Gives, GivesAsked, HasCheckValues, HasCounts};
+ghost use Rattle.request_words.specs.Words.{HasElectValues, HasLimit, HasShareValues, HasValues, IsAfterClap};
+ghost use Rattle.request_words.specs.Words.{IsAnswerTo, IsArgument, IsCommand, IsCount, IsFaultOf, IsFlag};
+ghost use Rattle.request_words.specs.Words.{IsNameOption, IsProgram, asked_in, asking, check_in, check_over};
+ghost use Rattle.request_words.specs.Words.{elect_in, elect_over, elect_over_page, file_word, flag_option, has_input, is_given};
+ghost use Rattle.request_words.specs.Words.{line_of, list_in, listed, name_option, number_at, number_option, page_in};
+ghost use Rattle.request_words.specs.Words.{program, request_of, required, result_and_then, share_in, share_over, share_over_votes, text_option};
+ghost use Rattle.request_words.specs.Words.{wants_names, way_by, way_in, way_names, without_both};
 
 use crate::ending::kind_in_path;
 use crate::number_list::list_of;
-use crate::request::{Request, Rule, Task};
+use crate::request::{MOST_LIMIT, Page, Request, Rule, Task};
 use ballot_base::MOST_MEMBERS;
 use clap::error::ErrorKind;
-use clap::{Arg, ArgMatches, Command, Error, value_parser};
+use clap::{Arg, ArgAction, ArgMatches, Command, Error, value_parser};
 use group_check::Property;
 use preflib_text::{Kind, Pick, Way};
 use seat_share::{MOST_SEATS, Method};
@@ -36,6 +39,8 @@ pub enum ListOption {
     Committee,
     /// `--votes`
     Votes,
+    /// `--after`
+    After,
 }
 
 /// Why the words give no request. Of several faults it is the first, in this order; want of memory may come in the
@@ -67,6 +72,7 @@ impl LineFault {
                 "committees: words: BadList --committee",
             ),
             LineFault::BadList(ListOption::Votes) => Some("committees: words: BadList --votes"),
+            LineFault::BadList(ListOption::After) => Some("committees: words: BadList --after"),
             LineFault::TwoPicks => Some("committees: words: TwoPicks"),
             LineFault::VotesAndInput => Some("committees: words: VotesAndInput"),
             LineFault::Help(_) | LineFault::Usage(_) | LineFault::Memory => None,
@@ -138,7 +144,7 @@ fn elect<'a>(alloc: Global) -> Result<Command<'a>, AllocError>
         .about("Prints every committee that wins")
         .arg(rule_option(alloc))?
         .arg(size_option(alloc))?;
-    with_input(alloc, elect)
+    with_input(alloc, with_page(alloc, elect)?)
 }
 
 // The command `check`.
@@ -163,7 +169,14 @@ fn share<'a>(alloc: Global) -> Result<Command<'a>, AllocError>
         .arg(method_option(alloc))?
         .arg(seats_option(alloc))?
         .arg(votes_option(alloc))?;
-    with_input(alloc, share)
+    with_input(alloc, with_page(alloc, share)?)
+}
+
+// The command with the options that tell which of its answers are asked for.
+fn with_page<'a>(alloc: Global, command: Command<'a>) -> Result<Command<'a>, AllocError>
+    ensures { IfOk result (AddsPage command.entry) }
+{
+    command.arg(after_option(alloc))?.arg(limit_option(alloc))
 }
 
 // The command with the options that all commands have, and with `FILE`.
@@ -175,6 +188,7 @@ fn with_input<'a>(alloc: Global, command: Command<'a>) -> Result<Command<'a>, Al
         .arg(category_option(alloc))?
         .arg(set_size_option(alloc))?
         .arg(classes_option(alloc))?
+        .arg(names_option(alloc))?
         .arg(file_word(alloc))
 }
 
@@ -252,6 +266,34 @@ fn votes_option<'a>(alloc: Global) -> Arg<'a>
         .help("The votes of each party, as 53,24,23; without them those of the ballots count")
 }
 
+fn after_option<'a>(alloc: Global) -> Arg<'a>
+    ensures { IsArgument (text_option (codes "after")) result }
+{
+    Arg::new(alloc, "after")
+        .long("after")
+        .value_name("LIST")
+        .help("Prints the answers that come after this one alone, as 2,3,5")
+}
+
+fn limit_option<'a>(alloc: Global) -> Arg<'a>
+    ensures { IsArgument (number_option (codes "limit") most_limit) result }
+{
+    Arg::new(alloc, "limit")
+        .long("limit")
+        .value_name("N")
+        .value_parser(value_parser!(u32).range(1..=i64::from(MOST_LIMIT)))
+        .help("Prints N answers at most, and whether there are more")
+}
+
+fn names_option<'a>(alloc: Global) -> Arg<'a>
+    ensures { IsArgument (flag_option (codes "names")) result }
+{
+    Arg::new(alloc, "names")
+        .long("names")
+        .action(ArgAction::SetTrue)
+        .help("Prints the names of the candidates beside their numbers")
+}
+
 fn kind_option<'a>(alloc: Global) -> Arg<'a>
     ensures { IsNameOption kind_names (name_option (codes "kind")) result }
 {
@@ -317,9 +359,22 @@ fn elect_asked(alloc: Global, elect: &ArgMatches<'_>) -> Result<Request, LineFau
     requires { HasElectValues (rows_of (found_of elect.now)) }
     ensures { GivesAsked (elect_in (rows_of (found_of elect.now))) result }
 {
+    let (rule, size) = rule_and_size(elect);
+    let page = page(alloc, elect)?;
+    request(alloc, elect, Task::Elect(rule, size, page))
+}
+
+// The rule and the number of seats.
+fn rule_and_size(elect: &ArgMatches<'_>) -> (Rule, u8)
+    requires { HasElectValues (rows_of (found_of elect.now)) }
+    ensures asked { let rows = rows_of (found_of elect.now) in
+        elect_in rows ≡ Some (result_and_then (elect_over_page rows result.0 result.1) (page_in rows)) }
+    ensures least { 1 ≤ result.1 }
+    ensures most { result.1 ≤ most_members }
+{
     let rule = Rule::named(elect.get_str("rule").unwrap()).unwrap();
     let size = elect.get_one::<u8>("size").unwrap();
-    request(alloc, elect, Task::Elect(rule, size))
+    (rule, size)
 }
 
 // The request in what clap found for `check`.
@@ -338,23 +393,53 @@ fn share_asked(alloc: Global, share: &ArgMatches<'_>) -> Result<Request, LineFau
     requires { HasShareValues (rows_of (found_of share.now)) }
     ensures { GivesAsked (share_in (rows_of (found_of share.now))) result }
 {
-    let method = Method::named(share.get_str("method").unwrap()).unwrap();
-    let seats = share.get_one::<u16>("seats").unwrap();
-    let votes = votes(alloc, share)?;
-    let request = request(alloc, share, Task::Share(method, seats, votes))?;
+    let (method, seats) = method_and_seats(share);
+    let votes = list_given(alloc, share, ListOption::Votes, "votes")?;
+    let page = page(alloc, share)?;
+    let request = request(alloc, share, Task::Share(method, seats, votes, page))?;
     if is_given(share, "votes") && has_input(share) {
         return Err(LineFault::VotesAndInput);
     }
     Ok(request)
 }
 
-// The votes that are given for the parties, if any are.
-fn votes(alloc: Global, share: &ArgMatches<'_>) -> Result<Option<Vec<u64>>, LineFault>
-    ensures given { Gives (option_map vec_items) (votes_in (rows_of (found_of share.now))) result }
-    ensures some { IfOk result (λ votes. IfSome votes (λ v. vec_items v ≢ [])) }
+// The method and the number of seats.
+fn method_and_seats(share: &ArgMatches<'_>) -> (Method, u16)
+    requires { HasShareValues (rows_of (found_of share.now)) }
+    ensures asked { let rows = rows_of (found_of share.now) in
+        share_in rows ≡ Some (result_and_then (without_both rows)
+        (result_and_then (share_over_votes rows result.0 result.1) (list_in Votes (codes "votes") rows))) }
+    ensures least { 1 ≤ result.1 }
+    ensures most { result.1 ≤ most_seats }
 {
-    match share.get_str("votes") {
-        Some(text) => Ok(Some(numbers(alloc, ListOption::Votes, text)?)),
+    let method = Method::named(share.get_str("method").unwrap()).unwrap();
+    let seats = share.get_one::<u16>("seats").unwrap();
+    (method, seats)
+}
+
+// Which of the answers are asked for.
+fn page(alloc: Global, command: &ArgMatches<'_>) -> Result<Page, LineFault>
+    requires { HasLimit (rows_of (found_of command.now)) }
+    ensures given { Gives paging_of (page_in (rows_of (found_of command.now))) result }
+    ensures range { IfOk result (λ page. IsPage (paging_of page)) }
+{
+    let after = list_given(alloc, command, ListOption::After, "after")?;
+    let limit = number(command, "limit");
+    Ok(Page { after, limit })
+}
+
+// The list of an option, if it is given.
+fn list_given(
+    alloc: Global,
+    command: &ArgMatches<'_>,
+    option: ListOption,
+    name: &str,
+) -> Result<Option<Vec<u64>>, LineFault>
+    ensures given { Gives (option_map vec_items) (list_in option name.now (rows_of (found_of command.now))) result }
+    ensures some { IfOk result (λ list. IfSome list (λ v. vec_items v ≢ [])) }
+{
+    match command.get_str(name) {
+        Some(text) => Ok(Some(numbers(alloc, option, text)?)),
         None => Ok(None),
     }
 }
@@ -399,7 +484,15 @@ fn request(alloc: Global, command: &ArgMatches<'_>, task: Task) -> Result<Reques
     };
     let pick = pick_of(command.get_str("kind"), command.get_str("file"), way);
     let file = owned(alloc, command.get_str("file"))?;
-    Ok(Request::new(task, pick, file))
+    Ok(Request::new(task, pick, file, wants_names(command)))
+}
+
+// Whether names are asked for.
+fn wants_names(command: &ArgMatches<'_>) -> bool
+    requires { IsFlag (one_of (codes "names") (rows_of (found_of command.now))) }
+    ensures { result ≡ wants_names (rows_of (found_of command.now)) }
+{
+    command.get_flag("names")
 }
 
 // How a file with this path is read.
@@ -438,6 +531,7 @@ fn number(command: &ArgMatches<'_>, name: &str) -> Option<u32>
     requires { IsCount (one_of name.now (rows_of (found_of command.now))) }
     ensures value { result ≡ number_at name.now (rows_of (found_of command.now)) }
     ensures least { IfSome result (λ n. 1 ≤ n) }
+    ensures most { IfSome result (λ n. n ≤ most_limit) }
 {
     command.get_one::<u32>(name)
 }

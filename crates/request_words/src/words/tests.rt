@@ -1,5 +1,5 @@
 use super::{LineFault, ListOption, read_request};
-use crate::request::{Request, Rule, ScoredRule, Task};
+use crate::request::{MOST_LIMIT, Page, Request, Rule, ScoredRule, Task};
 use ballot_base::ThieleRule;
 use group_check::Property;
 use preflib_text::{Kind, Pick, Way};
@@ -22,13 +22,13 @@ fn reads_elections(rt: HostRuntime) -> Result<(), Fail> {
     let av = Rule::Scored(ScoredRule::Thiele(ThieleRule::Av));
     let request = read(alloc, "committees elect --rule av --size 007")?.expect(&rt, "no file");
     match request.task() {
-        Task::Elect(rule, size) => assert!(rt; *rule == av && *size == 7),
+        Task::Elect(rule, size, _) => assert!(rt; *rule == av && *size == 7),
         other => panic!(rt; "{other:?}"),
     }
     assert!(rt; request.file().is_none());
     let request = read(alloc, "committees elect a.cat --size=40 --rule=av")?.expect(&rt, "a file");
     match request.task() {
-        Task::Elect(rule, size) => assert!(rt; *rule == av && *size == 40),
+        Task::Elect(rule, size, _) => assert!(rt; *rule == av && *size == 40),
         other => panic!(rt; "{other:?}"),
     }
     assert!(rt; request.file() == Some("a.cat"));
@@ -82,7 +82,7 @@ fn reads_sharings(rt: HostRuntime) -> Result<(), Fail> {
         let line = format!(in alloc; "committees share --method {words}")?;
         let request = read(alloc, line.as_str())?.expect(&rt, words);
         match request.task() {
-            Task::Share(method, seats, votes) => assert!(rt;
+            Task::Share(method, seats, votes, _) => assert!(rt;
                 *method == wanted
                     && *seats == number
                     && votes.as_ref().map(|votes| votes.as_slice()) == given,
@@ -153,6 +153,68 @@ fn reads_endings(rt: HostRuntime) -> Result<(), Fail> {
     Ok(())
 }
 
+/// The page that a request asks for, if it asks for one.
+fn page_of(request: &Request) -> Option<&Page> {
+    match request.task() {
+        Task::Elect(_, _, page) | Task::Share(_, _, _, page) => Some(page),
+        Task::Check(_, _) => None,
+    }
+}
+
+#[test]
+fn reads_pages(rt: HostRuntime) -> Result<(), Fail> {
+    let alloc = rt.alloc();
+    let lines: [(&str, Option<&[u64]>, Option<u32>); 6] = [
+        ("", None, None),
+        ("--after 3,1", Some(&[3, 1]), None),
+        ("--limit 1", None, Some(1)),
+        ("--limit=4294967295 --names", None, Some(MOST_LIMIT)),
+        ("--after=0 --limit 02", Some(&[0]), Some(2)),
+        ("--after 18446744073709551615", Some(&[u64::MAX]), None),
+    ];
+    for (words, after, limit) in lines {
+        for command in [
+            "elect --rule seqcc --size 2",
+            "share --method dean --seats 2",
+        ] {
+            let line = format!(in alloc; "committees {command} {words}")?;
+            let request = read(alloc, line.as_str())?.expect(&rt, words);
+            match page_of(&request) {
+                Some(page) => assert!(rt;
+                    page.after.as_ref().map(|list| list.as_slice()) == after && page.limit == limit,
+                    "{line}"
+                ),
+                None => panic!(rt; "{line}"),
+            }
+        }
+    }
+    Ok(())
+}
+
+#[test]
+fn reads_whether_names_are_wanted(rt: HostRuntime) -> Result<(), Fail> {
+    let alloc = rt.alloc();
+    let commands = [
+        "elect --rule av --size 1",
+        "check --property jr --committee 1",
+        "share --method dean --seats 1",
+        "share --method dean --seats 1 --votes 1",
+    ];
+    for command in commands {
+        let with = format!(in alloc; "committees {command} --names")?;
+        assert!(rt;
+            read(alloc, with.as_str())?.expect(&rt, command).names(),
+            "{with}"
+        );
+        let without = format!(in alloc; "committees {command}")?;
+        assert!(rt;
+            !read(alloc, without.as_str())?.expect(&rt, command).names(),
+            "{without}"
+        );
+    }
+    Ok(())
+}
+
 /// Asserts that each line is refused after `clap`, and the line on it.
 fn assert_refused(
     rt: &impl Abort,
@@ -208,6 +270,11 @@ fn refuses_lists(rt: HostRuntime) -> Result<(), Fail> {
             Err(LineFault::BadList(ListOption::Votes)) => {}
             other => panic!(rt; "{list}: {other:?}"),
         }
+        let elect = format!(in alloc; "committees elect --rule av --size 1 --after={list}")?;
+        match read(alloc, elect.as_str())? {
+            Err(LineFault::BadList(ListOption::After)) => {}
+            other => panic!(rt; "{list}: {other:?}"),
+        }
     }
     Ok(())
 }
@@ -224,8 +291,14 @@ fn refuses_lists_before_all_else(rt: HostRuntime) -> Result<(), Fail> {
     )?;
     let sharings = [
         "committees share --method dean --seats 1 --votes 1, --category 1 --classes 1 a.cat",
+        "committees share --method dean --seats 1 --after 1, --votes 1,",
     ];
-    assert_refused(&rt, alloc, &sharings, "committees: words: BadList --votes")
+    assert_refused(&rt, alloc, &sharings, "committees: words: BadList --votes")?;
+    let starts = [
+        "committees elect --rule av --size 1 --after 1, --category 1 --classes 1",
+        "committees share --method dean --seats 1 --votes 1 --after 1,,2 a.cat",
+    ];
+    assert_refused(&rt, alloc, &starts, "committees: words: BadList --after")
 }
 
 #[test]
@@ -297,7 +370,12 @@ fn refuses_words(rt: HostRuntime) -> Result<(), Fail> {
         "committees elect --rule av --size 0",
         "committees elect --rule av --size 41",
         "committees elect --rule phragmen --size 1",
-        "committees elect --rule av --size 1 --limit 1",
+        "committees elect --rule av --size 1 --limit 0",
+        "committees elect --rule av --size 1 --limit 4294967296",
+        "committees elect --rule av --size 1 --limit 1 --limit 1",
+        "committees elect --rule av --size 1 --after 1 --after 1",
+        "committees elect --rule av --size 1 --names=true",
+        "committees elect --rule av --size 1 --names --names",
         "committees elect --rule av --size 1 --kind SOC",
         "committees elect --rule av --size 1 --kind other",
         "committees elect --rule av --size 1 --category 0",
@@ -313,7 +391,8 @@ fn refuses_words(rt: HostRuntime) -> Result<(), Fail> {
         "committees share --method dean --seats 0",
         "committees share --method dean --seats 10001",
         "committees share --method jefferson --seats 1",
-        "committees share --method dean --seats 1 --after 1",
+        "committees check --property jr --committee 1 --after 1",
+        "committees check --property jr --committee 1 --limit 1",
         "committees share --method dean --seats 1 --votes 1 --votes 1",
         "committees share --method dean --seats 1 --committee 1",
         "committees --version",

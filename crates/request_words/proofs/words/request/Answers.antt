@@ -11,4 +11,5 @@ returns c =
     let kind = c.get_str.ensures ∙ first_value-rows f (codes "kind") in
     let path = c.get_str-2.ensures ∙ first_value-rows f (codes "file") in
     let file = c.in_ok-file.ensures ∙ c.get_str-3.ensures ∙ first_value-rows f (codes "file") in
-    rw c.new.ensures (asking_is (rows_of f) (demand_of c.args.task) c.in-Some.way c.pick_of-pick.result _ _ _ c.in-Some.ensures.value kind file path c.pick_of-pick.ensures)
+    rw c.new.ensures (asking_is (rows_of f) (demand_of c.args.task) c.in-Some.way c.pick_of-pick.result _ _ _ _
+    c.in-Some.ensures.value kind file path c.pick_of-pick.ensures c.wants_names.ensures)

@@ -1,0 +1,6 @@
+-- The range of what a request may ask for.
+use Rattle.std.specs.Prelude.{ℕ}
+
+-- how many answers a request may ask for at most
+abbrev pub most_limit : ℕ
+most_limit = 4294967295
