@@ -1,12 +1,12 @@
 -- Each request has one answer over each input.
-use Rattle.std.proofs.Common.{◌≡◌, ◌⊎◌, ℕ, zero, suc, ◌+◌, ◌≤◌, ◌<◌, Bool, true, false, List, [], ◌∷◌, length, Option, Some, None, IfSome, Result, Ok, Err, inl, inr, refl, sym, subst, ap, ◌∙◌, arith}
+use Rattle.std.proofs.Common.{◌≡◌, ◌⊎◌, ℕ, zero, suc, ◌+◌, ◌≤◌, ◌<◌, Bool, true, false, List, [], ◌∷◌, length, Option, Some, None, Result, Ok, Err, inl, inr, refl, sym, subst, ap, ◌∙◌, arith}
 use Rattle.std.specs.Prelude.{MatchResult, codes, is_some}
 use Rattle.std.proofs.Math.Dec.{leb}
 use Rattle.std.proofs.lemmas.Bool.Decides.{leb_tells}
 use Rattle.ballot_base.specs.Limits.{most_members}
 use Rattle.ballot_base.specs.Lists.{IsIncreasing}
 use Rattle.ballot_base.specs.Ballots.{Election}
-use Rattle.group_check.specs.Groups.{HasProperty, SomeGroupBreaks}
+use Rattle.group_check.specs.Groups.{HasProperty}
 use Rattle.group_check.specs.Report.{IsReport, first_violation}
 use Rattle.group_check.specs.declared.property.Property.{Property}
 use Rattle.group_check.specs.declared.property.Violation.{Violation}
@@ -18,6 +18,7 @@ use Rattle.preflib_text.specs.declared.pick.Pick.{Pick}
 use Rattle.preflib_text.proofs.ReadLemmas.{outcome_is_one, some_outcome_is}
 use Rattle.request_words.specs.Request.{Asked, Demand, electing, checking, sharing}
 use Rattle.vote_cli.specs.FaultText.{fault_text}
+use Rattle.vote_cli.specs.Names.{naming}
 use Rattle.vote_cli.specs.CheckText.{holds_text, violation_text}
 use Rattle.vote_cli.specs.declared.status.Status.TheVariants.{InputRefused}
 use Rattle.vote_cli.specs.Answer.{Answer, IsAnswer, IsAnswerOver, IsAnswerTo, IsCheckAnswer, IsCommittee, answered, ballots_answer, election_answer, request_refused, refused, share_answer, violated}
@@ -76,20 +77,20 @@ module _ (property : Property) (e : Election) (committee : List ℕ) (rises : Is
 
 -- ---- one answer at most
 
-one_check_answer : (property : Property) (list : List ℕ) (e : Election) (a b : Answer)
-    → IsCheckAnswer property list e a → IsCheckAnswer property list e b → a ≡ b
-one_check_answer property list e a b (inl x) (inl y) = x.1 ∙ sym y.1
-one_check_answer property list e a b (inl x) (inr (inl y)) = absurd (x.0 y.0)
-one_check_answer property list e a b (inl x) (inr (inr y)) = absurd (x.0 y.0)
-one_check_answer property list e a b (inr (inl x)) (inl y) = absurd (y.0 x.0)
-one_check_answer property list e a b (inr (inl x)) (inr (inl y)) = x.2 ∙ sym y.2
-one_check_answer property list e a b (inr (inl x)) (inr (inr y)) =
+one_check_answer : (property : Property) (list : List ℕ) (with_names : Bool) (e : Election) (a b : Answer)
+    → IsCheckAnswer property list with_names e a → IsCheckAnswer property list with_names e b → a ≡ b
+one_check_answer property list with_names e a b (inl x) (inl y) = x.1 ∙ sym y.1
+one_check_answer property list with_names e a b (inl x) (inr (inl y)) = absurd (x.0 y.0)
+one_check_answer property list with_names e a b (inl x) (inr (inr y)) = absurd (x.0 y.0)
+one_check_answer property list with_names e a b (inr (inl x)) (inl y) = absurd (y.0 x.0)
+one_check_answer property list with_names e a b (inr (inl x)) (inr (inl y)) = x.2 ∙ sym y.2
+one_check_answer property list with_names e a b (inr (inl x)) (inr (inr y)) =
     absurd (not_both property e list x.0.order y.1.0 x.1 y.1.1)
-one_check_answer property list e a b (inr (inr x)) (inl y) = absurd (y.0 x.0)
-one_check_answer property list e a b (inr (inr x)) (inr (inl y)) =
+one_check_answer property list with_names e a b (inr (inr x)) (inl y) = absurd (y.0 x.0)
+one_check_answer property list with_names e a b (inr (inr x)) (inr (inl y)) =
     absurd (not_both property e list x.0.order x.1.0 y.1 x.1.1)
-one_check_answer property list e a b (inr (inr x)) (inr (inr y)) =
-    x.1.2 ∙ ap (λ report. violated (violation_text report e)) (one_report property e list x.1.0 y.1.0 x.1.1 y.1.1) ∙ sym y.1.2
+one_check_answer property list with_names e a b (inr (inr x)) (inr (inr y)) =
+    x.1.2 ∙ ap (λ report. violated (violation_text (naming with_names e.names) report e)) (one_report property e list x.1.0 y.1.0 x.1.1 y.1.1) ∙ sym y.1.2
 
 module _ (IsRight : Election → Answer → Type 0) (one : (e : Election) (a b : Answer) → IsRight e a → IsRight e b → a ≡ b)
     (pick : Pick) (bytes : List ℕ) where
@@ -105,30 +106,30 @@ module _ (IsRight : Election → Answer → Type 0) (one : (e : Election) (a b :
       (subst (λ read. MatchResult read (λ e. IsRight e b) (λ fault. b ≡ refused InputRefused (fault_text fault)))
       (outcome_is_one bytes pick y.0 x.0 y.1 x.1) y.2)
 
-one_answer_to : (demand : Demand) (pick : Pick) (bytes : List ℕ) (a b : Answer) → IsAnswerTo demand pick bytes a → IsAnswerTo demand pick bytes b → a ≡ b
-one_answer_to (electing rule size) pick bytes a b x y =
-    one_over (λ e answer. answer ≡ election_answer rule size e) (λ e a b x y. x ∙ sym y) pick bytes a b x y
-one_answer_to (checking property list) pick bytes a b x y =
-    one_over (IsCheckAnswer property list) (one_check_answer property list) pick bytes a b x y
-one_answer_to (sharing method seats None) pick bytes a b x y =
-    one_over (λ e answer. answer ≡ ballots_answer method seats e) (λ e a b x y. x ∙ sym y) pick bytes a b x y
-one_answer_to (sharing method seats (Some votes)) pick bytes a b x y = x ∙ sym y
+one_answer_to : (with_names : Bool) (demand : Demand) (pick : Pick) (bytes : List ℕ) (a b : Answer) → IsAnswerTo with_names demand pick bytes a → IsAnswerTo with_names demand pick bytes b → a ≡ b
+one_answer_to with_names (electing rule size page) pick bytes a b x y =
+    one_over (λ e answer. answer ≡ election_answer rule size page with_names e) (λ e a b x y. x ∙ sym y) pick bytes a b x y
+one_answer_to with_names (checking property list) pick bytes a b x y =
+    one_over (IsCheckAnswer property list with_names) (one_check_answer property list with_names) pick bytes a b x y
+one_answer_to with_names (sharing method seats None page) pick bytes a b x y =
+    one_over (λ e answer. answer ≡ ballots_answer method seats page with_names e) (λ e a b x y. x ∙ sym y) pick bytes a b x y
+one_answer_to with_names (sharing method seats (Some votes) page) pick bytes a b x y = x ∙ sym y
 
 pub one_answer : (asked : Asked) (bytes : List ℕ) (a b : Answer) → IsAnswer asked bytes a → IsAnswer asked bytes b → a ≡ b
-one_answer asked bytes a b x y = one_answer_to asked.demand asked.pick bytes a b x y
+one_answer asked bytes a b x y = one_answer_to asked.names asked.demand asked.pick bytes a b x y
 
 -- ---- and one at least
 
-some_check_answer : (property : Property) (list : List ℕ) (e : Election) → (answer : Answer) × IsCheckAnswer property list e answer
-some_check_answer property list e = by (decide_committee e.m list)
+some_check_answer : (property : Property) (list : List ℕ) (with_names : Bool) (e : Election) → (answer : Answer) × IsCheckAnswer property list with_names e answer
+some_check_answer property list with_names e = by (decide_committee e.m list)
   where
-    by : IsCommittee e.m list ⊎ (IsCommittee e.m list → ⊥) → (answer : Answer) × IsCheckAnswer property list e answer
+    by : IsCommittee e.m list ⊎ (IsCommittee e.m list → ⊥) → (answer : Answer) × IsCheckAnswer property list with_names e answer
     by (inr none) = (request_refused (codes "CommitteeMisfit"), inl (none, refl))
     by (inl committee) = go (checked property e list committee.order)
       where
-        go : HasProperty property e list ⊎ ((report : Violation) × IsReport property e list report) → (answer : Answer) × IsCheckAnswer property list e answer
+        go : HasProperty property e list ⊎ ((report : Violation) × IsReport property e list report) → (answer : Answer) × IsCheckAnswer property list with_names e answer
         go (inl has) = (answered holds_text, inr (inl (committee, has, refl)))
-        go (inr found) = (violated (violation_text found.0 e), inr (inr (committee, (found.0, found.1, refl))))
+        go (inr found) = (violated (violation_text (naming with_names e.names) found.0 e), inr (inr (committee, (found.0, found.1, refl))))
 
 module _ (IsRight : Election → Answer → Type 0) (some : (e : Election) → (answer : Answer) × IsRight e answer) (pick : Pick) (bytes : List ℕ) where
   some_over : (answer : Answer) × IsAnswerOver IsRight pick bytes answer
@@ -138,13 +139,14 @@ module _ (IsRight : Election → Answer → Type 0) (some : (e : Election) → (
       by (Ok e, reads) = ((some e).0, (Ok e, reads, (some e).1))
       by (Err fault, reads) = (refused InputRefused (fault_text fault), (Err fault, reads, refl))
 
-some_answer_to : (demand : Demand) (pick : Pick) (bytes : List ℕ) → (answer : Answer) × IsAnswerTo demand pick bytes answer
-some_answer_to (electing rule size) pick bytes =
-    some_over (λ e answer. answer ≡ election_answer rule size e) (λ e. (election_answer rule size e, refl)) pick bytes
-some_answer_to (checking property list) pick bytes = some_over (IsCheckAnswer property list) (some_check_answer property list) pick bytes
-some_answer_to (sharing method seats None) pick bytes =
-    some_over (λ e answer. answer ≡ ballots_answer method seats e) (λ e. (ballots_answer method seats e, refl)) pick bytes
-some_answer_to (sharing method seats (Some votes)) pick bytes = (share_answer method seats votes, refl)
+some_answer_to : (with_names : Bool) (demand : Demand) (pick : Pick) (bytes : List ℕ) → (answer : Answer) × IsAnswerTo with_names demand pick bytes answer
+some_answer_to with_names (electing rule size page) pick bytes =
+    some_over (λ e answer. answer ≡ election_answer rule size page with_names e) (λ e. (election_answer rule size page with_names e, refl)) pick bytes
+some_answer_to with_names (checking property list) pick bytes =
+    some_over (IsCheckAnswer property list with_names) (some_check_answer property list with_names) pick bytes
+some_answer_to with_names (sharing method seats None page) pick bytes =
+    some_over (λ e answer. answer ≡ ballots_answer method seats page with_names e) (λ e. (ballots_answer method seats page with_names e, refl)) pick bytes
+some_answer_to with_names (sharing method seats (Some votes) page) pick bytes = (share_answer method seats page (naming with_names []) votes, refl)
 
 pub some_answer : (asked : Asked) (bytes : List ℕ) → (answer : Answer) × IsAnswer asked bytes answer
-some_answer asked bytes = some_answer_to asked.demand asked.pick bytes
+some_answer asked bytes = some_answer_to asked.names asked.demand asked.pick bytes

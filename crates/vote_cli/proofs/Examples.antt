@@ -1,5 +1,5 @@
 -- Each definition, computed on a small example.
-use Rattle.std.proofs.Common.{◌≡◌, ℕ, List, [], ◌∷◌, ◌++◌, true, false, Some, refl}
+use Rattle.std.proofs.Common.{◌≡◌, ℕ, List, [], ◌∷◌, ◌++◌, true, false, None, Some, refl}
 use Rattle.std.specs.Prelude.{codes}
 use Rattle.std.specs.Fmt.{digits}
 use Rattle.ballot_base.specs.Lists.{lists_of}
@@ -12,13 +12,17 @@ use Rattle.ballot_base.specs.Increments.{increments}
 use Rattle.ballot_base.specs.CommonMultiple.{common_multiple}
 use Rattle.tie_walk.specs.Sequences.{hit_weights}
 use Rattle.vote_cli.specs.ElectText.{best_text, elect_answers, elect_header, elect_text, rule_lines, score_text, scored_header}
-use Rattle.vote_cli.specs.Listing.{answer_text, answers_text, listing_text}
+use Rattle.request_words.specs.Request.{whole}
+use Rattle.vote_cli.specs.Listing.{allocation_line, answers_text, committee_line, has_more, last_line, listing_text, within_limit}
+use Rattle.vote_cli.specs.Names.{beside, called, candidates_text, joined, name_or_number, names_text, naming}
+use Rattle.vote_cli.specs.Starts.{has_seats_for, is_committee, is_increasing, may_start}
+use Rattle.vote_cli.specs.Steps.Names.{IsName, listed_name, listed_names, names_in, seated_name}
 use Rattle.vote_cli.specs.RuleValues.{value_by}
 use Rattle.vote_cli.specs.Steps.Numbers.{following_text}
 use Rattle.vote_cli.specs.Text.{line, numbers_text}
 use Rattle.seat_share.specs.declared.method.Method.TheVariants.{Dhondt, SainteLague, Adams}
 use Rattle.seat_share.specs.Allocations.{lists_with_sum}
-use Rattle.vote_cli.specs.Parties.{has_many_approved, approvals_of, party_votes}
+use Rattle.vote_cli.specs.Parties.{has_many_approved, approvals_of, party_votes, seated_parties}
 use Rattle.vote_cli.specs.ShareText.{share_header, share_text}
 use Rattle.group_check.specs.declared.property.Property.TheVariants.{Jr, Pjr, Ejr}
 use Rattle.group_check.specs.declared.property.Violation.{Violation}
@@ -63,20 +67,92 @@ sequential_head : rule_lines (Sequential SeqPav) 12 ≡ line (codes "rule seqpav
 unfolding digits
 sequential_head = refl
 
+-- ---- names
+-- candidate 2 has no name
+abbrev red_and_blue : List (List ℕ)
+red_and_blue = codes "Red" ∷ [] ∷ codes "Blue" ∷ []
+
+callings : (called red_and_blue 3 ≡ codes "Blue") × (called red_and_blue 2 ≡ codes "2") × (called red_and_blue 14 ≡ codes "14") × (called [] 1 ≡ codes "1")
+unfolding digits
+callings = (refl, refl, refl, refl)
+
+names_and_numbers : (name_or_number (codes "Red") 7 ≡ codes "Red") × (name_or_number [] 7 ≡ codes "7") × (naming true red_and_blue ≡ Some red_and_blue) × (naming false red_and_blue ≡ None)
+unfolding digits
+names_and_numbers = (refl, refl, refl, refl)
+
+all_names : names_text red_and_blue (1 ∷ 2 ∷ 3 ∷ []) ≡ codes "Red; 2; Blue"
+unfolding digits
+all_names = refl
+
+pieces : joined (codes ", ") (codes "a" ∷ codes "b" ∷ []) ≡ codes "a, b"
+pieces = refl
+
+beside_numbers : (beside (Some red_and_blue) (1 ∷ 3 ∷ []) ≡ 9 ∷ codes "Red; Blue") × (beside (Some red_and_blue) [] ≡ 9 ∷ []) × (beside None (1 ∷ 3 ∷ []) ≡ [])
+beside_numbers = (refl, refl, refl)
+
+named_candidates : (candidates_text (Some red_and_blue) (1 ∷ 3 ∷ []) ≡ codes "1,3" ++ 9 ∷ codes "Red; Blue") × (candidates_text None (1 ∷ 3 ∷ []) ≡ codes "1,3")
+unfolding digits
+named_candidates = (refl, refl)
+
+names_in_a_row : (listed_name false red_and_blue 3 ≡ codes "; Blue") × (listed_names true red_and_blue (1 ∷ 3 ∷ []) ≡ codes "Red; Blue")
+names_in_a_row = (refl, refl)
+
+names_of_parties : (seated_name false true red_and_blue 3 ≡ codes "Blue") × (seated_name true false red_and_blue 3 ≡ [])
+names_of_parties = (refl, refl)
+
+-- without a profile no candidate has a name
+found_names : (names_in None ≡ []) × (names_in (Some (record { ref_ptr = (0, 0); now = three })) ≡ [] ∷ [] ∷ [] ∷ [])
+    × (IsName red_and_blue 2 None) × (IsName red_and_blue 3 (Some (record { ref_ptr = (0, 0); now = codes "Blue" })))
+found_names = (refl, refl, refl, refl)
+
+-- ---- starts
+rising : (is_increasing 1 3 (1 ∷ 3 ∷ []) ≡ true) × (is_increasing 1 3 (3 ∷ 1 ∷ []) ≡ false) × (is_increasing 1 3 (1 ∷ 4 ∷ []) ≡ false)
+rising = (refl, refl, refl)
+
+committees_of_three : (is_committee 3 2 (1 ∷ 3 ∷ []) ≡ true) × (is_committee 3 2 (1 ∷ []) ≡ false) × (is_committee 3 2 (1 ∷ 1 ∷ []) ≡ false)
+committees_of_three = (refl, refl, refl)
+
+seats_of_three : (has_seats_for 3 (5 ∷ 0 ∷ 0 ∷ []) ≡ true) × (has_seats_for 3 (4 ∷ 2 ∷ []) ≡ false) × (has_seats_for 3 (10001 ∷ 0 ∷ 0 ∷ []) ≡ false)
+seats_of_three = (refl, refl, refl)
+
+starts : (may_start (has_seats_for 1) None ≡ true) × (may_start (has_seats_for 1) (Some (1 ∷ 2 ∷ [])) ≡ false)
+starts = (refl, refl)
+
 -- ---- listings
-an_answer : answer_text (1 ∷ 20 ∷ []) ≡ codes "1,20" ++ 10 ∷ []
+a_committee : committee_line None (1 ∷ 20 ∷ []) ≡ codes "1,20" ++ 10 ∷ []
 unfolding digits
-an_answer = refl
+a_committee = refl
 
-answers : answers_text ((1 ∷ 2 ∷ []) ∷ (1 ∷ 3 ∷ []) ∷ []) ≡ line (codes "1,2") ++ line (codes "1,3")
+an_allocation : allocation_line (Some red_and_blue) (1 ∷ 0 ∷ 1 ∷ []) ≡ codes "1,0,1" ++ 9 ∷ codes "Red; Blue" ++ 10 ∷ []
 unfolding digits
-answers = refl
+an_allocation = refl
 
-a_listing : listing_text (line (codes "size 1")) ((1 ∷ []) ∷ (2 ∷ []) ∷ []) ≡ line (codes "size 1") ++ line (codes "1") ++ line (codes "2") ++ line (codes "end")
+-- three answers
+abbrev pairs : List (List ℕ)
+pairs = (1 ∷ 2 ∷ []) ∷ (1 ∷ 3 ∷ []) ∷ (2 ∷ 3 ∷ []) ∷ []
+
+limits : (within_limit (Some 1) pairs ≡ (1 ∷ 2 ∷ []) ∷ []) × (within_limit None pairs ≡ pairs) × (has_more (Some 2) pairs ≡ true) × (has_more (Some 3) pairs ≡ false) × (has_more None pairs ≡ false)
+limits = (refl, refl, refl, refl, refl)
+
+last_lines : (last_line true ≡ codes "more" ++ 10 ∷ []) × (last_line false ≡ codes "end" ++ 10 ∷ [])
+last_lines = (refl, refl)
+
+all_answers : answers_text (committee_line None) None pairs ≡ line (codes "1,2") ++ line (codes "1,3") ++ line (codes "2,3") ++ line (codes "end")
+unfolding digits
+all_answers = refl
+
+-- one of them, and as many as there are
+limited_answers : (answers_text (committee_line None) (Some 1) pairs ≡ line (codes "1,2") ++ line (codes "more"))
+    × (answers_text (committee_line None) (Some 3) pairs ≡ line (codes "1,2") ++ line (codes "1,3") ++ line (codes "2,3") ++ line (codes "end"))
+unfolding digits
+limited_answers = (refl, refl)
+
+a_listing : listing_text (committee_line None) (line (codes "size 2")) (record { after = Some (1 ∷ 2 ∷ []); limit = Some 1 }) pairs ≡ line (codes "size 2") ++ line (codes "1,3") ++ line (codes "more")
 unfolding digits
 a_listing = refl
 
-no_answer : listing_text (line (codes "size 1")) [] ≡ line (codes "size 1") ++ line (codes "end")
+-- the start need not be an answer, and no answer may be later
+no_answer : listing_text (committee_line None) (line (codes "size 2")) (record { after = Some (3 ∷ 4 ∷ []); limit = Some 1 }) pairs ≡ line (codes "size 2") ++ line (codes "end")
 no_answer = refl
 
 -- ---- values
@@ -94,19 +170,25 @@ elect_parts = (refl, refl)
 abbrev text : List ℕ
 text = line (codes "rule av") ++ line (codes "size 1") ++ line (codes "score 2/1") ++ line (codes "1") ++ line (codes "2") ++ line (codes "end")
 
-elected : elect_text (Scored (Thiele Av)) 1 three ≡ text
+elected : elect_text (Scored (Thiele Av)) 1 whole None three ≡ text
 unfolding digits lists_of increments
 elected = refl
 
-elected_pair : elect_text (Scored (Thiele Av)) 2 three ≡ line (codes "rule av") ++ line (codes "size 2") ++ line (codes "score 4/1") ++ line (codes "1,2") ++ line (codes "end")
+elected_pair : elect_text (Scored (Thiele Av)) 2 whole None three ≡ line (codes "rule av") ++ line (codes "size 2") ++ line (codes "score 4/1") ++ line (codes "1,2") ++ line (codes "end")
 unfolding digits lists_of increments
 elected_pair = refl
 
 -- two seats by sequential proportional approval voting: each pair is reached, 1 and 2 in two ways
-elected_in_turn : elect_text (Sequential SeqPav) 2 three
+elected_in_turn : elect_text (Sequential SeqPav) 2 whole None three
     ≡ line (codes "rule seqpav") ++ line (codes "size 2") ++ line (codes "1,2") ++ line (codes "1,3") ++ line (codes "2,3") ++ line (codes "end")
 unfolding digits lists_of hit_weights common_multiple
 elected_in_turn = refl
+
+-- the second of them alone, with names: the score is that of all
+elected_later : elect_text (Scored (Thiele Av)) 1 (record { after = Some (1 ∷ []); limit = None }) (Some red_and_blue) three
+    ≡ line (codes "rule av") ++ line (codes "size 1") ++ line (codes "score 2/1") ++ line (codes "2" ++ 9 ∷ codes "2") ++ line (codes "end")
+unfolding digits lists_of increments
+elected_later = refl
 
 -- ---- reports
 -- three voters approve 1 and 2, and one approves 3 and 4
@@ -127,21 +209,21 @@ by_pjr = violation_of Pjr divided (3 ∷ 4 ∷ []) 1 (1 ∷ [], [])
 holds : holds_text ≡ codes "holds" ++ 10 ∷ []
 holds = refl
 
-sets : (set_or_dash [] ≡ codes "-") × (set_or_dash (1 ∷ 20 ∷ []) ≡ codes "1,20")
+sets : (set_or_dash (Some red_and_blue) [] ≡ codes "-") × (set_or_dash None (1 ∷ 20 ∷ []) ≡ codes "1,20") × (set_or_dash (Some red_and_blue) (1 ∷ []) ≡ codes "1" ++ 9 ∷ codes "Red")
 unfolding digits
-sets = (refl, refl)
+sets = (refl, refl, refl)
 
-within_texts : (within_text Pjr (3 ∷ []) ≡ line (codes "within 3")) × (within_text Pjr [] ≡ line (codes "within -")) × (within_text Ejr [] ≡ []) × (within_text Jr [] ≡ [])
+within_texts : (within_text None Pjr (3 ∷ []) ≡ line (codes "within 3")) × (within_text (Some red_and_blue) Pjr [] ≡ line (codes "within -")) × (within_text None Ejr [] ≡ []) × (within_text None Jr [] ≡ [])
 unfolding digits
 within_texts = (refl, refl, refl, refl)
 
-a_row : row_text (1 ∷ 20 ∷ [], 3) ≡ line (codes "3: 1,20")
+a_row : row_text None (1 ∷ 20 ∷ [], 3) ≡ line (codes "3: 1,20")
 unfolding digits
 a_row = refl
 
-an_empty_row : row_text ([], 3) ≡ line (codes "3: ")
+an_empty_row : (row_text None ([], 3) ≡ line (codes "3: ")) × (row_text (Some red_and_blue) ([], 3) ≡ line (codes "3: " ++ 9 ∷ []))
 unfolding digits
-an_empty_row = refl
+an_empty_row = (refl, refl)
 
 levels : level_text Ejr 20 ≡ line (codes "violated ejr") ++ line (codes "level 20")
 unfolding digits
@@ -152,31 +234,37 @@ unfolding digits
 group_sizes = refl
 
 -- those who approve 3 and 4 are not in the group
-their_rows : group_text by_jr divided.rows ≡ line (codes "3: 1,2")
+their_rows : group_text None by_jr divided.rows ≡ line (codes "3: 1,2")
 unfolding digits
 their_rows = refl
 
-claims : claim_text by_pjr ≡ line (codes "violated pjr") ++ line (codes "level 1") ++ line (codes "candidates 1") ++ line (codes "within -")
+claims : claim_text None by_pjr ≡ line (codes "violated pjr") ++ line (codes "level 1") ++ line (codes "candidates 1") ++ line (codes "within -")
 unfolding digits
 claims = refl
 
-report_by_jr : violation_text by_jr divided
+report_by_jr : violation_text None by_jr divided
     ≡ line (codes "violated jr") ++ line (codes "level 1") ++ line (codes "candidates 1") ++ line (codes "voters 3 of 4") ++ line (codes "3: 1,2")
 unfolding digits
 report_by_jr = refl
 
-report_by_pjr : violation_text by_pjr divided
+report_by_pjr : violation_text None by_pjr divided
     ≡ line (codes "violated pjr") ++ line (codes "level 1") ++ line (codes "candidates 1") ++ line (codes "within -") ++ line (codes "voters 3 of 4") ++ line (codes "3: 1,2")
 unfolding digits
 report_by_pjr = refl
 
+-- the same with names
+named_report : violation_text (Some red_and_blue) by_pjr divided
+    ≡ line (codes "violated pjr") ++ line (codes "level 1") ++ line (codes "candidates 1" ++ 9 ∷ codes "Red") ++ line (codes "within -") ++ line (codes "voters 3 of 4") ++ line (codes "3: 1,2" ++ 9 ∷ codes "Red; 2")
+unfolding digits
+named_report = refl
+
 -- at level 2 the voters may have 3 alone
-report_within : violation_text (violation_of Pjr united (3 ∷ 4 ∷ []) 2 (1 ∷ 2 ∷ [], 3 ∷ [])) united
+report_within : violation_text None (violation_of Pjr united (3 ∷ 4 ∷ []) 2 (1 ∷ 2 ∷ [], 3 ∷ [])) united
     ≡ line (codes "violated pjr") ++ line (codes "level 2") ++ line (codes "candidates 1,2") ++ line (codes "within 3") ++ line (codes "voters 2 of 2") ++ line (codes "2: 1,2,3")
 unfolding digits
 report_within = refl
 
-report_by_ejr : violation_text (violation_of Ejr united (3 ∷ 4 ∷ []) 2 (1 ∷ 2 ∷ [], [])) united
+report_by_ejr : violation_text None (violation_of Ejr united (3 ∷ 4 ∷ []) 2 (1 ∷ 2 ∷ [], [])) united
     ≡ line (codes "violated ejr") ++ line (codes "level 2") ++ line (codes "candidates 1,2") ++ line (codes "voters 2 of 2") ++ line (codes "2: 1,2,3")
 unfolding digits
 report_by_ejr = refl
@@ -203,7 +291,7 @@ approvals = (refl, refl, refl)
 many_approved : (has_many_approved parties ≡ false) × (has_many_approved three ≡ true)
 many_approved = (refl, refl)
 
-two_allocations : answers_text ((0 ∷ 10 ∷ []) ∷ (1 ∷ 9 ∷ []) ∷ []) ≡ line (codes "0,10") ++ line (codes "1,9")
+two_allocations : answers_text (allocation_line None) None ((0 ∷ 10 ∷ []) ∷ (1 ∷ 9 ∷ []) ∷ []) ≡ line (codes "0,10") ++ line (codes "1,9") ++ line (codes "end")
 unfolding digits
 two_allocations = refl
 
@@ -211,12 +299,21 @@ head_of_shares : share_header Adams 12 ≡ codes "method adams" ++ 10 ∷ codes 
 unfolding digits
 head_of_shares = refl
 
-shared_one_way : listing_text (share_header SainteLague 7) ((3 ∷ 2 ∷ 2 ∷ []) ∷ []) ≡ line (codes "method saintelague") ++ line (codes "seats 7") ++ line (codes "3,2,2") ++ line (codes "end")
+shared_one_way : listing_text (allocation_line None) (share_header SainteLague 7) whole ((3 ∷ 2 ∷ 2 ∷ []) ∷ []) ≡ line (codes "method saintelague") ++ line (codes "seats 7") ++ line (codes "3,2,2") ++ line (codes "end")
 unfolding digits
 shared_one_way = refl
 
 -- the votes of an election, and their tied allocations
-shared_two_ways : share_text Dhondt 2 (party_votes parties)
+shared_two_ways : share_text Dhondt 2 whole None (party_votes parties)
     ≡ line (codes "method dhondt") ++ line (codes "seats 2") ++ line (codes "0,0,2") ++ line (codes "1,0,1") ++ line (codes "end")
 unfolding digits lists_with_sum
 shared_two_ways = refl
+
+parties_with_seats : (seated_parties (2 ∷ 0 ∷ 1 ∷ []) ≡ 1 ∷ 3 ∷ []) × (seated_parties (0 ∷ 0 ∷ []) ≡ [])
+parties_with_seats = (refl, refl)
+
+-- the first of them, with the names of the parties that have a seat
+shared_with_names : share_text Dhondt 2 (record { after = None; limit = Some 1 }) (Some red_and_blue) (party_votes parties)
+    ≡ line (codes "method dhondt") ++ line (codes "seats 2") ++ line (codes "0,0,2" ++ 9 ∷ codes "Blue") ++ line (codes "more")
+unfolding digits lists_with_sum
+shared_with_names = refl

@@ -1,9 +1,11 @@
 pub mod AnswerLaws
 pub mod Examples
-pub mod InputLemmas
+pub mod NameLemmas
+pub mod PageLaws
 pub mod PartyLemmas
 pub mod PrintingLemmas
 pub mod ReportLemmas
 pub mod RunExamples
 pub mod RunLemmas
+pub mod StartLemmas
 pub mod TextLemmas

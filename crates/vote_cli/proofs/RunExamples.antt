@@ -14,10 +14,13 @@ use Rattle.vote_cli.specs.declared.input.InputFault.TheVariants as fault
 use Rattle.vote_cli.specs.declared.answers.Outcome.TheVariants as outcome
 use Rattle.vote_cli.specs.declared.refusal.RequestFault.TheVariants as request_fault
 use Rattle.vote_cli.specs.declared.refusal.Refusal.TheVariants as refusal
-use Rattle.request_words.specs.Request.{Asked, Demand, electing, checking, sharing, InRange}
+use Rattle.request_words.specs.Request.{Asked, Demand, IsPage, Paging, electing, checking, sharing, whole, InRange}
 use Rattle.vote_cli.specs.Device.{is_failed_write, AppendsBeginning}
 use Rattle.vote_cli.specs.Steps.Input.{TellsOfInput}
+use Rattle.vote_cli.specs.Laws.{IsCut, IsPart, IsSameRefusal, asked_for, is_listing, with_page}
+use Rattle.vote_cli.specs.Listing.{committee_line}
 use Rattle.vote_cli.specs.Status.{code_of}
+use Rattle.vote_cli.specs.Steps.Sharing.{IsShareRefusal, IsSharedOut}
 use Rattle.ballot_base.specs.Increments.{increments}
 use Rattle.vote_cli.specs.Text.{line}
 use Rattle.seat_share.specs.declared.method.Method.TheVariants.{Dhondt}
@@ -25,7 +28,7 @@ use Rattle.seat_share.specs.Allocations.{lists_with_sum}
 use Rattle.std.specs.Borrow.{MutBor}
 use Rattle.vote_cli.specs.declared.printing.Printer.{Printer}
 use Rattle.vote_cli.specs.Steps.Printing.{Prints, Sends}
-use Rattle.vote_cli.specs.Answer.{answered, violated, refused, request_refused, election_answer, IsCheckAnswer, IsCommittee, share_answer, share_answer_by, ballots_answer, IsAnswer, has_votes, input_for, Reports, ReadsAll, Ends, TellsOf, memory_line, read_failed_line, write_failed_line}
+use Rattle.vote_cli.specs.Answer.{Answer, answered, violated, refused, request_refused, election_answer, IsCheckAnswer, IsCommittee, share_answer, share_answer_by, ballots_answer, IsAnswer, has_votes, input_for, Reports, ReadsAll, Ends, TellsOf, memory_line, read_failed_line, write_failed_line}
 use Rattle.vote_cli.specs.Steps.Refusals.{IsRefusal, status_of, error_of, ReadsBallots, TellsOfReads, TellsOfWrites, ReadsOn, WritesRight, IsWritten, outcome_status}
 use Rattle.vote_cli.specs.Steps.RequestFaults.{request_fault_word}
 use Rattle.ballot_base.specs.Lists.{IsIncreasing}
@@ -57,27 +60,35 @@ abbrev usual : Pick
 usual = record { kind = None; ending = None; way = Usual }
 
 abbrev asking : Demand → Asked
-asking demand = record { demand = demand; pick = usual; file = None }
+asking demand = record { demand = demand; pick = usual; file = None; names = false }
 
 -- so many seats by approval voting
 abbrev seats : ℕ → Asked
-seats size = asking (electing (Scored (Thiele Av)) size)
+seats size = asking (electing (Scored (Thiele Av)) size whole)
+
+-- the first answer alone
+abbrev first_one : Paging
+first_one = record { after = None; limit = Some 1 }
 
 abbrev text : List ℕ
 text = line (codes "rule av") ++ line (codes "size 1") ++ line (codes "score 2/1") ++ line (codes "1") ++ line (codes "2") ++ line (codes "end")
 
-answer_to_one : election_answer (Scored (Thiele Av)) 1 three ≡ record { text = text; status = Answered; error = [] }
+answer_to_one : election_answer (Scored (Thiele Av)) 1 whole false three ≡ record { text = text; status = Answered; error = [] }
 unfolding digits lists_of increments
 answer_to_one = refl
 
-answer_to_four : election_answer (Scored (Thiele Av)) 4 three ≡ request_refused (codes "SizeTooLarge")
+answer_to_four : election_answer (Scored (Thiele Av)) 4 (record { after = Some (1 ∷ []); limit = None }) false three ≡ request_refused (codes "SizeTooLarge")
 answer_to_four = refl
+
+-- a start of one number is no committee of two
+answer_to_misfit : election_answer (Scored (Thiele Av)) 2 (record { after = Some (1 ∷ []); limit = None }) false three ≡ request_refused (codes "AfterMisfit")
+answer_to_misfit = refl
 
 -- a list that falls is no committee
 falling : IsIncreasing 1 3 (3 ∷ 1 ∷ []) → ⊥
 falling h = omega (arith, h.2.0)
 
-answer_to_falling : IsCheckAnswer Jr (3 ∷ 1 ∷ []) three (request_refused (codes "CommitteeMisfit"))
+answer_to_falling : IsCheckAnswer Jr (3 ∷ 1 ∷ []) true three (request_refused (codes "CommitteeMisfit"))
 answer_to_falling = inl ((λ committee. falling committee.order), refl)
 
 -- neither are 41 candidates
@@ -97,7 +108,7 @@ all_stand zero least most some = omega (arith, least)
 all_stand (suc zero) least most some = no_group Jr three (1 ∷ 3 ∷ []) 1 one_and_three (lit≤ tt) (lit≤ tt) nobody_breaks some
 all_stand (suc (suc level)) least most some = above_greatest Jr three (1 ∷ 3 ∷ []) (suc (suc level)) most (omega arith) some
 
-answer_to_holds : IsCheckAnswer Jr (1 ∷ 3 ∷ []) three (answered (line (codes "holds")))
+answer_to_holds : IsCheckAnswer Jr (1 ∷ 3 ∷ []) true three (answered (line (codes "holds")))
 answer_to_holds = inr (inl (record { order = one_and_three; few = lit≤ tt }, all_stand, refl))
 
 -- three voters approve 1 and 2, and one approves 3 and 4: the committee of 3 and 4 leaves three of four with nobody
@@ -115,33 +126,64 @@ report : IsReport Jr divided (3 ∷ 4 ∷ []) shown
 unfolding divided lists_of
 report = record { low = lit≤ tt; high = lit≤ tt; breaks = its_group_breaks; least = λ level from to some. omega (arith, from, to); first = refl }
 
-answer_to_violated : IsCheckAnswer Jr (3 ∷ 4 ∷ []) divided (violated
+answer_to_violated : IsCheckAnswer Jr (3 ∷ 4 ∷ []) false divided (violated
     (line (codes "violated jr") ++ line (codes "level 1") ++ line (codes "candidates 1") ++ line (codes "voters 3 of 4") ++ line (codes "3: 1,2")))
 unfolding divided digits
 answer_to_violated = inr (inr (record { order = (lit≤ tt, lit≤ tt, (lit≤ tt, lit≤ tt, tt)); few = lit≤ tt }, (shown, report, refl)))
 
 -- seats by votes, and by ballots: the ballot for 1 and 2 is for no one party
-answer_to_votes : share_answer Dhondt 2 (3 ∷ 1 ∷ []) ≡ answered (line (codes "method dhondt") ++ line (codes "seats 2") ++ line (codes "2,0") ++ line (codes "end"))
+answer_to_votes : share_answer Dhondt 2 whole None (3 ∷ 1 ∷ []) ≡ answered (line (codes "method dhondt") ++ line (codes "seats 2") ++ line (codes "2,0") ++ line (codes "end"))
 unfolding digits lists_with_sum
 answer_to_votes = refl
 
-answer_to_no_votes : share_answer Dhondt 2 (0 ∷ 0 ∷ []) ≡ request_refused (codes "NoVotes")
+answer_to_no_votes : share_answer Dhondt 2 (record { after = Some (1 ∷ []); limit = None }) None (0 ∷ 0 ∷ []) ≡ request_refused (codes "NoVotes")
 answer_to_no_votes = refl
 
-answer_to_many : ballots_answer Dhondt 2 three ≡ request_refused (codes "ManyApproved")
+-- a start has a number for each party, of at most the most seats
+answers_to_misfits : (share_answer Dhondt 7 (record { after = Some (4 ∷ 2 ∷ []); limit = None }) None (53 ∷ 24 ∷ 23 ∷ []) ≡ request_refused (codes "AfterMisfit"))
+    × (share_answer Dhondt 7 (record { after = Some (10001 ∷ 0 ∷ 0 ∷ []); limit = None }) None (53 ∷ 24 ∷ 23 ∷ []) ≡ request_refused (codes "AfterMisfit"))
+answers_to_misfits = (refl, refl)
+
+answer_to_many : ballots_answer Dhondt 2 whole false three ≡ request_refused (codes "ManyApproved")
 answer_to_many = refl
 
-fault_answers : (share_answer_by (Some TooManyVotes) [] ≡ request_refused (codes "TooManyVotes")) × (share_answer_by None (codes "a") ≡ answered (codes "a"))
-fault_answers = (refl, refl)
+fault_answers : (share_answer_by (Some TooManyVotes) false [] ≡ request_refused (codes "TooManyVotes")) × (share_answer_by None false [] ≡ request_refused (codes "AfterMisfit")) × (share_answer_by None true (codes "a") ≡ answered (codes "a"))
+fault_answers = (refl, refl, refl)
 
-words_of_request_faults : (request_fault_word request_fault.ManyApproved ≡ codes "ManyApproved") × (request_fault_word (request_fault.Share NoParties) ≡ codes "NoParties")
-words_of_request_faults = (refl, refl)
+words_of_request_faults : (request_fault_word request_fault.ManyApproved ≡ codes "ManyApproved") × (request_fault_word request_fault.AfterMisfit ≡ codes "AfterMisfit") × (request_fault_word (request_fault.Share NoParties) ≡ codes "NoParties")
+words_of_request_faults = (refl, refl, refl)
 
-votes_in_words : (has_votes (sharing Dhondt 2 (Some (1 ∷ []))) ≡ true) × (has_votes (sharing Dhondt 2 None) ≡ false)
+-- what is known before allocations are written
+sharing_out : (IsSharedOut Dhondt 1 (Some (0 ∷ 1 ∷ [])) (1 ∷ 1 ∷ []) ((1 ∷ 0 ∷ []) ∷ [])) × (IsShareRefusal 1 true (0 ∷ []) (codes "NoVotes")) × (IsShareRefusal 1 false (1 ∷ []) (codes "AfterMisfit"))
+unfolding lists_with_sum
+sharing_out = ((refl, refl), (λ text. refl), (λ text. refl))
+
+-- ---- pages
+other_pages : (is_listing (checking Jr (1 ∷ [])) ≡ false) × (is_listing (electing (Scored (Thiele Av)) 1 whole) ≡ true)
+    × (with_page first_one (electing (Scored (Thiele Av)) 1 whole) ≡ electing (Scored (Thiele Av)) 1 first_one) × (asked_for first_one (seats 1) ≡ asking (electing (Scored (Thiele Av)) 1 first_one))
+other_pages = (refl, refl, refl, refl)
+
+same_refusals : IsSameRefusal (request_refused (codes "SizeTooLarge")) (request_refused (codes "SizeTooLarge"))
+same_refusals = (refl, refl)
+
+abbrev two_answers : List ℕ → Answer
+two_answers rest = answered (line (codes "size 1") ++ line (codes "1") ++ rest)
+
+a_cut : IsCut 1 (two_answers (line (codes "2") ++ line (codes "end"))) (two_answers (line (codes "more")))
+unfolding digits
+a_cut = inr (committee_line None, line (codes "size 1"), (1 ∷ []) ∷ (2 ∷ []) ∷ [], refl, refl)
+
+a_part : IsPart first_one (two_answers (line (codes "2") ++ line (codes "end"))) (two_answers (line (codes "more")))
+unfolding digits
+a_part = inr (inr (committee_line None, line (codes "size 1"), (1 ∷ []) ∷ (2 ∷ []) ∷ [], refl, refl))
+
+votes_in_words : (has_votes (sharing Dhondt 2 (Some (1 ∷ [])) whole) ≡ true) × (has_votes (sharing Dhondt 2 None whole) ≡ false)
 votes_in_words = (refl, refl)
 
-in_range : InRange (electing (Scored (Thiele Av)) 40) × InRange (checking Jr (9 ∷ [])) × InRange (sharing Dhondt 10000 None)
-in_range = ((lit≤ tt, lit≤ tt), (λ none. let h : 9 ∷ [] ≡ [] = none in cc), (lit≤ tt, lit≤ tt, tt))
+in_range : InRange (electing (Scored (Thiele Av)) 40 whole) × InRange (checking Jr (9 ∷ [])) × InRange (sharing Dhondt 10000 None whole)
+in_range =
+    let all : IsPage whole = record { after = tt; least = tt; most = tt } in
+    ((lit≤ tt, lit≤ tt, all), (λ none. let h : 9 ∷ [] ≡ [] = none in cc), (lit≤ tt, lit≤ tt, tt, all))
 
 no_refusal : answered (codes "a") ≡ record { text = codes "a"; status = Answered; error = [] }
 no_refusal = refl
@@ -174,7 +216,7 @@ right_answer : IsAnswer (seats 4) example_text (request_refused (codes "SizeTooL
 right_answer = (Ok three, reads_three, refl)
 
 -- with votes in the words the bytes do not matter
-right_share : IsAnswer (asking (sharing Dhondt 2 (Some (0 ∷ 0 ∷ [])))) example_text (request_refused (codes "NoVotes"))
+right_share : IsAnswer (asking (sharing Dhondt 2 (Some (0 ∷ 0 ∷ [])) whole)) example_text (request_refused (codes "NoVotes"))
 right_share = refl
 
 lines : (memory_line ≡ codes "committees: memory" ++ 10 ∷ []) × (read_failed_line ≡ codes "committees: read failed" ++ 10 ∷ [])
@@ -293,7 +335,7 @@ devices_told = (inr ((refl, refl), refl), (refl, refl))
 all_read : (ReadsAll Answered (Some (1 ∷ [])) (Some [])) × (ReadsOn {T = ℕ} (Some (1 ∷ [])) (Some []) (Err refusal.WriteFailed))
 all_read = (refl, refl)
 
-input_of_demands : (input_for (sharing Dhondt 2 (Some (1 ∷ []))) None ≡ Some []) × (input_for (sharing Dhondt 2 None) (Some (1 ∷ [])) ≡ Some (1 ∷ []))
+input_of_demands : (input_for (sharing Dhondt 2 (Some (1 ∷ [])) whole) None ≡ Some []) × (input_for (sharing Dhondt 2 None whole) (Some (1 ∷ [])) ≡ Some (1 ∷ []))
 input_of_demands = (refl, refl)
 
 refusals_told : (TellsOfReads {T = ℕ} false true (Err refusal.ReadFailed)) × (TellsOfReads {T = ℕ} false false (Err refusal.Memory)) × (TellsOfWrites {T = ℕ} false true (Err refusal.WriteFailed)) × (TellsOfWrites {T = ℕ} false false (Ok 1))

@@ -1,5 +1,5 @@
 -- What is known of the input and of the writers, joined to the answer.
-use Rattle.std.proofs.Common.{◌≡◌, ◌≢◌, ◌⊎◌, inl, inr, ℕ, Bool, true, false, List, [], Option, Some, None, Ok, Err, IfSome, Result, is_ok, refl, sym, ap, subst, ◌∙◌, ◌++◌, append-nil, true≢false}
+use Rattle.std.proofs.Common.{◌≡◌, ◌≢◌, ◌⊎◌, inl, inr, ℕ, Bool, true, false, List, [], Option, Some, None, Ok, Err, IfSome, Result, is_ok, refl, sym, ap, ap₂, subst, ◌∙◌, ◌++◌, append-nil, true≢false}
 use Rattle.std.specs.Prelude.{IsErr, IsErrAnd, codes, if◌then◌else◌}
 use Rattle.std.specs.Io.KnownBytes.{Appends}
 use Rattle.std.proofs.KnownBytes.{Appends-nil}
@@ -11,7 +11,9 @@ use Rattle.group_check.specs.declared.property.Violation.{Violation}
 use Rattle.seat_share.specs.declared.method.Method.{Method}
 use Rattle.vote_cli.specs.Parties.{has_many_approved, party_votes}
 use Rattle.vote_cli.specs.CheckText.{holds_text, violation_text}
-use Rattle.preflib_text.specs.Reading.{Reads, RunsShort}
+use Rattle.preflib_text.specs.Lines.{lines_of}
+use Rattle.preflib_text.specs.Reading.{Reads}
+use Rattle.preflib_text.specs.Pieces.{LacksMemory}
 use Rattle.preflib_text.specs.declared.fault.ReadFault.{ReadFault}
 use Rattle.preflib_text.specs.declared.pick.Pick.{Pick}
 use Rattle.vote_cli.specs.declared.printing.WriteFailed.{WriteFailed as Broken}
@@ -21,8 +23,9 @@ use Rattle.vote_cli.specs.declared.refusal.Refusal.{Refusal}
 use Rattle.vote_cli.specs.declared.refusal.Refusal.TheVariants.{Input, Request, Memory, ReadFailed, WriteFailed}
 use Rattle.vote_cli.specs.declared.status.Status.{Status}
 use Rattle.vote_cli.specs.declared.status.Status.TheVariants as status
-use Rattle.request_words.specs.Request.{Asked, Demand}
+use Rattle.request_words.specs.Request.{Asked, Demand, Paging}
 use Rattle.vote_cli.specs.FaultText.{fault_text}
+use Rattle.vote_cli.specs.Names.{Naming, naming}
 use Rattle.vote_cli.specs.Steps.RequestFaults.{request_fault_word}
 use Rattle.vote_cli.specs.Answer.{Answer, Ends, IsAnswer, IsAnswerOver, IsAnswerTo, IsAllRead, IsCheckAnswer, IsCommittee, ReadsAll, Reports, TellsOf, ballots_answer, has_votes, input_for, share_answer, answered, request_refused, refused, violated}
 use Rattle.vote_cli.specs.Steps.Printing.{Outlet, Passes}
@@ -59,15 +62,15 @@ module _ (IsRight : Answer → Type 0) {old new : Option (List ℕ)} {had_failed
       subst (WritesRight IsRight old new) (sym written) (violated text, right, (prints.sent, prints.rest, prints.order, prints.took))
 
 -- the answers about a committee that is the list's, among m candidates
-pub check_holds : (property : Property) (e : Election) (m : ℕ) (list committee : List ℕ) → m ≡ e.m → committee ≡ list → IsCommittee m list
-    → HasProperty property e committee → IsCheckAnswer property list e (answered holds_text)
-check_holds property e m list committee all same fits holds =
+pub check_holds : (property : Property) (with_names : Bool) (e : Election) (m : ℕ) (list committee : List ℕ) → m ≡ e.m → committee ≡ list → IsCommittee m list
+    → HasProperty property e committee → IsCheckAnswer property list with_names e (answered holds_text)
+check_holds property with_names e m list committee all same fits holds =
     inr (inl (subst (λ n. IsCommittee n list) all fits, subst (HasProperty property e) same holds, refl))
 
-pub check_violated : (property : Property) (e : Election) (m : ℕ) (list committee : List ℕ) (report : Violation) → m ≡ e.m → committee ≡ list → IsCommittee m list
-    → IsReport property e committee report → IsCheckAnswer property list e (violated (violation_text report e))
-check_violated property e m list committee report all same fits reports =
-    inr (inr (subst (λ n. IsCommittee n list) all fits, (report, subst (λ c. IsReport property e c report) same reports, refl)))
+pub check_violated : (property : Property) (with_names : Bool) (e : Election) (m : ℕ) (list committee : List ℕ) (report : Violation) (names : Naming) → names ≡ naming with_names e.names → m ≡ e.m → committee ≡ list → IsCommittee m list
+    → IsReport property e committee report → IsCheckAnswer property list with_names e (violated (violation_text names report e))
+check_violated property with_names e m list committee report names called all same fits reports =
+    inr (inr (subst (λ n. IsCommittee n list) all fits, (report, subst (λ c. IsReport property e c report) same reports, ap (λ n. violated (violation_text n report e)) called)))
 
 -- what is right under one test is right under a wider one
 writes_wider : (P Q : Answer → Type 0) (old new : Option (List ℕ)) (result : Result Outcome Refusal)
@@ -81,25 +84,26 @@ writes_wider P Q old new (Err ReadFailed) wider h = h
 writes_wider P Q old new (Err WriteFailed) wider h = (h.0, wider h.0 h.1, h.2)
 
 -- the answer to a demand is the answer to the request that makes it
-is_answer : (asked : Asked) (demand : Demand) → demand ≡ asked.demand → (bytes : List ℕ) (answer : Answer) → IsAnswerTo demand asked.pick bytes answer → IsAnswer asked bytes answer
-is_answer asked demand same bytes answer h = subst (λ d. IsAnswerTo d asked.pick bytes answer) same h
+is_answer : (asked : Asked) (demand : Demand) → demand ≡ asked.demand → (bytes : List ℕ) (answer : Answer) → IsAnswerTo asked.names demand asked.pick bytes answer → IsAnswer asked bytes answer
+is_answer asked demand same bytes answer h = subst (λ d. IsAnswerTo asked.names d asked.pick bytes answer) same h
 
 -- the demands that are answered over ballots: each answer that is right of the election is the demand's
-abbrev IsOver : Demand → (Election → Answer → Type 0) → Type 0
-IsOver demand IsRight = (pick : Pick) (bytes : List ℕ) (answer : Answer) → IsAnswerOver IsRight pick bytes answer → IsAnswerTo demand pick bytes answer
+abbrev IsOver : Bool → Demand → (Election → Answer → Type 0) → Type 0
+IsOver with_names demand IsRight = (pick : Pick) (bytes : List ℕ) (answer : Answer) → IsAnswerOver IsRight pick bytes answer → IsAnswerTo with_names demand pick bytes answer
 
 -- the answer about the votes of ballots that approve one candidate at most
-pub writes_ballots : (method : Method) (seats : ℕ) (e : Election) (votes : List ℕ) (old new : Option (List ℕ)) (result : Result Outcome Refusal)
-    → has_many_approved e ≡ false → votes ≡ party_votes e → WritesRight (λ answer. answer ≡ share_answer method seats votes) old new result
-    → WritesRight (λ answer. answer ≡ ballots_answer method seats e) old new result
-writes_ballots method seats e votes old new result single same h =
-    let is : share_answer method seats votes ≡ ballots_answer method seats e =
-    ap (share_answer method seats) same ∙ ap (λ b. if b then request_refused (codes "ManyApproved") else share_answer method seats (party_votes e)) (sym single) in
-    writes_wider (λ answer. answer ≡ share_answer method seats votes) (λ answer. answer ≡ ballots_answer method seats e) old new result (λ answer it. it ∙ is) h
+pub writes_ballots : (method : Method) (seats : ℕ) (page : Paging) (with_names : Bool) (e : Election) (names : Naming) (votes : List ℕ) (old new : Option (List ℕ)) (result : Result Outcome Refusal)
+    → has_many_approved e ≡ false → names ≡ naming with_names e.names → votes ≡ party_votes e → WritesRight (λ answer. answer ≡ share_answer method seats page names votes) old new result
+    → WritesRight (λ answer. answer ≡ ballots_answer method seats page with_names e) old new result
+writes_ballots method seats page with_names e names votes old new result single called same h =
+    let is : share_answer method seats page names votes ≡ ballots_answer method seats page with_names e =
+    ap₂ (share_answer method seats page) called same
+    ∙ ap (λ b. if b then request_refused (codes "ManyApproved") else share_answer method seats page (naming with_names e.names) (party_votes e)) (sym single) in
+    writes_wider (λ answer. answer ≡ share_answer method seats page names votes) (λ answer. answer ≡ ballots_answer method seats page with_names e) old new result (λ answer it. it ∙ is) h
 
 -- the refusal of an input with a fault, or of one for which memory ran out
 pub ballots_refused : (pick : Pick) (bytes : List ℕ) (fault : ReadFault) (refusal : Refusal)
-    → Reads bytes pick (Err fault) ⊎ RunsShort bytes pick fault → IsRefusal fault refusal
+    → Reads bytes pick (Err fault) ⊎ LacksMemory (lines_of bytes) pick fault → IsRefusal fault refusal
     → ReadsBallots pick bytes (Err refusal) × (refusal ≢ ReadFailed) × (refusal ≢ WriteFailed)
 ballots_refused pick bytes fault (Input reported) (inl reads) is =
     (subst (λ f. Reads bytes pick (Err f)) (sym is.0) reads, λ e. cc, λ e. cc)
@@ -117,9 +121,9 @@ needs_input asked demand remaining P free demanded h =
     (ap (λ b. if b then Some [] else remaining) (sym free) ∙ ap (λ d. input_for d remaining) demanded) h
 
 module _ (known : Option (List ℕ)) (asked : Asked) (demand : Demand) (IsRight : Election → Answer → Type 0) (pick : Pick)
-    (free : has_votes demand ≡ false) (over : IsOver demand IsRight) (demanded : demand ≡ asked.demand) (picked : pick ≡ asked.pick) (old new : Option (List ℕ)) where
+    (free : has_votes demand ≡ false) (over : IsOver asked.names demand IsRight) (demanded : demand ≡ asked.demand) (picked : pick ≡ asked.pick) (old new : Option (List ℕ)) where
   right : (bytes : List ℕ) (answer : Answer) → IsAnswerOver IsRight pick bytes answer → IsAnswer asked bytes answer
-  right bytes answer h = is_answer asked demand demanded bytes answer (subst (λ p. IsAnswerTo demand p bytes answer) picked (over pick bytes answer h))
+  right bytes answer h = is_answer asked demand demanded bytes answer (subst (λ p. IsAnswerTo asked.names demand p bytes answer) picked (over pick bytes answer h))
 
   -- an answer that is right of the election that was read
   pub writes_over : (e : Election) (read : Result Election Refusal) (result : Result Outcome Refusal) → read ≡ Ok e
@@ -152,7 +156,7 @@ module _ (known : Option (List ℕ)) (asked : Asked) (demand : Demand) (IsRight 
 
 -- an answer that needs no input
 pub writes_alone : (known : Option (List ℕ)) (asked : Asked) (demand : Demand) (P : Answer → Type 0) (old new : Option (List ℕ)) (result : Result Outcome Refusal)
-    → ((pick : Pick) (bytes : List ℕ) (answer : Answer) → P answer → IsAnswerTo demand pick bytes answer) → demand ≡ asked.demand
+    → ((pick : Pick) (bytes : List ℕ) (answer : Answer) → P answer → IsAnswerTo asked.names demand pick bytes answer) → demand ≡ asked.demand
     → WritesRight P old new result → IfSome known (λ bytes. WritesRight (IsAnswer asked bytes) old new result)
 writes_alone None asked demand P old new result is same h = tt
 writes_alone (Some bytes) asked demand P old new result is same h =

@@ -1,15 +1,21 @@
 -- The text of lists of numbers, and of listings, in the parts that are printed one after the other.
-use Rattle.std.proofs.Common.{◌≡◌, ℕ, ◌-◌, ◌≤◌, List, [], ◌∷◌, ◌++◌, refl, sym, ap, ap₂, ◌∙◌, append_assoc, append-nil, length, take, drop, get_or, arith}
-use Rattle.std.specs.Prelude.{decimal, codes}
+use Rattle.std.proofs.Common.{◌≡◌, ℕ, zero, suc, ◌-◌, ◌≤◌, Bool, true, false, List, [], ◌∷◌, ◌++◌, Option, Some, None, refl, sym, ap, ap₂, ◌∙◌, append_assoc, append-nil, length, take, drop, get_or, arith}
+use Rattle.std.specs.Prelude.{decimal, codes, flat_map, nat_lt, option_map}
+use Rattle.std.proofs.lemmas.Bool.{lt-ltb, le-ltb, ltb-true, ltb-false}
 use Rattle.std.proofs.lemmas.List.{take_all}
 use Rattle.ballot_base.specs.Ballots.{Election}
+use Rattle.ballot_base.specs.Lists.{later_than}
+use Rattle.request_words.specs.Request.{Paging}
 use Rattle.request_words.specs.declared.request.Rule.TheVariants.{Scored}
 use Rattle.request_words.specs.declared.request.ScoredRule.{ScoredRule}
-use Rattle.request_words.specs.declared.request.ScoredRule.TheVariants.{Minimax}
-use Rattle.tie_walk.specs.Values.{closeness}
+use Rattle.ballot_base.specs.Increments.{increments}
+use Rattle.ballot_base.specs.declared.increments.ThieleRule.{ThieleRule}
+use Rattle.request_words.specs.declared.request.ScoredRule.TheVariants.{Minimax, Satisfaction, Thiele}
+use Rattle.tie_walk.specs.Values.{Thiele as Tally, closeness, satisfaction_value, thiele_of, thiele_value}
 use Rattle.tie_walk.specs.Winners.{best_value, winners}
 use Rattle.vote_cli.specs.ElectText.{elect_text, scored_header}
-use Rattle.vote_cli.specs.Listing.{answers_text, listing_text}
+use Rattle.vote_cli.specs.Listing.{answers_text, committee_line, has_more, last_line, listing_text}
+use Rattle.vote_cli.specs.Names.{Naming}
 use Rattle.vote_cli.specs.Steps.Numbers.{following_text}
 use Rattle.vote_cli.specs.Text.{line, numbers_text}
 
@@ -23,22 +29,62 @@ pub first_and_others : (numbers : List ℕ) → 1 ≤ length numbers → numbers
 first_and_others [] some = absurd (omega (arith, some))
 first_and_others (first ∷ others) some = ap (λ l. first ∷ l) (sym (take_all (length (first ∷ others) - 1) others (omega arith)))
 
--- a listing, from its first lines on
-pub listing_parts : (header : List ℕ) (answers : List (List ℕ))
-    → listing_text header answers ≡ header ++ (answers_text answers ++ line (codes "end"))
-listing_parts header answers = append_assoc header (answers_text answers) (line (codes "end"))
+-- ---- listings
+
+-- nothing is left
+pub none_listed : (line_of : List ℕ → List ℕ) (limit : Option ℕ) (answers : List (List ℕ)) → answers ≡ [] → answers_text line_of limit answers ≡ line (codes "end")
+none_listed line_of limit answers none = ap (answers_text line_of limit) none ∙ by limit
+  where
+    by : (room : Option ℕ) → answers_text line_of room [] ≡ line (codes "end")
+    by None = refl
+    by (Some zero) = refl
+    by (Some (suc n)) = ap last_line (le-ltb (suc n) 0 (omega arith))
+
+-- one answer where there is room, and those after it
+pub one_listed : (line_of : List ℕ → List ℕ) (room : Option ℕ) (answer : List ℕ) (answers : List (List ℕ)) → (room ≡ Some 0 → ⊥)
+    → answers_text line_of room (answer ∷ answers) ≡ line_of answer ++ answers_text line_of (option_map (λ n. n - 1) room) answers
+one_listed line_of None answer answers some = append_assoc (line_of answer) (flat_map line_of answers) (line (codes "end"))
+one_listed line_of (Some zero) answer answers some = absurd (some refl)
+one_listed line_of (Some (suc n)) answer answers some =
+    ap (λ b. (line_of answer ++ flat_map line_of (take n answers)) ++ last_line b) (both n (length answers))
+    ∙ append_assoc (line_of answer) (flat_map line_of (take n answers)) (last_line (nat_lt n (length answers)))
+    ∙ ap (λ k. line_of answer ++ answers_text line_of (Some k) answers) (let e : n ≡ suc n - 1 = omega arith in e)
+  where
+    both : (a b : ℕ) → nat_lt (suc a) (suc b) ≡ nat_lt a b
+    both a b = by (nat_lt a b) refl
+      where
+        by : (t : Bool) → t ≡ nat_lt a b → nat_lt (suc a) (suc b) ≡ t
+        by true is = lt-ltb (suc a) (suc b) (omega (arith, ltb-true a b (sym is)))
+        by false is = le-ltb (suc a) (suc b) (omega (arith, ltb-false a b (sym is)))
+
+-- where there is no room, the last line alone
+pub last_listed : (line_of : List ℕ → List ℕ) (room : Option ℕ) (answers : List (List ℕ)) → room ≡ Some 0
+    → answers_text line_of room answers ≡ last_line (has_more (Some 0) answers)
+last_listed line_of room answers none = ap (λ r. answers_text line_of r answers) none
 
 -- the listing of winners, from its first lines on
-pub winners_parts : (value : List ℕ → ℕ) (rule : ScoredRule) (candidates m size best : ℕ) (left : List (List ℕ)) → m ≡ candidates → best ≡ best_value value m size → left ≡ winners value m size
-    → listing_text (scored_header rule candidates size (best_value value candidates size)) (winners value candidates size)
-    ≡ scored_header rule m size best ++ (answers_text left ++ line (codes "end"))
-winners_parts value rule candidates m size best left same is those =
-    ap (λ n. listing_text (scored_header rule n size (best_value value n size)) (winners value n size)) (sym same)
-    ∙ ap₂ (λ n sets. listing_text (scored_header rule m size n) sets) (sym is) (sym those)
-    ∙ listing_parts (scored_header rule m size best) left
+pub winners_parts : (names : Naming) (value : List ℕ → ℕ) (rule : ScoredRule) (candidates m size best : ℕ) (after : Option (List ℕ)) (limit : Option ℕ) (left : List (List ℕ)) → m ≡ candidates → best ≡ best_value value m size
+    → left ≡ later_than after (winners value m size)
+    → listing_text (committee_line names) (scored_header rule candidates size (best_value value candidates size)) (record { after = after; limit = limit }) (winners value candidates size)
+    ≡ scored_header rule m size best ++ answers_text (committee_line names) limit left
+winners_parts names value rule candidates m size best after limit left same is those =
+    ap (λ n. listing_text (committee_line names) (scored_header rule n size (best_value value n size)) (record { after = after; limit = limit }) (winners value n size)) (sym same)
+    ∙ ap₂ (λ n sets. scored_header rule m size n ++ answers_text (committee_line names) limit sets) (sym is) (sym those)
 
--- the text of an election by minimax
-pub minimax_text : (rule : ScoredRule) (size : ℕ) (e tally : Election) → rule ≡ Minimax → tally ≡ e
-    → listing_text (scored_header rule tally.m size (best_value (closeness tally.m tally.rows) tally.m size)) (winners (closeness tally.m tally.rows) tally.m size)
-    ≡ elect_text (Scored rule) size e
-minimax_text rule size e tally is same = rw (is, same) refl
+-- the text of an election by each kind of rule
+module _ (names : Naming) (page : Paging) (rule : ScoredRule) (size : ℕ) (e : Election) where
+  pub thiele_text : (thiele : ThieleRule) (tally : Tally) → rule ≡ Thiele thiele → tally ≡ thiele_of e thiele size
+      → listing_text (committee_line names) (scored_header (Thiele thiele) tally.election.m size (best_value (thiele_value (increments tally.rule tally.k) tally.election.rows) tally.election.m size)) page
+      (winners (thiele_value (increments tally.rule tally.k) tally.election.rows) tally.election.m size)
+      ≡ elect_text (Scored rule) size page names e
+  thiele_text thiele tally is same = rw (is, same) refl
+
+  pub satisfaction_text : (tally : Election) → rule ≡ Satisfaction → tally ≡ e
+      → listing_text (committee_line names) (scored_header rule tally.m size (best_value (satisfaction_value tally.m tally.rows) tally.m size)) page (winners (satisfaction_value tally.m tally.rows) tally.m size)
+      ≡ elect_text (Scored rule) size page names e
+  satisfaction_text tally is same = rw (is, same) refl
+
+  pub minimax_text : (tally : Election) → rule ≡ Minimax → tally ≡ e
+      → listing_text (committee_line names) (scored_header rule tally.m size (best_value (closeness tally.m tally.rows) tally.m size)) page (winners (closeness tally.m tally.rows) tally.m size)
+      ≡ elect_text (Scored rule) size page names e
+  minimax_text tally is same = rw (is, same) refl

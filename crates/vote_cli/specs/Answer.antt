@@ -1,5 +1,5 @@
 -- The answer to a request and an input, and what a run leaves.
-use Rattle.std.specs.Prelude.{◌≡◌, ◌⊎◌, ◌≤◌, ◌++◌, ℕ, length, Bool, true, false, List}
+use Rattle.std.specs.Prelude.{◌≡◌, ◌⊎◌, ◌≤◌, ◌++◌, ℕ, length, Bool, true, false, not, List}
 use Rattle.std.specs.Prelude.{[], Option, Some, None, Result, IfSome, MatchResult, codes, nat_lt, if◌then◌else◌}
 use Rattle.std.specs.Io.KnownBytes.{Appends}
 use Rattle.ballot_base.specs.Limits.{most_members}
@@ -20,13 +20,15 @@ use Rattle.request_words.specs.declared.request.Rule.{Rule}
 use Rattle.vote_cli.specs.declared.status.Status.{Status}
 use Rattle.vote_cli.specs.declared.status.Status.TheVariants.{Answered, Violated, InputRefused}
 use Rattle.vote_cli.specs.declared.status.Status.TheVariants.{RequestRefused, NoMemory, DeviceFailed}
-use Rattle.request_words.specs.Request.{Asked, Demand, electing, checking, sharing}
+use Rattle.request_words.specs.Request.{Asked, Demand, Paging, electing, checking, sharing}
 use Rattle.vote_cli.specs.Device.{AppendsBeginning}
 use Rattle.vote_cli.specs.ElectText.{elect_text}
 use Rattle.vote_cli.specs.FaultText.{fault_text}
+use Rattle.vote_cli.specs.Names.{Naming, naming}
 use Rattle.vote_cli.specs.Parties.{has_many_approved, party_votes}
 use Rattle.vote_cli.specs.CheckText.{holds_text, violation_text}
 use Rattle.vote_cli.specs.ShareText.{share_text}
+use Rattle.vote_cli.specs.Starts.{has_seats_for, is_committee, may_start}
 use Rattle.vote_cli.specs.Text.{line}
 
 -- the text, the status, and the error line with its end, or nothing where there is none
@@ -52,10 +54,12 @@ request_refused word = refused RequestRefused (codes "committees: request: " ++ 
 
 -- ---- by what is asked for
 
--- the winners of an election
-abbrev pub election_answer : Rule → ℕ → Election → Answer
-election_answer rule size election =
-    if nat_lt election.m size then request_refused (codes "SizeTooLarge") else answered (elect_text rule size election)
+-- the winners of an election, with names beside them or not
+abbrev pub election_answer : Rule → ℕ → Paging → Bool → Election → Answer
+election_answer rule size page with_names election =
+    if nat_lt election.m size then request_refused (codes "SizeTooLarge")
+    else if not (may_start (is_committee election.m size) page.after) then request_refused (codes "AfterMisfit")
+    else answered (elect_text rule size page (naming with_names election.names) election)
 
 -- the list is a committee of candidates 1 to m, in increasing order, and no larger than one that may be elected
 pub record IsCommittee (m : ℕ) (list : List ℕ) : Type 0 where
@@ -63,46 +67,52 @@ pub record IsCommittee (m : ℕ) (list : List ℕ) : Type 0 where
   pub few : length list ≤ most_members
 
 -- whether the committee of a list has a property, or the report that shows that it has not
-abbrev pub IsCheckAnswer : Property → List ℕ → Election → Answer → Type 0
-IsCheckAnswer property list election answer =
+abbrev pub IsCheckAnswer : Property → List ℕ → Bool → Election → Answer → Type 0
+IsCheckAnswer property list with_names election answer =
     ((IsCommittee election.m list → ⊥) × (answer ≡ request_refused (codes "CommitteeMisfit")))
     ⊎ (IsCommittee election.m list × HasProperty property election list × (answer ≡ answered holds_text))
     ⊎ (IsCommittee election.m list × ((report : Violation) × IsReport property election list report
-    × (answer ≡ violated (violation_text report election))))
+    × (answer ≡ violated (violation_text (naming with_names election.names) report election))))
 
--- the fair allocations of seats to parties with these votes
-abbrev pub share_answer_by : Option ShareFault → List ℕ → Answer
-share_answer_by (Some fault) text = request_refused (share_fault_name fault)
-share_answer_by None text = answered text
+-- the fair allocations of seats to parties with these votes: a fault of the votes comes before one of the start
+abbrev pub share_answer_by : Option ShareFault → Bool → List ℕ → Answer
+share_answer_by (Some fault) starts text = request_refused (share_fault_name fault)
+share_answer_by None false text = request_refused (codes "AfterMisfit")
+share_answer_by None true text = answered text
 
-abbrev pub share_answer : Method → ℕ → List ℕ → Answer
-share_answer method seats votes = share_answer_by (first_fault votes seats None) (share_text method seats votes)
+abbrev pub share_answer : Method → ℕ → Paging → Naming → List ℕ → Answer
+share_answer method seats page names votes =
+    share_answer_by (first_fault votes seats None) (may_start (has_seats_for (length votes)) page.after)
+    (share_text method seats page names votes)
 
 -- the same, where a voter counts for the one party that the ballot approves
-abbrev pub ballots_answer : Method → ℕ → Election → Answer
-ballots_answer method seats election =
+abbrev pub ballots_answer : Method → ℕ → Paging → Bool → Election → Answer
+ballots_answer method seats page with_names election =
     if has_many_approved election then request_refused (codes "ManyApproved")
-    else share_answer method seats (party_votes election)
+    else share_answer method seats page (naming with_names election.names) (party_votes election)
 
 -- the answer to what the bytes hold: one that is right of the election, or the line of their first fault
 abbrev pub IsAnswerOver : (Election → Answer → Type 0) → Pick → List ℕ → Answer → Type 0
 IsAnswerOver IsRight pick bytes answer = (read : Result Election ReadFault) × Reads bytes pick read
     × MatchResult read (λ election. IsRight election answer) (λ fault. answer ≡ refused InputRefused (fault_text fault))
 
--- the answer to a demand; with votes in the words, the bytes do not matter
-abbrev pub IsAnswerTo : Demand → Pick → List ℕ → Answer → Type 0
-IsAnswerTo (electing rule size) = IsAnswerOver (λ election answer. answer ≡ election_answer rule size election)
-IsAnswerTo (checking property list) = IsAnswerOver (IsCheckAnswer property list)
-IsAnswerTo (sharing method seats None) = IsAnswerOver (λ election answer. answer ≡ ballots_answer method seats election)
-IsAnswerTo (sharing method seats (Some votes)) = λ pick bytes answer. answer ≡ share_answer method seats votes
+-- the answer to a demand, with names or not; with votes in the words, the bytes do not matter, and no party has a name
+abbrev pub IsAnswerTo : Bool → Demand → Pick → List ℕ → Answer → Type 0
+IsAnswerTo with_names (electing rule size page) =
+    IsAnswerOver (λ election answer. answer ≡ election_answer rule size page with_names election)
+IsAnswerTo with_names (checking property list) = IsAnswerOver (IsCheckAnswer property list with_names)
+IsAnswerTo with_names (sharing method seats None page) =
+    IsAnswerOver (λ election answer. answer ≡ ballots_answer method seats page with_names election)
+IsAnswerTo with_names (sharing method seats (Some votes) page) =
+    λ pick bytes answer. answer ≡ share_answer method seats page (naming with_names []) votes
 
 -- the answer to a request and the bytes of an input
 abbrev pub IsAnswer : Asked → List ℕ → Answer → Type 0
-IsAnswer asked bytes answer = IsAnswerTo asked.demand asked.pick bytes answer
+IsAnswer asked bytes answer = IsAnswerTo asked.names asked.demand asked.pick bytes answer
 
 -- whether the votes stand in the words
 abbrev pub has_votes : Demand → Bool
-has_votes (sharing method seats (Some votes)) = true
+has_votes (sharing method seats (Some votes) page) = true
 has_votes demand = false
 
 -- the bytes that an answer is about, where they are known: none where the votes stand in the words

@@ -3,10 +3,13 @@ pub mod CheckText
 pub mod Device
 pub mod ElectText
 pub mod FaultText
+pub mod Laws
 pub mod Listing
+pub mod Names
 pub mod Parties
 pub mod RuleValues
 pub mod ShareText
+pub mod Starts
 pub mod Status
 pub mod Steps
 pub mod Text

@@ -1,15 +1,41 @@
 -- The text of the list of the answers to a request.
-use Rattle.std.specs.Prelude.{ℕ, List, ◌++◌, codes, flat_map}
+use Rattle.std.specs.Prelude.{ℕ, Bool, true, false, List, ◌++◌, Option, Some, None}
+use Rattle.std.specs.Prelude.{codes, flat_map, length, nat_lt, take}
+use Rattle.ballot_base.specs.Lists.{later_than}
+use Rattle.request_words.specs.Request.{Paging}
+use Rattle.vote_cli.specs.Names.{Naming, beside, candidates_text}
+use Rattle.vote_cli.specs.Parties.{seated_parties}
 use Rattle.vote_cli.specs.Text.{line, numbers_text}
 
--- an answer, on a line: the members of a committee, or the seats of the parties
-abbrev pub answer_text : List ℕ → List ℕ
-answer_text numbers = line (numbers_text numbers)
+-- the line of a committee: its members, and their names where they are wanted
+abbrev pub committee_line : Naming → List ℕ → List ℕ
+committee_line names members = line (candidates_text names members)
 
--- answers, one a line
-abbrev pub answers_text : List (List ℕ) → List ℕ
-answers_text answers = flat_map answer_text answers
+-- the line of an allocation: the seats of the parties, and the names of those with a seat where they are wanted
+abbrev pub allocation_line : Naming → List ℕ → List ℕ
+allocation_line names seats = line (numbers_text seats ++ beside names (seated_parties seats))
 
--- what is printed of the answers to a request: the lines before them, the answers, and the last line
-abbrev pub listing_text : List ℕ → List (List ℕ) → List ℕ
-listing_text header answers = header ++ answers_text answers ++ line (codes "end")
+-- the first so many answers, or all of them without a limit
+abbrev pub within_limit : Option ℕ → List (List ℕ) → List (List ℕ)
+within_limit None answers = answers
+within_limit (Some limit) answers = take limit answers
+
+-- whether there are more than the limit allows
+abbrev pub has_more : Option ℕ → List (List ℕ) → Bool
+has_more None answers = false
+has_more (Some limit) answers = nat_lt limit (length answers)
+
+-- the last line
+abbrev pub last_line : Bool → List ℕ
+last_line true = line (codes "more")
+last_line false = line (codes "end")
+
+-- the answers as far as the limit allows, one a line, and the last line
+abbrev pub answers_text : (List ℕ → List ℕ) → Option ℕ → List (List ℕ) → List ℕ
+answers_text line_of limit answers =
+    flat_map line_of (within_limit limit answers) ++ last_line (has_more limit answers)
+
+-- What is printed of the answers to a request: the lines before them, which are those of all answers, and of the
+-- answers later than the start as many as the limit allows.
+abbrev pub listing_text : (List ℕ → List ℕ) → List ℕ → Paging → List (List ℕ) → List ℕ
+listing_text line_of header page answers = header ++ answers_text line_of page.limit (later_than page.after answers)

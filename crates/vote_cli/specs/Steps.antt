@@ -1,5 +1,7 @@
 pub mod Input
+pub mod Names
 pub mod Numbers
 pub mod Printing
 pub mod Refusals
 pub mod RequestFaults
+pub mod Sharing

@@ -1,22 +1,30 @@
 //! The answers to what a request asks for, about ballots that were read.
-ghost use Rattle.std.specs.Prelude.{◌≡◌, ◌≢◌, ◌≤◌, [], Err};
+ghost use Rattle.std.specs.Prelude.{◌≡◌, ◌≢◌, ◌≤◌, [], Err, IfErr, IfOk, false, length, not, true};
 ghost use Rattle.ballot_base.specs.Limits.{most_members};
+ghost use Rattle.std.specs.Option.{option_copied};
+ghost use Rattle.request_words.specs.Request.{paging_of};
+ghost use Rattle.seat_share.specs.Faults.{has_other_length};
 ghost use Rattle.vote_cli.specs.Answer.{IsCheckAnswer, ballots_answer, election_answer, share_answer};
+ghost use Rattle.vote_cli.specs.Starts.{has_seats_for, may_start};
 ghost use Rattle.vote_cli.specs.Steps.Refusals.{WritesRight, IsWritten, TellsOfWrites, outcome_status};
+ghost use Rattle.vote_cli.specs.Steps.RequestFaults.{request_fault_word};
+ghost use Rattle.vote_cli.specs.Steps.Sharing.{IsShareRefusal, IsSharedOut};
 
 use crate::check_text::{write_holds, write_violation};
 use crate::committee::committee_of;
 use crate::device::Sink;
 use crate::elect_text::{write_scored, write_sequential};
+use crate::names::Names;
 use crate::parties::votes_of;
 use crate::printing::WriteFailed;
 use crate::refusal::{Refusal, RequestFault};
 use crate::share_text::write_shares;
+use crate::starts::{committee_start, seats_start};
 use crate::status::Status;
 use ballot_base::Profile;
 use group_check::{Property, find_violation};
-use request_words::Rule;
-use seat_share::{Method, Shares};
+use request_words::{Page, Rule};
+use seat_share::{Method, ShareFault, Shares};
 use std::alloc::Allocator;
 use tie_walk::SeqWinners;
 
@@ -40,17 +48,20 @@ impl Outcome {
     }
 }
 
-/// Writes the winners of an election.
+/// Writes the winners of an election, those of them that are asked for.
 pub(crate) fn answer_election<A: Allocator + Copy + Drop, W: Sink>(
     alloc: A,
     out: &mut W,
     profile: &Profile<A>,
     rule: Rule,
     size: u8,
+    page: &Page,
+    with_names: bool,
 ) -> Result<Outcome, Refusal>
     requires least { 1 ≤ size }
     requires most { size ≤ most_members }
-    ensures answer { WritesRight (λ answer. answer ≡ election_answer rule size profile.now)
+    ensures answer { WritesRight (λ answer. answer
+        ≡ election_answer rule size (paging_of page.now) with_names profile.now)
         (W.contents out.old) (W.contents out.new) result }
     ensures writes { TellsOfWrites (W.has_failed out.old) (W.has_failed out.new) result }
     ensures unread { result ≢ Err Refusal.ReadFailed }
@@ -58,11 +69,19 @@ pub(crate) fn answer_election<A: Allocator + Copy + Drop, W: Sink>(
     if size > profile.m() {
         return Err(Refusal::Request(RequestFault::SizeTooLarge));
     }
+    let after = match committee_start(page, profile.m(), size) {
+        Ok(after) => after,
+        Err(fault) => return Err(Refusal::Request(fault)),
+    };
+    let names = Names::of(profile, with_names);
     match rule {
-        Rule::Scored(rule) => written(write_scored(out, profile, rule, size), Outcome::Answered),
-        Rule::Sequential(rule) => match SeqWinners::new(alloc, profile, rule, size, None) {
+        Rule::Scored(rule) => written(
+            write_scored(out, profile, rule, size, after, page.limit, &names),
+            Outcome::Answered,
+        ),
+        Rule::Sequential(rule) => match SeqWinners::new(alloc, profile, rule, size, after) {
             Ok(winners) => written(
-                write_sequential(out, winners, rule, size),
+                write_sequential(out, winners, rule, size, page.limit, &names),
                 Outcome::Answered,
             ),
             Err(_) => Err(Refusal::Memory),
@@ -76,9 +95,10 @@ pub(crate) fn answer_check<A: Allocator + Copy, W: Sink>(
     profile: &Profile<A>,
     property: Property,
     list: &[u64],
+    with_names: bool,
 ) -> Result<Outcome, Refusal>
     requires some { list.now ≢ [] }
-    ensures answer { WritesRight (IsCheckAnswer property list.now profile.now)
+    ensures answer { WritesRight (IsCheckAnswer property list.now with_names profile.now)
         (W.contents out.old) (W.contents out.new) result }
     ensures writes { TellsOfWrites (W.has_failed out.old) (W.has_failed out.new) result }
     ensures unread { result ≢ Err Refusal.ReadFailed }
@@ -89,26 +109,75 @@ pub(crate) fn answer_check<A: Allocator + Copy, W: Sink>(
     };
     match find_violation(profile, committee, property) {
         None => written(write_holds(out), Outcome::Answered),
-        Some(violation) => written(write_violation(out, profile, &violation), Outcome::Violated),
+        Some(violation) => {
+            let names = Names::of(profile, with_names);
+            written(
+                write_violation(out, &names, profile, &violation),
+                Outcome::Violated,
+            )
+        }
     }
 }
 
-/// Writes the fair allocations of seats to parties with these votes.
-pub(crate) fn answer_share<W: Sink>(
+/// The fair allocations later than a start that has a number of seats for each party.
+fn shares_from(
+    votes: &[u64],
+    method: Method,
+    seats: u16,
+    start: Option<&[u16]>,
+) -> Result<Shares, RequestFault>
+    ensures ok { let after = option_copied start.entry in IfOk result (λ shares.
+        IsSharedOut method seats after votes.now shares × (has_other_length (length votes.now) after ≡ false)) }
+    ensures err { IfErr result (λ fault. IsShareRefusal seats
+        (not (has_other_length (length votes.now) (option_copied start.entry))) votes.now (request_fault_word fault)) }
+{
+    match Shares::new(votes, method, seats, start) {
+        Ok(shares) => Ok(shares),
+        Err(ShareFault::AfterLength) => Err(RequestFault::AfterMisfit),
+        Err(fault) => Err(RequestFault::Share(fault)),
+    }
+}
+
+/// The fair allocations that are asked for. A fault of the votes comes before a start that does not fit.
+fn shares_of(votes: &[u64], method: Method, seats: u16, page: &Page) -> Result<Shares, RequestFault>
+    ensures ok { let after = (paging_of page.now).after in IfOk result (λ shares.
+        IsSharedOut method seats after votes.now shares × (may_start (has_seats_for (length votes.now)) after ≡ true)) }
+    ensures err { let starts = may_start (has_seats_for (length votes.now)) (paging_of page.now).after in
+        IfErr result (λ fault. IsShareRefusal seats starts votes.now (request_fault_word fault)) }
+{
+    let Some(list) = &page.after else {
+        return shares_from(votes, method, seats, None);
+    };
+    match seats_start(list) {
+        Some(start) => shares_from(votes, method, seats, Some(start.as_slice())),
+        None => {
+            shares_from(votes, method, seats, None)?;
+            Err(RequestFault::AfterMisfit)
+        }
+    }
+}
+
+/// Writes the fair allocations of seats to parties with these votes, those of them that are asked for.
+pub(crate) fn answer_share<A: Allocator + Copy, W: Sink>(
     out: &mut W,
     votes: &[u64],
     method: Method,
     seats: u16,
+    page: &Page,
+    names: &Names<'_, A>,
 ) -> Result<Outcome, Refusal>
-    ensures answer { WritesRight (λ answer. answer ≡ share_answer method seats votes.now)
+    ensures answer { WritesRight (λ answer. answer ≡ share_answer method seats (paging_of page.now) names.now votes.now)
         (W.contents out.old) (W.contents out.new) result }
     ensures writes { TellsOfWrites (W.has_failed out.old) (W.has_failed out.new) result }
     ensures unread { result ≢ Err Refusal.ReadFailed }
     ensures memory { result ≢ Err Refusal.Memory }
 {
-    match Shares::new(votes, method, seats, None) {
-        Ok(shares) => written(write_shares(out, shares, method, seats), Outcome::Answered),
-        Err(fault) => Err(Refusal::Request(RequestFault::Share(fault))),
+    match shares_of(votes, method, seats, page) {
+        Ok(shares) => written(
+            write_shares(out, shares, method, seats, page.limit, names),
+            Outcome::Answered,
+        ),
+        Err(fault) => Err(Refusal::Request(fault)),
     }
 }
 
@@ -118,15 +187,21 @@ pub(crate) fn answer_share_of_ballots<A: Allocator + Copy, W: Sink>(
     profile: &Profile<A>,
     method: Method,
     seats: u16,
+    page: &Page,
+    with_names: bool,
 ) -> Result<Outcome, Refusal>
-    ensures answer { WritesRight (λ answer. answer ≡ ballots_answer method seats profile.now)
+    ensures answer { WritesRight (λ answer. answer
+        ≡ ballots_answer method seats (paging_of page.now) with_names profile.now)
         (W.contents out.old) (W.contents out.new) result }
     ensures writes { TellsOfWrites (W.has_failed out.old) (W.has_failed out.new) result }
     ensures unread { result ≢ Err Refusal.ReadFailed }
     ensures memory { result ≢ Err Refusal.Memory }
 {
     match votes_of(profile) {
-        Some(votes) => answer_share(out, votes.as_slice(), method, seats),
+        Some(votes) => {
+            let names = Names::of(profile, with_names);
+            answer_share(out, votes.as_slice(), method, seats, page, &names)
+        }
         None => Err(Refusal::Request(RequestFault::ManyApproved)),
     }
 }

@@ -1,16 +1,17 @@
 //! The text of an election's winners.
-ghost use Rattle.std.specs.Prelude.{◌≡◌, ◌≤◌, is_ok};
+ghost use Rattle.std.specs.Prelude.{◌≡◌, ◌≤◌, ◌++◌, is_ok};
 ghost use Rattle.ballot_base.specs.Limits.{most_candidates, most_members};
-ghost use Rattle.tie_walk.specs.Winners.{best_value, winners};
+ghost use Rattle.tie_walk.specs.Winners.{IsStart, best_value, winners};
 ghost use Rattle.vote_cli.specs.ElectText.{best_text, elect_text, rule_lines, score_text, scored_header};
-ghost use Rattle.vote_cli.specs.Listing.{listing_text};
+ghost use Rattle.vote_cli.specs.Listing.{answers_text, committee_line, listing_text};
 ghost use Rattle.vote_cli.specs.Steps.Printing.{Prints, Sends};
 ghost use Rattle.vote_cli.specs.Text.{line};
 
 use crate::device::Sink;
 use crate::listing::print_listing;
+use crate::names::Names;
 use crate::printing::{Printer, WriteFailed};
-use ballot_base::{Increments, Profile, common_multiple};
+use ballot_base::{CandSet, Increments, Profile, common_multiple};
 use itoa::Buffer;
 use request_words::{Rule, ScoredRule};
 use std::alloc::Allocator;
@@ -105,24 +106,29 @@ fn print_header<W: Sink>(
 }
 
 /// Writes the answer of a tally, and flushes the writer.
-fn write_by<W: Sink, T: Tally>(
+fn write_by<W: Sink, N: Allocator + Copy, T: Tally>(
     out: &mut W,
     tally: &T,
     rule: ScoredRule,
     size: u8,
+    after: Option<CandSet>,
+    limit: Option<u32>,
+    names: &Names<'_, N>,
 ) -> Result<(), WriteFailed>
     requires some { 1 ≤ size }
     requires fits { size ≤ T.candidates tally.now }
     requires most { size ≤ most_members }
+    requires start { IsStart (T.candidates tally.now) size after }
     ensures { let value = T.value_of tally.now in let m = T.candidates tally.now in
         Sends W.contents W.has_failed out.old out.new (is_ok result)
-        (listing_text (scored_header rule m size (best_value value m size)) (winners value m size)) }
+        (listing_text (committee_line names.now) (scored_header rule m size (best_value value m size))
+        (record { after = after; limit = limit }) (winners value m size)) }
 {
     let m = tally.m();
-    let winners = Winners::new(tally, m, size, None);
+    let winners = Winners::new(tally, m, size, after);
     let mut printer = Printer::new(out);
     print_header(&mut printer, rule, m, size, winners.best())?;
-    print_listing(&mut printer, winners)
+    print_listing(&mut printer, names, limit, winners)
 }
 
 /// Writes the answer of a rule with a value, and flushes the writer.
@@ -131,33 +137,46 @@ pub(crate) fn write_scored<W: Sink, A: Allocator + Copy>(
     profile: &Profile<A>,
     rule: ScoredRule,
     size: u8,
+    after: Option<CandSet>,
+    limit: Option<u32>,
+    names: &Names<'_, A>,
 ) -> Result<(), WriteFailed>
     requires some { 1 ≤ size }
     requires fits { size ≤ profile.now.m }
     requires most { size ≤ most_members }
+    requires start { IsStart profile.now.m size after }
     ensures { Sends W.contents W.has_failed out.old out.new (is_ok result)
-        (elect_text (Rule.Scored rule) size profile.now) }
+        (elect_text (Rule.Scored rule) size (record { after = after; limit = limit }) names.now profile.now) }
 {
     match rule {
         ScoredRule::Thiele(thiele) => {
-            write_by(out, &ThieleTally::new(profile, thiele, size), rule, size)
+            let tally = ThieleTally::new(profile, thiele, size);
+            write_by(out, &tally, rule, size, after, limit, names)
         }
-        ScoredRule::Satisfaction => write_by(out, &SavTally::new(profile), rule, size),
-        ScoredRule::Minimax => write_by(out, &MinimaxTally::new(profile), rule, size),
+        ScoredRule::Satisfaction => {
+            let tally = SavTally::new(profile);
+            write_by(out, &tally, rule, size, after, limit, names)
+        }
+        ScoredRule::Minimax => {
+            let tally = MinimaxTally::new(profile);
+            write_by(out, &tally, rule, size, after, limit, names)
+        }
     }
 }
 
-/// Writes the answer of a sequential rule, and flushes the writer.
+/// Writes the answer of a sequential rule, of which these winners are asked for, and flushes the writer.
 pub(crate) fn write_sequential<W: Sink, A: Allocator + Copy + Drop>(
     out: &mut W,
     winners: SeqWinners<A>,
     rule: SeqRule,
     size: u8,
+    limit: Option<u32>,
+    names: &Names<'_, A>,
 ) -> Result<(), WriteFailed>
     ensures { Sends W.contents W.has_failed out.old out.new (is_ok result)
-        (listing_text (rule_lines (Rule.Sequential rule) size) winners) }
+        (rule_lines (Rule.Sequential rule) size ++ answers_text (committee_line names.now) limit winners) }
 {
     let mut printer = Printer::new(out);
     print_rule(&mut printer, Rule::Sequential(rule), size)?;
-    print_listing(&mut printer, winners)
+    print_listing(&mut printer, names, limit, winners)
 }

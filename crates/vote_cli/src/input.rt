@@ -1,9 +1,12 @@
-//! The whole input of a run.
-ghost use Rattle.std.specs.Prelude.{◌≡◌, IfOk, IfSome};
+//! The whole input of a run, which is read in pieces.
+ghost use Rattle.std.specs.Prelude.{◌≡◌, ◌<◌, ◌+◌, ◌++◌, length, IfOk, IfErr, IfSome};
+ghost use Rattle.preflib_text.specs.Approvals.{HasNumber};
+ghost use Rattle.preflib_text.specs.Limits.{word_limit};
 ghost use Rattle.vote_cli.specs.Answer.{IsAllRead};
 ghost use Rattle.vote_cli.specs.Steps.Input.{TellsOfInput};
 
 use crate::device::Source;
+use preflib_text::{FaultName, LineReader, Pick};
 use std::alloc::Allocator;
 
 /// How many bytes are read at once.
@@ -18,28 +21,52 @@ pub(crate) enum InputFault {
     ReadFailed,
 }
 
-/// Reads to the end of the input.
-pub(crate) fn read_to_end<A: Allocator, R: Source>(
+/// Feeds a piece. A fault of the input is kept for the end.
+fn feed_piece<A: Allocator + Copy + Drop>(
+    lines: &mut LineReader<A>,
+    piece: &[u8],
+) -> Result<(), InputFault>
+    requires { length lines.old.fed + length piece.now < word_limit }
+    ensures fed { lines.new.fed ≡ lines.old.fed ++ piece.now }
+    ensures pick { lines.new.pick ≡ lines.old.pick }
+    ensures memory { IfErr result (λ fault. fault ≡ InputFault.Memory) }
+{
+    match lines.feed(piece) {
+        Err(fault) if fault.name == FaultName::Memory => Err(InputFault::Memory),
+        _ => Ok(()),
+    }
+}
+
+/// Feeds the whole input, in pieces. After a fault of the input it is still read to its end. Where there are more bytes
+/// than a `u64` can count, they are more than can be fed.
+pub(crate) fn read_to_end<A: Allocator + Copy + Drop, R: Source>(
     alloc: A,
+    pick: &Pick,
     reader: &mut R,
-) -> Result<Vec<u8, A>, InputFault>
-    ensures bytes { IfOk result (λ input. IfSome (R.remaining reader.old) (λ bytes. input.items ≡ bytes)) }
+) -> Result<LineReader<A>, InputFault>
+    requires { HasNumber pick.now.way }
+    ensures bytes { IfOk result (λ lines. IfSome (R.remaining reader.old) (λ bytes. lines.fed ≡ bytes)) }
+    ensures pick { IfOk result (λ lines. lines.pick ≡ pick.now) }
     ensures end { IfOk result (λ _. IsAllRead (R.remaining reader.old) (R.remaining reader.new)) }
     ensures failed { TellsOfInput (R.has_failed reader.old) (R.has_failed reader.new) result }
 {
-    let mut input = Vec::new(alloc);
+    let Ok(mut lines) = LineReader::new(alloc, *pick) else {
+        return Err(InputFault::Memory);
+    };
     let mut piece = [0; PIECE];
-    for _ in 0..u64::MAX {
-        match reader.read(&mut piece) {
-            Ok(0) => return Ok(input),
-            Ok(count) => {
-                if input.extend_from_slice(&piece[..count]).is_err() {
-                    return Err(InputFault::Memory);
-                }
-            }
-            Err(_) => return Err(InputFault::ReadFailed),
+    // How many more bytes may be fed.
+    let mut left = u64::MAX;
+    loop {
+        let Ok(count) = reader.read(&mut piece) else {
+            return Err(InputFault::ReadFailed);
+        };
+        if count == 0 {
+            return Ok(lines);
         }
+        if count as u64 > left {
+            return Err(InputFault::Memory);
+        }
+        left -= count as u64;
+        feed_piece(&mut lines, &piece[..count])?;
     }
-    // The memory of a `Vec` ends before as many bytes are read.
-    unreachable!()
 }

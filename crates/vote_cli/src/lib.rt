@@ -10,15 +10,19 @@ mod fault_text;
 mod input;
 pub mod laws;
 mod listing;
+mod names;
 mod numbers;
 mod parties;
 mod printing;
 mod refusal;
 pub mod run_request;
 mod share_text;
+mod starts;
 pub mod status;
 
 pub use device::{Device, Sink, Source, Told};
-pub use request_words::{LineFault, ListOption, Request, Rule, ScoredRule, Task, read_request};
+pub use request_words::{
+    LineFault, ListOption, Page, Request, Rule, ScoredRule, Task, read_request,
+};
 pub use run_request::run;
 pub use status::Status;

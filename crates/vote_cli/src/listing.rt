@@ -1,12 +1,13 @@
 //! The list of the answers to a request: one loop prints them, whatever is asked for.
-ghost use Rattle.std.specs.Prelude.{◌≡◌, ℕ, ◌++◌, List, [], codes, is_ok, true};
+ghost use Rattle.std.specs.Prelude.{◌≡◌, ◌≢◌, ◌-◌, ℕ, List, Some, [], is_ok, option_map, false, true};
 ghost use Rattle.std.specs.Iterator.{YieldsFirstBy};
-ghost use Rattle.vote_cli.specs.Listing.{answer_text, answers_text};
+ghost use Rattle.vote_cli.specs.Listing.{allocation_line, answers_text, committee_line, has_more, last_line};
+ghost use Rattle.vote_cli.specs.Names.{Naming};
 ghost use Rattle.vote_cli.specs.Steps.Printing.{Prints};
-ghost use Rattle.vote_cli.specs.Text.{line, numbers_text};
 
 use crate::device::Sink;
-use crate::numbers::{print_members, print_seats};
+use crate::names::{Names, print_beside_seats, print_candidates};
+use crate::numbers::print_seats;
 use crate::printing::{Printer, WriteFailed};
 use ballot_base::CandSet;
 use seat_share::{Allocation, Shares};
@@ -24,17 +25,21 @@ pub(crate) trait Answers {
     // the numbers of an answer
     ghost numbers: { Self.Answer → List ℕ };
 
+    // the line of the answer with these numbers
+    ghost line_of: { Naming → List ℕ → List ℕ };
+
     /// The first of the answers still to come.
     fn next_answer(&mut self) -> Option<Self::Answer>
         ensures { YieldsFirstBy Self.numbers Self.left self.old result self.new };
 
-    /// Prints the numbers of an answer, with commas between them.
-    fn print_numbers<W: Sink>(
+    /// Prints the line of an answer.
+    fn print_line<W: Sink, N: Allocator + Copy>(
         printer: &mut Printer<'_, W>,
+        names: &Names<'_, N>,
         answer: &Self::Answer,
     ) -> Result<(), WriteFailed>
         ensures { Prints W.contents W.has_failed printer.old printer.new (is_ok result)
-            (numbers_text (Self.numbers answer.now)) };
+            (Self.line_of names.now (Self.numbers answer.now)) };
 }
 
 impl<'a, T: Tally> Answers for Winners<'a, T> {
@@ -44,15 +49,18 @@ impl<'a, T: Tally> Answers for Winners<'a, T> {
 
     ghost numbers = { λ committee. committee };
 
+    ghost line_of = { committee_line };
+
     fn next_answer(&mut self) -> Option<CandSet> {
         self.next()
     }
 
-    fn print_numbers<W: Sink>(
+    fn print_line<W: Sink, N: Allocator + Copy>(
         printer: &mut Printer<'_, W>,
+        names: &Names<'_, N>,
         answer: &CandSet,
     ) -> Result<(), WriteFailed> {
-        print_members(printer, *answer)
+        print_committee(printer, names, *answer)
     }
 }
 
@@ -63,15 +71,18 @@ impl<A: Allocator + Copy + Drop> Answers for SeqWinners<A> {
 
     ghost numbers = { λ committee. committee };
 
+    ghost line_of = { committee_line };
+
     fn next_answer(&mut self) -> Option<CandSet> {
         self.next()
     }
 
-    fn print_numbers<W: Sink>(
+    fn print_line<W: Sink, N: Allocator + Copy>(
         printer: &mut Printer<'_, W>,
+        names: &Names<'_, N>,
         answer: &CandSet,
     ) -> Result<(), WriteFailed> {
-        print_members(printer, *answer)
+        print_committee(printer, names, *answer)
     }
 }
 
@@ -82,76 +93,139 @@ impl Answers for Shares {
 
     ghost numbers = { λ allocation. allocation };
 
+    ghost line_of = { allocation_line };
+
     fn next_answer(&mut self) -> Option<Allocation> {
         self.next()
     }
 
-    fn print_numbers<W: Sink>(
+    fn print_line<W: Sink, N: Allocator + Copy>(
         printer: &mut Printer<'_, W>,
+        names: &Names<'_, N>,
         answer: &Allocation,
     ) -> Result<(), WriteFailed> {
-        print_seats(printer, answer.seats())
+        print_allocation(printer, names, answer.seats())
     }
 }
 
-/// Prints an answer on a line.
-fn print_answer<W: Sink, A: Answers>(
+/// Prints the line of a committee.
+fn print_committee<W: Sink, N: Allocator + Copy>(
     printer: &mut Printer<'_, W>,
-    answer: &A::Answer,
+    names: &Names<'_, N>,
+    members: CandSet,
 ) -> Result<(), WriteFailed>
-    ensures { Prints W.contents W.has_failed printer.old printer.new (is_ok result)
-        (answer_text (A.numbers answer.now)) }
+    ensures { Prints W.contents W.has_failed printer.old printer.new (is_ok result) (committee_line names.now members) }
 {
-    A::print_numbers(printer, answer)?;
+    print_candidates(printer, names, members)?;
     printer.print(b"\n")
 }
 
-/// Prints the first answer, if there is one, and sends it.
-fn print_first<W: Sink, A: Answers>(
+/// Prints the line of an allocation.
+fn print_allocation<W: Sink, N: Allocator + Copy>(
     printer: &mut Printer<'_, W>,
-    answers: &mut A,
+    names: &Names<'_, N>,
+    seats: &[u16],
 ) -> Result<(), WriteFailed>
-    ensures { (text : List ℕ) × (text ++ answers_text (A.left answers.new) ≡ answers_text (A.left answers.old))
-        × Prints W.contents W.has_failed printer.old printer.new (is_ok result) text }
+    ensures { Prints W.contents W.has_failed printer.old printer.new (is_ok result)
+        (allocation_line names.now seats.now) }
 {
-    match answers.next_answer() {
-        None => Ok(()),
-        Some(answer) => {
-            print_answer::<W, A>(printer, &answer)?;
-            printer.send()
-        }
-    }
+    print_seats(printer, seats)?;
+    print_beside_seats(printer, names, seats)?;
+    printer.print(b"\n")
 }
 
-/// Prints the answers that are left.
-fn print_answers<W: Sink, A: Answers + Drop>(
+/// Prints the line of an answer, and sends the first one.
+fn print_answer<W: Sink, N: Allocator + Copy, A: Answers>(
     printer: &mut Printer<'_, W>,
-    answers: A,
+    names: &Names<'_, N>,
+    answer: &A::Answer,
+    is_first: bool,
 ) -> Result<(), WriteFailed>
-    ensures { Prints W.contents W.has_failed printer.old printer.new (is_ok result) (answers_text (A.left answers)) }
+    ensures { Prints W.contents W.has_failed printer.old printer.new (is_ok result)
+        (A.line_of names.now (A.numbers answer.now)) }
 {
-    let mut answers = answers;
-    while let Some(answer) = answers.next_answer() {
-        print_answer::<W, A>(printer, &answer)?;
+    A::print_line(printer, names, answer)?;
+    if is_first {
+        return printer.send();
     }
     Ok(())
 }
 
-/// Prints the answers and the last line after the lines that were printed before, and flushes the writer.
-///
-/// Those lines are sent before the first answer is looked for, and that answer before the second one is.
-pub(crate) fn print_listing<W: Sink, A: Answers + Drop>(
+/// Prints the last line after as many answers as the limit allows: one look tells whether there is another.
+fn print_last<W: Sink, A: Answers + Drop>(
     printer: &mut Printer<'_, W>,
     answers: A,
 ) -> Result<(), WriteFailed>
-    ensures printed { Prints W.contents W.has_failed printer.old printer.new (is_ok result)
-        (answers_text (A.left answers) ++ line (codes "end")) }
-    ensures nothing { is_ok result ≡ true → printer.new.pending ≡ [] }
+    ensures { Prints W.contents W.has_failed printer.old printer.new (is_ok result)
+        (last_line (has_more (Some 0) (A.left answers))) }
 {
     let mut answers = answers;
+    match answers.next_answer() {
+        Some(_) => printer.print(b"more\n"),
+        None => printer.print(b"end\n"),
+    }
+}
+
+/// Prints the answers as far as the limit allows, and the last line.
+fn print_answers<W: Sink, N: Allocator + Copy, A: Answers + Drop>(
+    printer: &mut Printer<'_, W>,
+    names: &Names<'_, N>,
+    limit: Option<u32>,
+    answers: A,
+) -> Result<(), WriteFailed>
+    ensures { Prints W.contents W.has_failed printer.old printer.new (is_ok result)
+        (answers_text (A.line_of names.now) limit (A.left answers)) }
+{
+    let mut answers = answers;
+    let mut room = limit;
+    let mut is_first = true;
+    while has_room(room) {
+        let Some(answer) = answers.next_answer() else {
+            return printer.print(b"end\n");
+        };
+        print_answer::<W, N, A>(printer, names, &answer, is_first)?;
+        is_first = false;
+        room = one_less(room);
+    }
+    print_last(printer, answers)
+}
+
+/// Whether one more answer may be printed.
+fn has_room(room: Option<u32>) -> bool
+    ensures some { result ≡ true → room ≢ Some 0 }
+    ensures none { result ≡ false → room ≡ Some 0 }
+{
+    match room {
+        Some(n) => n > 0,
+        None => true,
+    }
+}
+
+/// The room that is left after one answer.
+fn one_less(room: Option<u32>) -> Option<u32>
+    ensures { result ≡ option_map (λ n. n - 1) room }
+{
+    match room {
+        Some(n) => Some(n.saturating_sub(1)),
+        None => None,
+    }
+}
+
+/// Prints the answers, as many as the limit allows, and the last line after the lines that were printed before, and
+/// flushes the writer.
+///
+/// Those lines are sent before the first answer is looked for, and that answer before the second one is.
+pub(crate) fn print_listing<W: Sink, N: Allocator + Copy, A: Answers + Drop>(
+    printer: &mut Printer<'_, W>,
+    names: &Names<'_, N>,
+    limit: Option<u32>,
+    answers: A,
+) -> Result<(), WriteFailed>
+    ensures printed { Prints W.contents W.has_failed printer.old printer.new (is_ok result)
+        (answers_text (A.line_of names.now) limit (A.left answers)) }
+    ensures nothing { is_ok result ≡ true → printer.new.pending ≡ [] }
+{
     printer.send()?;
-    print_first(printer, &mut answers)?;
-    print_answers(printer, answers)?;
-    printer.print(b"end\n")?;
+    print_answers(printer, names, limit, answers)?;
     printer.finish()
 }

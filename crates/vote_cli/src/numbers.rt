@@ -10,7 +10,10 @@ use ballot_base::CandSet;
 use itoa::{Buffer, Integer};
 
 /// Prints a number.
-fn print_number<W: Sink, N: Integer>(printer: &mut Printer<'_, W>, n: N) -> Result<(), WriteFailed>
+pub(crate) fn print_number<W: Sink, N: Integer>(
+    printer: &mut Printer<'_, W>,
+    n: N,
+) -> Result<(), WriteFailed>
     ensures { Prints W.contents W.has_failed printer.old printer.new (is_ok result) (N.text n) }
 {
     let mut digits = Buffer::new();

@@ -17,6 +17,8 @@ use seat_share::ShareFault;
 pub(crate) enum RequestFault {
     /// There are fewer candidates than seats.
     SizeTooLarge,
+    /// The start is no committee of so many candidates, or has no number of seats for each party.
+    AfterMisfit,
     /// The list of a committee does not rise strictly, has a number that is no candidate's, or has too many.
     CommitteeMisfit,
     /// Some ballot approves two candidates or more, so that it has no one party.
@@ -31,6 +33,7 @@ impl RequestFault {
     {
         match self {
             RequestFault::SizeTooLarge => b"SizeTooLarge",
+            RequestFault::AfterMisfit => b"AfterMisfit",
             RequestFault::CommitteeMisfit => b"CommitteeMisfit",
             RequestFault::ManyApproved => b"ManyApproved",
             RequestFault::Share(fault) => fault.name().as_bytes(),

@@ -10,25 +10,21 @@ use crate::answers::{
 };
 use crate::device::{Sink, Source};
 use crate::input::{InputFault, read_to_end};
+use crate::names::Names;
 use crate::refusal::{Refusal, refusal_of};
 use crate::status::Status;
 use ballot_base::Profile;
-use preflib_text::{Pick, read_profile};
+use preflib_text::{LineReader, Pick};
 use request_words::{Request, Task};
 use std::alloc::Allocator;
 
-/// The ballots of these bytes, or why there are none.
-fn ballots_of<A: Allocator + Copy + Drop>(
-    alloc: A,
-    bytes: &[u8],
-    pick: &Pick,
-) -> Result<Profile<A>, Refusal>
-    requires { HasNumber pick.now.way }
-    ensures ballots { ReadsBallots pick.now bytes.now result }
+/// The ballots of what was fed, or why there are none.
+fn ballots_of<A: Allocator + Copy + Drop>(lines: LineReader<A>) -> Result<Profile<A>, Refusal>
+    ensures ballots { ReadsBallots lines.pick lines.fed result }
     ensures unread { result ≢ Err Refusal.ReadFailed }
     ensures unwritten { result ≢ Err Refusal.WriteFailed }
 {
-    match read_profile(alloc, bytes, pick) {
+    match lines.finish() {
         Ok(profile) => Ok(profile),
         Err(fault) => Err(refusal_of(fault)),
     }
@@ -46,12 +42,12 @@ fn read_ballots<A: Allocator + Copy + Drop, R: Source>(
     ensures end { ReadsOn (R.remaining reader.old) (R.remaining reader.new) result }
     ensures unwritten { result ≢ Err Refusal.WriteFailed }
 {
-    let input = match read_to_end(alloc, reader) {
-        Ok(input) => input,
+    let lines = match read_to_end(alloc, pick, reader) {
+        Ok(lines) => lines,
         Err(InputFault::Memory) => return Err(Refusal::Memory),
         Err(InputFault::ReadFailed) => return Err(Refusal::ReadFailed),
     };
-    ballots_of(alloc, &input, pick)
+    ballots_of(lines)
 }
 
 /// Writes the answer where there is one. The input is read only where its ballots are asked about.
@@ -69,20 +65,24 @@ fn answer<A: Allocator + Copy + Drop, R: Source, W: Sink>(
         ReadsOn (R.remaining reader.old) (R.remaining reader.new) result }
     ensures votes { has_votes request.now.demand ≡ true → (reader.new ≡ reader.old) × (result ≢ Err Refusal.Memory) }
 {
+    let with_names = request.names();
     match request.task() {
-        Task::Elect(rule, size) => {
+        Task::Elect(rule, size, page) => {
             let profile = read_ballots(alloc, &request.pick(), reader)?;
-            answer_election(alloc, out, &profile, *rule, *size)
+            answer_election(alloc, out, &profile, *rule, *size, page, with_names)
         }
         Task::Check(property, committee) => {
             let profile = read_ballots(alloc, &request.pick(), reader)?;
-            answer_check(out, &profile, *property, committee.as_slice())
+            answer_check(out, &profile, *property, committee.as_slice(), with_names)
         }
-        Task::Share(method, seats, votes) => match votes {
-            Some(votes) => answer_share(out, votes.as_slice(), *method, *seats),
+        Task::Share(method, seats, votes, page) => match votes {
+            Some(votes) => {
+                let names = Names::<A>::numbers(with_names);
+                answer_share(out, votes.as_slice(), *method, *seats, page, &names)
+            }
             None => {
                 let profile = read_ballots(alloc, &request.pick(), reader)?;
-                answer_share_of_ballots(out, &profile, *method, *seats)
+                answer_share_of_ballots(out, &profile, *method, *seats, page, with_names)
             }
         },
     }

@@ -1,14 +1,16 @@
 //! The text of allocations of seats.
-ghost use Rattle.std.specs.Prelude.{◌≡◌, is_ok};
-ghost use Rattle.vote_cli.specs.Listing.{listing_text};
+ghost use Rattle.std.specs.Prelude.{◌≡◌, ◌++◌, is_ok};
+ghost use Rattle.vote_cli.specs.Listing.{allocation_line, answers_text};
 ghost use Rattle.vote_cli.specs.Steps.Printing.{Prints, Sends};
 ghost use Rattle.vote_cli.specs.ShareText.{share_header};
 
 use crate::device::Sink;
 use crate::listing::print_listing;
+use crate::names::Names;
 use crate::printing::{Printer, WriteFailed};
 use itoa::Buffer;
 use seat_share::{Method, Shares};
+use std::alloc::Allocator;
 
 /// Prints the lines of the method and the seats.
 fn print_header<W: Sink>(
@@ -29,17 +31,19 @@ fn print_header<W: Sink>(
     printer.print_all(&pieces)
 }
 
-/// Writes the answer of a method, and flushes the writer.
-pub(crate) fn write_shares<W: Sink>(
+/// Writes the answer of a method, of which these allocations are asked for, and flushes the writer.
+pub(crate) fn write_shares<W: Sink, N: Allocator + Copy>(
     out: &mut W,
     shares: Shares,
     method: Method,
     seats: u16,
+    limit: Option<u32>,
+    names: &Names<'_, N>,
 ) -> Result<(), WriteFailed>
     ensures { Sends W.contents W.has_failed out.old out.new (is_ok result)
-        (listing_text (share_header method seats) shares) }
+        (share_header method seats ++ answers_text (allocation_line names.now) limit shares) }
 {
     let mut printer = Printer::new(out);
     print_header(&mut printer, method, seats)?;
-    print_listing(&mut printer, shares)
+    print_listing(&mut printer, names, limit, shares)
 }

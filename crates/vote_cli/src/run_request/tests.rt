@@ -1,4 +1,5 @@
-//! Worked runs of approval voting over every type of file. Expected values are worked by hand.
+//! Worked runs of approval voting over every type of file, and of starts, limits and names. Expected values are worked
+//! by hand.
 use super::run;
 use crate::device::Told;
 use request_words::read_request;
@@ -10,7 +11,7 @@ use std::test::Fail;
 static THREE: &str =
     "# DATA TYPE: cat\n# NUMBER ALTERNATIVES: 3\n# NUMBER CATEGORIES: 2\n2: {1,2},3\n1: 3,{1,2}\n";
 
-/// Asserts what a run with these words leaves on its two writers, and its status.
+/// Asserts what a run of approval voting with these words leaves on its two writers, and its status.
 fn assert_run(
     rt: &impl Abort,
     alloc: Global,
@@ -18,7 +19,19 @@ fn assert_run(
     input: &[u8],
     wanted: (u8, &str, &str),
 ) -> Result<(), Fail> {
-    let line = format!(in alloc; "committees elect --rule av {words}")?;
+    let words = format!(in alloc; "elect --rule av {words}")?;
+    assert_words(rt, alloc, words.as_str(), input, wanted)
+}
+
+/// Asserts the same of a run with any words.
+fn assert_words(
+    rt: &impl Abort,
+    alloc: Global,
+    words: &str,
+    input: &[u8],
+    wanted: (u8, &str, &str),
+) -> Result<(), Fail> {
+    let line = format!(in alloc; "committees {words}")?;
     let mut list = Vec::new(alloc);
     for word in line.as_str().split_whitespace() {
         list.push(word.to_string(alloc)?)?;
@@ -179,4 +192,104 @@ fn a_header_of_one_line(rt: HostRuntime) -> Result<(), Fail> {
     assert_elects(&rt, alloc, "a/b.TOI", input, usual)?;
     let none = "score 0/1\n1\n2\n3\n";
     assert_elects(&rt, alloc, "--kind toi --classes 1", input, none)
+}
+
+/// Three candidates, of whom 2 has no name, and a ballot for one of them each, or for none.
+static NAMED: &str =
+    "# DATA TYPE: soi\n# NUMBER ALTERNATIVES: 3\n# ALTERNATIVE NAME 1: Red\n# ALTERNATIVE NAME 3: Blue\n5: 1,2\n3: 3\n2:\n";
+
+#[test]
+fn starts_and_limits(rt: HostRuntime) -> Result<(), Fail> {
+    let alloc = rt.alloc();
+    let cases = [
+        (
+            "elect --rule pav --size 2 --after 1,3",
+            "rule pav\nsize 2\nscore 6/2\n2,3\nend\n",
+        ),
+        (
+            "elect --rule pav --size 2 --after 2,3",
+            "rule pav\nsize 2\nscore 6/2\nend\n",
+        ),
+        (
+            "elect --rule cc --size 2 --limit 1",
+            "rule cc\nsize 2\nscore 3/1\n1,3\nmore\n",
+        ),
+        (
+            "elect --rule cc --size 2 --limit 2",
+            "rule cc\nsize 2\nscore 3/1\n1,3\n2,3\nend\n",
+        ),
+        (
+            "elect --rule cc --size 2 --limit 1 --after 1,2",
+            "rule cc\nsize 2\nscore 3/1\n1,3\nmore\n",
+        ),
+        (
+            "elect --rule seqpav --size 2 --after 1,2 --limit 1",
+            "rule seqpav\nsize 2\n1,3\nmore\n",
+        ),
+        (
+            "share --method hamilton --seats 1 --votes 1,1,1 --limit 2 --names",
+            "method hamilton\nseats 1\n0,0,1\t3\n0,1,0\t2\nmore\n",
+        ),
+        (
+            "share --method hamilton --seats 1 --votes 1,1,1 --after 0,1,0",
+            "method hamilton\nseats 1\n1,0,0\nend\n",
+        ),
+    ];
+    for (words, answer) in cases {
+        assert_words(&rt, alloc, words, THREE.as_bytes(), (0, answer, ""))?;
+    }
+    Ok(())
+}
+
+#[test]
+fn starts_that_do_not_fit(rt: HostRuntime) -> Result<(), Fail> {
+    let alloc = rt.alloc();
+    let cases = [
+        ("elect --rule cc --size 2 --after 1", "AfterMisfit"),
+        ("elect --rule cc --size 2 --after 1,4", "AfterMisfit"),
+        ("elect --rule cc --size 4 --after 1", "SizeTooLarge"),
+        (
+            "share --method dhondt --seats 7 --votes 53,24,23 --after 4,2",
+            "AfterMisfit",
+        ),
+        (
+            "share --method dhondt --seats 7 --votes 53,24,23 --after 10001,0,0",
+            "AfterMisfit",
+        ),
+        (
+            "share --method dhondt --seats 7 --votes 0,0 --after 10001,0",
+            "NoVotes",
+        ),
+    ];
+    for (words, fault) in cases {
+        let line = format!(in alloc; "committees: request: {fault}\n")?;
+        assert_words(&rt, alloc, words, THREE.as_bytes(), (4, "", line.as_str()))?;
+    }
+    Ok(())
+}
+
+#[test]
+fn names(rt: HostRuntime) -> Result<(), Fail> {
+    let alloc = rt.alloc();
+    let cases = [
+        (
+            "elect --rule av --size 3 --names",
+            0,
+            "rule av\nsize 3\nscore 8/1\n1,2,3\tRed; 2; Blue\nend\n",
+        ),
+        (
+            "share --method dhondt --seats 2 --names",
+            0,
+            "method dhondt\nseats 2\n1,0,1\tRed; Blue\nend\n",
+        ),
+        (
+            "check --property jr --committee 2,3 --names",
+            1,
+            "violated jr\nlevel 1\ncandidates 1\tRed\nvoters 5 of 10\n5: 1\tRed\n",
+        ),
+    ];
+    for (words, status, answer) in cases {
+        assert_words(&rt, alloc, words, NAMED.as_bytes(), (status, answer, ""))?;
+    }
+    Ok(())
 }

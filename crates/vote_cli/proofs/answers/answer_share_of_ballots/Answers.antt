@@ -1,8 +1,9 @@
 use Rattle.std.proofs.Common.{◌∙◌}
+use Rattle.request_words.specs.Request.{paging_of}
 use Rattle.vote_cli.proofs.RunLemmas.{writes_ballots}
 use Rattle.vote_cli.proofs.answers.answer_share_of_ballots.Goals as goal
 
 pub returns-in-Some-clause-answer : goal.returns-in-Some-clause-answer
 returns-in-Some-clause-answer g c =
-    writes_ballots c.args.method c.args.seats c.args.profile.now c.as_slice.result.now _ _ c.answer_share.result
-    c.in-Some.ensures.some.0 (c.as_slice.ensures ∙ c.in-Some.ensures.some.1) c.answer_share.ensures.answer
+    writes_ballots c.args.method c.args.seats (paging_of c.args.page.now) c.args.with_names c.args.profile.now _ c.as_slice.result.now _ _ c.answer_share.result
+    c.in-Some.ensures.some.0 c.of-names.ensures (c.as_slice.ensures ∙ c.in-Some.ensures.some.1) c.answer_share.ensures.answer

@@ -8,7 +8,7 @@ loop-i-init g c = ([], Prints-nothing _, refl)
 
 pub loop-i-preserved : goal.loop-i-preserved
 loop-i-preserved g c =
-    let split = group_text-drop c.args.violation.now c.args.profile.now.rows c.loop-i.i c.row-ballot.result c.row-ballot.ensures in (
+    let split = group_text-drop c.args.names.now c.args.violation.now c.args.profile.now.rows c.loop-i.i c.row-ballot.result c.row-ballot.ensures in (
       _,
       goes_on_after c.print_if_in_group.result _ c.in_ok-print_if_in_group.was c.loop-i.invariant.1 c.print_if_in_group.ensures,
       append_assoc c.loop-i.invariant.0 _ _ ∙ ap (λ l. c.loop-i.invariant.0 ++ l) (sym split) ∙ c.loop-i.invariant.2,
@@ -16,6 +16,6 @@ loop-i-preserved g c =
 
 pub returns-in_err-print_if_in_group : goal.returns-in_err-print_if_in_group
 returns-in_err-print_if_in_group g c =
-    let split = group_text-drop c.args.violation.now c.args.profile.now.rows c.loop-i.i c.row-ballot.result c.row-ballot.ensures in
+    let split = group_text-drop c.args.names.now c.args.violation.now c.args.profile.now.rows c.loop-i.i c.row-ballot.result c.row-ballot.ensures in
     breaks_off_after _ c.print_if_in_group.result _ c.from_residual.result c.in_err-print_if_in_group.was c.from_residual.ensures.0
     (ap (λ l. c.loop-i.invariant.0 ++ l) (sym split) ∙ c.loop-i.invariant.2) c.loop-i.invariant.1 c.print_if_in_group.ensures

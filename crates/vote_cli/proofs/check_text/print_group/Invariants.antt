@@ -7,4 +7,4 @@ use Rattle.vote_cli.proofs.check_text.print_group.Given as goal
 abbrev pub invariant-loop-i : goal.invariant-loop-i
 invariant-loop-i g l = (done : List ℕ)
     × Prints g.W.Sink.contents g.W.Device.has_failed l.initial.printer l.printer true done
-    × (done ++ group_text l.fn.violation (drop l.i l.fn.profile.rows) ≡ group_text l.fn.violation l.fn.profile.rows)
+    × (done ++ group_text l.fn.names l.fn.violation (drop l.i l.fn.profile.rows) ≡ group_text l.fn.names l.fn.violation l.fn.profile.rows)

@@ -11,7 +11,7 @@ returns-in_err-print_claim g c =
     let e = c.args.profile.now in
     Sends-cut c.new-printer.ensures.writer c.new-printer.ensures.nothing _ c.from_residual.ensures.0 (search rules)
     (breaks_off _ c.print_claim.result _ c.from_residual.result c.in_err-print_claim.was c.from_residual.ensures.0
-    (report_parts v e (voter_count e.rows) refl) c.print_claim.ensures)
+    (report_parts c.args.names.now v e (voter_count e.rows) refl) c.print_claim.ensures)
 
 pub returns-in_err-print_voters : goal.returns-in_err-print_voters
 returns-in_err-print_voters g c =
@@ -19,8 +19,8 @@ returns-in_err-print_voters g c =
     let e = c.args.profile.now in
     let claim = Prints-ok c.print_claim.result _ c.in_ok-print_claim.was c.print_claim.ensures in
     Sends-cut c.new-printer.ensures.writer c.new-printer.ensures.nothing _ c.from_residual-in_err-print_voters.ensures.0 (search rules)
-    (breaks_off_after (group_text v e.rows) c.print_voters.result _ c.from_residual-in_err-print_voters.result c.in_err-print_voters.was c.from_residual-in_err-print_voters.ensures.0
-    (sym (report_parts v e c.voters.result c.voters.ensures.value)) claim c.print_voters.ensures)
+    (breaks_off_after (group_text c.args.names.now v e.rows) c.print_voters.result _ c.from_residual-in_err-print_voters.result c.in_err-print_voters.was c.from_residual-in_err-print_voters.ensures.0
+    (sym (report_parts c.args.names.now v e c.voters.result c.voters.ensures.value)) claim c.print_voters.ensures)
 
 pub returns-in_err-print_group : goal.returns-in_err-print_group
 returns-in_err-print_group g c =
@@ -30,7 +30,7 @@ returns-in_err-print_group g c =
     let voters = goes_on_after c.print_voters.result _ c.in_ok-print_voters.was claim c.print_voters.ensures in
     Sends-cut c.new-printer.ensures.writer c.new-printer.ensures.nothing _ c.from_residual-in_err-print_group.ensures.0 (search rules)
     (breaks_off_after [] c.print_group.result _ c.from_residual-in_err-print_group.result c.in_err-print_group.was c.from_residual-in_err-print_group.ensures.0
-    (report_end v e c.voters.result c.voters.ensures.value) voters c.print_group.ensures)
+    (report_end c.args.names.now v e c.voters.result c.voters.ensures.value) voters c.print_group.ensures)
 
 pub returns : goal.returns
 returns g c =
@@ -40,4 +40,4 @@ returns g c =
     let voters = goes_on_after c.print_voters.result _ c.in_ok-print_voters.was claim c.print_voters.ensures in
     let all = goes_on_after c.print_group.result _ c.in_ok-print_group.was voters c.print_group.ensures in
     Sends-by c.new-printer.ensures.writer c.new-printer.ensures.nothing c.finish.ensures.nothing (search rules)
-    (Prints-last (sym (report_end v e c.voters.result c.voters.ensures.value) ∙ sym (append_assoc (claim_text v ++ voters_text v.voters c.voters.result) (group_text v e.rows) [])) all c.finish.ensures.printed)
+    (Prints-last (sym (report_end c.args.names.now v e c.voters.result c.voters.ensures.value) ∙ sym (append_assoc (claim_text c.args.names.now v ++ voters_text v.voters c.voters.result) (group_text c.args.names.now v e.rows) [])) all c.finish.ensures.printed)

@@ -1,16 +1,13 @@
-use Rattle.std.proofs.Common.{rules}
-use Rattle.request_words.specs.declared.request.Rule.TheVariants.{Sequential}
-use Rattle.vote_cli.specs.ElectText.{rule_lines}
-use Rattle.vote_cli.proofs.TextLemmas.{listing_parts}
+use Rattle.std.proofs.Common.{refl, rules}
 use Rattle.vote_cli.proofs.PrintingLemmas.{breaks_off, goes_on, Sends-by, Sends-cut}
 use Rattle.vote_cli.proofs.elect_text.write_sequential.Goals as goal
 
 pub returns-in_err-print_rule : goal.returns-in_err-print_rule
 returns-in_err-print_rule g c =
     Sends-cut c.new-printer.ensures.writer c.new-printer.ensures.nothing _ c.from_residual.ensures.0 (search rules)
-    (breaks_off _ c.print_rule.result _ c.from_residual.result c.in_err-print_rule.was c.from_residual.ensures.0 (listing_parts (rule_lines (Sequential c.args.rule) c.args.size) c.args.winners) c.print_rule.ensures)
+    (breaks_off _ c.print_rule.result _ c.from_residual.result c.in_err-print_rule.was c.from_residual.ensures.0 refl c.print_rule.ensures)
 
 pub returns : goal.returns
 returns g c =
     Sends-by c.new-printer.ensures.writer c.new-printer.ensures.nothing c.print_listing.ensures.nothing (search rules)
-    (goes_on c.print_rule.result _ c.in_ok-print_rule.was (listing_parts (rule_lines (Sequential c.args.rule) c.args.size) c.args.winners) c.print_rule.ensures c.print_listing.ensures.printed)
+    (goes_on c.print_rule.result _ c.in_ok-print_rule.was refl c.print_rule.ensures c.print_listing.ensures.printed)

@@ -1,13 +1,17 @@
-use Rattle.std.proofs.Common.{rules}
-use Rattle.vote_cli.proofs.InputLemmas.{all_read, none_left}
+use Rattle.std.proofs.Common.{rules, sym, ap, subst, ◌∙◌, arith, length, take}
+use Rattle.std.proofs.lemmas.List.{length-append}
+use Rattle.std.proofs.KnownBytes.{Consumes-trans}
+use Rattle.std.specs.Io.KnownBytes.{Consumes}
 use Rattle.vote_cli.proofs.input.read_to_end.Goals as goal
 
-pub returns-in-Ok-eq0-clause-bytes : goal.returns-in-Ok-eq0-clause-bytes
-returns-in-Ok-eq0-clause-bytes g c =
-    all_read _ _ _ c.loop.input.items c.read.new.buf c.in-Ok-eq0.field-0 (search rules) (search rules) c.loop.invariant.read
-    (c.in-Ok-eq0.ensures.bytes.0) (c.in-Ok-eq0.ensures.bytes.1)
-
-pub returns-in-Ok-eq0-clause-end : goal.returns-in-Ok-eq0-clause-end
-returns-in-Ok-eq0-clause-end g c =
-    none_left _ _ _ c.loop.input.items c.read.new.buf c.in-Ok-eq0.field-0 (search rules) (search rules) c.loop.invariant.read
-    (c.in-Ok-eq0.ensures.bytes.0) (c.in-Ok-eq0.ensures.bytes.1)
+pub loop-count-preserved : goal.loop-count-preserved
+loop-count-preserved g c =
+    let piece = take c.in-Ok-read.count c.read.new.buf in
+    let all = ap length c.feed_piece.ensures.fed ∙ length-append c.loop-count.lines.fed piece in
+    record {
+      read = subst (Consumes (g.R.Source.remaining c.args.reader.now) (g.R.Source.remaining c.read.new.self)) (sym c.feed_piece.ensures.fed)
+          (Consumes-trans _ _ _ c.loop-count.lines.fed piece c.loop-count.invariant.read c.in-Ok-read.ensures.bytes.0);
+      unfailed = search rules;
+      pick = search rules;
+      left = omega (arith, all, c.in-Ok-read.ensures.bound.1, c.loop-count.invariant.left, c.if-count-left.false);
+    }

@@ -1,11 +1,16 @@
-use Rattle.std.proofs.Common.{◌≡◌, ◌≤◌, length}
+use Rattle.std.proofs.Common.{◌≡◌, ◌+◌, length}
 use Rattle.std.specs.Io.KnownBytes.{Consumes}
+use Rattle.preflib_text.specs.Limits.{word_limit}
 use Rattle.vote_cli.proofs.input.read_to_end.Given as goal
 
--- the bytes so far are those that the reader gave, at least one a turn
-abbrev pub invariant-loop : goal.invariant-loop
-invariant-loop g l = record {
-  read : Consumes (g.R.Source.remaining l.initial.reader) (g.R.Source.remaining l.reader) l.input.items;
+-- the bytes that were fed are those that the reader gave, and the others that may be fed are counted
+abbrev pub invariant-loop-count : goal.invariant-loop-count
+invariant-loop-count g l = record {
+  read : Consumes (g.R.Source.remaining l.initial.reader) (g.R.Source.remaining l.reader) l.lines.fed;
   unfailed : g.R.Device.has_failed l.reader ≡ g.R.Device.has_failed l.initial.reader;
-  turns : l.counter ≤ length l.input.items;
+  pick : l.lines.pick ≡ l.fn.pick;
+  left : l.left + length l.lines.fed + 1 ≡ word_limit;
 }
+
+abbrev pub decreases-loop-count : goal.decreases-loop-count
+decreases-loop-count g l = l.left

@@ -1,15 +1,13 @@
-use Rattle.std.proofs.Common.{rules}
-use Rattle.vote_cli.specs.ShareText.{share_header}
-use Rattle.vote_cli.proofs.TextLemmas.{listing_parts}
+use Rattle.std.proofs.Common.{refl, rules}
 use Rattle.vote_cli.proofs.PrintingLemmas.{breaks_off, goes_on, Sends-by, Sends-cut}
 use Rattle.vote_cli.proofs.share_text.write_shares.Goals as goal
 
 pub returns-in_err-print_header : goal.returns-in_err-print_header
 returns-in_err-print_header g c =
     Sends-cut c.new-printer.ensures.writer c.new-printer.ensures.nothing _ c.from_residual.ensures.0 (search rules)
-    (breaks_off _ c.print_header.result _ c.from_residual.result c.in_err-print_header.was c.from_residual.ensures.0 (listing_parts (share_header c.args.method c.args.seats) c.args.shares) c.print_header.ensures)
+    (breaks_off _ c.print_header.result _ c.from_residual.result c.in_err-print_header.was c.from_residual.ensures.0 refl c.print_header.ensures)
 
 pub returns : goal.returns
 returns g c =
     Sends-by c.new-printer.ensures.writer c.new-printer.ensures.nothing c.print_listing.ensures.nothing (search rules)
-    (goes_on c.print_header.result _ c.in_ok-print_header.was (listing_parts (share_header c.args.method c.args.seats) c.args.shares) c.print_header.ensures c.print_listing.ensures.printed)
+    (goes_on c.print_header.result _ c.in_ok-print_header.was refl c.print_header.ensures c.print_listing.ensures.printed)

@@ -1,0 +1,90 @@
+-- Which lists may be starts.
+use Rattle.std.proofs.Common.{◌≡◌, ℕ, ◌+◌, ◌≤◌, ◌<◌, ◌∙◌, Bool, true, false, ◌&&◌, List, [], ◌∷◌, Option, Some, None, Result, Ok, Err, refl, sym, ap, arith, length, subst, get_or}
+use Rattle.std.specs.Prelude.{◌==◌, IsErr, IsErrAnd, IfErr, nat_le}
+use Rattle.std.specs.List.{list_all}
+use Rattle.std.proofs.lemmas.Bool.{and_from, and_left, and_right, and_parts, le-leb, lt-leb, leb-true, eq-eqb, ne_eqb, false_from_ne_true, eqb-true}
+use Rattle.std.proofs.lemmas.List.Folds.{list_all_at}
+use Rattle.ballot_base.specs.Lists.{IsIncreasing}
+use Rattle.ballot_base.specs.Limits.{most_members}
+use Rattle.seat_share.specs.Faults.{first_fault}
+use Rattle.seat_share.specs.Limits.{most_parties, most_seats}
+use Rattle.seat_share.specs.declared.method.ShareFault.{ShareFault}
+use Rattle.vote_cli.specs.Answer.{Answer, IsCommittee, request_refused, share_answer_by}
+use Rattle.vote_cli.specs.declared.status.Status.TheVariants.{Answered, RequestRefused}
+use Rattle.vote_cli.specs.Steps.RequestFaults.{request_fault_word}
+use Rattle.vote_cli.specs.Steps.Sharing.{IsShareRefusal}
+use Rattle.vote_cli.specs.declared.refusal.RequestFault.{RequestFault}
+use Rattle.vote_cli.specs.Starts.{has_seats_for, is_committee, is_increasing}
+
+-- ---- committees
+
+increasing_yes : (first last : ℕ) (list : List ℕ) → IsIncreasing first last list → is_increasing first last list ≡ true
+increasing_yes first last [] h = refl
+increasing_yes first last (n ∷ rest) h =
+    and_from (nat_le first n && nat_le n last) (is_increasing (n + 1) last rest)
+    (and_from (nat_le first n) (nat_le n last) (le-leb first n h.0) (le-leb n last h.1)) (increasing_yes (n + 1) last rest h.2)
+
+increasing_from : (first last : ℕ) (list : List ℕ) → is_increasing first last list ≡ true → IsIncreasing first last list
+increasing_from first last [] h = tt
+increasing_from first last (n ∷ rest) h =
+    let all = and_parts (nat_le first n && nat_le n last) (is_increasing (n + 1) last rest) h in
+    let here = and_parts (nat_le first n) (nat_le n last) all.0 in
+    (leb-true first n here.0, leb-true n last here.1, increasing_from (n + 1) last rest all.1)
+
+-- a committee of the right size
+pub committee_yes : (m k size : ℕ) (list committee : List ℕ) → IsCommittee m list → committee ≡ list → size ≡ length committee → size ≡ k
+    → is_committee m k list ≡ true
+committee_yes m k size list committee is same counted right =
+    and_from (is_increasing 1 m list) (length list == k) (increasing_yes 1 m list is.order)
+    (eq-eqb (length list) k (ap length (sym same) ∙ sym counted ∙ right))
+
+-- one of another size
+pub committee_of_other_size : (m k size : ℕ) (list committee : List ℕ) → committee ≡ list → size ≡ length committee → (size ≡ k → ⊥)
+    → is_committee m k list ≡ false
+committee_of_other_size m k size list committee same counted wrong =
+    and_right (is_increasing 1 m list) (length list == k) (ne_eqb (length list) k (λ e. wrong (counted ∙ ap length same ∙ e)))
+
+-- a list that is no committee of any size
+pub no_committee : (m k : ℕ) (list : List ℕ) → k ≤ most_members → (IsCommittee m list → ⊥) → is_committee m k list ≡ false
+no_committee m k list few none =
+    false_from_ne_true (is_committee m k list)
+    (λ yes.
+    let parts = and_parts (is_increasing 1 m list) (length list == k) yes in
+    let size : length list ≡ k = eqb-true (length list) k parts.1 in
+    none (record { order = increasing_from 1 m list parts.0; few = omega (arith, size, few) }))
+
+-- ---- seats
+
+-- more seats than there may be
+pub too_many_seats : (list : List ℕ) (i parties : ℕ) → i < length list → most_seats < get_or list i 0 → has_seats_for parties list ≡ false
+too_many_seats list i parties within many =
+    and_right (length list == parties) (list_all (λ seats. nat_le seats most_seats) list)
+    (list_all_at (λ seats. nat_le seats most_seats) list i 0 within (lt-leb (get_or list i 0) most_seats many))
+
+-- more parties than there may be
+pub too_many_parties : (list : List ℕ) (parties : ℕ) → parties ≤ most_parties → most_parties < length list → has_seats_for parties list ≡ false
+too_many_parties list parties few many =
+    and_left (length list == parties) (list_all (λ seats. nat_le seats most_seats) list)
+    (ne_eqb (length list) parties (λ e. omega (arith, e, few, many)))
+
+-- a list of as many numbers
+pub seats_for : (list : List ℕ) → list_all (λ seats. nat_le seats most_seats) list ≡ true → has_seats_for (length list) list ≡ true
+seats_for list all = and_from (length list == length list) (list_all (λ seats. nat_le seats most_seats) list) (eq-eqb (length list) (length list) refl) all
+
+-- ---- refusals
+
+-- a refusal that is none of the start stands with every start
+refused_anyway : (found : Option ShareFault) (word : List ℕ) → ((text : List ℕ) → share_answer_by found true text ≡ request_refused word)
+    → (starts : Bool) (text : List ℕ) → share_answer_by found starts text ≡ request_refused word
+refused_anyway (Some fault) word said starts text = said text
+refused_anyway None word said starts text = let x : Answered ≡ RequestRefused = ap (λ (a : Answer). a.status) (said []) in cc
+
+-- the same of one that is passed on
+pub refused_through : {V U : Type 0} (votes : List ℕ) (seats : ℕ) (starts : Bool) (fault : RequestFault) (r : Result V RequestFault) (q : Result U RequestFault) → r ≡ Err fault
+    → IsErr q × IsErrAnd q (λ f. f ≡ fault) → IfErr r (λ f. IsShareRefusal seats true votes (request_fault_word f))
+    → IfErr q (λ f. IsShareRefusal seats starts votes (request_fault_word f))
+refused_through votes seats starts fault r (Ok u) was passed said = tt
+refused_through votes seats starts fault r (Err f) was passed said =
+    let told : IsShareRefusal seats true votes (request_fault_word fault) = subst (λ s. IfErr s (λ f. IsShareRefusal seats true votes (request_fault_word f))) was said in
+    subst (λ g. IsShareRefusal seats starts votes (request_fault_word g)) (sym passed.1)
+    (refused_anyway (first_fault votes seats None) (request_fault_word fault) told starts)

@@ -1,0 +1,42 @@
+-- The names that stand beside the numbers of candidates and parties.
+use Rattle.std.specs.Prelude.{ℕ, zero, suc, Bool, List, [], ◌∷◌, ◌++◌, map, Option, Some, None, codes, decimal}
+use Rattle.std.specs.Prelude.{slice_get, unwrap_or, if◌then◌else◌}
+use Rattle.vote_cli.specs.Text.{numbers_text}
+
+-- the names that stand beside numbers: none where they are not wanted; else the name of each candidate from the first
+-- on, [] for one without a name
+abbrev pub Naming : Type 0
+Naming = Option (List (List ℕ))
+
+-- the names of candidates, where they are wanted
+abbrev pub naming : Bool → List (List ℕ) → Naming
+naming wanted names = if wanted then Some names else None
+
+-- a name as it is, or the number of a candidate without one
+abbrev pub name_or_number : List ℕ → ℕ → List ℕ
+name_or_number [] n = decimal n
+name_or_number (b ∷ bytes) n = b ∷ bytes
+
+-- what a candidate is called; one who stands not in the list is without a name
+abbrev pub called : List (List ℕ) → ℕ → List ℕ
+called names zero = decimal 0
+called names (suc i) = name_or_number (unwrap_or (slice_get names i) []) (suc i)
+
+-- the pieces in a row, with the separator between each two
+abbrev pub joined : List ℕ → List (List ℕ) → List ℕ
+joined separator [] = []
+joined separator (piece ∷ []) = piece
+joined separator (piece ∷ next ∷ pieces) = piece ++ separator ++ joined separator (next ∷ pieces)
+
+-- the names of candidates, with `; ` between them
+abbrev pub names_text : List (List ℕ) → List ℕ → List ℕ
+names_text names numbers = joined (codes "; ") (map (called names) numbers)
+
+-- what stands beside numbers where names are wanted: a tab and the names of these candidates
+abbrev pub beside : Naming → List ℕ → List ℕ
+beside None candidates = []
+beside (Some names) candidates = 9 ∷ names_text names candidates
+
+-- the numbers of candidates, and their names beside them
+abbrev pub candidates_text : Naming → List ℕ → List ℕ
+candidates_text names candidates = numbers_text candidates ++ beside names candidates

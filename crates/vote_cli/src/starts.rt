@@ -1,0 +1,85 @@
+//! The lists after which answers start.
+ghost use Rattle.std.specs.Prelude.{◌≡◌, ◌≤◌, ℕ, IfOk, IfErr, IfSome, None, false, true, length};
+ghost use Rattle.ballot_base.specs.Limits.{most_candidates, most_members};
+ghost use Rattle.request_words.specs.Request.{paging_of};
+ghost use Rattle.seat_share.specs.Limits.{most_parties};
+ghost use Rattle.tie_walk.specs.Winners.{IsStart};
+ghost use Rattle.vote_cli.specs.Starts.{has_seats_for, is_committee, may_start};
+
+use crate::committee::committee_of;
+use crate::refusal::RequestFault;
+use ballot_base::CandSet;
+use request_words::Page;
+use seat_share::{MOST_PARTIES, MOST_SEATS};
+use std::marker::Model;
+
+/// The committee of k of the candidates 1 to m after which winners are asked for, if there is a start. It need not win.
+/// A list that is no such committee is a misfit.
+pub(crate) fn committee_start(page: &Page, m: u8, k: u8) -> Result<Option<CandSet>, RequestFault>
+    requires candidates { m ≤ most_candidates }
+    requires size { k ≤ most_members }
+    ensures start { IfOk result (λ start. (start ≡ (paging_of page.now).after) × IsStart m k start) }
+    ensures fits { IfOk result (λ _. may_start (is_committee m k) (paging_of page.now).after ≡ true) }
+    ensures misfit { IfErr result (λ fault. (fault ≡ RequestFault.AfterMisfit)
+        × (may_start (is_committee m k) (paging_of page.now).after ≡ false)) }
+{
+    let Some(list) = &page.after else {
+        return Ok(None);
+    };
+    let Some(committee) = committee_of(list, m) else {
+        return Err(RequestFault::AfterMisfit);
+    };
+    if committee.len() != k {
+        return Err(RequestFault::AfterMisfit);
+    }
+    Ok(Some(committee))
+}
+
+/// Seats of parties, after which allocations are asked for.
+#[derive(Drop)]
+pub(crate) struct SeatsStart {
+    seats: [u16; MOST_PARTIES],
+    parties: usize,
+}
+
+impl Model for SeatsStart {
+    ghost use Rattle.std.specs.Prelude.{ℕ, ◌≤◌, List, take};
+    ghost use Rattle.seat_share.specs.Limits.{most_parties};
+
+    ghost Value = { List ℕ };
+
+    ghost view = { λ start. take start.parties start.seats };
+
+    ghost invariant = { λ start. start.parties ≤ most_parties };
+}
+
+impl SeatsStart {
+    /// The seats of each party.
+    pub(crate) fn as_slice(&self) -> &[u16]
+        ensures { result.now ≡ self.now }
+    {
+        &self.seats[..self.parties]
+    }
+}
+
+/// The seats in a list, which need not be an allocation. There are none where a number is above `MOST_SEATS`, or where
+/// there are more than `MOST_PARTIES`. It takes no memory.
+pub(crate) fn seats_start(list: &[u64]) -> Option<SeatsStart>
+    ensures some { IfSome result (λ start. (start ≡ list.now) × (has_seats_for (length list.now) list.now ≡ true)) }
+    ensures none { result ≡ None → (parties : ℕ) → parties ≤ most_parties → has_seats_for parties list.now ≡ false }
+{
+    if list.len() > MOST_PARTIES {
+        return None;
+    }
+    let mut seats = [0; MOST_PARTIES];
+    for i in 0..list.len() {
+        if list[i] > u64::from(MOST_SEATS) {
+            return None;
+        }
+        seats[i] = list[i] as u16;
+    }
+    Some(SeatsStart {
+        seats,
+        parties: list.len(),
+    })
+}
