@@ -6,6 +6,8 @@ mod growths;
 mod inputs;
 mod many_ballots;
 mod names;
+mod pages;
+mod pieces;
 mod refusals;
 mod rows;
 mod scores;

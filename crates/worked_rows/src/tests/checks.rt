@@ -255,6 +255,95 @@ fn voters_of_one_mind(rt: HostRuntime) -> Result<(), Fail> {
     Ok(())
 }
 
+/// The candidates that the bits of a number stand for, from 1 on.
+fn listed(alloc: Global, bits: u64) -> Result<String, Fail> {
+    let mut list = String::new(alloc);
+    for n in 1..=40u8 {
+        if bits.wrapping_shr(u32::from(n).wrapping_sub(1)) & 1 == 1 {
+            let comma = if list.is_empty() { "" } else { "," };
+            list.push_str(format!(in alloc; "{comma}{n}")?.as_str())?;
+        }
+    }
+    Ok(list)
+}
+
+/// How voters choose among forty candidates.
+#[derive(Clone, Copy)]
+enum Sort {
+    /// Each a quarter of them, drawn independently.
+    Independent,
+    /// All nearly the same.
+    Alike,
+    /// Each some that stand beside one another on a circle.
+    Circle,
+}
+
+/// A voter's candidates, by three numbers that were drawn.
+fn drawn(sort: Sort, a: u64, b: u64, c: u64) -> u64 {
+    match sort {
+        Sort::Independent => a & b,
+        Sort::Alike => 0xff00_ff0f ^ (a & b & c),
+        Sort::Circle => {
+            let mut bits = 0u64;
+            for step in 0..(b >> 20) % 6 + 3 {
+                let place = (a >> 20).wrapping_add(step) % 40;
+                bits |= 1u64.wrapping_shl(place as u32);
+            }
+            bits
+        }
+    }
+}
+
+/// The ballots of a thousand voters, the same each time.
+fn thousand(alloc: Global, sort: Sort) -> Result<String, Fail> {
+    let mut text = String::from_str(alloc, "# DATA TYPE: cat\n# NUMBER ALTERNATIVES: 40\n")?;
+    let mut state = 1u64;
+    for _voter in 0..1000 {
+        let mut draws = [0u64; 3];
+        for draw in &mut draws {
+            state = state
+                .wrapping_mul(6_364_136_223_846_793_005)
+                .wrapping_add(1_442_695_040_888_963_407);
+            *draw = state >> 24;
+        }
+        let [a, b, c] = draws;
+        let ballot = listed(alloc, drawn(sort, a, b, c))?;
+        text.push_str(format!(in alloc; "1: {{{ballot}}}\n")?.as_str())?;
+    }
+    Ok(text)
+}
+
+/// Committees of twenty whose value under `pav` no exchange of one member for one other candidate raises, found apart from
+/// the program. They have every property (Aziz and others, The Complexity of Extended and Proportional Justified
+/// Representation; Brill and Peters).
+static STABLE: [(Sort, &str); 3] = [
+    (
+        Sort::Independent,
+        "1,2,4,5,7,8,10,13,14,16,20,21,23,26,30,31,32,34,39,40",
+    ),
+    (
+        Sort::Alike,
+        "1,2,3,4,9,10,11,12,13,14,15,16,25,26,27,28,29,30,31,32",
+    ),
+    (
+        Sort::Circle,
+        "2,4,5,8,10,12,14,17,18,20,22,24,25,27,29,31,33,35,38,40",
+    ),
+];
+
+#[test]
+fn stable_committees(rt: HostRuntime) -> Result<(), Fail> {
+    let alloc = rt.alloc();
+    for (sort, committee) in STABLE {
+        let text = thousand(alloc, sort)?;
+        for property in PROPERTIES {
+            let words = format!(in alloc; "{property} {committee}")?;
+            assert_checks(&rt, alloc, words.as_str(), text.as_bytes(), "holds")?;
+        }
+    }
+    Ok(())
+}
+
 /// One voter for each two of the candidates 2 to 39, who approves 1 beside them: the lines of the input, or those of
 /// the report.
 fn all_beside_one(alloc: Global, open: &str, close: &str) -> Result<String, Fail> {

@@ -100,7 +100,7 @@ fn assert_growths_of_run(
 fn each_growth_of_a_run(rt: HostRuntime) -> Result<(), Fail> {
     let alloc = rt.alloc();
     let one = request(alloc, "1")?;
-    // The bytes, the names and the rows take memory.
+    // The names, the room for a line and the rows take memory.
     assert_growths_of_run(&rt, alloc, "no name", &one, THREE, answered(ANSWER), 3)?;
     for file in &FILES {
         // A name does too.

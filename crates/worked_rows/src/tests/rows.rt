@@ -61,7 +61,7 @@ fn approval_voting(rt: HostRuntime) -> Result<(), Fail> {
 fn words(rt: HostRuntime) -> Result<(), Fail> {
     let alloc = rt.alloc();
     let request = read_line(alloc, "committees elect --rule av --size 1 three.cat")??;
-    assert!(rt; matches!(request.task(), Task::Elect(_, 1)), "one seat");
+    assert!(rt; matches!(request.task(), Task::Elect(_, 1, _)), "one seat");
     assert!(rt; request.file() == Some("three.cat"));
     let fault = read_line(alloc, "committees elect --size 1")?;
     assert!(rt; matches!(&fault, Err(LineFault::Usage(_))), "no rule");

@@ -159,7 +159,7 @@ fn words_of_ways(rt: HostRuntime) -> Result<(), Fail> {
         "--category x",
         "--category 1 --category 1",
         "--setsize 1 --classes 0",
-        "--names",
+        "--names=true",
     ];
     for options in refused {
         let line = format!(in alloc; "committees elect --rule av --size 1 {options}")?;

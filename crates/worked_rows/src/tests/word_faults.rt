@@ -102,7 +102,7 @@ fn assert_list(rt: &impl Abort, alloc: Global, list: &str, numbers: &[u64]) -> R
     }
     let share = read_votes(alloc, list)??;
     match share.task() {
-        Task::Share(_, 7, Some(votes)) => assert_eq!(rt; votes.as_slice(), numbers, "{list}"),
+        Task::Share(_, 7, Some(votes), _) => assert_eq!(rt; votes.as_slice(), numbers, "{list}"),
         other => panic!(rt; "{list}: {other:?}"),
     }
     Ok(())
