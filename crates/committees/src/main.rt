@@ -10,7 +10,7 @@ use vote_cli::{LineFault, Request, Told, read_request, run};
 /// The status of words that were refused.
 const WORDS_REFUSED: u8 = 2;
 
-/// The status of want of memory.
+/// The status where memory runs out.
 const NO_MEMORY: u8 = 5;
 
 /// The status of a failed open, read or write.

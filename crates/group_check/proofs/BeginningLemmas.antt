@@ -72,7 +72,7 @@ group_of-same test other (row ∷ rows) same =
     let here : cond (test row.0) row.1 0 ≡ cond (other row.0) row.1 0 = ap (λ b. cond b row.1 0) (same row.0) in
     cc
 
--- a pair breaks a property only where the voters behind it are enough
+-- a pair breaks a property only where its supporters are enough
 pub small_pair : (property : Property) (e : Election) (committee : List ℕ) (level : ℕ) (pair : List ℕ × List ℕ)
     → is_large e committee level (sum (supporters property e committee level pair)) ≡ false → pair_breaks property e committee level pair ≡ false
 small_pair Jr e committee level pair few =
@@ -122,7 +122,7 @@ stays m committee shared within pool left level tail ballot is i behind =
     and_from (includes ballot shared) (nat_le (length approved) (length (common_members approved within) + min (length (common_members approved pool)) left)) parts.0
     (le-leb (length approved) (length (common_members approved within) + min (length (common_members approved pool)) left) (omega (arith, few, some, all, is.count)))
 
--- with nothing left to choose these are the voters behind T and U
+-- with nothing left to choose these are the supporters of T and U
 around_whole : (committee shared within pool : List ℕ) (level left : ℕ) (ballot : List ℕ) → left ≡ 0
     → is_around committee shared within pool left ballot ≡ is_behind Pjr committee level (shared, within) ballot
 around_whole committee shared within pool level left ballot none =
@@ -176,7 +176,7 @@ includes-front : (ballot front rest : List ℕ) → includes ballot (front ++ re
 includes-front ballot front rest h =
     (and_parts (includes ballot front) (includes ballot rest) (sym (list_all-append (has_member ballot) front rest) ∙ h)).0
 
--- a ballot behind T and U has fewer members than the level
+-- a ballot that supports T and U has fewer members than the level
 few_members : (property : Property) (m : ℕ) (committee : List ℕ) (level : ℕ) (pair : List ℕ × List ℕ) (ballot : List ℕ) → 1 ≤ level → IsSecond property m level pair.1 → IsIncreasing 1 m ballot
     → is_behind property committee level pair ballot ≡ true → (includes ballot pair.0 ≡ true) × (nat_lt (length (common_members ballot committee)) level ≡ true)
 few_members Jr m committee level pair ballot least second i h =

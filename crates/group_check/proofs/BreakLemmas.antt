@@ -1,4 +1,4 @@
--- Some group breaks a property exactly where all the voters behind some T and U do.
+-- Some group breaks a property exactly where all the supporters of some T and U do.
 use Rattle.std.proofs.Common.{◌≡◌, ℕ, ◌-◌, ◌*◌, ◌<◌, ◌≤◌, ◌==◌, ◌&&◌, Bool, true, false, List, [], ◌∷◌, Option, Some, None, refl, sym, ap, subst, ◌∙◌, arith, length, map, sum}
 use Rattle.std.specs.Prelude.{find, is_some, option_map, nat_le, nat_lt}
 use Rattle.std.specs.List.{list_all, list_any}
@@ -37,11 +37,11 @@ collapse_three true b true false p q r = absurd (never r)
 collapse_two : (b c d : Bool) → c ≡ true → d ≡ true → ((b && c) && d) ≡ b
 collapse_two b c d q r = collapse_three true b c d refl q r
 
--- what is known of the voters behind T and U
+-- what is known of the supporters of T and U
 behind : (property : Property) (e : Election) (committee : List ℕ) (level : ℕ) (pair : List ℕ × List ℕ) → List (List ℕ)
 behind property e committee level pair = ballots_of e.rows (supporters property e committee level pair)
 
--- all the voters behind T and U break the property where they are enough
+-- all the supporters of T and U break the property where they are enough
 pub pair_breaks-is : (property : Property) (e : Election) (committee : List ℕ) (level : ℕ) (shared within : List ℕ)
     → IsIncreasing 1 e.m committee → 1 ≤ level → level ≤ greatest_level property committee → IsFirst property e.m committee level shared → IsSecond property e.m level within
     → pair_breaks property e committee level (shared, within) ≡ is_large e committee level (sum (supporters property e committee level (shared, within)))
@@ -94,7 +94,7 @@ large_more e committee level few many more h =
     let product = mul-le few (length committee) many (length committee) more (omega arith) in
     le-leb (level * voter_count e.rows) (many * length committee) (omega (arith, least, product))
 
--- T and U behind whom a group stands that is large enough
+-- T and U that a group supports which is large enough
 enough : (property : Property) (e : Election) (committee : List ℕ) (level : ℕ) (group shared within : List ℕ)
     → IsIncreasing 1 e.m committee → 1 ≤ level → level ≤ greatest_level property committee → IsFirst property e.m committee level shared → IsSecond property e.m level within
     → IsGroup e.rows group → is_large e committee level (sum group) ≡ true → list_all (is_behind property committee level (shared, within)) (ballots_of e.rows group) ≡ true

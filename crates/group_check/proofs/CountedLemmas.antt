@@ -28,7 +28,7 @@ then_some-find : {X : Type 0} {Y : Type 0} (f : X → Y) (b : Bool) (x : X) → 
 then_some-find f true x = refl
 then_some-find f false x = refl
 
--- all voters behind T and U, counted
+-- all supporters of T and U, counted
 pub counted_is : (property : Property) (e : Election) (committee : List ℕ) (level : ℕ) (shared within : List ℕ)
     → IsIncreasing 1 e.m committee → 1 ≤ level → level ≤ greatest_level property committee → IsFirst property e.m committee level shared → IsSecond property e.m level within
     → (voters : ℕ) → voters ≡ sum (supporters property e committee level (shared, within))

@@ -1,4 +1,4 @@
--- Some group breaks a property exactly where all the voters behind some T and U do.
+-- Some group breaks a property exactly where all the supporters of some T and U do.
 use Rattle.std.proofs.Common.{◌≡◌, ℕ, zero, suc, ◌+◌, ◌<◌, ◌≤◌, ◌==◌, ◌||◌, Bool, true, false, cond, List, [], ◌∷◌, refl, sym, ap, ◌∙◌, arith, inl, inr, length, take, sum}
 use Rattle.std.specs.List.{list_all, list_any, range_with_len}
 use Rattle.std.proofs.lemmas.Bool.{and_from, and_parts, or_left, eqb-true, cases_eq}

@@ -1,4 +1,4 @@
--- Which ballots stand behind T and U.
+-- Which ballots support T and U.
 use Rattle.std.proofs.Common.{◌≡◌, ℕ, ◌&&◌, ◌⊎◌, Bool, true, List, inl, inr, sym, ap, ◌∙◌}
 use Rattle.std.specs.Prelude.{nat_lt}
 use Rattle.ballot_base.specs.CandSet.{common_members}

@@ -58,7 +58,7 @@ abbrev pub pair_breaks : Property → Election → List ℕ → ℕ → List ℕ
 pair_breaks property e committee level pair =
     breaks property e committee level (supporters property e committee level pair)
 
--- the violation that T and U show: the group of all voters behind them
+-- the violation that T and U show: the group of all their supporters
 abbrev pub violation_of : Property → Election → List ℕ → ℕ → List ℕ × List ℕ → Violation
 violation_of property e committee level pair = record {
   property = property;

@@ -16,7 +16,7 @@ use std::alloc::Allocator;
 const FEW_LISTS: u64 = 1 << 20;
 
 /// The group that shows that the committee lacks the property, if it lacks it: at the least level at which some group
-/// breaks the property, all voters behind the first candidates that show it. It takes no memory.
+/// breaks the property, all supporters of the first candidates that show it. It takes no memory.
 pub fn find_violation<A: Allocator + Copy>(
     profile: &Profile<A>,
     committee: CandSet,
@@ -190,7 +190,7 @@ fn first_beyond<A: Allocator + Copy>(
     ensures { result ≡ first_of_lists property profile.now committee level (completions shared pool left) }
 {
     if left == 0 {
-        return first_behind(profile, committee, property, level, shared);
+        return first_sharing(profile, committee, property, level, shared);
     }
     if pool.len() < left {
         return None;
@@ -210,7 +210,7 @@ fn first_beyond<A: Allocator + Copy>(
 }
 
 /// The first violation at a level with these candidates.
-fn first_behind<A: Allocator + Copy>(
+fn first_sharing<A: Allocator + Copy>(
     profile: &Profile<A>,
     committee: CandSet,
     property: Property,
@@ -274,7 +274,7 @@ fn first_within<A: Allocator + Copy>(
     first_within(profile, committee, level, shared, within, rest, left)
 }
 
-/// The violation with all voters behind these candidates, if they are enough for the level.
+/// The violation with all supporters of these candidates, if they are enough for the level.
 fn counted<A: Allocator + Copy>(
     profile: &Profile<A>,
     committee: CandSet,
@@ -298,7 +298,7 @@ fn counted<A: Allocator + Copy>(
         within,
         voters: 0,
     };
-    violation.voters = voters_behind(profile, &violation);
+    violation.voters = supporting_voters(profile, &violation);
     is_enough(profile, committee, level, violation.voters).then_some(violation)
 }
 
@@ -353,7 +353,7 @@ fn voters_around<A: Allocator + Copy>(
 }
 
 /// How many voters belong to the group of a violation.
-fn voters_behind<A: Allocator + Copy>(profile: &Profile<A>, violation: &Violation) -> u64
+fn supporting_voters<A: Allocator + Copy>(profile: &Profile<A>, violation: &Violation) -> u64
     ensures group { result ≡ sum (group_of (is_in_group violation.now) profile.now.rows) }
     ensures most { result ≤ most_voters }
 {

@@ -18,8 +18,8 @@ pub enum Property {
     /// Extended justified representation: a group of l · n/k voters with l candidates in common has a member who
     /// approves l members of the committee (Aziz, Brill, Conitzer, Elkind, Freeman and Walsh).
     Ejr,
-    /// EJR+: a group of l · n/k voters who approve a candidate outside the committee in common has a member who approves
-    /// l members of the committee (Brill and Peters).
+    /// EJR+: a group of l · n/k voters who approve a candidate outside the committee in common has a member who
+    /// approves l members of the committee (Brill and Peters).
     EjrPlus,
 }
 

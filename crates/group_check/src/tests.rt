@@ -400,8 +400,8 @@ impl Group {
 /// How many voters there are in the elections whose groups are all tried.
 const FEW_VOTERS: u64 = 5;
 
-/// The group with this number, of which a digit for each row says how many of its voters are in the group: in the base of
-/// one more than the row has.
+/// The group with this number, of which a digit for each row says how many of its voters are in the group: in the base
+/// of one more than the row has.
 fn group_of(profile: &Profile, committee: CandSet, number: u64) -> Group {
     let mut group = Group::new(committee);
     let mut rest = number;
@@ -413,8 +413,8 @@ fn group_of(profile: &Profile, committee: CandSet, number: u64) -> Group {
     group
 }
 
-/// The least level at which some group breaks the property, found by trying every group: there are 2 to the power of the
-/// voters at most.
+/// The least level at which some group breaks the property, found by trying every group: there are 2 to the power of
+/// the voters at most.
 fn least_level(profile: &Profile, committee: CandSet, property: Property) -> Option<u8> {
     for level in 1..=committee.len() {
         for number in 0..1 << FEW_VOTERS {
@@ -450,8 +450,8 @@ fn shows_itself(group: Group, violation: &Violation, all: u64) -> bool {
         )
 }
 
-/// All committees of tiny elections: a violation is found exactly where some group breaks the property, at the least level
-/// at which one does, and its ballots alone show it.
+/// All committees of tiny elections: a violation is found exactly where some group breaks the property, at the least
+/// level at which one does, and its ballots alone show it.
 #[test]
 fn all_groups(rt: HostRuntime) -> Result<(), Fail> {
     let mut violated = 0u64;

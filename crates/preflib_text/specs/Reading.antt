@@ -174,7 +174,7 @@ abbrev pub outcome_by : Election → Option ReadFault → Result Election ReadFa
 outcome_by e (Some fault) = Err fault
 outcome_by e None = Ok e
 
--- a fault of the end, or of a line; the want of a number of alternatives has no line
+-- a fault of the end, or of a line; a missing number of alternatives has no line
 abbrev pub at_end : FaultName → ReadFault
 at_end name = record { name = name; line = None }
 

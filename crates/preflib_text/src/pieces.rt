@@ -286,7 +286,7 @@ impl<A: Allocator + Copy> Model for LineReader<A> {
 }
 
 impl<A: Allocator + Copy + Drop> LineReader<A> {
-    /// A reader to which nothing was fed. The room for a line is taken here. Want of memory has no line.
+    /// A reader to which nothing was fed. The room for a line is taken here. Out of memory has no line.
     pub fn new(alloc: A, pick: Pick) -> Result<LineReader<A>, ReadFault>
         requires { HasNumber pick.way }
         ensures ok { IfOk result (λ reader. reader ≡ feeding pick [] None) }

@@ -135,7 +135,7 @@ pub(crate) fn take_line<A: Allocator + Copy + Drop>(
     }
 }
 
-/// The fault of a line. The want of a number of alternatives has no line.
+/// The fault of a line. A missing number of alternatives has no line.
 pub(crate) fn fault_of_line(number: u64, name: FaultName) -> ReadFault
     ensures { result ≡ at_line number name }
 {

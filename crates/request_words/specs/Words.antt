@@ -143,7 +143,8 @@ number_at name rows = option_map number_of (one_of name rows)
 
 -- the way in what clap found for a command: none where two or more are given
 abbrev pub way_in : List Row → Option Way
-way_in rows = way_by (number_at (codes "category") rows) (number_at (codes "setsize") rows) (number_at (codes "classes") rows)
+way_in rows =
+    way_by (number_at (codes "category") rows) (number_at (codes "setsize") rows) (number_at (codes "classes") rows)
 
 -- how the ballots are read, in this way
 abbrev pub pick_in : List Row → Way → Pick
@@ -255,7 +256,7 @@ abbrev pub IsMisused : List Text → Type 0
 IsMisused words = (takes program words ≡ false) × ((k : ErrorKind)
     × IsAmong k (fault_of program words) × (k ≢ kind.DisplayHelp) × (k ≢ kind.OutOfMemory))
 
--- the fault is clap's answer to the words, or the first that they have after clap took them, or want of memory
+-- the fault is clap's answer to the words, or the first that they have after clap took them, or out of memory
 abbrev pub IsAnswerTo : List Text → LineFault → Type 0
 IsAnswerTo words (Help text) = AsksForHelp words
 IsAnswerTo words (Usage text) = IsMisused words
@@ -296,7 +297,8 @@ IsNameOption values option a =
 
 -- the second command is the first with the arguments that all commands have, wherever the names lie
 abbrev pub AddsInput : Command → Command → Type 0
-AddsInput c r = (kinds : Names) × (texts kinds.now ≡ kind_names) × (app_of r ≡ fold with_rule (app_of c) (input_arguments kinds))
+AddsInput c r = (kinds : Names) × (texts kinds.now ≡ kind_names)
+    × (app_of r ≡ fold with_rule (app_of c) (input_arguments kinds))
     × ((fields_of r).has_globals ≡ (fields_of c).has_globals)
 
 -- the second command is the first with the arguments that tell which answers are asked for
@@ -306,7 +308,8 @@ pub record AddsPage (c r : Command) : Type 0 where
 
 -- a command of this shape, wherever the names lie: its own, and those of the types
 abbrev pub IsCommand : List Text → (Names → Names → Shape) → Command → Type 0
-IsCommand values shape c = (names : Names) × (kinds : Names) × (texts names.now ≡ values) × (texts kinds.now ≡ kind_names)
+IsCommand values shape c = (names : Names) × (kinds : Names)
+    × (texts names.now ≡ values) × (texts kinds.now ≡ kind_names)
     × (shape_of c ≡ shape names kinds) × ((fields_of c).has_globals ≡ false)
 
 -- `committees`, wherever the names lie
@@ -315,7 +318,7 @@ IsProgram c = (elect : Command) × (check : Command) × (share : Command) × IsC
     × IsCommand property_names check_over check × IsCommand method_names share_over share
     × (app_of c ≡ program_over (shape_of elect) (shape_of check) (shape_of share))
 
--- the fault stands for an error of this kind, or for want of memory
+-- the fault stands for an error of this kind, or is out of memory
 abbrev pub IsFaultOf : ErrorKind → LineFault → Type 0
 IsFaultOf k (Help text) = k ≡ kind.DisplayHelp
 IsFaultOf k (Usage text) = (k ≢ kind.DisplayHelp) × (k ≢ kind.OutOfMemory)
@@ -362,7 +365,8 @@ HasElectValues rows = HasName (codes "rule") rule_named rows × HasNumberUpTo (c
     × HasLimit rows × HasCounts rows
 
 abbrev pub HasCheckValues : List Row → Type 0
-HasCheckValues rows = HasName (codes "property") property_named rows × IsSome (first_of (codes "committee") rows) × HasCounts rows
+HasCheckValues rows = HasName (codes "property") property_named rows × IsSome (first_of (codes "committee") rows)
+    × HasCounts rows
 
 abbrev pub HasShareValues : List Row → Type 0
 HasShareValues rows = HasName (codes "method") method_named rows × HasNumberUpTo (codes "seats") most_seats rows

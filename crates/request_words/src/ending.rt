@@ -4,7 +4,7 @@ ghost use Rattle.request_words.specs.Endings.{behind_last, kind_in_path};
 
 use preflib_text::Kind;
 
-/// What stands behind the last of these bytes.
+/// What stands after the last of these bytes.
 #[tactic(auto, unfolding(crate::specs::Endings::behind_last))]
 fn behind_last(text: &[u8], byte: u8) -> Option<&[u8]>
     ensures { option_map (λ s. s.now) result ≡ behind_last byte text.now }

@@ -98,8 +98,8 @@ pub enum Task {
     Share(Method, u16, Option<Vec<u64>>, Page),
 }
 
-/// A request: its task, how the file is read, the file to read, where one is named, and whether answers have names. Each
-/// one comes from `read_request`.
+/// A request: its task, how the file is read, the file to read, where one is named, and whether answers have names.
+/// Each one comes from `read_request`.
 #[derive(Debug, Drop)]
 pub struct Request {
     task: Task,

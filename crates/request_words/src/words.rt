@@ -43,7 +43,7 @@ pub enum ListOption {
     After,
 }
 
-/// Why the words give no request. Of several faults it is the first, in this order; want of memory may come in the
+/// Why the words give no request. Of several faults it is the first, in this order; out of memory may come in the
 /// place of any.
 #[derive(Debug, Drop)]
 pub enum LineFault {
@@ -211,7 +211,7 @@ fn size_option<'a>(alloc: Global) -> Arg<'a>
         .value_name("SIZE")
         .required(true)
         .value_parser(value_parser!(u8).range(1..=i64::from(MOST_MEMBERS)))
-        .help("The number of seats, from 1 to 40")
+        .help("The number of seats to be filled")
 }
 
 fn property_option<'a>(alloc: Global) -> Arg<'a>
@@ -254,7 +254,7 @@ fn seats_option<'a>(alloc: Global) -> Arg<'a>
         .value_name("SEATS")
         .required(true)
         .value_parser(value_parser!(u16).range(1..=i64::from(MOST_SEATS)))
-        .help("The number of seats, from 1 to 10000")
+        .help("The number of seats to share out")
 }
 
 fn votes_option<'a>(alloc: Global) -> Arg<'a>

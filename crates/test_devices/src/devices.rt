@@ -11,8 +11,8 @@ use std::io::ErrorKind;
 use std::marker::Model;
 use vote_cli::{Device, Sink, Source};
 
-/// A reader over bytes. Contracts see the bytes that it has still to give, whether a call has failed, and how many calls
-/// there are up to the one that fails: 0 where none is to.
+/// A reader over bytes. Contracts see the bytes that it has still to give, whether a call has failed, and how many
+/// calls there are up to the one that fails: 0 where none is to.
 #[derive(Drop)]
 pub struct SliceReader<'a> {
     rest: &'a [u8],

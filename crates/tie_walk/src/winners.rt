@@ -202,8 +202,8 @@ fn next_place<T: Tally>(
     Prefix { c, set }.past()
 }
 
-/// Whether some committee of the set and of `left` of the candidates after c may have a value above the floor. Where there
-/// are few such committees the bound is not asked.
+/// Whether some committee of the set and of `left` of the candidates after c may have a value above the floor. Where
+/// there are few such committees the bound is not asked.
 fn may_exceed<T: Tally>(tally: &T, c: u8, set: CandSet, left: u8, floor: Option<u128>) -> bool
     requires within { c ≤ T.candidates tally.now }
     requires candidates { IsIncreasing 1 c set }

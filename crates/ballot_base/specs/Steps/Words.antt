@@ -21,9 +21,11 @@ abbrev pub word_of : List ℕ → ℕ
 word_of set = sum_by (λ n. 2 ^ (n - 1)) set
 
 -- the sum over what a filter keeps, an element at a time
-sum_by-filter-cons : (f : ℕ → ℕ) (p : ℕ → Bool) (x : ℕ) (xs : List ℕ) → sum_by f (filter p (x ∷ xs)) ≡ cond (p x) (f x) 0 + sum_by f (filter p xs)
+sum_by-filter-cons : (f : ℕ → ℕ) (p : ℕ → Bool) (x : ℕ) (xs : List ℕ)
+    → sum_by f (filter p (x ∷ xs)) ≡ cond (p x) (f x) 0 + sum_by f (filter p xs)
 sum_by-filter-cons f p x xs =
-    elim (p x) as (λ b. sum_by f (cond b (x ∷ filter p xs) (filter p xs)) ≡ cond b (f x) 0 + sum_by f (filter p xs)) [ true ↦ sum_by-cons f x (filter p xs) | false ↦ omega arith ]
+    elim (p x) as (λ b. sum_by f (cond b (x ∷ filter p xs) (filter p xs)) ≡ cond b (f x) 0 + sum_by f (filter p xs))
+    [ true ↦ sum_by-cons f x (filter p xs) | false ↦ omega arith ]
 
 bit_term : (b w : ℕ) → b < 2 → cond (b == 1) w 0 ≡ b * w
 bit_term zero w h = omega arith
@@ -34,7 +36,8 @@ joined : (q p c s : ℕ) → s ≡ (q / 2 % c) * 2 + q % 2 → (q % 2) * p + (q 
 joined q p c s e = rw e (omega arith)
 
 -- the bits from a on, as the sum of their powers
-pub word_of_members_among : (bits count a : ℕ) → word_of (members_among (a + 1) count bits) ≡ (bits / 2 ^ a % 2 ^ count) * 2 ^ a
+pub word_of_members_among : (bits count a : ℕ)
+    → word_of (members_among (a + 1) count bits) ≡ (bits / 2 ^ a % 2 ^ count) * 2 ^ a
 unfolding members_among
 word_of_members_among bits zero a =
     let e : bits / 2 ^ a % 2 ^ 0 ≡ 0 = omega (arith, mod_below (bits / 2 ^ a) 1 (omega arith)) in rw e (omega arith)
@@ -44,10 +47,12 @@ word_of_members_among bits (suc count) a =
     let halves : bits / 2 ^ (a + 1) ≡ bits / 2 ^ a / 2 = sym (shr-shr bits a 1) in
     let double : 2 ^ (a + 1) ≡ 2 ^ a * 2 = pow-add 2 a 1 in
     let split : bits / 2 ^ a % 2 ^ (suc count) ≡ (bits / 2 ^ a / 2 % 2 ^ count) * 2 + bits / 2 ^ a % 2 =
-    subst (λ k. bits / 2 ^ a % 2 ^ k ≡ (bits / 2 ^ a / 2 % 2 ^ count) * 2 + bits / 2 ^ a % 2) (add-one count) (mod-pow-add (bits / 2 ^ a) count 1) in
+    subst (λ k. bits / 2 ^ a % 2 ^ k ≡ (bits / 2 ^ a / 2 % 2 ^ count) * 2 + bits / 2 ^ a % 2) (add-one count)
+    (mod-pow-add (bits / 2 ^ a) count 1) in
     let here = bit_term (bits / 2 ^ a % 2) (2 ^ a) (mod_below (bits / 2 ^ a) 2 (omega arith)) in
     sum_by-filter-cons (λ n. 2 ^ (n - 1)) (λ n. bit_at bits (n - 1) == 1) (a + 1) (range_with_len (a + 1 + 1) count)
-    ∙ (rw (back, rest, halves, double, here) (joined (bits / 2 ^ a) (2 ^ a) (2 ^ count) (bits / 2 ^ a % 2 ^ (suc count)) split))
+    ∙ (rw (back, rest, halves, double, here)
+    (joined (bits / 2 ^ a) (2 ^ a) (2 ^ count) (bits / 2 ^ a % 2 ^ (suc count)) split))
 
 -- a word from its members
 pub word_of_members : (bits : ℕ) → bits < 2 ^ most_candidates → word_of (members bits) ≡ bits

@@ -107,7 +107,7 @@ is_around committee shared within pool left ballot =
 abbrev pub voters_around : Election → List ℕ → List ℕ → List ℕ → List ℕ → ℕ → List ℕ
 voters_around e committee shared within pool left = group_of (is_around committee shared within pool left) e.rows
 
--- whether the voters behind T and U are enough for a level of PJR
+-- whether the supporters of T and U are enough for a level of PJR
 abbrev pub is_enough_within : Election → List ℕ → ℕ → List ℕ → List ℕ → Bool
 is_enough_within e committee level shared within =
     is_large e committee level (sum (supporters Pjr e committee level (shared, within)))

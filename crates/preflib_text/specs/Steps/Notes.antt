@@ -153,7 +153,7 @@ effect_takes e NoEffect = false
 effect_takes e (Names n name) = true
 effect_takes e (Casts first set count) = not (has_ballot e.rows set)
 
--- a refusal is of this fault, or for want of memory where there is none and memory is taken
+-- a refusal is of this fault, or is out of memory where there is none and memory is taken
 abbrev pub Refuses : Option FaultName → Bool → FaultName → Type 0
 Refuses error takes name = (error ≡ Some name) ⊎ ((name ≡ Memory) × (error ≡ None) × (takes ≡ true))
 

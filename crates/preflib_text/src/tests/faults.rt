@@ -269,12 +269,12 @@ fn with_blanks(
     alloc: Global,
     before: &[u8],
     blanks: usize,
-    behind: &[u8],
+    after: &[u8],
 ) -> Result<Vec<u8>, AllocError> {
     let mut text = before.to_vec(alloc)?;
     let middle = vec![in alloc; b' '; blanks]?;
     text.extend_from_slice(&middle)?;
-    text.extend_from_slice(behind)?;
+    text.extend_from_slice(after)?;
     Ok(text)
 }
 
@@ -291,23 +291,19 @@ fn long_lines(rt: HostRuntime) -> Result<(), Fail> {
         (begun, 1_048_577, b"", 4),
         (begun, 1_048_576, b"#\r\n1: 1\n", 4),
     ];
-    for (before, blanks, behind, line) in cases {
-        let file = with_blanks(rt.alloc(), before, blanks, behind)?;
+    for (before, blanks, after, line) in cases {
+        let file = with_blanks(rt.alloc(), before, blanks, after)?;
         let fault = read_profile(rt.alloc(), &file, &TOLD).err();
         let long = ReadFault {
             name: FaultName::LongLine,
             line: Some(line),
         };
-        assert_eq!(rt;
-            fault,
-            Some(long),
-            "{before:?}, {blanks} blanks, {behind:?}"
-        );
+        assert_eq!(rt; fault, Some(long), "{before:?}, {blanks} blanks, {after:?}");
         let fault = by_pieces(rt.alloc(), &TOLD, &file, 8192).err();
         assert_eq!(rt;
             fault,
             Some(long),
-            "in pieces, {before:?}, {blanks} blanks, {behind:?}"
+            "in pieces, {before:?}, {blanks} blanks, {after:?}"
         );
     }
     Ok(())
@@ -322,13 +318,13 @@ fn longest_lines(rt: HostRuntime) -> Result<(), Fail> {
         (1_048_575, b"#\n"),
         (1_048_572, b"1: 1"),
     ];
-    for (blanks, behind) in cases {
-        let file = with_blanks(rt.alloc(), begun, blanks, behind)?;
+    for (blanks, after) in cases {
+        let file = with_blanks(rt.alloc(), begun, blanks, after)?;
         let read = read_profile(rt.alloc(), &file, &TOLD);
-        assert!(rt; read.is_ok(), "{blanks} blanks, {behind:?}");
+        assert!(rt; read.is_ok(), "{blanks} blanks, {after:?}");
         // The line lies in 130 pieces.
         let read = by_pieces(rt.alloc(), &TOLD, &file, 8067);
-        assert!(rt; read.is_ok(), "in pieces, {blanks} blanks, {behind:?}");
+        assert!(rt; read.is_ok(), "in pieces, {blanks} blanks, {after:?}");
     }
     Ok(())
 }

@@ -12,7 +12,7 @@ static PROPERTIES: [&str; 4] = ["jr", "pjr", "ejr", "ejrplus"];
 /// Two groups of voters with nothing in common.
 static PARTED: &[u8] = b"# DATA TYPE: cat\n# NUMBER ALTERNATIVES: 4\n3: {1,2}\n1: {3,4}\n";
 
-/// The property and the words behind it, from those of the committee on, and the lines of the answer.
+/// The property and the words after it, from those of the committee on, and the lines of the answer.
 static OVER_PARTED: &str = "\
 jr 3,4|violated jr;level 1;candidates 1;voters 3 of 4;3: 1,2
 pjr 3,4|violated pjr;level 1;candidates 1;within -;voters 3 of 4;3: 1,2
@@ -105,7 +105,7 @@ jr 3,4 --setsize 3|holds
 ejr 3,4 --setsize 3|holds
 ejr 3,4 --classes 4|holds";
 
-/// Asserts the answer to a property and the words behind it, from those of the committee on.
+/// Asserts the answer to a property and the words after it, from those of the committee on.
 fn assert_checks(
     rt: &impl Abort,
     alloc: Global,
@@ -146,7 +146,7 @@ fn tables(rt: HostRuntime) -> Result<(), Fail> {
     assert_table(&rt, alloc, RANKED, OVER_RANKED)
 }
 
-/// The number of alternatives and the ballots, the property and the words behind it, and the lines of the answer.
+/// The number of alternatives and the ballots, the property and the words after it, and the lines of the answer.
 static GROUPS: &str = "\
 4|2: {1,2,3}|jr 3,4|holds
 4|2: {1,2,3}|pjr 3,4|violated pjr;level 2;candidates 1,2;within 3;voters 2 of 2;2: 1,2,3
@@ -313,8 +313,8 @@ fn thousand(alloc: Global, sort: Sort) -> Result<String, Fail> {
     Ok(text)
 }
 
-/// Committees of twenty whose value under `pav` no exchange of one member for one other candidate raises, found apart from
-/// the program. They have every property (Aziz and others, The Complexity of Extended and Proportional Justified
+/// Committees of twenty whose value under `pav` no exchange of one member for one other candidate raises, found apart
+/// from the program. They have every property (Aziz and others, The Complexity of Extended and Proportional Justified
 /// Representation; Brill and Peters).
 static STABLE: [(Sort, &str); 3] = [
     (
@@ -360,7 +360,7 @@ fn all_beside_one(alloc: Global, open: &str, close: &str) -> Result<String, Fail
 /// A check of a file, and its report, which does not fit the room in which the output is put together.
 #[derive(Drop)]
 pub(super) struct LongCheck {
-    /// The words behind the program's name.
+    /// The words after the program's name.
     pub words: &'static str,
     pub file: String,
     pub report: String,

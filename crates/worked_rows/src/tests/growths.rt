@@ -197,7 +197,7 @@ fn assert_growths_of_reading(rt: &impl Abort, alloc: Global, file: File) -> Resu
         );
         assert!(rt;
             last <= line,
-            "{kind}, growth {n}: line {line} behind {last}"
+            "{kind}, growth {n}: line {line} after {last}"
         );
         last = line;
     }

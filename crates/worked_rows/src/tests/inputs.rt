@@ -4,7 +4,7 @@ use std::alloc::{AllocError, Global};
 use std::test::Fail;
 use test_devices::{Wanted, answered, refused};
 
-/// A file with these numbers in its header, and these lines behind it, from the fourth on.
+/// A file with these numbers in its header, and these lines after it, from the fourth on.
 pub(super) fn file(
     alloc: Global,
     alternatives: &str,
@@ -124,7 +124,7 @@ fn ballots(rt: HostRuntime) -> Result<(), Fail> {
             "score 2/1\n1\n",
         ),
         (
-            "metadata behind a ballot",
+            "metadata after a ballot",
             "1: 1\n# NUMBER ALTERNATIVES: x\n #DATA TYPE: x\n#\n1: 1\n",
             "score 2/1\n1\n",
         ),
@@ -272,7 +272,7 @@ fn long_lines(rt: HostRuntime) -> Result<(), Fail> {
         ("a ballot at the end", "1: 1", ",{}", ""),
         ("a number", "1:0", "000", "1\n"),
         ("metadata", "#   ", "a:b", "\n1: 1\n"),
-        ("metadata behind a ballot", "1: 1\n#   ", "a:b", "\n"),
+        ("metadata after a ballot", "1: 1\n#   ", "a:b", "\n"),
         ("a blank line", "    ", " \t ", "\n1: 1\n"),
     ];
     for (case, beginning, part, end) in cases {
@@ -295,7 +295,7 @@ fn longer_lines(rt: HostRuntime) -> Result<(), Fail> {
         ("no ballot", "abcde", "fgh", "\n", line_4),
         ("metadata", "#    ", "a:b", "\n1: 1\n", line_4),
         (
-            "metadata behind a ballot",
+            "metadata after a ballot",
             "1: 1\n#    ",
             "a:b",
             "\n",

@@ -8,19 +8,19 @@ use std::test::Fail;
 /// The case, the header, and the names of candidates 1 to 3.
 static NAMES: &str = "\
 no name|# NUMBER ALTERNATIVES: 3|||
-before and behind the number|# ALTERNATIVE NAME 3: Red;# ALTERNATIVE NAME 1: Blue;# NUMBER ALTERNATIVES: 3;# ALTERNATIVE NAME 2: Green;# ALTERNATIVE NAME 1: Navy|Navy|Green|Red
+before and after the number|# ALTERNATIVE NAME 3: Red;# ALTERNATIVE NAME 1: Blue;# NUMBER ALTERNATIVES: 3;# ALTERNATIVE NAME 2: Green;# ALTERNATIVE NAME 1: Navy|Navy|Green|Red
 of candidates that there are not|# ALTERNATIVE NAME 4: a;# ALTERNATIVE NAME 64: b;# NUMBER ALTERNATIVES: 3;# ALTERNATIVE NAME 4: c;# ALTERNATIVE NAME 0: d;# ALTERNATIVE NAME 65: e;# ALTERNATIVE NAME 257: f;# ALTERNATIVE NAME 18446744073709551617: g|||
 an empty name|# ALTERNATIVE NAME 1: Red;# ALTERNATIVE NAME 1: \t;# ALTERNATIVE NAME 2:;# NUMBER ALTERNATIVES: 3|||
 blanks and colons|# NUMBER ALTERNATIVES: 3;#alternative\tName 002 : \t a: b \t c:  ||a: b \t c:|
 returns|# NUMBER ALTERNATIVES: 3\r;# ALTERNATIVE NAME 3: a\rb\r\r|||a\rb\r
-a number behind a sign|# NUMBER ALTERNATIVES: 3;# ALTERNATIVE NAME +1: a|||
+a number after a sign|# NUMBER ALTERNATIVES: 3;# ALTERNATIVE NAME +1: a|||
 two numbers|# NUMBER ALTERNATIVES: 3;# ALTERNATIVE NAME 1 2: a|||
 no number|# NUMBER ALTERNATIVES: 3;# ALTERNATIVE NAME: a|||
 no colon|# NUMBER ALTERNATIVES: 3;# ALTERNATIVE NAME 1 a|||
 a number at the word|# NUMBER ALTERNATIVES: 3;# ALTERNATIVE NAME1: a|||
-behind a ballot|# NUMBER ALTERNATIVES: 3;# ALTERNATIVE NAME 1: a;1: 1;# ALTERNATIVE NAME 1: b;# ALTERNATIVE NAME 2: c|a||";
+after a ballot|# NUMBER ALTERNATIVES: 3;# ALTERNATIVE NAME 1: a;1: 1;# ALTERNATIVE NAME 1: b;# ALTERNATIVE NAME 2: c|a||";
 
-/// A profile of three candidates, with a ballot behind its header.
+/// A profile of three candidates, with a ballot after its header.
 fn profile_behind(alloc: Global, header: &[u8]) -> Result<Profile, Fail> {
     let request = request(alloc, "1 --kind cat")?;
     let mut text = Vec::from_slice(alloc, header)?;

@@ -1,5 +1,5 @@
-//! Answers from a start on and up to a limit, and names beside numbers, from the words to the bytes. The answers are worked
-//! by hand from those of the whole lists, which the tables of scores and of shares have.
+//! Answers from a start on and up to a limit, and names beside numbers, from the words to the bytes. The answers are
+//! worked by hand from those of the whole lists, which the tables of scores and of shares have.
 use super::support::{THREE, assert_leaves, assert_misfit, cat_file, lines, numbers_to};
 use std::alloc::Global;
 use std::process::Abort;
@@ -187,7 +187,8 @@ fn starts_amid_many_answers(rt: HostRuntime) -> Result<(), Fail> {
     )
 }
 
-/// The first of 64 tied winners, and of the 137,846,528,820 ways to give twenty seats to forty parties with one vote each.
+/// The first of 64 tied winners, and of the 137,846,528,820 ways to give twenty seats to forty parties with one vote
+/// each.
 #[test]
 fn first_answers_of_many(rt: HostRuntime) -> Result<(), Fail> {
     let alloc = rt.alloc();

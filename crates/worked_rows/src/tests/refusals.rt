@@ -4,8 +4,8 @@ use super::support::{THREE, assert_elects, assert_refuses, lines};
 use std::alloc::{AllocError, Global};
 use std::test::Fail;
 
-/// The case, the numbers of alternatives and of categories, and the line and the name of the fault. A `;` ends a line of
-/// the file.
+/// The case, the numbers of alternatives and of categories, and the line and the name of the fault. A `;` ends a line
+/// of the file.
 static NUMBERS: &str = "\
 no number of alternatives||2| line 2: BadNumber
 no alternative|0|2| line 2: BadNumber
@@ -53,15 +53,15 @@ a mark alone||\u{feff}|: NoAlternatives
 a blank line|--kind cat|;|: NoAlternatives
 the type alone||# DATA TYPE: x;|: NoAlternatives
 no ballot and no type||# NUMBER ALTERNATIVES: 3|: NoVoters
-alternatives behind a ballot|--kind cat|1: 1;# NUMBER ALTERNATIVES: 1;|: NoAlternatives
+alternatives after a ballot|--kind cat|1: 1;# NUMBER ALTERNATIVES: 1;|: NoAlternatives
 neither alternatives nor a type||;;x;|: NoAlternatives
 two marks|--kind cat|\u{feff}\u{feff}# NUMBER ALTERNATIVES: 1;1: 1;|: NoAlternatives
-a mark behind a blank|--kind cat| \u{feff}# NUMBER ALTERNATIVES: 1;1: 1;|: NoAlternatives
+a mark after a blank|--kind cat| \u{feff}# NUMBER ALTERNATIVES: 1;1: 1;|: NoAlternatives
 a line of returns|--kind cat|\r\r;# NUMBER ALTERNATIVES: 1;1: 1;|: NoAlternatives
 no type||# NUMBER ALTERNATIVES: 1;1: 1;| line 2: NoKind
 no type and no ballot's shape|--category 1|# NUMBER ALTERNATIVES: 1;x;| line 2: NoKind
 another type|--category 1|# NUMBER ALTERNATIVES: 1;# DATA TYPE: tog;x;| line 3: BadKind
-an empty type behind a good one||# NUMBER ALTERNATIVES: 1;# DATA TYPE: cat;# DATA TYPE:;1: 1;| line 4: BadKind
+an empty type after a good one||# NUMBER ALTERNATIVES: 1;# DATA TYPE: cat;# DATA TYPE:;1: 1;| line 4: BadKind
 another type, and a name that tells one|a.cat|# NUMBER ALTERNATIVES: 1;# DATA TYPE: cats;1: 1;| line 3: BadKind";
 
 #[test]

@@ -16,7 +16,7 @@ static CROSSED: &[u8] =
 /// A ballot with an empty class before its candidates.
 static EMPTY_FIRST: &[u8] = b"# DATA TYPE: toi\n# NUMBER ALTERNATIVES: 3\n5: {},2,1\n";
 
-/// The words behind `elect`, and the lines of the answer behind those of the rule and the size.
+/// The words after `elect`, and the lines of the answer after those of the rule and the size.
 static OVER_THREE: &str = "\
 --rule pav --size 2 | score 6/2 1,2 1,3 2,3 end
 --rule cc --size 2 | score 3/1 1,3 2,3 end
@@ -90,7 +90,7 @@ fn assert_table(rt: &impl Abort, alloc: Global, bytes: &[u8], table: &str) -> Re
     Ok(())
 }
 
-/// Asserts the answer to these words behind `elect`.
+/// Asserts the answer to these words after `elect`.
 fn assert_answers(
     rt: &impl Abort,
     alloc: Global,
@@ -150,7 +150,7 @@ geom4 | score 21474836480/4
 sav | score 1147385793642803610255360/5342931457063200
 minimax | distance 38";
 
-/// `4294967296: {1,..,40}` behind a header.
+/// `4294967296: {1,..,40}` after a header.
 fn all_approve_all(alloc: Global) -> Result<String, AllocError> {
     let header = "# DATA TYPE: cat\n# NUMBER ALTERNATIVES: 40\n4294967296: {1";
     let mut text = String::from_str(alloc, header)?;

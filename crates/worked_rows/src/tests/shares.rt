@@ -63,7 +63,7 @@ fn answer_of(
     format!(in alloc; "method {method}\nseats {seats}\n{allocations}\nend\n")
 }
 
-/// Asserts the allocations of seats to parties, from the words behind the seats and the bytes.
+/// Asserts the allocations of seats to parties, from the words after the seats and the bytes.
 fn assert_shares(
     rt: &impl Abort,
     alloc: Global,
@@ -104,7 +104,7 @@ fn votes_in_the_words(rt: HostRuntime) -> Result<(), Fail> {
     Ok(())
 }
 
-/// The method and the seats, the words behind them, the number of alternatives and the ballots, and the allocations.
+/// The method and the seats, the words after them, the number of alternatives and the ballots, and the allocations.
 static BALLOTS: &str = "\
 saintelague 2||2|3: {1};9: {};1: {2}|1,1;2,0
 saintelague 2||2|9:;1: 1;1: {2},1;2: 1|1,1;2,0
@@ -259,7 +259,7 @@ fn faults_of_votes(rt: HostRuntime) -> Result<(), Fail> {
     assert_misfit(&rt, alloc, words.as_str(), b"", "TooManyParties")
 }
 
-/// The words behind the seats, the number of alternatives and the ballots, and the name of the fault.
+/// The words after the seats, the number of alternatives and the ballots, and the name of the fault.
 static FAULTS_OF_BALLOTS: &str = "\
 |2|5: {}|NoVotes
 |2|2:;3: {},1|NoVotes

@@ -36,7 +36,7 @@ pub(super) fn request(alloc: Global, words: &str) -> Result<Request, Fail> {
     Ok(read_line(alloc, line.as_str())??)
 }
 
-/// Asserts what these words behind the program's name leave over these bytes.
+/// Asserts what these words after the program's name leave over these bytes.
 pub(super) fn assert_leaves(
     rt: &impl Abort,
     alloc: Global,
@@ -51,7 +51,7 @@ pub(super) fn assert_leaves(
     Ok(())
 }
 
-/// Asserts that these words behind the program's name do not fit these bytes, by a fault of this name.
+/// Asserts that these words after the program's name do not fit these bytes, by a fault of this name.
 pub(super) fn assert_misfit(
     rt: &impl Abort,
     alloc: Global,

@@ -5,7 +5,7 @@ use std::process::Abort;
 use std::test::Fail;
 use vote_cli::{LineFault, ListOption, Request, Task, read_request};
 
-/// The words behind the program's name, and the fault. Of several faults it is the first in the order of the lists, the
+/// The words after the program's name, and the fault. Of several faults it is the first in the order of the lists, the
 /// ways, and votes beside an input.
 static FAULTS: &str = "\
 check --property jr --committee 1,|BadList --committee
@@ -47,7 +47,7 @@ fn faults(rt: HostRuntime) -> Result<(), Fail> {
     Ok(())
 }
 
-/// Five words behind the program's name, read as a request. They are taken as they are, blanks and all.
+/// Five words after the program's name, read as a request. They are taken as they are, blanks and all.
 fn read_words(alloc: Global, words: [&str; 5]) -> Result<Result<Request, LineFault>, Fail> {
     let mut list = Vec::new(alloc);
     list.push(String::from_str(alloc, "committees")?)?;
@@ -71,7 +71,7 @@ fn read_votes(alloc: Global, list: &str) -> Result<Result<Request, LineFault>, F
     read_words(alloc, words)
 }
 
-/// Words that are no list of numbers, with a bar behind each.
+/// Words that are no list of numbers, with a bar after each.
 static NO_LISTS: &str =
     "|,|1,|,1|1,,2|,,| |1 | 1|1, 2|1 ,2|\t1|+1|1,+2|-1|-0|1;2|1.0|0x1|a|1a|1_0|\u{661}|1\u{a0}|18446744073709551616|1,18446744073709551616|36893488147419103233|99999999999999999999999999|";
 
@@ -93,7 +93,7 @@ fn words_that_are_no_lists(rt: HostRuntime) -> Result<(), Fail> {
     Ok(())
 }
 
-/// Asserts the numbers of a list, behind both options.
+/// Asserts the numbers of a list, after both options.
 fn assert_list(rt: &impl Abort, alloc: Global, list: &str, numbers: &[u64]) -> Result<(), Fail> {
     let check = read_committee(alloc, list)??;
     match check.task() {
@@ -144,7 +144,7 @@ fn an_empty_file_beside_votes(rt: HostRuntime) -> Result<(), Fail> {
     Ok(())
 }
 
-/// Words behind the program's name that clap refuses, whatever else is wrong with them.
+/// Words after the program's name that clap refuses, whatever else is wrong with them.
 static REFUSED: &str = "\
 check
 check --property jr

@@ -12,15 +12,15 @@ use Rattle.group_check.proofs.BeginningLemmas.{none_below, none_from_few, first_
 use Rattle.group_check.proofs.checking.+first_beyond.Goals as goal
 use Rattle.group_check.proofs.checking.+first_beyond.Goals.{then-is_enough+else-is_some, else-is_enough}
 
-pub first_behind-requires-clause-shared : goal.first_behind-requires-clause-shared
-first_behind-requires-clause-shared g t c = (
+pub first_sharing-requires-clause-shared : goal.first_sharing-requires-clause-shared
+first_sharing-requires-clause-shared g t c = (
   (IsIncreasing-front 1 c.args.profile.now.m c.args.shared c.args.pool c.requires.order, omega (arith, c.requires.size, c.if-left-eq0.true)),
   share_front (may_share c.args.property c.args.committee) c.args.shared c.args.pool c.requires.shared,
 )
 
 pub returns-then-left-eq0 : goal.returns-then-left-eq0
 returns-then-left-eq0 g t c =
-    c.first_behind.ensures ∙ first_whole c.args.property c.args.profile.now c.args.committee c.args.level c.args.shared c.args.pool c.args.left c.if-left-eq0.true
+    c.first_sharing.ensures ∙ first_whole c.args.property c.args.profile.now c.args.committee c.args.level c.args.shared c.args.pool c.args.left c.if-left-eq0.true
 
 pub returns-then-len-left : goal.returns-then-len-left
 returns-then-len-left g t c =

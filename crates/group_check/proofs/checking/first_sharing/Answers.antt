@@ -2,7 +2,7 @@ use Rattle.std.proofs.Common.{◌-◌, ap, sym, ◌∙◌}
 use Rattle.std.specs.Prelude.{find}
 use Rattle.group_check.specs.Steps.Checking.{is_enough_within, completions}
 use Rattle.group_check.proofs.BeginningLemmas.{is_pjr, first_pair, first_second, no_pair_with}
-use Rattle.group_check.proofs.checking.first_behind.Goals as goal
+use Rattle.group_check.proofs.checking.first_sharing.Goals as goal
 
 pub returns-in_err-within : goal.returns-in_err-within
 returns-in_err-within g c =
