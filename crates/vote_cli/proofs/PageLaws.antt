@@ -1,24 +1,29 @@
 -- The answers to a request with one page and with another.
-use Rattle.std.proofs.Common.{◌≡◌, ℕ, Bool, true, false, not, List, [], Option, Some, None, Result, Ok, Err, inl, inr, refl, sym, subst, length}
-use Rattle.std.specs.Prelude.{MatchResult, codes, nat_lt, if◌then◌else◌}
+use Rattle.std.proofs.Common.{◌≡◌, ◌⊎◌, ℕ, zero, suc, Bool, true, false, not, List, [], ◌∷◌, ◌++◌, Option, Some, None, Result, Ok, Err}
+use Rattle.std.proofs.Common.{◌≤◌, ◌<◌, inl, inr, refl, sym, subst, ap, ◌∙◌, length, take, drop, arith}
+use Rattle.std.proofs.Math.Dec.{leb}
+use Rattle.std.proofs.lemmas.Bool.{le-ltb, lt-ltb}
+use Rattle.std.proofs.lemmas.Bool.Decides.{leb_tells}
+use Rattle.std.proofs.lemmas.Grind.{flat_map-append}
+use Rattle.std.proofs.lemmas.List.{append_assoc, length-drop, take-append-drop}
+use Rattle.std.specs.Prelude.{MatchResult, codes, flat_map, nat_lt, if◌then◌else◌}
 use Rattle.ballot_base.specs.Ballots.{Election}
 use Rattle.ballot_base.specs.Lists.{later_than}
+use Rattle.preflib_text.specs.Reading.{Reads}
 use Rattle.preflib_text.specs.declared.fault.ReadFault.{ReadFault}
 use Rattle.preflib_text.specs.declared.pick.Pick.{Pick}
 use Rattle.preflib_text.proofs.ReadLemmas.{outcome_is_one}
 use Rattle.request_words.specs.Request.{Asked, Demand, Paging, electing, checking, sharing, whole}
-use Rattle.seat_share.specs.Allocations.{allocations}
 use Rattle.seat_share.specs.Faults.{first_fault}
 use Rattle.seat_share.specs.declared.method.Method.{Method}
 use Rattle.seat_share.specs.declared.method.ShareFault.{ShareFault}
 use Rattle.vote_cli.specs.FaultText.{fault_text}
-use Rattle.vote_cli.specs.ElectText.{elect_answers, elect_header}
-use Rattle.vote_cli.specs.Laws.{IsCut, IsPart, asked_for, is_listing, with_page}
-use Rattle.vote_cli.specs.Listing.{allocation_line, committee_line, listing_text}
+use Rattle.vote_cli.specs.Laws.{IsCut, IsListed, IsListedBy, IsPart, IsSameRefusal, Listed, asked_for, elect_listed, front, is_listing, line_for, page_of, share_listed, with_page}
+use Rattle.vote_cli.specs.Listing.{last_line, listing_text}
 use Rattle.vote_cli.specs.Names.{Naming, naming}
 use Rattle.vote_cli.specs.Parties.{has_many_approved, party_votes}
-use Rattle.vote_cli.specs.ShareText.{share_header}
-use Rattle.vote_cli.specs.Starts.{has_seats_for, is_committee, may_start}
+use Rattle.vote_cli.specs.Starts.{may_start}
+use Rattle.vote_cli.specs.Text.{line}
 use Rattle.vote_cli.specs.declared.status.Status.TheVariants.{InputRefused}
 use Rattle.vote_cli.specs.Answer.{Answer, IsAnswer, IsAnswerOver, IsAnswerTo, answered, ballots_answer, election_answer, request_refused, refused, share_answer, share_answer_by}
 
@@ -35,17 +40,17 @@ abbrev HoldsOfRefusals : (Answer → Answer → Type 0) → Type 0
 HoldsOfRefusals R = (answer : Answer) → answer.text ≡ [] → R answer answer
 
 module _ (R : Answer → Answer → Type 0) (refusals : HoldsOfRefusals R) where
-  -- answers over what the bytes hold are related where those over an election are
-  module _ (P Q : Election → Answer → Type 0) (pick : Pick) (bytes : List ℕ) (step : (e : Election) (a b : Answer) → P e a → Q e b → R a b) where
-    related_read : (read : Result Election ReadFault) (a b : Answer)
+  -- answers over what the bytes hold are related where those over the election that they hold are
+  module _ (P Q : Election → Answer → Type 0) (pick : Pick) (bytes : List ℕ) (step : (e : Election) (a b : Answer) → Reads bytes pick (Ok e) → P e a → Q e b → R a b) where
+    related_read : (read : Result Election ReadFault) (a b : Answer) → Reads bytes pick read
         → MatchResult read (λ e. P e a) (λ fault. a ≡ refused InputRefused (fault_text fault))
         → MatchResult read (λ e. Q e b) (λ fault. b ≡ refused InputRefused (fault_text fault)) → R a b
-    related_read (Ok e) a b x y = step e a b x y
-    related_read (Err fault) a b x y = subst (λ l. R l b) (sym x) (subst (R (refused InputRefused (fault_text fault))) (sym y) (refusals (refused InputRefused (fault_text fault)) refl))
+    related_read (Ok e) a b reads x y = step e a b reads x y
+    related_read (Err fault) a b reads x y = subst (λ l. R l b) (sym x) (subst (R (refused InputRefused (fault_text fault))) (sym y) (refusals (refused InputRefused (fault_text fault)) refl))
 
     related_over : (a b : Answer) → IsAnswerOver P pick bytes a → IsAnswerOver Q pick bytes b → R a b
     related_over a b x y =
-        related_read x.0 a b x.2
+        related_read x.0 a b x.1 x.2
         (subst (λ read. MatchResult read (λ e. Q e b) (λ fault. b ≡ refused InputRefused (fault_text fault))) (outcome_is_one bytes pick y.0 x.0 y.1 x.1) y.2)
 
   -- the same of two answers that are known
@@ -56,96 +61,164 @@ module _ (R : Answer → Answer → Type 0) (refusals : HoldsOfRefusals R) where
   counted true x y h = refusals (request_refused (codes "ManyApproved")) refl
   counted false x y h = h
 
+-- the same refusals, or answers related by what is listed
+abbrev pub Related : (Listed → Type 0) → (Listed → Answer → Answer → Type 0) → Answer → Answer → Type 0
+Related IsOf R a b = IsSameRefusal a b ⊎ ((listed : Listed) × IsOf listed × R listed a b)
+
+related_refusals : (IsOf : Listed → Type 0) (R : Listed → Answer → Answer → Type 0) → HoldsOfRefusals (Related IsOf R)
+related_refusals IsOf R answer none = inl (none, refl)
+
+-- the text of a page of what is listed
+abbrev text_of : Listed → Paging → List ℕ
+text_of listed page = listing_text listed.line_of listed.header page listed.answers
+
 -- ---- a limit
+abbrev unlimited : Option (List ℕ) → Paging
+unlimited after = record { after = after; limit = None }
 
-cut_refusals : (n : ℕ) → HoldsOfRefusals (IsCut n)
-cut_refusals n answer none = inl (none, refl)
+abbrev up_to : Option (List ℕ) → ℕ → Paging
+up_to after n = record { after = after; limit = Some n }
 
-module _ (n : ℕ) (line_of : List ℕ → List ℕ) (header : List ℕ) (after : Option (List ℕ)) (answers : List (List ℕ)) where
-  abbrev all_text : List ℕ
-  all_text = listing_text line_of header (record { after = after; limit = None }) answers
+abbrev CutOf : Option (List ℕ) → ℕ → Listed → Answer → Answer → Type 0
+CutOf after n listed = IsCut listed (later_than after listed.answers) n
 
-  abbrev cut_text : List ℕ
-  cut_text = listing_text line_of header (record { after = after; limit = Some n }) answers
+-- the last line tells whether answers are left out
+line_for_none : (left : List (List ℕ)) → length left ≡ 0 → line_for left ≡ line (codes "end")
+line_for_none [] none = refl
+line_for_none (x ∷ xs) none = absurd (omega (arith, none))
 
-  cut_elected : (low starts : Bool) → IsCut n (elected_by low starts all_text) (elected_by low starts cut_text)
+line_for_some : (left : List (List ℕ)) → 0 < length left → line_for left ≡ line (codes "more")
+line_for_some [] some = absurd (omega (arith, some))
+line_for_some (x ∷ xs) some = refl
+
+last_line_for : (n : ℕ) (answers : List (List ℕ)) → last_line (nat_lt n (length answers)) ≡ line_for (drop n answers)
+last_line_for n answers = by (leb_tells (length answers) n)
+  where
+    by : ((leb (length answers) n ≡ true) × (length answers ≤ n)) ⊎ ((leb (length answers) n ≡ false) × (n < length answers))
+        → last_line (nat_lt n (length answers)) ≡ line_for (drop n answers)
+    by (inl few) = ap last_line (le-ltb n (length answers) few.1) ∙ sym (line_for_none (drop n answers) (omega (arith, length-drop n answers, few.1)))
+    by (inr many) = ap last_line (lt-ltb n (length answers) many.1) ∙ sym (line_for_some (drop n answers) (omega (arith, length-drop n answers, many.1)))
+
+module _ (listed : Listed) (n : ℕ) (answers : List (List ℕ)) where
+  whole_front : listed.header ++ (flat_map listed.line_of answers ++ line (codes "end"))
+      ≡ front listed answers n ++ flat_map listed.line_of (drop n answers) ++ line (codes "end")
+  whole_front =
+      let parts : flat_map listed.line_of answers ≡ flat_map listed.line_of (take n answers) ++ flat_map listed.line_of (drop n answers) =
+      ap (flat_map listed.line_of) (sym (take-append-drop n answers)) ∙ flat_map-append listed.line_of (take n answers) (drop n answers) in
+      sym (append_assoc listed.header (flat_map listed.line_of answers) (line (codes "end")))
+      ∙ ap (λ l. l ++ line (codes "end")) (ap (λ l. listed.header ++ l) parts ∙ sym (append_assoc listed.header (flat_map listed.line_of (take n answers)) (flat_map listed.line_of (drop n answers))))
+
+  cut_front : listed.header ++ (flat_map listed.line_of (take n answers) ++ last_line (nat_lt n (length answers)))
+      ≡ front listed answers n ++ line_for (drop n answers)
+  cut_front =
+      ap (λ l. listed.header ++ (flat_map listed.line_of (take n answers) ++ l)) (last_line_for n answers)
+      ∙ sym (append_assoc listed.header (flat_map listed.line_of (take n answers)) (line_for (drop n answers)))
+
+cut_listed : (listed : Listed) (after : Option (List ℕ)) (n : ℕ)
+    → CutOf after n listed (answered (text_of listed (unlimited after))) (answered (text_of listed (up_to after n)))
+cut_listed listed after n = record {
+  all_is = ap answered (whole_front listed n (later_than after listed.answers));
+  cut_is = ap answered (cut_front listed n (later_than after listed.answers));
+}
+
+module _ (IsOf : Listed → Type 0) (listed : Listed) (is : IsOf listed) (after : Option (List ℕ)) (n : ℕ) where
+  cut_elected : (low starts : Bool)
+      → Related IsOf (CutOf after n) (elected_by low starts (text_of listed (unlimited after))) (elected_by low starts (text_of listed (up_to after n)))
   cut_elected true starts = inl (refl, refl)
   cut_elected false false = inl (refl, refl)
-  cut_elected false true = inr (line_of, header, later_than after answers, refl, refl)
+  cut_elected false true = inr (listed, is, cut_listed listed after n)
 
-  cut_shared : (found : Option ShareFault) (starts : Bool) → IsCut n (share_answer_by found starts all_text) (share_answer_by found starts cut_text)
+  cut_shared : (found : Option ShareFault) (starts : Bool)
+      → Related IsOf (CutOf after n) (share_answer_by found starts (text_of listed (unlimited after))) (share_answer_by found starts (text_of listed (up_to after n)))
   cut_shared (Some fault) starts = inl (refl, refl)
   cut_shared None false = inl (refl, refl)
-  cut_shared None true = inr (line_of, header, later_than after answers, refl, refl)
+  cut_shared None true = inr (listed, is, cut_listed listed after n)
 
-cut_votes : (n : ℕ) (method : Method) (seats : ℕ) (after : Option (List ℕ)) (names : Naming) (votes : List ℕ)
-    → IsCut n (share_answer method seats (record { after = after; limit = None }) names votes) (share_answer method seats (record { after = after; limit = Some n }) names votes)
-cut_votes n method seats after names votes =
-    cut_shared n (allocation_line names) (share_header method seats) after (allocations method votes seats) (first_fault votes seats None) (may_start (has_seats_for (length votes)) after)
+cut_votes : (IsOf : Listed → Type 0) (method : Method) (seats : ℕ) (after : Option (List ℕ)) (n : ℕ) (names : Naming) (votes : List ℕ) → IsOf (share_listed names method seats votes)
+    → Related IsOf (CutOf after n) (share_answer method seats (unlimited after) names votes) (share_answer method seats (up_to after n) names votes)
+cut_votes IsOf method seats after n names votes is =
+    cut_shared IsOf (share_listed names method seats votes) is after n (first_fault votes seats None) (may_start (share_listed names method seats votes).may_follow after)
 
 cut_to : (with_names : Bool) (demand : Demand) (pick : Pick) (bytes : List ℕ) (after : Option (List ℕ)) (n : ℕ) (all cut : Answer) → is_listing demand ≡ true
-    → IsAnswerTo with_names (with_page (record { after = after; limit = None }) demand) pick bytes all
-    → IsAnswerTo with_names (with_page (record { after = after; limit = Some n }) demand) pick bytes cut → IsCut n all cut
+    → IsAnswerTo with_names (with_page (unlimited after) demand) pick bytes all → IsAnswerTo with_names (with_page (up_to after n) demand) pick bytes cut
+    → Related (IsListedBy with_names demand pick bytes) (CutOf after n) all cut
 cut_to with_names (electing rule size page) pick bytes after n all cut lists x y =
-    related_over (IsCut n) (cut_refusals n)
-    (λ e answer. answer ≡ election_answer rule size (record { after = after; limit = None }) with_names e)
-    (λ e answer. answer ≡ election_answer rule size (record { after = after; limit = Some n }) with_names e) pick bytes
-    (λ e a b left right. related (IsCut n) (cut_refusals n) a b _ _ left right
-    (cut_elected n (committee_line (naming with_names e.names)) (elect_header rule size e) after (elect_answers rule size e) (nat_lt e.m size) (may_start (is_committee e.m size) after)))
+    let IsOf = IsListedBy with_names (electing rule size page) pick bytes in
+    let refusals = related_refusals IsOf (CutOf after n) in
+    related_over (Related IsOf (CutOf after n)) refusals
+    (λ e answer. answer ≡ election_answer rule size (unlimited after) with_names e) (λ e answer. answer ≡ election_answer rule size (up_to after n) with_names e) pick bytes
+    (λ e a b reads left right. related (Related IsOf (CutOf after n)) refusals a b _ _ left right
+    (cut_elected IsOf (elect_listed with_names rule size e) (e, reads, refl) after n (nat_lt e.m size) (may_start (elect_listed with_names rule size e).may_follow after)))
     all cut x y
 cut_to with_names (checking property list) pick bytes after n all cut lists x y = let h : false ≡ true = lists in cc
 cut_to with_names (sharing method seats None page) pick bytes after n all cut lists x y =
-    related_over (IsCut n) (cut_refusals n)
-    (λ e answer. answer ≡ ballots_answer method seats (record { after = after; limit = None }) with_names e)
-    (λ e answer. answer ≡ ballots_answer method seats (record { after = after; limit = Some n }) with_names e) pick bytes
-    (λ e a b left right. related (IsCut n) (cut_refusals n) a b _ _ left right
-    (counted (IsCut n) (cut_refusals n) (has_many_approved e) _ _ (cut_votes n method seats after (naming with_names e.names) (party_votes e))))
+    let IsOf = IsListedBy with_names (sharing method seats None page) pick bytes in
+    let refusals = related_refusals IsOf (CutOf after n) in
+    related_over (Related IsOf (CutOf after n)) refusals
+    (λ e answer. answer ≡ ballots_answer method seats (unlimited after) with_names e) (λ e answer. answer ≡ ballots_answer method seats (up_to after n) with_names e) pick bytes
+    (λ e a b reads left right. related (Related IsOf (CutOf after n)) refusals a b _ _ left right
+    (counted (Related IsOf (CutOf after n)) refusals (has_many_approved e) _ _ (cut_votes IsOf method seats after n (naming with_names e.names) (party_votes e) (e, reads, refl))))
     all cut x y
 cut_to with_names (sharing method seats (Some votes) page) pick bytes after n all cut lists x y =
-    related (IsCut n) (cut_refusals n) all cut _ _ x y (cut_votes n method seats after (naming with_names []) votes)
+    let IsOf = IsListedBy with_names (sharing method seats (Some votes) page) pick bytes in
+    related (Related IsOf (CutOf after n)) (related_refusals IsOf (CutOf after n)) all cut _ _ x y (cut_votes IsOf method seats after n (naming with_names []) votes refl)
 
 pub limited : (asked : Asked) (bytes : List ℕ) (after : Option (List ℕ)) (n : ℕ) (all cut : Answer) → is_listing asked.demand ≡ true
-    → IsAnswer (asked_for (record { after = after; limit = None }) asked) bytes all
-    → IsAnswer (asked_for (record { after = after; limit = Some n }) asked) bytes cut → IsCut n all cut
+    → IsAnswer (asked_for (unlimited after) asked) bytes all → IsAnswer (asked_for (up_to after n) asked) bytes cut
+    → IsSameRefusal all cut ⊎ ((listed : Listed) × IsListed asked bytes listed × IsCut listed (later_than after listed.answers) n all cut)
 limited asked bytes after n all cut lists x y = cut_to asked.names asked.demand asked.pick bytes after n all cut lists x y
 
 -- ---- a page
+abbrev PartOf : Paging → Listed → Answer → Answer → Type 0
+PartOf page listed = IsPart listed page
 
-part_refusals : (page : Paging) → HoldsOfRefusals (IsPart page)
-part_refusals page answer none = inl (none, refl)
+module _ (IsOf : Listed → Type 0) (listed : Listed) (is : IsOf listed) (page : Paging) where
+  abbrev started : Bool → Answer
+  started starts = if starts then answered (text_of listed page) else request_refused (codes "AfterMisfit")
 
-module _ (page : Paging) (line_of : List ℕ → List ℕ) (header : List ℕ) (answers : List (List ℕ)) where
-  part_elected : (low starts : Bool) → IsPart page (elected_by low true (listing_text line_of header whole answers)) (elected_by low starts (listing_text line_of header page answers))
-  part_elected true starts = inl (refl, refl)
-  part_elected false false = inr (inl refl)
-  part_elected false true = inr (inr (line_of, header, answers, refl, refl))
+  part_listed : (part : Answer) → part ≡ page_of listed page → Related IsOf (PartOf page) (answered (text_of listed whole)) part
+  part_listed part is_part = inr (listed, is, record { all_is = refl; part_is = is_part })
 
-  part_shared : (found : Option ShareFault) (starts : Bool) → IsPart page (share_answer_by found true (listing_text line_of header whole answers)) (share_answer_by found starts (listing_text line_of header page answers))
-  part_shared (Some fault) starts = inl (refl, refl)
-  part_shared None false = inr (inl refl)
-  part_shared None true = inr (inr (line_of, header, answers, refl, refl))
+  part_elected : (low starts : Bool) → starts ≡ may_start listed.may_follow page.after
+      → Related IsOf (PartOf page) (elected_by low true (text_of listed whole)) (elected_by low starts (text_of listed page))
+  part_elected true starts fits = inl (refl, refl)
+  part_elected false false fits = part_listed (request_refused (codes "AfterMisfit")) (ap started fits)
+  part_elected false true fits = part_listed (answered (text_of listed page)) (ap started fits)
 
-part_votes : (page : Paging) (method : Method) (seats : ℕ) (names : Naming) (votes : List ℕ)
-    → IsPart page (share_answer method seats whole names votes) (share_answer method seats page names votes)
-part_votes page method seats names votes =
-    part_shared page (allocation_line names) (share_header method seats) (allocations method votes seats) (first_fault votes seats None) (may_start (has_seats_for (length votes)) page.after)
+  part_shared : (found : Option ShareFault) (starts : Bool) → starts ≡ may_start listed.may_follow page.after
+      → Related IsOf (PartOf page) (share_answer_by found true (text_of listed whole)) (share_answer_by found starts (text_of listed page))
+  part_shared (Some fault) starts fits = inl (refl, refl)
+  part_shared None false fits = part_listed (request_refused (codes "AfterMisfit")) (ap started fits)
+  part_shared None true fits = part_listed (answered (text_of listed page)) (ap started fits)
+
+part_votes : (IsOf : Listed → Type 0) (page : Paging) (method : Method) (seats : ℕ) (names : Naming) (votes : List ℕ) → IsOf (share_listed names method seats votes)
+    → Related IsOf (PartOf page) (share_answer method seats whole names votes) (share_answer method seats page names votes)
+part_votes IsOf page method seats names votes is =
+    part_shared IsOf (share_listed names method seats votes) is page (first_fault votes seats None) (may_start (share_listed names method seats votes).may_follow page.after) refl
 
 part_to : (with_names : Bool) (demand : Demand) (pick : Pick) (bytes : List ℕ) (page : Paging) (all part : Answer) → is_listing demand ≡ true
-    → IsAnswerTo with_names (with_page whole demand) pick bytes all → IsAnswerTo with_names (with_page page demand) pick bytes part → IsPart page all part
+    → IsAnswerTo with_names (with_page whole demand) pick bytes all → IsAnswerTo with_names (with_page page demand) pick bytes part
+    → Related (IsListedBy with_names demand pick bytes) (PartOf page) all part
 part_to with_names (electing rule size old) pick bytes page all part lists x y =
-    related_over (IsPart page) (part_refusals page) (λ e answer. answer ≡ election_answer rule size whole with_names e) (λ e answer. answer ≡ election_answer rule size page with_names e) pick bytes
-    (λ e a b left right. related (IsPart page) (part_refusals page) a b _ _ left right
-    (part_elected page (committee_line (naming with_names e.names)) (elect_header rule size e) (elect_answers rule size e) (nat_lt e.m size) (may_start (is_committee e.m size) page.after)))
+    let IsOf = IsListedBy with_names (electing rule size old) pick bytes in
+    let refusals = related_refusals IsOf (PartOf page) in
+    related_over (Related IsOf (PartOf page)) refusals (λ e answer. answer ≡ election_answer rule size whole with_names e) (λ e answer. answer ≡ election_answer rule size page with_names e) pick bytes
+    (λ e a b reads left right. related (Related IsOf (PartOf page)) refusals a b _ _ left right
+    (part_elected IsOf (elect_listed with_names rule size e) (e, reads, refl) page (nat_lt e.m size) (may_start (elect_listed with_names rule size e).may_follow page.after) refl))
     all part x y
 part_to with_names (checking property list) pick bytes page all part lists x y = let h : false ≡ true = lists in cc
 part_to with_names (sharing method seats None old) pick bytes page all part lists x y =
-    related_over (IsPart page) (part_refusals page) (λ e answer. answer ≡ ballots_answer method seats whole with_names e) (λ e answer. answer ≡ ballots_answer method seats page with_names e) pick bytes
-    (λ e a b left right. related (IsPart page) (part_refusals page) a b _ _ left right
-    (counted (IsPart page) (part_refusals page) (has_many_approved e) _ _ (part_votes page method seats (naming with_names e.names) (party_votes e))))
+    let IsOf = IsListedBy with_names (sharing method seats None old) pick bytes in
+    let refusals = related_refusals IsOf (PartOf page) in
+    related_over (Related IsOf (PartOf page)) refusals (λ e answer. answer ≡ ballots_answer method seats whole with_names e) (λ e answer. answer ≡ ballots_answer method seats page with_names e) pick bytes
+    (λ e a b reads left right. related (Related IsOf (PartOf page)) refusals a b _ _ left right
+    (counted (Related IsOf (PartOf page)) refusals (has_many_approved e) _ _ (part_votes IsOf page method seats (naming with_names e.names) (party_votes e) (e, reads, refl))))
     all part x y
 part_to with_names (sharing method seats (Some votes) old) pick bytes page all part lists x y =
-    related (IsPart page) (part_refusals page) all part _ _ x y (part_votes page method seats (naming with_names []) votes)
+    let IsOf = IsListedBy with_names (sharing method seats (Some votes) old) pick bytes in
+    related (Related IsOf (PartOf page)) (related_refusals IsOf (PartOf page)) all part _ _ x y (part_votes IsOf page method seats (naming with_names []) votes refl)
 
 pub paged : (asked : Asked) (bytes : List ℕ) (page : Paging) (all part : Answer) → is_listing asked.demand ≡ true
-    → IsAnswer (asked_for whole asked) bytes all → IsAnswer (asked_for page asked) bytes part → IsPart page all part
+    → IsAnswer (asked_for whole asked) bytes all → IsAnswer (asked_for page asked) bytes part
+    → IsSameRefusal all part ⊎ ((listed : Listed) × IsListed asked bytes listed × IsPart listed page all part)
 paged asked bytes page all part lists x y = part_to asked.names asked.demand asked.pick bytes page all part lists x y

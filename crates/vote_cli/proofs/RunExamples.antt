@@ -17,8 +17,9 @@ use Rattle.vote_cli.specs.declared.refusal.Refusal.TheVariants as refusal
 use Rattle.request_words.specs.Request.{Asked, Demand, IsPage, Paging, electing, checking, sharing, whole, InRange}
 use Rattle.vote_cli.specs.Device.{is_failed_write, AppendsBeginning}
 use Rattle.vote_cli.specs.Steps.Input.{TellsOfInput}
-use Rattle.vote_cli.specs.Laws.{IsCut, IsPart, IsSameRefusal, asked_for, is_listing, with_page}
-use Rattle.vote_cli.specs.Listing.{committee_line}
+use Rattle.vote_cli.specs.Laws.{IsCut, IsListed, IsPart, IsSameRefusal, Listed, asked_for, elect_listed, front, is_listing, line_for, share_listed, with_page}
+use Rattle.vote_cli.specs.Listing.{allocation_line, committee_line}
+use Rattle.vote_cli.specs.Starts.{has_seats_for, is_committee}
 use Rattle.vote_cli.specs.Status.{code_of}
 use Rattle.vote_cli.specs.Steps.Sharing.{IsShareRefusal, IsSharedOut}
 use Rattle.ballot_base.specs.Increments.{increments}
@@ -166,17 +167,6 @@ other_pages = (refl, refl, refl, refl)
 same_refusals : IsSameRefusal (request_refused (codes "SizeTooLarge")) (request_refused (codes "SizeTooLarge"))
 same_refusals = (refl, refl)
 
-abbrev two_answers : List ℕ → Answer
-two_answers rest = answered (line (codes "size 1") ++ line (codes "1") ++ rest)
-
-a_cut : IsCut 1 (two_answers (line (codes "2") ++ line (codes "end"))) (two_answers (line (codes "more")))
-unfolding digits
-a_cut = inr (committee_line None, line (codes "size 1"), (1 ∷ []) ∷ (2 ∷ []) ∷ [], refl, refl)
-
-a_part : IsPart first_one (two_answers (line (codes "2") ++ line (codes "end"))) (two_answers (line (codes "more")))
-unfolding digits
-a_part = inr (inr (committee_line None, line (codes "size 1"), (1 ∷ []) ∷ (2 ∷ []) ∷ [], refl, refl))
-
 votes_in_words : (has_votes (sharing Dhondt 2 (Some (1 ∷ [])) whole) ≡ true) × (has_votes (sharing Dhondt 2 None whole) ≡ false)
 votes_in_words = (refl, refl)
 
@@ -218,6 +208,57 @@ right_answer = (Ok three, reads_three, refl)
 -- with votes in the words the bytes do not matter
 right_share : IsAnswer (asking (sharing Dhondt 2 (Some (0 ∷ 0 ∷ [])) whole)) example_text (request_refused (codes "NoVotes"))
 right_share = refl
+
+-- ---- what is listed
+-- one seat of three candidates, and one seat of two parties
+abbrev one_seat : Listed
+one_seat = record {
+  header = line (codes "rule av") ++ line (codes "size 1") ++ line (codes "score 2/1");
+  answers = (1 ∷ []) ∷ (2 ∷ []) ∷ [];
+  line_of = committee_line None;
+  may_follow = is_committee 3 1;
+}
+
+seat_of_parties : Listed
+seat_of_parties = record {
+  header = line (codes "method dhondt") ++ line (codes "seats 1");
+  answers = (0 ∷ 1 ∷ []) ∷ (1 ∷ 0 ∷ []) ∷ [];
+  line_of = allocation_line None;
+  may_follow = has_seats_for 2;
+}
+
+listed : (elect_listed false (Scored (Thiele Av)) 1 three ≡ one_seat) × (share_listed None Dhondt 1 (1 ∷ 1 ∷ []) ≡ seat_of_parties)
+unfolding digits lists_of increments lists_with_sum seat_of_parties
+listed = (refl, refl)
+
+listed_of_bytes : IsListed (seats 1) example_text (elect_listed false (Scored (Thiele Av)) 1 three)
+listed_of_bytes = (three, reads_three, refl)
+
+listed_of_votes : IsListed (asking (sharing Dhondt 1 (Some (1 ∷ 1 ∷ [])) whole)) [] (share_listed None Dhondt 1 (1 ∷ 1 ∷ []))
+listed_of_votes = refl
+
+a_front : (front one_seat one_seat.answers 1 ≡ one_seat.header ++ line (codes "1")) × (line_for [] ≡ line (codes "end")) × (line_for one_seat.answers ≡ line (codes "more"))
+unfolding digits
+a_front = (refl, refl, refl)
+
+abbrev two_answers : List ℕ → Answer
+two_answers rest = answered (one_seat.header ++ line (codes "1") ++ rest)
+
+a_cut : IsCut one_seat one_seat.answers 1 (two_answers (line (codes "2") ++ line (codes "end"))) (two_answers (line (codes "more")))
+unfolding digits
+a_cut = record { all_is = refl; cut_is = refl }
+
+-- after 1 comes 2, and after no committee nothing
+abbrev after_one : Paging
+after_one = record { after = Some (1 ∷ []); limit = None }
+
+a_part : IsPart one_seat after_one (two_answers (line (codes "2") ++ line (codes "end"))) (answered (one_seat.header ++ line (codes "2") ++ line (codes "end")))
+unfolding digits
+a_part = record { all_is = refl; part_is = refl }
+
+no_part : IsPart one_seat (record { after = Some (1 ∷ 2 ∷ []); limit = None }) (two_answers (line (codes "2") ++ line (codes "end"))) (request_refused (codes "AfterMisfit"))
+unfolding digits
+no_part = record { all_is = refl; part_is = refl }
 
 lines : (memory_line ≡ codes "committees: memory" ++ 10 ∷ []) × (read_failed_line ≡ codes "committees: read failed" ++ 10 ∷ [])
     × (write_failed_line ≡ codes "committees: write failed" ++ 10 ∷ [])

@@ -126,7 +126,7 @@ pub record Reports (old new : Option (List ℕ)) (has_failed : Bool) (error : Li
   pub beginning : AppendsBeginning old new error
   pub whole : has_failed ≡ false → Appends old new error
 
--- the lines of want of memory and of failed devices
+-- the lines for out of memory and for failed devices
 abbrev pub memory_line : List ℕ
 memory_line = line (codes "committees: memory")
 

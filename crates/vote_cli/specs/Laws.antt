@@ -1,8 +1,22 @@
 -- What a start and a limit change in the answer to a request.
-use Rattle.std.specs.Prelude.{◌≡◌, ◌⊎◌, ◌++◌, ℕ, Bool, true, false, List, [], None, Some, codes}
+use Rattle.std.specs.Prelude.{◌≡◌, ◌⊎◌, ◌++◌, ℕ, Bool, true, false, List, [], ◌∷◌, None, Some, Option, Result, Ok}
+use Rattle.std.specs.Prelude.{codes, drop, flat_map, length, take, if◌then◌else◌}
+use Rattle.ballot_base.specs.Ballots.{Election}
+use Rattle.ballot_base.specs.Lists.{later_than}
+use Rattle.preflib_text.specs.Reading.{Reads}
+use Rattle.preflib_text.specs.declared.pick.Pick.{Pick}
 use Rattle.request_words.specs.Request.{Asked, Demand, Paging, electing, checking, sharing, whole}
+use Rattle.request_words.specs.declared.request.Rule.{Rule}
+use Rattle.seat_share.specs.Allocations.{allocations}
+use Rattle.seat_share.specs.declared.method.Method.{Method}
 use Rattle.vote_cli.specs.Answer.{Answer, answered, request_refused}
-use Rattle.vote_cli.specs.Listing.{answers_text, listing_text}
+use Rattle.vote_cli.specs.ElectText.{elect_answers, elect_header}
+use Rattle.vote_cli.specs.Listing.{allocation_line, committee_line, listing_text}
+use Rattle.vote_cli.specs.Names.{Naming, naming}
+use Rattle.vote_cli.specs.Parties.{party_votes}
+use Rattle.vote_cli.specs.ShareText.{share_header}
+use Rattle.vote_cli.specs.Starts.{has_seats_for, is_committee, may_start}
+use Rattle.vote_cli.specs.Text.{line}
 
 -- whether the answer to a demand is a list of answers
 abbrev pub is_listing : Demand → Bool
@@ -20,22 +34,75 @@ with_page page (sharing method seats votes old) = sharing method seats votes pag
 abbrev pub asked_for : Paging → Asked → Asked
 asked_for page asked = record asked { demand = with_page page asked.demand }
 
+-- what answers are listed of: the lines before them, all answers, the line of each, and the lists after which they may
+-- start
+pub record Listed : Type 0 where
+  pub header : List ℕ
+  pub answers : List (List ℕ)
+  pub line_of : List ℕ → List ℕ
+  pub may_follow : List ℕ → Bool
+
+-- the winners of an election
+abbrev pub elect_listed : Bool → Rule → ℕ → Election → Listed
+elect_listed with_names rule size election = record {
+  header = elect_header rule size election;
+  answers = elect_answers rule size election;
+  line_of = committee_line (naming with_names election.names);
+  may_follow = is_committee election.m size;
+}
+
+-- the fair allocations of seats to parties with these votes
+abbrev pub share_listed : Naming → Method → ℕ → List ℕ → Listed
+share_listed names method seats votes = record {
+  header = share_header method seats;
+  answers = allocations method votes seats;
+  line_of = allocation_line names;
+  may_follow = has_seats_for (length votes);
+}
+
+-- what is listed of the election that the bytes hold
+abbrev pub IsListedOver : (Election → Listed) → Pick → List ℕ → Listed → Type 0
+IsListedOver listed_of pick bytes listed =
+    (election : Election) × Reads bytes pick (Ok election) × (listed ≡ listed_of election)
+
+-- what is listed by a demand, with names or not; a check lists nothing
+abbrev pub IsListedBy : Bool → Demand → Pick → List ℕ → Listed → Type 0
+IsListedBy with_names (electing rule size page) = IsListedOver (elect_listed with_names rule size)
+IsListedBy with_names (checking property list) = λ pick bytes listed. ⊥
+IsListedBy with_names (sharing method seats None page) = IsListedOver (λ election.
+    share_listed (naming with_names election.names) method seats (party_votes election))
+IsListedBy with_names (sharing method seats (Some votes) page) =
+    λ pick bytes listed. listed ≡ share_listed (naming with_names []) method seats votes
+
+-- what is listed by a request over the bytes of an input
+abbrev pub IsListed : Asked → List ℕ → Listed → Type 0
+IsListed asked bytes = IsListedBy asked.names asked.demand asked.pick bytes
+
 -- two refusals that are the same
 abbrev pub IsSameRefusal : Answer → Answer → Type 0
 IsSameRefusal answer other = (answer.text ≡ []) × (other ≡ answer)
 
--- The second answer is the first one with its answers cut after the first n of them: they have the same lines before
--- their answers, and what is left of the second is told by its last line.
-abbrev pub IsCut : ℕ → Answer → Answer → Type 0
-IsCut n all cut = IsSameRefusal all cut
-    ⊎ ((line_of : List ℕ → List ℕ) × (header : List ℕ) × (answers : List (List ℕ))
-    × (all ≡ answered (header ++ answers_text line_of None answers))
-    × (cut ≡ answered (header ++ answers_text line_of (Some n) answers)))
+-- the last line, by the answers that are left out
+abbrev pub line_for : List (List ℕ) → List ℕ
+line_for [] = line (codes "end")
+line_for (answer ∷ rest) = line (codes "more")
 
--- The second answer lists those of the first one's answers that the page asks for, after the same lines; or its start
--- does not fit.
-abbrev pub IsPart : Paging → Answer → Answer → Type 0
-IsPart page all part = IsSameRefusal all part ⊎ (part ≡ request_refused (codes "AfterMisfit"))
-    ⊎ ((line_of : List ℕ → List ℕ) × (header : List ℕ) × (answers : List (List ℕ))
-    × (all ≡ answered (listing_text line_of header whole answers))
-    × (part ≡ answered (listing_text line_of header page answers)))
+-- the lines up to the n-th of these answers
+abbrev pub front : Listed → List (List ℕ) → ℕ → List ℕ
+front listed answers n = listed.header ++ flat_map listed.line_of (take n answers)
+
+-- the first answer has these answers, all of them, and the second is cut off after the n-th
+pub record IsCut (listed : Listed) (answers : List (List ℕ)) (n : ℕ) (all cut : Answer) : Type 0 where
+  pub all_is : all ≡ answered (front listed answers n ++ flat_map listed.line_of (drop n answers) ++ line (codes "end"))
+  pub cut_is : cut ≡ answered (front listed answers n ++ line_for (drop n answers))
+
+-- the answer with a page of what is listed, where the start fits
+abbrev pub page_of : Listed → Paging → Answer
+page_of listed page = if may_start listed.may_follow page.after
+    then answered (listing_text listed.line_of listed.header page listed.answers)
+    else request_refused (codes "AfterMisfit")
+
+-- the first answer has all that is listed, and the second a page of it
+pub record IsPart (listed : Listed) (page : Paging) (all part : Answer) : Type 0 where
+  pub all_is : all ≡ page_of listed whole
+  pub part_is : part ≡ page_of listed page

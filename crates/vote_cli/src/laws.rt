@@ -1,8 +1,9 @@
 //! Laws of the answers. Each function does nothing, and its contract is the law.
-ghost use Rattle.std.specs.Prelude.{◌≡◌, ℕ, List, None, Option, Some, true};
+ghost use Rattle.std.specs.Prelude.{◌≡◌, ◌⊎◌, ℕ, List, None, Option, Some, true};
+ghost use Rattle.ballot_base.specs.Lists.{later_than};
 ghost use Rattle.request_words.specs.Request.{Asked, Paging, whole};
 ghost use Rattle.vote_cli.specs.Answer.{Answer, IsAnswer};
-ghost use Rattle.vote_cli.specs.Laws.{IsCut, IsPart, asked_for, is_listing};
+ghost use Rattle.vote_cli.specs.Laws.{IsCut, IsListed, IsPart, IsSameRefusal, Listed, asked_for, is_listing};
 
 /// A request has at most one answer over an input.
 pub fn one_answer()
@@ -15,18 +16,21 @@ pub fn some_answer()
     ensures { (asked : Asked) (bytes : List ℕ) → (answer : Answer) × IsAnswer asked bytes answer }
 {}
 
-/// A limit cuts the answer off after so many lines of answers, and changes nothing before them: `more` stands in the
-/// place of what was cut off, and `end` where nothing was.
+/// A limit cuts the answer off after so many of its answers, and changes nothing before: `more` stands in the place of
+/// what was cut off, and `end` where nothing was. A refusal stays as it is.
 pub fn limited()
     ensures { (asked : Asked) (bytes : List ℕ) (after : Option (List ℕ)) (n : ℕ) (all cut : Answer)
         → is_listing asked.demand ≡ true
         → IsAnswer (asked_for (record { after = after; limit = None }) asked) bytes all
-        → IsAnswer (asked_for (record { after = after; limit = Some n }) asked) bytes cut → IsCut n all cut }
+        → IsAnswer (asked_for (record { after = after; limit = Some n }) asked) bytes cut
+        → IsSameRefusal all cut ⊎ ((listed : Listed) × IsListed asked bytes listed
+        × IsCut listed (later_than after listed.answers) n all cut) }
 {}
 
-/// A start that fits leaves out the answers up to it, and changes nothing before them: the score is that of all.
+/// A start that fits leaves out the answers up to it, and changes nothing before: the score is that of all. One that
+/// does not fit is refused, and no other is.
 pub fn paged()
     ensures { (asked : Asked) (bytes : List ℕ) (page : Paging) (all part : Answer) → is_listing asked.demand ≡ true
         → IsAnswer (asked_for whole asked) bytes all → IsAnswer (asked_for page asked) bytes part
-        → IsPart page all part }
+        → IsSameRefusal all part ⊎ ((listed : Listed) × IsListed asked bytes listed × IsPart listed page all part) }
 {}

@@ -1,4 +1,4 @@
-//! The library behind the program `committees`: requests, input, answers and statuses.
+//! The library of the program `committees`: requests, input, answers and statuses.
 #![tactic(auto)]
 
 mod answers;
