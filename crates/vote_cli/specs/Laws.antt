@@ -1,8 +1,7 @@
 -- What a start and a limit change in the answer to a request.
-use Rattle.std.specs.Prelude.{◌≡◌, ◌⊎◌, ◌++◌, ℕ, Bool, true, false, List, [], ◌∷◌, None, Some, Option, Result, Ok}
+use Rattle.std.specs.Prelude.{◌≡◌, ◌++◌, ℕ, Bool, true, false, List, [], ◌∷◌, None, Some, Ok}
 use Rattle.std.specs.Prelude.{codes, drop, flat_map, length, take, if◌then◌else◌}
 use Rattle.ballot_base.specs.Ballots.{Election}
-use Rattle.ballot_base.specs.Lists.{later_than}
 use Rattle.preflib_text.specs.Reading.{Reads}
 use Rattle.preflib_text.specs.declared.pick.Pick.{Pick}
 use Rattle.request_words.specs.Request.{Asked, Demand, Paging, electing, checking, sharing, whole}
