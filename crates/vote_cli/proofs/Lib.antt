@@ -5,6 +5,7 @@ pub mod PageLaws
 pub mod PartyLemmas
 pub mod PrintingLemmas
 pub mod ReportLemmas
+pub mod RestLaws
 pub mod RunExamples
 pub mod RunLemmas
 pub mod StartLemmas

@@ -28,11 +28,11 @@ use Rattle.vote_cli.specs.declared.status.Status.TheVariants.{InputRefused}
 use Rattle.vote_cli.specs.Answer.{Answer, IsAnswer, IsAnswerOver, IsAnswerTo, answered, ballots_answer, election_answer, request_refused, refused, share_answer, share_answer_by}
 
 -- an election whose text is this one, by whether the size is too large, and whether the start fits
-abbrev elected_by : Bool → Bool → List ℕ → Answer
+abbrev pub elected_by : Bool → Bool → List ℕ → Answer
 elected_by low starts text = if low then request_refused (codes "SizeTooLarge") else if not starts then request_refused (codes "AfterMisfit") else answered text
 
 -- the votes of ballots, by whether some ballot approves many
-abbrev counted_by : Bool → Answer → Answer
+abbrev pub counted_by : Bool → Answer → Answer
 counted_by many answer = if many then request_refused (codes "ManyApproved") else answer
 
 -- a relation of two answers that holds of the same refusals
@@ -69,7 +69,7 @@ related_refusals : (IsOf : Listed → Type 0) (R : Listed → Answer → Answer 
 related_refusals IsOf R answer none = inl (none, refl)
 
 -- the text of a page of what is listed
-abbrev text_of : Listed → Paging → List ℕ
+abbrev pub text_of : Listed → Paging → List ℕ
 text_of listed page = listing_text listed.line_of listed.header page listed.answers
 
 -- ---- a limit

@@ -17,7 +17,7 @@ use Rattle.vote_cli.specs.declared.refusal.Refusal.TheVariants as refusal
 use Rattle.request_words.specs.Request.{Asked, Demand, IsPage, Paging, electing, checking, sharing, whole, InRange}
 use Rattle.vote_cli.specs.Device.{is_failed_write, AppendsBeginning}
 use Rattle.vote_cli.specs.Steps.Input.{TellsOfInput}
-use Rattle.vote_cli.specs.Laws.{IsCut, IsListed, IsPart, IsSameRefusal, Listed, asked_for, elect_listed, front, is_listing, line_for, share_listed, with_page}
+use Rattle.vote_cli.specs.Laws.{IsCut, IsListed, IsPart, IsRest, IsSameRefusal, Listed, asked_for, elect_listed, front, is_listing, later_of, line_for, page_from, share_listed, text_after, with_page}
 use Rattle.vote_cli.specs.Listing.{allocation_line, committee_line}
 use Rattle.vote_cli.specs.Starts.{has_seats_for, is_committee}
 use Rattle.vote_cli.specs.Status.{code_of}
@@ -259,6 +259,18 @@ a_part = record { all_is = refl; part_is = refl }
 no_part : IsPart one_seat (record { after = Some (1 ∷ 2 ∷ []); limit = None }) (two_answers (line (codes "2") ++ line (codes "end"))) (request_refused (codes "AfterMisfit"))
 unfolding digits
 no_part = record { all_is = refl; part_is = refl }
+
+-- what follows the first answer
+rest_pages : (page_from (record { after = None; limit = Some 3 }) 1 (1 ∷ []) ≡ record { after = Some (1 ∷ []); limit = Some 2 }) × (page_from whole 1 (1 ∷ []) ≡ after_one)
+rest_pages = (refl, refl)
+
+rest_parts : (later_of one_seat after_one ≡ (2 ∷ []) ∷ []) × (text_after one_seat whole 1 ≡ line (codes "2") ++ line (codes "end")) × (text_after one_seat first_one 0 ≡ line (codes "1") ++ line (codes "more"))
+unfolding digits
+rest_parts = (refl, refl, refl)
+
+a_rest : IsRest one_seat whole 1 (two_answers (line (codes "2") ++ line (codes "end"))) (answered (one_seat.header ++ line (codes "2") ++ line (codes "end")))
+unfolding digits
+a_rest = record { all_is = refl; rest_is = refl }
 
 lines : (memory_line ≡ codes "committees: memory" ++ 10 ∷ []) × (read_failed_line ≡ codes "committees: read failed" ++ 10 ∷ [])
     × (write_failed_line ≡ codes "committees: write failed" ++ 10 ∷ [])

@@ -18,7 +18,7 @@ use Rattle.vote_cli.specs.Starts.{has_seats_for, is_committee, is_increasing}
 
 -- ---- committees
 
-increasing_yes : (first last : ℕ) (list : List ℕ) → IsIncreasing first last list → is_increasing first last list ≡ true
+pub increasing_yes : (first last : ℕ) (list : List ℕ) → IsIncreasing first last list → is_increasing first last list ≡ true
 increasing_yes first last [] h = refl
 increasing_yes first last (n ∷ rest) h =
     and_from (nat_le first n && nat_le n last) (is_increasing (n + 1) last rest)

@@ -1,7 +1,8 @@
 -- What a start and a limit change in the answer to a request.
 use Rattle.std.specs.Prelude.{◌≡◌, ◌++◌, ℕ, Bool, true, false, List, [], ◌∷◌, None, Some, Ok}
-use Rattle.std.specs.Prelude.{codes, drop, flat_map, length, take, if◌then◌else◌}
+use Rattle.std.specs.Prelude.{◌-◌, codes, drop, flat_map, length, option_map, take, if◌then◌else◌}
 use Rattle.ballot_base.specs.Ballots.{Election}
+use Rattle.ballot_base.specs.Lists.{later_than}
 use Rattle.preflib_text.specs.Reading.{Reads}
 use Rattle.preflib_text.specs.declared.pick.Pick.{Pick}
 use Rattle.request_words.specs.Request.{Asked, Demand, Paging, electing, checking, sharing, whole}
@@ -10,7 +11,7 @@ use Rattle.seat_share.specs.Allocations.{allocations}
 use Rattle.seat_share.specs.declared.method.Method.{Method}
 use Rattle.vote_cli.specs.Answer.{Answer, answered, request_refused}
 use Rattle.vote_cli.specs.ElectText.{elect_answers, elect_header}
-use Rattle.vote_cli.specs.Listing.{allocation_line, committee_line, listing_text}
+use Rattle.vote_cli.specs.Listing.{allocation_line, committee_line, has_more, last_line, listing_text, within_limit}
 use Rattle.vote_cli.specs.Names.{Naming, naming}
 use Rattle.vote_cli.specs.Parties.{party_votes}
 use Rattle.vote_cli.specs.ShareText.{share_header}
@@ -105,3 +106,23 @@ page_of listed page = if may_start listed.may_follow page.after
 pub record IsPart (listed : Listed) (page : Paging) (all part : Answer) : Type 0 where
   pub all_is : all ≡ page_of listed whole
   pub part_is : part ≡ page_of listed page
+
+-- ---- an answer that was cut off
+
+-- the answers of a page without its limit
+abbrev pub later_of : Listed → Paging → List (List ℕ)
+later_of listed page = later_than page.after listed.answers
+
+-- the page that goes on after the j-th answer of another, which is this one
+abbrev pub page_from : Paging → ℕ → List ℕ → Paging
+page_from page j last = record { after = Some last; limit = option_map (λ n. n - j) page.limit }
+
+-- what a page has after its j-th answer
+abbrev pub text_after : Listed → Paging → ℕ → List ℕ
+text_after listed page j = flat_map listed.line_of (drop j (within_limit page.limit (later_of listed page)))
+    ++ last_line (has_more page.limit (later_of listed page))
+
+-- the second answer has the lines before the answers of the first, and then what comes after its j-th answer
+pub record IsRest (listed : Listed) (page : Paging) (j : ℕ) (all rest : Answer) : Type 0 where
+  pub all_is : all ≡ answered (front listed (later_of listed page) j ++ text_after listed page j)
+  pub rest_is : rest ≡ answered (listed.header ++ text_after listed page j)

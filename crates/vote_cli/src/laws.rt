@@ -1,9 +1,12 @@
 //! Laws of the answers. Each function does nothing, and its contract is the law.
-ghost use Rattle.std.specs.Prelude.{◌≡◌, ◌⊎◌, ℕ, List, None, Option, Some, true};
+ghost use Rattle.std.specs.Prelude.{◌≡◌, ◌⊎◌, ℕ, ◌-◌, ◌<◌, ◌≤◌, List, None, Option, Some, IfSome, slice_get, true};
 ghost use Rattle.ballot_base.specs.Lists.{later_than};
-ghost use Rattle.request_words.specs.Request.{Asked, Paging, whole};
+ghost use Rattle.request_words.specs.Request.{Asked, InRange, Paging, whole};
 ghost use Rattle.vote_cli.specs.Answer.{Answer, IsAnswer};
-ghost use Rattle.vote_cli.specs.Laws.{IsCut, IsListed, IsPart, IsSameRefusal, Listed, asked_for, is_listing};
+ghost use Rattle.vote_cli.specs.Laws.{IsCut, IsListed, IsPart, IsRest, IsSameRefusal, Listed, asked_for, is_listing};
+ghost use Rattle.vote_cli.specs.Laws.{later_of, page_from};
+
+use crate::status::Status;
 
 /// A request has at most one answer over an input.
 pub fn one_answer()
@@ -33,4 +36,15 @@ pub fn paged()
     ensures { (asked : Asked) (bytes : List ℕ) (page : Paging) (all part : Answer) → is_listing asked.demand ≡ true
         → IsAnswer (asked_for whole asked) bytes all → IsAnswer (asked_for page asked) bytes part
         → IsSameRefusal all part ⊎ ((listed : Listed) × IsListed asked bytes listed × IsPart listed page all part) }
+{}
+
+/// What follows the j-th answer is fetched by the same request with that answer as its start, and with j taken from its
+/// limit: it has the same lines before its answers, the answers that were left, and the same last line. So an answer
+/// whose output was cut off after the line of its j-th answer is made whole by a second run.
+pub fn rest()
+    ensures { (asked : Asked) (bytes : List ℕ) (listed : Listed) (page : Paging) (j : ℕ) (last : List ℕ)
+        (all rest : Answer) → is_listing asked.demand ≡ true → InRange asked.demand → IsListed asked bytes listed
+        → 1 ≤ j → IfSome page.limit (λ n. j < n) → slice_get (later_of listed page) (j - 1) ≡ Some last
+        → IsAnswer (asked_for page asked) bytes all → all.status ≡ Status.Answered
+        → IsAnswer (asked_for (page_from page j last) asked) bytes rest → IsRest listed page j all rest }
 {}

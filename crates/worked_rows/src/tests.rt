@@ -9,6 +9,7 @@ mod names;
 mod pages;
 mod pieces;
 mod refusals;
+mod rest;
 mod rows;
 mod scores;
 mod shares;

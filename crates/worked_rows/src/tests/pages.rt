@@ -7,7 +7,7 @@ use std::test::Fail;
 use test_devices::{answered, violated};
 
 /// The words, the lines before the answers, and the answers: over `THREE`, and over the votes in the words.
-static LISTS: &str = "\
+pub(super) static LISTS: &str = "\
 elect --rule av --size 1|rule av;size 1;score 2/1|1;2
 elect --rule pav --size 2|rule pav;size 2;score 6/2|1,2;1,3;2,3
 elect --rule cc --size 2|rule cc;size 2;score 3/1|1,3;2,3
