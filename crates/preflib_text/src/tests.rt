@@ -6,6 +6,7 @@ mod faults;
 mod headers;
 mod lines;
 mod metadata;
+mod mutants;
 mod order;
 mod pieces;
 mod rows;

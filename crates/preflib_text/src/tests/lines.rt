@@ -117,3 +117,16 @@ fn zeros_before_a_number(rt: HostRuntime) -> Result<(), Fail> {
     assert_rows(&rt, &profile, &[(&[2], 12)]);
     Ok(())
 }
+
+#[test]
+fn a_million_zeros(rt: HostRuntime) -> Result<(), Fail> {
+    let zeros = vec![in rt.alloc(); b'0'; 1_000_000]?;
+    let mut file = b"# DATA TYPE: toi\n# NUMBER ALTERNATIVES: 3\n".to_vec(rt.alloc())?;
+    file.extend_from_slice(&zeros)?;
+    file.extend_from_slice(b"1: 1")?;
+    let profile = read_profile(rt.alloc(), &file, &TOLD)?;
+    assert_rows(&rt, &profile, &[(&[1], 1)]);
+    let profile = by_pieces(rt.alloc(), &TOLD, &file, 4096)?;
+    assert_rows(&rt, &profile, &[(&[1], 1)]);
+    Ok(())
+}

@@ -7,10 +7,10 @@ use crate::{LineReader, MOST_LINE_BYTES};
 use std::test::Fail;
 
 /// A file, and the voters of each of its ballots.
-type File<'a> = (&'a [u8], &'a [Row<'a>]);
+pub(super) type File<'a> = (&'a [u8], &'a [Row<'a>]);
 
 /// A file of each type, with names, blank lines and ends of all kinds.
-const FILES: [File<'static>; 5] = [
+pub(super) const FILES: [File<'static>; 5] = [
     (
         b"\xEF\xBB\xBF# DATA TYPE: cat\r\n# NUMBER ALTERNATIVES: 3\n# NUMBER CATEGORIES: 2\r\n2: {1,2},3\n1: 3\r",
         &[(&[1, 2], 2), (&[3], 1)],

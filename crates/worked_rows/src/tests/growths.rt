@@ -4,7 +4,7 @@ ghost use Rattle.ballot_base.specs.Limits.{most_candidates};
 
 use super::support::{ANSWER, THREE, add, assert_ended, name_in, read_line, request, set_name};
 use ballot_base::{AddFault, CandSet, FinishFault, MOST_CANDIDATES, Profile, ProfileBuilder};
-use preflib_text::{FaultName, ReadFault, read_profile};
+use preflib_text::{FaultName, LineReader, ReadFault, read_profile};
 use std::alloc::{Allocator, Global};
 use std::process::Abort;
 use std::test::Fail;
@@ -209,6 +209,42 @@ fn each_growth_of_a_reading(rt: HostRuntime) -> Result<(), Fail> {
     for file in &FILES {
         assert_growths_of_reading(&rt, rt.alloc(), *file)?;
     }
+    Ok(())
+}
+
+/// A reader in pieces whose memory ran out answers so from each later call. It begins with two growths, for the names and
+/// for a line; the third is that of the first ballot.
+#[test]
+fn a_refused_reader(rt: HostRuntime) -> Result<(), Fail> {
+    let alloc = rt.alloc();
+    let request = request(alloc, "1")?;
+    let heap = Refusing::new(alloc, 3);
+    let mut reader = LineReader::new(&heap, request.pick())?;
+    reader.feed(b"# NUMBER ALTERNATIVES: 3\n# DATA TYPE: toi\n")?;
+    let wanted = Some(ReadFault {
+        name: FaultName::Memory,
+        line: Some(3),
+    });
+    assert_eq!(rt; reader.feed(b"1: 1\n").err(), wanted);
+    assert_eq!(rt; reader.feed(b"1: x\n").err(), wanted);
+    assert_eq!(rt; reader.finish().err(), wanted);
+    Ok(())
+}
+
+/// Comments take no memory: the next growth would be refused.
+#[test]
+fn comments_take_no_memory(rt: HostRuntime) -> Result<(), Fail> {
+    let alloc = rt.alloc();
+    let request = request(alloc, "1")?;
+    let mut comments = Vec::new(alloc);
+    // 2,000,000 bytes and more.
+    for _ in 0..286_000u32 {
+        comments.extend_from_slice(b"# X: y\n")?;
+    }
+    let heap = Refusing::new(alloc, 3);
+    let mut reader = LineReader::new(&heap, request.pick())?;
+    reader.feed(&comments)?;
+    assert!(rt; !has_refused(&heap), "comments take memory");
     Ok(())
 }
 

@@ -1,8 +1,8 @@
 //! Inputs at the edges of the format.
-use super::support::{ANSWER, THREE, assert_elects, assert_runs};
+use super::support::{ANSWER, THREE, assert_elects, assert_ended, assert_runs, request};
 use std::alloc::{AllocError, Global};
 use std::test::Fail;
-use test_devices::{Wanted, answered, refused};
+use test_devices::{SliceReader, Wanted, answered, refused, run_on, writer};
 
 /// A file with these numbers in its header, and these lines after it, from the fourth on.
 pub(super) fn file(
@@ -226,9 +226,9 @@ fn another_layout_of_a_file(rt: HostRuntime) -> Result<(), Fail> {
 fn beginning(n: usize) -> Wanted<'static> {
     let fault: &[u8] = match n {
         0..=38 => b"committees: input: NoAlternatives\n",
-        // Behind the colon of the alternatives.
+        // After the colon of the alternatives.
         39 | 40 => b"committees: input line 2: BadNumber\n",
-        // Behind the colon of the categories.
+        // After the colon of the categories.
         62 | 63 => b"committees: input line 3: BadNumber\n",
         41..=65 => b"committees: input: NoVoters\n",
         66 | 69..=72 | 74 => b"committees: input line 4: BadBallot\n",
@@ -247,6 +247,19 @@ fn beginnings_of_a_file(rt: HostRuntime) -> Result<(), Fail> {
     for n in 0..=THREE.len() {
         let case = format!(in alloc; "{n} bytes")?;
         assert_runs(&rt, alloc, case.as_str(), "1", &THREE[..n], beginning(n))?;
+    }
+    Ok(())
+}
+
+/// The same, where the input comes in single bytes.
+#[test]
+fn beginnings_in_single_bytes(rt: HostRuntime) -> Result<(), Fail> {
+    let alloc = rt.alloc();
+    let request = request(alloc, "1")?;
+    for n in 0..=THREE.len() {
+        let bytes = SliceReader::new(&THREE[..n], 1);
+        let ended = run_on(alloc, &request, bytes, writer(alloc), writer(alloc));
+        assert_ended(&rt, "bytes", n, &ended, beginning(n));
     }
     Ok(())
 }

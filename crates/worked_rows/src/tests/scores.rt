@@ -1,5 +1,5 @@
 //! Elections by rules with a value, from the words to the bytes.
-use super::support::{THREE, assert_ended, read_line};
+use super::support::{THREE, assert_ended, numbers_to, read_line};
 use ballot_base::KSets;
 use std::alloc::{AllocError, Global};
 use std::process::Abort;
@@ -171,6 +171,18 @@ fn all_pairs(alloc: Global) -> Result<String, AllocError> {
     }
     text.push_str("end\n")?;
     Ok(text)
+}
+
+/// The greatest value of a geometric rule, and its greatest denominator: all 40 candidates for 40 seats.
+#[test]
+fn all_candidates_win(rt: HostRuntime) -> Result<(), Fail> {
+    let alloc = rt.alloc();
+    let bytes = all_approve_all(alloc)?;
+    let all = numbers_to(alloc, 40)?;
+    let score = "1730765619511609209510164011417600/302231454903657293676544";
+    let answer = format!(in alloc; "rule geom4\nsize 40\nscore {score}\n{all}\nend\n")?;
+    let words = "--rule geom4 --size 40";
+    assert_answers(&rt, alloc, words, bytes.as_bytes(), answer.as_str())
 }
 
 #[test]
