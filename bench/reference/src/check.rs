@@ -1,7 +1,7 @@
 //! Checks of a committee: the first list of candidates whose voters show that it lacks a property.
 use crate::elect::{write_list, write_set};
 use crate::profile::Profile;
-use crate::sets::members;
+use crate::sets::{has, members, single};
 use std::io::{self, Write};
 
 struct Violation {
@@ -15,7 +15,7 @@ struct Violation {
 const FEW_LISTS: u64 = 1 << 20;
 
 /// Whether a ballot's voters belong to the group of these lists.
-fn is_behind(ballot: u64, committee: u64, level: u32, shared: u64, within: Option<u64>) -> bool {
+fn is_supporter(ballot: u64, committee: u64, level: u32, shared: u64, within: Option<u64>) -> bool {
     ballot & shared == shared
         && match within {
             Some(within) => ballot & committee & !within == 0,
@@ -47,8 +47,8 @@ impl Check<'_> {
 
     fn first(&self) -> Option<Violation> {
         let is_plus = self.property == "ejrplus";
-        let candidates = (1..=self.profile.candidates).filter(|c| !is_plus || self.committee >> c & 1 == 0);
-        let pool = candidates.filter(|c| self.is_enough(self.voters_below(1 << c))).fold(0, |set: u64, c| set | 1 << c);
+        let candidates = (1..=self.profile.candidates).filter(|c| !is_plus || !has(self.committee, *c));
+        let pool = candidates.filter(|c| self.is_enough(self.voters_below(single(*c)))).fold(0, |set: u64, c| set | single(c));
         let size = if is_plus { 1 } else { self.level };
         if pool.count_ones() < size || self.property == "pjr" && self.is_refuted() {
             return None;
@@ -72,7 +72,7 @@ impl Check<'_> {
     fn beyond(&self, shared: u64, pool: u64, left: u32) -> Option<Violation> {
         if left == 0 {
             let within = if self.property == "pjr" { Some(self.within(shared, 0, self.committee, self.level - 1)?) } else { None };
-            let voters = self.voters(|ballot| is_behind(ballot, self.committee, self.level, shared, within));
+            let voters = self.voters(|ballot| is_supporter(ballot, self.committee, self.level, shared, within));
             let violation = Violation { level: self.level, shared, within, voters };
             return self.is_enough(voters).then_some(violation);
         }
@@ -117,7 +117,7 @@ fn find(profile: &Profile, property: &str, committee: u64) -> Option<Violation> 
 }
 
 pub fn write(out: &mut impl Write, profile: &Profile, property: &str, list: &[u64]) -> io::Result<bool> {
-    let committee = list.iter().fold(0, |set, c| set | 1 << c);
+    let committee = list.iter().fold(0, |set, &c| set | single(c as u32));
     let Some(violation) = find(profile, property, committee) else {
         out.write_all(b"holds\n")?;
         return Ok(true);
@@ -135,7 +135,7 @@ pub fn write(out: &mut impl Write, profile: &Profile, property: &str, list: &[u6
     }
     writeln!(out, "voters {voters} of {}", profile.voters())?;
     for &(ballot, count) in &profile.rows {
-        if is_behind(ballot, committee, level, shared, within) {
+        if is_supporter(ballot, committee, level, shared, within) {
             write!(out, "{count}: ")?;
             write_list(out, members(ballot))?;
         }

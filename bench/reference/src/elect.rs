@@ -1,6 +1,8 @@
-//! Elections by a plain walk over all committees, and by sequences of choices.
+//! Elections by a plain walk over all committees, by one that leaves some out where they are many, and by sequences of
+//! choices.
+use crate::ceilings::{self, Minimax, Rule, Satisfaction, Thiele};
 use crate::profile::Profile;
-use crate::sets::{KSets, has, members};
+use crate::sets::{KSets, has, members, single, up_to};
 use std::collections::HashSet;
 use std::io::{self, Write};
 
@@ -31,10 +33,50 @@ fn increments(rule: &str, size: usize) -> (Vec<u128>, u128) {
     (weights.collect(), denominator)
 }
 
+/// The most committees that are all tried.
+const FEW_COMMITTEES: u128 = 1_000_000;
+
+/// How many committees of a size there are.
+fn committees(m: u32, size: usize) -> u128 {
+    (0..size as u128).fold(1, |count, taken| count * (u128::from(m) - taken) / (taken + 1))
+}
+
+/// Prints the winners of a rule, found by a walk with ceilings.
+fn write_pruned(out: &mut impl Write, rule: &impl Rule, size: usize, denominator: Option<u128>) -> io::Result<()> {
+    let best = ceilings::best(rule, size as u32);
+    match denominator {
+        Some(denominator) => writeln!(out, "score {best}/{denominator}")?,
+        None => writeln!(out, "distance {}", u128::from(rule.candidates()) - best)?,
+    }
+    let mut written = Ok(());
+    ceilings::winners(rule, size as u32, best, &mut |set| {
+        if written.is_ok() {
+            written = write_set(out, set);
+        }
+    });
+    written
+}
+
 pub fn write(out: &mut impl Write, profile: &Profile, rule: &str, size: usize) -> io::Result<bool> {
     write!(out, "rule {rule}\nsize {size}\n")?;
     let m = profile.candidates;
+    let is_many = committees(m, size) > FEW_COMMITTEES;
     match rule {
+        "sav" if is_many => {
+            let l = common_multiple(u128::from(m));
+            let mut scores = vec![0; m as usize + 1];
+            for &(ballot, count) in &profile.rows {
+                for n in members(ballot) {
+                    scores[n as usize] += l / u128::from(ballot.count_ones()) * u128::from(count);
+                }
+            }
+            write_pruned(out, &Satisfaction { candidates: m, scores }, size, Some(l))?;
+        }
+        "minimax" if is_many => write_pruned(out, &Minimax(profile), size, None)?,
+        "av" | "pav" | "cc" | "geom2" | "geom3" | "geom4" if is_many => {
+            let (weights, denominator) = increments(rule, size);
+            write_pruned(out, &Thiele { profile, weights }, size, Some(denominator))?;
+        }
         "seqpav" | "seqcc" | "revseqpav" => {
             for set in sequential(profile, rule, size) {
                 write_set(out, set)?;
@@ -44,7 +86,7 @@ pub fn write(out: &mut impl Write, profile: &Profile, rule: &str, size: usize) -
             let l = common_multiple(u128::from(m));
             let shares: Vec<u128> = (0..=u128::from(m)).map(|n| if n == 0 { 0 } else { l / n }).collect();
             walk(out, profile, size, Some(l), |set| {
-                let mut hits = [0u64; 41];
+                let mut hits = [0u64; 65];
                 for &(ballot, count) in &profile.rows {
                     hits[ballot.count_ones() as usize] += count * u64::from((ballot & set).count_ones());
                 }
@@ -62,7 +104,7 @@ pub fn write(out: &mut impl Write, profile: &Profile, rule: &str, size: usize) -
                 sums.push(sums[sums.len() - 1] + w);
             }
             walk(out, profile, size, Some(denominator), |set| {
-                let mut voters = [0u64; 41];
+                let mut voters = [0u64; 65];
                 for &(ballot, count) in &profile.rows {
                     voters[(ballot & set).count_ones() as usize] += count;
                 }
@@ -118,12 +160,12 @@ fn sequential(profile: &Profile, rule: &str, size: usize) -> Vec<u64> {
     let m = profile.candidates;
     let grows = rule != "revseqpav";
     let (weights, _) = increments(if rule == "seqcc" { "cc" } else { "pav" }, m as usize);
-    let mut level: HashSet<u64> = HashSet::from([if grows { 0 } else { (1 << (m + 1)) - 2 }]);
+    let mut level: HashSet<u64> = HashSet::from([if grows { 0 } else { up_to(m) }]);
     let steps = if grows { size } else { m as usize - size };
     for _ in 0..steps {
         let mut next = HashSet::new();
         for &set in &level {
-            let mut worths = [0u128; 41];
+            let mut worths = [0u128; 65];
             for &(ballot, count) in &profile.rows {
                 let hits = (ballot & set).count_ones() as usize;
                 let weight = if grows { weights.get(hits) } else { hits.checked_sub(1).and_then(|j| weights.get(j)) };
@@ -135,7 +177,7 @@ fn sequential(profile: &Profile, rule: &str, size: usize) -> Vec<u64> {
             let open = || (1..=m).filter(|&c| has(set, c) != grows);
             let worth = |c: u32| worths[c as usize];
             let best = if grows { open().map(worth).max() } else { open().map(worth).min() };
-            next.extend(open().filter(|&c| Some(worth(c)) == best).map(|c| set ^ 1 << c));
+            next.extend(open().filter(|&c| Some(worth(c)) == best).map(|c| set ^ single(c)));
         }
         level = next;
     }

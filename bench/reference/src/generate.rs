@@ -15,6 +15,10 @@ impl Random {
 /// different.
 pub fn write(mut words: impl Iterator<Item = String>, out: &mut impl Write) -> io::Result<()> {
     let kind = words.next().expect("a kind");
+    if let "independent" | "resampled" | "square" = kind.as_str() {
+        let mut number = || words.next().and_then(|n| n.parse().ok()).expect("a number");
+        return write_voters(&kind, number(), number(), out);
+    }
     let mut number = || words.next().and_then(|n| n.parse().ok()).expect("a number");
     let (candidates, lines, different): (u64, u64, u64) = (number(), number(), number());
     write!(out, "# DATA TYPE: {kind}\n# NUMBER ALTERNATIVES: {candidates}\n")?;
@@ -26,6 +30,32 @@ pub fn write(mut words: impl Iterator<Item = String>, out: &mut impl Write) -> i
     for line in 0..lines {
         let which = if line < different { line } else { random.below(different) };
         writeln!(out, "{}: {}", random.below(9) + 1, orders[which as usize])?;
+    }
+    Ok(())
+}
+
+/// Writes a `cat` file: `generate MODEL CANDIDATES VOTERS`. Voters approve a fifth of the candidates: drawn independently,
+/// resampled round one ballot, or those nearest to them in a square.
+fn write_voters(model: &str, candidates: u64, voters: u64, out: &mut impl Write) -> io::Result<()> {
+    write!(out, "# DATA TYPE: cat\n# NUMBER ALTERNATIVES: {candidates}\n")?;
+    let mut random = Random(candidates ^ voters << 8);
+    let some = candidates.div_ceil(5);
+    let places: Vec<(u64, u64)> = (0..candidates).map(|_| (random.below(1000), random.below(1000))).collect();
+    for _ in 0..voters {
+        let (x, y) = (random.below(1000), random.below(1000));
+        let mut near: Vec<u64> = (1..=candidates).collect();
+        near.sort_by_key(|&n| {
+            let (a, b) = places[n as usize - 1];
+            a.abs_diff(x).pow(2) + b.abs_diff(y).pow(2)
+        });
+        let is_near = |n: u64| near[..some as usize].contains(&n);
+        let approves = |n: u64, random: &mut Random| match model {
+            "square" => is_near(n),
+            "resampled" if random.below(2) == 0 => n <= some,
+            _ => random.below(5) == 0,
+        };
+        let approved: Vec<String> = (1..=candidates).filter(|&n| approves(n, &mut random)).map(|n| n.to_string()).collect();
+        writeln!(out, "1: {{{}}}", approved.join(","))?;
     }
     Ok(())
 }
@@ -42,9 +72,9 @@ fn order(kind: &str, candidates: u64, seed: u64) -> String {
         let mut rest = list;
         let mut classes = Vec::new();
         while !rest.is_empty() {
-            let (class, behind) = rest.split_at((random.below(3) as usize + 1).min(rest.len()));
+            let (class, after) = rest.split_at((random.below(3) as usize + 1).min(rest.len()));
             classes.push(if class.len() == 1 { class[0].to_string() } else { format!("{{{}}}", texts(class).join(",")) });
-            rest = behind;
+            rest = after;
         }
         classes
     };

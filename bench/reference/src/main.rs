@@ -1,5 +1,6 @@
 //! The jobs of `committees` in plain Rust: the same words, the same methods and the same output, with no proofs. It
 //! serves as a yardstick for speed and takes its words and files on trust.
+mod ceilings;
 mod check;
 mod compare;
 mod elect;
@@ -31,7 +32,7 @@ impl Words {
         while let Some(word) = words.next() {
             match word.strip_prefix("--") {
                 Some(name) => {
-                    let value = words.next().expect("a value behind each option");
+                    let value = words.next().expect("a value after each option");
                     parsed.options.insert(name.to_string(), value);
                 }
                 None => parsed.file = Some(word),

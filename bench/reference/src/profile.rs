@@ -1,5 +1,5 @@
 //! Ballots and their counts, read from a PrefLib file.
-use crate::sets::{has, members};
+use crate::sets::{has, members, single};
 use std::collections::HashMap;
 use std::collections::hash_map::Entry;
 
@@ -92,8 +92,8 @@ fn approved(order: &[u8], is_category: bool) -> u64 {
             b',' | b'}' => {
                 if let Some(n) = digits.take() {
                     assert!(!has(all, n as u32), "each candidate once");
-                    all |= 1 << n;
-                    class |= 1 << n;
+                    all |= single(n as u32);
+                    class |= single(n as u32);
                 }
                 is_inside = is_inside && b != b'}';
                 if b == b',' && !is_inside {
