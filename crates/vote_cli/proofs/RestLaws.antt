@@ -1,6 +1,6 @@
 -- What follows an answer in a list of answers, and the page that fetches it.
-use Rattle.std.proofs.Common.{◌≡◌, ◌⊎◌, ℕ, ◌+◌, ◌-◌, ◌≤◌, ◌<◌, ◌==◌, Bool, true, false, List, [], ◌∷◌, ◌++◌, Option, Some, None, Result, Ok}
-use Rattle.std.proofs.Common.{inl, inr, refl, sym, subst, ap, ap₂, ◌∙◌, length, take, drop, get_or, arith, Contains}
+use Rattle.std.proofs.Common.{◌≡◌, ◌⊎◌, ℕ, ◌+◌, ◌-◌, ◌≤◌, ◌<◌, ◌==◌, Bool, true, false, List, [], ◌∷◌, ◌++◌, Option, Some, None, Ok}
+use Rattle.std.proofs.Common.{inl, inr, refl, sym, subst, ap, ap₂, ◌∙◌, length, take, drop, arith, Contains}
 use Rattle.std.proofs.Math.Dec.{leb}
 use Rattle.std.proofs.lemmas.Bool.{and_from, eq-eqb, le-leb, le-ltb, lt-ltb}
 use Rattle.std.proofs.lemmas.Bool.Decides.{leb_tells}
@@ -9,7 +9,7 @@ use Rattle.std.proofs.lemmas.List.{append_assoc, drop-take, drop_more, length-dr
 use Rattle.std.proofs.lemmas.List.Sums.{sum_by-cons}
 use Rattle.std.proofs.lemmas.Option.{get_or_from_slice_get, slice_get_within}
 use Rattle.std.specs.List.{list_all}
-use Rattle.std.specs.Prelude.{IfSome, MatchResult, codes, flat_map, nat_le, nat_lt, option_map, slice_get, sum}
+use Rattle.std.specs.Prelude.{IfSome, MatchResult, flat_map, nat_le, nat_lt, option_map, slice_get, sum}
 use Rattle.ballot_base.specs.Ballots.{Election}
 use Rattle.ballot_base.specs.Lists.{AreInOrder, IsIncreasing, increasing_lists, is_later, later_than}
 use Rattle.ballot_base.proofs.Committees.{chosen-from_contains}
