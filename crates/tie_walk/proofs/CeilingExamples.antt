@@ -1,11 +1,12 @@
 -- Each definition of bounds, computed on a small example.
-use Rattle.std.proofs.Common.{◌≡◌, ℕ, zero, suc, ◌*◌, ◌-◌, ◌≤◌, List, [], ◌∷◌, true, false, refl, lit≤, Some, None, arith, length, length-append, ◌++◌}
+use Rattle.std.proofs.Common.{◌≡◌, ℕ, zero, suc, ◌*◌, ◌-◌, ◌≤◌, List, [], ◌∷◌, true, false, refl, lit≤, lit<, Some, None, arith, length, length-append, ◌++◌}
 use Rattle.ballot_base.specs.Lists.{lists_of}
 use Rattle.ballot_base.specs.Ballots.{Row}
 use Rattle.ballot_base.specs.CommonMultiple.{common_multiple}
 use Rattle.ballot_base.specs.Increments.{increments}
 use Rattle.ballot_base.specs.declared.increments.ThieleRule.TheVariants.{Pav}
-use Rattle.tie_walk.specs.Ceilings.{greatest_sum, gain_at, IsSubmodular, IsBound, ceiling, greatest_distance_upto, closeness_upto, Prefix, is_open, is_ahead, IsLive, live_below, live_count}
+use Rattle.tie_walk.specs.Ceilings.{greatest_sum, gain_at, IsSubmodular, IsBound, IsShort, IsReach, ceiling, greatest_distance_upto, closeness_upto, Prefix, is_open, is_ahead, IsLive, live_below, live_count}
+use Rattle.tie_walk.specs.Steps.Tables.{IsLastReaching, IsLastClose, IsLastNear}
 use Rattle.tie_walk.specs.Values.{thiele_value, satisfaction_value}
 
 -- of the candidates 1 to 3, two voters approve 1 and 2, and one voter 3
@@ -100,21 +101,21 @@ two_below_the_last = refl
 without_one : Prefix
 without_one = record { c = 1; set = [] }
 
-is_open_without_one : is_open pav_ceiling 3 2 6 None 1 [] ≡ true
+is_open_without_one : is_open pav_ceiling 3 2 6 1 [] ≡ true
 unfolding pav_ceiling pav_of_two two_and_one increments common_multiple lists_of
 is_open_without_one = refl
 
 -- two of the three are left out, and two seats cannot be filled
-shut_without_two : is_open pav_ceiling 3 2 6 None 2 [] ≡ false
+shut_without_two : is_open pav_ceiling 3 2 6 2 [] ≡ false
 unfolding pav_ceiling pav_of_two two_and_one increments common_multiple lists_of
 shut_without_two = refl
 
 -- 1 and 2 is not later than 1 and 3
-past_one_and_two : is_ahead pav_ceiling 3 2 6 (Some (1 ∷ 3 ∷ [])) 2 (1 ∷ 2 ∷ []) ≡ false
-unfolding pav_ceiling lists_of
+past_one_and_two : is_ahead 3 2 (Some (1 ∷ 3 ∷ [])) 2 (1 ∷ 2 ∷ []) ≡ false
+unfolding lists_of
 past_one_and_two = refl
 
-open_beginnings : (c : ℕ) → c ≤ 1 → is_open pav_ceiling 3 2 6 None c [] ≡ true
+open_beginnings : (c : ℕ) → c ≤ 1 → is_open pav_ceiling 3 2 6 c [] ≡ true
 unfolding pav_ceiling pav_of_two two_and_one increments common_multiple lists_of
 open_beginnings zero h = refl
 open_beginnings (suc zero) h = refl
@@ -123,3 +124,27 @@ open_beginnings (suc (suc c)) h = absurd (omega arith)
 live_without_one : IsLive pav_ceiling 3 2 6 None without_one
 unfolding without_one pav_ceiling pav_of_two two_and_one increments common_multiple lists_of
 live_without_one = (tt, lit≤ tt, open_beginnings, refl)
+
+-- one candidate more after 2 makes one, and not two
+sizes_short : IsShort length (λ c set left. 3 - c) 3 [] 1 2 2
+sizes_short = (lit< tt, λ added up size. omega (arith, size))
+
+sizes_reach : IsReach length (λ c set left. 3 - c) 3 [] 1 2 0 1
+sizes_reach = record { low = lit≤ tt; high = lit≤ tt; reached = λ n low high. omega (arith, high); next = λ more. sizes_short }
+
+-- of 3, 2 and 1, those after 1 have 2, and those after 2 do not
+last_of_three : IsLastReaching (λ n. 4 - n) 1 3 1 2 1
+unfolding lists_of
+last_of_three = record {
+  low = lit≤ tt;
+  high = lit≤ tt;
+  reached = λ n low high. let one : n ≡ 1 = omega (arith, low, high) in rw one (lit≤ tt);
+  next = λ more. lit< tt;
+}
+
+close_upto_two : IsLastClose (1 ∷ 3 ∷ []) [] 1 0 3 2
+close_upto_two = record { low = lit≤ tt; high = lit≤ tt; close = lit≤ tt; next = λ more. lit< tt }
+
+near_upto_one : IsLastNear two_and_one [] 1 0 3 1
+unfolding two_and_one
+near_upto_one = record { low = lit≤ tt; high = lit≤ tt; near = lit≤ tt; next = λ more. lit< tt }

@@ -84,12 +84,12 @@ pub thiele-gain : (m : ℕ) (w : List ℕ) (rows : List Row) (set : List ℕ) (x
 thiele-gain m w rows set x all none = omega (arith, thiele-partial m w rows set x all none, worth-whole Grow w rows set x)
 
 -- the ceiling by a table of the gains
-pub thiele-ceiling : (e : Election) (w gains : List ℕ) (c left : ℕ) (set : List ℕ) → IsElection e → IsIncreasing 1 c set → ((x : ℕ) → get_or gains x 0 ≡ gain w e.rows set x)
+pub thiele-ceiling : (e : Election) (w gains : List ℕ) (c left : ℕ) (set : List ℕ) → IsElection e → IsIncreasing 1 c set → ((x : ℕ) → c < x → x ≤ e.m → get_or gains x 0 ≡ gain w e.rows set x)
     → thiele_value w e.rows set + greatest_sum (λ x. get_or gains x 0) (c + 1) e.m left ≡ ceiling (thiele_value w e.rows) e.m c set left
 thiele-ceiling e w gains c left set valid up are =
     ap (λ n. thiele_value w e.rows set + n)
     (greatest_sum-same (λ x. get_or gains x 0) (gain_at (thiele_value w e.rows) set) (c + 1) e.m
-    (λ x low high. are x ∙ thiele-gain e.m w e.rows set x valid.ballots (has_member-above 1 c set x up (omega arith))) left)
+    (λ x low high. are x (omega arith) high ∙ thiele-gain e.m w e.rows set x valid.ballots (has_member-above 1 c set x up (omega arith))) left)
 
 -- ---- satisfaction approval
 

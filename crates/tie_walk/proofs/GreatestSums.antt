@@ -4,11 +4,12 @@ use Rattle.std.proofs.Math.Nat.{mul-le-mul_right}
 use Rattle.std.specs.Prelude.{fold}
 use Rattle.std.specs.List.{AllByRecursion}
 use Rattle.std.proofs.lemmas.Bool.{cases_lt}
-use Rattle.std.proofs.lemmas.List.{map-append}
+use Rattle.std.proofs.lemmas.List.{append-nil, map-append}
 use Rattle.std.proofs.lemmas.List.Sums.{sum_by-cons, fold-append}
 use Rattle.ballot_base.specs.Lists.{IsIncreasing, lists_of, increasing_lists}
 use Rattle.ballot_base.proofs.Committees.{IsChosen, increasing_lists-chosen}
-use Rattle.tie_walk.specs.Ceilings.{greatest_sum}
+use Rattle.tie_walk.specs.Ceilings.{IsBound, ceiling, gain_at, greatest_sum}
+use Rattle.tie_walk.specs.Steps.Tables.{IsLastReaching}
 use Rattle.tie_walk.proofs.WinnersLemmas.{greatest}
 
 pub lists-short : (n first size : ℕ) → n < size → lists_of n first size ≡ []
@@ -27,7 +28,7 @@ unfolding lists_of
 lists-more n first size = refl
 
 -- there is a list where there are enough numbers
-some_list : (n first size : ℕ) → size ≤ n → (list : List ℕ) × (lists : List (List ℕ)) × (lists_of n first size ≡ list ∷ lists)
+pub some_list : (n first size : ℕ) → size ≤ n → (list : List ℕ) × (lists : List (List ℕ)) × (lists_of n first size ≡ list ∷ lists)
 some_list n first zero h = ([], [], lists-empty n first)
 some_list zero first (suc size) h = absurd (omega arith)
 some_list (suc n) first (suc size) h =
@@ -117,6 +118,67 @@ module _ (worth : ℕ → ℕ) where
       let first : m + 1 - (m - c) ≡ c + 1 = omega arith in
       rw (count, first)
 
+  -- more numbers to choose from
+  best_of-next : (n first size : ℕ) → best_of n (first + 1) size ≤ best_of (suc n) first size
+  best_of-next n first zero = omega (arith, best_of-none n (first + 1), best_of-none (suc n) first)
+  best_of-next n first (suc size) = elim (cases_lt n size) [
+    | inl few ↦ omega (arith, best_of-short n (first + 1) (suc size) (omega arith))
+    | inr enough ↦ omega (arith, best_of-more n first size enough)
+  ]
+
+  best_of-later : (steps n first size : ℕ) → best_of n (first + steps) size ≤ best_of (steps + n) first size
+  best_of-later zero n first size =
+      let here : first + 0 ≡ first = omega arith in
+      let count : 0 + n ≡ n = omega arith in
+      omega (arith, ap (λ f. best_of n f size) here, ap (λ k. best_of k first size) count)
+  best_of-later (suc steps) n first size =
+      let here : first + suc steps ≡ first + 1 + steps = omega arith in
+      let count : suc steps + n ≡ suc (steps + n) = omega arith in
+      omega (
+        arith,
+        ap (λ f. best_of n f size) here,
+        ap (λ k. best_of k first size) count,
+        best_of-later steps n (first + 1) size,
+        best_of-next (steps + n) first size,
+      )
+
+  sum-later : (c n m size : ℕ) → c ≤ n → n ≤ m → greatest_sum worth (n + 1) m size ≤ greatest_sum worth (c + 1) m size
+  sum-later c n m size low high =
+      let first : c + 1 + (n - c) ≡ n + 1 = omega (arith, low) in
+      let count : n - c + (m + 1 - (n + 1)) ≡ m + 1 - (c + 1) = omega (arith, low, high) in
+      omega (
+        arith,
+        best_of-later (n - c) (m + 1 - (n + 1)) (c + 1) size,
+        ap (λ f. best_of (m + 1 - (n + 1)) f size) first,
+        ap (λ k. best_of k (c + 1) size) count,
+      )
+
+  table-at : (m passed size : ℕ) → passed ≤ m → best_of passed (m + 1 - passed) size ≡ greatest_sum worth (m - passed + 1) m size
+  table-at m passed size within =
+      let count : m - (m - passed) ≡ passed = omega (arith, within) in
+      rw count at (table-done (m - passed) m size (omega arith))
+
+  -- the last candidate whose sum is large enough
+  pub reaching-found : (c m left least passed last : ℕ) → left ≤ passed → last + passed ≡ m → c ≤ last → least ≤ best_of passed (m + 1 - passed) left
+      → ((q : ℕ) → q + 1 ≡ passed → left ≤ q → best_of q (m + 1 - q) left < least) → IsLastReaching worth c m left least last
+  reaching-found c m left least passed last enough here low large short =
+      let at : m - passed + 1 ≡ last + 1 = omega (arith, here) in
+      let sum : best_of passed (m + 1 - passed) left ≡ greatest_sum worth (last + 1) m left = table-at m passed left (omega (arith, here)) ∙ ap (λ f. greatest_sum worth f m left) at in
+      record {
+        low = low;
+        high = omega (arith, enough, here);
+        reached = λ n from to. omega (arith, large, sum, sum-later n last m left to (omega (arith, here)));
+        next = λ more.
+            let before : passed - 1 + 1 ≡ passed = omega (arith, more, here) in
+            let after : m - (passed - 1) + 1 ≡ last + 2 = omega (arith, more, here) in
+            omega (
+              arith,
+              short (passed - 1) before (omega (arith, more, here)),
+              table-at m (passed - 1) left (omega (arith, here)),
+              ap (λ f. greatest_sum worth f m left) after,
+            );
+      }
+
   -- one candidate more was looked at
   module _ (m passed left most worth' : ℕ) (old new : List ℕ) (inside : passed < m) (number : worth' ≡ worth (m - passed))
       (few : most ≤ passed + 1) (within-left : most ≤ left) (all : (most ≡ passed + 1) ⊎ (most ≡ left))
@@ -160,3 +222,14 @@ module _ (f g : ℕ → ℕ) (first last : ℕ) (same : (n : ℕ) → first ≤ 
   -- only what the numbers from first to last have matters
   pub greatest_sum-same : (size : ℕ) → greatest_sum f first last size ≡ greatest_sum g first last size
   greatest_sum-same size = same_sums 0 size (increasing_lists first last size) (increasing_lists-chosen first last size)
+
+-- no number has the sum 0, so that a set to which nobody is left to add reaches its own value
+pub greatest_sum-none : (worth : ℕ → ℕ) (first last : ℕ) → greatest_sum worth first last 0 ≡ 0
+greatest_sum-none worth first last = ap (λ lists. fold max 0 (map (sum_by worth) lists)) (lists-empty (last + 1 - first) first)
+
+pub ceiling-whole : (value : List ℕ → ℕ) (m c : ℕ) (set : List ℕ) → ceiling value m c set 0 ≡ value set
+ceiling-whole value m c set = omega (arith, greatest_sum-none (gain_at value set) (c + 1) m)
+
+pub whole-bounds : (value : List ℕ → ℕ) (m c : ℕ) (set : List ℕ) (left n : ℕ) → left ≡ 0 → n ≡ value set → IsBound value m c set left n
+whole-bounds value m c set left n none is [] up size = omega (arith, is, ap value (append-nil set))
+whole-bounds value m c set left n none is (x ∷ xs) up size = absurd (omega (arith, none, size))

@@ -9,8 +9,11 @@ pub mod GreatestSums
 pub mod Groups
 pub mod LawLemmas
 pub mod LevelLemmas
+pub mod LiveLemmas
+pub mod OpenLemmas
 pub mod OrderLemmas
 pub mod RangeLemmas
+pub mod Reaches
 pub mod RowSums
 pub mod SequenceExamples
 pub mod SequenceLaws

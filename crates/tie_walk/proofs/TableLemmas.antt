@@ -90,3 +90,16 @@ parts-most whole (suc n) = elim (cases_lt (suc n) (most_candidates + 1)) [
 
 pub weight-le-sum : (w : List ℕ) (i : ℕ) → get_or w i 0 ≤ sum w
 weight-le-sum w i = omega (arith, sum-take_more w i, sum-take-le w (i + 1))
+
+-- no increment is greater than the sum of all of them
+pub weights-least : (rule : ThieleRule) (k : ℕ) (w sums : List ℕ) (j : ℕ) → w ≡ increments rule k → sums ≡ prefix_sums (increments rule k) → get_or w j 0 ≤ get_or sums most_candidates 0
+weights-least rule k w sums j w-are sums-are =
+    let all : take most_candidates (increments rule k) ≡ increments rule k = take_all most_candidates (increments rule k) (omega (arith, increments-length rule k)) in
+    omega (
+      arith,
+      ap (λ l. get_or l j 0) w-are,
+      weight-le-sum (increments rule k) j,
+      ap (λ s. get_or s most_candidates 0) sums-are,
+      prefix_sums-at (increments rule k) most_candidates (omega arith),
+      ap sum all,
+    )

@@ -85,7 +85,7 @@ module _ (m k : ℕ) where
   place-past prefix (Some place) here is = (omega (arith, here.0, is.1), is.2, omega (arith, here.2, ap length is.0, length-append place.set (place.c ∷ [])))
 
   -- ---- the committees after one of them
-  start-split : (n c : ℕ) (front rest : List ℕ) → c + n ≡ m → length front + length rest ≡ k → IsIncreasing (c + 1) m rest
+  pub start-split : (n c : ℕ) (front rest : List ℕ) → c + n ≡ m → length front + length rest ≡ k → IsIncreasing (c + 1) m rest
       → (before : List (List ℕ)) × (committees_below m k c front ≡ before ++ (front ++ rest) ∷ committees_after m k front rest)
   start-split n c front [] e size up = ([], below-full c front (omega arith) ∙ ap (λ s. s ∷ []) (sym (append_none front)))
   start-split zero c front (x ∷ rest) e size up = absurd (omega (arith, up.0, up.1))

@@ -1,5 +1,5 @@
 -- What a set gains by a candidate, or loses with one, over the rows.
-use Rattle.std.proofs.Common.{◌≡◌, ℕ, zero, suc, ◌+◌, ◌*◌, ◌<◌, ◌≤◌, ◌^◌, ◌∙◌, Bool, true, false, cond, List, [], ◌∷◌, Some, refl, arith, take, get_or, slice_get, sum_by, replicate}
+use Rattle.std.proofs.Common.{◌≡◌, ℕ, zero, suc, ◌+◌, ◌*◌, ◌<◌, ◌≤◌, ◌^◌, ◌&&◌, ◌∙◌, Bool, true, false, cond, List, [], ◌∷◌, Some, refl, ap, arith, take, get_or, slice_get, sum_by, replicate}
 use Rattle.std.proofs.lemmas.List.Sums.{sum_by-cons}
 use Rattle.ballot_base.specs.CandSet.{has_member}
 use Rattle.ballot_base.specs.Ballots.{Row, Election, IsElection, hits}
@@ -52,6 +52,16 @@ module _ (step : Step) (weights set : List ℕ) where
   partial-more rows i c row found =
       omega (arith, rows-more (share step weights set c) rows i row found, product-of-part (has_member row.0 c) row.1 (weight weights (hits_of step (hits row.0 set))))
 
+  pub partial-most : (e : Election) (most i c : ℕ) (row : Row) → IsElection e → ((j : ℕ) → get_or weights j 0 ≤ most) → slice_get e.rows i ≡ Some row
+      → partial step weights set c (take i e.rows) ≤ 2 ^ 32 * most
+  partial-most e most i c row valid all found =
+      omega (arith, rows-bound (share step weights set c) e most i row valid (λ r h. share-most step weights set c most r all) found)
+
+  pub row-most : (e : Election) (most i : ℕ) (row : Row) → IsElection e → ((j : ℕ) → get_or weights j 0 ≤ most) → slice_get e.rows i ≡ Some row
+      → row.1 * weight weights (hits_of step (hits row.0 set)) ≤ 2 ^ 32 * most
+  row-most e most i row valid all found =
+      omega (arith, rows-bound (λ (r : Row). weight weights (hits_of step (hits r.0 set))) e most i row valid (λ r h. weight-most weights (hits_of step (hits r.0 set)) most all) found)
+
   pub partial-bound : (e : Election) (i c : ℕ) (row : Row) → IsElection e → ((j : ℕ) → get_or weights j 0 < 2 ^ 90) → slice_get e.rows i ≡ Some row
       → partial step weights set c (take i e.rows) ≤ 2 ^ 122
   partial-bound e i c row valid all found =
@@ -66,3 +76,14 @@ pub no_total : (n i : ℕ) → get_or {A = ℕ} (replicate n 0) i 0 ≡ 0
 no_total zero i = refl
 no_total (suc n) zero = refl
 no_total (suc n) (suc i) = no_total n i
+
+-- ---- where only the gains by some candidates are wanted
+
+pub not_wanted : (b : Bool) (n : ℕ) → n ≡ 0 → cond b n 0 ≡ 0
+not_wanted true n none = none
+not_wanted false n none = refl
+
+pub wanted-step : (wanted member both : Bool) (part worth more total next : ℕ) → both ≡ (wanted && member) → total ≡ cond wanted part 0
+    → next ≡ total + cond both worth 0 → more ≡ part + cond member worth 0 → next ≡ cond wanted more 0
+wanted-step true member both part worth more total next e was now grown = omega (arith, was, now, grown, ap (λ b. cond b worth 0) e)
+wanted-step false member both part worth more total next e was now grown = omega (arith, was, now, ap (λ b. cond b worth 0) e)

@@ -1,6 +1,6 @@
 -- What the committees below a prefix can reach, and which prefixes a walk over the winners has to enter. A prefix
 -- decides on the candidates 1 to c: those of its set are members, the others are not.
-use Rattle.std.specs.Prelude.{◌≡◌, ℕ, zero, suc, ◌+◌, ◌-◌, ◌≤◌, ◌&&◌, Bool, List, [], ◌∷◌, ◌++◌, Option, IsTrue, length, map, fold, max, sum_by, nat_le, if◌then◌else◌}
+use Rattle.std.specs.Prelude.{◌≡◌, ℕ, zero, suc, ◌+◌, ◌-◌, ◌<◌, ◌≤◌, ◌&&◌, Bool, List, [], ◌∷◌, ◌++◌, Option, IsTrue, length, map, fold, max, sum_by, nat_le, if◌then◌else◌}
 use Rattle.std.specs.List.{list_any}
 use Rattle.std.specs.Str.{bytes_eq}
 use Rattle.ballot_base.specs.Lists.{IsIncreasing, increasing_lists, later_than}
@@ -40,31 +40,46 @@ abbrev pub IsBound : (List ℕ → ℕ) → ℕ → ℕ → List ℕ → ℕ →
 IsBound value m c set left bound =
     (added : List ℕ) → IsIncreasing (c + 1) m added → length added ≡ left → value (set ++ added) ≤ bound
 
+-- the bound of the set is below the best value at c, so that no committee of the set and of `left` of the candidates
+-- after c has that value
+abbrev pub IsShort : (List ℕ → ℕ) → (ℕ → List ℕ → ℕ → ℕ) → ℕ → List ℕ → ℕ → ℕ → ℕ → Type 0
+IsShort value bound m set left best c = (bound c set left < best) × IsBound value m c set left (bound c set left)
+
+-- the bounds of the set reach the best value from c up to `last`, and no further
+pub record IsReach (value : List ℕ → ℕ) (bound : ℕ → List ℕ → ℕ → ℕ) (m : ℕ) (set : List ℕ) (left best c last : ℕ)
+    : Type 0 where
+  pub low : c ≤ last
+  pub high : last + left ≤ m
+  pub reached : (n : ℕ) → c ≤ n → n ≤ last → best ≤ bound n set left
+  pub next : last + left < m → IsShort value bound m set left best (last + 1)
+
 pub record Prefix : Type 0 where
   pub c : ℕ
   pub set : List ℕ
 
-module _ (bound : ℕ → List ℕ → ℕ → ℕ) (m k best : ℕ) (after : Option (List ℕ)) where
+module _ (bound : ℕ → List ℕ → ℕ → ℕ) (m k best : ℕ) where
   -- whether the set is not too large, the candidates after c can fill it up, and the bound reaches the greatest value
   abbrev pub is_open : ℕ → List ℕ → Bool
   is_open c set =
       nat_le (length set) k && nat_le k (length set + (m - c)) && nat_le best (bound c set (k - length set))
 
-  -- whether some committee whose members up to c are just the set is later than the start (any, where there is none)
-  abbrev pub is_ahead : ℕ → List ℕ → Bool
-  is_ahead c set = list_any (λ list. bytes_eq (members_upto list c) set) (later_than after (increasing_lists 1 m k))
+-- whether some committee whose members up to c are just the set is later than the start (any, where there is none)
+abbrev pub is_ahead : ℕ → ℕ → Option (List ℕ) → ℕ → List ℕ → Bool
+is_ahead m k after c set =
+    list_any (λ list. bytes_eq (members_upto list c) set) (later_than after (increasing_lists 1 m k))
 
+module _ (bound : ℕ → List ℕ → ℕ → ℕ) (m k best : ℕ) (after : Option (List ℕ)) where
   -- a prefix that a walk has to enter: each of its beginnings is open, and the walk is not past it
   abbrev pub IsLive : Prefix → Type 0
   IsLive prefix = IsIncreasing 1 prefix.c prefix.set × (prefix.c ≤ m)
-      × ((c : ℕ) → c ≤ prefix.c → IsTrue (is_open c (members_upto prefix.set c)))
-      × IsTrue (is_ahead prefix.c prefix.set)
+      × ((c : ℕ) → c ≤ prefix.c → IsTrue (is_open bound m k best c (members_upto prefix.set c)))
+      × IsTrue (is_ahead m k after prefix.c prefix.set)
 
   -- how many live prefixes begin with a live one's c and set, where `rest` candidates come after c
   abbrev pub live_below : ℕ → ℕ → List ℕ → ℕ
-  live_below zero c set = if is_open c set && is_ahead c set then 1 else 0
+  live_below zero c set = if is_open bound m k best c set && is_ahead m k after c set then 1 else 0
   live_below (suc rest) c set =
-      if is_open c set && is_ahead c set
+      if is_open bound m k best c set && is_ahead m k after c set
       then 1 + live_below rest (c + 1) (with_member set (c + 1)) + live_below rest (c + 1) set
       else 0
 

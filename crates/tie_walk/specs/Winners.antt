@@ -23,10 +23,12 @@ IsStart m k None = ⊤
 IsStart m k (Some set) = IsIncreasing 1 m set × (length set ≡ k)
 
 -- what contracts see of a walk over the winners: the tally, the number of candidates, the size of a committee, the
--- greatest value of a committee, and the winners still to come
+-- start, the greatest value of a committee, the winners still to come, and how many prefixes were entered so far
 pub record Winning (T : Type 0) : Type 0 where
   pub tally : T
   pub m : ℕ
   pub k : ℕ
+  pub after : Option (List ℕ)
   pub best : ℕ
   pub left : List (List ℕ)
+  pub entered : ℕ

@@ -9,6 +9,7 @@ pub mod satisfaction;
 pub mod sequential;
 pub mod tally;
 pub mod thiele;
+mod walk;
 pub mod winners;
 
 pub use minimax::MinimaxTally;

@@ -1,9 +1,9 @@
 //! What gives a committee its value.
-ghost use Rattle.std.specs.Prelude.{◌≡◌, ℕ, ◌+◌, ◌-◌, ◌*◌, ◌^◌, ◌<◌, ◌≤◌, List, slice_index, max};
+ghost use Rattle.std.specs.Prelude.{◌≡◌, ℕ, ◌+◌, ◌-◌, ◌*◌, ◌^◌, ◌<◌, ◌≤◌, List, MatchOption, slice_index, max};
 ghost use Rattle.ballot_base.specs.Limits.{most_candidates};
 ghost use Rattle.ballot_base.specs.Lists.{IsIncreasing};
-ghost use Rattle.tie_walk.specs.Ceilings.{IsBound, greatest_sum};
-ghost use Rattle.tie_walk.specs.Steps.Tables.{sum_of_worths};
+ghost use Rattle.tie_walk.specs.Ceilings.{IsBound, IsShort, IsReach, greatest_sum};
+ghost use Rattle.tie_walk.specs.Steps.Tables.{sum_of_worths, IsLastReaching};
 
 use ballot_base::{CandSet, MOST_CANDIDATES};
 
@@ -36,6 +36,26 @@ pub trait Tally {
         requires fits { left ≤ candidates self.now - c }
         ensures value { result ≡ bound_of self.now c set left }
         ensures law { IsBound (value_of self.now) (candidates self.now) c set left result };
+
+    /// The last candidate up to whom the bounds of the set reach `best`, from c on; nothing where that of c does not.
+    /// A tally may find it by less work than one bound after another.
+    fn reach(&self, c: u8, set: CandSet, left: u8, best: u128) -> Option<u8>
+        requires within { c ≤ candidates self.now }
+        requires candidates { IsIncreasing 1 c set }
+        requires fits { left ≤ candidates self.now - c }
+        ensures { MatchOption result
+            (IsShort (value_of self.now) (bound_of self.now) (candidates self.now) set left best c)
+            (IsReach (value_of self.now) (bound_of self.now) (candidates self.now) set left best c) }
+    {
+        let mut last = None;
+        for here in c..self.m() - left + 1 {
+            if self.bound(here, set, left) < best {
+                return last;
+            }
+            last = Some(here);
+        }
+        last
+    }
 }
 
 /// The sum over the numbers 0 to `most` of how many there are at each, times the worth of one of them.
@@ -67,6 +87,36 @@ pub(crate) fn greatest_sum(worths: &[u128; PLACES], c: u8, m: u8, left: u8) -> u
         add_candidate(&mut sums, worths[usize::from(m - passed)], most);
     }
     sums[usize::from(left)]
+}
+
+/// The last candidate, from c on, for whom the greatest sum of `left` of what the candidates after her have, up to m, is
+/// at least `least`; nothing where it is less for c.
+pub(crate) fn last_reaching(
+    worths: &[u128; PLACES],
+    c: u8,
+    m: u8,
+    left: u8,
+    least: u128,
+) -> Option<u8>
+    requires most { m ≤ most_candidates }
+    requires within { c ≤ m }
+    requires fits { left ≤ m - c }
+    requires small { (n : ℕ) → slice_index worths.now n < 2 ^ 122 }
+    ensures { MatchOption result (greatest_sum (slice_index worths.now) (c + 1) m left < least)
+        (IsLastReaching (slice_index worths.now) c m left least) }
+{
+    let mut sums = [0; PLACES];
+    for passed in 0..m - c {
+        if passed >= left && sums[usize::from(left)] >= least {
+            return Some(m - passed);
+        }
+        let most = if passed < left { passed + 1 } else { left };
+        add_candidate(&mut sums, worths[usize::from(m - passed)], most);
+    }
+    if sums[usize::from(left)] >= least {
+        return Some(c);
+    }
+    None
 }
 
 /// The greatest sums of 1 to `most` candidates, each at their number, where one more may be among them.

@@ -1,19 +1,24 @@
 //! The values of Thiele's rules.
-ghost use Rattle.std.specs.Prelude.{◌≡◌, ℕ, ◌+◌, ◌*◌, ◌^◌, ◌<◌, ◌≤◌, ◌==◌, List, filter, sum, slice_index};
-ghost use Rattle.ballot_base.specs.Limits.{most_members};
+ghost use Rattle.std.specs.Prelude.{◌≡◌, ℕ, ◌+◌, ◌*◌, ◌^◌, ◌<◌, ◌≤◌, ◌==◌, true, List, filter, sum, slice_index, if◌then◌else◌};
+ghost use Rattle.ballot_base.specs.Limits.{most_candidates, most_members};
 ghost use Rattle.ballot_base.specs.Lists.{IsIncreasing};
+ghost use Rattle.ballot_base.specs.CandSet.{has_member};
 ghost use Rattle.ballot_base.specs.Ballots.{hits, voter_count};
 ghost use Rattle.ballot_base.specs.Increments.{increments, denominator};
 ghost use Rattle.tie_walk.specs.Ceilings.{ceiling};
+ghost use Rattle.tie_walk.specs.Sequences.{gain};
 ghost use Rattle.tie_walk.specs.Values.{thiele_value};
 ghost use Rattle.tie_walk.specs.Values.{Thiele, thiele_of};
 ghost use Rattle.tie_walk.specs.Steps.Tables.{prefix_sums};
 
 use crate::sequential::{Step, worths};
-use crate::tally::{PLACES, Tally, greatest_sum, sum_of_worths};
+use crate::tally::{PLACES, Tally, greatest_sum, last_reaching, sum_of_worths};
 use ballot_base::{CandSet, Increments, MOST_CANDIDATES, MOST_MEMBERS, Profile, ThieleRule};
 use std::alloc::{Allocator, Global};
 use std::marker::Model;
+
+/// What all voters give for a candidate fits in 64 bits where each gives less than this.
+const SMALL: u128 = 1 << 31;
 
 /// The values under a Thiele rule, times the common denominator of its increments. Contracts see the election, the
 /// rule and the size of a committee.
@@ -67,6 +72,26 @@ impl<'a, A: Allocator + Copy> ThieleTally<'a, A> {
     {
         self.denom
     }
+
+    /// The value of a set of the candidates 1 to c, and what it gains by each candidate after c, at the candidate's
+    /// number.
+    fn value_and_gains(&self, c: u8, set: CandSet) -> (u128, [u128; PLACES])
+        requires within { c ≤ self.now.election.m }
+        ensures value { result.0 ≡ thiele_value (increments self.now.rule self.now.k) self.now.election.rows set }
+        ensures gains { (n : ℕ) → c < n → n ≤ self.now.election.m → slice_index result.1 n
+            ≡ gain (increments self.now.rule self.now.k) self.now.election.rows set n }
+        ensures small { (n : ℕ) → slice_index result.1 n ≤ 2 ^ 116 }
+    {
+        let m = self.profile.m();
+        if self.sums[PLACES - 1] >= SMALL {
+            let value = sum_of_hits(self.profile, &self.sums, set);
+            return (value, worths(self.profile, Step::Grow, &self.weights, set));
+        }
+        let others = those_after(c, m);
+        let (counts, gains) = hits_and_gains(self.profile, &self.weights, set, others);
+        let value = sum_of_worths(&counts, &self.sums, m);
+        (value, widened(&gains))
+    }
 }
 
 impl<'a, A: Allocator + Copy> Tally for ThieleTally<'a, A> {
@@ -86,8 +111,24 @@ impl<'a, A: Allocator + Copy> Tally for ThieleTally<'a, A> {
     }
 
     fn bound(&self, c: u8, set: CandSet, left: u8) -> u128 {
-        let gains = worths(self.profile, Step::Grow, &self.weights, set);
-        self.value(set) + greatest_sum(&gains, c, self.profile.m(), left)
+        if left == 0 {
+            return self.value(set);
+        }
+        let (value, gains) = self.value_and_gains(c, set);
+        value + greatest_sum(&gains, c, self.profile.m(), left)
+    }
+
+    fn reach(&self, c: u8, set: CandSet, left: u8, best: u128) -> Option<u8> {
+        let m = self.profile.m();
+        if left == 0 {
+            return if self.value(set) < best {
+                None
+            } else {
+                Some(m)
+            };
+        }
+        let (value, gains) = self.value_and_gains(c, set);
+        last_reaching(&gains, c, m, left, best.saturating_sub(value))
     }
 }
 
@@ -129,4 +170,70 @@ fn voters_by_hits<A: Allocator + Copy>(profile: &Profile<A>, set: CandSet) -> [u
         counts[usize::from(ballot.common(set).len())] += voters;
     }
     counts
+}
+
+/// The candidates from c + 1 to m.
+fn those_after(c: u8, m: u8) -> CandSet
+    requires most { m ≤ most_candidates }
+    requires within { c ≤ m }
+    ensures { (n : ℕ) → c < n → n ≤ m → has_member result n ≡ true }
+{
+    let mut others = CandSet::empty();
+    for n in c..m {
+        others = others.with(n + 1);
+    }
+    others
+}
+
+/// How many voters have each number of hits, and what the set gains by each of the others; 0 by all else.
+fn hits_and_gains<A: Allocator + Copy>(
+    profile: &Profile<A>,
+    weights: &[u128],
+    set: CandSet,
+    others: CandSet,
+) -> ([u64; PLACES], [u64; PLACES])
+    requires small { (j : ℕ) → slice_index weights.now j < 2 ^ 31 }
+    ensures counts { (j : ℕ) → slice_index result.0 j
+        ≡ voter_count (filter (λ row. hits row.0 set == j) profile.now.rows) }
+    ensures gains { (n : ℕ) → slice_index result.1 n
+        ≡ (if has_member others n then gain weights.now profile.now.rows set n else 0) }
+{
+    let mut counts = [0; PLACES];
+    let mut gains = [0; PLACES];
+    for i in 0..profile.rows() {
+        let (ballot, voters) = profile.row(i);
+        let hits = ballot.common(set).len();
+        counts[usize::from(hits)] += voters;
+        let weight = Step::Grow.weight(weights, hits) as u64;
+        add_votes(&mut gains, ballot.common(others), voters * weight);
+    }
+    (counts, gains)
+}
+
+/// Adds to the total of each member.
+fn add_votes(totals: &mut [u64; PLACES], members: CandSet, votes: u64)
+    requires fits { (c : ℕ) → slice_index totals.old c + votes < 2 ^ 64 }
+    ensures { (c : ℕ) → slice_index totals.new c
+        ≡ slice_index totals.old c + (if has_member members c then votes else 0) }
+{
+    if votes == 0 {
+        return;
+    }
+    members.valid();
+    let mut left = members;
+    while let Some(parts) = left.split_first() {
+        totals[usize::from(parts.0)] += votes;
+        left = parts.1;
+    }
+}
+
+/// The same totals in wider words.
+fn widened(totals: &[u64; PLACES]) -> [u128; PLACES]
+    ensures { (n : ℕ) → slice_index result n ≡ slice_index totals.now n }
+{
+    let mut wide = [0; PLACES];
+    for n in 0..PLACES {
+        wide[n] = u128::from(totals[n]);
+    }
+    wide
 }

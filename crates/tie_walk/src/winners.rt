@@ -1,15 +1,15 @@
 //! The winning committees of a tally, by a walk from prefix to prefix that enters no prefix whose bound is too low.
-ghost use Rattle.std.specs.Prelude.{◌≡◌, ℕ, ◌-◌, ◌<◌, ◌≤◌, [], ◌∷◌, List, Some, false, length, MatchOption};
-ghost use Rattle.ballot_base.specs.Lists.{IsIncreasing};
-ghost use Rattle.tie_walk.specs.Ceilings.{IsBound};
+ghost use Rattle.std.specs.Prelude.{◌≡◌, ℕ, ◌+◌, ◌-◌, ◌<◌, ◌≤◌, [], ◌∷◌, List, None, Some, false, length, MatchOption};
+ghost use Rattle.ballot_base.specs.Lists.{IsIncreasing, increasing_lists, later_than};
+ghost use Rattle.tie_walk.specs.Ceilings.{IsBound, live_count};
 ghost use Rattle.std.specs.Iterator.{YieldsFirst, item_count};
 ghost use Rattle.ballot_base.specs.Limits.{most_candidates};
-ghost use Rattle.ballot_base.specs.Lists.{increasing_lists, later_than};
 ghost use Rattle.tie_walk.specs.Steps.Walks.{committees_from, IsPlace, IsFound, IsVisit, work_left, is_above, those_above};
 ghost use Rattle.tie_walk.specs.Winners.{Winning, IsStart, best_value, winners};
 
 use crate::prefix::Prefix;
 use crate::tally::Tally;
+use crate::walk::{Levels, Walk, begin, begin_after, next_winner, no_levels};
 use ballot_base::CandSet;
 use std::marker::Model;
 
@@ -24,13 +24,14 @@ pub struct Winners<'a, T: Tally> {
     tally: &'a T,
     m: u8,
     k: u8,
+    after: Option<CandSet>,
     best: u128,
-    place: Option<Prefix>,
+    walk: Walk,
+    levels: Levels,
 }
 
 impl<'a, T: Tally> Model for Winners<'a, T> {
-    ghost use Rattle.std.specs.Prelude.{nat_le, filter};
-    ghost use Rattle.tie_walk.specs.Steps.Walks.{IsWalk, committees_from};
+    ghost use Rattle.tie_walk.specs.Steps.Walks.{IsWalk, committees_from, those_reaching};
     ghost use Rattle.tie_walk.specs.Winners.{Winning};
 
     ghost Value = { Winning T };
@@ -39,11 +40,15 @@ impl<'a, T: Tally> Model for Winners<'a, T> {
       tally = w.tally.now;
       m = w.m;
       k = w.k;
+      after = w.after;
       best = w.best;
-      left = filter (λ set. nat_le w.best (T.value_of w.tally.now set)) (committees_from w.m w.k w.place);
+      left = those_reaching (T.value_of w.tally.now) w.best (committees_from w.m w.k w.walk.place);
+      entered = w.walk.entered;
     } };
 
-    ghost invariant = { λ w. IsWalk (T.candidates w.tally.now) w.m w.k w.place };
+    ghost invariant = { λ w.
+        IsWalk (T.value_of w.tally.now) (T.bound_of w.tally.now) (T.candidates w.tally.now) w.m w.k w.best w.after w.walk
+        w.levels };
 }
 
 impl<'a, T: Tally> Winners<'a, T> {
@@ -58,16 +63,32 @@ impl<'a, T: Tally> Winners<'a, T> {
         ensures tally { result.tally ≡ tally.now }
         ensures m { result.m ≡ m }
         ensures k { result.k ≡ k }
+        ensures after { result.after ≡ after }
         ensures best { result.best ≡ best_value (T.value_of tally.now) m k }
         ensures left { result.left ≡ later_than after (winners (T.value_of tally.now) m k) }
     {
         let m = tally.m();
-        Winners {
-            tally,
-            m,
-            k,
-            best: greatest_value(tally, m, k),
-            place: place_after(m, k, after),
+        let best = greatest_value(tally, m, k);
+        let mut levels = no_levels();
+        match after {
+            Some(set) => Winners {
+                tally,
+                m,
+                k,
+                after: Some(set),
+                best,
+                walk: begin_after(tally, m, k, best, set, &mut levels),
+                levels,
+            },
+            None => Winners {
+                tally,
+                m,
+                k,
+                after: None,
+                best,
+                walk: begin(tally, m, k, best, &mut levels),
+                levels,
+            },
         }
     }
 
@@ -77,36 +98,36 @@ impl<'a, T: Tally> Winners<'a, T> {
     {
         self.best
     }
+
+    /// How many prefixes were entered so far by the walk that hands out the winners: decisions on the first candidates,
+    /// the empty one included. A prefix counts where the walk goes down to it; the walk that found the greatest value
+    /// and ways back up do not count. Few more than the live ones are entered: those on the way down to a start.
+    pub fn entered(&self) -> u128
+        ensures count { result ≡ self.now.entered }
+        ensures most { result ≤ live_count (T.bound_of self.now.tally) self.now.m self.now.k self.now.best self.now.after
+            + self.now.m }
+    {
+        self.walk.entered
+    }
 }
 
 impl<'a, T: Tally> Iterator for Winners<'a, T> {
     type Item = CandSet;
 
-    // The first of the winners left, or nothing where none is left. All else is as it was.
+    // The first of the winners left, or nothing where none is left: then, without a start, just the live prefixes were
+    // entered. All else is as it was.
     ghost next_gives = { λ s r t. YieldsFirst (λ (w : Winning T). w.left) s r t
-        × (t.tally ≡ s.tally) × (t.m ≡ s.m) × (t.k ≡ s.k) × (t.best ≡ s.best) };
+        × (t.tally ≡ s.tally) × (t.m ≡ s.m) × (t.k ≡ s.k) × (t.best ≡ s.best) × (t.after ≡ s.after)
+        × (r ≡ None → t.after ≡ None → t.entered ≡ live_count (T.bound_of t.tally) t.m t.k t.best t.after) };
 
     ghost remaining = { item_count (λ (w : Winning T). w.left) };
 
     fn next(&mut self) -> Option<CandSet> {
-        let floor = self.best.checked_sub(1);
-        let (set, rest) = next_above(self.tally, self.m, self.k, self.place, floor)?;
-        self.place = rest;
-        Some(set)
-    }
-}
-
-/// Where a walk over the committees of k of the candidates 1 to m begins: right after the start, if there is one.
-fn place_after(m: u8, k: u8, after: Option<CandSet>) -> Option<Prefix>
-    requires most { m ≤ most_candidates }
-    requires fits { k ≤ m }
-    requires start { IsStart m k after }
-    ensures place { IsPlace m k result }
-    ensures rest { committees_from m k result ≡ later_than after (increasing_lists 1 m k) }
-{
-    match after {
-        Some(set) => Prefix { c: m, set }.past(),
-        None => Some(Prefix::root()),
+        let best = self.best;
+        let levels = &mut self.levels;
+        let (found, walk) = next_winner(self.tally, self.m, self.k, best, self.walk, levels);
+        self.walk = walk;
+        found
     }
 }
 

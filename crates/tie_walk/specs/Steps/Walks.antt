@@ -1,8 +1,13 @@
 -- A walk over all committees, in lexicographic order, from prefix to prefix.
-use Rattle.std.specs.Prelude.{◌≡◌, ℕ, ◌+◌, ◌-◌, ◌^◌, ◌<◌, ◌≤◌, Bool, true, List, [], ◌∷◌, ◌++◌, Option, None, Some, ⊤, length, map, filter, sum_by, nat_lt, MatchOption, option_to_list}
+use Rattle.std.specs.Prelude.{◌≡◌, ℕ, zero, suc, ◌+◌, ◌-◌, ◌^◌, ◌<◌, ◌≤◌, Bool, true, List, [], ◌∷◌, ◌++◌, Option, None, Some, ⊤, length, map, filter, sum_by, nat_le, nat_lt, MatchOption, option_to_list, if◌then◌else◌}
+use Rattle.std.specs.List.{AllByRecursion}
 use Rattle.ballot_base.specs.Limits.{most_candidates}
-use Rattle.ballot_base.specs.Lists.{IsIncreasing, increasing_lists}
+use Rattle.ballot_base.specs.Lists.{IsIncreasing, increasing_lists, later_than}
+use Rattle.ballot_base.specs.CandSet.{with_member}
+use Rattle.tie_walk.specs.Ceilings.{IsReach, is_open, live_count}
 use Rattle.tie_walk.specs.declared.prefix.Prefix.{Prefix}
+use Rattle.tie_walk.specs.declared.walk.Known.{Known}
+use Rattle.tie_walk.specs.declared.walk.Walk.{Walk}
 
 -- the committees of k of the candidates 1 to m whose members up to c are just the set, of no more than k
 abbrev pub committees_below : ℕ → ℕ → ℕ → List ℕ → List (List ℕ)
@@ -61,8 +66,61 @@ pub record IsVisit (value : List ℕ → ℕ) (m k : ℕ) (floor : Option ℕ) (
   pub place : IsPlace m k rest
   pub work : work_left m rest < work_left m (Some prefix)
 
--- what is true of a walk over the committees of k of this many candidates
-pub record IsWalk (candidates m k : ℕ) (place : Option Prefix) : Type 0 where
+-- those of the committees whose value reaches the best
+abbrev pub those_reaching : (List ℕ → ℕ) → ℕ → List (List ℕ) → List (List ℕ)
+those_reaching value best committees = filter (λ set. nat_le best (value set)) committees
+
+module _ (bound : ℕ → List ℕ → ℕ → ℕ) (m k best : ℕ) where
+  -- how many prefixes begin with c and the set, where `rest` candidates come after c and each beginning from c on is open
+  abbrev pub open_below : ℕ → ℕ → List ℕ → ℕ
+  open_below zero c set = if is_open bound m k best c set then 1 else 0
+  open_below (suc rest) c set =
+      if is_open bound m k best c set
+      then 1 + open_below rest (c + 1) (with_member set (c + 1)) + open_below rest (c + 1) set
+      else 0
+
+  -- how many come after those with all of `front` and `rest`, as far as they have all of `front`
+  abbrev pub open_after : List ℕ → List ℕ → ℕ
+  open_after front [] = 0
+  open_after front (n ∷ rest) = open_after (front ++ n ∷ []) rest + open_below (m - n) n front
+
+  -- how many are still to be entered from a place on
+  abbrev pub open_from : Option Prefix → ℕ
+  open_from None = 0
+  open_from (Some prefix) = open_below (m - prefix.c) prefix.c prefix.set + open_after [] prefix.set
+
+-- a part of the walk over the winners: which winner it finds, and where it goes on
+pub record IsStride (value : List ℕ → ℕ) (bound : ℕ → List ℕ → ℕ → ℕ) (m k best : ℕ) (from : Option Prefix)
+    (entered : ℕ) (found : Option (List ℕ)) (rest : Walk) : Type 0 where
+  pub next : those_reaching value best (committees_from m k from)
+      ≡ option_to_list found ++ those_reaching value best (committees_from m k rest.place)
+  pub count : rest.entered + open_from bound m k best rest.place ≡ entered + open_from bound m k best from
+  pub place : IsPlace m k rest.place
+
+-- the first place of a walk over the winners: what it has entered on its way there was live, but for m at most
+pub record IsBegun (value : List ℕ → ℕ) (bound : ℕ → List ℕ → ℕ → ℕ) (m k best : ℕ) (after : Option (List ℕ))
+    (walk : Walk) : Type 0 where
+  pub next : those_reaching value best (committees_from m k walk.place)
+      ≡ those_reaching value best (later_than after (increasing_lists 1 m k))
+  pub place : IsPlace m k walk.place
+  pub few : walk.entered + open_from bound m k best walk.place ≤ live_count bound m k best after + m
+  pub all : after ≡ None → walk.entered + open_from bound m k best walk.place ≡ live_count bound m k best after
+
+-- what is known of the bounds of a set for committees of k
+abbrev pub IsKnown : (List ℕ → ℕ) → (ℕ → List ℕ → ℕ → ℕ) → ℕ → ℕ → ℕ → Option Known → Type 0
+IsKnown value bound m k best None = ⊤
+IsKnown value bound m k best (Some known) =
+    IsReach value bound m known.set (k - length known.set) best known.first known.last
+
+abbrev pub AreKnown : (List ℕ → ℕ) → (ℕ → List ℕ → ℕ → ℕ) → ℕ → ℕ → ℕ → List (Option Known) → Type 0
+AreKnown value bound m k best levels = AllByRecursion (IsKnown value bound m k best) levels
+
+-- what is true of a walk over the winners among the committees of k of this many candidates
+pub record IsWalk (value : List ℕ → ℕ) (bound : ℕ → List ℕ → ℕ → ℕ) (candidates m k best : ℕ)
+    (after : Option (List ℕ)) (walk : Walk) (levels : List (Option Known)) : Type 0 where
   pub candidates_are : m ≡ candidates
   pub most : m ≤ most_candidates
-  pub place_is : IsPlace m k place
+  pub place_is : IsPlace m k walk.place
+  pub few : walk.entered + open_from bound m k best walk.place ≤ live_count bound m k best after + m
+  pub all : after ≡ None → walk.entered + open_from bound m k best walk.place ≡ live_count bound m k best after
+  pub known : AreKnown value bound m k best levels

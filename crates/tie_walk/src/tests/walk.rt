@@ -11,7 +11,7 @@ use std::process::Abort;
 use std::test::Fail;
 
 /// The candidates 1 to m whose bit of the word is 1.
-fn ballot_of(m: u8, word: u64) -> CandSet
+pub(super) fn ballot_of(m: u8, word: u64) -> CandSet
     requires { m ≤ most_candidates }
     ensures { IsIncreasing 1 m result }
 {
@@ -25,7 +25,7 @@ fn ballot_of(m: u8, word: u64) -> CandSet
 }
 
 /// An election of m candidates and of some ballots that the seed decides.
-fn election(alloc: Global, m: u8, seed: u64, ballots: u8) -> Result<Profile, Fail>
+pub(super) fn election(alloc: Global, m: u8, seed: u64, ballots: u8) -> Result<Profile, Fail>
     requires some { 1 ≤ m }
     requires most { m ≤ most_candidates }
     ensures { IfOk result (λ profile. profile.m ≡ m) }
@@ -145,6 +145,12 @@ fn assert_bounds<T: Tally>(rt: &impl Abort, tally: &T, bounds: [u128; 4], best: 
     assert_eq!(rt; tally.bound(1, one, 1), bounds[1]);
     assert_eq!(rt; tally.bound(1, none, 2), bounds[2]);
     assert_eq!(rt; tally.bound(2, none, 1), bounds[3]);
+    assert!(rt; tally.reach(0, none, 2, bounds[2]) == Some(1));
+    assert!(rt;
+        tally
+            .reach(0, none, 2, bounds[0].saturating_add(1))
+            .is_none()
+    );
     assert_eq!(rt; Winners::new(tally, 3, 2, None).best(), best);
 }
 

@@ -1,6 +1,6 @@
-use Rattle.std.proofs.Common.{◌≡◌, ◌-◌, ◌∙◌, false, [], sym, ap, subst, arith, length}
+use Rattle.std.proofs.Common.{◌≡◌, ◌-◌, [], sym, ap, subst, arith, length}
 use Rattle.tie_walk.specs.Ceilings.{IsBound}
-use Rattle.tie_walk.specs.Steps.Walks.{committees_below, is_above, those_above}
+use Rattle.tie_walk.specs.Steps.Walks.{committees_below, those_above}
 use Rattle.tie_walk.proofs.WalkLemmas.{step-past, step-grown, step-short, step-bound, work-past, place-past}
 use Rattle.tie_walk.proofs.winners.next_place.Goals as goal
 use Rattle.tie_walk.proofs.winners.next_place.Goals.{else-left-m-via-then-left-m+else-may_exceed, else-left-m-via-else-left-m}

@@ -1,0 +1,71 @@
+use Rattle.std.proofs.Common.{◌≡◌, ℕ, ◌+◌, ◌^◌, ◌≤◌, ◌<◌, ◌∙◌, Bool, true, false, cond, ap, sym, arith, get_or}
+use Rattle.ballot_base.specs.CandSet.{has_member}
+use Rattle.ballot_base.specs.Ballots.{Election}
+use Rattle.ballot_base.specs.Increments.{increments}
+use Rattle.tie_walk.specs.Sequences.{gain}
+use Rattle.tie_walk.specs.Values.{thiele_value, Thiele, thiele_of}
+use Rattle.tie_walk.proofs.Gains.{gain-most, weights-small}
+use Rattle.tie_walk.proofs.TableLemmas.{sums-most, weights-least}
+use Rattle.tie_walk.proofs.TableSums.{hits-fit, hits-value}
+use Rattle.tie_walk.proofs.thiele.ThieleTally.value_and_gains.Goals as goal
+
+pub sum_of_hits-value-requires : goal.sum_of_hits-value-requires
+sum_of_hits-value-requires g c x = sums-most c.self.inside.rule c.self.inside.k c.self.inside.sums x c.self.invariant.size c.self.invariant.sums_are
+
+pub worths-requires : goal.worths-requires
+worths-requires g c j =
+    let t = c.self.inside in
+    omega (arith, weights-small t.rule t.k t.weights j c.self.invariant.size c.self.invariant.weights_are)
+
+pub returns-then-self-ge-SMALL-clause-small : goal.returns-then-self-ge-SMALL-clause-small
+returns-then-self-ge-SMALL-clause-small g c n =
+    let t = c.self.inside in
+    let small : (i : ℕ) → get_or t.weights i 0 ≤ 2 ^ 84 = λ i. weights-small t.rule t.k t.weights i c.self.invariant.size c.self.invariant.weights_are in
+    omega (arith, c.worths.ensures n, gain-most t.profile.now t.weights c.args.set n (2 ^ 84) c.m-m.ensures.valid small)
+
+pub hits_and_gains-requires : goal.hits_and_gains-requires
+hits_and_gains-requires g c =
+    let t = c.self.inside in
+    record { small = λ j. omega (arith, weights-least t.rule t.k t.weights t.sums j c.self.invariant.weights_are c.self.invariant.sums_are, c.if-self-ge-SMALL.false) }
+
+pub sum_of_worths-value-requires-clause-fits : goal.sum_of_worths-value-requires-clause-fits
+sum_of_worths-value-requires-clause-fits g c =
+    let t = c.self.inside in
+    hits-fit t.profile.now c.m-m.ensures.valid c.args.set c.hits_and_gains.result.0 t.sums c.m-m.result c.m-m.ensures.value c.hits_and_gains.ensures.counts
+    (λ x. sums-most t.rule t.k t.sums x c.self.invariant.size c.self.invariant.sums_are)
+
+pub returns-clause-value : goal.returns-clause-value
+returns-clause-value g c =
+    let t = c.self.inside in
+    let same : thiele_of t.profile.now t.rule t.k ≡ c.args.self.now = c.self.view_is in
+    c.sum_of_worths-value.ensures
+    ∙ hits-value t.profile.now c.m-m.ensures.valid c.args.set c.hits_and_gains.result.0 t.sums c.m-m.result c.m-m.ensures.value c.hits_and_gains.ensures.counts (increments t.rule t.k) c.self.invariant.sums_are
+    ∙ ap (λ (x : Thiele). thiele_value (increments x.rule x.k) x.election.rows c.args.set) same
+
+pub returns-clause-gains : goal.returns-clause-gains
+returns-clause-gains g c n low high =
+    let t = c.self.inside in
+    let e : Election = t.profile.now in
+    let same : thiele_of e t.rule t.k ≡ c.args.self.now = c.self.view_is in
+    let size : e.m ≡ c.args.self.now.election.m = ap (λ (x : Thiele). x.election.m) same in
+    let wanted : has_member c.those_after-others.result n ≡ true = c.those_after-others.ensures n low (omega (arith, high, size, c.m-m.ensures.value)) in
+    c.widened.ensures n ∙ c.hits_and_gains.ensures.gains n
+    ∙ ap (λ b. cond b (gain t.weights e.rows c.args.set n) 0) wanted
+    ∙ ap (λ l. gain l e.rows c.args.set n) c.self.invariant.weights_are
+    ∙ ap (λ (x : Thiele). gain (increments x.rule x.k) x.election.rows c.args.set n) same
+
+pub returns-clause-small : goal.returns-clause-small
+returns-clause-small g c n =
+    let t = c.self.inside in
+    let small : (i : ℕ) → get_or t.weights i 0 ≤ 2 ^ 84 = λ i. weights-small t.rule t.k t.weights i c.self.invariant.size c.self.invariant.weights_are in
+    omega (
+      arith,
+      c.widened.ensures n,
+      c.hits_and_gains.ensures.gains n,
+      part-most (has_member c.those_after-others.result n) (gain t.weights t.profile.now.rows c.args.set n),
+      gain-most t.profile.now t.weights c.args.set n (2 ^ 84) c.m-m.ensures.valid small,
+    )
+  where
+    part-most : (b : Bool) (n : ℕ) → cond b n 0 ≤ n
+    part-most true n = omega arith
+    part-most false n = omega arith

@@ -1,0 +1,89 @@
+use Rattle.std.proofs.Common.{◌≡◌, ◌-◌, ◌∙◌, true, [], Some, refl, sym, ap, subst, arith, length}
+use Rattle.ballot_base.specs.Lists.{IsIncreasing}
+use Rattle.ballot_base.specs.CandSet.{members_upto}
+use Rattle.tie_walk.specs.Ceilings.{is_open}
+use Rattle.tie_walk.specs.Steps.Walks.{committees_below, committees_after, IsPlace, those_reaching, open_after, open_from}
+use Rattle.tie_walk.specs.declared.prefix.Prefix.{Prefix}
+use Rattle.tie_walk.proofs.WalkLemmas.{from-past, place-past, after-start}
+use Rattle.tie_walk.proofs.OpenLemmas.{open-past}
+use Rattle.tie_walk.proofs.LiveLemmas.{upto-all, upto-none, upto-increasing, upto-few, left-early, down-step}
+use Rattle.tie_walk.proofs.walk.begin_after.Goals as goal
+
+pub loop-c-init : goal.loop-c-init
+loop-c-init g c =
+    let none : members_upto c.args.start 0 ≡ [] = upto-none 1 c.args.m 0 c.args.start (omega arith) c.requires.start.0 in
+    let all : c.args.m - 0 ≡ c.args.m = omega arith in
+    record { entered = refl; known = c.requires.known; few = rw (none, all) (omega arith) }
+
+pub enter-requires-clause-place : goal.enter-requires-clause-place
+enter-requires-clause-place g c =
+    let start = c.args.start in
+    let n = c.loop-c.c in (
+      omega (arith, c.loop-c-test.true),
+      subst (IsIncreasing 1 n) (sym c.upto-set.ensures) (upto-increasing 1 c.args.m n start c.requires.start.0),
+      omega (arith, ap length c.upto-set.ensures, upto-few c.args.m c.args.k n start c.requires.start.0 c.requires.start.1),
+    )
+
+pub past-place-requires-clause-candidates : goal.past-place-requires-clause-candidates
+past-place-requires-clause-candidates g c =
+    subst (IsIncreasing 1 c.loop-c.c) (sym c.upto-set.ensures) (upto-increasing 1 c.args.m c.loop-c.c c.args.start c.requires.start.0)
+
+pub returns-in_default-clause-begun : goal.returns-in_default-clause-begun
+returns-in_default-clause-begun g c =
+    let value = g.T.Tally.value_of c.args.tally.now in
+    let bound = g.T.Tally.bound_of c.args.tally.now in
+    let m = c.args.m in
+    let k = c.args.k in
+    let best = c.args.best in
+    let start = c.args.start in
+    let n = c.loop-c.c in
+    let prefix : Prefix = record { c = n; set = c.upto-set.result } in
+    let next = c.past-place.result in
+    let cut : c.upto-set.result ≡ members_upto start n = c.upto-set.ensures in
+    let none : those_reaching value best (committees_below m k n (members_upto start n)) ≡ [] =
+    subst (λ s. those_reaching value best (committees_below m k n s) ≡ []) cut (c.in_default.ensures.none refl) in
+    let here : IsPlace m k (Some prefix) =
+    (omega (arith, c.loop-c-test.true), subst (IsIncreasing 1 n) (sym cut) (upto-increasing 1 m n start c.requires.start.0), omega (arith, ap length cut, upto-few m k n start c.requires.start.0 c.requires.start.1)) in
+    let still : open_from bound m k best next ≡ open_after bound m k best [] (members_upto start n) = open-past bound m k best prefix next c.past-place.ensures ∙ ap (open_after bound m k best []) cut in
+    record {
+      next = ap (those_reaching value best) (from-past m k prefix next c.past-place.ensures ∙ ap (committees_after m k []) cut)
+          ∙ left-early m k value best n start (omega (arith, c.loop-c-test.true)) c.requires.start.0 c.requires.start.1 none;
+      place = place-past m k prefix next here c.past-place.ensures;
+      few = omega (arith, still, c.loop-c.invariant.entered, c.loop-c.invariant.few, c.loop-c-test.true);
+      all = λ e. absurd (cc);
+    }
+
+pub loop-c-preserved : goal.loop-c-preserved
+loop-c-preserved g c =
+    let bound = g.T.Tally.bound_of c.args.tally.now in
+    let start = c.args.start in
+    let n = c.loop-c.c in
+    let is : is_open bound c.args.m c.args.k c.args.best n (members_upto start n) ≡ true =
+    subst (λ s. is_open bound c.args.m c.args.k c.args.best n s ≡ true) c.upto-set.ensures c.in-Some.ensures.count.0 in
+    let step = down-step c.args.m c.args.k bound c.args.best n start c.loop-c-test.true c.requires.start.0 c.requires.start.1 is in
+    record {
+      entered = omega (arith, c.in-Some.ensures.count.1, c.loop-c.invariant.entered);
+      known = c.enter.ensures.known;
+      few = omega (arith, step, c.loop-c.invariant.few);
+    }
+
+pub returns-clause-begun : goal.returns-clause-begun
+returns-clause-begun g c =
+    let value = g.T.Tally.value_of c.args.tally.now in
+    let bound = g.T.Tally.bound_of c.args.tally.now in
+    let m = c.args.m in
+    let k = c.args.k in
+    let best = c.args.best in
+    let start = c.args.start in
+    let prefix : Prefix = record { c = m; set = start } in
+    let next = c.past-place-2.result in
+    let here : IsPlace m k (Some prefix) = (omega arith, c.requires.start.0, omega (arith, c.requires.start.1)) in
+    let last : c.loop-c.c ≡ m = omega (arith, c.loop-c-test.false, c.loop-c.auto.c-end) in
+    let cut : members_upto start c.loop-c.c ≡ start = ap (members_upto start) last ∙ upto-all 1 m start c.requires.start.0 in
+    let after : open_after bound m k best [] (members_upto start c.loop-c.c) ≡ open_after bound m k best [] start = ap (open_after bound m k best []) cut in
+    record {
+      next = ap (those_reaching value best) (from-past m k prefix next c.past-place-2.ensures ∙ after-start m k start c.requires.start.0 c.requires.start.1);
+      place = place-past m k prefix next here c.past-place-2.ensures;
+      few = omega (arith, open-past bound m k best prefix next c.past-place-2.ensures, after, c.loop-c.invariant.entered, c.loop-c.invariant.few, last);
+      all = λ e. absurd (cc);
+    }
