@@ -89,8 +89,8 @@ pub(crate) fn greatest_sum(worths: &[u128; PLACES], c: u8, m: u8, left: u8) -> u
     sums[usize::from(left)]
 }
 
-/// The last candidate, from c on, for whom the greatest sum of `left` of what the candidates after her have, up to m, is
-/// at least `least`; nothing where it is less for c.
+/// The last candidate, from c on, for whom the greatest sum of `left` of what the candidates after this one have, up to
+/// m, is at least `least`; nothing where it is less for c.
 pub(crate) fn last_reaching(
     worths: &[u128; PLACES],
     c: u8,

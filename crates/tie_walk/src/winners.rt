@@ -47,8 +47,8 @@ impl<'a, T: Tally> Model for Winners<'a, T> {
     } };
 
     ghost invariant = { λ w.
-        IsWalk (T.value_of w.tally.now) (T.bound_of w.tally.now) (T.candidates w.tally.now) w.m w.k w.best w.after w.walk
-        w.levels };
+        IsWalk (T.value_of w.tally.now) (T.bound_of w.tally.now) (T.candidates w.tally.now) w.m w.k w.best w.after
+        w.walk w.levels };
 }
 
 impl<'a, T: Tally> Winners<'a, T> {
@@ -104,8 +104,8 @@ impl<'a, T: Tally> Winners<'a, T> {
     /// and ways back up do not count. Few more than the live ones are entered: those on the way down to a start.
     pub fn entered(&self) -> u128
         ensures count { result ≡ self.now.entered }
-        ensures most { result ≤ live_count (T.bound_of self.now.tally) self.now.m self.now.k self.now.best self.now.after
-            + self.now.m }
+        ensures most { result ≤ live_count (T.bound_of self.now.tally) self.now.m self.now.k self.now.best
+            self.now.after + self.now.m }
     {
         self.walk.entered
     }

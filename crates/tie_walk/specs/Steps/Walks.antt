@@ -71,7 +71,8 @@ abbrev pub those_reaching : (List ℕ → ℕ) → ℕ → List (List ℕ) → L
 those_reaching value best committees = filter (λ set. nat_le best (value set)) committees
 
 module _ (bound : ℕ → List ℕ → ℕ → ℕ) (m k best : ℕ) where
-  -- how many prefixes begin with c and the set, where `rest` candidates come after c and each beginning from c on is open
+  -- how many prefixes begin with c and the set, where `rest` candidates come after c and each beginning from c on is
+  -- open
   abbrev pub open_below : ℕ → ℕ → List ℕ → ℕ
   open_below zero c set = if is_open bound m k best c set then 1 else 0
   open_below (suc rest) c set =
