@@ -19,7 +19,7 @@ use Rattle.group_check.specs.declared.property.Property.TheVariants.{Jr, Pjr, Ej
 use Rattle.seat_share.specs.declared.method.Method.TheVariants.{Hamilton, Dhondt, SainteLague, Huntington, Adams, Dean}
 use Rattle.request_words.specs.declared.words.LineFault.TheVariants.{BadList, TwoPicks, VotesAndInput, Memory}
 use Rattle.request_words.specs.declared.words.ListOption.TheVariants.{Committee, Votes, After}
-use Rattle.request_words.specs.Endings.{behind_last, kind_in_path}
+use Rattle.request_words.specs.Endings.{after_last, kind_in_path}
 use Rattle.request_words.specs.NumberList.{all_there, entry_of, list_of}
 use Rattle.group_check.specs.Names.{property_named}
 use Rattle.seat_share.specs.Names.{method_named}
@@ -43,7 +43,7 @@ unfolding clap_on_literals
 standard_input = refl
 
 file_named : request_of (elect_words (codes "--size" ∷ codes "40" ∷ codes "a.cat" ∷ codes "--rule=av" ∷ [])) ≡ asked 40 None (Some Cat) Usual (Some (codes "a.cat"))
-unfolding clap_on_literals behind_last
+unfolding clap_on_literals after_last
 file_named = refl
 
 leading_zero : request_of (elect_words (codes "--rule" ∷ codes "av" ∷ codes "--size=07" ∷ [])) ≡ av 7 None
@@ -51,7 +51,7 @@ unfolding clap_on_literals
 leading_zero = refl
 
 empty_file : request_of (elect_words (codes "--rule" ∷ codes "av" ∷ codes "--size" ∷ codes "2" ∷ [] ∷ [])) ≡ av 2 (Some [])
-unfolding clap_on_literals behind_last
+unfolding clap_on_literals after_last
 empty_file = refl
 
 too_large : request_of (elect_words (codes "--rule" ∷ codes "av" ∷ codes "--size" ∷ codes "41" ∷ [])) ≡ None
@@ -135,7 +135,7 @@ abbrev one_seat : List Text → List Text
 one_seat rest = elect_words (codes "--rule" ∷ codes "av" ∷ codes "--size" ∷ codes "1" ∷ rest)
 
 kind_named : request_of (one_seat (codes "--kind" ∷ codes "soi" ∷ codes "a.toc" ∷ [])) ≡ asked 1 (Some Soi) (Some Toc) Usual (Some (codes "a.toc"))
-unfolding clap_on_literals behind_last
+unfolding clap_on_literals after_last
 kind_named = refl
 
 kind_in_capitals : fault_of program (one_seat (codes "--kind" ∷ codes "SOI" ∷ [])) ≡ kind.InvalidValue ∷ []
@@ -174,13 +174,13 @@ ways : (way_by None None None ≡ Some Usual) × (way_by (Some 2) None None ≡ 
 ways = (refl, refl, refl)
 
 -- the ending of a path
-behind_the_last : behind_last 46 (codes "a.b.c") ≡ Some (codes "c")
-unfolding behind_last
-behind_the_last = refl
+after_the_last : after_last 46 (codes "a.b.c") ≡ Some (codes "c")
+unfolding after_last
+after_the_last = refl
 
 endings : (kind_in_path (codes "a/b.SOC") ≡ Some Soc) × (kind_in_path (codes "a.soc/b") ≡ None) × (kind_in_path (codes ".toi") ≡ Some Toi)
     × (kind_in_path (codes "a.soc.txt") ≡ None) × (kind_in_path [] ≡ None)
-unfolding behind_last
+unfolding after_last
 endings = (refl, refl, refl, refl, refl)
 
 -- ---- properties and methods
@@ -216,7 +216,7 @@ a_check_of_a_file : request_of (codes "committees" ∷ codes "check" ∷ codes "
   file = Some (codes "a.soi");
   names = false;
 })
-unfolding clap_on_literals behind_last
+unfolding clap_on_literals after_last
 a_check_of_a_file = refl
 
 no_committee : fault_of program (codes "committees" ∷ codes "check" ∷ codes "--property" ∷ codes "jr" ∷ []) ≡ kind.MissingRequiredArgument ∷ []
@@ -262,11 +262,11 @@ unfolding clap_on_literals
 no_votes = refl
 
 votes_and_a_file : outcome_of (codes "committees" ∷ codes "share" ∷ codes "--method" ∷ codes "adams" ∷ codes "--seats" ∷ codes "1" ∷ codes "--votes" ∷ codes "1" ∷ codes "a.soi" ∷ []) ≡ Some (Err VotesAndInput)
-unfolding clap_on_literals behind_last
+unfolding clap_on_literals after_last
 votes_and_a_file = refl
 
 votes_and_an_empty_file : outcome_of (codes "committees" ∷ codes "share" ∷ codes "--method=adams" ∷ codes "--seats=1" ∷ codes "--votes=1" ∷ [] ∷ []) ≡ Some (Err VotesAndInput)
-unfolding clap_on_literals behind_last
+unfolding clap_on_literals after_last
 votes_and_an_empty_file = refl
 
 votes_and_a_type : outcome_of (codes "committees" ∷ codes "share" ∷ codes "--method" ∷ codes "adams" ∷ codes "--seats" ∷ codes "1" ∷ codes "--votes" ∷ codes "1" ∷ codes "--kind" ∷ codes "soc" ∷ []) ≡ Some (Err VotesAndInput)
@@ -282,7 +282,7 @@ unfolding clap_on_literals
 two_ways_before_votes_and_input = refl
 
 the_votes_before_the_ways : outcome_of (codes "committees" ∷ codes "share" ∷ codes "--method" ∷ codes "adams" ∷ codes "--seats" ∷ codes "1" ∷ codes "--votes" ∷ codes "1,,2" ∷ codes "--setsize" ∷ codes "2" ∷ codes "--classes" ∷ codes "2" ∷ codes "a.soi" ∷ []) ≡ Some (Err (BadList Votes))
-unfolding clap_on_literals behind_last
+unfolding clap_on_literals after_last
 the_votes_before_the_ways = refl
 
 -- ---- the lines on refused words
@@ -371,5 +371,5 @@ unfolding clap_on_literals
 the_votes_before_the_start = refl
 
 the_start_before_votes_and_input : outcome_of (adams (codes "--votes=1" ∷ codes "--after=1," ∷ codes "a.soi" ∷ [])) ≡ Some (Err (BadList After))
-unfolding clap_on_literals behind_last
+unfolding clap_on_literals after_last
 the_start_before_votes_and_input = refl

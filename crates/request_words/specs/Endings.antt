@@ -5,10 +5,10 @@ use Rattle.preflib_text.specs.declared.pick.Kind.{Kind}
 use Rattle.preflib_text.specs.Names.{kind_named}
 
 -- what stands after the last of these bytes; nothing where there is none
-unfoldable pub behind_last : ℕ → List ℕ → Option (List ℕ)
-behind_last b [] = None
-behind_last b (c ∷ cs) = option_or (behind_last b cs) (if c == b then Some cs else None)
+unfoldable pub after_last : ℕ → List ℕ → Option (List ℕ)
+after_last b [] = None
+after_last b (c ∷ cs) = option_or (after_last b cs) (if c == b then Some cs else None)
 
 -- the type that stands after the last `.` of what stands after the last `/`, in letters of any case
 abbrev pub kind_in_path : List ℕ → Option Kind
-kind_in_path path = option_and_then kind_named (behind_last 46 (unwrap_or (behind_last 47 path) path))
+kind_in_path path = option_and_then kind_named (after_last 46 (unwrap_or (after_last 47 path) path))

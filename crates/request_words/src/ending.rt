@@ -1,13 +1,13 @@
 //! The type that the name of a file tells.
 ghost use Rattle.std.specs.Prelude.{◌≡◌, option_map};
-ghost use Rattle.request_words.specs.Endings.{behind_last, kind_in_path};
+ghost use Rattle.request_words.specs.Endings.{after_last, kind_in_path};
 
 use preflib_text::Kind;
 
 /// What stands after the last of these bytes.
-#[tactic(auto, unfolding(crate::specs::Endings::behind_last))]
-fn behind_last(text: &[u8], byte: u8) -> Option<&[u8]>
-    ensures { option_map (λ s. s.now) result ≡ behind_last byte text.now }
+#[tactic(auto, unfolding(crate::specs::Endings::after_last))]
+fn after_last(text: &[u8], byte: u8) -> Option<&[u8]>
+    ensures { option_map (λ s. s.now) result ≡ after_last byte text.now }
 {
     let mut found = None;
     let mut rest = text;
@@ -25,6 +25,6 @@ pub(crate) fn kind_in_path(path: &str) -> Option<Kind>
     ensures { result ≡ kind_in_path path.now }
 {
     let path = path.as_bytes();
-    let name = behind_last(path, b'/').unwrap_or(path);
-    Kind::named(behind_last(name, b'.')?)
+    let name = after_last(path, b'/').unwrap_or(path);
+    Kind::named(after_last(name, b'.')?)
 }

@@ -63,7 +63,7 @@ module _ (bound : ℕ → List ℕ → ℕ → ℕ) (m k best : ℕ) where
   is_open c set =
       nat_le (length set) k && nat_le k (length set + (m - c)) && nat_le best (bound c set (k - length set))
 
--- whether some committee whose members up to c are just the set is later than the start (any, where there is none)
+-- whether some committee whose members up to c are exactly the set is later than the start (any, where there is none)
 abbrev pub is_ahead : ℕ → ℕ → Option (List ℕ) → ℕ → List ℕ → Bool
 is_ahead m k after c set =
     list_any (λ list. bytes_eq (members_upto list c) set) (later_than after (increasing_lists 1 m k))

@@ -23,7 +23,7 @@ pub fn greatest_value()
         Contains (increasing_lists 1 m k) set → value set ≤ best_value value m k }
 {}
 
-/// Which committees win: just those of k of the candidates 1 to m that have the greatest value.
+/// Which committees win: exactly those of k of the candidates 1 to m that have the greatest value.
 pub fn winning_committees()
     ensures { (value : List ℕ → ℕ) (m k : ℕ) (set : List ℕ) → Contains (winners value m k) set
         ↔ (IsIncreasing 1 m set × (length set ≡ k) × (value set ≡ best_value value m k)) }
@@ -85,7 +85,7 @@ pub fn sequences()
         IsTrue (has_least_loss weights rows left (slice_index list i))) }
 {}
 
-/// Which committees win under the sequential rules: just those that some sequence of choices makes.
+/// Which committees win under the sequential rules: exactly those that some sequence of choices makes.
 pub fn sequential_committees()
     ensures seqpav { (e : Election) (k : ℕ) (set : List ℕ) → Contains (sequential_winners SeqRule.SeqPav e k) set
         ↔ ((list : List ℕ) × (length list ≡ k) × IsGrown (hit_weights SeqRule.SeqPav e.m) e.m e.rows list

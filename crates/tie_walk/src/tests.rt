@@ -47,7 +47,7 @@ impl Tally for OddTally {
     }
 }
 
-/// Asserts that just these committees of k win, with the value `best`.
+/// Asserts that exactly these committees of k win, with the value `best`.
 fn assert_winners(rt: &impl Abort, tally: &OddTally, k: u8, best: u128, lists: &[&[u8]])
     requires some { 1 ≤ k }
     requires fits { k ≤ tally.now.m }
@@ -116,7 +116,7 @@ fn the_limits_of_sizes_and_values(rt: HostRuntime) -> Result<(), Fail> {
     Ok(())
 }
 
-/// Adds voters who approve just these of 64 candidates.
+/// Adds voters who approve only these of 64 candidates.
 fn add<A: Allocator + Copy + Drop>(
     builder: &mut ProfileBuilder<A>,
     set: CandSet,
@@ -145,7 +145,7 @@ fn two_pairs(alloc: Global) -> Result<Profile, Fail>
     }
 }
 
-/// Asserts that just these committees of k win under a sequential rule.
+/// Asserts that exactly these committees of k win under a sequential rule.
 fn assert_sequential(
     rt: &impl Abort,
     alloc: Global,
@@ -170,7 +170,7 @@ fn assert_sequential(
     Ok(())
 }
 
-/// Asserts that just these pairs come after the start under Chamberlin-Courant, where each of four voters approves a
+/// Asserts that only these pairs come after the start under Chamberlin-Courant, where each of four voters approves a
 /// member of a winner.
 fn assert_after(
     rt: &impl Abort,

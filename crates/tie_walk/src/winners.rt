@@ -114,7 +114,7 @@ impl<'a, T: Tally> Winners<'a, T> {
 impl<'a, T: Tally> Iterator for Winners<'a, T> {
     type Item = CandSet;
 
-    // The first of the winners left, or nothing where none is left: then, without a start, just the live prefixes were
+    // The first of the winners left, or nothing where none is left: then, without a start, exactly the live prefixes were
     // entered. All else is as it was.
     ghost next_gives = { λ s r t. YieldsFirst (λ (w : Winning T). w.left) s r t
         × (t.tally ≡ s.tally) × (t.m ≡ s.m) × (t.k ≡ s.k) × (t.best ≡ s.best) × (t.after ≡ s.after)

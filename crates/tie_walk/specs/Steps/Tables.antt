@@ -24,7 +24,7 @@ abbrev pub sum_of_worths : List ℕ → List ℕ → ℕ → ℕ
 sum_of_worths counts worths most =
     sum (map (λ j. slice_index counts j * slice_index worths j) (range_with_len 0 (most + 1)))
 
--- the last candidate, from c on, with so great a sum of `left` of what the candidates after her have
+-- the last candidate, from c on, with so great a sum of `left` of what the candidates after it have
 pub record IsLastReaching (worth : ℕ → ℕ) (c m left least last : ℕ) : Type 0 where
   pub low : c ≤ last
   pub high : last + left ≤ m

@@ -9,7 +9,7 @@ use Rattle.tie_walk.specs.declared.prefix.Prefix.{Prefix}
 use Rattle.tie_walk.specs.declared.walk.Known.{Known}
 use Rattle.tie_walk.specs.declared.walk.Walk.{Walk}
 
--- the committees of k of the candidates 1 to m whose members up to c are just the set, of no more than k
+-- the committees of k of the candidates 1 to m whose members up to c are exactly the set, of no more than k
 abbrev pub committees_below : ℕ → ℕ → ℕ → List ℕ → List (List ℕ)
 committees_below m k c set = map (λ added. set ++ added) (increasing_lists (c + 1) m (k - length set))
 

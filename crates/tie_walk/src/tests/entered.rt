@@ -120,7 +120,7 @@ fn is_open<T: Tally>(tally: &T, m: u8, k: u8, best: u128, c: u8, word: u64) -> b
     true
 }
 
-/// Whether a committee after the start has just the members of this prefix up to c.
+/// Whether a committee after the start has exactly the members of this prefix up to c.
 fn is_ahead(m: u8, k: u8, start: CandSet, c: u8, word: u64) -> bool
     requires most { m ≤ most_candidates }
     requires within { c ≤ m }
@@ -137,7 +137,7 @@ fn is_ahead(m: u8, k: u8, start: CandSet, c: u8, word: u64) -> bool
     false
 }
 
-/// Asserts that the walk over all winners enters just the live prefixes.
+/// Asserts that the walk over all winners enters exactly the live prefixes.
 fn assert_all_live<T: Tally>(rt: &impl Abort, tally: &T, m: u8, k: u8)
     requires candidates { m ≡ T.candidates tally.now }
     requires most { m ≤ 10 }

@@ -54,12 +54,12 @@ ReadsBallots pick bytes (Err Memory) = Unit {0}
 ReadsBallots pick bytes (Err ReadFailed) = Unit {0}
 ReadsBallots pick bytes (Err refusal) = ⊥
 
--- a call of the reader has failed just where that is the refusal
+-- a call of the reader has failed exactly where that is the refusal
 abbrev pub TellsOfReads : {T : Type 0} → Bool → Bool → Result T Refusal → Type 0
 TellsOfReads old new (Err ReadFailed) = new ≡ true
 TellsOfReads old new result = new ≡ old
 
--- a call of the writer has failed just where that is the refusal
+-- a call of the writer has failed exactly where that is the refusal
 abbrev pub TellsOfWrites : {T : Type 0} → Bool → Bool → Result T Refusal → Type 0
 TellsOfWrites old new (Err WriteFailed) = new ≡ true
 TellsOfWrites old new result = new ≡ old

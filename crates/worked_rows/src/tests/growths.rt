@@ -73,7 +73,7 @@ fn has_refused(heap: &Refusing) -> bool {
     heap.left.get() == 0
 }
 
-/// Asserts that a run over these bytes ends so just where no growth is refused. The run takes memory so often at least.
+/// Asserts that a run over these bytes ends so exactly where no growth is refused. The run takes memory so often at least.
 fn assert_growths_of_run(
     rt: &impl Abort,
     alloc: Global,
@@ -172,7 +172,7 @@ fn votes_in_the_words(rt: HostRuntime) -> Result<(), Fail> {
     Ok(())
 }
 
-/// Asserts that a file is read just where no growth is refused, and that each growth is refused at a line that takes
+/// Asserts that a file is read exactly where no growth is refused, and that each growth is refused at a line that takes
 /// memory, the later ones at no earlier line.
 fn assert_growths_of_reading(rt: &impl Abort, alloc: Global, file: File) -> Result<(), Fail> {
     let kind = file.kind;
@@ -279,7 +279,7 @@ fn the_first_growth_of_a_reading(rt: HostRuntime) -> Result<(), Fail> {
     Ok(())
 }
 
-/// Adds, for each candidate from 1 to 9, as many voters who approve just that one. Where a growth is refused it adds
+/// Adds, for each candidate from 1 to 9, as many voters who approve only that one. Where a growth is refused it adds
 /// them again, or leaves them out. To a ballot that is there it adds 100 voters, which takes no memory. Answers whom a
 /// growth was refused for.
 fn add_nine<A: Allocator + Copy + Drop>(
