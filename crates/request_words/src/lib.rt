@@ -2,6 +2,7 @@
 #![tactic(auto)]
 
 mod ending;
+mod help;
 pub mod laws;
 mod number_list;
 pub mod request;

@@ -22,6 +22,7 @@ ghost use Rattle.request_words.specs.Words.{program, request_of, required, resul
 ghost use Rattle.request_words.specs.Words.{wants_names, way_by, way_in, way_names, without_both};
 
 use crate::ending::kind_in_path;
+use crate::help;
 use crate::number_list::list_of;
 use crate::request::{MOST_LIMIT, Page, Request, Rule, Task};
 use ballot_base::MOST_MEMBERS;
@@ -130,6 +131,7 @@ fn program<'a>(alloc: Global) -> Result<Command<'a>, AllocError>
         .about(
             "Elects committees by the approval ballots of PrefLib files, checks them, and shares out seats",
         )
+        .after_long_help(help::PROGRAM)
         .subcommand_required(true)
         .subcommand(elect(alloc)?)?
         .subcommand(check(alloc)?)?
@@ -142,6 +144,7 @@ fn elect<'a>(alloc: Global) -> Result<Command<'a>, AllocError>
 {
     let elect = Command::new(alloc, "elect")
         .about("Prints every committee that wins")
+        .after_long_help(help::ELECT)
         .arg(rule_option(alloc))?
         .arg(size_option(alloc))?;
     with_input(alloc, with_page(alloc, elect)?)
@@ -155,6 +158,7 @@ fn check<'a>(alloc: Global) -> Result<Command<'a>, AllocError>
         .about(
             "Tells whether a committee represents the voters, and prints a group that it leaves out",
         )
+        .after_long_help(help::CHECK)
         .arg(property_option(alloc))?
         .arg(committee_option(alloc))?;
     with_input(alloc, check)
@@ -166,6 +170,7 @@ fn share<'a>(alloc: Global) -> Result<Command<'a>, AllocError>
 {
     let share = Command::new(alloc, "share")
         .about("Prints every way to share out seats among parties")
+        .after_long_help(help::SHARE)
         .arg(method_option(alloc))?
         .arg(seats_option(alloc))?
         .arg(votes_option(alloc))?;
@@ -222,7 +227,7 @@ fn property_option<'a>(alloc: Global) -> Arg<'a>
         .value_name("PROPERTY")
         .required(true)
         .value_parser(Property::NAMES.as_slice())
-        .help("The property that the committee may have")
+        .help("The property that the committee is checked for")
 }
 
 fn committee_option<'a>(alloc: Global) -> Arg<'a>
@@ -263,7 +268,7 @@ fn votes_option<'a>(alloc: Global) -> Arg<'a>
     Arg::new(alloc, "votes")
         .long("votes")
         .value_name("LIST")
-        .help("The votes of each party, as 53,24,23; without them those of the ballots count")
+        .help("The votes of each party, as 53,24,23 [default: those of the ballots]")
 }
 
 fn after_option<'a>(alloc: Global) -> Arg<'a>
@@ -272,7 +277,7 @@ fn after_option<'a>(alloc: Global) -> Arg<'a>
     Arg::new(alloc, "after")
         .long("after")
         .value_name("LIST")
-        .help("Prints the answers that come after this one alone, as 2,3,5")
+        .help("Prints only the answers that come after this one, as 2,3,5")
 }
 
 fn limit_option<'a>(alloc: Global) -> Arg<'a>
@@ -282,7 +287,7 @@ fn limit_option<'a>(alloc: Global) -> Arg<'a>
         .long("limit")
         .value_name("N")
         .value_parser(value_parser!(u32).range(1..=i64::from(MOST_LIMIT)))
-        .help("Prints N answers at most, and whether there are more")
+        .help("Prints N answers at most, and whether there are more [default: all]")
 }
 
 fn names_option<'a>(alloc: Global) -> Arg<'a>
@@ -301,7 +306,7 @@ fn kind_option<'a>(alloc: Global) -> Arg<'a>
         .long("kind")
         .value_name("KIND")
         .value_parser(Kind::NAMES.as_slice())
-        .help("The type of the file, whatever the file says of it")
+        .help("The type of the file [default: its line DATA TYPE, or its ending]")
 }
 
 fn category_option<'a>(alloc: Global) -> Arg<'a>
@@ -311,7 +316,7 @@ fn category_option<'a>(alloc: Global) -> Arg<'a>
         .long("category")
         .value_name("N")
         .value_parser(value_parser!(u32).range(1..=1_000_000))
-        .help("Approves category N of a cat file")
+        .help("Approves category N of a cat file [default: the first]")
 }
 
 fn set_size_option<'a>(alloc: Global) -> Arg<'a>
@@ -331,14 +336,14 @@ fn classes_option<'a>(alloc: Global) -> Arg<'a>
         .long("classes")
         .value_name("N")
         .value_parser(value_parser!(u32).range(1..=1_000_000))
-        .help("Approves the first N classes of a ranking")
+        .help("Approves the first N classes of a ranking [default: the first that is not empty]")
 }
 
 fn file_word<'a>(alloc: Global) -> Arg<'a>
     ensures { IsArgument file_word result }
 {
     Arg::new(alloc, "file").value_name("FILE").help(
-        "The ballots, a PrefLib file; without it they come from standard input",
+        "The ballots, a PrefLib file [default: standard input]",
     )
 }
 

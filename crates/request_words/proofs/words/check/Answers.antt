@@ -12,8 +12,8 @@ pub returns : goal.returns
 returns c =
     let property = c.property_option.ensures in
     let committee = c.committee_option.ensures in
-    let shape_0 = ap app_of_fields c.about.ensures ∙ c.new.ensures.app in
-    let local_0 = ap (λ f. f.has_globals) c.about.ensures ∙ c.new.ensures.local in
+    let shape_0 = ap app_of_fields c.after_long_help.ensures ∙ ap app_of_fields c.about.ensures ∙ c.new.ensures.app in
+    let local_0 = ap (λ f. f.has_globals) c.after_long_help.ensures ∙ ap (λ f. f.has_globals) c.about.ensures ∙ c.new.ensures.local in
     let shape_1 = c.in_ok-arg.ensures.shape property.2.1 ∙ ap₂ with_rule shape_0 property.2.0 in
     let local_1 = stays_local _ _ _ c.in_ok-arg.ensures.globals property.2.1 ∙ local_0 in
     let shape_2 = c.in_ok-check.ensures.shape committee.1 ∙ ap₂ with_rule shape_1 committee.0 in

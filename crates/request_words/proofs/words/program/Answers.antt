@@ -10,7 +10,7 @@ returns c =
     let elect = c.in_ok-elect.ensures in
     let check = c.in_ok-check.ensures in
     let share = c.in_ok-share.ensures in
-    let about = ap app_of_fields c.about.ensures ∙ c.new.ensures.app in
+    let about = ap app_of_fields c.after_long_help.ensures ∙ ap app_of_fields c.about.ensures ∙ c.new.ensures.app in
     let bare = ap app_of_fields c.subcommand_required.ensures
     ∙ ap (λ (a : App). record a { top = record a.top { subcommand_required = true } }) about in
     let first = c.in_ok-subcommand.ensures.shape elect.5 ∙ ap (λ a. with_subcommand a (shape_of c.in_ok-elect.field-0)) bare in
