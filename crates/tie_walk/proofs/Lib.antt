@@ -10,6 +10,7 @@ pub mod Groups
 pub mod LawLemmas
 pub mod LevelLemmas
 pub mod LiveLemmas
+pub mod LivePrefixes
 pub mod OpenLemmas
 pub mod OrderLemmas
 pub mod RangeLemmas

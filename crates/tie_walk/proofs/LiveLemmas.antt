@@ -37,7 +37,7 @@ upto-part c d m set added low up more =
     filter-append (λ n. nat_le n d) set added ∙ ap (λ l. l ++ members_upto added d) (upto-all 1 d set up)
     ∙ ap (λ l. set ++ l) (upto-none (c + 1) m d added (omega arith) more) ∙ append_none set
 
-upto-twice : (c : ℕ) (set : List ℕ) → members_upto (members_upto set (c + 1)) c ≡ members_upto set c
+pub upto-twice : (c : ℕ) (set : List ℕ) → members_upto (members_upto set (c + 1)) c ≡ members_upto set c
 upto-twice c [] = refl
 upto-twice c (x ∷ set) = elim (cases_lt (c + 1) x) [
   | inl high ↦ rw (lt-leb x (c + 1) high, lt-leb x c (omega arith)) (upto-twice c set)

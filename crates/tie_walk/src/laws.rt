@@ -1,14 +1,14 @@
 //! Laws of the definitions. Each function does nothing, and its contract is the law.
-ghost use Rattle.std.specs.Prelude.{◌≡◌, ◌≢◌, ℕ, ◌+◌, ◌-◌, ◌^◌, ◌<◌, ◌≤◌, ◌↔◌, List, [], ◌∷◌, ◌++◌, Some, length, map, fold, take, slice_index, IsTrue, Contains, AllPairs};
+ghost use Rattle.std.specs.Prelude.{◌≡◌, ◌≢◌, ℕ, ◌+◌, ◌-◌, ◌^◌, ◌<◌, ◌≤◌, ◌↔◌, List, [], ◌∷◌, ◌++◌, Option, Some, length, map, fold, take, slice_index, IsTrue, Contains, AllPairs};
 ghost use Rattle.std.specs.List.{AllByRecursion, range_with_len};
 ghost use Rattle.ballot_base.specs.Limits.{most_members};
 ghost use Rattle.ballot_base.specs.Increments.{increments};
 ghost use Rattle.ballot_base.specs.Ballots.{Row, Election, IsElection};
 ghost use Rattle.ballot_base.specs.Lists.{IsIncreasing, increasing_lists, AreInOrder, later_than};
-ghost use Rattle.ballot_base.specs.CandSet.{with_member, without_member};
+ghost use Rattle.ballot_base.specs.CandSet.{with_member, without_member, members_upto};
 ghost use Rattle.tie_walk.specs.RuleNames.{seq_name, seq_named, seq_rules};
 ghost use Rattle.tie_walk.specs.Sequences.{hit_weights, has_greatest_gain, has_least_loss, IsGrown, IsShrunk, sequential_winners};
-ghost use Rattle.tie_walk.specs.Ceilings.{IsSubmodular, IsBound, ceiling, closeness_upto};
+ghost use Rattle.tie_walk.specs.Ceilings.{Prefix, IsLive, IsSubmodular, IsBound, ceiling, closeness_upto, live_below};
 ghost use Rattle.tie_walk.specs.Values.{greatest_distance, closeness, satisfaction_value, thiele_value};
 ghost use Rattle.tie_walk.specs.Winners.{best_value, winners};
 
@@ -58,6 +58,15 @@ pub fn ceilings()
         → IsIncreasing 1 c set → IsBound value m c set left (ceiling value m c set left) }
     ensures distances { (m : ℕ) (rows : List Row) (c : ℕ) (set : List ℕ) (left : ℕ)
         → IsIncreasing 1 c set → IsBound (closeness m rows) m c set left (closeness_upto m rows c set) }
+{}
+
+/// Which prefixes are counted: a prefix is live exactly where neither below it nor below one of its beginnings the count
+/// is 0. So the count, which takes 1 for each such prefix, is that of the live ones.
+pub fn live_prefixes()
+    ensures { (bound : ℕ → List ℕ → ℕ → ℕ) (m k best : ℕ) (after : Option (List ℕ)) (prefix : Prefix)
+        → IsIncreasing 1 prefix.c prefix.set → prefix.c ≤ m → IsLive bound m k best after prefix
+        ↔ ((c : ℕ) → c ≤ prefix.c
+        → 1 ≤ live_below bound m k best after (m - c) c (members_upto prefix.set c)) }
 {}
 
 /// `SeqRule::ALL` has each rule, and no two rules share a name.
