@@ -27,6 +27,7 @@ pub mod HitWeights
 pub mod TotalLemmas
 pub mod ValueExamples
 pub mod WalkExamples
+pub mod WaitLemmas
 pub mod WalkLemmas
 pub mod WinnersLemmas
 pub mod WorthLemmas

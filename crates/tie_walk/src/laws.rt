@@ -8,7 +8,7 @@ ghost use Rattle.ballot_base.specs.Lists.{IsIncreasing, increasing_lists, AreInO
 ghost use Rattle.ballot_base.specs.CandSet.{with_member, without_member};
 ghost use Rattle.tie_walk.specs.RuleNames.{seq_name, seq_named, seq_rules};
 ghost use Rattle.tie_walk.specs.Sequences.{hit_weights, has_greatest_gain, has_least_loss, IsGrown, IsShrunk, sequential_winners};
-ghost use Rattle.tie_walk.specs.Ceilings.{IsSubmodular, IsBound, ceiling, closeness_upto};
+ghost use Rattle.tie_walk.specs.Ceilings.{IsSubmodular, IsBound, IsTight, IsExactAtBest, ceiling, closeness_upto};
 ghost use Rattle.tie_walk.specs.Values.{greatest_distance, closeness, satisfaction_value, thiele_value};
 ghost use Rattle.tie_walk.specs.Winners.{best_value, winners};
 
@@ -58,6 +58,12 @@ pub fn ceilings()
         → IsIncreasing 1 c set → IsBound value m c set left (ceiling value m c set left) }
     ensures distances { (m : ℕ) (rows : List Row) (c : ℕ) (set : List ℕ) (left : ℕ)
         → IsIncreasing 1 c set → IsBound (closeness m rows) m c set left (closeness_upto m rows c set) }
+{}
+
+/// Where no bound is too high, a bound that reaches a value tells that some completion reaches it, whatever is best.
+pub fn tight_bounds()
+    ensures { (value : List ℕ → ℕ) (bound : ℕ → List ℕ → ℕ → ℕ) (m k best : ℕ) → IsTight value bound m k
+        → IsExactAtBest value bound m k best }
 {}
 
 /// `SeqRule::ALL` has each rule, and no two rules share a name.
