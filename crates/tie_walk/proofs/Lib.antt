@@ -24,6 +24,7 @@ pub mod Submodular
 pub mod TableLemmas
 pub mod TableSums
 pub mod HitWeights
+pub mod TightLemmas
 pub mod TotalLemmas
 pub mod ValueExamples
 pub mod WalkExamples

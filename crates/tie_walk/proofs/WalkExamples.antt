@@ -2,7 +2,7 @@
 -- is the sum of its members.
 use Rattle.std.proofs.Common.{◌≡◌, ℕ, ◌+◌, ◌*◌, List, [], ◌∷◌, true, false, refl, lit≤, lit<, Some, None, sum, arith}
 use Rattle.ballot_base.specs.Lists.{lists_of}
-use Rattle.tie_walk.specs.Steps.Walks.{committees_below, committees_after, committees_from, IsPlace, IsPast, work_left, is_above, those_above, IsFound, IsVisit, those_reaching, open_below, open_after, open_from, IsStride, IsRaised, IsBegun, IsKnown, IsWalk}
+use Rattle.tie_walk.specs.Steps.Walks.{committees_below, committees_after, committees_from, IsPlace, IsPast, work_left, is_above, those_above, IsFound, IsVisit, those_reaching, open_below, open_after, open_from, IsStride, is_alive, waits_at, waits_after, waits_from, IsWait, IsRaised, IsBegun, IsKnown, IsWalk}
 use Rattle.tie_walk.specs.declared.prefix.Prefix.{Prefix}
 use Rattle.tie_walk.specs.declared.walk.Counts.{Counts}
 use Rattle.tie_walk.specs.declared.walk.Known.{Known}
@@ -119,6 +119,32 @@ past_one_is_a_stride = record { next = refl; count = refl; place = (lit≤ tt, t
 raised_past_one : IsRaised 3 (Some with_one) one_entered first_without_one
 unfolding with_one without_one one_entered one_of_two_entered first_without_one
 raised_past_one = record { entered = lit≤ tt; asked = lit≤ tt; work = lit≤ tt }
+
+-- ---- how many bounds are asked for at most until 2 and 3 is found
+none_with_one : is_alive sum 3 2 5 1 (1 ∷ []) ≡ false
+unfolding lists_of
+none_with_one = refl
+
+some_without_one : is_alive sum 3 2 5 1 [] ≡ true
+unfolding lists_of
+some_without_one = refl
+
+-- two for each of 2 and 3, and one without 1
+five_without_one : waits_at sum 3 2 5 0 1 [] ≡ 5
+unfolding lists_of
+five_without_one = refl
+
+five_after_one : waits_after sum 3 2 5 0 [] (1 ∷ []) ≡ 5
+unfolding lists_of
+five_after_one = refl
+
+six_from_one : waits_from sum 3 2 5 (Some with_one) ≡ 6
+unfolding lists_of with_one
+six_from_one = refl
+
+wait_past_one : IsWait sum 3 2 5 (Some with_one) one_entered None first_without_one
+unfolding lists_of with_one without_one one_entered one_of_two_entered first_without_one
+wait_past_one = lit≤ tt
 
 begun_with_one : IsBegun sum bound_of_three 3 2 5 None first_with_one
 unfolding lists_of bound_of_three with_one one_entered first_with_one
