@@ -1,13 +1,18 @@
 -- Each definition of bounds, computed on a small example.
-use Rattle.std.proofs.Common.{◌≡◌, ℕ, zero, suc, ◌*◌, ◌-◌, ◌≤◌, List, [], ◌∷◌, true, false, refl, lit≤, lit<, Some, None, arith, length, length-append, ◌++◌}
-use Rattle.ballot_base.specs.Lists.{lists_of}
+use Rattle.std.proofs.Common.{◌≡◌, ℕ, zero, suc, ◌*◌, ◌-◌, ◌≤◌, ◌∙◌, sym, ap, List, [], ◌∷◌, true, false, refl, lit≤, lit<, Some, None, arith, length, length-append, ◌++◌}
+use Rattle.std.specs.List.{AllByRecursion}
+use Rattle.std.proofs.lemmas.List.Elements.{All-from_recursion, All-contains}
+use Rattle.ballot_base.specs.Lists.{lists_of, increasing_lists}
+use Rattle.ballot_base.proofs.Committees.{increasing_lists-contains}
 use Rattle.ballot_base.specs.Ballots.{Row}
 use Rattle.ballot_base.specs.CommonMultiple.{common_multiple}
 use Rattle.ballot_base.specs.Increments.{increments}
-use Rattle.ballot_base.specs.declared.increments.ThieleRule.TheVariants.{Pav}
-use Rattle.tie_walk.specs.Ceilings.{greatest_sum, gain_at, IsSubmodular, IsBound, IsShort, IsReach, ceiling, greatest_distance_upto, closeness_upto, Prefix, is_open, is_ahead, IsLive, live_below, live_count}
+use Rattle.ballot_base.specs.declared.increments.ThieleRule.TheVariants.{Av, Pav}
+use Rattle.tie_walk.specs.Ceilings.{greatest_sum, gain_at, IsSubmodular, IsBound, IsAdded, IsTight, IsExactAtBest, IsShort, IsReach, ceiling, greatest_distance_upto, closeness_upto, Prefix, is_open, is_ahead, IsLive, live_below, live_count}
 use Rattle.tie_walk.specs.Steps.Tables.{IsLastReaching, IsLastClose, IsLastNear}
 use Rattle.tie_walk.specs.Values.{thiele_value, satisfaction_value}
+use Rattle.tie_walk.proofs.GreatestSums.{ceiling-whole}
+use Rattle.tie_walk.proofs.WaitLemmas.{tight-exact}
 
 -- of the candidates 1 to 3, two voters approve 1 and 2, and one voter 3
 two_and_one : List Row
@@ -148,3 +153,67 @@ close_upto_two = record { low = lit≤ tt; high = lit≤ tt; close = lit≤ tt; 
 near_upto_one : IsLastNear two_and_one [] 1 0 3 1
 unfolding two_and_one
 near_upto_one = record { low = lit≤ tt; high = lit≤ tt; near = lit≤ tt; next = λ more. lit< tt }
+
+-- ---- bounds that are the value of a completion
+
+-- 3 is one of the candidates after 1
+one_added : IsAdded 3 1 1 (3 ∷ [])
+one_added = ((lit≤ tt, lit≤ tt, tt), refl)
+
+-- one voter approves 1, and two voters 2
+one_for_two : List Row
+one_for_two = (1 ∷ [], 1) ∷ (2 ∷ [], 2) ∷ []
+
+av_of_one : List ℕ → ℕ
+av_of_one set = thiele_value (increments Av 1) one_for_two set
+
+av_ceiling : ℕ → List ℕ → ℕ → ℕ
+av_ceiling c set left = ceiling av_of_one 2 c set left
+
+two_of_both : av_ceiling 0 [] 1 ≡ av_of_one (2 ∷ [])
+unfolding av_ceiling av_of_one one_for_two increments lists_of
+two_of_both = refl
+
+two_without_one : av_ceiling 1 [] 1 ≡ av_of_one (2 ∷ [])
+unfolding av_ceiling av_of_one one_for_two increments lists_of
+two_without_one = refl
+
+-- approval voting for one seat: each bound is the value of the candidate who is in, or of the best who still can be
+av_is_tight : IsTight av_of_one av_ceiling 2 1
+unfolding av_ceiling
+av_is_tight zero [] left inside up size fits =
+    let one : left ≡ 1 = omega (arith, size) in
+    (2 ∷ [], ((lit≤ tt, lit≤ tt, tt), sym one), ap (av_ceiling 0 []) one ∙ two_of_both)
+av_is_tight (suc zero) [] left inside up size fits =
+    let one : left ≡ 1 = omega (arith, size) in
+    (2 ∷ [], ((lit≤ tt, lit≤ tt, tt), sym one), ap (av_ceiling 1 []) one ∙ two_without_one)
+av_is_tight (suc (suc c)) [] left inside up size fits = absurd (omega (arith, size, fits))
+av_is_tight c (x ∷ []) left inside up size fits =
+    let none : left ≡ 0 = omega (arith, size) in
+    ([], (tt, sym none), ap (av_ceiling c (x ∷ [])) none ∙ ceiling-whole av_of_one 2 c (x ∷ []))
+av_is_tight c (x ∷ y ∷ set) left inside up size fits = absurd (omega (arith, size))
+
+av_is_exact : IsExactAtBest av_of_one av_ceiling 2 1 2
+av_is_exact = tight-exact av_of_one av_ceiling 2 1 2 av_is_tight
+
+pav_six_at_most : AllByRecursion (λ set. pav_of_two set ≤ 6) (increasing_lists 1 3 2)
+unfolding pav_of_two two_and_one increments common_multiple lists_of
+pav_six_at_most = (lit≤ tt, (lit≤ tt, (lit≤ tt, tt)))
+
+pav_of_committees : (set : List ℕ) → IsAdded 3 0 2 set → pav_of_two set ≤ 6
+pav_of_committees set is =
+    All-contains (λ s. pav_of_two s ≤ 6) (increasing_lists 1 3 2) set
+    (All-from_recursion (λ s. pav_of_two s ≤ 6) (increasing_lists 1 3 2) pav_six_at_most) (increasing_lists-contains 1 3 2 set is)
+
+-- proportional approval voting: the bound of two seats is 8, and no committee has more than 6
+pav_is_not_tight : IsTight pav_of_two pav_ceiling 3 2 → ⊥
+unfolding pav_ceiling
+pav_is_not_tight tight =
+    let some = tight 0 [] 2 (lit≤ tt) tt refl (lit≤ tt) in
+    absurd (omega (arith, some.2, pav_of_none, pav_of_committees some.0 some.1))
+
+pav_is_not_exact_at_seven : IsExactAtBest pav_of_two pav_ceiling 3 2 7 → ⊥
+unfolding pav_ceiling
+pav_is_not_exact_at_seven exact =
+    let some = exact 0 [] 2 (lit≤ tt) tt refl (lit≤ tt) (omega (arith, pav_of_none)) in
+    absurd (omega (arith, some.2, pav_of_committees some.0 some.1))

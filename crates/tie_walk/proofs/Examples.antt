@@ -32,7 +32,7 @@ all_tie = refl
 
 -- the walk of that election after its first winner
 after_the_first : Winning ℕ
-after_the_first = record { tally = 4; m = 4; k = 2; after = None; best = 3; left = (3 ∷ 4 ∷ []) ∷ []; entered = 6 }
+after_the_first = record { tally = 4; m = 4; k = 2; after = None; best = 3; left = (3 ∷ 4 ∷ []) ∷ []; entered = 6; ceilings = 6 }
 
 one_is_left : after_the_first.left ≡ (3 ∷ 4 ∷ []) ∷ []
 unfolding after_the_first

@@ -23,13 +23,12 @@ use Rattle.tie_walk.proofs.RowSums.{AreBallots, rows-more, rows-bound, all-most,
 use Rattle.tie_walk.proofs.TableLemmas.{sum-take_more, parts-at, sum-take-le, weight-le-sum, increments_sum-most}
 use Rattle.tie_walk.proofs.WorthLemmas.{partial, share, worth-whole, supported}
 
-bit : Bool → ℕ
+abbrev pub bit : Bool → ℕ
 bit b = cond b 1 0
 
 -- one candidate more is one hit more for those who approve it
-hits-with : (first last : ℕ) (ballot set : List ℕ) (x : ℕ) → IsIncreasing first last ballot → has_member set x ≡ false
+pub hits-with : (first last : ℕ) (ballot set : List ℕ) (x : ℕ) → IsIncreasing first last ballot → has_member set x ≡ false
     → hits ballot (with_member set x) ≡ hits ballot set + bit (has_member ballot x)
-unfolding bit
 hits-with first last [] set x up none = refl
 hits-with first last (n ∷ ballot) set x up none =
     let rest = hits-with (n + 1) last ballot set x up.2 none in
@@ -49,18 +48,16 @@ hits-with first last (n ∷ ballot) set x up none =
     ]
 
 product-of-bit : (b : Bool) (n w : ℕ) → n * bit b * w ≡ n * cond b w 0
-unfolding bit
 product-of-bit true n w = omega arith
 product-of-bit false n w = omega arith
 
 -- ---- Thiele's rules
 
 one_more : (b : Bool) (w : List ℕ) (h : ℕ) → sum (take (h + bit b) w) ≡ sum (take h w) + cond b (weight w (h + 1)) 0
-unfolding bit
 one_more true w h = let e : weight w (h + 1) ≡ get_or w h 0 = ap (weight w) (add-one h) in omega (arith, e, sum-take_more w h)
 one_more false w h = let e : h + 0 ≡ h = omega arith in omega (arith, ap (λ n. sum (take n w)) e)
 
-thiele-partial : (m : ℕ) (w : List ℕ) (rows : List Row) (set : List ℕ) (x : ℕ) → AreBallots m rows → has_member set x ≡ false
+pub thiele-partial : (m : ℕ) (w : List ℕ) (rows : List Row) (set : List ℕ) (x : ℕ) → AreBallots m rows → has_member set x ≡ false
     → thiele_value w rows (with_member set x) ≡ thiele_value w rows set + partial Grow w set x rows
 thiele-partial m w [] set x all none = refl
 thiele-partial m w (row ∷ rows) set x all none =
@@ -120,9 +117,9 @@ shares-with m shares (row ∷ rows) set x all none =
       sum_by-cons (λ (r : Row). r.1 * given shares x r) row rows,
     )
 
-pub satisfaction-gain : (m n : ℕ) (shares : List ℕ) (rows : List Row) (set : List ℕ) (x : ℕ) → m ≤ most_candidates → AreBallots m rows → shares ≡ parts (common_multiple n) → has_member set x ≡ false
-    → score shares rows x ≡ gain_at (satisfaction_value n rows) set x
-satisfaction-gain m n shares rows set x most all is none =
+pub satisfaction-more : (m n : ℕ) (shares : List ℕ) (rows : List Row) (set : List ℕ) (x : ℕ) → m ≤ most_candidates → AreBallots m rows → shares ≡ parts (common_multiple n) → has_member set x ≡ false
+    → satisfaction_value n rows (with_member set x) ≡ satisfaction_value n rows set + score shares rows x
+satisfaction-more m n shares rows set x most all is none =
     omega (
       arith,
       score-whole shares rows x,
@@ -130,6 +127,10 @@ satisfaction-gain m n shares rows set x most all is none =
       satisfaction_value-by_parts m n shares rows set most all is,
       satisfaction_value-by_parts m n shares rows (with_member set x) most all is,
     )
+
+pub satisfaction-gain : (m n : ℕ) (shares : List ℕ) (rows : List Row) (set : List ℕ) (x : ℕ) → m ≤ most_candidates → AreBallots m rows → shares ≡ parts (common_multiple n) → has_member set x ≡ false
+    → score shares rows x ≡ gain_at (satisfaction_value n rows) set x
+satisfaction-gain m n shares rows set x most all is none = omega (arith, satisfaction-more m n shares rows set x most all is none)
 
 pub satisfaction-ceiling : (e : Election) (shares scores : List ℕ) (c left : ℕ) (set : List ℕ) → IsElection e → IsIncreasing 1 c set → shares ≡ parts (common_multiple e.m) → ((x : ℕ) → get_or scores x 0 ≡ score shares e.rows x)
     → satisfaction_value e.m e.rows set + greatest_sum (λ x. get_or scores x 0) (c + 1) e.m left ≡ ceiling (satisfaction_value e.m e.rows) e.m c set left
@@ -164,7 +165,7 @@ module _ (shares : List ℕ) (x : ℕ) (small : (n : ℕ) → get_or shares n 0 
   pub share-bound : (e : Election) (i : ℕ) (row : Row) → IsElection e → slice_get e.rows i ≡ Some row → row.1 * get_or shares (length row.0) 0 ≤ 2 ^ 122
   share-bound e i row valid found = omega (arith, rows-bound (λ (r : Row). get_or shares (length r.0) 0) e (2 ^ 90 - 1) i row valid (λ r h. small (length r.0)) found)
 
-hits-none : (ballot : List ℕ) → hits ballot [] ≡ 0
+pub hits-none : (ballot : List ℕ) → hits ballot [] ≡ 0
 hits-none [] = refl
 hits-none (n ∷ ballot) = omega (arith, hits-none ballot, sum_by-cons (λ y. cond (has_member [] y) 1 0) n ballot)
 

@@ -25,9 +25,11 @@ pub mod Submodular
 pub mod TableLemmas
 pub mod TableSums
 pub mod HitWeights
+pub mod TightLemmas
 pub mod TotalLemmas
 pub mod ValueExamples
 pub mod WalkExamples
+pub mod WaitLemmas
 pub mod WalkLemmas
 pub mod WinnersLemmas
 pub mod WorthLemmas

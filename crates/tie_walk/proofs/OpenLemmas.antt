@@ -97,6 +97,11 @@ module _ (bound : ℕ → List ℕ → ℕ → ℕ) (m k best : ℕ) where
       let sizes = and_parts (nat_le (length set) k) (nat_le k (length set + (m - c))) parts.0 in
       (leb-true (length set) k sizes.0, leb-true k (length set + (m - c)) sizes.1)
 
+  pub open-reaches : (c : ℕ) (set : List ℕ) → is_open bound m k best c set ≡ true → best ≤ bound c set (k - length set)
+  open-reaches c set is =
+      let parts = and_parts (nat_le (length set) k && nat_le k (length set + (m - c))) (nat_le best (bound c set (k - length set))) is in
+      leb-true best (bound c set (k - length set)) parts.1
+
   pub shut-large : (c : ℕ) (set : List ℕ) → k < length set → is_open bound m k best c set ≡ false
   shut-large c set large = rw (lt-leb (length set) k large)
 
@@ -108,9 +113,7 @@ module _ (bound : ℕ → List ℕ → ℕ → ℕ) (m k best : ℕ) where
 
   pub shut-low : (c : ℕ) (set : List ℕ) → bound c set (k - length set) < best → is_open bound m k best c set ≡ false
   shut-low c set low = elim (cases_Bool (is_open bound m k best c set)) [
-    | inl is ↦
-        let parts = and_parts (nat_le (length set) k && nat_le k (length set + (m - c))) (nat_le best (bound c set (k - length set))) is in
-        absurd (omega (arith, leb-true best (bound c set (k - length set)) parts.1, low))
+    | inl is ↦ absurd (omega (arith, open-reaches c set is, low))
     | inr shut ↦ shut
   ]
 

@@ -2,8 +2,9 @@
 -- is the sum of its members.
 use Rattle.std.proofs.Common.{◌≡◌, ℕ, ◌+◌, ◌*◌, List, [], ◌∷◌, true, false, refl, lit≤, lit<, Some, None, sum, arith}
 use Rattle.ballot_base.specs.Lists.{lists_of}
-use Rattle.tie_walk.specs.Steps.Walks.{committees_below, committees_after, committees_from, IsPlace, IsPast, work_left, is_above, those_above, IsFound, IsVisit, those_reaching, open_below, open_after, open_from, IsStride, IsBegun, IsKnown, IsWalk}
+use Rattle.tie_walk.specs.Steps.Walks.{committees_below, committees_after, committees_from, IsPlace, IsPast, work_left, is_above, those_above, IsFound, IsVisit, those_reaching, open_below, open_after, open_from, IsStride, is_alive, waits_at, waits_after, waits_from, IsWait, IsRaised, IsBegun, IsKnown, IsWalk}
 use Rattle.tie_walk.specs.declared.prefix.Prefix.{Prefix}
+use Rattle.tie_walk.specs.declared.walk.Counts.{Counts}
 use Rattle.tie_walk.specs.declared.walk.Known.{Known}
 use Rattle.tie_walk.specs.declared.walk.Walk.{Walk}
 
@@ -81,11 +82,17 @@ visit_of_one_and_two = record { next = refl; committee = tt; place = (lit≤ tt,
 bound_of_three : ℕ → List ℕ → ℕ → ℕ
 bound_of_three c set left = sum set + 3 * left
 
+one_entered : Counts
+one_entered = record { entered = 1; ceilings = 1 }
+
+one_of_two_entered : Counts
+one_of_two_entered = record { entered = 1; ceilings = 2 }
+
 first_with_one : Walk
-first_with_one = record { place = Some with_one; entered = 1 }
+first_with_one = record { place = Some with_one; counts = one_entered }
 
 first_without_one : Walk
-first_without_one = record { place = Some without_one; entered = 1 }
+first_without_one = record { place = Some without_one; counts = one_of_two_entered }
 
 one_reaches_five : those_reaching sum 5 ((1 ∷ 2 ∷ []) ∷ (1 ∷ 3 ∷ []) ∷ (2 ∷ 3 ∷ []) ∷ []) ≡ (2 ∷ 3 ∷ []) ∷ []
 one_reaches_five = refl
@@ -105,21 +112,55 @@ three_open_from_one = refl
 
 -- with 1 the bound is 4
 past_one_is_a_stride : IsStride sum bound_of_three 3 2 5 (Some with_one) 1 None first_without_one
-unfolding lists_of bound_of_three with_one without_one first_without_one
+unfolding lists_of bound_of_three with_one without_one one_of_two_entered first_without_one
 past_one_is_a_stride = record { next = refl; count = refl; place = (lit≤ tt, tt, lit≤ tt) }
 
+-- a bound was asked for, which did not let the walk in; of 18 places 9 are left
+raised_past_one : IsRaised 3 (Some with_one) one_entered first_without_one
+unfolding with_one without_one one_entered one_of_two_entered first_without_one
+raised_past_one = record { entered = lit≤ tt; asked = lit≤ tt; work = lit≤ tt }
+
+-- ---- how many bounds are asked for at most until 2 and 3 is found
+none_with_one : is_alive sum 3 2 5 1 (1 ∷ []) ≡ false
+unfolding lists_of
+none_with_one = refl
+
+some_without_one : is_alive sum 3 2 5 1 [] ≡ true
+unfolding lists_of
+some_without_one = refl
+
+-- two for each of 2 and 3, and one without 1
+five_without_one : waits_at sum 3 2 5 0 1 [] ≡ 5
+unfolding lists_of
+five_without_one = refl
+
+five_after_one : waits_after sum 3 2 5 0 [] (1 ∷ []) ≡ 5
+unfolding lists_of
+five_after_one = refl
+
+six_from_one : waits_from sum 3 2 5 (Some with_one) ≡ 6
+unfolding lists_of with_one
+six_from_one = refl
+
+wait_past_one : IsWait sum 3 2 5 (Some with_one) one_entered None first_without_one
+unfolding lists_of with_one without_one one_entered one_of_two_entered first_without_one
+wait_past_one = lit≤ tt
+
 begun_with_one : IsBegun sum bound_of_three 3 2 5 None first_with_one
-unfolding lists_of bound_of_three with_one first_with_one
-begun_with_one = record { next = refl; place = (lit≤ tt, (lit≤ tt, lit≤ tt, tt), lit≤ tt); few = lit≤ tt; all = λ e. refl }
+unfolding lists_of bound_of_three with_one one_entered first_with_one
+begun_with_one = record { next = refl; place = (lit≤ tt, (lit≤ tt, lit≤ tt, tt), lit≤ tt); few = lit≤ tt; all = λ e. refl; asked = lit≤ tt; asks = lit< tt }
 
 walk_of_pairs : IsWalk sum bound_of_three 3 3 2 5 None first_with_one (None ∷ [])
-unfolding lists_of bound_of_three with_one first_with_one
+unfolding lists_of bound_of_three with_one one_entered first_with_one
 walk_of_pairs = record {
   candidates_are = refl;
+  some = lit≤ tt;
   most = lit≤ tt;
   place_is = (lit≤ tt, (lit≤ tt, lit≤ tt, tt), lit≤ tt);
   few = lit≤ tt;
   all = λ e. refl;
+  asked = lit≤ tt;
+  asks = lit< tt;
   known = (tt, tt);
 }
 

@@ -40,6 +40,22 @@ abbrev pub IsBound : (List ℕ → ℕ) → ℕ → ℕ → List ℕ → ℕ →
 IsBound value m c set left bound =
     (added : List ℕ) → IsIncreasing (c + 1) m added → length added ≡ left → value (set ++ added) ≤ bound
 
+-- the list is `left` of the candidates after c: with a set of the candidates 1 to c it is a whole committee
+abbrev pub IsAdded : ℕ → ℕ → ℕ → List ℕ → Type 0
+IsAdded m c left added = IsIncreasing (c + 1) m added × (length added ≡ left)
+
+-- no bound is too high: for committees of k, each is the value of some committee of the set and of `left` of the
+-- candidates after c
+abbrev pub IsTight : (List ℕ → ℕ) → (ℕ → List ℕ → ℕ → ℕ) → ℕ → ℕ → Type 0
+IsTight value bound m k = (c : ℕ) (set : List ℕ) (left : ℕ) → c ≤ m → IsIncreasing 1 c set → length set + left ≡ k
+    → left ≤ m - c → (added : List ℕ) × IsAdded m c left added × (bound c set left ≡ value (set ++ added))
+
+-- wherever a bound reaches the best value, some committee of the set and of `left` of the candidates after c does
+abbrev pub IsExactAtBest : (List ℕ → ℕ) → (ℕ → List ℕ → ℕ → ℕ) → ℕ → ℕ → ℕ → Type 0
+IsExactAtBest value bound m k best = (c : ℕ) (set : List ℕ) (left : ℕ) → c ≤ m → IsIncreasing 1 c set
+    → length set + left ≡ k → left ≤ m - c → best ≤ bound c set left
+    → (added : List ℕ) × IsAdded m c left added × (best ≤ value (set ++ added))
+
 -- the bound of the set is below the best value at c, so that no committee of the set and of `left` of the candidates
 -- after c has that value
 abbrev pub IsShort : (List ℕ → ℕ) → (ℕ → List ℕ → ℕ → ℕ) → ℕ → List ℕ → ℕ → ℕ → ℕ → Type 0

@@ -23,7 +23,8 @@ IsStart m k None = ⊤
 IsStart m k (Some set) = IsIncreasing 1 m set × (length set ≡ k)
 
 -- what contracts see of a walk over the winners: the tally, the number of candidates, the size of a committee, the
--- start, the greatest value of a committee, the winners still to come, and how many prefixes were entered so far
+-- start, the greatest value of a committee, the winners still to come, and how many prefixes were entered and bounds
+-- asked for so far
 pub record Winning (T : Type 0) : Type 0 where
   pub tally : T
   pub m : ℕ
@@ -32,3 +33,4 @@ pub record Winning (T : Type 0) : Type 0 where
   pub best : ℕ
   pub left : List (List ℕ)
   pub entered : ℕ
+  pub ceilings : ℕ

@@ -8,7 +8,8 @@ ghost use Rattle.ballot_base.specs.Lists.{IsIncreasing, increasing_lists, AreInO
 ghost use Rattle.ballot_base.specs.CandSet.{with_member, without_member, members_upto};
 ghost use Rattle.tie_walk.specs.RuleNames.{seq_name, seq_named, seq_rules};
 ghost use Rattle.tie_walk.specs.Sequences.{hit_weights, has_greatest_gain, has_least_loss, IsGrown, IsShrunk, sequential_winners};
-ghost use Rattle.tie_walk.specs.Ceilings.{Prefix, IsLive, IsSubmodular, IsBound, ceiling, closeness_upto, live_below};
+ghost use Rattle.tie_walk.specs.Ceilings.{Prefix, IsLive, IsSubmodular, IsBound, IsTight, IsExactAtBest};
+ghost use Rattle.tie_walk.specs.Ceilings.{ceiling, closeness_upto, live_below};
 ghost use Rattle.tie_walk.specs.Values.{greatest_distance, closeness, satisfaction_value, thiele_value};
 ghost use Rattle.tie_walk.specs.Winners.{best_value, winners};
 
@@ -67,6 +68,12 @@ pub fn live_prefixes()
         → IsIncreasing 1 prefix.c prefix.set → prefix.c ≤ m → IsLive bound m k best after prefix
         ↔ ((c : ℕ) → c ≤ prefix.c
         → 1 ≤ live_below bound m k best after (m - c) c (members_upto prefix.set c)) }
+{}
+
+/// Where no bound is too high, a bound that reaches a value tells that some completion reaches it, whatever is best.
+pub fn tight_bounds()
+    ensures { (value : List ℕ → ℕ) (bound : ℕ → List ℕ → ℕ → ℕ) (m k best : ℕ) → IsTight value bound m k
+        → IsExactAtBest value bound m k best }
 {}
 
 /// `SeqRule::ALL` has each rule, and no two rules share a name.

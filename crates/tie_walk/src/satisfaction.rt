@@ -3,7 +3,7 @@ ghost use Rattle.std.specs.Prelude.{◌≡◌, ℕ, ◌+◌, ◌-◌, ◌*◌, �
 ghost use Rattle.ballot_base.specs.Lists.{IsIncreasing};
 ghost use Rattle.ballot_base.specs.Ballots.{hits};
 ghost use Rattle.ballot_base.specs.CommonMultiple.{common_multiple};
-ghost use Rattle.tie_walk.specs.Ceilings.{ceiling};
+ghost use Rattle.tie_walk.specs.Ceilings.{IsTight, ceiling};
 ghost use Rattle.tie_walk.specs.Values.{satisfaction_value};
 ghost use Rattle.tie_walk.specs.Steps.Tables.{parts, score};
 
@@ -37,9 +37,12 @@ impl<'a, A: Allocator + Copy> Model for SavTally<'a, A> {
 }
 
 impl<'a, A: Allocator + Copy> SavTally<'a, A> {
-    /// The values of sets of the profile's candidates. It takes no memory.
+    /// The values of sets of the profile's candidates. No bound is too high. It takes no memory.
     pub fn new(profile: &'a Profile<A>) -> SavTally<'a, A>
-        ensures { result ≡ profile.now }
+        ensures tally { result ≡ profile.now }
+        ensures tight { (k : ℕ) → IsTight (λ set. satisfaction_value profile.now.m profile.now.rows set)
+            (λ c set left. ceiling (satisfaction_value profile.now.m profile.now.rows) profile.now.m c set left)
+            profile.now.m k }
     {
         let denom = common_multiple(profile.m());
         let shares = parts(denom);

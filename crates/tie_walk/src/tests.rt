@@ -5,6 +5,7 @@ ghost use Rattle.ballot_base.specs.CandSet.{common_members};
 
 mod entered;
 mod values;
+mod waits;
 mod walk;
 
 use crate::{SeqRule, SeqWinners, Tally, ThieleTally, Winners};

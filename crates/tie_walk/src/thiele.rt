@@ -5,7 +5,7 @@ ghost use Rattle.ballot_base.specs.Lists.{IsIncreasing};
 ghost use Rattle.ballot_base.specs.CandSet.{has_member};
 ghost use Rattle.ballot_base.specs.Ballots.{hits, voter_count};
 ghost use Rattle.ballot_base.specs.Increments.{increments, denominator};
-ghost use Rattle.tie_walk.specs.Ceilings.{ceiling};
+ghost use Rattle.tie_walk.specs.Ceilings.{IsTight, ceiling};
 ghost use Rattle.tie_walk.specs.Sequences.{gain};
 ghost use Rattle.tie_walk.specs.Values.{thiele_value};
 ghost use Rattle.tie_walk.specs.Values.{Thiele, thiele_of};
@@ -47,12 +47,17 @@ impl<'a, A: Allocator + Copy> Model for ThieleTally<'a, A> {
 
 impl<'a, A: Allocator + Copy> ThieleTally<'a, A> {
     /// The values for committees of k, 1 to `MOST_MEMBERS`. A larger set has a value too: the members past the k-th
-    /// whom a voter approves add nothing. It takes no memory.
+    /// whom a voter approves add nothing. Under approval voting no bound is too high. It takes no memory.
     pub fn new(profile: &'a Profile<A>, rule: ThieleRule, k: u8) -> ThieleTally<'a, A>
         requires some { 1 ≤ k }
         requires size { k ≤ most_members }
-        ensures { result ≡ thiele_of profile.now rule k }
+        ensures tally { result ≡ thiele_of profile.now rule k }
+        ensures tight { rule ≡ ThieleRule.Av → IsTight (λ set. thiele_value (increments rule k) profile.now.rows set)
+            (λ c set left. ceiling (thiele_value (increments rule k) profile.now.rows) profile.now.m c set left)
+            profile.now.m k }
     {
+        // The ballots of a profile are sets of its candidates.
+        profile.m();
         let increments = Increments::of(rule, k);
         let weights = increments.w;
         let sums = prefix_sums(weights);

@@ -1,7 +1,7 @@
 //! The winning committees of a tally, by a walk from prefix to prefix that enters no prefix whose bound is too low.
-ghost use Rattle.std.specs.Prelude.{◌≡◌, ℕ, ◌+◌, ◌-◌, ◌<◌, ◌≤◌, [], ◌∷◌, List, None, Some, false, length, MatchOption};
+ghost use Rattle.std.specs.Prelude.{◌≡◌, ℕ, ◌+◌, ◌-◌, ◌*◌, ◌<◌, ◌≤◌, [], ◌∷◌, List, None, Some, false, length, MatchOption};
 ghost use Rattle.ballot_base.specs.Lists.{IsIncreasing, increasing_lists, later_than};
-ghost use Rattle.tie_walk.specs.Ceilings.{IsBound, live_count};
+ghost use Rattle.tie_walk.specs.Ceilings.{IsBound, IsExactAtBest, live_count};
 ghost use Rattle.std.specs.Iterator.{YieldsFirst, item_count};
 ghost use Rattle.ballot_base.specs.Limits.{most_candidates};
 ghost use Rattle.tie_walk.specs.Steps.Walks.{committees_from, IsPlace, IsFound, IsVisit, work_left, is_above, those_above};
@@ -43,7 +43,8 @@ impl<'a, T: Tally> Model for Winners<'a, T> {
       after = w.after;
       best = w.best;
       left = those_reaching (T.value_of w.tally.now) w.best (committees_from w.m w.k w.walk.place);
-      entered = w.walk.entered;
+      entered = w.walk.counts.entered;
+      ceilings = w.walk.counts.ceilings;
     } };
 
     ghost invariant = { λ w.
@@ -107,7 +108,17 @@ impl<'a, T: Tally> Winners<'a, T> {
         ensures most { result ≤ live_count (T.bound_of self.now.tally) self.now.m self.now.k self.now.best
             self.now.after + self.now.m }
     {
-        self.walk.entered
+        self.walk.counts.entered
+    }
+
+    /// How many bounds were asked for so far by the walk that hands out the winners: one for each prefix at which it had
+    /// to know whether the bound reaches the greatest value, also where the bound of another prefix had told it. The
+    /// walk that found the greatest value does not count. No prefix is entered without one.
+    pub fn ceilings(&self) -> u128
+        ensures count { result ≡ self.now.ceilings }
+        ensures entered { self.now.entered ≤ result }
+    {
+        self.walk.counts.ceilings
     }
 }
 
@@ -115,10 +126,14 @@ impl<'a, T: Tally> Iterator for Winners<'a, T> {
     type Item = CandSet;
 
     // The first of the winners left, or nothing where none is left: then, without a start, exactly the live prefixes were
-    // entered. All else is as it was.
+    // entered. All else is as it was. The counts never fall, and where bounds are exact at the greatest value, few are
+    // asked for until the next winner or the end.
     ghost next_gives = { λ s r t. YieldsFirst (λ (w : Winning T). w.left) s r t
         × (t.tally ≡ s.tally) × (t.m ≡ s.m) × (t.k ≡ s.k) × (t.best ≡ s.best) × (t.after ≡ s.after)
-        × (r ≡ None → t.after ≡ None → t.entered ≡ live_count (T.bound_of t.tally) t.m t.k t.best t.after) };
+        × (r ≡ None → t.after ≡ None → t.entered ≡ live_count (T.bound_of t.tally) t.m t.k t.best t.after)
+        × (s.entered ≤ t.entered) × (s.ceilings ≤ t.ceilings)
+        × (IsExactAtBest (T.value_of t.tally) (T.bound_of t.tally) t.m t.k t.best
+        → t.ceilings ≤ s.ceilings + 4 * t.m) };
 
     ghost remaining = { item_count (λ (w : Winning T). w.left) };
 

@@ -1,11 +1,12 @@
 -- A walk over all committees, in lexicographic order, from prefix to prefix.
-use Rattle.std.specs.Prelude.{◌≡◌, ℕ, zero, suc, ◌+◌, ◌-◌, ◌^◌, ◌<◌, ◌≤◌, Bool, true, List, [], ◌∷◌, ◌++◌, Option, None, Some, ⊤, length, map, filter, sum_by, nat_le, nat_lt, MatchOption, option_to_list, if◌then◌else◌}
-use Rattle.std.specs.List.{AllByRecursion}
+use Rattle.std.specs.Prelude.{◌≡◌, ℕ, zero, suc, ◌+◌, ◌-◌, ◌*◌, ◌^◌, ◌<◌, ◌≤◌, Bool, true, List, [], ◌∷◌, ◌++◌, Option, None, Some, ⊤, length, map, filter, sum_by, nat_le, nat_lt, MatchOption, option_to_list, if◌then◌else◌}
+use Rattle.std.specs.List.{AllByRecursion, list_any}
 use Rattle.ballot_base.specs.Limits.{most_candidates}
 use Rattle.ballot_base.specs.Lists.{IsIncreasing, increasing_lists, later_than}
 use Rattle.ballot_base.specs.CandSet.{with_member}
 use Rattle.tie_walk.specs.Ceilings.{IsReach, is_open, live_count}
 use Rattle.tie_walk.specs.declared.prefix.Prefix.{Prefix}
+use Rattle.tie_walk.specs.declared.walk.Counts.{Counts}
 use Rattle.tie_walk.specs.declared.walk.Known.{Known}
 use Rattle.tie_walk.specs.declared.walk.Walk.{Walk}
 
@@ -95,8 +96,39 @@ pub record IsStride (value : List ℕ → ℕ) (bound : ℕ → List ℕ → ℕ
     (entered : ℕ) (found : Option (List ℕ)) (rest : Walk) : Type 0 where
   pub next : those_reaching value best (committees_from m k from)
       ≡ option_to_list found ++ those_reaching value best (committees_from m k rest.place)
-  pub count : rest.entered + open_from bound m k best rest.place ≡ entered + open_from bound m k best from
+  pub count : rest.counts.entered + open_from bound m k best rest.place ≡ entered + open_from bound m k best from
   pub place : IsPlace m k rest.place
+
+module _ (value : List ℕ → ℕ) (m k best : ℕ) where
+  -- whether some committee below the prefix reaches the best value
+  abbrev pub is_alive : ℕ → List ℕ → Bool
+  is_alive c set = list_any (λ list. nat_le best (value list)) (committees_below m k c set)
+
+  -- No more bounds than these are asked for from a prefix on until a winner is found, where they are exact at the best
+  -- and `past` are asked for after the prefix: one where nothing is below it, else two for each candidate after c.
+  abbrev pub waits_at : ℕ → ℕ → List ℕ → ℕ
+  waits_at past c set = if is_alive c set then 2 * (m - c) + 1 else 1 + past
+
+  -- how many after those with all of `front` and `list`, where `past` are asked for after those with all of `front`
+  abbrev pub waits_after : ℕ → List ℕ → List ℕ → ℕ
+  waits_after past front [] = past
+  waits_after past front (n ∷ list) = waits_after (waits_at past n front) (front ++ n ∷ []) list
+
+  -- how many from a place on
+  abbrev pub waits_from : Option Prefix → ℕ
+  waits_from None = 0
+  waits_from (Some prefix) = waits_at (waits_after 0 [] prefix.set) prefix.c prefix.set
+
+  -- how many bounds a part of the walk asks for at most, if it finds a winner or not
+  abbrev pub IsWait : Option Prefix → Counts → Option (List ℕ) → Walk → Type 0
+  IsWait from before None rest = rest.counts.ceilings + waits_from rest.place ≤ before.ceilings + waits_from from
+  IsWait from before (Some set) rest = rest.counts.ceilings ≤ before.ceilings + waits_from from
+
+-- what that part adds to the counts: each prefix with a bound, and no more bounds than the prefixes that it leaves behind
+pub record IsRaised (m : ℕ) (from : Option Prefix) (before : Counts) (rest : Walk) : Type 0 where
+  pub entered : before.entered ≤ rest.counts.entered
+  pub asked : rest.counts.entered + before.ceilings ≤ before.entered + rest.counts.ceilings
+  pub work : rest.counts.ceilings + work_left m rest.place ≤ before.ceilings + work_left m from
 
 -- the first place of a walk over the winners: what it has entered on its way there was live, but for m at most
 pub record IsBegun (value : List ℕ → ℕ) (bound : ℕ → List ℕ → ℕ → ℕ) (m k best : ℕ) (after : Option (List ℕ))
@@ -104,8 +136,10 @@ pub record IsBegun (value : List ℕ → ℕ) (bound : ℕ → List ℕ → ℕ 
   pub next : those_reaching value best (committees_from m k walk.place)
       ≡ those_reaching value best (later_than after (increasing_lists 1 m k))
   pub place : IsPlace m k walk.place
-  pub few : walk.entered + open_from bound m k best walk.place ≤ live_count bound m k best after + m
-  pub all : after ≡ None → walk.entered + open_from bound m k best walk.place ≡ live_count bound m k best after
+  pub few : walk.counts.entered + open_from bound m k best walk.place ≤ live_count bound m k best after + m
+  pub all : after ≡ None → walk.counts.entered + open_from bound m k best walk.place ≡ live_count bound m k best after
+  pub asked : walk.counts.entered ≤ walk.counts.ceilings
+  pub asks : walk.counts.ceilings + work_left m walk.place < 2 ^ 127
 
 -- what is known of the bounds of a set for committees of k
 abbrev pub IsKnown : (List ℕ → ℕ) → (ℕ → List ℕ → ℕ → ℕ) → ℕ → ℕ → ℕ → Option Known → Type 0
@@ -120,8 +154,11 @@ AreKnown value bound m k best levels = AllByRecursion (IsKnown value bound m k b
 pub record IsWalk (value : List ℕ → ℕ) (bound : ℕ → List ℕ → ℕ → ℕ) (candidates m k best : ℕ)
     (after : Option (List ℕ)) (walk : Walk) (levels : List (Option Known)) : Type 0 where
   pub candidates_are : m ≡ candidates
+  pub some : 1 ≤ m
   pub most : m ≤ most_candidates
   pub place_is : IsPlace m k walk.place
-  pub few : walk.entered + open_from bound m k best walk.place ≤ live_count bound m k best after + m
-  pub all : after ≡ None → walk.entered + open_from bound m k best walk.place ≡ live_count bound m k best after
+  pub few : walk.counts.entered + open_from bound m k best walk.place ≤ live_count bound m k best after + m
+  pub all : after ≡ None → walk.counts.entered + open_from bound m k best walk.place ≡ live_count bound m k best after
+  pub asked : walk.counts.entered ≤ walk.counts.ceilings
+  pub asks : walk.counts.ceilings + work_left m walk.place < 2 ^ 127
   pub known : AreKnown value bound m k best levels

@@ -1,4 +1,4 @@
-use Rattle.std.proofs.Common.{◌≡◌, ◌-◌, ◌∙◌, true, [], Some, refl, sym, ap, subst, arith, length}
+use Rattle.std.proofs.Common.{◌≡◌, ℕ, ◌-◌, ◌∙◌, true, cond, [], Some, refl, sym, ap, subst, arith, length}
 use Rattle.ballot_base.specs.Lists.{IsIncreasing}
 use Rattle.ballot_base.specs.CandSet.{members_upto}
 use Rattle.tie_walk.specs.Ceilings.{is_open}
@@ -6,6 +6,7 @@ use Rattle.tie_walk.specs.Steps.Walks.{committees_below, committees_after, IsPla
 use Rattle.tie_walk.specs.declared.prefix.Prefix.{Prefix}
 use Rattle.tie_walk.proofs.WalkLemmas.{from-past, place-past, after-start}
 use Rattle.tie_walk.proofs.OpenLemmas.{open-past}
+use Rattle.tie_walk.proofs.WaitLemmas.{work-most}
 use Rattle.tie_walk.proofs.LiveLemmas.{upto-all, upto-none, upto-increasing, upto-few, left-early, down-step}
 use Rattle.tie_walk.proofs.walk.begin_after.Goals as goal
 
@@ -13,7 +14,7 @@ pub loop-c-init : goal.loop-c-init
 loop-c-init g c =
     let none : members_upto c.args.start 0 ≡ [] = upto-none 1 c.args.m 0 c.args.start (omega arith) c.requires.start.0 in
     let all : c.args.m - 0 ≡ c.args.m = omega arith in
-    record { entered = refl; known = c.requires.known; few = rw (none, all) (omega arith) }
+    record { entered = c.no_counts-counts.ensures.entered; ceilings = c.no_counts-counts.ensures.ceilings; known = c.requires.known; few = rw (none, all) (omega arith) }
 
 pub enter-requires-clause-place : goal.enter-requires-clause-place
 enter-requires-clause-place g c =
@@ -28,8 +29,8 @@ pub past-place-requires-clause-candidates : goal.past-place-requires-clause-cand
 past-place-requires-clause-candidates g c =
     subst (IsIncreasing 1 c.loop-c.c) (sym c.upto-set.ensures) (upto-increasing 1 c.args.m c.loop-c.c c.args.start c.requires.start.0)
 
-pub returns-in_default-clause-begun : goal.returns-in_default-clause-begun
-returns-in_default-clause-begun g c =
+pub returns-then-not-enter-clause-begun : goal.returns-then-not-enter-clause-begun
+returns-then-not-enter-clause-begun g c =
     let value = g.T.Tally.value_of c.args.tally.now in
     let bound = g.T.Tally.bound_of c.args.tally.now in
     let m = c.args.m in
@@ -41,16 +42,20 @@ returns-in_default-clause-begun g c =
     let next = c.past-place.result in
     let cut : c.upto-set.result ≡ members_upto start n = c.upto-set.ensures in
     let none : those_reaching value best (committees_below m k n (members_upto start n)) ≡ [] =
-    subst (λ s. those_reaching value best (committees_below m k n s) ≡ []) cut (c.in_default.ensures.none refl) in
+    subst (λ s. those_reaching value best (committees_below m k n s) ≡ []) cut (c.enter.ensures.none c.if-not-enter.true) in
     let here : IsPlace m k (Some prefix) =
     (omega (arith, c.loop-c-test.true), subst (IsIncreasing 1 n) (sym cut) (upto-increasing 1 m n start c.requires.start.0), omega (arith, ap length cut, upto-few m k n start c.requires.start.0 c.requires.start.1)) in
     let still : open_from bound m k best next ≡ open_after bound m k best [] (members_upto start n) = open-past bound m k best prefix next c.past-place.ensures ∙ ap (open_after bound m k best []) cut in
+    let rest = place-past m k prefix next here c.past-place.ensures in
+    let out = ap {B = ℕ} (λ b. cond b 1 0) c.if-not-enter.true in
     record {
       next = ap (those_reaching value best) (from-past m k prefix next c.past-place.ensures ∙ ap (committees_after m k []) cut)
           ∙ left-early m k value best n start (omega (arith, c.loop-c-test.true)) c.requires.start.0 c.requires.start.1 none;
-      place = place-past m k prefix next here c.past-place.ensures;
-      few = omega (arith, still, c.loop-c.invariant.entered, c.loop-c.invariant.few, c.loop-c-test.true);
+      place = rest;
+      few = omega (arith, still, c.enter.ensures.entered, out, c.loop-c.invariant.entered, c.loop-c.invariant.few, c.loop-c-test.true);
       all = λ e. absurd (cc);
+      asked = omega (arith, c.enter.ensures.entered, c.enter.ensures.asked, c.loop-c.invariant.entered, c.loop-c.invariant.ceilings);
+      asks = omega (arith, c.enter.ensures.once, c.loop-c.invariant.ceilings, c.loop-c-test.true, c.requires.most, work-most m k next c.requires.most rest);
     }
 
 pub loop-c-preserved : goal.loop-c-preserved
@@ -59,10 +64,12 @@ loop-c-preserved g c =
     let start = c.args.start in
     let n = c.loop-c.c in
     let is : is_open bound c.args.m c.args.k c.args.best n (members_upto start n) ≡ true =
-    subst (λ s. is_open bound c.args.m c.args.k c.args.best n s ≡ true) c.upto-set.ensures c.in-Some.ensures.count.0 in
+    subst (λ s. is_open bound c.args.m c.args.k c.args.best n s ≡ true) c.upto-set.ensures (sym c.enter.ensures.open ∙ c.if-not-enter.false) in
+    let is-entered = ap {B = ℕ} (λ b. cond b 1 0) c.if-not-enter.false in
     let step = down-step c.args.m c.args.k bound c.args.best n start c.loop-c-test.true c.requires.start.0 c.requires.start.1 is in
     record {
-      entered = omega (arith, c.in-Some.ensures.count.1, c.loop-c.invariant.entered);
+      entered = omega (arith, c.enter.ensures.entered, is-entered, c.loop-c.invariant.entered);
+      ceilings = omega (arith, c.enter.ensures.asked, c.enter.ensures.once, is-entered, c.loop-c.invariant.ceilings);
       known = c.enter.ensures.known;
       few = omega (arith, step, c.loop-c.invariant.few);
     }
@@ -81,9 +88,12 @@ returns-clause-begun g c =
     let last : c.loop-c.c ≡ m = omega (arith, c.loop-c-test.false, c.loop-c.auto.c-end) in
     let cut : members_upto start c.loop-c.c ≡ start = ap (members_upto start) last ∙ upto-all 1 m start c.requires.start.0 in
     let after : open_after bound m k best [] (members_upto start c.loop-c.c) ≡ open_after bound m k best [] start = ap (open_after bound m k best []) cut in
+    let rest = place-past m k prefix next here c.past-place-2.ensures in
     record {
       next = ap (those_reaching value best) (from-past m k prefix next c.past-place-2.ensures ∙ after-start m k start c.requires.start.0 c.requires.start.1);
-      place = place-past m k prefix next here c.past-place-2.ensures;
+      place = rest;
       few = omega (arith, open-past bound m k best prefix next c.past-place-2.ensures, after, c.loop-c.invariant.entered, c.loop-c.invariant.few, last);
       all = λ e. absurd (cc);
+      asked = omega (arith, c.loop-c.invariant.entered, c.loop-c.invariant.ceilings);
+      asks = omega (arith, c.loop-c.invariant.ceilings, last, c.requires.most, work-most m k next c.requires.most rest);
     }

@@ -1,24 +1,30 @@
-use Rattle.std.proofs.Common.{◌≡◌, ◌+◌, ◌∙◌, true, false, cond, [], ◌∷◌, ◌++◌, refl, sym, ap, arith, length}
+use Rattle.std.proofs.Common.{◌≡◌, ℕ, ◌+◌, ◌∙◌, true, false, cond, [], ◌∷◌, ◌++◌, refl, sym, ap, arith, length}
 use Rattle.std.specs.Prelude.{nat_le}
 use Rattle.std.proofs.lemmas.Bool.{le-leb, lt-leb}
 use Rattle.tie_walk.specs.Steps.Walks.{committees_from, those_reaching}
 use Rattle.tie_walk.proofs.WalkLemmas.{place-past, work-past}
 use Rattle.tie_walk.proofs.OpenLemmas.{reaching-past, reaching-whole, from-first, open-sizes, passed, entered-first, entered-last}
+use Rattle.tie_walk.proofs.WaitLemmas.{alive-none, alive-open, alive-whole, waits-some, wait-past, wait-first}
 use Rattle.tie_walk.proofs.walk.visit.Goals as goal
 
-pub returns-in_default-clause-stride : goal.returns-in_default-clause-stride
-returns-in_default-clause-stride g c =
+pub returns-then-not-enter-clause-stride : goal.returns-then-not-enter-clause-stride
+returns-then-not-enter-clause-stride g c =
     let value = g.T.Tally.value_of c.args.tally.now in
     let bound = g.T.Tally.bound_of c.args.tally.now in
     let next = c.past-place.result in
     record {
-      next = reaching-past value c.args.best c.args.m c.args.k c.args.prefix next c.past-place.ensures (c.in_default.ensures.none refl);
-      count = ap (λ n. c.args.entered + n) (passed bound c.args.m c.args.k c.args.best c.args.prefix next c.past-place.ensures c.in_default.ensures.count);
+      next = reaching-past value c.args.best c.args.m c.args.k c.args.prefix next c.past-place.ensures (c.enter.ensures.none c.if-not-enter.true);
+      count = omega (
+        arith,
+        c.enter.ensures.entered,
+        ap {B = ℕ} (λ b. cond b 1 0) c.if-not-enter.true,
+        passed bound c.args.m c.args.k c.args.best c.args.prefix next c.past-place.ensures (sym c.enter.ensures.open ∙ c.if-not-enter.true),
+      );
       place = place-past c.args.m c.args.k c.args.prefix next c.requires.place c.past-place.ensures;
     }
 
-pub returns-in_default-clause-work : goal.returns-in_default-clause-work
-returns-in_default-clause-work g c = work-past c.args.m c.args.k c.args.prefix c.past-place.result c.past-place.ensures
+pub returns-then-not-enter-clause-work : goal.returns-then-not-enter-clause-work
+returns-then-not-enter-clause-work g c = work-past c.args.m c.args.k c.args.prefix c.past-place.result c.past-place.ensures
 
 pub returns-then-c-m-clause-stride : goal.returns-then-c-m-clause-stride
 returns-then-c-m-clause-stride g c =
@@ -28,10 +34,10 @@ returns-then-c-m-clause-stride g c =
     let next = c.first_below.result in
     let made = c.first_below.ensures in
     let same = from-first c.args.m c.args.k p next c.if-c-m.true c.requires.place made.c made.grown made.full in
-    let count = entered-first bound c.args.m c.args.k c.args.best p next c.if-c-m.true c.requires.place made.c made.grown made.full c.in-Some.ensures.count.0 in
+    let count = entered-first bound c.args.m c.args.k c.args.best p next c.if-c-m.true c.requires.place made.c made.grown made.full (sym c.enter.ensures.open ∙ c.if-not-enter.false) in
     record {
       next = ap (those_reaching value c.args.best) (sym same.0);
-      count = omega (arith, count, c.in-Some.ensures.count.1);
+      count = omega (arith, count, c.enter.ensures.entered, ap {B = ℕ} (λ b. cond b 1 0) c.if-not-enter.false);
       place = made.place;
     }
 
@@ -46,7 +52,7 @@ returns-then-value-best-clause-stride g c =
     let bound = g.T.Tally.bound_of c.args.tally.now in
     let p = c.args.prefix in
     let next = c.past-place-2.result in
-    let entered = c.in-Some.ensures.count.0 in
+    let entered = sym c.enter.ensures.open ∙ c.if-not-enter.false in
     let sizes = open-sizes bound c.args.m c.args.k c.args.best p.c p.set entered in
     let full : length p.set ≡ c.args.k = omega (arith, sizes, c.if-c-m.false) in
     let under : nat_le c.args.best (value p.set) ≡ false = lt-leb c.args.best (value p.set) (omega (arith, c.if-value-best.true, c.value.ensures)) in
@@ -54,7 +60,7 @@ returns-then-value-best-clause-stride g c =
     record {
       next = reaching-whole value c.args.best c.args.m c.args.k p next c.past-place-2.ensures full
           ∙ ap (λ b. cond b (p.set ∷ []) [] ++ those_reaching value c.args.best (committees_from c.args.m c.args.k next)) under;
-      count = omega (arith, count, c.in-Some.ensures.count.1);
+      count = omega (arith, count, c.enter.ensures.entered, ap {B = ℕ} (λ b. cond b 1 0) c.if-not-enter.false);
       place = place-past c.args.m c.args.k p next c.requires.place c.past-place-2.ensures;
     }
 
@@ -64,7 +70,7 @@ returns-clause-stride g c =
     let bound = g.T.Tally.bound_of c.args.tally.now in
     let p = c.args.prefix in
     let next = c.past-place-2.result in
-    let entered = c.in-Some.ensures.count.0 in
+    let entered = sym c.enter.ensures.open ∙ c.if-not-enter.false in
     let sizes = open-sizes bound c.args.m c.args.k c.args.best p.c p.set entered in
     let full : length p.set ≡ c.args.k = omega (arith, sizes, c.if-c-m.false) in
     let over : nat_le c.args.best (value p.set) ≡ true = le-leb c.args.best (value p.set) (omega (arith, c.if-value-best.false, c.value.ensures)) in
@@ -72,6 +78,84 @@ returns-clause-stride g c =
     record {
       next = reaching-whole value c.args.best c.args.m c.args.k p next c.past-place-2.ensures full
           ∙ ap (λ b. cond b (p.set ∷ []) [] ++ those_reaching value c.args.best (committees_from c.args.m c.args.k next)) over;
-      count = omega (arith, count, c.in-Some.ensures.count.1);
+      count = omega (arith, count, c.enter.ensures.entered, ap {B = ℕ} (λ b. cond b 1 0) c.if-not-enter.false);
       place = place-past c.args.m c.args.k p next c.requires.place c.past-place-2.ensures;
     }
+
+pub returns-then-not-enter-clause-raised : goal.returns-then-not-enter-clause-raised
+returns-then-not-enter-clause-raised g c =
+    let asked = c.enter.ensures in
+    record {
+      entered = omega (arith, asked.entered);
+      asked = omega (arith, asked.entered, asked.asked);
+      work = omega (arith, asked.once, work-past c.args.m c.args.k c.args.prefix c.past-place.result c.past-place.ensures);
+    }
+
+pub returns-then-c-m-clause-raised : goal.returns-then-c-m-clause-raised
+returns-then-c-m-clause-raised g c =
+    let asked = c.enter.ensures in
+    let made = c.first_below.ensures in
+    let below = from-first c.args.m c.args.k c.args.prefix c.first_below.result c.if-c-m.true c.requires.place made.c made.grown made.full in
+    record {
+      entered = omega (arith, asked.entered);
+      asked = omega (arith, asked.entered, asked.asked);
+      work = omega (arith, asked.once, below.1);
+    }
+
+pub returns-then-value-best-clause-raised : goal.returns-then-value-best-clause-raised
+returns-then-value-best-clause-raised g c =
+    let asked = c.enter.ensures in
+    record {
+      entered = omega (arith, asked.entered);
+      asked = omega (arith, asked.entered, asked.asked);
+      work = omega (arith, asked.once, work-past c.args.m c.args.k c.args.prefix c.past-place-2.result c.past-place-2.ensures);
+    }
+
+pub returns-clause-raised : goal.returns-clause-raised
+returns-clause-raised g c =
+    let asked = c.enter.ensures in
+    record {
+      entered = omega (arith, asked.entered);
+      asked = omega (arith, asked.entered, asked.asked);
+      work = omega (arith, asked.once, work-past c.args.m c.args.k c.args.prefix c.past-place-2.result c.past-place-2.ensures);
+    }
+
+pub returns-then-not-enter-clause-wait : goal.returns-then-not-enter-clause-wait
+returns-then-not-enter-clause-wait g c exact =
+    let value = g.T.Tally.value_of c.args.tally.now in
+    let p = c.args.prefix in
+    let dead = alive-none value c.args.m c.args.k c.args.best p.c p.set (c.enter.ensures.none c.if-not-enter.true) in
+    omega (arith, c.enter.ensures.once, wait-past value c.args.m c.args.k c.args.best p c.past-place.result c.past-place.ensures dead)
+
+pub returns-then-c-m-clause-wait : goal.returns-then-c-m-clause-wait
+returns-then-c-m-clause-wait g c exact =
+    let value = g.T.Tally.value_of c.args.tally.now in
+    let bound = g.T.Tally.bound_of c.args.tally.now in
+    let p = c.args.prefix in
+    let made = c.first_below.ensures in
+    let alive = alive-open value c.args.m c.args.k c.args.best bound p.c p.set exact c.requires.place.0 c.requires.place.1 (sym c.enter.ensures.open ∙ c.if-not-enter.false) in
+    omega (
+      arith,
+      c.enter.ensures.once,
+      wait-first value c.args.m c.args.k c.args.best p c.first_below.result c.if-c-m.true c.requires.place made.c made.grown made.full alive,
+    )
+
+pub returns-then-value-best-clause-wait : goal.returns-then-value-best-clause-wait
+returns-then-value-best-clause-wait g c exact =
+    let value = g.T.Tally.value_of c.args.tally.now in
+    let bound = g.T.Tally.bound_of c.args.tally.now in
+    let p = c.args.prefix in
+    let entered = sym c.enter.ensures.open ∙ c.if-not-enter.false in
+    let sizes = open-sizes bound c.args.m c.args.k c.args.best p.c p.set entered in
+    let full : length p.set ≡ c.args.k = omega (arith, sizes, c.if-c-m.false) in
+    let alive = alive-open value c.args.m c.args.k c.args.best bound p.c p.set exact c.requires.place.0 c.requires.place.1 entered in
+    let high = alive-whole value c.args.m c.args.k c.args.best p.c p.set full alive in
+    absurd (omega (arith, high, c.if-value-best.true, c.value.ensures))
+
+pub returns-clause-wait : goal.returns-clause-wait
+returns-clause-wait g c exact =
+    omega (
+      arith,
+      c.enter.ensures.once,
+      waits-some (g.T.Tally.value_of c.args.tally.now) c.args.m c.args.k c.args.best c.args.prefix,
+    )

@@ -1,0 +1,156 @@
+-- Bounds that are the value of a completion: under approval voting and satisfaction approval voting each candidate gives
+-- a committee the same, whoever else is in it.
+use Rattle.std.proofs.Common.{◌≡◌, ℕ, zero, suc, ◌+◌, ◌-◌, ◌*◌, ◌<◌, ◌≤◌, ◌∙◌, Bool, true, false, cond, List, [], ◌∷◌, ◌++◌, refl, sym, ap, arith, inl, inr, length, length-append, append_assoc, get_or, max, sum_by, add-one}
+use Rattle.std.proofs.lemmas.Bool.{cases_lt}
+use Rattle.std.proofs.lemmas.List.Sums.{sum_by-cons}
+use Rattle.ballot_base.specs.Limits.{most_members}
+use Rattle.ballot_base.specs.Lists.{IsIncreasing}
+use Rattle.ballot_base.specs.CandSet.{has_member, with_member}
+use Rattle.ballot_base.specs.CommonMultiple.{common_multiple}
+use Rattle.ballot_base.specs.Increments.{increments}
+use Rattle.ballot_base.specs.declared.increments.ThieleRule.TheVariants.{Av}
+use Rattle.ballot_base.specs.Ballots.{Row, Election, IsElection, hits}
+use Rattle.ballot_base.proofs.Increasing.{IsIncreasing-push, IsIncreasing-lower, with_member-above, with_member-lt, has_member-above, has_member-below}
+use Rattle.ballot_base.proofs.WeightLemmas.{increments-within}
+use Rattle.tie_walk.specs.Ceilings.{IsAdded, IsTight, ceiling, gain_at, greatest_sum}
+use Rattle.tie_walk.specs.Sequences.{weight}
+use Rattle.tie_walk.specs.Steps.Tables.{parts, score}
+use Rattle.tie_walk.specs.Values.{thiele_value, satisfaction_value}
+use Rattle.tie_walk.specs.declared.sequential.Step.TheVariants.{Grow}
+use Rattle.tie_walk.proofs.Gains.{hits-with, hits-none, thiele-partial, satisfaction-more}
+use Rattle.tie_walk.proofs.GreatestSums.{best_of, best_of-none, best_of-short, best_of-more, greatest_sum-same, ceiling-whole}
+use Rattle.tie_walk.proofs.RowSums.{AreBallots}
+use Rattle.tie_walk.proofs.WalkLemmas.{append_none}
+use Rattle.tie_walk.proofs.WorthLemmas.{partial}
+
+-- some list has the greatest sum
+module _ (worth : ℕ → ℕ) (last : ℕ) where
+  pub attained : (n first size : ℕ) → size ≤ n → first + n ≤ last + 1
+      → (list : List ℕ) × IsIncreasing first last list × (length list ≡ size) × (sum_by worth list ≡ best_of worth n first size)
+  attained n first zero few fits = ([], tt, refl, sym (best_of-none worth n first))
+  attained zero first (suc size) few fits = absurd (omega (arith, few))
+  attained (suc n) first (suc size) few fits =
+      let enough : size ≤ n = omega (arith, few) in
+      let more = best_of-more worth n first size enough in
+      elim (cases_lt (best_of worth n (first + 1) size + worth first) (best_of worth n (first + 1) (suc size))) [
+        | inr low ↦
+            let rest = attained n (first + 1) size enough (omega (arith, fits)) in (
+              first ∷ rest.0,
+              (omega arith, omega (arith, fits), rest.1),
+              omega (arith, rest.2),
+              omega (arith, sum_by-cons worth first rest.0, rest.3, more, low),
+            )
+        | inl high ↦ elim (cases_lt n (suc size)) [
+          | inl short ↦ absurd (omega (arith, high, best_of-short worth n (first + 1) (suc size) short))
+          | inr room ↦
+              let rest = attained n (first + 1) (suc size) room (omega (arith, fits)) in (
+                rest.0,
+                IsIncreasing-lower first (first + 1) last rest.0 (omega arith) rest.1,
+                rest.2,
+                omega (arith, rest.3, more, high),
+              )
+        ]
+      ]
+
+-- each candidate gives a set with fewer than k members the same
+module _ (value : List ℕ → ℕ) (m k : ℕ) (worth : ℕ → ℕ)
+    (same : (set : List ℕ) (d x : ℕ) → IsIncreasing 1 d set → d < x → x ≤ m → length set < k → value (set ++ x ∷ []) ≡ value set + worth x) where
+  additive : (set added : List ℕ) (d : ℕ) → IsIncreasing 1 d set → IsIncreasing (d + 1) m added → length set + length added ≤ k
+      → value (set ++ added) ≡ value set + sum_by worth added
+  additive set [] d up above few = omega (arith, ap value (append_none set))
+  additive set (x ∷ added) d up above few =
+      let over : d < x = omega (arith, above.0) in
+      let next = additive (set ++ x ∷ []) added x (IsIncreasing-push 1 d set x up (omega (arith, over)) over) above.2 (omega (arith, length-append set (x ∷ []), few)) in
+      omega (
+        arith,
+        ap value (sym (append_assoc set (x ∷ []) added)),
+        next,
+        same set d x up over above.1 (omega (arith, few)),
+        sum_by-cons worth x added,
+      )
+
+  gains-same : (set : List ℕ) (c : ℕ) → IsIncreasing 1 c set → length set < k → (x : ℕ) → c + 1 ≤ x → x ≤ m → gain_at value set x ≡ worth x
+  gains-same set c up few x low high =
+      omega (
+        arith,
+        ap value (with_member-above 1 c set x up (omega (arith, low))),
+        same set c x up (omega (arith, low)) high few,
+      )
+
+  pub additive-tight : IsTight value (λ c set left. ceiling value m c set left) m k
+  additive-tight c set zero inside up size fits = ([], (tt, refl), ceiling-whole value m c set ∙ sym (ap value (append_none set)))
+  additive-tight c set (suc left) inside up size fits =
+      let found = attained worth m (m + 1 - (c + 1)) (c + 1) (suc left) (omega (arith, fits)) (omega (arith, inside)) in
+      let few : length set < k = omega (arith, size) in
+      let sums : greatest_sum (gain_at value set) (c + 1) m (suc left) ≡ greatest_sum worth (c + 1) m (suc left) =
+      greatest_sum-same (gain_at value set) worth (c + 1) m (gains-same set c up few) (suc left) in
+      let whole = additive set found.0 c up found.1 (omega (arith, size, found.2)) in
+      (found.0, (found.1, found.2), omega (arith, sums, whole, found.3))
+
+-- ---- approval voting
+
+-- a committee has no more hits than members
+hits-most : (first last first' last' : ℕ) (ballot set : List ℕ) → IsIncreasing first last ballot → IsIncreasing first' last' set → hits ballot set ≤ length set
+hits-most first last first' last' ballot [] up is = omega (arith, hits-none ballot)
+hits-most first last first' last' ballot (x ∷ set) up is =
+    let here : with_member set x ≡ x ∷ set = front set is.2 in
+    let none : has_member set x ≡ false = has_member-below (x + 1) last' set x is.2 (omega arith) in
+    omega (
+      arith,
+      ap (hits ballot) here,
+      hits-with first last ballot set x up none,
+      one (has_member ballot x),
+      hits-most first last (x + 1) last' ballot set up is.2,
+    )
+  where
+    front : (rest : List ℕ) → IsIncreasing (x + 1) last' rest → with_member rest x ≡ x ∷ rest
+    front [] h = refl
+    front (y ∷ rest) h = with_member-lt y rest x (omega (arith, h.0))
+
+    one : (b : Bool) → cond b 1 0 ≤ 1
+    one true = omega arith
+    one false = omega arith
+
+approvals : List Row → ℕ → ℕ
+approvals rows x = sum_by (λ (row : Row). row.1 * cond (has_member row.0 x) 1 0) rows
+
+approved : (m k d x : ℕ) (rows : List Row) (set : List ℕ) → k ≤ most_members → AreBallots m rows → IsIncreasing 1 d set → length set < k
+    → partial Grow (increments Av k) set x rows ≡ approvals rows x
+unfolding approvals
+approved m k d x [] set small all up few = refl
+approved m k d x (row ∷ rows) set small all up few =
+    let w = increments Av k in
+    let h = hits row.0 set in
+    let within : h < k = omega (arith, few, hits-most 1 m 1 d row.0 set all.0 up) in
+    let one : weight w (h + 1) ≡ 1 = ap (weight w) (add-one h) ∙ increments-within Av k h (omega (arith, within, small)) within in
+    omega (
+      arith,
+      ap (λ n. row.1 * cond (has_member row.0 x) n 0) one,
+      approved m k d x rows set small all.1 up few,
+      sum_by-cons (λ (r : Row). r.1 * cond (has_member r.0 x) (weight w (hits r.0 set + 1)) 0) row rows,
+      sum_by-cons (λ (r : Row). r.1 * cond (has_member r.0 x) 1 0) row rows,
+    )
+
+pub approval-tight : (e : Election) (k : ℕ) → IsElection e → k ≤ most_members
+    → IsTight (λ set. thiele_value (increments Av k) e.rows set) (λ c set left. ceiling (thiele_value (increments Av k) e.rows) e.m c set left) e.m k
+approval-tight e k valid small =
+    additive-tight (λ set. thiele_value (increments Av k) e.rows set) e.m k (approvals e.rows)
+    (λ set d x up over high few. omega (
+      arith,
+      ap (thiele_value (increments Av k) e.rows) (with_member-above 1 d set x up over),
+      thiele-partial e.m (increments Av k) e.rows set x valid.ballots (has_member-above 1 d set x up over),
+      approved e.m k d x e.rows set small valid.ballots up few,
+    ))
+
+-- ---- satisfaction approval voting
+
+pub satisfaction-tight : (e : Election) (k : ℕ) → IsElection e
+    → IsTight (λ set. satisfaction_value e.m e.rows set) (λ c set left. ceiling (satisfaction_value e.m e.rows) e.m c set left) e.m k
+satisfaction-tight e k valid =
+    let shares : List ℕ = parts (common_multiple e.m) in
+    additive-tight (λ set. satisfaction_value e.m e.rows set) e.m k (score shares e.rows)
+    (λ set d x up over high few. omega (
+      arith,
+      ap (satisfaction_value e.m e.rows) (with_member-above 1 d set x up over),
+      satisfaction-more e.m e.m shares e.rows set x valid.most valid.ballots refl (has_member-above 1 d set x up over),
+    ))

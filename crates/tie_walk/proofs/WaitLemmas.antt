@@ -1,0 +1,196 @@
+-- How long a walk over the winners can be: no place has much work left, and where bounds are exact at the best value,
+-- no winner is far.
+use Rattle.std.proofs.Common.{◌≡◌, ℕ, suc, ◌+◌, ◌-◌, ◌*◌, ◌^◌, ◌<◌, ◌≤◌, ◌||◌, ◌∙◌, Bool, true, false, cond, List, [], ◌∷◌, ◌++◌, Option, None, Some, refl, sym, ap, arith, inl, inr, lit<, length, filter, map, sum_by, append_assoc}
+use Rattle.std.specs.Prelude.{nat_le}
+use Rattle.std.specs.List.{list_any}
+use Rattle.std.proofs.Math.Nat.{pow-suc, pow-le-pow_right}
+use Rattle.std.proofs.lemmas.Bool.{cases_Bool, cases_lt, le-leb, leb-true}
+use Rattle.std.proofs.lemmas.List.Folds.{list_any-append, list_any_at}
+use Rattle.std.proofs.lemmas.List.Sums.{sum_by-cons}
+use Rattle.ballot_base.specs.Limits.{most_candidates}
+use Rattle.ballot_base.specs.Lists.{IsIncreasing, increasing_lists}
+use Rattle.ballot_base.proofs.Committees.{increasing_lists-contains, length-increasing}
+use Rattle.tie_walk.specs.Ceilings.{IsAdded, IsTight, IsExactAtBest, is_open}
+use Rattle.tie_walk.specs.Steps.Walks.{committees_below, IsPlace, IsPast, work_left, those_reaching, is_alive, waits_at, waits_after, waits_from}
+use Rattle.tie_walk.specs.declared.prefix.Prefix.{Prefix}
+use Rattle.tie_walk.proofs.OpenLemmas.{open-sizes, open-reaches}
+use Rattle.tie_walk.proofs.WalkLemmas.{append_none, below-split, below-full}
+
+powers-most : (m first c : ℕ) (set : List ℕ) → c ≤ m → IsIncreasing first c set → sum_by (λ n. 3 ^ (m - n)) set ≤ 3 ^ (m + 1 - first)
+powers-most m first c [] inside up = omega arith
+powers-most m first c (x ∷ set) inside up =
+    let here : m + 1 - (x + 1) ≡ m - x = omega arith in
+    let next : m + 1 - x ≡ suc (m - x) = omega (arith, inside, up.1) in
+    omega (
+      arith,
+      sum_by-cons (λ n. 3 ^ (m - n)) x set,
+      powers-most m (x + 1) c set inside up.2,
+      ap (λ n. 3 ^ n) here,
+      ap (λ n. 3 ^ n) next,
+      pow-suc 3 (m - x),
+      pow-le-pow_right {n = 3} (omega arith) {i = m + 1 - x} {j = m + 1 - first} (omega (arith, up.0)),
+    )
+
+all_powers : 2 * 3 ^ most_candidates < 2 ^ 126
+all_powers = lit< tt
+
+pub work-most : (m k : ℕ) (place : Option Prefix) → m ≤ most_candidates → IsPlace m k place → work_left m place < 2 ^ 126
+work-most m k None most here = lit< tt
+work-most m k (Some prefix) most here =
+    let whole : m + 1 - 1 ≡ m = omega arith in
+    omega (
+      arith,
+      powers-most m 1 prefix.c prefix.set here.0 here.1,
+      ap (λ n. 3 ^ n) whole,
+      pow-le-pow_right {n = 3} (omega arith) {i = m - prefix.c} {j = m} (omega arith),
+      pow-le-pow_right {n = 3} (omega arith) {i = m} {j = most_candidates} most,
+      all_powers,
+    )
+
+-- ---- prefixes with a committee below that reaches the best value
+
+any-map : {X Y : Type 0} (p : Y → Bool) (f : X → Y) (xs : List X) → list_any p (map f xs) ≡ list_any (λ x. p (f x)) xs
+any-map p f [] = refl
+any-map p f (x ∷ xs) = ap (λ b. p (f x) || b) (any-map p f xs)
+
+none-any : {X : Type 0} (p : X → Bool) (xs : List X) → filter p xs ≡ [] → list_any p xs ≡ false
+none-any {X = X} p [] none = refl
+none-any {X = X} p (x ∷ xs) none = elim (cases_Bool (p x)) [
+  | inl is ↦ absurd (filled (filter p xs) (sym (ap (λ b. cond b (x ∷ filter p xs) (filter p xs)) is) ∙ none))
+  | inr not' ↦
+      let rest : filter p xs ≡ [] = sym (ap (λ b. cond b (x ∷ filter p xs) (filter p xs)) not') ∙ none in
+      ap (λ b. b || list_any p xs) not' ∙ none-any p xs rest
+]
+  where
+    filled : (ys : List X) → x ∷ ys ≡ [] → ⊥
+    filled ys e = absurd (cc)
+
+module _ (value : List ℕ → ℕ) (m k best : ℕ) where
+  pub alive-none : (c : ℕ) (set : List ℕ) → those_reaching value best (committees_below m k c set) ≡ [] → is_alive value m k best c set ≡ false
+  alive-none c set none = none-any (λ list. nat_le best (value list)) (committees_below m k c set) none
+
+  pub alive-added : (c : ℕ) (set added : List ℕ) → IsAdded m c (k - length set) added → best ≤ value (set ++ added) → is_alive value m k best c set ≡ true
+  alive-added c set added is high =
+      let lists = increasing_lists (c + 1) m (k - length set) in
+      let inside = increasing_lists-contains (c + 1) m (k - length set) added is in
+      any-map (λ list. nat_le best (value list)) (λ l. set ++ l) lists
+      ∙ list_any_at (λ l. nat_le best (value (set ++ l))) lists inside.0 added inside.1
+      (ap (λ l. nat_le best (value (set ++ l))) inside.2 ∙ le-leb best (value (set ++ added)) high)
+
+  pub alive-open : (bound : ℕ → List ℕ → ℕ → ℕ) (c : ℕ) (set : List ℕ) → IsExactAtBest value bound m k best → c ≤ m → IsIncreasing 1 c set
+      → is_open bound m k best c set ≡ true → is_alive value m k best c set ≡ true
+  alive-open bound c set exact inside up is =
+      let sizes = open-sizes bound m k best c set is in
+      let some = exact c set (k - length set) inside up (omega (arith, sizes)) (omega (arith, sizes)) (open-reaches bound m k best c set is) in
+      alive-added c set some.0 some.1 some.2
+
+  alive-full : (c d : ℕ) (set : List ℕ) → length set ≡ k → is_alive value m k best c set ≡ is_alive value m k best d set
+  alive-full c d set full = ap (list_any (λ list. nat_le best (value list))) (below-full m k c set full ∙ sym (below-full m k d set full))
+
+  pub alive-whole : (c : ℕ) (set : List ℕ) → length set ≡ k → is_alive value m k best c set ≡ true → best ≤ value set
+  alive-whole c set full is = elim (cases_Bool (nat_le best (value set))) [
+    | inl high ↦ leb-true best (value set) high
+    | inr low ↦
+        absurd (no (sym is ∙ ap (list_any (λ list. nat_le best (value list))) (below-full m k c set full) ∙ ap (λ b. b || false) low))
+  ]
+    where
+      no : true ≡ false → ⊥
+      no e = absurd (cc)
+
+  -- ---- how many bounds are asked for until a winner is found
+
+  waits-dead : (past c : ℕ) (set : List ℕ) → is_alive value m k best c set ≡ false → waits_at value m k best past c set ≡ 1 + past
+  waits-dead past c set dead = rw dead
+
+  waits-alive : (past c : ℕ) (set : List ℕ) → is_alive value m k best c set ≡ true → waits_at value m k best past c set ≡ 2 * (m - c) + 1
+  waits-alive past c set alive = rw alive
+
+  waits_after-push : (past : ℕ) (front set : List ℕ) (n : ℕ)
+      → waits_after value m k best past front (set ++ n ∷ []) ≡ waits_at value m k best (waits_after value m k best past front set) n (front ++ set)
+  waits_after-push past front [] n = ap (waits_at value m k best past n) (sym (append_none front))
+  waits_after-push past front (x ∷ set) n =
+      waits_after-push (waits_at value m k best past x front) (front ++ x ∷ []) set n
+      ∙ ap (waits_at value m k best (waits_after value m k best past front (x ∷ set)) n) (append_assoc front (x ∷ []) set)
+
+  waits-past : (prefix : Prefix) (next : Option Prefix) → IsPast prefix next → waits_from value m k best next ≡ waits_after value m k best 0 [] prefix.set
+  waits-past prefix None is = sym (ap (waits_after value m k best 0 []) is)
+  waits-past prefix (Some place) is = sym (ap (waits_after value m k best 0 []) is.0 ∙ waits_after-push 0 [] place.set place.c)
+
+  pub waits-some : (prefix : Prefix) → 1 ≤ waits_from value m k best (Some prefix)
+  waits-some prefix = elim (cases_Bool (is_alive value m k best prefix.c prefix.set)) [
+    | inl alive ↦ omega (arith, waits-alive (waits_after value m k best 0 [] prefix.set) prefix.c prefix.set alive)
+    | inr dead ↦ omega (arith, waits-dead (waits_after value m k best 0 [] prefix.set) prefix.c prefix.set dead)
+  ]
+
+  -- past a prefix with nothing below
+  pub wait-past : (prefix : Prefix) (next : Option Prefix) → IsPast prefix next → is_alive value m k best prefix.c prefix.set ≡ false
+      → waits_from value m k best (Some prefix) ≡ 1 + waits_from value m k best next
+  wait-past prefix next is dead =
+      omega (arith, waits-past prefix next is, waits-dead (waits_after value m k best 0 [] prefix.set) prefix.c prefix.set dead)
+
+  -- down: where nothing is below the first child, something is below the second
+  wait-child : (c : ℕ) (set : List ℕ) → c < m → length set < k → is_alive value m k best c set ≡ true
+      → 1 + waits_at value m k best (waits_after value m k best 0 [] (set ++ (c + 1) ∷ [])) (c + 1) (set ++ (c + 1) ∷ [])
+      ≤ waits_at value m k best (waits_after value m k best 0 [] set) c set
+  wait-child c set more few alive =
+      let child : List ℕ = set ++ (c + 1) ∷ [] in
+      let above = waits_after value m k best 0 [] set in
+      elim (cases_Bool (is_alive value m k best (c + 1) child)) [
+        | inl first ↦
+            omega (arith, more, waits-alive above c set alive, waits-alive (waits_after value m k best 0 [] child) (c + 1) child first)
+        | inr dead ↦
+            let both : is_alive value m k best c set ≡ (is_alive value m k best (c + 1) child || is_alive value m k best (c + 1) set) =
+            ap (list_any (λ list. nat_le best (value list))) (below-split m k c set more few)
+            ∙ list_any-append (λ list. nat_le best (value list)) (committees_below m k (c + 1) child) (committees_below m k (c + 1) set) in
+            let second : is_alive value m k best (c + 1) set ≡ true = sym (ap (λ b. b || is_alive value m k best (c + 1) set) dead) ∙ sym both ∙ alive in
+            omega (
+              arith,
+              more,
+              waits-alive above c set alive,
+              waits-dead (waits_after value m k best 0 [] child) (c + 1) child dead,
+              waits_after-push 0 [] set (c + 1),
+              waits-alive above (c + 1) set second,
+            )
+      ]
+
+  pub wait-first : (prefix next : Prefix) → prefix.c < m → IsPlace m k (Some prefix) → next.c ≡ prefix.c + 1
+      → (length prefix.set < k → next.set ≡ prefix.set ++ (prefix.c + 1) ∷ []) → (length prefix.set ≡ k → next.set ≡ prefix.set)
+      → is_alive value m k best prefix.c prefix.set ≡ true
+      → 1 + waits_from value m k best (Some next) ≤ waits_from value m k best (Some prefix)
+  wait-first prefix next more here at grown full alive = elim (cases_lt (length prefix.set) k) [
+    | inl few ↦ rw (at, grown few) (wait-child prefix.c prefix.set more few alive)
+    | inr enough ↦
+        let all : length prefix.set ≡ k = omega (arith, enough, here.2) in
+        let same : is_alive value m k best (prefix.c + 1) prefix.set ≡ true = alive-full (prefix.c + 1) prefix.c prefix.set all ∙ alive in
+        let above = waits_after value m k best 0 [] prefix.set in
+        rw (at, full all) (omega (arith, more, waits-alive above prefix.c prefix.set alive, waits-alive above (prefix.c + 1) prefix.set same))
+  ]
+
+  -- ---- no place waits long
+
+  waits_after-most : (most past first last : ℕ) (front list : List ℕ) → IsIncreasing first last list → past ≤ most → 2 * (m - first) + 1 ≤ most
+      → waits_after value m k best past front list ≤ most + length list
+  waits_after-most most past first last front [] up low high = omega (arith, low)
+  waits_after-most most past first last front (n ∷ list) up low high =
+      let here : waits_at value m k best past n front ≤ most + 1 = elim (cases_Bool (is_alive value m k best n front)) [
+        | inl alive ↦ omega (arith, waits-alive past n front alive, high, up.0)
+        | inr dead ↦ omega (arith, waits-dead past n front dead, low)
+      ] in
+      omega (arith, waits_after-most (most + 1) (waits_at value m k best past n front) (n + 1) last (front ++ n ∷ []) list up.2 here (omega (arith, high, up.0)))
+
+  pub waits-most : (place : Option Prefix) → 1 ≤ m → IsPlace m k place → waits_from value m k best place ≤ 4 * m
+  waits-most None some here = omega arith
+  waits-most (Some prefix) some here =
+      let past = waits_after-most (2 * (m - 1) + 1) 0 1 prefix.c [] prefix.set here.1 (omega arith) (omega arith) in
+      let few = length-increasing 1 prefix.c prefix.set here.1 in
+      let above = waits_after value m k best 0 [] prefix.set in
+      elim (cases_Bool (is_alive value m k best prefix.c prefix.set)) [
+        | inl alive ↦ omega (arith, some, waits-alive above prefix.c prefix.set alive)
+        | inr dead ↦ omega (arith, some, waits-dead above prefix.c prefix.set dead, past, few, here.0)
+      ]
+
+-- where no bound is too high, each is exact at the best
+pub tight-exact : (value : List ℕ → ℕ) (bound : ℕ → List ℕ → ℕ → ℕ) (m k best : ℕ) → IsTight value bound m k → IsExactAtBest value bound m k best
+tight-exact value bound m k best tight c set left inside up size fits high =
+    let some = tight c set left inside up size fits in
+    (some.0, some.1, omega (arith, some.2, high))
