@@ -4,6 +4,7 @@ ghost use Rattle.ballot_base.specs.Limits.{most_candidates};
 ghost use Rattle.tie_walk.specs.Steps.Walks.{committees_from, those_reaching, IsPlace, IsFound};
 ghost use Rattle.tie_walk.specs.Winners.{best_value};
 
+use crate::good::good_committee;
 use crate::prefix::Prefix;
 use crate::tally::Tally;
 use crate::walk::{Walk, next_winner, no_levels};
@@ -18,7 +19,7 @@ pub(crate) fn greatest_value<T: Tally>(tally: &T, m: u8, k: u8) -> u128
     requires fits { k ≤ m }
     ensures { result ≡ best_value (T.value_of tally.now) m k }
 {
-    let mut best = tally.value(tally.good_committee(k));
+    let mut best = tally.value(good_committee(tally, m, k));
     let bound = tally.bound(0, CandSet::empty(), k);
     let mut place = Some(Prefix::root());
     while best < bound {

@@ -6,8 +6,23 @@ ghost use Rattle.ballot_base.specs.Lists.{IsIncreasing};
 use crate::tally::Tally;
 use ballot_base::CandSet;
 
+/// The tally's good committee of k of the candidates 1 to m, or where it knows none, one that is made here.
+pub(crate) fn good_committee<T: Tally>(tally: &T, m: u8, k: u8) -> CandSet
+    requires candidates { m ≡ T.candidates tally.now }
+    requires most { m ≤ most_candidates }
+    requires some { 1 ≤ k }
+    requires fits { k ≤ m }
+    ensures candidates { IsIncreasing 1 m result }
+    ensures size { length result ≡ k }
+{
+    match tally.good_committee(k) {
+        Some(set) => set,
+        None => improved(tally, m, grown_committee(tally, m, k)),
+    }
+}
+
 /// A committee of k of the candidates 1 to m: those who raise the value most, added one after another.
-pub(crate) fn grown_committee<T: Tally>(tally: &T, m: u8, k: u8) -> CandSet
+fn grown_committee<T: Tally>(tally: &T, m: u8, k: u8) -> CandSet
     requires candidates { m ≡ T.candidates tally.now }
     requires most { m ≤ most_candidates }
     requires fits { k ≤ m }
@@ -22,7 +37,7 @@ pub(crate) fn grown_committee<T: Tally>(tally: &T, m: u8, k: u8) -> CandSet
 }
 
 /// The committee, with each member exchanged for the best candidate in the same seat, where that raises the value.
-pub(crate) fn improved<T: Tally>(tally: &T, m: u8, committee: CandSet) -> CandSet
+fn improved<T: Tally>(tally: &T, m: u8, committee: CandSet) -> CandSet
     requires candidates { m ≡ T.candidates tally.now }
     requires most { m ≤ most_candidates }
     requires members { IsIncreasing 1 m committee }

@@ -1,11 +1,10 @@
 //! What gives a committee its value.
-ghost use Rattle.std.specs.Prelude.{◌≡◌, ℕ, ◌+◌, ◌-◌, ◌*◌, ◌^◌, ◌<◌, ◌≤◌, List, MatchOption, length, slice_index, max};
+ghost use Rattle.std.specs.Prelude.{◌≡◌, ℕ, ◌+◌, ◌-◌, ◌*◌, ◌^◌, ◌<◌, ◌≤◌, List, MatchOption, ⊤, length, slice_index, max};
 ghost use Rattle.ballot_base.specs.Limits.{most_candidates};
 ghost use Rattle.ballot_base.specs.Lists.{IsIncreasing};
 ghost use Rattle.tie_walk.specs.Ceilings.{IsBound, IsShort, IsReach, greatest_sum};
 ghost use Rattle.tie_walk.specs.Steps.Tables.{sum_of_worths, IsLastReaching};
 
-use crate::good::{grown_committee, improved};
 use ballot_base::{CandSet, MOST_CANDIDATES};
 
 /// The places of a table that has one for each number of candidates, 0 to `MOST_CANDIDATES`.
@@ -58,15 +57,15 @@ pub trait Tally {
         last
     }
 
-    /// A committee of k to begin with: the search for the greatest value passes over all that is no better. Any
-    /// committee is right; the better it is, the less is searched. A tally that knows its best committee answers it.
-    fn good_committee(&self, k: u8) -> CandSet
+    /// A committee of k to begin with, where the tally knows a good one: the search for the greatest value passes over
+    /// all that is no better. Any committee is right; the better it is, the less is searched. Where the tally knows
+    /// none, the search makes one of its own.
+    fn good_committee(&self, k: u8) -> Option<CandSet>
         requires some { 1 ≤ k }
         requires fits { k ≤ candidates self.now }
-        ensures candidates { IsIncreasing 1 (candidates self.now) result }
-        ensures size { length result ≡ k }
+        ensures { MatchOption result ⊤ (λ set. IsIncreasing 1 (candidates self.now) set × (length set ≡ k)) }
     {
-        improved(self, self.m(), grown_committee(self, self.m(), k))
+        None
     }
 }
 

@@ -1,5 +1,4 @@
 use Rattle.std.proofs.Common.{◌≡◌, ◌∙◌, [], Some, sym, ap, subst, arith}
-use Rattle.ballot_base.specs.Lists.{IsIncreasing, increasing_lists}
 use Rattle.tie_walk.specs.Ceilings.{IsBound}
 use Rattle.tie_walk.specs.Steps.Walks.{committees_from}
 use Rattle.tie_walk.specs.Winners.{best_value}
@@ -13,11 +12,10 @@ loop-best-init g c =
     let value = g.T.Tally.value_of c.args.tally.now in
     let set = c.good_committee.result in
     let root = at_root c.args.m c.args.k c.root.result c.root.ensures.c c.root.ensures.set in
-    let up : IsIncreasing 1 c.args.m set = subst (λ n. IsIncreasing 1 n set) (sym c.requires.candidates) c.good_committee.ensures.candidates in
     record {
       place = root.1;
       best = ap (λ n. greatest value n (committees_from c.args.m c.args.k (Some c.root.result))) c.value-best.ensures
-          ∙ ap (greatest value (value set)) root.0 ∙ greatest-good value c.args.m c.args.k set up c.good_committee.ensures.size;
+          ∙ ap (greatest value (value set)) root.0 ∙ greatest-good value c.args.m c.args.k set c.good_committee.ensures.candidates c.good_committee.ensures.size;
     }
 
 pub returns-in_default : goal.returns-in_default
