@@ -1,3 +1,4 @@
+pub mod BestLemmas
 pub mod CeilingExamples
 pub mod Choices
 pub mod Closeness

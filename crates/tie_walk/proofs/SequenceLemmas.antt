@@ -31,7 +31,7 @@ use Rattle.tie_walk.proofs.StepLemmas.{has_member-range}
 
 -- ---- the size of a reached set
 
-length-with_member : (set : List ℕ) (n : ℕ) → has_member set n ≡ false → length (with_member set n) ≡ length set + 1
+pub length-with_member : (set : List ℕ) (n : ℕ) → has_member set n ≡ false → length (with_member set n) ≡ length set + 1
 length-with_member [] n outside = refl
 length-with_member (x ∷ xs) n outside = elim (cases_order n x) [
   | inl same ↦ absurd (both_false (has_member (x ∷ xs) n) outside (subst (λ k. has_member (x ∷ xs) k ≡ true) (sym same) (has_member_head x xs)))
@@ -43,7 +43,7 @@ length-with_member (x ∷ xs) n outside = elim (cases_order n x) [
   ]
 ]
 
-length-without_member : (first last : ℕ) (set : List ℕ) (n : ℕ) → IsIncreasing first last set → has_member set n ≡ true → length (without_member set n) + 1 ≡ length set
+pub length-without_member : (first last : ℕ) (set : List ℕ) (n : ℕ) → IsIncreasing first last set → has_member set n ≡ true → length (without_member set n) + 1 ≡ length set
 length-without_member first last [] n up inside = let e : false ≡ true = inside in cc
 length-without_member first last (x ∷ xs) n up inside = elim (cases_eq x n) [
   | inl same ↦ omega (arith, ap length (subst (λ k. without_member (x ∷ xs) k ≡ xs) same (without_member_head x last xs up.2)))

@@ -2,7 +2,7 @@
 -- is the sum of its members.
 use Rattle.std.proofs.Common.{◌≡◌, ℕ, ◌+◌, ◌*◌, List, [], ◌∷◌, true, false, refl, lit≤, lit<, Some, None, sum, arith}
 use Rattle.ballot_base.specs.Lists.{lists_of}
-use Rattle.tie_walk.specs.Steps.Walks.{committees_below, committees_after, committees_from, IsPlace, IsPast, work_left, is_above, those_above, IsFound, IsVisit, those_reaching, open_below, open_after, open_from, IsStride, is_alive, waits_at, waits_after, waits_from, IsWait, IsRaised, IsBegun, IsKnown, IsWalk}
+use Rattle.tie_walk.specs.Steps.Walks.{committees_below, committees_after, committees_from, IsPlace, IsPast, work_left, IsFound, those_reaching, open_below, open_after, open_from, IsStride, is_alive, waits_at, waits_after, waits_from, IsWait, IsRaised, IsBegun, IsKnown, IsWalk}
 use Rattle.tie_walk.specs.declared.prefix.Prefix.{Prefix}
 use Rattle.tie_walk.specs.declared.walk.Counts.{Counts}
 use Rattle.tie_walk.specs.declared.walk.Known.{Known}
@@ -53,30 +53,15 @@ work_of_one : work_left 3 (Some with_one) ≡ 18
 unfolding with_one
 work_of_one = refl
 
-above_four : is_above (Some 4) 5 ≡ true
-above_four = refl
-
-not_above_itself : is_above (Some 4) 4 ≡ false
-not_above_itself = refl
-
-one_above_four : those_above sum (Some 4) ((1 ∷ 2 ∷ []) ∷ (1 ∷ 3 ∷ []) ∷ (2 ∷ 3 ∷ []) ∷ []) ≡ (2 ∷ 3 ∷ []) ∷ []
-one_above_four = refl
-
 -- the first above 3 is 1 and 3, and 2 and 3 is still to come
-found_above_three : IsFound sum 3 2 (Some 3) (Some with_one) (1 ∷ 3 ∷ []) (Some without_one)
+found_above_three : IsFound sum 3 2 3 (Some with_one) (1 ∷ 3 ∷ []) (Some without_one)
 unfolding lists_of with_one without_one
 found_above_three = record {
   next = refl;
   candidates = (lit≤ tt, lit≤ tt, (lit≤ tt, lit≤ tt, tt));
-  above = refl;
+  above = lit< tt;
   place = (lit≤ tt, tt, lit≤ tt);
-  work = lit< tt;
 }
-
--- 1 and 2 is not above 3
-visit_of_one_and_two : IsVisit sum 3 2 (Some 3) one_and_two None (Some one_without_two)
-unfolding lists_of one_and_two one_without_two
-visit_of_one_and_two = record { next = refl; committee = tt; place = (lit≤ tt, (lit≤ tt, lit≤ tt, tt), lit≤ tt); work = lit< tt }
 
 -- ---- the walk over the winners, where a bound takes 3 for each open seat and the best value is 5
 bound_of_three : ℕ → List ℕ → ℕ → ℕ

@@ -1,25 +1,20 @@
 -- A walk over committees: what is below a prefix, and what comes after it.
-use Rattle.std.proofs.Common.{◌≡◌, ℕ, zero, suc, ◌+◌, ◌-◌, ◌*◌, ◌^◌, ◌<◌, ◌≤◌, ◌==◌, ◌∙◌, true, false, List, [], ◌∷◌, ◌++◌, Option, None, Some, SomeIff, unwrap_or, not, refl, sym, ap, subst, arith, inl, inr, length, length-append, map, filter, sum_by, append_assoc}
-use Rattle.std.specs.Prelude.{nat_lt, nat_le}
+use Rattle.std.proofs.Common.{◌≡◌, ℕ, zero, suc, ◌+◌, ◌-◌, ◌*◌, ◌^◌, ◌<◌, ◌≤◌, ◌==◌, ◌∙◌, true, false, List, [], ◌∷◌, ◌++◌, Option, None, Some, not, refl, sym, ap, subst, arith, inl, inr, length, length-append, map, sum_by, append_assoc}
 use Rattle.std.proofs.Math.Nat.{pow-le-pow_right}
 use Rattle.std.proofs.lemmas.Nat.{pow-add}
 use Rattle.std.specs.List.{AllByRecursion}
-use Rattle.std.proofs.lemmas.Bool.{cases_eq, le-ltb, eq-eqb, ne_eqb, or_left}
+use Rattle.std.proofs.lemmas.Bool.{cases_eq, eq-eqb, ne_eqb, or_left}
 use Rattle.std.proofs.lemmas.List.{map-append}
-use Rattle.std.proofs.lemmas.List.Elements.{filter-append}
 use Rattle.std.proofs.lemmas.List.Sums.{sum_by-append}
 use Rattle.ballot_base.specs.Lists.{IsIncreasing, lists_of, increasing_lists, later_than}
 use Rattle.ballot_base.specs.CandSet.{has_member, without_member}
 use Rattle.ballot_base.proofs.Committees.{IsChosen, increasing_lists-chosen, increasing_lists-order}
 use Rattle.ballot_base.proofs.Increasing.{IsIncreasing-filter, IsIncreasing-push}
 use Rattle.tie_walk.specs.Ceilings.{IsBound}
-use Rattle.tie_walk.specs.Steps.Walks.{committees_below, committees_after, committees_from, IsPlace, IsPast, work_left, is_above, those_above, IsFound}
+use Rattle.tie_walk.specs.Steps.Walks.{committees_below, committees_after, committees_from, IsPlace, IsPast, work_left}
 use Rattle.tie_walk.specs.declared.prefix.Prefix.{Prefix}
 use Rattle.tie_walk.proofs.GreatestSums.{lists-short, lists-empty, lists-more}
-use Rattle.tie_walk.specs.Winners.{Winning}
 use Rattle.tie_walk.proofs.StartLemmas.{later_than-at}
-use Rattle.tie_walk.proofs.WinnersLemmas.{greatest, greatest-next, floor-is}
-use Rattle.std.specs.Iterator.{YieldsFirst}
 
 pub append_none : {X : Type 0} (xs : List X) → xs ++ [] ≡ xs
 append_none [] = refl
@@ -164,20 +159,6 @@ module _ (m k : ℕ) where
         each [] all = tt
         each (l ∷ lists) all = (law l all.0.0 all.0.1, each lists all.1)
 
-    -- none of them is above the floor where the bound is not
-    pub none_above : (floor : Option ℕ) (bound : ℕ) (lists : List (List ℕ)) → is_above floor bound ≡ false → AllByRecursion (λ s. value s ≤ bound) lists → those_above value floor lists ≡ []
-    none_above None bound lists low all = absurd (cc)
-    none_above (Some floor) bound [] low all = refl
-    none_above (Some floor) bound (l ∷ lists) low all =
-        let lower : nat_lt floor (value l) ≡ false = le-ltb floor (value l) (omega (arith, all.0, not-below)) in
-        rw lower (none_above (Some floor) bound lists low all.1)
-      where
-        not-below : bound ≤ floor
-        not-below = grind arith
-
-    pub above-append : (floor : Option ℕ) (xs ys : List (List ℕ)) → those_above value floor (xs ++ ys) ≡ those_above value floor xs ++ those_above value floor ys
-    above-append floor xs ys = filter-append (λ s. is_above floor (value s)) xs ys
-
 -- ---- the last member
 
 none-above : (c : ℕ) (set : List ℕ) → IsIncreasing (c + 1) c set → set ≡ []
@@ -213,50 +194,6 @@ pub none_below : (c : ℕ) (set : List ℕ) → c ≤ 0 → IsIncreasing 1 c set
 none_below c [] low up = refl
 none_below c (x ∷ set) low up = absurd (omega (arith, up.0, up.1))
 
--- ---- one step of the walk
-
-module _ (value : List ℕ → ℕ) (m k : ℕ) (floor : Option ℕ) (prefix : Prefix) where
-  -- nothing below the prefix is above the floor
-  pub step-past : (next : Option Prefix) → IsPast prefix next → those_above value floor (committees_below m k prefix.c prefix.set) ≡ []
-      → those_above value floor (committees_from m k next) ≡ those_above value floor (committees_from m k (Some prefix))
-  step-past next is none =
-      ap (those_above value floor) (from-past m k prefix next is)
-      ∙ sym (above-append m k value floor (committees_below m k prefix.c prefix.set) (committees_after m k [] prefix.set) ∙ ap (λ ls. ls ++ those_above value floor (committees_after m k [] prefix.set)) none)
-
-  pub step-grown : (next : Prefix) → next.c ≡ prefix.c + 1 → next.set ≡ prefix.set ++ (prefix.c + 1) ∷ [] → prefix.c < m → length prefix.set < k
-      → (those_above value floor (committees_from m k (Some next)) ≡ those_above value floor (committees_from m k (Some prefix)))
-      × (work_left m (Some next) < work_left m (Some prefix)) × (IsPlace m k (Some prefix) → IsPlace m k (Some next))
-  step-grown next at is inside few =
-      let grown : committees_from m k (Some next) ≡ committees_from m k (Some prefix) = rw (at, is) (from-grown m k prefix.c prefix.set inside few) in
-      let work : work_left m (Some next) < work_left m (Some prefix) = rw (at, is) (work-grown m k prefix.c prefix.set inside) in (
-        ap (those_above value floor) grown,
-        work,
-        λ here. (
-          omega (arith, at),
-          subst (λ s. IsIncreasing 1 next.c s) (sym is) (subst (λ n. IsIncreasing 1 n (prefix.set ++ (prefix.c + 1) ∷ [])) (sym at)
-              (IsIncreasing-push 1 prefix.c prefix.set (prefix.c + 1) here.1 (omega arith) (omega arith))),
-          omega (arith, ap length is, length-append prefix.set ((prefix.c + 1) ∷ [])),
-        ),
-      )
-
-  -- a whole committee is above the floor, or it is not
-  pub step-whole : (next : Option Prefix) → IsPast prefix next → length prefix.set ≡ k → is_above floor (value prefix.set) ≡ true
-      → those_above value floor (committees_from m k (Some prefix)) ≡ prefix.set ∷ those_above value floor (committees_from m k next)
-  step-whole next is full above =
-      let below : those_above value floor (committees_below m k prefix.c prefix.set) ≡ prefix.set ∷ [] = ap (those_above value floor) (below-full m k prefix.c prefix.set full) ∙ rw above in
-      above-append m k value floor (committees_below m k prefix.c prefix.set) (committees_after m k [] prefix.set)
-      ∙ ap (λ ls. ls ++ those_above value floor (committees_after m k [] prefix.set)) below
-      ∙ ap (λ ls. prefix.set ∷ those_above value floor ls) (sym (from-past m k prefix next is))
-
-  pub step-none : length prefix.set ≡ k → is_above floor (value prefix.set) ≡ false → those_above value floor (committees_below m k prefix.c prefix.set) ≡ []
-  step-none full above = ap (those_above value floor) (below-full m k prefix.c prefix.set full) ∙ rw above
-
-  pub step-short : length prefix.set + (m - prefix.c) < k → those_above value floor (committees_below m k prefix.c prefix.set) ≡ []
-  step-short few = ap (those_above value floor) (below-short m k prefix.c prefix.set few)
-
-  pub step-bound : (bound : ℕ) → IsBound value m prefix.c prefix.set (k - length prefix.set) bound → is_above floor bound ≡ false → those_above value floor (committees_below m k prefix.c prefix.set) ≡ []
-  step-bound bound law low = none_above m k value floor bound (committees_below m k prefix.c prefix.set) low (below-bounded m k value prefix.c prefix.set bound law)
-
 -- ---- the first place
 
 pub at_root : (m k : ℕ) (root : Prefix) → root.c ≡ 0 → root.set ≡ [] → (committees_from m k (Some root) ≡ increasing_lists 1 m k) × IsPlace m k (Some root)
@@ -265,22 +202,3 @@ at_root m k root none nobody = (
       ∙ append_none (committees_below m k 0 []) ∙ from-root m k,
   (omega (arith, none), subst (λ s. IsIncreasing 1 root.c s) (sym nobody) tt, omega (arith, ap length nobody)),
 )
-
--- ---- what the walk finds
-
-pub next-found : (value : List ℕ → ℕ) (m k best : ℕ) (floor : Option ℕ) (from rest : Option Prefix) (set : List ℕ) → SomeIff floor (1 ≤ best) (best - 1) → IsFound value m k floor from set rest
-    → filter (λ s. nat_le best (value s)) (committees_from m k from) ≡ set ∷ filter (λ s. nat_le best (value s)) (committees_from m k rest)
-next-found value m k best floor from rest set is found =
-    sym (floor-is value floor best (committees_from m k from) is) ∙ found.next ∙ ap (λ l. set ∷ l) (floor-is value floor best (committees_from m k rest) is)
-
-pub greatest-found : (value : List ℕ → ℕ) (m k best n : ℕ) (floor : Option ℕ) (from rest : Option Prefix) (set : List ℕ) → IsFound value m k floor from set rest → n ≡ value set
-    → greatest value (unwrap_or floor 0) (committees_from m k from) ≡ best → greatest value n (committees_from m k rest) ≡ best
-greatest-found value m k best n floor from rest set found is so_far =
-    ap (λ x. greatest value x (committees_from m k rest)) is ∙ greatest-next value floor (committees_from m k from) (committees_from m k rest) set found.next found.above ∙ so_far
-
-pub left-of : {T : Type 0} (v w : Winning T) → v ≡ w → v.left ≡ w.left
-left-of v w e = cc
-
-pub nothing-left : {T : Type 0} (w : Winning T) (r : Option (List ℕ)) → r ≡ None → w.left ≡ [] → YieldsFirst (λ (x : Winning T). x.left) w r w
-nothing-left w None e none = (none, none)
-nothing-left w (Some set) e none = absurd (cc)

@@ -1,13 +1,12 @@
 -- The winners are the committees with the greatest value.
-use Rattle.std.proofs.Common.{◌≡◌, ℕ, zero, suc, ◌-◌, ◌≤◌, ◌==◌, ◌&&◌, Bool, true, false, cond, List, [], ◌∷◌, refl, sym, ap, ◌∙◌, arith, map, filter, max, length, Option, None, Some, unwrap_or, SomeIff, inl, inr}
-use Rattle.std.specs.Prelude.{fold, nat_le, nat_lt}
+use Rattle.std.proofs.Common.{◌≡◌, ℕ, zero, suc, ◌-◌, ◌≤◌, ◌==◌, ◌&&◌, Bool, true, false, cond, List, [], ◌∷◌, refl, sym, ap, ◌∙◌, arith, map, filter, max, length, ◌+◌, ◌<◌, inl, inr}
+use Rattle.std.specs.Prelude.{fold, nat_le, Contains}
 use Rattle.std.specs.List.{list_all, AllByRecursion}
-use Rattle.std.proofs.lemmas.Bool.{cases_lt, lt-ltb, le-ltb}
-use borrow.Author.Tests.{ltb-true}
-use Rattle.std.proofs.lemmas.List.Elements.{All-from_recursion, All-weaker, recursion_from_All}
+use Rattle.std.proofs.lemmas.Bool.{cases_lt, le-leb, lt-leb}
+use Rattle.std.proofs.lemmas.List.Elements.{All-contains, All-from_recursion, All-weaker, recursion_from_All}
 use Rattle.ballot_base.specs.Lists.{IsIncreasing, increasing_lists}
 use Rattle.ballot_base.proofs.Committees.{increasing_lists-chosen}
-use Rattle.tie_walk.specs.Steps.Walks.{is_above, those_above}
+use Rattle.tie_walk.specs.Steps.Walks.{those_reaching}
 use Rattle.tie_walk.specs.Winners.{best_value, is_unbeaten, winners}
 
 and-assoc : (a b c : Bool) → (a && (b && c)) ≡ ((a && b) && c)
@@ -76,47 +75,49 @@ pub greatest-low : (value : List ℕ → ℕ) (low : ℕ) (sets : List (List ℕ
 greatest-low value low sets = low-greatest value low sets
 
 -- those that are not above a floor do not matter to the greatest of a number that is no smaller, and of them all
-pub greatest-above : (value : List ℕ → ℕ) (floor : Option ℕ) (low : ℕ) (sets : List (List ℕ)) → unwrap_or floor 0 ≤ low → greatest value low (those_above value floor sets) ≡ greatest value low sets
+pub greatest-above : (value : List ℕ → ℕ) (floor low : ℕ) (sets : List (List ℕ)) → floor ≤ low → greatest value low (those_reaching value (floor + 1) sets) ≡ greatest value low sets
 greatest-above value floor low [] h = refl
-greatest-above value None low (set ∷ sets) h = greatest-above value None (max low (value set)) sets (omega arith)
-greatest-above value (Some floor) low (set ∷ sets) h = elim (cases_lt floor (value set)) [
+greatest-above value floor low (set ∷ sets) h = elim (cases_lt floor (value set)) [
   | inl over ↦
-      let yes : nat_lt floor (value set) ≡ true = lt-ltb floor (value set) over in
-      rw yes (greatest-above value (Some floor) (max low (value set)) sets (omega (arith, h)))
+      let yes : nat_le (floor + 1) (value set) ≡ true = le-leb (floor + 1) (value set) (omega (arith, over)) in
+      rw yes (greatest-above value floor (max low (value set)) sets (omega (arith, h)))
   | inr under ↦
-      let no' : nat_lt floor (value set) ≡ false = le-ltb floor (value set) under in
+      let no' : nat_le (floor + 1) (value set) ≡ false = lt-leb (floor + 1) (value set) (omega (arith, under)) in
       let same : low ≡ max low (value set) = omega (arith, h, under) in
-      rw no' (greatest-above value (Some floor) low sets h ∙ ap (λ n. greatest value n sets) same)
+      rw no' (greatest-above value floor low sets h ∙ ap (λ n. greatest value n sets) same)
 ]
 
 -- the next one above the floor is the next greatest
-pub greatest-next : (value : List ℕ → ℕ) (floor : Option ℕ) (sets rest : List (List ℕ)) (set : List ℕ) → those_above value floor sets ≡ set ∷ those_above value floor rest → is_above floor (value set) ≡ true
-    → greatest value (value set) rest ≡ greatest value (unwrap_or floor 0) sets
+pub greatest-next : (value : List ℕ → ℕ) (floor : ℕ) (sets rest : List (List ℕ)) (set : List ℕ) → those_reaching value (floor + 1) sets ≡ set ∷ those_reaching value (floor + 1) rest → floor < value set
+    → greatest value (value set) rest ≡ greatest value floor sets
 greatest-next value floor sets rest set next above =
-    let over : unwrap_or floor 0 ≤ value set = no_less floor above in
-    let same : max (unwrap_or floor 0) (value set) ≡ value set = omega (arith, over) in
+    let over : floor ≤ value set = omega (arith, above) in
+    let same : max floor (value set) ≡ value set = omega (arith, over) in
     sym (
-    sym (greatest-above value floor (unwrap_or floor 0) sets (omega arith)) ∙ ap (greatest value (unwrap_or floor 0)) next ∙ ap (λ n. greatest value n (those_above value floor rest)) same
+    sym (greatest-above value floor floor sets (omega arith)) ∙ ap (greatest value floor) next ∙ ap (λ n. greatest value n (those_reaching value (floor + 1) rest)) same
     ∙ greatest-above value floor (value set) rest over)
-  where
-    no_less : (f : Option ℕ) → is_above f (value set) ≡ true → unwrap_or f 0 ≤ value set
-    no_less None h = omega arith
-    no_less (Some f) h = omega (arith, ltb-true f (value set) h)
 
-pub greatest-done : (value : List ℕ → ℕ) (floor : Option ℕ) (sets : List (List ℕ)) → those_above value floor sets ≡ [] → greatest value (unwrap_or floor 0) sets ≡ unwrap_or floor 0
-greatest-done value floor sets none = sym (greatest-above value floor (unwrap_or floor 0) sets (omega arith)) ∙ ap (greatest value (unwrap_or floor 0)) none
+pub greatest-done : (value : List ℕ → ℕ) (floor : ℕ) (sets : List (List ℕ)) → those_reaching value (floor + 1) sets ≡ [] → greatest value floor sets ≡ floor
+greatest-done value floor sets none = sym (greatest-above value floor floor sets (omega arith)) ∙ ap (greatest value floor) none
 
--- above the number below the best is from the best on
-floor-test : (floor : Option ℕ) (best n : ℕ) → SomeIff floor (1 ≤ best) (best - 1) → is_above floor n ≡ nat_le best n
-floor-test None zero n is = sym (least n)
-floor-test None (suc best) n is = absurd (is (omega arith))
-floor-test (Some floor) best n is = let low : 1 ≤ best = is.0 in let at : floor ≡ best - 1 = is.1 in grind arith
+-- what bounds a number and all values bounds the greatest
+pub greatest-most : (value : List ℕ → ℕ) (low bound : ℕ) (sets : List (List ℕ)) → low ≤ bound → AllByRecursion (λ set. value set ≤ bound) sets → greatest value low sets ≤ bound
+greatest-most value low bound [] under all = under
+greatest-most value low bound (set ∷ sets) under all = greatest-most value (max low (value set)) bound sets (omega (arith, under, all.0)) all.1
 
-pub floor-is : (value : List ℕ → ℕ) (floor : Option ℕ) (best : ℕ) (sets : List (List ℕ)) → SomeIff floor (1 ≤ best) (best - 1) → those_above value floor sets ≡ filter (λ set. nat_le best (value set)) sets
-floor-is value floor best [] is = refl
-floor-is value floor best (set ∷ sets) is =
-    ap (λ b. cond b (set ∷ those_above value floor sets) (those_above value floor sets)) (floor-test floor best (value set) is)
-    ∙ ap (λ l. cond (nat_le best (value set)) (set ∷ l) l) (floor-is value floor best sets is)
+greatest-max : (value : List ℕ → ℕ) (low n : ℕ) (sets : List (List ℕ)) → greatest value (max low n) sets ≡ max low (greatest value n sets)
+greatest-max value low n [] = refl
+greatest-max value low n (set ∷ sets) =
+    let turned : max (max low n) (value set) ≡ max low (max n (value set)) = omega arith in
+    ap (λ x. greatest value x sets) turned ∙ greatest-max value low (max n (value set)) sets
+
+-- the value of one of them may come first
+pub greatest-first : (value : List ℕ → ℕ) (set : List ℕ) (sets : List (List ℕ)) → Contains sets set → greatest value (value set) sets ≡ greatest value 0 sets
+greatest-first value set sets inside =
+    let most : value set ≤ greatest value 0 sets =
+    All-contains (λ s. value s ≤ greatest value 0 sets) sets set (All-from_recursion (λ s. value s ≤ greatest value 0 sets) sets (values-greatest value 0 sets)) inside in
+    let zero-first : max (value set) 0 ≡ value set = omega arith in
+    ap (λ x. greatest value x sets) (sym zero-first) ∙ greatest-max value (value set) 0 sets ∙ omega (arith, most)
 
 -- the winners are the committees from the best value on
 pub winners-from_best : (value : List ℕ → ℕ) (m k : ℕ) → winners value m k ≡ filter (λ set. nat_le (best_value value m k) (value set)) (increasing_lists 1 m k)

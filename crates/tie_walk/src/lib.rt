@@ -2,6 +2,8 @@
 //! the sequential rules.
 #![tactic(auto)]
 
+mod best;
+mod good;
 pub mod laws;
 pub mod minimax;
 mod prefix;

@@ -1,5 +1,5 @@
 //! What gives a committee its value.
-ghost use Rattle.std.specs.Prelude.{◌≡◌, ℕ, ◌+◌, ◌-◌, ◌*◌, ◌^◌, ◌<◌, ◌≤◌, List, MatchOption, slice_index, max};
+ghost use Rattle.std.specs.Prelude.{◌≡◌, ℕ, ◌+◌, ◌-◌, ◌*◌, ◌^◌, ◌<◌, ◌≤◌, List, MatchOption, ⊤, length, slice_index, max};
 ghost use Rattle.ballot_base.specs.Limits.{most_candidates};
 ghost use Rattle.ballot_base.specs.Lists.{IsIncreasing};
 ghost use Rattle.tie_walk.specs.Ceilings.{IsBound, IsShort, IsReach, greatest_sum};
@@ -55,6 +55,17 @@ pub trait Tally {
             last = Some(here);
         }
         last
+    }
+
+    /// A committee of k to begin with, where the tally knows a good one: the search for the greatest value passes over
+    /// all that is no better. Any committee is right; the better it is, the less is searched. Where the tally knows
+    /// none, the search makes one of its own.
+    fn good_committee(&self, k: u8) -> Option<CandSet>
+        requires some { 1 ≤ k }
+        requires fits { k ≤ candidates self.now }
+        ensures { MatchOption result ⊤ (λ set. IsIncreasing 1 (candidates self.now) set × (length set ≡ k)) }
+    {
+        None
     }
 }
 

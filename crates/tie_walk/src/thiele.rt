@@ -1,5 +1,5 @@
 //! The values of Thiele's rules.
-ghost use Rattle.std.specs.Prelude.{◌≡◌, ℕ, ◌+◌, ◌*◌, ◌^◌, ◌<◌, ◌≤◌, ◌==◌, true, List, filter, sum, slice_index, if◌then◌else◌};
+ghost use Rattle.std.specs.Prelude.{◌≡◌, ℕ, ◌+◌, ◌*◌, ◌^◌, ◌<◌, ◌≤◌, ◌==◌, ◌&&◌, List, filter, nat_le, nat_lt, sum, slice_index, if◌then◌else◌};
 ghost use Rattle.ballot_base.specs.Limits.{most_candidates, most_members};
 ghost use Rattle.ballot_base.specs.Lists.{IsIncreasing};
 ghost use Rattle.ballot_base.specs.CandSet.{has_member};
@@ -181,7 +181,7 @@ fn voters_by_hits<A: Allocator + Copy>(profile: &Profile<A>, set: CandSet) -> [u
 fn those_after(c: u8, m: u8) -> CandSet
     requires most { m ≤ most_candidates }
     requires within { c ≤ m }
-    ensures { (n : ℕ) → c < n → n ≤ m → has_member result n ≡ true }
+    ensures { (n : ℕ) → has_member result n ≡ (nat_lt c n && nat_le n m) }
 {
     let mut others = CandSet::empty();
     for n in c..m {

@@ -218,7 +218,7 @@ pub(crate) fn next_winner<T: Tally>(
 }
 
 /// Nothing is counted.
-fn no_counts() -> Counts
+pub(crate) fn no_counts() -> Counts
     ensures entered { result.entered ≡ 0 }
     ensures ceilings { result.ceilings ≡ 0 }
 {

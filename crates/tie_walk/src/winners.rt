@@ -1,20 +1,15 @@
 //! The winning committees of a tally, by a walk from prefix to prefix that enters no prefix whose bound is too low.
-ghost use Rattle.std.specs.Prelude.{◌≡◌, ℕ, ◌+◌, ◌-◌, ◌*◌, ◌<◌, ◌≤◌, [], ◌∷◌, List, None, Some, false, length, MatchOption};
-ghost use Rattle.ballot_base.specs.Lists.{IsIncreasing, increasing_lists, later_than};
-ghost use Rattle.tie_walk.specs.Ceilings.{IsBound, IsExactAtBest, live_count};
+ghost use Rattle.std.specs.Prelude.{◌≡◌, ◌+◌, ◌*◌, ◌≤◌, None};
+ghost use Rattle.ballot_base.specs.Lists.{later_than};
+ghost use Rattle.tie_walk.specs.Ceilings.{IsExactAtBest, live_count};
 ghost use Rattle.std.specs.Iterator.{YieldsFirst, item_count};
-ghost use Rattle.ballot_base.specs.Limits.{most_candidates};
-ghost use Rattle.tie_walk.specs.Steps.Walks.{committees_from, IsPlace, IsFound, IsVisit, work_left, is_above, those_above};
 ghost use Rattle.tie_walk.specs.Winners.{Winning, IsStart, best_value, winners};
 
-use crate::prefix::Prefix;
+use crate::best::greatest_value;
 use crate::tally::Tally;
 use crate::walk::{Levels, Walk, begin, begin_after, next_winner, no_levels};
 use ballot_base::CandSet;
 use std::marker::Model;
-
-/// Below a prefix with more committees than these the bound is asked, which costs as much as some values.
-const MANY: u32 = 32;
 
 /// The winning committees of k of the candidates 1 to m, in lexicographic order: those whose value no other exceeds.
 /// Contracts see the tally, m and k, the greatest value, and the list of the winners still to come.
@@ -143,135 +138,5 @@ impl<'a, T: Tally> Iterator for Winners<'a, T> {
         let (found, walk) = next_winner(self.tally, self.m, self.k, best, self.walk, levels);
         self.walk = walk;
         found
-    }
-}
-
-/// The greatest value of a committee of k of the candidates 1 to m: a walk over the committees, each with a value above
-/// that of the one before.
-fn greatest_value<T: Tally>(tally: &T, m: u8, k: u8) -> u128
-    requires candidates { m ≡ T.candidates tally.now }
-    requires most { m ≤ most_candidates }
-    requires fits { k ≤ m }
-    ensures { result ≡ best_value (T.value_of tally.now) m k }
-{
-    let mut place = Some(Prefix::root());
-    let mut best = None;
-    while let Some((committee, rest)) = next_above(tally, m, k, place, best) {
-        best = Some(tally.value(committee));
-        place = rest;
-    }
-    best.unwrap_or(0)
-}
-
-/// The next committee with a value above the floor, any committee where there is no floor, and where the walk goes on.
-fn next_above<T: Tally>(
-    tally: &T,
-    m: u8,
-    k: u8,
-    from: Option<Prefix>,
-    floor: Option<u128>,
-) -> Option<(CandSet, Option<Prefix>)>
-    requires candidates { m ≡ T.candidates tally.now }
-    requires most { m ≤ most_candidates }
-    requires place { IsPlace m k from }
-    ensures { MatchOption result (those_above (T.value_of tally.now) floor (committees_from m k from) ≡ [])
-        (λ found. IsFound (T.value_of tally.now) m k floor from found.0 found.1) }
-{
-    let mut place = from;
-    while let Some(prefix) = place {
-        let (found, rest) = visit(tally, m, k, prefix, floor);
-        if let Some(set) = found {
-            return Some((set, rest));
-        }
-        place = rest;
-    }
-    None
-}
-
-/// What the walk finds at a prefix, a whole committee with a value above the floor or nothing, and where it goes on.
-fn visit<T: Tally>(
-    tally: &T,
-    m: u8,
-    k: u8,
-    prefix: Prefix,
-    floor: Option<u128>,
-) -> (Option<CandSet>, Option<Prefix>)
-    requires candidates { m ≡ T.candidates tally.now }
-    requires most { m ≤ most_candidates }
-    requires place { IsPlace m k (Some prefix) }
-    ensures { IsVisit (T.value_of tally.now) m k floor prefix result.0 result.1 }
-{
-    let Prefix { c, set } = prefix;
-    if set.len() < k {
-        return (None, next_place(tally, m, k, Prefix { c, set }, floor));
-    }
-    let rest = Prefix { c, set }.past();
-    if is_above(floor, tally.value(set)) {
-        return (Some(set), rest);
-    }
-    (None, rest)
-}
-
-/// The next place after a prefix that is no whole committee: below it, where a committee there may have a value above
-/// the floor, else past it.
-fn next_place<T: Tally>(
-    tally: &T,
-    m: u8,
-    k: u8,
-    prefix: Prefix,
-    floor: Option<u128>,
-) -> Option<Prefix>
-    requires candidates { m ≡ T.candidates tally.now }
-    requires most { m ≤ most_candidates }
-    requires place { IsPlace m k (Some prefix) }
-    requires few { length prefix.set < k }
-    ensures place { IsPlace m k result }
-    ensures rest { those_above (T.value_of tally.now) floor (committees_from m k result)
-        ≡ those_above (T.value_of tally.now) floor (committees_from m k (Some prefix)) }
-    ensures work { work_left m result < work_left m (Some prefix) }
-{
-    let Prefix { c, set } = prefix;
-    let left = k - set.len();
-    if left <= m - c && may_exceed(tally, c, set, left, floor) {
-        return Some(Prefix { c, set }.grown());
-    }
-    Prefix { c, set }.past()
-}
-
-/// Whether some committee of the set and of `left` of the candidates after c may have a value above the floor. Where
-/// there are few such committees the bound is not asked.
-fn may_exceed<T: Tally>(tally: &T, c: u8, set: CandSet, left: u8, floor: Option<u128>) -> bool
-    requires within { c ≤ T.candidates tally.now }
-    requires candidates { IsIncreasing 1 c set }
-    requires fits { left ≤ T.candidates tally.now - c }
-    ensures { result ≡ false → (bound : ℕ)
-        × IsBound (T.value_of tally.now) (T.candidates tally.now) c set left bound × (is_above floor bound ≡ false) }
-{
-    !is_many(tally.m() - c, left) || is_above(floor, tally.bound(c, set, left))
-}
-
-/// Whether there are more than `MANY` lists of `size` of so many candidates. Any answer would be right: it only decides
-/// whether a bound is worth its time.
-fn is_many(candidates: u8, size: u8) -> bool
-    requires most { candidates ≤ most_candidates }
-    requires fits { size ≤ candidates }
-{
-    let mut lists = 1;
-    for taken in 0..size.min(candidates - size) {
-        if lists > MANY {
-            return true;
-        }
-        lists = lists * u32::from(candidates - taken) / (u32::from(taken) + 1);
-    }
-    lists > MANY
-}
-
-/// Whether the value is above the floor, if there is one.
-fn is_above(floor: Option<u128>, value: u128) -> bool
-    ensures { result ≡ is_above floor value }
-{
-    match floor {
-        Some(floor) => value > floor,
-        None => true,
     }
 }

@@ -1,5 +1,5 @@
 -- A walk over all committees, in lexicographic order, from prefix to prefix.
-use Rattle.std.specs.Prelude.{◌≡◌, ℕ, zero, suc, ◌+◌, ◌-◌, ◌*◌, ◌^◌, ◌<◌, ◌≤◌, Bool, true, List, [], ◌∷◌, ◌++◌, Option, None, Some, ⊤, length, map, filter, sum_by, nat_le, nat_lt, MatchOption, option_to_list, if◌then◌else◌}
+use Rattle.std.specs.Prelude.{◌≡◌, ℕ, zero, suc, ◌+◌, ◌-◌, ◌*◌, ◌^◌, ◌<◌, ◌≤◌, Bool, List, [], ◌∷◌, ◌++◌, Option, None, Some, ⊤, length, map, filter, sum_by, nat_le, MatchOption, option_to_list, if◌then◌else◌}
 use Rattle.std.specs.List.{AllByRecursion, list_any}
 use Rattle.ballot_base.specs.Limits.{most_candidates}
 use Rattle.ballot_base.specs.Lists.{IsIncreasing, increasing_lists, later_than}
@@ -39,37 +39,18 @@ abbrev pub work_left : ℕ → Option Prefix → ℕ
 work_left m None = 0
 work_left m (Some prefix) = 3 ^ (m - prefix.c) + sum_by (λ n. 3 ^ (m - n)) prefix.set
 
--- whether the value is above the floor, if there is one
-abbrev pub is_above : Option ℕ → ℕ → Bool
-is_above None value = true
-is_above (Some floor) value = nat_lt floor value
-
--- those of the committees with a value above the floor
-abbrev pub those_above : (List ℕ → ℕ) → Option ℕ → List (List ℕ) → List (List ℕ)
-those_above value floor committees = filter (λ set. is_above floor (value set)) committees
-
--- the next committee with a value above the floor, and where the walk goes on
-pub record IsFound (value : List ℕ → ℕ) (m k : ℕ) (floor : Option ℕ) (from : Option Prefix)
-    (set : List ℕ) (rest : Option Prefix) : Type 0 where
-  pub next : those_above value floor (committees_from m k from)
-      ≡ set ∷ those_above value floor (committees_from m k rest)
-  pub candidates : IsIncreasing 1 m set
-  pub above : is_above floor (value set) ≡ true
-  pub place : IsPlace m k rest
-  pub work : work_left m rest < work_left m from
-
--- a visit of a prefix: what the walk finds there, and where it goes on
-pub record IsVisit (value : List ℕ → ℕ) (m k : ℕ) (floor : Option ℕ) (prefix : Prefix)
-    (found : Option (List ℕ)) (rest : Option Prefix) : Type 0 where
-  pub next : those_above value floor (committees_from m k (Some prefix))
-      ≡ option_to_list found ++ those_above value floor (committees_from m k rest)
-  pub committee : MatchOption found ⊤ (λ set. IsIncreasing 1 m set × (is_above floor (value set) ≡ true))
-  pub place : IsPlace m k rest
-  pub work : work_left m rest < work_left m (Some prefix)
-
 -- those of the committees whose value reaches the best
 abbrev pub those_reaching : (List ℕ → ℕ) → ℕ → List (List ℕ) → List (List ℕ)
 those_reaching value best committees = filter (λ set. nat_le best (value set)) committees
+
+-- the next committee with a value above the floor, and where the walk goes on
+pub record IsFound (value : List ℕ → ℕ) (m k floor : ℕ) (from : Option Prefix) (set : List ℕ)
+    (rest : Option Prefix) : Type 0 where
+  pub next : those_reaching value (floor + 1) (committees_from m k from)
+      ≡ set ∷ those_reaching value (floor + 1) (committees_from m k rest)
+  pub candidates : IsIncreasing 1 m set
+  pub above : floor < value set
+  pub place : IsPlace m k rest
 
 module _ (bound : ℕ → List ℕ → ℕ → ℕ) (m k best : ℕ) where
   -- how many prefixes begin with c and the set, where `rest` candidates come after c and each beginning from c on is

@@ -1,4 +1,6 @@
-use Rattle.std.proofs.Common.{◌≡◌, ℕ, ◌+◌, ◌^◌, ◌≤◌, ◌<◌, ◌∙◌, Bool, true, false, cond, ap, sym, arith, get_or}
+use Rattle.std.proofs.Common.{◌≡◌, ℕ, ◌+◌, ◌^◌, ◌≤◌, ◌<◌, ◌∙◌, Bool, ◌&&◌, true, false, cond, refl, ap, sym, arith, get_or}
+use Rattle.std.specs.Prelude.{nat_le, nat_lt}
+use Rattle.std.proofs.lemmas.Bool.{lt-ltb, le-leb}
 use Rattle.ballot_base.specs.CandSet.{has_member}
 use Rattle.ballot_base.specs.Ballots.{Election}
 use Rattle.ballot_base.specs.Increments.{increments}
@@ -48,7 +50,9 @@ returns-clause-gains g c n low high =
     let e : Election = t.profile.now in
     let same : thiele_of e t.rule t.k ≡ c.args.self.now = c.self.view_is in
     let size : e.m ≡ c.args.self.now.election.m = ap (λ (x : Thiele). x.election.m) same in
-    let wanted : has_member c.those_after-others.result n ≡ true = c.those_after-others.ensures n low (omega (arith, high, size, c.m-m.ensures.value)) in
+    let below : n ≤ c.m-m.result = omega (arith, high, size, c.m-m.ensures.value) in
+    let within : (nat_lt c.args.c n && nat_le n c.m-m.result) ≡ true = rw (lt-ltb c.args.c n low, le-leb n c.m-m.result below) refl in
+    let wanted : has_member c.those_after-others.result n ≡ true = c.those_after-others.ensures n ∙ within in
     c.widened.ensures n ∙ c.hits_and_gains.ensures.gains n
     ∙ ap (λ b. cond b (gain t.weights e.rows c.args.set n) 0) wanted
     ∙ ap (λ l. gain l e.rows c.args.set n) c.self.invariant.weights_are

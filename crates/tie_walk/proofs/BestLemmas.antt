@@ -1,0 +1,159 @@
+-- From a good committee on to the greatest value.
+use Rattle.std.proofs.Common.{◌≡◌, ℕ, ◌+◌, ◌-◌, ◌*◌, ◌^◌, ◌<◌, ◌≤◌, ◌∙◌, true, false, List, [], ◌∷◌, ◌++◌, Option, None, Some, refl, sym, ap, subst, arith, inl, inr, length, map, not, ◌==◌, unwrap_or}
+use Rattle.std.specs.Prelude.{nat_le}
+use Rattle.std.specs.List.{AllByRecursion}
+use Rattle.std.proofs.Math.Nat.{pow-le-pow_right}
+use Rattle.std.proofs.lemmas.Bool.{cases_Bool, cases_eq, cases_lt, false≢true, leb-true}
+use Rattle.ballot_base.specs.Limits.{most_candidates}
+use Rattle.ballot_base.specs.Lists.{IsIncreasing, increasing_lists}
+use Rattle.ballot_base.specs.CandSet.{has_member, with_member, without_member}
+use Rattle.ballot_base.proofs.Committees.{IsChosen, increasing_lists-chosen, increasing_lists-contains, length-increasing}
+use Rattle.ballot_base.proofs.Increasing.{IsIncreasing-lower, IsIncreasing-higher, IsIncreasing-push, IsIncreasing-filter, IsIncreasing-with_member, has_member-below, has_member_tail}
+use Rattle.tie_walk.specs.Ceilings.{IsBound}
+use Rattle.tie_walk.specs.Steps.Walks.{committees_below, committees_after, committees_from, IsPlace, IsFound, those_reaching, open_below, open_after, open_from}
+use Rattle.tie_walk.specs.declared.prefix.Prefix.{Prefix}
+use Rattle.tie_walk.specs.Winners.{best_value}
+use Rattle.tie_walk.proofs.OpenLemmas.{open-most}
+use Rattle.tie_walk.proofs.SequenceLemmas.{length-with_member, length-without_member}
+use Rattle.tie_walk.proofs.WalkLemmas.{below-bounded, from-root}
+use Rattle.tie_walk.proofs.WinnersLemmas.{greatest, greatest-low, greatest-most, greatest-next, greatest-first}
+
+-- ---- the committees from a place on
+
+all-append : (P : List ℕ → Type 0) (xs ys : List (List ℕ)) → AllByRecursion P xs → AllByRecursion P ys → AllByRecursion P (xs ++ ys)
+all-append P [] ys front back = back
+all-append P (x ∷ xs) ys front back = (front.0, all-append P xs ys front.1 back)
+
+joined : (first c m : ℕ) (set added : List ℕ) → first ≤ c + 1 → c ≤ m → IsIncreasing first c set → IsIncreasing (c + 1) m added → IsIncreasing first m (set ++ added)
+joined first c m [] added low high up more = IsIncreasing-lower first (c + 1) m added low more
+joined first c m (x ∷ set) added low high up more = (up.0, omega (arith, up.1, high), joined (x + 1) c m set added (omega (arith, up.1)) high up.2 more)
+
+module _ (m k : ℕ) where
+  below-candidates : (c : ℕ) (set : List ℕ) → c ≤ m → IsIncreasing 1 c set → AllByRecursion (IsIncreasing 1 m) (committees_below m k c set)
+  below-candidates c set within up = each (increasing_lists (c + 1) m (k - length set)) (increasing_lists-chosen (c + 1) m (k - length set))
+    where
+      each : (lists : List (List ℕ)) → AllByRecursion (IsChosen (c + 1) m (k - length set)) lists → AllByRecursion (IsIncreasing 1 m) (map (λ l. set ++ l) lists)
+      each [] all = tt
+      each (l ∷ lists) all = (joined 1 c m set l (omega arith) within up all.0.0, each lists all.1)
+
+  after-candidates : (last : ℕ) (front rest : List ℕ) → IsIncreasing 1 last front → IsIncreasing (last + 1) m rest → AllByRecursion (IsIncreasing 1 m) (committees_after m k front rest)
+  after-candidates last front [] up more = tt
+  after-candidates last front (n ∷ rest) up more =
+      all-append (IsIncreasing 1 m) (committees_after m k (front ++ n ∷ []) rest) (committees_below m k n front)
+      (after-candidates n (front ++ n ∷ []) rest (IsIncreasing-push 1 last front n up (omega (arith, more.0)) (omega (arith, more.0))) more.2)
+      (below-candidates n front more.1 (IsIncreasing-higher 1 last n front (omega (arith, more.0)) up))
+
+  pub from-candidates : (place : Option Prefix) → IsPlace m k place → AllByRecursion (IsIncreasing 1 m) (committees_from m k place)
+  from-candidates None here = tt
+  from-candidates (Some prefix) here =
+      let all : IsIncreasing 1 m prefix.set = IsIncreasing-higher 1 prefix.c m prefix.set here.0 here.1 in
+      all-append (IsIncreasing 1 m) (committees_below m k prefix.c prefix.set) (committees_after m k [] prefix.set)
+      (below-candidates prefix.c prefix.set here.0 here.1) (after-candidates 0 [] prefix.set tt all)
+
+-- the first that reaches the least value
+pub first-reaching : (P : List ℕ → Type 0) (value : List ℕ → ℕ) (least : ℕ) (sets rest : List (List ℕ)) (set : List ℕ) → AllByRecursion P sets
+    → those_reaching value least sets ≡ set ∷ rest → P set × (least ≤ value set)
+first-reaching P value least [] rest set all is = absurd (cc)
+first-reaching P value least (x ∷ sets) rest set all is = elim (cases_Bool (nat_le least (value x))) [
+  | inl high ↦
+      let here : x ∷ those_reaching value least sets ≡ set ∷ rest = rw high at is in
+      let same : x ≡ set = cc in
+      (subst P same all.0, subst (λ s. least ≤ value s) same (leb-true least (value x) high))
+  | inr low ↦
+      let later : those_reaching value least sets ≡ set ∷ rest = rw low at is in
+      first-reaching P value least sets rest set all.1 later
+]
+
+-- ---- the prefixes from a place on are few enough to be counted
+
+module _ (bound : ℕ → List ℕ → ℕ → ℕ) (m k best : ℕ) where
+  below-few : (n : ℕ) (set : List ℕ) → m ≤ most_candidates → open_below bound m k best (m - n) n set ≤ 2 ^ 65
+  below-few n set most =
+      let power : 2 ^ (m - n + 1) ≤ 2 ^ 65 = pow-le-pow_right {n = 2} (omega arith) {i = m - n + 1} {j = 65} (omega (arith, most)) in
+      omega (arith, power, open-most bound m k best (m - n) n set)
+
+  after-few : (front rest : List ℕ) → m ≤ most_candidates → open_after bound m k best front rest ≤ length rest * 2 ^ 65
+  after-few front [] most = omega arith
+  after-few front (n ∷ rest) most = omega (arith, after-few (front ++ n ∷ []) rest most, below-few n front most)
+
+  pub open-few : (place : Option Prefix) → m ≤ most_candidates → k ≤ m → IsPlace m k place → open_from bound m k best place < 2 ^ 127
+  open-few None most fits here = omega arith
+  open-few (Some prefix) most fits here =
+      omega (arith, most, fits, here.2, below-few prefix.c prefix.set most, after-few [] prefix.set most)
+
+-- ---- the greatest value
+
+module _ (value : List ℕ → ℕ) (m k : ℕ) where
+  -- that of any committee may come first
+  pub greatest-good : (set : List ℕ) → IsIncreasing 1 m set → length set ≡ k → greatest value (value set) (increasing_lists 1 m k) ≡ best_value value m k
+  greatest-good set up size = greatest-first value set (increasing_lists 1 m k) (increasing_lists-contains 1 m k set (up, size))
+
+  -- none is above the bound of no decision
+  pub best-most : (bound : ℕ) → IsBound value m 0 [] k bound → best_value value m k ≤ bound
+  best-most bound law =
+      let size : k ≡ k - length {A = ℕ} [] = omega arith in
+      let all : AllByRecursion (λ s. value s ≤ bound) (committees_below m k 0 []) = below-bounded m k value 0 [] bound (subst (λ n. IsBound value m 0 [] n bound) size law) in
+      greatest-most value 0 bound (increasing_lists 1 m k) (omega arith) (subst (AllByRecursion (λ s. value s ≤ bound)) (from-root m k) all)
+
+  pub best-reached : (best bound : ℕ) (rest : List (List ℕ)) → greatest value best rest ≡ best_value value m k → IsBound value m 0 [] k bound → bound ≤ best → best ≡ best_value value m k
+  best-reached best bound rest is law reached = omega (arith, is, greatest-low value best rest, best-most bound law, reached)
+
+-- one more that was found may take the place of the greatest so far
+pub greatest-found : (value : List ℕ → ℕ) (m k best n floor : ℕ) (from rest : Option Prefix) (set : List ℕ) → IsFound value m k floor from set rest → n ≡ value set
+    → greatest value floor (committees_from m k from) ≡ best → greatest value n (committees_from m k rest) ≡ best
+greatest-found value m k best n floor from rest set found is so_far =
+    ap (λ x. greatest value x (committees_from m k rest)) is ∙ greatest-next value floor (committees_from m k from) (committees_from m k rest) set found.next found.above ∙ so_far
+
+-- ---- members
+
+-- who has all candidates has as many
+pub all-members : (first last : ℕ) (set : List ℕ) → IsIncreasing first last set → ((n : ℕ) → first ≤ n → n ≤ last → has_member set n ≡ true) → last + 1 ≤ first + length set
+all-members first last [] up all = elim (cases_lt last first) [
+  | inl none ↦ omega (arith, none)
+  | inr some ↦ absurd (false≢true (all first (omega arith) some))
+]
+all-members first last (x ∷ set) up all = elim (cases_eq first x) [
+  | inl same ↦
+      let rest = all-members (x + 1) last set up.2 (λ n low high. sym (has_member_tail x n set (λ e. omega (arith, e, low))) ∙ all n (omega (arith, same, low)) high) in
+      omega (arith, rest, same)
+  | inr other ↦
+      let out : has_member (x ∷ set) first ≡ false = has_member-below x last (x ∷ set) first (omega arith, up.1, up.2) (omega (arith, up.0, other)) in
+      absurd (false≢true (sym out ∙ all first (omega arith) (omega (arith, up.0, up.1))))
+]
+
+-- the set with one candidate more that was found among those before n, if there was one
+abbrev pub IsOneMore : ℕ → List ℕ → ℕ → ℕ → Option (List ℕ) → Type 0
+IsOneMore m set n best None = (best ≡ 0) × ((x : ℕ) → 1 ≤ x → x < n → has_member set x ≡ true)
+IsOneMore m set n best (Some more) = IsIncreasing 1 m more × (length more ≡ length set + 1)
+
+pub one-more-member : (m : ℕ) (set : List ℕ) (n best : ℕ) (grown : Option (List ℕ)) → has_member set n ≡ true → IsOneMore m set n best grown → IsOneMore m set (n + 1) best grown
+one-more-member m set n best None inside is = (is.0, λ x low high. elim (cases_eq x n) [
+  | inl same ↦ subst (λ y. has_member set y ≡ true) (sym same) inside
+  | inr other ↦ is.1 x low (omega (arith, high, other))
+])
+one-more-member m set n best (Some more) inside is = is
+
+pub one-more-kept : (m : ℕ) (set : List ℕ) (n best value : ℕ) (grown : Option (List ℕ)) → value < best → IsOneMore m set n best grown → IsOneMore m set (n + 1) best grown
+one-more-kept m set n best value None low is = absurd (omega (arith, low, is.0))
+one-more-kept m set n best value (Some more) low is = is
+
+pub one-more-found : (m : ℕ) (set : List ℕ) (n best : ℕ) (more : List ℕ) → IsIncreasing 1 m set → 1 ≤ n → n ≤ m → has_member set n ≡ false → more ≡ with_member set n → IsOneMore m set (n + 1) best (Some more)
+one-more-found m set n best more up low high outside is = (
+  subst (IsIncreasing 1 m) (sym is) (IsIncreasing-with_member 1 m set n low high up),
+  ap length is ∙ length-with_member set n outside,
+)
+
+pub one-more-done : (m : ℕ) (set : List ℕ) (best : ℕ) (grown : Option (List ℕ)) → IsIncreasing 1 m set → length set < m → IsOneMore m set (m + 1) best grown
+    → IsIncreasing 1 m (unwrap_or grown set) × (length (unwrap_or grown set) ≡ length set + 1)
+one-more-done m set best None up room is = absurd (omega (arith, room, all-members 1 m set up (λ n low high. is.1 n low (omega (arith, high)))))
+one-more-done m set best (Some more) up room is = is
+
+-- a set without one of its members
+pub one-fewer : (m : ℕ) (set fewer : List ℕ) (n : ℕ) → IsIncreasing 1 m set → has_member set n ≡ true → fewer ≡ without_member set n
+    → IsIncreasing 1 m fewer × (length fewer + 1 ≡ length set) × (length fewer < m)
+one-fewer m set fewer n up inside is =
+    let size : length fewer + 1 ≡ length set = omega (arith, ap length is, length-without_member 1 m set n up inside) in (
+      subst (IsIncreasing 1 m) (sym is) (IsIncreasing-filter (λ x. not (x == n)) 1 m set up),
+      size,
+      omega (arith, size, length-increasing 1 m set up),
+    )

@@ -1,0 +1,44 @@
+use Rattle.std.proofs.Common.{◌≡◌, ◌+◌, ◌<◌, ◌≤◌, ◌∙◌, Some, refl, sym, subst, arith, length}
+use Rattle.ballot_base.specs.Lists.{IsIncreasing}
+use Rattle.ballot_base.proofs.Increasing.{IsIncreasing-with_member}
+use Rattle.tie_walk.proofs.BestLemmas.{IsOneMore, one-more-member, one-more-kept, one-more-found, one-more-done}
+use Rattle.tie_walk.proofs.good.with_best.Goals as goal
+use Rattle.tie_walk.proofs.good.with_best.Goals.{then-not-has+then-value-best, then-not-has+else-value-best, else-not-has}
+
+pub loop-n-init : goal.loop-n-init
+loop-n-init g c = (refl, λ x low high. absurd (omega (arith, low, high)))
+
+pub value-value-requires : goal.value-value-requires
+value-value-requires g c =
+    let up = IsIncreasing-with_member 1 c.args.m c.args.set c.loop-n.n c.loop-n.auto.n (omega (arith, c.loop-n-test.true)) c.requires.members in
+    subst (λ n. IsIncreasing 1 n c.with-more.result) c.requires.candidates (subst (IsIncreasing 1 c.args.m) (sym c.with-more.ensures) up)
+
+pub loop-n-preserved : goal.loop-n-preserved
+loop-n-preserved g c =
+    let m = c.args.m in
+    let set = c.args.set in
+    let n = c.loop-n.n in
+    let within : n ≤ m = omega (arith, c.loop-n-test.true) in
+    elim c.if-not-has.branch [
+      | then-not-has+then-value-best w ↦
+          subst (IsOneMore m set (n + 1) c.if-not-has.best) (sym w.grown-is)
+          (one-more-found m set n c.if-not-has.best w.with-more.result c.requires.members c.loop-n.auto.n within (sym c.has.ensures ∙ w.if-not-has.true) w.with-more.ensures)
+      | then-not-has+else-value-best w ↦
+          subst (IsOneMore m set (n + 1) c.if-not-has.best) (sym w.grown-is) (subst (λ b. IsOneMore m set (n + 1) b c.loop-n.grown) (sym w.best-is)
+          (one-more-kept m set n c.loop-n.best w.value-value.result c.loop-n.grown (omega (arith, w.if-value-best.false)) c.loop-n.invariant))
+      | else-not-has w ↦
+          subst (IsOneMore m set (n + 1) c.if-not-has.best) (sym w.grown-is) (subst (λ b. IsOneMore m set (n + 1) b c.loop-n.grown) (sym w.best-is)
+          (one-more-member m set n c.loop-n.best c.loop-n.grown (sym c.has.ensures ∙ w.if-not-has.false) c.loop-n.invariant))
+    ]
+
+pub returns-clause-candidates : goal.returns-clause-candidates
+returns-clause-candidates g c =
+    let end : c.loop-n.n ≡ c.args.m + 1 = omega (arith, c.loop-n-test.false, c.loop-n.auto.n-end) in
+    subst (IsIncreasing 1 c.args.m) (sym c.unwrap_or.ensures)
+    (one-more-done c.args.m c.args.set c.loop-n.best c.loop-n.grown c.requires.members c.requires.room (subst (λ n. IsOneMore c.args.m c.args.set n c.loop-n.best c.loop-n.grown) end c.loop-n.invariant)).0
+
+pub returns-clause-size : goal.returns-clause-size
+returns-clause-size g c =
+    let end : c.loop-n.n ≡ c.args.m + 1 = omega (arith, c.loop-n-test.false, c.loop-n.auto.n-end) in
+    subst (λ s. length s ≡ length c.args.set + 1) (sym c.unwrap_or.ensures)
+    (one-more-done c.args.m c.args.set c.loop-n.best c.loop-n.grown c.requires.members c.requires.room (subst (λ n. IsOneMore c.args.m c.args.set n c.loop-n.best c.loop-n.grown) end c.loop-n.invariant)).1

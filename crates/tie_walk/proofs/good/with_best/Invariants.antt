@@ -1,0 +1,6 @@
+use Rattle.tie_walk.proofs.BestLemmas.{IsOneMore}
+use Rattle.tie_walk.proofs.good.with_best.Given as goal
+
+-- the best so far
+abbrev pub invariant-loop-n : goal.invariant-loop-n
+invariant-loop-n g l = IsOneMore l.m l.set l.n l.best l.grown
