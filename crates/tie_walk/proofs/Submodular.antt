@@ -29,7 +29,7 @@ greatest_sum-bounds worth first last list up =
 
 module _ (value : List ℕ → ℕ) (falls : IsSubmodular value) where
   -- added one by one, candidates bring no more than their gains at the set
-  gains-bound : (set before added : List ℕ) → value ((set ++ before) ++ added) ≤ value (set ++ before) + sum_by (λ n. value (set ++ n ∷ []) - value set) added
+  pub gains-bound : (set before added : List ℕ) → value ((set ++ before) ++ added) ≤ value (set ++ before) + sum_by (λ n. value (set ++ n ∷ []) - value set) added
   gains-bound set before [] = omega (arith, ap value (append_none (set ++ before)))
     where
       append_none : (xs : List ℕ) → xs ++ [] ≡ xs

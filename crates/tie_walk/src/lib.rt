@@ -17,8 +17,8 @@ pub mod winners;
 pub use minimax::MinimaxTally;
 pub use satisfaction::SavTally;
 pub use sequential::{SeqRule, SeqWinners};
-pub use tally::Tally;
-pub use thiele::ThieleTally;
+pub use tally::{PLACES, Tally};
+pub use thiele::{ThieleTally, those_after};
 pub use winners::Winners;
 
 #[cfg(test)]

@@ -8,7 +8,7 @@ ghost use Rattle.tie_walk.specs.Steps.Tables.{sum_of_worths, IsLastReaching};
 use ballot_base::{CandSet, MOST_CANDIDATES};
 
 /// The places of a table that has one for each number of candidates, 0 to `MOST_CANDIDATES`.
-pub(crate) const PLACES: usize = MOST_CANDIDATES as usize + 1;
+pub const PLACES: usize = MOST_CANDIDATES as usize + 1;
 
 /// What gives a committee its value.
 pub trait Tally {

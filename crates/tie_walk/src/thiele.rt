@@ -1,9 +1,9 @@
 //! The values of Thiele's rules.
-ghost use Rattle.std.specs.Prelude.{◌≡◌, ℕ, ◌+◌, ◌*◌, ◌^◌, ◌<◌, ◌≤◌, ◌==◌, ◌&&◌, List, filter, nat_le, nat_lt, sum, slice_index, if◌then◌else◌};
+ghost use Rattle.std.specs.Prelude.{◌≡◌, ℕ, ◌+◌, ◌*◌, ◌^◌, ◌<◌, ◌≤◌, ◌==◌, true, List, filter, sum, slice_index, if◌then◌else◌};
 ghost use Rattle.ballot_base.specs.Limits.{most_candidates, most_members};
 ghost use Rattle.ballot_base.specs.Lists.{IsIncreasing};
 ghost use Rattle.ballot_base.specs.CandSet.{has_member};
-ghost use Rattle.ballot_base.specs.Ballots.{hits, voter_count};
+ghost use Rattle.ballot_base.specs.Ballots.{IsElection, hits, voter_count};
 ghost use Rattle.ballot_base.specs.Increments.{increments, denominator};
 ghost use Rattle.tie_walk.specs.Ceilings.{IsTight, ceiling};
 ghost use Rattle.tie_walk.specs.Sequences.{gain};
@@ -78,12 +78,10 @@ impl<'a, A: Allocator + Copy> ThieleTally<'a, A> {
         self.denom
     }
 
-    /// The value of a set of the candidates 1 to c, and what it gains by each candidate after c, at the candidate's
-    /// number.
-    fn value_and_gains(&self, c: u8, set: CandSet) -> (u128, [u128; PLACES])
-        requires within { c ≤ self.now.election.m }
+    /// The value of a set, and what it gains by each of the others, at the candidate's number.
+    pub fn value_and_gains(&self, set: CandSet, others: CandSet) -> (u128, [u128; PLACES])
         ensures value { result.0 ≡ thiele_value (increments self.now.rule self.now.k) self.now.election.rows set }
-        ensures gains { (n : ℕ) → c < n → n ≤ self.now.election.m → slice_index result.1 n
+        ensures gains { (n : ℕ) → has_member others n ≡ true → slice_index result.1 n
             ≡ gain (increments self.now.rule self.now.k) self.now.election.rows set n }
         ensures small { (n : ℕ) → slice_index result.1 n ≤ 2 ^ 116 }
     {
@@ -92,10 +90,31 @@ impl<'a, A: Allocator + Copy> ThieleTally<'a, A> {
             let value = sum_of_hits(self.profile, &self.sums, set);
             return (value, worths(self.profile, Step::Grow, &self.weights, set));
         }
-        let others = those_after(c, m);
         let (counts, gains) = hits_and_gains(self.profile, &self.weights, set, others);
         let value = sum_of_worths(&counts, &self.sums, m);
         (value, widened(&gains))
+    }
+
+    /// The value of a set of the candidates 1 to c, and what it gains by each candidate after c, at the candidate's
+    /// number.
+    fn gains_after(&self, c: u8, set: CandSet) -> (u128, [u128; PLACES])
+        requires within { c ≤ self.now.election.m }
+        ensures value { result.0 ≡ thiele_value (increments self.now.rule self.now.k) self.now.election.rows set }
+        ensures gains { (n : ℕ) → c < n → n ≤ self.now.election.m → slice_index result.1 n
+            ≡ gain (increments self.now.rule self.now.k) self.now.election.rows set n }
+        ensures small { (n : ℕ) → slice_index result.1 n ≤ 2 ^ 116 }
+    {
+        let m = self.profile.m();
+        let others = those_after(c, m);
+        self.value_and_gains(set, others)
+    }
+
+    /// Does nothing. Its contract says what is true of each tally.
+    pub fn valid(&self)
+        ensures election { IsElection self.now.election }
+        ensures size { self.now.k ≤ most_members }
+    {
+        let _m = self.profile.m();
     }
 }
 
@@ -119,7 +138,7 @@ impl<'a, A: Allocator + Copy> Tally for ThieleTally<'a, A> {
         if left == 0 {
             return self.value(set);
         }
-        let (value, gains) = self.value_and_gains(c, set);
+        let (value, gains) = self.gains_after(c, set);
         value + greatest_sum(&gains, c, self.profile.m(), left)
     }
 
@@ -132,7 +151,7 @@ impl<'a, A: Allocator + Copy> Tally for ThieleTally<'a, A> {
                 Some(m)
             };
         }
-        let (value, gains) = self.value_and_gains(c, set);
+        let (value, gains) = self.gains_after(c, set);
         last_reaching(&gains, c, m, left, best.saturating_sub(value))
     }
 }
@@ -178,10 +197,11 @@ fn voters_by_hits<A: Allocator + Copy>(profile: &Profile<A>, set: CandSet) -> [u
 }
 
 /// The candidates from c + 1 to m.
-fn those_after(c: u8, m: u8) -> CandSet
+pub fn those_after(c: u8, m: u8) -> CandSet
     requires most { m ≤ most_candidates }
     requires within { c ≤ m }
-    ensures { (n : ℕ) → has_member result n ≡ (nat_lt c n && nat_le n m) }
+    ensures within { IsIncreasing (c + 1) m result }
+    ensures all { (n : ℕ) → c < n → n ≤ m → has_member result n ≡ true }
 {
     let mut others = CandSet::empty();
     for n in c..m {

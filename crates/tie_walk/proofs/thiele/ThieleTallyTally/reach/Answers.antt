@@ -48,7 +48,7 @@ returns g c =
     let t : Thiele = c.args.self.now in
     let w = increments t.rule t.k in
     let value = thiele_value w t.election.rows in
-    let gains = c.value_and_gains-value.result.1 in
+    let gains = c.gains_after-value.result.1 in
     let least = c.saturating_sub.result in
     let few = subst (λ (x : Thiele). x.k ≤ most_members) c.self.view_is c.self.invariant.size in
     let valid = subst (λ (x : Thiele). IsElection x.election) c.self.view_is c.m-m.ensures.valid in
@@ -57,8 +57,8 @@ returns g c =
     let law : (n : ℕ) → c.args.c ≤ n → IsBound value t.election.m n c.args.set c.args.left (ceiling value t.election.m n c.args.set c.args.left) = λ n low.
     ceiling-bounds value (thiele_rule-submodular t.rule t.k t.election.rows few) t.election.m n c.args.set c.args.left (higher n low) in
     let same : (n : ℕ) → c.args.c ≤ n → ceiling value t.election.m n c.args.set c.args.left ≡ value c.args.set + greatest_sum (λ x. get_or gains x 0) (n + 1) t.election.m c.args.left = λ n low.
-    sym (thiele-ceiling t.election w gains n c.args.left c.args.set valid (higher n low) (λ x from to. c.value_and_gains-value.ensures.gains x (omega (arith, low, from)) to)) in
+    sym (thiele-ceiling t.election w gains n c.args.left c.args.set valid (higher n low) (λ x from to. c.gains_after-value.ensures.gains x (omega (arith, low, from)) to)) in
     let found = subst (λ n. MatchOption c.last_reaching.result (greatest_sum (λ x. get_or gains x 0) (c.args.c + 1) n c.args.left < least)
     (IsLastReaching (λ x. get_or gains x 0) c.args.c n c.args.left least)) size c.last_reaching.ensures in
     reach-sums value (ceiling value t.election.m) t.election.m c.args.set c.args.left c.args.best c.args.c law (λ x. get_or gains x 0) (value c.args.set) least c.last_reaching.result
-    (omega (arith, c.requires.fits, c.requires.within)) same (c.saturating_sub.ensures ∙ ap (λ n. c.args.best - n) c.value_and_gains-value.ensures.value) found
+    (omega (arith, c.requires.fits, c.requires.within)) same (c.saturating_sub.ensures ∙ ap (λ n. c.args.best - n) c.gains_after-value.ensures.value) found
