@@ -113,7 +113,15 @@ fn enter<T: Tally>(
     if set.len() + (m - c) < k {
         return false;
     }
-    if !reaches(tally, m, k, best, Prefix { c, set }, &mut counts.ceilings, levels) {
+    if !reaches(
+        tally,
+        m,
+        k,
+        best,
+        Prefix { c, set },
+        &mut counts.ceilings,
+        levels,
+    ) {
         return false;
     }
     counts.entered += 1;

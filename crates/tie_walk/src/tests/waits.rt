@@ -1,10 +1,10 @@
 //! How many bounds the walk asks for from one winner to the next.
-ghost use Rattle.std.specs.Prelude.{◌≡◌, ◌≤◌};
+ghost use Rattle.std.specs.Prelude.{◌≡◌, ◌*◌, ◌≤◌};
 ghost use Rattle.tie_walk.specs.Winners.{IsStart};
 
 use super::walk::ballot_of;
 use crate::{SavTally, Tally, ThieleTally, Winners};
-use ballot_base::{CandSet, MOST_CANDIDATES, ProfileBuilder, ThieleRule};
+use ballot_base::{CandSet, MOST_CANDIDATES, Profile, ProfileBuilder, ThieleRule};
 use std::process::Abort;
 use std::test::Fail;
 
@@ -26,6 +26,20 @@ fn bounds_for_one_seat(rt: HostRuntime) -> Result<(), Fail> {
         assert_eq!(rt; winners.ceilings(), bounds);
     }
     Ok(())
+}
+
+/// How many bounds a call for a winner asks for, under satisfaction approval voting: the contracts alone tell that they
+/// are few.
+fn bounds_to_the_first(profile: &Profile, k: u8) -> u128
+    requires some { 1 ≤ k }
+    requires fits { k ≤ profile.now.m }
+    ensures { result ≤ 4 * profile.now.m }
+{
+    let tally = SavTally::new(profile);
+    let mut winners = Winners::new(&tally, profile.m(), k, None);
+    let before = winners.ceilings();
+    let _winner = winners.next();
+    winners.ceilings() - before
 }
 
 /// Asserts that each of the first calls for a winner asks for four bounds a candidate at most.
@@ -54,6 +68,10 @@ fn waits_for_tied_committees(rt: HostRuntime) -> Result<(), Fail> {
     let Ok(profile) = builder.finish() else {
         panic!(rt; "a ballot was added");
     };
+    assert!(rt;
+        bounds_to_the_first(&profile, 32) >= 32,
+        "a bound for each of 1 to 32"
+    );
     let tally = SavTally::new(&profile);
     assert_waits(&rt, &tally, 32, None, 100);
     let start = ballot_of(MOST_CANDIDATES, (1 << 31) - 1 | 1 << 63);
