@@ -127,10 +127,13 @@ IsOneMore m set n best None = (best ≡ 0) × ((x : ℕ) → 1 ≤ x → x < n �
 IsOneMore m set n best (Some more) = IsIncreasing 1 m more × (length more ≡ length set + 1)
 
 pub one-more-member : (m : ℕ) (set : List ℕ) (n best : ℕ) (grown : Option (List ℕ)) → has_member set n ≡ true → IsOneMore m set n best grown → IsOneMore m set (n + 1) best grown
-one-more-member m set n best None inside is = (is.0, λ x low high. elim (cases_eq x n) [
-  | inl same ↦ subst (λ y. has_member set y ≡ true) (sym same) inside
-  | inr other ↦ is.1 x low (omega (arith, high, other))
-])
+one-more-member m set n best None inside is = (
+  is.0,
+  λ x low high. elim (cases_eq x n) [
+    | inl same ↦ subst (λ y. has_member set y ≡ true) (sym same) inside
+    | inr other ↦ is.1 x low (omega (arith, high, other))
+  ],
+)
 one-more-member m set n best (Some more) inside is = is
 
 pub one-more-kept : (m : ℕ) (set : List ℕ) (n best value : ℕ) (grown : Option (List ℕ)) → value < best → IsOneMore m set n best grown → IsOneMore m set (n + 1) best grown

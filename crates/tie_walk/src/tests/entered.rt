@@ -14,7 +14,7 @@ use std::cell::Cell;
 use std::process::Abort;
 use std::test::Fail;
 
-/// A Thiele tally that counts the calls of its values and bounds.
+/// A Thiele tally that counts the calls of its values and bounds, and of how far they reach.
 #[derive(Drop)]
 struct Counting<'a> {
     tally: ThieleTally<'a>,
@@ -49,6 +49,11 @@ impl<'a> Tally for Counting<'a> {
     fn bound(&self, c: u8, set: CandSet, left: u8) -> u128 {
         self.count();
         self.tally.bound(c, set, left)
+    }
+
+    fn reach(&self, c: u8, set: CandSet, left: u8, best: u128) -> Option<u8> {
+        self.count();
+        self.tally.reach(c, set, left, best)
     }
 }
 

@@ -1,7 +1,10 @@
 //! The walk against a pass over all committees, and bounds worked out by hand.
 ghost use Rattle.std.specs.Prelude.{◌≡◌, ◌≤◌, IfOk, length};
 ghost use Rattle.ballot_base.specs.Limits.{most_candidates, most_members};
+ghost use Rattle.ballot_base.specs.Increments.{increments};
 ghost use Rattle.ballot_base.specs.Lists.{IsIncreasing};
+ghost use Rattle.tie_walk.specs.Ceilings.{ceiling};
+ghost use Rattle.tie_walk.specs.Values.{thiele_value};
 ghost use Rattle.tie_walk.specs.Winners.{IsStart};
 
 use crate::{MinimaxTally, SavTally, Tally, ThieleTally, Winners};
@@ -132,6 +135,66 @@ fn walks_over_small_elections(rt: HostRuntime) -> Result<(), Fail> {
             assert_rules(&rt, &profile, m, k);
         }
     }
+    Ok(())
+}
+
+/// A Thiele tally that takes the first candidates for a good committee.
+#[derive(Drop)]
+struct FirstTally<'a> {
+    tally: ThieleTally<'a>,
+}
+
+impl<'a> Tally for FirstTally<'a> {
+    ghost candidates = { λ first. first.tally.election.m };
+
+    ghost value_of = { λ first set.
+        thiele_value (increments first.tally.rule first.tally.k) first.tally.election.rows set };
+
+    ghost bound_of = { λ first c set left.
+        ceiling (thiele_value (increments first.tally.rule first.tally.k) first.tally.election.rows)
+        first.tally.election.m c set left };
+
+    fn m(&self) -> u8 {
+        self.tally.m()
+    }
+
+    fn value(&self, set: CandSet) -> u128 {
+        self.tally.value(set)
+    }
+
+    fn bound(&self, c: u8, set: CandSet, left: u8) -> u128 {
+        self.tally.bound(c, set, left)
+    }
+
+    fn good_committee(&self, k: u8) -> Option<CandSet> {
+        if k > self.m() {
+            return None;
+        }
+        Some(CandSet::all(k))
+    }
+}
+
+/// A search that begins with the committee that nobody approves finds the same winners.
+#[test]
+fn a_search_from_the_worst_committee(rt: HostRuntime) -> Result<(), Fail> {
+    let mut builder = ProfileBuilder::new(rt.alloc(), 6)?;
+    builder
+        .add(ballot_of(6, 0b011_000), 1)
+        .map_err(|_| "memory")?;
+    builder
+        .add(ballot_of(6, 0b101_000), 1)
+        .map_err(|_| "memory")?;
+    builder
+        .add(ballot_of(6, 0b110_000), 1)
+        .map_err(|_| "memory")?;
+    let Ok(profile) = builder.finish() else {
+        panic!(rt; "ballots were added");
+    };
+    let first = FirstTally {
+        tally: ThieleTally::new(&profile, ThieleRule::Cc, 3),
+    };
+    assert_eq!(rt; first.value(CandSet::all(3)), 0);
+    assert_walks(&rt, &first, 6, 3);
     Ok(())
 }
 
