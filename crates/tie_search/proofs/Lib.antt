@@ -1,0 +1,4 @@
+pub mod CompletionLemmas
+mod Examples
+pub mod ReachLemmas
+pub mod SearchLemmas
