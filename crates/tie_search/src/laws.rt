@@ -1,5 +1,6 @@
 //! Laws of the definitions. Each function does nothing, and its contract is the law.
 ghost use Rattle.std.specs.Prelude.{◌≡◌, ℕ, ◌+◌, ◌-◌, ◌*◌, ◌≤◌, List, sum_by};
+ghost use Rattle.std.specs.List.{AllByRecursion};
 ghost use Rattle.ballot_base.specs.Limits.{most_members};
 ghost use Rattle.ballot_base.specs.Ballots.{Row};
 ghost use Rattle.ballot_base.specs.Increments.{increments};
@@ -7,6 +8,7 @@ ghost use Rattle.ballot_base.specs.Lists.{IsIncreasing};
 ghost use Rattle.tie_walk.specs.Ceilings.{IsBound, IsSubmodular, gain_at};
 ghost use Rattle.tie_walk.specs.Values.{thiele_value};
 ghost use Rattle.tie_walk.specs.Winners.{best_value};
+ghost use Rattle.tie_search.specs.Prices.{Priced, rows_of, base, price};
 ghost use Rattle.tie_search.specs.Completions.{IsOpen, IsCompletion, IsExactAtBest, exact_bound};
 
 use ballot_base::ThieleRule;
@@ -28,4 +30,13 @@ pub fn thresholds()
         → thiele_value (increments rule k) rows committee ≤ thiele_value (increments rule k) rows set
             + left * threshold
             + sum_by (λ n. gain_at (thiele_value (increments rule k) rows) set n - threshold) free }
+{}
+
+/// Prices bound values: whatever multiplier is chosen for each row, no committee is worth more than what all voters keep
+/// and the prices of its members, times the scale.
+pub fn prices()
+    ensures { (weights : List ℕ) (scale m : ℕ) (priced : List Priced) (committee : List ℕ)
+        → AllByRecursion (λ row. IsIncreasing 1 m row.0) (rows_of priced) → IsIncreasing 1 m committee
+        → scale * thiele_value weights (rows_of priced) committee
+            ≤ base weights scale priced + sum_by (price priced) committee }
 {}

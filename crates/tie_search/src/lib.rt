@@ -9,3 +9,6 @@ pub mod tally;
 
 pub use search::find;
 pub use tally::SearchTally;
+
+#[cfg(test)]
+mod tests;
