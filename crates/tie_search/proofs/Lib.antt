@@ -1,0 +1,5 @@
+pub mod CompletionLemmas
+mod Examples
+pub mod PriceLemmas
+pub mod ReachLemmas
+pub mod SearchLemmas

@@ -1,0 +1,110 @@
+-- No committee is worth more than its price.
+use Rattle.std.proofs.Common.{◌≡◌, ℕ, zero, suc, ◌+◌, ◌-◌, ◌*◌, ◌<◌, ◌≤◌, ◌==◌, ◌&&◌, ◌∙◌, Bool, true, false, cond, List, [], ◌∷◌, ◌++◌, refl, sym, ap, arith, inl, inr, length, filter, map, fold, max, sum, sum_by, take, get_or}
+use Rattle.std.specs.List.{AllByRecursion, range_with_len}
+use Rattle.std.proofs.Math.Nat.{mul-le-mul_left}
+use Rattle.std.proofs.lemmas.Bool.{cases_eq, eq-eqb, cases_lt}
+use Rattle.std.proofs.lemmas.List.Folds.{list_any-append}
+use Rattle.std.proofs.lemmas.List.Sums.{sum_by-cons, length-filter, count_by-le-length}
+use Rattle.ballot_base.specs.Lists.{IsIncreasing}
+use Rattle.ballot_base.specs.CandSet.{has_member}
+use Rattle.ballot_base.specs.Ballots.{Row, hits}
+use Rattle.ballot_base.proofs.Increasing.{IsIncreasing-filter, has_member-filter, same_increasing}
+use Rattle.tie_walk.specs.Values.{thiele_value}
+use Rattle.tie_search.specs.Completions.{IsOpen, IsCompletion}
+use Rattle.tie_search.specs.Prices.{Priced, rows_of, kept, base, price}
+use Rattle.tie_search.proofs.CompletionLemmas.{added, added-increasing, added-free, added-size, completion-members}
+use Rattle.tie_search.proofs.SearchLemmas.{sum-threshold, sum-part}
+
+-- ---- one row
+
+-- a number of the list is no more than the greatest
+greatest-low : (f : ℕ → ℕ) (low : ℕ) (xs : List ℕ) → low ≤ fold max low (map f xs)
+greatest-low f low [] = omega arith
+greatest-low f low (x ∷ xs) = omega (arith, greatest-low f (max low (f x)) xs)
+
+greatest-range : (f : ℕ → ℕ) (low from run j : ℕ) → from ≤ j → j < from + run → f j ≤ fold max low (map f (range_with_len from run))
+greatest-range f low from zero j least most = absurd (omega arith)
+greatest-range f low from (suc run) j least most = elim (cases_eq j from) [
+  | inl same ↦ omega (arith, ap f same, greatest-low f (max low (f from)) (range_with_len (from + 1) run))
+  | inr other ↦ greatest-range f (max low (f from)) (from + 1) run j (omega (arith, other)) (omega (arith, most))
+]
+
+-- what is kept and the multipliers of the hits bound what a voter gives
+pub kept-bounds : (w : List ℕ) (scale s size h : ℕ) → h ≤ size → scale * sum (take h w) ≤ kept w scale s size + h * s
+kept-bounds w scale s size h few =
+    omega (arith, greatest-range (λ j. scale * sum (take j w) - j * s) 0 0 (size + 1) h (omega arith) (omega (arith, few)))
+
+-- a ballot's members of a committee are the committee's members of the ballot
+pub hits-turned : (m : ℕ) (ballot committee : List ℕ) → IsIncreasing 1 m ballot → IsIncreasing 1 m committee → hits ballot committee ≡ sum_by (λ n. cond (has_member ballot n) 1 0) committee
+hits-turned m ballot committee up rises =
+    let same : filter (has_member committee) ballot ≡ filter (has_member ballot) committee =
+    same_increasing 1 m (filter (has_member committee) ballot) (filter (has_member ballot) committee) (IsIncreasing-filter (has_member committee) 1 m ballot up)
+    (IsIncreasing-filter (has_member ballot) 1 m committee rises)
+    (λ n. has_member-filter (has_member committee) ballot n ∙ swap (has_member committee n) (has_member ballot n) ∙ sym (has_member-filter (has_member ballot) committee n)) in
+    sym (length-filter (has_member committee) ballot) ∙ ap length same ∙ length-filter (has_member ballot) committee
+  where
+    swap : (p q : Bool) → (p && q) ≡ (q && p)
+    swap true true = refl
+    swap true false = refl
+    swap false true = refl
+    swap false false = refl
+
+-- ---- all rows
+
+row-price : (b : Bool) (n : ℕ) → cond b n 0 ≡ n * cond b 1 0
+row-price true n = omega arith
+row-price false n = omega arith
+
+price-cons : (p : Priced) (priced : List Priced) (n : ℕ) → price (p ∷ priced) n ≡ p.0.1 * p.1 * cond (has_member p.0.0 n) 1 0 + price priced n
+price-cons p priced n = by (has_member p.0.0 n) refl
+  where
+    by : (b : Bool) → has_member p.0.0 n ≡ b → price (p ∷ priced) n ≡ p.0.1 * p.1 * cond b 1 0 + price priced n
+    by true e =
+        let more : filter (λ (q : Priced). has_member q.0.0 n) (p ∷ priced) ≡ p ∷ filter (λ (q : Priced). has_member q.0.0 n) priced = simp e in
+        omega (arith, ap (sum_by (λ (q : Priced). q.0.1 * q.1)) more, sum_by-cons (λ (q : Priced). q.0.1 * q.1) p (filter (λ (q : Priced). has_member q.0.0 n) priced))
+    by false e =
+        let same : filter (λ (q : Priced). has_member q.0.0 n) (p ∷ priced) ≡ filter (λ (q : Priced). has_member q.0.0 n) priced = simp e in
+        omega (arith, ap (sum_by (λ (q : Priced). q.0.1 * q.1)) same)
+
+-- the prices of a committee, row by row
+prices-cons : (p : Priced) (priced : List Priced) (committee : List ℕ) → sum_by (price (p ∷ priced)) committee
+    ≡ p.0.1 * p.1 * sum_by (λ n. cond (has_member p.0.0 n) 1 0) committee + sum_by (price priced) committee
+prices-cons p priced [] = omega arith
+prices-cons p priced (n ∷ committee) =
+    let split : (a b c : ℕ) → a * (b + c) ≡ a * b + a * c = λ a b c. omega arith in
+    omega (
+      arith,
+      price-cons p priced n,
+      prices-cons p priced committee,
+      split (p.0.1 * p.1) (cond (has_member p.0.0 n) 1 0) (sum_by (λ x. cond (has_member p.0.0 x) 1 0) committee),
+      ap (λ x. p.0.1 * p.1 * x) (sum_by-cons (λ x. cond (has_member p.0.0 x) 1 0) n committee),
+      sum_by-cons (price (p ∷ priced)) n committee,
+      sum_by-cons (price priced) n committee,
+    )
+
+-- no committee is worth more than its price
+pub price-bounds : (w : List ℕ) (scale m : ℕ) (priced : List Priced) (committee : List ℕ) → AllByRecursion (λ row. IsIncreasing 1 m row.0) (rows_of priced) → IsIncreasing 1 m committee
+    → scale * thiele_value w (rows_of priced) committee ≤ base w scale priced + sum_by (price priced) committee
+price-bounds w scale m [] committee all up = omega arith
+price-bounds w scale m (p ∷ priced) committee all up =
+    let h = hits p.0.0 committee in
+    let k = kept w scale p.1 (length p.0.0) in
+    let one : scale * sum (take h w) ≤ k + h * p.1 = kept-bounds w scale p.1 (length p.0.0) h (count_by-le-length (has_member committee) p.0.0) in
+    let voters : p.0.1 * (scale * sum (take h w)) ≤ p.0.1 * (k + h * p.1) = mul-le-mul_left p.0.1 one in
+    let turned : p.0.1 * p.1 * h ≡ p.0.1 * p.1 * sum_by (λ n. cond (has_member p.0.0 n) 1 0) committee = ap (λ x. p.0.1 * p.1 * x) (hits-turned m p.0.0 committee all.0 up) in
+    let left : (a b c : ℕ) → a * (b * c) ≡ b * (a * c) = λ a b c. omega arith in
+    let right : (a b c d : ℕ) → a * (b + c * d) ≡ a * b + a * d * c = λ a b c d. omega arith in
+    let whole : scale * (p.0.1 * sum (take h w) + thiele_value w (rows_of priced) committee) ≡ scale * (p.0.1 * sum (take h w)) + scale * thiele_value w (rows_of priced) committee =
+    omega arith in
+    omega (
+      arith,
+      voters,
+      turned,
+      whole,
+      left p.0.1 scale (sum (take h w)),
+      right p.0.1 k h p.1,
+      ap (λ x. scale * x) (sum_by-cons (λ (r : Row). r.1 * sum (take (hits r.0 committee) w)) p.0 (rows_of priced)),
+      sum_by-cons (λ (q : Priced). q.0.1 * kept w scale q.1 (length q.0.0)) p priced,
+      prices-cons p priced committee,
+      price-bounds w scale m priced committee all.1 up,
+    )

@@ -1,0 +1,159 @@
+-- The bound of a node of the search, and what a node that was searched leaves.
+use Rattle.std.proofs.Common.{◌≡◌, ℕ, zero, suc, ◌+◌, ◌-◌, ◌*◌, ◌^◌, ◌<◌, ◌≤◌, ◌==◌, ◌&&◌, ◌||◌, ◌∙◌, Bool, true, false, not, cond, List, [], ◌∷◌, ◌++◌, refl, sym, ap, arith, inl, inr, length, filter, get_or, sum_by}
+use Rattle.std.specs.Prelude.{IsTrue}
+use Rattle.std.proofs.lemmas.Bool.{cases_eq, eq-eqb, cases_lt}
+use Rattle.std.proofs.lemmas.List.Folds.{list_any-append}
+use Rattle.std.proofs.lemmas.List.Sums.{sum_by-cons}
+use Rattle.ballot_base.specs.Limits.{most_members}
+use Rattle.ballot_base.specs.Lists.{IsIncreasing}
+use Rattle.ballot_base.specs.CandSet.{has_member, with_member, without_member}
+use Rattle.ballot_base.specs.Ballots.{Election, IsElection}
+use Rattle.ballot_base.specs.Increments.{increments}
+use Rattle.ballot_base.proofs.Increasing.{IsIncreasing-lower, has_member-with_member, has_member_head}
+use Rattle.tie_walk.specs.Ceilings.{IsSubmodular, gain_at}
+use Rattle.tie_walk.specs.Sequences.{gain}
+use Rattle.tie_walk.specs.Values.{thiele_value, Thiele}
+use Rattle.tie_walk.proofs.Gains.{thiele-gain, thiele-most}
+use Rattle.tie_walk.proofs.TableLemmas.{increments_sum-most, sum-take-le}
+use Rattle.tie_walk.proofs.Submodular.{gains-bound, thiele_rule-submodular}
+use Rattle.tie_search.specs.Completions.{IsOpen, IsCompletion, IsReaching, IsOutOfReach, value_by}
+use Rattle.tie_search.proofs.CompletionLemmas.{added, added-increasing, added-free, added-size, completion-few, completion-members, completion-whole, completion-self, completion-with, completion-without, completion-back, open-without, without-is, thiele-same}
+
+-- ---- sums
+
+-- what worths exceed a threshold by bounds their sum
+pub sum-threshold : (f g : ℕ → ℕ) (t : ℕ) (xs : List ℕ) → ((n : ℕ) → has_member xs n ≡ true → f n ≤ g n) → sum_by f xs ≤ length xs * t + sum_by (λ n. g n - t) xs
+sum-threshold f g t [] less = omega arith
+sum-threshold f g t (x ∷ xs) less =
+    let tail : sum_by f xs ≤ length xs * t + sum_by (λ n. g n - t) xs =
+    sum-threshold f g t xs (λ n is. less n (or-true (x == n) (has_member xs n) is)) in
+    omega (arith, tail, less x (has_member_head x xs), sum_by-cons f x xs, sum_by-cons (λ n. g n - t) x xs, times (length xs) t)
+  where
+    or-true : (p q : Bool) → q ≡ true → (p || q) ≡ true
+    or-true true q h = refl
+    or-true false q h = h
+    times : (n t : ℕ) → suc n * t ≡ n * t + t
+    times n t = omega arith
+
+pub sum-part : (f : ℕ → ℕ) (p : ℕ → Bool) (xs : List ℕ) → sum_by f (filter p xs) ≤ sum_by f xs
+sum-part f p [] = omega arith
+sum-part f p (x ∷ xs) = elim (p x) as (λ b. sum_by f (cond b (x ∷ filter p xs) (filter p xs)) ≤ sum_by f (x ∷ xs)) [
+  | true ↦ omega (arith, sum-part f p xs, sum_by-cons f x xs, sum_by-cons f x (filter p xs))
+  | false ↦ omega (arith, sum-part f p xs, sum_by-cons f x xs)
+]
+
+pub sum-most : (f : ℕ → ℕ) (most : ℕ) (xs : List ℕ) → ((n : ℕ) → f n ≤ most) → sum_by f xs ≤ length xs * most
+sum-most f most [] small = omega arith
+sum-most f most (x ∷ xs) small = omega (arith, sum-most f most xs small, small x, sum_by-cons f x xs)
+
+pub sum-first : (f : ℕ → ℕ) (xs rest : List ℕ) (first : ℕ) → xs ≡ first ∷ rest → sum_by f xs ≡ f first + sum_by f rest
+sum-first f xs rest first is = ap (sum_by f) is ∙ sum_by-cons f first rest
+
+pub rest-increasing : (last : ℕ) (xs rest : List ℕ) (first : ℕ) → xs ≡ first ∷ rest → IsIncreasing 1 last xs → (first ≤ last) × IsIncreasing 1 last rest
+rest-increasing last xs rest first is up =
+    let at : IsIncreasing 1 last (first ∷ rest) = rw is at up in
+    (at.1, IsIncreasing-lower 1 (first + 1) last rest (omega arith) at.2)
+
+-- no value is too large to add to
+pub value-most : (tally : Thiele) (set : List ℕ) → IsElection tally.election → tally.k ≤ most_members → value_by tally set ≤ 2 ^ 116
+value-most tally set valid size =
+    omega (arith, thiele-most tally.election (increments tally.rule tally.k) set (2 ^ 84) valid
+    (λ x. omega (arith, sum-take-le (increments tally.rule tally.k) x, increments_sum-most tally.rule tally.k size)))
+
+-- ---- the bound of a node
+
+append-none : (xs : List ℕ) → xs ++ [] ≡ xs
+append-none [] = refl
+append-none (x ∷ xs) = ap (λ l. x ∷ l) (append-none xs)
+
+module _ (value : List ℕ → ℕ) (falls : IsSubmodular value) (same : (xs ys : List ℕ) → ((n : ℕ) → has_member xs n ≡ has_member ys n) → value xs ≡ value ys) where
+  push-same : (set : List ℕ) (n : ℕ) → value (set ++ n ∷ []) ≡ value (with_member set n)
+  push-same set n = same (set ++ n ∷ []) (with_member set n) (λ x.
+      list_any-append (λ y. y == x) set (n ∷ []) ∙ swap (has_member set x) (n == x) ∙ sym (has_member-with_member set n x))
+    where
+      swap : (p q : Bool) → (p || (q || false)) ≡ (q || p)
+      swap true true = refl
+      swap true false = refl
+      swap false true = refl
+      swap false false = refl
+
+  -- any threshold bounds each completion
+  pub node-bounds : (m : ℕ) (set free : List ℕ) (left t : ℕ) (g : ℕ → ℕ) (committee : List ℕ) → IsOpen m set free → IsCompletion m set free left committee
+      → ((n : ℕ) → has_member free n ≡ true → gain_at value set n ≤ g n)
+      → value committee ≤ value set + left * t + sum_by (λ n. g n - t) free
+  node-bounds m set free left t g committee open' whole gains =
+      let more = added m set free left committee open' whole in
+      let is : value committee ≡ value (set ++ more) = same committee (set ++ more) (completion-members m set free left committee open' whole) in
+      let none : set ++ [] ≡ set = append-none set in
+      let step : value (set ++ more) ≤ value set + sum_by (λ n. value (set ++ n ∷ []) - value set) more = rw none at (gains-bound value falls set [] more) in
+      let high : sum_by (λ n. value (set ++ n ∷ []) - value set) more ≤ length more * t + sum_by (λ n. g n - t) more =
+      sum-threshold (λ n. value (set ++ n ∷ []) - value set) g t more
+      (λ n in_. omega (arith, push-same set n, gains n (added-free m set free left committee open' whole n in_))) in
+      let size : length more * t ≡ left * t = ap (λ n. n * t) (added-size m set free left committee open' whole) in
+      omega (arith, is, step, high, size, sum-part (λ n. g n - t) (has_member committee) free)
+
+-- ---- a node under a Thiele rule
+
+module _ (tally : Thiele) (set free : List ℕ) (left least : ℕ) where
+  -- no completion reaches the value where too few are free, or the bound is too low
+  pub node-none : IsElection tally.election → tally.k ≤ most_members → IsOpen tally.election.m set free
+      → (t : ℕ) (gains : List ℕ) → ((n : ℕ) → has_member free n ≡ true → get_or gains n 0 ≡ gain (increments tally.rule tally.k) tally.election.rows set n)
+      → ((left ≤ length free) × (least ≤ value_by tally set + left * t + sum_by (λ n. get_or gains n 0 - t) free) → ⊥)
+      → IsOutOfReach (value_by tally) tally.election.m set free left least
+  node-none valid size open' t gains are low committee whole =
+      elim (cases_lt (value_by tally committee) least) [
+        | inl under ↦ under
+        | inr reaches ↦ absurd (low (completion-few tally.election.m set free left committee open' whole, omega (arith, reaches, bound)))
+      ]
+    where
+      bound : value_by tally committee ≤ value_by tally set + left * t + sum_by (λ n. get_or gains n 0 - t) free
+      bound = node-bounds (value_by tally) (thiele_rule-submodular tally.rule tally.k tally.election.rows size)
+          (thiele-same (increments tally.rule tally.k) tally.election.rows) tally.election.m set free left t (λ n. get_or gains n 0) committee open' whole
+          (λ n in_. omega (arith, are n in_,
+          thiele-gain tally.election.m (increments tally.rule tally.k) tally.election.rows set n valid.ballots (open'.apart n in_)))
+
+module _ (value : List ℕ → ℕ) (m : ℕ) (set : List ℕ) (left least : ℕ) where
+  -- the committees that reach the value are among those of fewer free candidates
+  abbrev pub AreLeft : List ℕ → List ℕ → Type 0
+  AreLeft free rest = (committee : List ℕ) → IsCompletion m set free left committee → least ≤ value committee → IsCompletion m set rest left committee
+
+  pub none-left : (free rest : List ℕ) → AreLeft free rest → IsOutOfReach value m set rest left least → IsOutOfReach value m set free left least
+  none-left free rest are none committee whole = elim (cases_lt (value committee) least) [
+    | inl under ↦ under
+    | inr reaches ↦ none committee (are committee whole (omega arith))
+  ]
+
+  -- a candidate was tried and is struck out
+  pub struck-out : (free rest : List ℕ) (n : ℕ) → 1 ≤ left → IsOpen m set rest → has_member rest n ≡ true → AreLeft free rest
+      → IsOutOfReach value m (with_member set n) (without_member rest n) (left - 1) least → AreLeft free (without_member rest n)
+  struck-out free rest n some open' here are none committee whole reaches =
+      let now : IsCompletion m set rest left committee = are committee whole reaches in
+      by (has_member committee n) refl now
+    where
+      by : (b : Bool) → has_member committee n ≡ b → IsCompletion m set rest left committee → IsCompletion m set (without_member rest n) left committee
+      by true in_ now = absurd (omega (arith, reaches, none committee (completion-with m set rest left n open' here committee some now in_)))
+      by false out now = completion-without m set rest left n open' here committee now out
+
+  -- a committee that was found below
+  pub found-below : (free rest committee : List ℕ) (n : ℕ) → 1 ≤ left → IsOpen m set free → has_member free n ≡ true
+      → ((x : ℕ) → has_member rest x ≡ true → has_member free x ≡ true)
+      → IsReaching value m (with_member set n) (without_member rest n) (left - 1) least committee → IsReaching value m set free left least committee
+  found-below free rest committee n some open' here among below = record {
+    completes = completion-back m set free left n open' here (without_member rest n) committee some (λ x is. among x (without-is rest n x is)) below.completes;
+    reaches = below.reaches;
+  }
+
+  -- where nothing is left to add, the set alone decides
+  pub set-reaches : (free : List ℕ) → left ≡ 0 → IsOpen m set free → least ≤ value set → IsReaching value m set free left least set
+  set-reaches free none open' reaches = record {
+    completes = let whole : IsCompletion m set free 0 set = completion-self m set free open' in rw none whole;
+    reaches = reaches;
+  }
+
+  pub set-short : (free : List ℕ) → left ≡ 0 → IsOpen m set free → value set < least → IsOutOfReach value m set free left least
+  set-short free none open' short committee whole = omega (arith, short, ap value (completion-whole m set free left committee open' whole none))
+
+-- what a test that failed does not allow
+pub not-true : (b : Bool) → b ≡ false → IsTrue b → ⊥
+not-true true e h = absurd cc
+not-true false e h = absurd cc

@@ -1,0 +1,56 @@
+-- Committees that complete a set, and whether one of them reaches a value.
+use Rattle.std.specs.Prelude.{◌≡◌, ℕ, ◌+◌, ◌-◌, ◌<◌, ◌≤◌, ◌||◌, ◌==◌, Bool, true, false, List, ◌++◌, length, nat_le, if◌then◌else◌}
+use Rattle.std.specs.List.{list_any}
+use Rattle.ballot_base.specs.Lists.{IsIncreasing, increasing_lists}
+use Rattle.ballot_base.specs.CandSet.{has_member}
+use Rattle.ballot_base.specs.Increments.{increments}
+use Rattle.tie_walk.specs.Ceilings.{ceiling}
+use Rattle.tie_walk.specs.Values.{Thiele, thiele_value}
+use Rattle.tie_walk.specs.Winners.{best_value}
+
+-- what a tally of a Thiele rule gives a set
+abbrev pub value_by : Thiele → List ℕ → ℕ
+value_by tally set = thiele_value (increments tally.rule tally.k) tally.election.rows set
+
+-- a set of the candidates 1 to m, and others of them that are free to join it
+pub record IsOpen (m : ℕ) (set free : List ℕ) : Type 0 where
+  pub set_within : IsIncreasing 1 m set
+  pub free_within : IsIncreasing 1 m free
+  pub apart : (n : ℕ) → has_member free n ≡ true → has_member set n ≡ false
+
+-- a committee of the set and of `left` of the free candidates
+pub record IsCompletion (m : ℕ) (set free : List ℕ) (left : ℕ) (committee : List ℕ) : Type 0 where
+  pub candidates : IsIncreasing 1 m committee
+  pub whole : (n : ℕ) → has_member set n ≡ true → has_member committee n ≡ true
+  pub within : (n : ℕ) → has_member committee n ≡ true → (has_member set n || has_member free n) ≡ true
+  pub size : length committee ≡ length set + left
+
+-- the committee completes the set, and has at least the value
+pub record IsReaching (value : List ℕ → ℕ) (m : ℕ) (set free : List ℕ) (left least : ℕ) (committee : List ℕ) : Type 0
+    where
+  pub completes : IsCompletion m set free left committee
+  pub reaches : least ≤ value committee
+
+-- no committee that completes the set has so great a value
+abbrev pub IsOutOfReach : (List ℕ → ℕ) → ℕ → List ℕ → List ℕ → ℕ → ℕ → Type 0
+IsOutOfReach value m set free left least =
+    (committee : List ℕ) → IsCompletion m set free left committee → value committee < least
+
+-- whether some committee of the set and of `left` of the candidates from c + 1 to m has at least the value
+abbrev pub is_reached : (List ℕ → ℕ) → ℕ → ℕ → List ℕ → ℕ → ℕ → Bool
+is_reached value m c set left least =
+    list_any (λ added. nat_le least (value (set ++ added))) (increasing_lists (c + 1) m left)
+
+-- The bound by search: where the set and `left` make a committee of k, the greatest value of all where it is reached,
+-- and one less where it is not; else the ceiling.
+abbrev pub exact_bound : (List ℕ → ℕ) → ℕ → ℕ → ℕ → List ℕ → ℕ → ℕ
+exact_bound value m k c set left =
+    if length set + left == k
+    then (if is_reached value m c set left (best_value value m k) then best_value value m k else best_value value m k - 1)
+    else ceiling value m c set left
+
+-- Where the set and `left` make a committee of k, the bound reaches the greatest value only where some committee does.
+abbrev pub IsExactAtBest : (List ℕ → ℕ) → (ℕ → List ℕ → ℕ → ℕ) → ℕ → ℕ → ℕ → Type 0
+IsExactAtBest value bound m k best = (c : ℕ) (set : List ℕ) (left : ℕ) → c ≤ m → IsIncreasing 1 c set
+    → left ≤ m - c → length set + left ≡ k → best ≤ bound c set left
+    → (added : List ℕ) × IsIncreasing (c + 1) m added × (length added ≡ left) × (best ≤ value (set ++ added))

@@ -1,0 +1,3 @@
+pub mod Completions
+pub mod Prices
+pub mod Steps

@@ -1,0 +1,42 @@
+//! Laws of the definitions. Each function does nothing, and its contract is the law.
+ghost use Rattle.std.specs.Prelude.{◌≡◌, ℕ, ◌+◌, ◌-◌, ◌*◌, ◌≤◌, List, sum_by};
+ghost use Rattle.std.specs.List.{AllByRecursion};
+ghost use Rattle.ballot_base.specs.Limits.{most_members};
+ghost use Rattle.ballot_base.specs.Ballots.{Row};
+ghost use Rattle.ballot_base.specs.Increments.{increments};
+ghost use Rattle.ballot_base.specs.Lists.{IsIncreasing};
+ghost use Rattle.tie_walk.specs.Ceilings.{IsBound, IsSubmodular, gain_at};
+ghost use Rattle.tie_walk.specs.Values.{thiele_value};
+ghost use Rattle.tie_walk.specs.Winners.{best_value};
+ghost use Rattle.tie_search.specs.Prices.{Priced, rows_of, base, price};
+ghost use Rattle.tie_search.specs.Completions.{IsOpen, IsCompletion, IsExactAtBest, exact_bound};
+
+use ballot_base::ThieleRule;
+
+/// Where gains only fall, the bound by search is a bound; and it reaches the greatest value only where some committee
+/// does.
+pub fn exact_bounds()
+    ensures bounds { (value : List ℕ → ℕ) (m k c : ℕ) (set : List ℕ) (left : ℕ) → IsSubmodular value → c ≤ m
+        → IsIncreasing 1 c set → IsBound value m c set left (exact_bound value m k c set left) }
+    ensures exact { (value : List ℕ → ℕ) (m k : ℕ)
+        → IsExactAtBest value (exact_bound value m k) m k (best_value value m k) }
+{}
+
+/// Any threshold bounds the committees that complete a set: each member that is added brings its gain at the set at
+/// most, which is at most the threshold and what the gain exceeds it by.
+pub fn thresholds()
+    ensures { (rule : ThieleRule) (k : ℕ) (rows : List Row) (m : ℕ) (set free : List ℕ) (left threshold : ℕ)
+        (committee : List ℕ) → k ≤ most_members → IsOpen m set free → IsCompletion m set free left committee
+        → thiele_value (increments rule k) rows committee ≤ thiele_value (increments rule k) rows set
+            + left * threshold
+            + sum_by (λ n. gain_at (thiele_value (increments rule k) rows) set n - threshold) free }
+{}
+
+/// Prices bound values: whatever multiplier is chosen for each row, no committee is worth more than what all voters keep
+/// and the prices of its members, times the scale.
+pub fn prices()
+    ensures { (weights : List ℕ) (scale m : ℕ) (priced : List Priced) (committee : List ℕ)
+        → AllByRecursion (λ row. IsIncreasing 1 m row.0) (rows_of priced) → IsIncreasing 1 m committee
+        → scale * thiele_value weights (rows_of priced) committee
+            ≤ base weights scale priced + sum_by (price priced) committee }
+{}

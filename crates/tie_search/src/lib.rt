@@ -1,0 +1,14 @@
+//! Winners by search: a tally whose bounds reach the greatest value exactly where some committee does, so that a walk
+//! over the winners enters only prefixes with a winner below.
+#![tactic(auto)]
+
+pub mod laws;
+mod order;
+pub mod search;
+pub mod tally;
+
+pub use search::find;
+pub use tally::SearchTally;
+
+#[cfg(test)]
+mod tests;

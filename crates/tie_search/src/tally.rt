@@ -1,0 +1,160 @@
+//! Values whose bounds are found by search.
+ghost use Rattle.std.specs.Prelude.{◌≡◌, ℕ, ◌+◌, ◌-◌, ◌≤◌, List, [], MatchOption, length};
+ghost use Rattle.ballot_base.specs.Limits.{most_members};
+ghost use Rattle.ballot_base.specs.Lists.{IsIncreasing};
+ghost use Rattle.tie_walk.specs.Values.{thiele_of};
+ghost use Rattle.tie_walk.specs.Winners.{best_value};
+ghost use Rattle.tie_search.specs.Completions.{IsOpen, IsOutOfReach, IsReaching, is_reached, exact_bound, value_by};
+
+use crate::search::find;
+use ballot_base::{CandSet, Profile, ThieleRule};
+use std::alloc::{Allocator, Global};
+use std::marker::Model;
+use tie_walk::{Tally, ThieleTally, those_after};
+
+/// The values under a Thiele rule, times the common denominator of its increments. Where a set and the number of those
+/// to add make a committee of k, the bound is the greatest value of all if some such committee has it, and less if
+/// none has: a walk over the winners enters only prefixes with a winner below. Contracts see the election, the rule
+/// and k.
+#[derive(Drop)]
+pub struct SearchTally<'a, A: Allocator + Copy = Global> {
+    values: ThieleTally<'a, A>,
+    m: u8,
+    k: u8,
+    // The greatest value of a committee of k, and a committee that has it.
+    best: u128,
+    committee: CandSet,
+}
+
+impl<'a, A: Allocator + Copy> Model for SearchTally<'a, A> {
+    ghost use Rattle.tie_walk.specs.Values.{Thiele};
+    ghost use Rattle.tie_search.specs.Steps.Searched.{IsSearched};
+
+    ghost Value = { Thiele };
+
+    ghost view = { λ t. t.values };
+
+    ghost invariant = { λ t. IsSearched t.values t.m t.k t.best t.committee };
+}
+
+impl<'a, A: Allocator + Copy> SearchTally<'a, A> {
+    /// The values for committees of k, with the greatest of them found by search. It takes no memory.
+    pub fn new(profile: &'a Profile<A>, rule: ThieleRule, k: u8) -> SearchTally<'a, A>
+        requires some { 1 ≤ k }
+        requires size { k ≤ most_members }
+        requires fits { k ≤ profile.now.m }
+        ensures { result ≡ thiele_of profile.now rule k }
+    {
+        let values = ThieleTally::new(profile, rule, k);
+        let m = values.m();
+        let committee = best_committee(&values, m, k);
+        let best = values.value(committee);
+        SearchTally {
+            values,
+            m,
+            k,
+            best,
+            committee,
+        }
+    }
+
+    /// The greatest value of a committee of k.
+    pub fn best(&self) -> u128
+        ensures { result ≡ best_value (value_by self.now) self.now.election.m self.now.k }
+    {
+        self.best
+    }
+
+    /// A committee to start a walk from: one of the greatest value, where it is of the tally's own size.
+    pub fn good_committee(&self, k: u8) -> CandSet
+        requires some { 1 ≤ k }
+        requires fits { k ≤ self.now.election.m }
+        ensures candidates { IsIncreasing 1 self.now.election.m result }
+        ensures size { length result ≡ k }
+    {
+        self.values.valid();
+        if k == self.k {
+            self.committee
+        } else {
+            CandSet::all(k)
+        }
+    }
+
+    /// Whether some committee of the set and of `left` of the candidates after c has the greatest value.
+    fn is_reached(&self, c: u8, set: CandSet, left: u8) -> bool
+        requires within { c ≤ self.now.election.m }
+        requires candidates { IsIncreasing 1 c set }
+        ensures { result ≡ is_reached (value_by self.now) self.now.election.m c set left
+            (best_value (value_by self.now) self.now.election.m self.now.k) }
+    {
+        self.values.valid();
+        let free = those_after(c, self.m);
+        match find(&self.values, set, free, left, self.best) {
+            Some(_committee) => true,
+            None => false,
+        }
+    }
+}
+
+impl<'a, A: Allocator + Copy> Tally for SearchTally<'a, A> {
+    ghost candidates = { λ tally. tally.election.m };
+
+    ghost value_of = { λ tally set. value_by tally set };
+
+    ghost bound_of = { λ tally c set left. exact_bound (value_by tally) tally.election.m tally.k c set left };
+
+    fn m(&self) -> u8 {
+        self.values.m()
+    }
+
+    fn value(&self, set: CandSet) -> u128 {
+        self.values.value(set)
+    }
+
+    fn bound(&self, c: u8, set: CandSet, left: u8) -> u128 {
+        self.values.valid();
+        if set.len() + left != self.k {
+            return self.values.bound(c, set, left);
+        }
+        if self.is_reached(c, set, left) {
+            self.best
+        } else {
+            self.best.saturating_sub(1)
+        }
+    }
+}
+
+/// A committee of k that none has a greater value than.
+fn best_committee<A: Allocator + Copy>(values: &ThieleTally<A>, m: u8, k: u8) -> CandSet
+    requires candidates { m ≡ values.now.election.m }
+    requires fits { k ≤ m }
+    ensures candidates { IsIncreasing 1 m result }
+    ensures size { length result ≡ k }
+    ensures best { value_by values.now result ≡ best_value (value_by values.now) m k }
+{
+    values.valid();
+    let all = those_after(0, m);
+    let mut best = CandSet::all(k);
+    while let Some(better) = better_than(values, all, best, k) {
+        best = better;
+    }
+    best
+}
+
+/// A committee of k of all candidates with a greater value, if there is one.
+fn better_than<A: Allocator + Copy>(
+    values: &ThieleTally<A>,
+    all: CandSet,
+    committee: CandSet,
+    k: u8,
+) -> Option<CandSet>
+    requires all { IsIncreasing 1 values.now.election.m all }
+    requires candidates { IsIncreasing 1 values.now.election.m committee }
+    ensures { MatchOption result
+        (IsOutOfReach (value_by values.now) values.now.election.m [] all k (value_by values.now committee + 1))
+        (IsReaching (value_by values.now) values.now.election.m [] all k (value_by values.now committee + 1)) }
+{
+    values.valid();
+    let least = values.value(committee) + 1;
+    find(values, CandSet::empty(), all, k, least)
+}
