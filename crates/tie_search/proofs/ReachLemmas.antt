@@ -9,11 +9,11 @@ use Rattle.ballot_base.specs.Lists.{IsIncreasing, increasing_lists}
 use Rattle.ballot_base.specs.CandSet.{has_member}
 use Rattle.ballot_base.proofs.Committees.{chosen-from_contains, increasing_lists-contains}
 use Rattle.ballot_base.proofs.Increasing.{IsIncreasing-filter, IsIncreasing-higher, IsIncreasing-lower, has_member-above, has_member-below, same_increasing}
-use Rattle.tie_walk.specs.Ceilings.{IsBound, IsSubmodular, ceiling}
+use Rattle.tie_walk.specs.Ceilings.{IsBound, IsSubmodular, ceiling, IsAdded, IsExactAtBest}
 use Rattle.tie_walk.specs.Winners.{best_value, winners}
 use Rattle.tie_walk.proofs.LawLemmas.{IsIncreasing-range, no_greater_value, some_winner, winner-is}
 use Rattle.tie_walk.proofs.Submodular.{ceiling-bounds}
-use Rattle.tie_search.specs.Completions.{IsOpen, IsCompletion, IsReaching, IsOutOfReach, is_reached, exact_bound, IsExactAtBest}
+use Rattle.tie_search.specs.Completions.{IsOpen, IsCompletion, IsReaching, IsOutOfReach, is_reached, exact_bound}
 use Rattle.tie_search.proofs.CompletionLemmas.{added, added-increasing, added-size, completion-members, member-low, member-high}
 
 -- ---- tests of lists
@@ -143,16 +143,16 @@ module _ (value : List ℕ → ℕ) (m k c : ℕ) (set : List ℕ) (left : ℕ) 
 
 -- the bound reaches the greatest value only where some committee does
 pub exact-at_best : (value : List ℕ → ℕ) (m k : ℕ) → IsExactAtBest value (exact_bound value m k) m k (best_value value m k)
-exact-at_best value m k c set left within up fits whole reaches = by (is_reached value m c set left (best_value value m k)) refl
+exact-at_best value m k c set left within up whole fits reaches = by (is_reached value m c set left (best_value value m k)) refl
   where
     by : (b : Bool) → is_reached value m c set left (best_value value m k) ≡ b
-        → (added' : List ℕ) × IsIncreasing (c + 1) m added' × (length added' ≡ left) × (best_value value m k ≤ value (set ++ added'))
+        → (added' : List ℕ) × IsAdded m c left added' × (best_value value m k ≤ value (set ++ added'))
     by true e =
         let some = any-found (λ more. nat_le (best_value value m k) (value (set ++ more))) (increasing_lists (c + 1) m left) e in
         let chosen = chosen-from_contains (c + 1) m left some.0 some.1 in
-        (some.0, chosen.0, chosen.1, leb-true (best_value value m k) (value (set ++ some.0)) some.2)
+        (some.0, (chosen.0, chosen.1), leb-true (best_value value m k) (value (set ++ some.0)) some.2)
     by false e =
-        (range_with_len (c + 1) left, IsIncreasing-range (c + 1) left m (omega (arith, within, fits)), length-range_with_len (c + 1) left,
+        (range_with_len (c + 1) left, (IsIncreasing-range (c + 1) left m (omega (arith, within, fits)), length-range_with_len (c + 1) left),
         omega (arith, reaches, exact-short value m k c set left within up whole e))
 
 -- ---- the greatest value

@@ -48,9 +48,3 @@ exact_bound value m k c set left =
     if length set + left == k
     then (if is_reached value m c set left (best_value value m k) then best_value value m k else best_value value m k - 1)
     else ceiling value m c set left
-
--- Where the set and `left` make a committee of k, the bound reaches the greatest value only where some committee does.
-abbrev pub IsExactAtBest : (List ℕ → ℕ) → (ℕ → List ℕ → ℕ → ℕ) → ℕ → ℕ → ℕ → Type 0
-IsExactAtBest value bound m k best = (c : ℕ) (set : List ℕ) (left : ℕ) → c ≤ m → IsIncreasing 1 c set
-    → left ≤ m - c → length set + left ≡ k → best ≤ bound c set left
-    → (added : List ℕ) × IsIncreasing (c + 1) m added × (length added ≡ left) × (best ≤ value (set ++ added))

@@ -5,11 +5,11 @@ ghost use Rattle.ballot_base.specs.Limits.{most_members};
 ghost use Rattle.ballot_base.specs.Ballots.{Row};
 ghost use Rattle.ballot_base.specs.Increments.{increments};
 ghost use Rattle.ballot_base.specs.Lists.{IsIncreasing};
-ghost use Rattle.tie_walk.specs.Ceilings.{IsBound, IsSubmodular, gain_at};
+ghost use Rattle.tie_walk.specs.Ceilings.{IsBound, IsExactAtBest, IsSubmodular, gain_at};
 ghost use Rattle.tie_walk.specs.Values.{thiele_value};
 ghost use Rattle.tie_walk.specs.Winners.{best_value};
 ghost use Rattle.tie_search.specs.Prices.{Priced, rows_of, base, price};
-ghost use Rattle.tie_search.specs.Completions.{IsOpen, IsCompletion, IsExactAtBest, exact_bound};
+ghost use Rattle.tie_search.specs.Completions.{IsOpen, IsCompletion, exact_bound};
 
 use ballot_base::ThieleRule;
 

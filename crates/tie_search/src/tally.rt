@@ -65,21 +65,6 @@ impl<'a, A: Allocator + Copy> SearchTally<'a, A> {
         self.best
     }
 
-    /// A committee to start a walk from: one of the greatest value, where it is of the tally's own size.
-    pub fn good_committee(&self, k: u8) -> CandSet
-        requires some { 1 ≤ k }
-        requires fits { k ≤ self.now.election.m }
-        ensures candidates { IsIncreasing 1 self.now.election.m result }
-        ensures size { length result ≡ k }
-    {
-        self.values.valid();
-        if k == self.k {
-            self.committee
-        } else {
-            CandSet::all(k)
-        }
-    }
-
     /// Whether some committee of the set and of `left` of the candidates after c has the greatest value.
     fn is_reached(&self, c: u8, set: CandSet, left: u8) -> bool
         requires within { c ≤ self.now.election.m }
@@ -121,6 +106,13 @@ impl<'a, A: Allocator + Copy> Tally for SearchTally<'a, A> {
         } else {
             self.best.saturating_sub(1)
         }
+    }
+
+    fn good_committee(&self, k: u8) -> Option<CandSet> {
+        if k != self.k {
+            return None;
+        }
+        Some(self.committee)
     }
 }
 

@@ -54,7 +54,10 @@ fn assert_same(rt: &impl Abort, profile: &Profile, rule: ThieleRule, k: u8)
     let m = profile.m();
     let plain = ThieleTally::new(profile, rule, k);
     let searched = SearchTally::new(profile, rule, k);
-    assert_eq!(rt; searched.value(searched.good_committee(k)), searched.best());
+    let Some(good) = searched.good_committee(k) else {
+        panic!(rt; "a good committee of {k}");
+    };
+    assert_eq!(rt; searched.value(good), searched.best());
     let mut winners = Winners::new(&plain, m, k, None);
     assert_eq!(rt; winners.best(), searched.best());
     for found in Winners::new(&searched, m, k, None) {

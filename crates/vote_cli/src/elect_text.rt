@@ -11,10 +11,11 @@ use crate::device::Sink;
 use crate::listing::print_listing;
 use crate::names::Names;
 use crate::printing::{Printer, WriteFailed};
-use ballot_base::{CandSet, Increments, Profile, common_multiple};
+use ballot_base::{CandSet, Increments, Profile, ThieleRule, common_multiple};
 use itoa::Buffer;
 use request_words::{Rule, ScoredRule};
 use std::alloc::Allocator;
+use tie_search::SearchTally;
 use tie_walk::{MinimaxTally, SavTally, SeqRule, SeqWinners, Tally, ThieleTally, Winners};
 
 /// Prints a score over its denominator, on a line.
@@ -149,8 +150,13 @@ pub(crate) fn write_scored<W: Sink, A: Allocator + Copy>(
         (elect_text (Rule.Scored rule) size (record { after = after; limit = limit }) names.now profile.now) }
 {
     match rule {
+        // The bounds of approval voting are exact without a search.
+        ScoredRule::Thiele(ThieleRule::Av) => {
+            let tally = ThieleTally::new(profile, ThieleRule::Av, size);
+            write_by(out, &tally, rule, size, after, limit, names)
+        }
         ScoredRule::Thiele(thiele) => {
-            let tally = ThieleTally::new(profile, thiele, size);
+            let tally = SearchTally::new(profile, thiele, size);
             write_by(out, &tally, rule, size, after, limit, names)
         }
         ScoredRule::Satisfaction => {
