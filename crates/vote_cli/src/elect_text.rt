@@ -132,6 +132,33 @@ fn write_by<W: Sink, N: Allocator + Copy, T: Tally>(
     print_listing(&mut printer, names, limit, winners)
 }
 
+/// Writes the answer of a Thiele rule, and flushes the writer. The bounds of approval voting are exact without a search.
+fn write_thiele<W: Sink, A: Allocator + Copy>(
+    out: &mut W,
+    profile: &Profile<A>,
+    thiele: ThieleRule,
+    size: u8,
+    after: Option<CandSet>,
+    limit: Option<u32>,
+    names: &Names<'_, A>,
+) -> Result<(), WriteFailed>
+    requires some { 1 ≤ size }
+    requires fits { size ≤ profile.now.m }
+    requires most { size ≤ most_members }
+    requires start { IsStart profile.now.m size after }
+    ensures { Sends W.contents W.has_failed out.old out.new (is_ok result)
+        (elect_text (Rule.Scored (ScoredRule.Thiele thiele)) size (record { after = after; limit = limit }) names.now
+        profile.now) }
+{
+    let rule = ScoredRule::Thiele(thiele);
+    if thiele == ThieleRule::Av {
+        let tally = ThieleTally::new(profile, thiele, size);
+        return write_by(out, &tally, rule, size, after, limit, names);
+    }
+    let tally = SearchTally::new(profile, thiele, size);
+    write_by(out, &tally, rule, size, after, limit, names)
+}
+
 /// Writes the answer of a rule with a value, and flushes the writer.
 pub(crate) fn write_scored<W: Sink, A: Allocator + Copy>(
     out: &mut W,
@@ -150,14 +177,8 @@ pub(crate) fn write_scored<W: Sink, A: Allocator + Copy>(
         (elect_text (Rule.Scored rule) size (record { after = after; limit = limit }) names.now profile.now) }
 {
     match rule {
-        // The bounds of approval voting are exact without a search.
-        ScoredRule::Thiele(ThieleRule::Av) => {
-            let tally = ThieleTally::new(profile, ThieleRule::Av, size);
-            write_by(out, &tally, rule, size, after, limit, names)
-        }
         ScoredRule::Thiele(thiele) => {
-            let tally = SearchTally::new(profile, thiele, size);
-            write_by(out, &tally, rule, size, after, limit, names)
+            write_thiele(out, profile, thiele, size, after, limit, names)
         }
         ScoredRule::Satisfaction => {
             let tally = SavTally::new(profile);

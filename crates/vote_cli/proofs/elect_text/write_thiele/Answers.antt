@@ -1,0 +1,15 @@
+use Rattle.std.proofs.Common.{subst, refl}
+use Rattle.vote_cli.specs.Steps.Printing.{Sends}
+use Rattle.vote_cli.proofs.TextLemmas.{thiele_text}
+use Rattle.request_words.specs.declared.request.ScoredRule.TheVariants.{Thiele}
+use Rattle.vote_cli.proofs.elect_text.write_thiele.Goals as goal
+
+pub returns-then-eq : goal.returns-then-eq
+returns-then-eq g c =
+    subst (Sends g.W.Sink.contents g.W.Device.has_failed c.args.out.now c.write_by.new.out _)
+    (thiele_text c.args.names.now (record { after = c.args.after; limit = c.args.limit }) (Thiele c.args.thiele) c.args.size c.args.profile.now c.args.thiele c.new-tally.result refl c.new-tally.ensures.tally) c.write_by.ensures
+
+pub returns : goal.returns
+returns g c =
+    subst (Sends g.W.Sink.contents g.W.Device.has_failed c.args.out.now c.write_by-2.new.out _)
+    (thiele_text c.args.names.now (record { after = c.args.after; limit = c.args.limit }) (Thiele c.args.thiele) c.args.size c.args.profile.now c.args.thiele c.new-tally-2.result refl c.new-tally-2.ensures) c.write_by-2.ensures
