@@ -9,7 +9,7 @@ use Rattle.std.proofs.lemmas.List.Sums.{sum_by-append}
 use Rattle.ballot_base.specs.Lists.{IsIncreasing, lists_of, increasing_lists, later_than}
 use Rattle.ballot_base.specs.CandSet.{has_member, without_member}
 use Rattle.ballot_base.proofs.Committees.{IsChosen, increasing_lists-chosen, increasing_lists-order}
-use Rattle.ballot_base.proofs.Increasing.{IsIncreasing-filter, IsIncreasing-push}
+use Rattle.ballot_base.proofs.Increasing.{IsIncreasing-filter}
 use Rattle.tie_walk.specs.Ceilings.{IsBound}
 use Rattle.tie_walk.specs.Steps.Walks.{committees_below, committees_after, committees_from, IsPlace, IsPast, work_left}
 use Rattle.tie_walk.specs.declared.prefix.Prefix.{Prefix}

@@ -1,7 +1,6 @@
-use Rattle.std.proofs.Common.{◌≡◌, ◌∙◌, [], Some, sym, ap, subst, arith}
+use Rattle.std.proofs.Common.{◌∙◌, [], Some, sym, ap, subst, arith}
 use Rattle.tie_walk.specs.Ceilings.{IsBound}
 use Rattle.tie_walk.specs.Steps.Walks.{committees_from}
-use Rattle.tie_walk.specs.Winners.{best_value}
 use Rattle.tie_walk.proofs.BestLemmas.{greatest-good, greatest-found, best-reached}
 use Rattle.tie_walk.proofs.WalkLemmas.{at_root}
 use Rattle.tie_walk.proofs.WinnersLemmas.{greatest, greatest-done}

@@ -1,4 +1,4 @@
-use Rattle.std.proofs.Common.{◌≡◌, ◌+◌, ◌∙◌, Some, ◌∷◌, ◌++◌, sym, ap, arith, option_to_list}
+use Rattle.std.proofs.Common.{◌≡◌, ◌+◌, ◌∙◌, Some, ◌∷◌, ◌++◌, ap, arith, option_to_list}
 use Rattle.ballot_base.specs.Lists.{IsIncreasing}
 use Rattle.tie_walk.specs.Steps.Walks.{committees_from, those_reaching}
 use Rattle.tie_walk.proofs.BestLemmas.{from-candidates, first-reaching, open-few}

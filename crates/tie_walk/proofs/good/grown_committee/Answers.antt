@@ -1,4 +1,4 @@
-use Rattle.std.proofs.Common.{◌≡◌, ◌+◌, ap, sym, subst, arith, length}
+use Rattle.std.proofs.Common.{ap, sym, subst, length}
 use Rattle.ballot_base.specs.Lists.{IsIncreasing}
 use Rattle.tie_walk.proofs.good.grown_committee.Goals as goal
 

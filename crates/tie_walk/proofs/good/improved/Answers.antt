@@ -1,4 +1,4 @@
-use Rattle.std.proofs.Common.{◌≡◌, ◌+◌, ◌<◌, sym, ap, subst, arith, length}
+use Rattle.std.proofs.Common.{sym, ap, subst, arith, length}
 use Rattle.ballot_base.specs.Lists.{IsIncreasing}
 use Rattle.tie_walk.proofs.BestLemmas.{one-fewer}
 use Rattle.tie_walk.proofs.good.improved.Goals as goal

@@ -1,4 +1,4 @@
-use Rattle.std.proofs.Common.{◌≡◌, ◌+◌, ◌<◌, ◌≤◌, ◌∙◌, Some, refl, sym, subst, arith, length}
+use Rattle.std.proofs.Common.{◌≡◌, ◌+◌, ◌≤◌, ◌∙◌, refl, sym, subst, arith, length}
 use Rattle.ballot_base.specs.Lists.{IsIncreasing}
 use Rattle.ballot_base.proofs.Increasing.{IsIncreasing-with_member}
 use Rattle.tie_walk.proofs.BestLemmas.{IsOneMore, one-more-member, one-more-kept, one-more-found, one-more-done}
