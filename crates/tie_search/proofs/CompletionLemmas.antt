@@ -29,7 +29,7 @@ member-high first last set n up here = elim (cases_lt last n) [
 pub member-without : (set : List ℕ) (n x : ℕ) → has_member (without_member set n) x ≡ (not (x == n) && has_member set x)
 member-without set n x = has_member-filter (λ y. not (y == n)) set x
 
-and-true : (p q : Bool) → (p && q) ≡ true → (p ≡ true) × (q ≡ true)
+pub and-true : (p q : Bool) → (p && q) ≡ true → (p ≡ true) × (q ≡ true)
 and-true true true h = (refl, refl)
 and-true true false h = absurd cc
 and-true false q h = absurd cc
