@@ -29,7 +29,7 @@ member-high first last set n up here = elim (cases_lt last n) [
 pub member-without : (set : List ℕ) (n x : ℕ) → has_member (without_member set n) x ≡ (not (x == n) && has_member set x)
 member-without set n x = has_member-filter (λ y. not (y == n)) set x
 
-and-true : (p q : Bool) → (p && q) ≡ true → (p ≡ true) × (q ≡ true)
+pub and-true : (p q : Bool) → (p && q) ≡ true → (p ≡ true) × (q ≡ true)
 and-true true true h = (refl, refl)
 and-true true false h = absurd cc
 and-true false q h = absurd cc
@@ -201,19 +201,24 @@ module _ (m : ℕ) (set free : List ℕ) (left : ℕ) (committee : List ℕ) (op
       ∙ ap (λ b. has_member set n || b) (sym (has_member-filter (has_member committee) free n))
       ∙ sym (list_any-append (λ y. y == n) set added)
 
+  -- the set and those who were added are the whole
+  pub completion-inside : filter (has_member set) committee ≡ set
+  completion-inside =
+      same_increasing 1 m (filter (has_member set) committee) set (IsIncreasing-filter (has_member set) 1 m committee whole.candidates) open'.set_within
+      (λ n. has_member-filter (has_member set) committee n ∙ inside-is (has_member set n) (has_member committee n) (whole.whole n))
+
+  pub completion-outside : filter (λ x. not (has_member set x)) committee ≡ added
+  completion-outside =
+      same_increasing 1 m (filter (λ x. not (has_member set x)) committee) added (IsIncreasing-filter (λ x. not (has_member set x)) 1 m committee whole.candidates) added-increasing
+      (λ n. has_member-filter (λ x. not (has_member set x)) committee n
+      ∙ outside-is (has_member set n) (has_member committee n) (has_member free n) (whole.within n) (open'.apart n)
+      ∙ sym (has_member-filter (has_member committee) free n))
+
   pub added-size : length added ≡ left
   added-size =
       let both : length (filter (has_member set) committee) + length (filter (λ x. not (has_member set x)) committee) ≡ length committee =
       length-filter_both (has_member set) (λ x. not (has_member set x)) (λ x. refl) committee in
-      let inside : filter (has_member set) committee ≡ set =
-      same_increasing 1 m (filter (has_member set) committee) set (IsIncreasing-filter (has_member set) 1 m committee whole.candidates) open'.set_within
-      (λ n. has_member-filter (has_member set) committee n ∙ inside-is (has_member set n) (has_member committee n) (whole.whole n)) in
-      let outside : filter (λ x. not (has_member set x)) committee ≡ added =
-      same_increasing 1 m (filter (λ x. not (has_member set x)) committee) added (IsIncreasing-filter (λ x. not (has_member set x)) 1 m committee whole.candidates) added-increasing
-      (λ n. has_member-filter (λ x. not (has_member set x)) committee n
-      ∙ outside-is (has_member set n) (has_member committee n) (has_member free n) (whole.within n) (open'.apart n)
-      ∙ sym (has_member-filter (has_member committee) free n)) in
-      omega (arith, both, ap length inside, ap length outside, whole.size)
+      omega (arith, both, ap length completion-inside, ap length completion-outside, whole.size)
 
   -- so many are free
   pub completion-few : left ≤ length free

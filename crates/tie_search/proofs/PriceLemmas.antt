@@ -1,9 +1,9 @@
 -- No committee is worth more than its price.
-use Rattle.std.proofs.Common.{◌≡◌, ℕ, zero, suc, ◌+◌, ◌-◌, ◌*◌, ◌<◌, ◌≤◌, ◌==◌, ◌&&◌, ◌∙◌, Bool, true, false, cond, List, [], ◌∷◌, ◌++◌, refl, sym, ap, arith, inl, inr, length, filter, map, fold, max, sum, sum_by, take, get_or}
+use Rattle.std.proofs.Common.{◌≡◌, ℕ, zero, suc, ◌+◌, ◌-◌, ◌*◌, ◌<◌, ◌≤◌, ◌==◌, ◌&&◌, ◌∙◌, Bool, true, false, not, cond, List, [], ◌∷◌, ◌++◌, refl, sym, ap, arith, inl, inr, length, filter, map, fold, max, sum, sum_by, take, get_or}
 use Rattle.std.specs.List.{AllByRecursion, range_with_len}
 use Rattle.std.proofs.Math.Nat.{mul-le-mul_left}
 use Rattle.std.proofs.lemmas.Bool.{cases_eq, eq-eqb, cases_lt}
-use Rattle.std.proofs.lemmas.List.Folds.{list_any-append}
+use Rattle.std.proofs.lemmas.List.Filters.{sum_by-filter_both}
 use Rattle.std.proofs.lemmas.List.Sums.{sum_by-cons, length-filter, count_by-le-length}
 use Rattle.ballot_base.specs.Lists.{IsIncreasing}
 use Rattle.ballot_base.specs.CandSet.{has_member}
@@ -12,7 +12,7 @@ use Rattle.ballot_base.proofs.Increasing.{IsIncreasing-filter, has_member-filter
 use Rattle.tie_walk.specs.Values.{thiele_value}
 use Rattle.tie_search.specs.Completions.{IsOpen, IsCompletion}
 use Rattle.tie_search.specs.Prices.{Priced, rows_of, kept, base, price}
-use Rattle.tie_search.proofs.CompletionLemmas.{added, added-increasing, added-free, added-size, completion-members}
+use Rattle.tie_search.proofs.CompletionLemmas.{added, added-size, completion-inside, completion-outside}
 use Rattle.tie_search.proofs.SearchLemmas.{sum-threshold, sum-part}
 
 -- ---- one row
@@ -107,4 +107,25 @@ price-bounds w scale m (p ∷ priced) committee all up =
       sum_by-cons (λ (q : Priced). q.0.1 * kept w scale q.1 (length q.0.0)) p priced,
       prices-cons p priced committee,
       price-bounds w scale m priced committee all.1 up,
+    )
+
+-- prices bound the committees that complete a set, by any threshold
+pub priced-node : (w : List ℕ) (scale m : ℕ) (priced : List Priced) (set free : List ℕ) (left t : ℕ) (committee : List ℕ) → AllByRecursion (λ row. IsIncreasing 1 m row.0) (rows_of priced)
+    → IsOpen m set free → IsCompletion m set free left committee
+    → scale * thiele_value w (rows_of priced) committee ≤ base w scale priced + sum_by (price priced) set + left * t + sum_by (λ n. price priced n - t) free
+priced-node w scale m priced set free left t committee all open' whole =
+    let f = price priced in
+    let more = added m set free left committee open' whole in
+    let both : sum_by f (filter (has_member set) committee) + sum_by f (filter (λ x. not (has_member set x)) committee) ≡ sum_by f committee =
+    sum_by-filter_both (has_member set) (λ x. not (has_member set x)) (λ x. refl) f committee in
+    let size : length more * t ≡ left * t = ap (λ n. n * t) (added-size m set free left committee open' whole) in
+    omega (
+      arith,
+      price-bounds w scale m priced committee all whole.candidates,
+      both,
+      ap (sum_by f) (completion-inside m set free left committee open' whole),
+      ap (sum_by f) (completion-outside m set free left committee open' whole),
+      sum-threshold f f t more (λ n h. omega arith),
+      size,
+      sum-part (λ n. f n - t) (has_member committee) free,
     )

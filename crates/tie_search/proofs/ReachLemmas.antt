@@ -6,15 +6,16 @@ use Rattle.std.proofs.lemmas.Bool.{cases_eq, cases_lt, le-leb, leb-true, eq-eqb,
 use Rattle.std.proofs.lemmas.List.Folds.{list_any-append}
 use Rattle.std.proofs.lemmas.List.FromFn.{length-range_with_len}
 use Rattle.ballot_base.specs.Lists.{IsIncreasing, increasing_lists}
-use Rattle.ballot_base.specs.CandSet.{has_member}
+use Rattle.ballot_base.specs.CandSet.{has_member, members_upto}
 use Rattle.ballot_base.proofs.Committees.{chosen-from_contains, increasing_lists-contains}
-use Rattle.ballot_base.proofs.Increasing.{IsIncreasing-filter, IsIncreasing-higher, IsIncreasing-lower, has_member-above, has_member-below, same_increasing}
+use Rattle.ballot_base.proofs.Increasing.{IsIncreasing-filter, IsIncreasing-higher, IsIncreasing-lower, has_member-above, has_member-below, has_member-filter, same_increasing}
 use Rattle.tie_walk.specs.Ceilings.{IsBound, IsSubmodular, ceiling, IsAdded, IsExactAtBest}
 use Rattle.tie_walk.specs.Winners.{best_value, winners}
 use Rattle.tie_walk.proofs.LawLemmas.{IsIncreasing-range, no_greater_value, some_winner, winner-is}
+use Rattle.tie_walk.proofs.StepLemmas.{has_member-range}
 use Rattle.tie_walk.proofs.Submodular.{ceiling-bounds}
 use Rattle.tie_search.specs.Completions.{IsOpen, IsCompletion, IsReaching, IsOutOfReach, is_reached, exact_bound}
-use Rattle.tie_search.proofs.CompletionLemmas.{added, added-increasing, added-size, completion-members, member-low, member-high}
+use Rattle.tie_search.proofs.CompletionLemmas.{added, added-increasing, added-size, and-true, completion-members, member-low, member-high}
 
 -- ---- tests of lists
 
@@ -93,6 +94,29 @@ module _ (value : List ℕ → ℕ) (m c : ℕ) (set free : List ℕ) (left : �
           let some = any-found (λ more. nat_le least (value (set ++ more))) (increasing_lists (c + 1) m left) e in
           let chosen = chosen-from_contains (c + 1) m left some.0 some.1 in
           absurd (omega (arith, none (set ++ some.0) (completion-made some.0 chosen.0 chosen.1), leb-true least (value (set ++ some.0)) some.2))
+
+-- a committee that is known is one of them
+pub reached-known : (value : List ℕ → ℕ) (m c : ℕ) (set : List ℕ) (left : ℕ) → c ≤ m → IsIncreasing 1 c set → (least : ℕ) (known : List ℕ) → IsIncreasing 1 m known
+    → members_upto known c ≡ set → length known ≡ length set + left → least ≤ value known → is_reached value m c set left least ≡ true
+reached-known value m c set left within up least known rises begins size reaches =
+    reached-found value m c set (range_with_len (c + 1) (m - c)) left within up (IsIncreasing-range (c + 1) (m - c) m (omega (arith, within)))
+    (λ n low high. has_member-range (c + 1) (m - c) n (omega (arith, low)) (omega (arith, low, high))) least known record {
+      completes = record {
+        candidates = rises;
+        whole = λ n h. (and-true (nat_le n c) (has_member known n) (sym (has_member-filter (λ x. nat_le x c) known n) ∙ ap (λ l. has_member l n) begins ∙ h)).1;
+        within = λ n h. elim (cases_lt c n) [
+          | inl later ↦ ap (λ b. has_member set n || b) (has_member-range (c + 1) (m - c) n (omega (arith, later)) (let high : n ≤ m = member-high 1 m known n rises h in omega (arith, later, high))) ∙ or-true (has_member set n)
+          | inr early ↦ ap (λ b. b || has_member (range_with_len (c + 1) (m - c)) n)
+              (ap (λ l. has_member l n) (sym begins) ∙ has_member-filter (λ x. nat_le x c) known n ∙ ap (λ b. b && has_member known n) (le-leb n c early) ∙ h)
+        ];
+        size = size;
+      };
+      reaches = reaches;
+    }
+  where
+    or-true : (b : Bool) → (b || true) ≡ true
+    or-true true = refl
+    or-true false = refl
 
 -- ---- the bound
 

@@ -33,10 +33,16 @@ pub fn thresholds()
 {}
 
 /// Prices bound values: whatever multiplier is chosen for each row, no committee is worth more than what all voters keep
-/// and the prices of its members, times the scale.
+/// and the prices of its members, times the scale; and any threshold bounds the committees that complete a set.
 pub fn prices()
-    ensures { (weights : List ℕ) (scale m : ℕ) (priced : List Priced) (committee : List ℕ)
+    ensures committees { (weights : List ℕ) (scale m : ℕ) (priced : List Priced) (committee : List ℕ)
         → AllByRecursion (λ row. IsIncreasing 1 m row.0) (rows_of priced) → IsIncreasing 1 m committee
         → scale * thiele_value weights (rows_of priced) committee
             ≤ base weights scale priced + sum_by (price priced) committee }
+    ensures completions { (weights : List ℕ) (scale m : ℕ) (priced : List Priced) (set free : List ℕ)
+        (left threshold : ℕ) (committee : List ℕ) → AllByRecursion (λ row. IsIncreasing 1 m row.0) (rows_of priced)
+        → IsOpen m set free → IsCompletion m set free left committee
+        → scale * thiele_value weights (rows_of priced) committee
+            ≤ base weights scale priced + sum_by (price priced) set + left * threshold
+            + sum_by (λ n. price priced n - threshold) free }
 {}

@@ -1,5 +1,5 @@
 //! Values whose bounds are found by search.
-ghost use Rattle.std.specs.Prelude.{◌≡◌, ℕ, ◌+◌, ◌-◌, ◌≤◌, List, [], MatchOption, length};
+ghost use Rattle.std.specs.Prelude.{◌≡◌, ℕ, ◌+◌, ◌-◌, ◌≤◌, List, [], true, IsTrue, MatchOption, length};
 ghost use Rattle.ballot_base.specs.Limits.{most_members};
 ghost use Rattle.ballot_base.specs.Lists.{IsIncreasing};
 ghost use Rattle.tie_walk.specs.Values.{thiele_of};
@@ -9,6 +9,7 @@ ghost use Rattle.tie_search.specs.Completions.{IsOpen, IsOutOfReach, IsReaching,
 use crate::search::find;
 use ballot_base::{CandSet, Profile, ThieleRule};
 use std::alloc::{Allocator, Global};
+use std::cell::Cell;
 use std::marker::Model;
 use tie_walk::{Tally, ThieleTally, those_after};
 
@@ -24,6 +25,8 @@ pub struct SearchTally<'a, A: Allocator + Copy = Global> {
     // The greatest value of a committee of k, and a committee that has it.
     best: u128,
     committee: CandSet,
+    // What a search found last. It is tried first, since the walk goes on to it.
+    found: Cell<CandSet>,
 }
 
 impl<'a, A: Allocator + Copy> Model for SearchTally<'a, A> {
@@ -55,6 +58,7 @@ impl<'a, A: Allocator + Copy> SearchTally<'a, A> {
             k,
             best,
             committee,
+            found: Cell::new(committee),
         }
     }
 
@@ -69,15 +73,41 @@ impl<'a, A: Allocator + Copy> SearchTally<'a, A> {
     fn is_reached(&self, c: u8, set: CandSet, left: u8) -> bool
         requires within { c ≤ self.now.election.m }
         requires candidates { IsIncreasing 1 c set }
+        requires fits { left ≤ self.now.election.m - c }
         ensures { result ≡ is_reached (value_by self.now) self.now.election.m c set left
             (best_value (value_by self.now) self.now.election.m self.now.k) }
     {
+        if self.is_known(c, set, left) {
+            return true;
+        }
         self.values.valid();
         let free = those_after(c, self.m);
         match find(&self.values, set, free, left, self.best) {
-            Some(_committee) => true,
+            Some(committee) => {
+                self.found.set(committee);
+                true
+            }
             None => false,
         }
+    }
+
+    /// Whether the committee that a search found last is one of these, and has the greatest value.
+    fn is_known(&self, c: u8, set: CandSet, left: u8) -> bool
+        requires within { c ≤ self.now.election.m }
+        requires candidates { IsIncreasing 1 c set }
+        requires fits { left ≤ self.now.election.m - c }
+        ensures { IsTrue result → is_reached (value_by self.now) self.now.election.m c set left
+            (best_value (value_by self.now) self.now.election.m self.now.k) ≡ true }
+    {
+        self.values.valid();
+        let found = self.found.get();
+        found.valid();
+        let known = found.upto(self.m);
+        if known.upto(c) != set || known.len() != set.len() + left {
+            return false;
+        }
+        let value = self.values.value(known);
+        value >= self.best
     }
 }
 

@@ -1,5 +1,9 @@
-use Rattle.tie_search.proofs.PriceLemmas.{price-bounds}
+use Rattle.tie_search.proofs.PriceLemmas.{price-bounds, priced-node}
 use Rattle.tie_search.proofs.laws.prices.Goals as goal
 
-pub returns : goal.returns
-returns c weights scale m priced committee ballots up = price-bounds weights scale m priced committee ballots up
+pub returns-clause-committees : goal.returns-clause-committees
+returns-clause-committees c weights scale m priced committee ballots up = price-bounds weights scale m priced committee ballots up
+
+pub returns-clause-completions : goal.returns-clause-completions
+returns-clause-completions c weights scale m priced set free left threshold committee ballots open' whole =
+    priced-node weights scale m priced set free left threshold committee ballots open' whole

@@ -27,7 +27,7 @@ returns-in-Some g c =
     let least : t.best ≡ best_value V t.values.election.m t.values.k =
     c.self.invariant.best_is ∙ ap (λ n. best_value V n t.k) c.self.invariant.m_is ∙ ap (best_value V t.values.election.m) c.self.invariant.k_is in
     sym (reached-found V t.values.election.m c.args.c c.args.set c.those_after-free.result c.args.left (omega (arith, c.requires.within, size))
-    c.requires.candidates after (λ n low high. c.those_after-free.ensures.all n low (omega (arith, high, c.self.invariant.m_is))) t.best c.in-Some._committee c.in-Some.ensures)
+    c.requires.candidates after (λ n low high. c.those_after-free.ensures.all n low (omega (arith, high, c.self.invariant.m_is))) t.best c.in-Some.committee c.in-Some.ensures)
     ∙ ap (is_reached V t.values.election.m c.args.c c.args.set c.args.left) least
     ∙ ap (λ (x : Thiele). is_reached (value_by x) x.election.m c.args.c c.args.set c.args.left (best_value (value_by x) x.election.m x.k)) c.self.view_is
 
