@@ -1,6 +1,6 @@
 -- Each definition of the walk, computed on a small example: the pairs of three candidates, where the value of a committee
 -- is the sum of its members.
-use Rattle.std.proofs.Common.{◌≡◌, ℕ, ◌+◌, ◌*◌, List, [], ◌∷◌, refl, lit≤, lit<, Some, None, sum, arith}
+use Rattle.std.proofs.Common.{◌≡◌, ℕ, ◌+◌, ◌*◌, List, [], ◌∷◌, true, false, refl, lit≤, lit<, Some, None, sum, arith}
 use Rattle.ballot_base.specs.Lists.{lists_of}
 use Rattle.tie_walk.specs.Steps.Walks.{committees_below, committees_after, committees_from, IsPlace, IsPast, work_left, IsFound, those_reaching, open_below, open_after, open_from, IsStride, is_alive, waits_at, waits_after, waits_from, IsWait, IsRaised, IsBegun, IsKnown, IsWalk}
 use Rattle.tie_walk.specs.declared.prefix.Prefix.{Prefix}
