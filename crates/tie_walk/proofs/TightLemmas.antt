@@ -1,6 +1,6 @@
 -- Bounds that are the value of a completion: under approval voting and satisfaction approval voting each candidate gives
 -- a committee the same, whoever else is in it.
-use Rattle.std.proofs.Common.{◌≡◌, ℕ, zero, suc, ◌+◌, ◌-◌, ◌*◌, ◌<◌, ◌≤◌, ◌∙◌, Bool, true, false, cond, List, [], ◌∷◌, ◌++◌, refl, sym, ap, arith, inl, inr, length, length-append, append_assoc, get_or, max, sum_by, add-one}
+use Rattle.std.proofs.Common.{◌≡◌, ℕ, zero, suc, ◌+◌, ◌-◌, ◌*◌, ◌<◌, ◌≤◌, ◌∙◌, Bool, true, false, cond, List, [], ◌∷◌, ◌++◌, refl, sym, ap, arith, inl, inr, length, length-append, append_assoc, sum_by, add-one}
 use Rattle.std.proofs.lemmas.Bool.{cases_lt}
 use Rattle.std.proofs.lemmas.List.Sums.{sum_by-cons}
 use Rattle.ballot_base.specs.Limits.{most_members}
@@ -12,7 +12,7 @@ use Rattle.ballot_base.specs.declared.increments.ThieleRule.TheVariants.{Av}
 use Rattle.ballot_base.specs.Ballots.{Row, Election, IsElection, hits}
 use Rattle.ballot_base.proofs.Increasing.{IsIncreasing-push, IsIncreasing-lower, with_member-above, with_member-lt, has_member-above, has_member-below}
 use Rattle.ballot_base.proofs.WeightLemmas.{increments-within}
-use Rattle.tie_walk.specs.Ceilings.{IsAdded, IsTight, ceiling, gain_at, greatest_sum}
+use Rattle.tie_walk.specs.Ceilings.{IsTight, ceiling, gain_at, greatest_sum}
 use Rattle.tie_walk.specs.Sequences.{weight}
 use Rattle.tie_walk.specs.Steps.Tables.{parts, score}
 use Rattle.tie_walk.specs.Values.{thiele_value, satisfaction_value}

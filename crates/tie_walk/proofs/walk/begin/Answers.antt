@@ -1,6 +1,6 @@
-use Rattle.std.proofs.Common.{◌≡◌, ◌+◌, ◌-◌, ◌<◌, ◌^◌, ◌∙◌, None, Some, [], ◌++◌, sym, ap, arith, option_to_list}
+use Rattle.std.proofs.Common.{◌≡◌, ◌+◌, ◌-◌, ◌∙◌, None, Some, [], ◌++◌, sym, ap, arith, option_to_list}
 use Rattle.tie_walk.specs.Ceilings.{live_count}
-use Rattle.tie_walk.specs.Steps.Walks.{committees_from, work_left, those_reaching, open_below, open_from}
+use Rattle.tie_walk.specs.Steps.Walks.{committees_from, those_reaching, open_below, open_from}
 use Rattle.tie_walk.proofs.WaitLemmas.{work-most}
 use Rattle.tie_walk.proofs.WalkLemmas.{at_root}
 use Rattle.tie_walk.proofs.LiveLemmas.{all-live}

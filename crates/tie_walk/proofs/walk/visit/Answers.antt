@@ -1,4 +1,4 @@
-use Rattle.std.proofs.Common.{◌≡◌, ℕ, ◌+◌, ◌∙◌, true, false, cond, [], ◌∷◌, ◌++◌, refl, sym, ap, arith, length}
+use Rattle.std.proofs.Common.{◌≡◌, ℕ, ◌∙◌, true, false, cond, [], ◌∷◌, ◌++◌, sym, ap, arith, length}
 use Rattle.std.specs.Prelude.{nat_le}
 use Rattle.std.proofs.lemmas.Bool.{le-leb, lt-leb}
 use Rattle.tie_walk.specs.Steps.Walks.{committees_from, those_reaching}
