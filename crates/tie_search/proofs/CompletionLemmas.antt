@@ -1,5 +1,5 @@
 -- Committees that complete a set, as its members grow and its free candidates are struck out.
-use Rattle.std.proofs.Common.{◌≡◌, ℕ, zero, suc, ◌+◌, ◌-◌, ◌*◌, ◌<◌, ◌≤◌, ◌==◌, ◌&&◌, ◌||◌, ◌∙◌, Bool, true, false, cond, not, List, [], ◌∷◌, ◌++◌, refl, sym, ap, arith, inl, inr, length, filter, sum, sum_by, take}
+use Rattle.std.proofs.Common.{◌≡◌, ℕ, ◌+◌, ◌-◌, ◌*◌, ◌<◌, ◌≤◌, ◌==◌, ◌&&◌, ◌||◌, ◌∙◌, Bool, true, false, cond, not, List, [], ◌∷◌, ◌++◌, refl, sym, ap, arith, inl, inr, length, filter, sum, take}
 use Rattle.std.proofs.lemmas.Bool.{cases_eq, eq-eqb, ne_eqb, cases_lt}
 use Rattle.std.proofs.lemmas.List.Filters.{length-filter_both}
 use Rattle.std.proofs.lemmas.List.Folds.{list_any-append}
@@ -7,7 +7,7 @@ use Rattle.std.proofs.lemmas.List.Sums.{sum_by-cons}
 use Rattle.ballot_base.specs.Lists.{IsIncreasing}
 use Rattle.ballot_base.specs.CandSet.{has_member, with_member, without_member}
 use Rattle.ballot_base.specs.Ballots.{Row, hits}
-use Rattle.ballot_base.proofs.Increasing.{IsIncreasing-filter, IsIncreasing-with_member, has_member-below, has_member-above, has_member-filter, has_member-with_member, has_member_head, same_increasing}
+use Rattle.ballot_base.proofs.Increasing.{IsIncreasing-filter, IsIncreasing-with_member, has_member-below, has_member-above, has_member-filter, has_member-with_member, same_increasing}
 use Rattle.tie_walk.specs.Values.{thiele_value}
 use Rattle.tie_search.specs.Completions.{IsOpen, IsCompletion}
 
@@ -88,6 +88,7 @@ with-longer m set n up low high new =
       | inl same ↦ ap (λ b. b && has_member (with_member set n) x) (eq-eqb x n same) ∙ with-is set n x same ∙ sym (ap (λ b. b || false) (eq-eqb n x (sym same)))
       | inr other ↦ ap (λ b. b && has_member (with_member set n) x) (ne_eqb x n other) ∙ sym (ap (λ b. b || false) (ne_eqb n x (λ e. other (sym e))))
     ]
+
     rest-is : (x : ℕ) → (not (x == n) && has_member (with_member set n) x) ≡ has_member set x
     rest-is x = elim (cases_eq x n) [
       | inl same ↦ ap (λ b. not b && has_member (with_member set n) x) (eq-eqb x n same) ∙ sym new ∙ ap (has_member set) (sym same)
@@ -162,6 +163,7 @@ module _ (m : ℕ) (set free : List ℕ) (left n : ℕ) (open' : IsOpen m set fr
       or-right : (p q : Bool) → q ≡ true → (p || q) ≡ true
       or-right true q h = refl
       or-right false q h = h
+
       or-more : (p q r : Bool) → (q ≡ true → r ≡ true) → (p || q) ≡ true → (p || r) ≡ true
       or-more true q r h is = refl
       or-more false q r h is = h is
@@ -233,6 +235,7 @@ module _ (m : ℕ) (set free : List ℕ) (left : ℕ) (committee : List ℕ) (op
       empty : (xs : List ℕ) → length xs ≡ 0 → xs ≡ []
       empty [] h = refl
       empty (x ∷ xs) h = absurd (omega (arith, h))
+
       or-false : (b : Bool) → (b || false) ≡ b
       or-false true = refl
       or-false false = refl

@@ -1,6 +1,6 @@
 -- The definitions of the search, worked out by hand. The value of a set is the sum of its numbers; of committees of two
 -- of the candidates 1 to 3 the best has 2 and 3.
-use Rattle.std.proofs.Common.{◌≡◌, ℕ, ◌+◌, ◌*◌, true, false, List, [], ◌∷◌, refl, sum}
+use Rattle.std.proofs.Common.{◌≡◌, true, false, [], ◌∷◌, refl, sum}
 use Rattle.ballot_base.specs.Lists.{lists_of}
 use Rattle.tie_search.specs.Completions.{is_reached, exact_bound}
 use Rattle.tie_search.specs.Prices.{kept, base, price}

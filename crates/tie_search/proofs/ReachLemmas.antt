@@ -1,5 +1,5 @@
 -- Bounds that are exact at the greatest value.
-use Rattle.std.proofs.Common.{◌≡◌, ℕ, zero, suc, ◌+◌, ◌-◌, ◌<◌, ◌≤◌, ◌==◌, ◌&&◌, ◌||◌, ◌∙◌, Bool, true, false, cond, List, [], ◌∷◌, ◌++◌, refl, sym, ap, subst, arith, inl, inr, length, filter, Contains, length-append}
+use Rattle.std.proofs.Common.{◌≡◌, ℕ, zero, suc, ◌+◌, ◌-◌, ◌<◌, ◌≤◌, ◌==◌, ◌&&◌, ◌||◌, ◌∙◌, Bool, true, false, cond, List, [], ◌∷◌, ◌++◌, refl, sym, ap, subst, arith, inl, inr, length, Contains, length-append}
 use Rattle.std.specs.Prelude.{nat_le}
 use Rattle.std.specs.List.{list_any, range_with_len}
 use Rattle.std.proofs.lemmas.Bool.{cases_eq, cases_lt, le-leb, leb-true, eq-eqb, ne_eqb}
@@ -8,14 +8,14 @@ use Rattle.std.proofs.lemmas.List.FromFn.{length-range_with_len}
 use Rattle.ballot_base.specs.Lists.{IsIncreasing, increasing_lists}
 use Rattle.ballot_base.specs.CandSet.{has_member, members_upto}
 use Rattle.ballot_base.proofs.Committees.{chosen-from_contains, increasing_lists-contains}
-use Rattle.ballot_base.proofs.Increasing.{IsIncreasing-filter, IsIncreasing-higher, IsIncreasing-lower, has_member-above, has_member-below, has_member-filter, same_increasing}
-use Rattle.tie_walk.specs.Ceilings.{IsBound, IsSubmodular, ceiling, IsAdded, IsExactAtBest}
-use Rattle.tie_walk.specs.Winners.{best_value, winners}
+use Rattle.ballot_base.proofs.Increasing.{IsIncreasing-filter, IsIncreasing-higher, IsIncreasing-lower, has_member-above, has_member-filter, same_increasing}
+use Rattle.tie_walk.specs.Ceilings.{IsAdded, IsBound, IsExactAtBest, IsSubmodular, ceiling}
+use Rattle.tie_walk.specs.Winners.{best_value}
 use Rattle.tie_walk.proofs.LawLemmas.{IsIncreasing-range, no_greater_value, some_winner, winner-is}
 use Rattle.tie_walk.proofs.StepLemmas.{has_member-range}
 use Rattle.tie_walk.proofs.Submodular.{ceiling-bounds}
 use Rattle.tie_search.specs.Completions.{IsOpen, IsCompletion, IsReaching, IsOutOfReach, is_reached, exact_bound}
-use Rattle.tie_search.proofs.CompletionLemmas.{added, added-increasing, added-size, and-true, completion-members, member-low, member-high}
+use Rattle.tie_search.proofs.CompletionLemmas.{added, added-size, and-true, completion-members, member-low, member-high}
 
 -- ---- tests of lists
 
@@ -71,10 +71,13 @@ module _ (value : List ℕ → ℕ) (m c : ℕ) (set free : List ℕ) (left : �
   parts : (committee : List ℕ) → IsCompletion m set free left committee → (more : List ℕ) × IsIncreasing (c + 1) m more × (length more ≡ left) × (committee ≡ set ++ more)
   parts committee whole =
       let more = added m set free left committee open-after whole in
-      let rises : IsIncreasing (c + 1) m more = IsIncreasing-filter (has_member committee) (c + 1) m free after in
-      (more, rises, added-size m set free left committee open-after whole,
-      same_increasing 1 m committee (set ++ more) whole.candidates (increasing-append 1 c m set more (omega arith) within up rises)
-      (completion-members m set free left committee open-after whole))
+      let rises : IsIncreasing (c + 1) m more = IsIncreasing-filter (has_member committee) (c + 1) m free after in (
+        more,
+        rises,
+        added-size m set free left committee open-after whole,
+        same_increasing 1 m committee (set ++ more) whole.candidates (increasing-append 1 c m set more (omega arith) within up rises)
+            (completion-members m set free left committee open-after whole),
+      )
 
   -- a committee was found
   pub reached-found : (least : ℕ) (committee : List ℕ) → IsReaching value m set free left least committee → is_reached value m c set left least ≡ true
@@ -148,6 +151,7 @@ module _ (value : List ℕ → ℕ) (m k c : ℕ) (set : List ℕ) (left : ℕ) 
     where
       at-size : length set + left ≡ k → exact_bound value m k c set left ≡ cond (is_reached value m c set left (best_value value m k)) (best_value value m k) (best_value value m k - 1)
       at-size whole = ap (λ b. cond b (cond (is_reached value m c set left (best_value value m k)) (best_value value m k) (best_value value m k - 1)) (ceiling value m c set left)) (eq-eqb (length set + left) k whole)
+
       at-other : (length set + left ≡ k → ⊥) → exact_bound value m k c set left ≡ ceiling value m c set left
       at-other other = ap (λ b. cond b (cond (is_reached value m c set left (best_value value m k)) (best_value value m k) (best_value value m k - 1)) (ceiling value m c set left)) (ne_eqb (length set + left) k other)
 
@@ -175,9 +179,11 @@ exact-at_best value m k c set left within up whole fits reaches = by (is_reached
         let some = any-found (λ more. nat_le (best_value value m k) (value (set ++ more))) (increasing_lists (c + 1) m left) e in
         let chosen = chosen-from_contains (c + 1) m left some.0 some.1 in
         (some.0, (chosen.0, chosen.1), leb-true (best_value value m k) (value (set ++ some.0)) some.2)
-    by false e =
-        (range_with_len (c + 1) left, (IsIncreasing-range (c + 1) left m (omega (arith, within, fits)), length-range_with_len (c + 1) left),
-        omega (arith, reaches, exact-short value m k c set left within up whole e))
+    by false e = (
+      range_with_len (c + 1) left,
+      (IsIncreasing-range (c + 1) left m (omega (arith, within, fits)), length-range_with_len (c + 1) left),
+      omega (arith, reaches, exact-short value m k c set left within up whole e),
+    )
 
 -- ---- the greatest value
 

@@ -1,23 +1,23 @@
 -- The bound of a node of the search, and what a node that was searched leaves.
-use Rattle.std.proofs.Common.{◌≡◌, ℕ, zero, suc, ◌+◌, ◌-◌, ◌*◌, ◌^◌, ◌<◌, ◌≤◌, ◌==◌, ◌&&◌, ◌||◌, ◌∙◌, Bool, true, false, not, cond, List, [], ◌∷◌, ◌++◌, refl, sym, ap, arith, inl, inr, length, filter, get_or, sum_by}
+use Rattle.std.proofs.Common.{◌≡◌, ℕ, suc, ◌+◌, ◌-◌, ◌*◌, ◌^◌, ◌<◌, ◌≤◌, ◌==◌, ◌||◌, ◌∙◌, Bool, true, false, cond, List, [], ◌∷◌, ◌++◌, refl, sym, ap, arith, inl, inr, length, filter, get_or, sum_by}
 use Rattle.std.specs.Prelude.{IsTrue}
-use Rattle.std.proofs.lemmas.Bool.{cases_eq, eq-eqb, cases_lt}
+use Rattle.std.proofs.lemmas.Bool.{cases_lt}
 use Rattle.std.proofs.lemmas.List.Folds.{list_any-append}
 use Rattle.std.proofs.lemmas.List.Sums.{sum_by-cons}
 use Rattle.ballot_base.specs.Limits.{most_members}
 use Rattle.ballot_base.specs.Lists.{IsIncreasing}
 use Rattle.ballot_base.specs.CandSet.{has_member, with_member, without_member}
-use Rattle.ballot_base.specs.Ballots.{Election, IsElection}
+use Rattle.ballot_base.specs.Ballots.{IsElection}
 use Rattle.ballot_base.specs.Increments.{increments}
 use Rattle.ballot_base.proofs.Increasing.{IsIncreasing-lower, has_member-with_member, has_member_head}
 use Rattle.tie_walk.specs.Ceilings.{IsSubmodular, gain_at}
 use Rattle.tie_walk.specs.Sequences.{gain}
-use Rattle.tie_walk.specs.Values.{thiele_value, Thiele}
+use Rattle.tie_walk.specs.Values.{Thiele}
 use Rattle.tie_walk.proofs.Gains.{thiele-gain, thiele-most}
 use Rattle.tie_walk.proofs.TableLemmas.{increments_sum-most, sum-take-le}
 use Rattle.tie_walk.proofs.Submodular.{gains-bound, thiele_rule-submodular}
 use Rattle.tie_search.specs.Completions.{IsOpen, IsCompletion, IsReaching, IsOutOfReach, value_by}
-use Rattle.tie_search.proofs.CompletionLemmas.{added, added-increasing, added-free, added-size, completion-few, completion-members, completion-whole, completion-self, completion-with, completion-without, completion-back, open-without, without-is, thiele-same}
+use Rattle.tie_search.proofs.CompletionLemmas.{added, added-free, added-size, completion-few, completion-members, completion-whole, completion-self, completion-with, completion-without, completion-back, without-is, thiele-same}
 
 -- ---- sums
 
@@ -32,6 +32,7 @@ sum-threshold f g t (x ∷ xs) less =
     or-true : (p q : Bool) → q ≡ true → (p || q) ≡ true
     or-true true q h = refl
     or-true false q h = h
+
     times : (n t : ℕ) → suc n * t ≡ n * t + t
     times n t = omega arith
 
@@ -57,8 +58,11 @@ rest-increasing last xs rest first is up =
 -- no value is too large to add to
 pub value-most : (tally : Thiele) (set : List ℕ) → IsElection tally.election → tally.k ≤ most_members → value_by tally set ≤ 2 ^ 116
 value-most tally set valid size =
-    omega (arith, thiele-most tally.election (increments tally.rule tally.k) set (2 ^ 84) valid
-    (λ x. omega (arith, sum-take-le (increments tally.rule tally.k) x, increments_sum-most tally.rule tally.k size)))
+    omega (
+      arith,
+      thiele-most tally.election (increments tally.rule tally.k) set (2 ^ 84) valid
+          (λ x. omega (arith, sum-take-le (increments tally.rule tally.k) x, increments_sum-most tally.rule tally.k size)),
+    )
 
 -- ---- the bound of a node
 
@@ -109,8 +113,11 @@ module _ (tally : Thiele) (set free : List ℕ) (left least : ℕ) where
       bound : value_by tally committee ≤ value_by tally set + left * t + sum_by (λ n. get_or gains n 0 - t) free
       bound = node-bounds (value_by tally) (thiele_rule-submodular tally.rule tally.k tally.election.rows size)
           (thiele-same (increments tally.rule tally.k) tally.election.rows) tally.election.m set free left t (λ n. get_or gains n 0) committee open' whole
-          (λ n in_. omega (arith, are n in_,
-          thiele-gain tally.election.m (increments tally.rule tally.k) tally.election.rows set n valid.ballots (open'.apart n in_)))
+          (λ n in_. omega (
+            arith,
+            are n in_,
+            thiele-gain tally.election.m (increments tally.rule tally.k) tally.election.rows set n valid.ballots (open'.apart n in_),
+          ))
 
 module _ (value : List ℕ → ℕ) (m : ℕ) (set : List ℕ) (left least : ℕ) where
   -- the committees that reach the value are among those of fewer free candidates

@@ -27,9 +27,9 @@ pub record IsCompletion (m : ℕ) (set free : List ℕ) (left : ℕ) (committee 
 
 -- the committee completes the set, and has at least the value
 pub record IsReaching (value : List ℕ → ℕ) (m : ℕ) (set free : List ℕ) (left least : ℕ) (committee : List ℕ) : Type 0
-    where
-  pub completes : IsCompletion m set free left committee
-  pub reaches : least ≤ value committee
+  where
+    pub completes : IsCompletion m set free left committee
+    pub reaches : least ≤ value committee
 
 -- no committee that completes the set has so great a value
 abbrev pub IsOutOfReach : (List ℕ → ℕ) → ℕ → List ℕ → List ℕ → ℕ → ℕ → Type 0

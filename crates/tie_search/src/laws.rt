@@ -28,8 +28,8 @@ pub fn thresholds()
     ensures { (rule : ThieleRule) (k : ℕ) (rows : List Row) (m : ℕ) (set free : List ℕ) (left threshold : ℕ)
         (committee : List ℕ) → k ≤ most_members → IsOpen m set free → IsCompletion m set free left committee
         → thiele_value (increments rule k) rows committee ≤ thiele_value (increments rule k) rows set
-            + left * threshold
-            + sum_by (λ n. gain_at (thiele_value (increments rule k) rows) set n - threshold) free }
+        + left * threshold
+        + sum_by (λ n. gain_at (thiele_value (increments rule k) rows) set n - threshold) free }
 {}
 
 /// Prices bound values: whatever multiplier is chosen for each row, no committee is worth more than what all voters keep
@@ -38,11 +38,11 @@ pub fn prices()
     ensures committees { (weights : List ℕ) (scale m : ℕ) (priced : List Priced) (committee : List ℕ)
         → AllByRecursion (λ row. IsIncreasing 1 m row.0) (rows_of priced) → IsIncreasing 1 m committee
         → scale * thiele_value weights (rows_of priced) committee
-            ≤ base weights scale priced + sum_by (price priced) committee }
+        ≤ base weights scale priced + sum_by (price priced) committee }
     ensures completions { (weights : List ℕ) (scale m : ℕ) (priced : List Priced) (set free : List ℕ)
         (left threshold : ℕ) (committee : List ℕ) → AllByRecursion (λ row. IsIncreasing 1 m row.0) (rows_of priced)
         → IsOpen m set free → IsCompletion m set free left committee
         → scale * thiele_value weights (rows_of priced) committee
-            ≤ base weights scale priced + sum_by (price priced) set + left * threshold
-            + sum_by (λ n. price priced n - threshold) free }
+        ≤ base weights scale priced + sum_by (price priced) set + left * threshold
+        + sum_by (λ n. price priced n - threshold) free }
 {}

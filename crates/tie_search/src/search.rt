@@ -28,7 +28,14 @@ pub fn find<A: Allocator + Copy>(
     let (value, gains) = tally.value_and_gains(set, free);
     let order = Order::by_worth(free, &gains);
     let mut rest = free;
-    while may_reach(value, &gains, rest, left, order.threshold(rest, left, &gains), least) {
+    while may_reach(
+        value,
+        &gains,
+        rest,
+        left,
+        order.threshold(rest, left, &gains),
+        least,
+    ) {
         let next = order.first_of(rest)?;
         rest = rest.without(next);
         let found = find(tally, set.with(next), rest, left - 1, least);

@@ -1,4 +1,4 @@
-use Rattle.std.proofs.Common.{arith, ℕ}
+use Rattle.std.proofs.Common.{arith}
 use Rattle.ballot_base.specs.Increments.{increments}
 use Rattle.tie_walk.specs.Ceilings.{gain_at}
 use Rattle.tie_walk.specs.Values.{thiele_value}

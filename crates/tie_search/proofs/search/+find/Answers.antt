@@ -1,7 +1,6 @@
-use Rattle.std.proofs.Common.{◌≡◌, ℕ, ◌-◌, ◌≤◌, ◌<◌, true, arith, ap, sym, subst, rules, length, List}
-use Rattle.ballot_base.specs.Limits.{most_candidates}
-use Rattle.ballot_base.specs.CandSet.{has_member, with_member, without_member}
-use Rattle.tie_search.specs.Completions.{IsOpen, IsOutOfReach, IsReaching, value_by}
+use Rattle.std.proofs.Common.{arith}
+use Rattle.ballot_base.specs.CandSet.{with_member, without_member}
+use Rattle.tie_search.specs.Completions.{IsOpen, value_by}
 use Rattle.tie_search.proofs.CompletionLemmas.{member-low, member-high, open-with, open-without, without-is, without-shorter}
 use Rattle.tie_search.proofs.SearchLemmas.{AreLeft, found-below, node-none, none-left, not-true, set-short, struck-out, value-most}
 use Rattle.tie_search.proofs.search.+find.Goals as goal
@@ -28,8 +27,11 @@ with-requires-clause-low g t c =
 
 pub with-requires-clause-high : goal.with-requires-clause-high
 with-requires-clause-high g t c =
-    omega (arith, c.valid.ensures.election.most,
-    member-high 1 c.args.tally.now.election.m c.loop-set.rest c.in_ok-next.next c.loop-set.invariant.opened.free_within c.in_ok-next.ensures)
+    omega (
+      arith,
+      c.valid.ensures.election.most,
+      member-high 1 c.args.tally.now.election.m c.loop-set.rest c.in_ok-next.next c.loop-set.invariant.opened.free_within c.in_ok-next.ensures,
+    )
 
 pub find-found-requires : goal.find-found-requires
 find-found-requires g t c κs within =
@@ -65,5 +67,7 @@ returns g t c =
     none-left (value_by c.args.tally.now) c.args.tally.now.election.m c.args.set c.args.left c.args.least c.args.free c.loop-set.rest c.loop-set.invariant.kept
     (node-none c.args.tally.now c.args.set c.loop-set.rest c.args.left c.args.least c.valid.ensures.election c.valid.ensures.size c.loop-set.invariant.opened
     c.threshold.result c.value_and_gains-value.result.1 (λ n h. c.value_and_gains-value.ensures.gains n (c.loop-set.invariant.among n h))
-    (λ both. not-true c.may_reach.result c.loop-set-test.false (c.may_reach.ensures.1 (both.0,
-    omega (arith, both.1, c.value_and_gains-value.ensures.value)))))
+    (λ both. not-true c.may_reach.result c.loop-set-test.false (c.may_reach.ensures.1 (
+      both.0,
+      omega (arith, both.1, c.value_and_gains-value.ensures.value),
+    ))))

@@ -1,10 +1,10 @@
-use Rattle.std.proofs.Common.{◌≡◌, ℕ, ◌+◌, ◌-◌, ◌≤◌, List, ap, sym, subst, arith, ◌∙◌, length}
+use Rattle.std.proofs.Common.{◌≡◌, ◌-◌, ◌≤◌, ap, sym, subst, arith, ◌∙◌}
 use Rattle.ballot_base.specs.Limits.{most_members}
-use Rattle.tie_walk.specs.Ceilings.{IsBound, IsSubmodular, ceiling}
+use Rattle.tie_walk.specs.Ceilings.{IsBound, ceiling}
 use Rattle.tie_walk.specs.Values.{Thiele}
 use Rattle.tie_walk.specs.Winners.{best_value}
 use Rattle.tie_walk.proofs.Submodular.{thiele_rule-submodular}
-use Rattle.tie_search.specs.Completions.{exact_bound, is_reached, value_by}
+use Rattle.tie_search.specs.Completions.{value_by}
 use Rattle.tie_search.proofs.ReachLemmas.{exact-bounds, exact-other, exact-reached, exact-short}
 use Rattle.tie_search.proofs.tally.SearchTallyTally.bound.Goals as goal
 
