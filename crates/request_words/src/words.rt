@@ -342,9 +342,9 @@ fn classes_option<'a>(alloc: Global) -> Arg<'a>
 fn file_word<'a>(alloc: Global) -> Arg<'a>
     ensures { IsArgument file_word result }
 {
-    Arg::new(alloc, "file").value_name("FILE").help(
-        "The ballots, a PrefLib file [default: standard input]",
-    )
+    Arg::new(alloc, "file")
+        .value_name("FILE")
+        .help("The ballots, a PrefLib file [default: standard input]")
 }
 
 // The request in what clap found for the command of this name.

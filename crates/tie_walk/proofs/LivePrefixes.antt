@@ -41,7 +41,7 @@ module _ (bound : ℕ → List ℕ → ℕ → ℕ) (m k best : ℕ) (after : Op
   live-counted prefix live c low =
       let whole = upto-all 1 prefix.c prefix.set live.0 in
       let last : is_ahead m k after prefix.c (members_upto prefix.set prefix.c) ≡ true =
-          subst (λ set. is_ahead m k after prefix.c set ≡ true) (sym whole) live.3 in
+      subst (λ set. is_ahead m k after prefix.c set ≡ true) (sym whole) live.3 in
       counted (m - c) c (members_upto prefix.set c) (live.2 c low)
       (ahead-down (prefix.c - c) c prefix.c prefix.set (omega (arith, low)) last)
 
@@ -50,8 +50,7 @@ module _ (bound : ℕ → List ℕ → ℕ → ℕ) (m k best : ℕ) (after : Op
       → IsLive bound m k best after prefix
   counted-live prefix up inside each =
       let whole = upto-all 1 prefix.c prefix.set up in
-      let last = ahead-counted (m - prefix.c) prefix.c (members_upto prefix.set prefix.c) (each prefix.c (omega arith)) in
-      (
+      let last = ahead-counted (m - prefix.c) prefix.c (members_upto prefix.set prefix.c) (each prefix.c (omega arith)) in (
         up,
         inside,
         λ c low. open-counted (m - c) c (members_upto prefix.set c) (each c low),
