@@ -1,8 +1,8 @@
 -- The definitions of the search, worked out by hand. The value of a set is the sum of its numbers; of committees of two
 -- of the candidates 1 to 3 the best has 2 and 3.
-use Rattle.std.proofs.Common.{◌≡◌, true, false, [], ◌∷◌, refl, sum}
+use Rattle.std.proofs.Common.{◌≡◌, true, false, [], ◌∷◌, refl, sum, lit≤, lit<, arith}
 use Rattle.ballot_base.specs.Lists.{lists_of}
-use Rattle.tie_search.specs.Completions.{is_reached, exact_bound}
+use Rattle.tie_search.specs.Completions.{IsOpen, IsCompletion, IsReaching, IsOutOfReach, is_reached, exact_bound}
 use Rattle.tie_search.specs.Prices.{kept, base, price}
 
 best-at_root : exact_bound sum 3 2 0 [] 2 ≡ 5
@@ -31,6 +31,31 @@ reached-four = refl
 short-five : is_reached sum 3 1 (1 ∷ []) 1 5 ≡ false
 unfolding lists_of
 short-five = refl
+
+-- ---- committees that complete a set
+
+two_are_free : IsOpen 3 (1 ∷ []) (2 ∷ 3 ∷ [])
+two_are_free = record {
+  set_within = (lit≤ tt, lit≤ tt, tt);
+  free_within = (lit≤ tt, lit≤ tt, (lit≤ tt, lit≤ tt, tt));
+  apart = λ n is. grind (arith, is);
+}
+
+three_completes : IsCompletion 3 (1 ∷ []) (2 ∷ 3 ∷ []) 1 (1 ∷ 3 ∷ [])
+three_completes = record {
+  candidates = (lit≤ tt, lit≤ tt, (lit≤ tt, lit≤ tt, tt));
+  whole = λ n is. grind (arith, is);
+  within = λ n is. grind (arith, is);
+  size = refl;
+}
+
+four_is_reached : IsReaching sum 3 (1 ∷ []) (2 ∷ 3 ∷ []) 1 4 (1 ∷ 3 ∷ [])
+four_is_reached = record { completes = three_completes; reaches = lit≤ tt }
+
+-- where nobody is added, nobody gives a value
+nothing_is_reached : IsOutOfReach sum 3 [] (1 ∷ []) 0 1
+nothing_is_reached [] whole = lit< tt
+nothing_is_reached (x ∷ committee) whole = absurd (omega (arith, whole.size))
 
 -- ---- prices: a voter gives 6 for a hit, 3 more for a second and 2 more for a third, and each hit costs 3
 
