@@ -50,7 +50,7 @@ impl ThieleRule {
         }
     }
 
-    /// The rule of a name. There is none of any other text, one in capital letters too.
+    /// The rule that has this name, if one has; upper and lower case differ.
     pub fn named(name: &str) -> Option<ThieleRule>
         ensures { result ≡ thiele_named name.now }
     {

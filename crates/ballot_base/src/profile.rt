@@ -26,7 +26,7 @@ type Names<A> = Vec<Vec<u8, A>, A>;
 pub enum AddFault {
     /// There would be more than `MOST_VOTERS` voters.
     TooManyVoters,
-    /// A growth was refused.
+    /// An allocation failed.
     Memory,
 }
 

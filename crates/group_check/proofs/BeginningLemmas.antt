@@ -22,7 +22,7 @@ use Rattle.group_check.specs.declared.property.Violation.{Violation}
 use Rattle.group_check.specs.contracts.property.Property.{the_type}
 use denote.Enum.Bare.{sameb}
 use Rattle.group_check.specs.Groups.{ballots_of}
-use Rattle.group_check.specs.Report.{includes, violation_of, is_behind, group_of, supporters, lists_within, lists_shared, pair_breaks, first_violation}
+use Rattle.group_check.specs.Report.{includes, violation_of, is_supporter, group_of, supporters, lists_within, lists_shared, pair_breaks, first_violation}
 use Rattle.group_check.specs.Steps.Checking.{IsChoice, IsFirst, IsSecond, greatest_level, shared_size, may_share, is_possible, first_of, first_of_lists, pairs_of, sublists, completions, is_large, is_below, is_around, is_enough_within, voters_below, voters_around, possible_candidates}
 use Rattle.group_check.proofs.SetLemmas.{passes_at, kept_all, or_second, length-within, length-common_members, IsIncreasing-range}
 use Rattle.group_check.proofs.TestLemmas.{list_all-weaker, list_all-filter, found_passes}
@@ -99,7 +99,7 @@ has_second a b n h k = second (has_member a n) (has_member b n) (sym (list_any-a
 
 -- a voter whose approved members lie in U stays within what can become U
 stays : (m : ℕ) (committee shared within pool : List ℕ) (left level : ℕ) (tail ballot : List ℕ) → IsTail 1 m pool left tail → IsIncreasing 1 m ballot
-    → is_behind Pjr committee level (shared, within ++ tail) ballot ≡ true → is_around committee shared within pool left ballot ≡ true
+    → is_supporter Pjr committee level (shared, within ++ tail) ballot ≡ true → is_around committee shared within pool left ballot ≡ true
 stays m committee shared within pool left level tail ballot is i behind =
     let approved = common_members ballot committee in
     let parts = and_parts (includes ballot shared) (includes (within ++ tail) approved) behind in
@@ -124,7 +124,7 @@ stays m committee shared within pool left level tail ballot is i behind =
 
 -- with nothing left to choose these are the supporters of T and U
 around_whole : (committee shared within pool : List ℕ) (level left : ℕ) (ballot : List ℕ) → left ≡ 0
-    → is_around committee shared within pool left ballot ≡ is_behind Pjr committee level (shared, within) ballot
+    → is_around committee shared within pool left ballot ≡ is_supporter Pjr committee level (shared, within) ballot
 around_whole committee shared within pool level left ballot none =
     let approved = common_members ballot committee in
     let kept = length (common_members approved within) in
@@ -146,7 +146,7 @@ module _ (e : Election) (committee : List ℕ) (level : ℕ) (shared : List ℕ)
       sym (none_passes (is_enough_within e committee level shared) (completions within pool left)
       (AllByRecursion-map (λ u. is_enough_within e committee level shared u ≡ false) (λ rest. within ++ rest) (sublists pool left)
       (AllByRecursion-weaker (IsTail 1 e.m pool left) (λ rest. is_enough_within e committee level shared (within ++ rest) ≡ false)
-      (λ rest is. too_small e committee level (is_behind Pjr committee level (shared, within ++ rest)) (is_around committee shared within pool left) valid
+      (λ rest is. too_small e committee level (is_supporter Pjr committee level (shared, within ++ rest)) (is_around committee shared within pool left) valid
       (λ ballot j h. stays e.m committee shared within pool left level rest ballot is j h) few)
       (sublists pool left) (tails 1 e.m pool left (IsIncreasing-rest 1 e.m within pool i)))))
 
@@ -158,7 +158,7 @@ module _ (e : Election) (committee : List ℕ) (level : ℕ) (shared : List ℕ)
       → is_large e committee level (sum (voters_around e committee shared within pool left)) ≡ true
       → Some within ≡ find (is_enough_within e committee level shared) (completions within pool left)
   found_whole within pool left none large =
-      let same = group_of-same (is_around committee shared within pool left) (is_behind Pjr committee level (shared, within)) e.rows
+      let same = group_of-same (is_around committee shared within pool left) (is_supporter Pjr committee level (shared, within)) e.rows
       (λ ballot. around_whole committee shared within pool level left ballot none) in
       let enough : is_enough_within e committee level shared within ≡ true = ap (λ group. is_large e committee level (sum group)) (sym same) ∙ large in
       ap (λ b. cond b (Some within) None) (sym enough) ∙ ap (find (is_enough_within e committee level shared)) (sym (whole within pool left none))
@@ -178,7 +178,7 @@ includes-front ballot front rest h =
 
 -- a ballot that supports T and U has fewer members than the level
 few_members : (property : Property) (m : ℕ) (committee : List ℕ) (level : ℕ) (pair : List ℕ × List ℕ) (ballot : List ℕ) → 1 ≤ level → IsSecond property m level pair.1 → IsIncreasing 1 m ballot
-    → is_behind property committee level pair ballot ≡ true → (includes ballot pair.0 ≡ true) × (nat_lt (length (common_members ballot committee)) level ≡ true)
+    → is_supporter property committee level pair ballot ≡ true → (includes ballot pair.0 ≡ true) × (nat_lt (length (common_members ballot committee)) level ≡ true)
 few_members Jr m committee level pair ballot least second i h =
     let parts = and_parts (includes ballot pair.0) (nat_lt (hits ballot committee) level) h in
     (parts.0, ap (λ n. nat_lt n level) (length-common_members ballot committee) ∙ parts.1)
@@ -203,7 +203,7 @@ module _ (property : Property) (e : Election) (committee : List ℕ) (level : �
       → is_large e committee level (sum (voters_below e committee level front)) ≡ false → pair_breaks property e committee level (shared, within) ≡ false
   small_front front shared within valid least second part few =
       small_pair property e committee level (shared, within)
-      (too_small e committee level (is_behind property committee level (shared, within)) (is_below committee level front) valid
+      (too_small e committee level (is_supporter property committee level (shared, within)) (is_below committee level front) valid
       (λ ballot i h.
       let known = few_members property e.m committee level (shared, within) ballot least second i h in
       and_from (includes ballot front) (nat_lt (length (common_members ballot committee)) level) (part ballot known.0) known.1) few)
@@ -433,8 +433,8 @@ module _ (e : Election) (committee : List ℕ) (level : ℕ) where
       fewer : (shared within : List ℕ) → is_large e committee level (sum (supporters Pjr e committee level ([], within))) ≡ false
           → is_large e committee level (sum (supporters Pjr e committee level (shared, within))) ≡ false
       fewer shared within =
-          let test = is_behind Pjr committee level (shared, within) in
-          let other = is_behind Pjr committee level ([], within) in
+          let test = is_supporter Pjr committee level (shared, within) in
+          let other = is_supporter Pjr committee level ([], within) in
           no_longer (is_large e committee level (sum (supporters Pjr e committee level (shared, within)))) (is_large e committee level (sum (supporters Pjr e committee level ([], within))))
           (large_more e committee level (sum (supporters Pjr e committee level (shared, within))) (sum (supporters Pjr e committee level ([], within)))
           (group-le other e.rows (group_of test e.rows) (group_of-group test e.rows)

@@ -12,7 +12,7 @@ use Rattle.group_check.specs.declared.property.Property.{Property}
 use Rattle.group_check.specs.declared.property.Property.TheVariants.{Jr, Pjr, Ejr, EjrPlus}
 use Rattle.group_check.specs.declared.property.Violation.{Violation}
 use Rattle.group_check.specs.Groups.{IsGroup, ballots_of, common_candidates, represented, is_cohesive, is_outside, all_below, Breaks, SomeGroupBreaks}
-use Rattle.group_check.specs.Report.{includes, is_behind, is_in_group, group_of, supporters, lists_within, lists_shared, pairs_at, pair_breaks, violation_of, first_violation}
+use Rattle.group_check.specs.Report.{includes, is_supporter, is_in_group, group_of, supporters, lists_within, lists_shared, pairs_at, pair_breaks, violation_of, first_violation}
 use Rattle.group_check.specs.Steps.Checking.{greatest_level, IsFirst, IsSecond, is_large}
 use Rattle.group_check.proofs.TestLemmas.{list_all-weaker, list_all-both, is_some-find, found_passes, list_any-filter, list_any-contains, list_any-map, list_any-flat_map}
 use Rattle.group_check.proofs.SetLemmas.{all_pass, widened}
@@ -48,7 +48,7 @@ pub pair_breaks-is : (property : Property) (e : Election) (committee : List ℕ)
 pair_breaks-is Jr e committee level shared within i least most choice second =
     let group = supporters Jr e committee level (shared, within) in
     let ballots = ballots_of e.rows group in
-    let test = is_behind Jr committee level (shared, within) in
+    let test = is_supporter Jr committee level (shared, within) in
     let all : list_all test ballots ≡ true = group_of-pass test e.rows in
     let one : level ≡ 1 = omega (arith, least, most) in
     let agree = le-leb level (length (common_candidates e.m ballots)) (all_agree e.m level ballots shared choice.0
@@ -59,7 +59,7 @@ pair_breaks-is Jr e committee level shared within i least most choice second =
 pair_breaks-is Pjr e committee level shared within i least most choice second =
     let group = supporters Pjr e committee level (shared, within) in
     let ballots = ballots_of e.rows group in
-    let test = is_behind Pjr committee level (shared, within) in
+    let test = is_supporter Pjr committee level (shared, within) in
     let all : list_all test ballots ≡ true = group_of-pass test e.rows in
     let agree = le-leb level (length (common_candidates e.m ballots)) (all_agree e.m level ballots shared choice.0
     (list_all-weaker test (λ b. includes b shared) (λ b h. (and_parts (includes b shared) (includes within (common_members b committee)) h).0) ballots all)) in
@@ -71,7 +71,7 @@ pair_breaks-is Pjr e committee level shared within i least most choice second =
 pair_breaks-is Ejr e committee level shared within i least most choice second =
     let group = supporters Ejr e committee level (shared, within) in
     let ballots = ballots_of e.rows group in
-    let test = is_behind Ejr committee level (shared, within) in
+    let test = is_supporter Ejr committee level (shared, within) in
     let all : list_all test ballots ≡ true = group_of-pass test e.rows in
     let agree = le-leb level (length (common_candidates e.m ballots)) (all_agree e.m level ballots shared choice.0
     (list_all-weaker test (λ b. includes b shared) (λ b h. (and_parts (includes b shared) (nat_lt (hits b committee) level) h).0) ballots all)) in
@@ -80,7 +80,7 @@ pair_breaks-is Ejr e committee level shared within i least most choice second =
 pair_breaks-is EjrPlus e committee level shared within i least most choice second =
     let group = supporters EjrPlus e committee level (shared, within) in
     let ballots = ballots_of e.rows group in
-    let test = is_behind EjrPlus committee level (shared, within) in
+    let test = is_supporter EjrPlus committee level (shared, within) in
     let all : list_all test ballots ≡ true = group_of-pass test e.rows in
     let approve = list_all-weaker test (λ b. includes b shared) (λ b h. (and_parts (includes b shared) (nat_lt (hits b committee) level) h).0) ballots all in
     let below : all_below level committee ballots ≡ true = list_all-weaker test (λ b. nat_lt (hits b committee) level) (λ b h. (and_parts (includes b shared) (nat_lt (hits b committee) level) h).1) ballots all in
@@ -97,11 +97,11 @@ large_more e committee level few many more h =
 -- T and U that a group supports which is large enough
 enough : (property : Property) (e : Election) (committee : List ℕ) (level : ℕ) (group shared within : List ℕ)
     → IsIncreasing 1 e.m committee → 1 ≤ level → level ≤ greatest_level property committee → IsFirst property e.m committee level shared → IsSecond property e.m level within
-    → IsGroup e.rows group → is_large e committee level (sum group) ≡ true → list_all (is_behind property committee level (shared, within)) (ballots_of e.rows group) ≡ true
+    → IsGroup e.rows group → is_large e committee level (sum group) ≡ true → list_all (is_supporter property committee level (shared, within)) (ballots_of e.rows group) ≡ true
     → pair_breaks property e committee level (shared, within) ≡ true
 enough property e committee level group shared within i least most choice second g large all =
     pair_breaks-is property e committee level shared within i least most choice second
-    ∙ large_more e committee level (sum group) (sum (supporters property e committee level (shared, within))) (group-le (is_behind property committee level (shared, within)) e.rows group g all) large
+    ∙ large_more e committee level (sum group) (sum (supporters property e committee level (shared, within))) (group-le (is_supporter property committee level (shared, within)) e.rows group g all) large
 
 -- a T that passes is one of the lists of its level
 any_shared : (property : Property) (m : ℕ) (committee : List ℕ) (level : ℕ) (test : List ℕ → Bool) (shared : List ℕ) → IsFirst property m committee level shared → test shared ≡ true
@@ -217,7 +217,7 @@ some_group property e committee level report first =
     let test = pair_breaks property e committee level in
     let pairs = pairs_at property e.m committee level in
     let found = find-some (violation_of property e committee level) (find test pairs) report first in
-    (supporters property e committee level found.0, group_of-group (is_behind property committee level found.0) e.rows, found_passes test pairs found.0 found.1)
+    (supporters property e committee level found.0, group_of-group (is_supporter property committee level found.0) e.rows, found_passes test pairs found.0 found.1)
 
 -- no group breaks justified representation above level 1
 pub above_greatest : (property : Property) (e : Election) (committee : List ℕ) (level : ℕ) → level ≤ length committee → greatest_level property committee < level → SomeGroupBreaks property e committee level → ⊥

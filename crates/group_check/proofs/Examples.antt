@@ -4,7 +4,7 @@ use Rattle.ballot_base.specs.Lists.{lists_of}
 use Rattle.ballot_base.specs.Ballots.{Election, election}
 use Rattle.group_check.specs.declared.property.Property.TheVariants.{Jr, Pjr, Ejr, EjrPlus}
 use Rattle.group_check.specs.Groups.{IsGroup, ballots_of, common_candidates, represented, is_large_enough, is_outside, is_cohesive, all_below, breaks, Breaks, SomeGroupBreaks, HasProperty}
-use Rattle.group_check.specs.Report.{includes, is_behind, is_in_group, group_of, supporters, lists_within, lists_shared, pairs_at, pair_breaks, violation_of, first_violation, IsReport}
+use Rattle.group_check.specs.Report.{includes, is_supporter, is_in_group, group_of, supporters, lists_within, lists_shared, pairs_at, pair_breaks, violation_of, first_violation, IsReport}
 use Rattle.group_check.specs.Steps.Checking.{greatest_level, shared_size, may_share, is_possible, IsChoice, IsFirst, IsSecond, Computes, first_of, first_of_lists, pairs_of, sublists, completions, is_large, is_below, is_around, is_enough_within, voters_below, voters_around, possible_candidates}
 use Rattle.group_check.proofs.BreakLemmas.{no_group, above_greatest}
 
@@ -212,16 +212,16 @@ included = refl
 not_included : includes (1 ∷ 2 ∷ []) (1 ∷ 3 ∷ []) ≡ false
 not_included = refl
 
-behind_one_and_two : is_behind Pjr (3 ∷ 4 ∷ []) 2 (1 ∷ 2 ∷ [], 3 ∷ []) (1 ∷ 2 ∷ 3 ∷ []) ≡ true
+behind_one_and_two : is_supporter Pjr (3 ∷ 4 ∷ []) 2 (1 ∷ 2 ∷ [], 3 ∷ []) (1 ∷ 2 ∷ 3 ∷ []) ≡ true
 behind_one_and_two = refl
 
-not_behind_four : is_behind Pjr (3 ∷ 4 ∷ []) 2 (1 ∷ 2 ∷ [], 4 ∷ []) (1 ∷ 2 ∷ 3 ∷ []) ≡ false
+not_behind_four : is_supporter Pjr (3 ∷ 4 ∷ []) 2 (1 ∷ 2 ∷ [], 4 ∷ []) (1 ∷ 2 ∷ 3 ∷ []) ≡ false
 not_behind_four = refl
 
-behind_by_number : is_behind Ejr (3 ∷ 4 ∷ []) 2 (1 ∷ 2 ∷ [], []) (1 ∷ 2 ∷ 3 ∷ []) ≡ true
+behind_by_number : is_supporter Ejr (3 ∷ 4 ∷ []) 2 (1 ∷ 2 ∷ [], []) (1 ∷ 2 ∷ 3 ∷ []) ≡ true
 behind_by_number = refl
 
-not_behind_by_number : is_behind Jr (3 ∷ 4 ∷ []) 1 (1 ∷ [], []) (1 ∷ 2 ∷ 3 ∷ []) ≡ false
+not_behind_by_number : is_supporter Jr (3 ∷ 4 ∷ []) 1 (1 ∷ [], []) (1 ∷ 2 ∷ 3 ∷ []) ≡ false
 not_behind_by_number = refl
 
 large_ballots : group_of (includes (1 ∷ 2 ∷ 3 ∷ [])) ((1 ∷ [], 5) ∷ (4 ∷ [], 6) ∷ []) ≡ 5 ∷ 0 ∷ []

@@ -10,7 +10,7 @@ use Rattle.preflib_text.specs.declared.ballot.OrderPlace.TheVariants.{Order, Cla
 use Rattle.preflib_text.specs.Ballot.{IsBlanks, IsDigits, IsPadded, IsNumber, IsJoined, IsBraced, IsClass, IsOrder, IsBallotLine}
 use Rattle.preflib_text.specs.Approvals.{HasNumber, set_of, first_numbers, usual_numbers, taken_numbers, approved}
 use Rattle.preflib_text.specs.Reading.{or_else, fault_if, number_in_ballot_fault, is_strict, is_complete, is_cat, ballot_fault}
-use Rattle.preflib_text.specs.Steps.Tokens.{token_of, behind_number, with_digit, tokens_after, tokens_of, capped, capped_token, IsFirstToken, next_place, is_end, with_token, order_at, cast_of, ballot_of}
+use Rattle.preflib_text.specs.Steps.Tokens.{token_of, number_before, with_digit, tokens_after, tokens_of, capped, capped_token, IsFirstToken, next_place, is_end, with_token, order_at, cast_of, ballot_of}
 use Rattle.preflib_text.specs.Steps.Marks.{no_marks, usual_taking, taking_of, takes, wrong_with, with_number, with_end, with_class, with_classes, with_read, fault_of}
 use Rattle.preflib_text.specs.Steps.Answers.{HasMarks, IsGoodBallot, IsBallotFault}
 
@@ -119,8 +119,8 @@ many_classes = refl
 colon : token_of 58 ≡ Colon
 colon = refl
 
-behind_seven : behind_number (Some 7) (Colon ∷ []) ≡ Number 7 ∷ Colon ∷ []
-behind_seven = refl
+seven_before : number_before (Some 7) (Colon ∷ []) ≡ Number 7 ∷ Colon ∷ []
+seven_before = refl
 
 seventy_one : with_digit (Some 7) 49 ≡ 71
 seventy_one = refl

@@ -8,13 +8,13 @@ use Rattle.std.specs.Str.Parse.{digits_value, digits_value_after}
 use Rattle.std.proofs.lemmas.Bool.{and_parts, and_from, leb-true, lt-ltb, le-ltb, eqb-true, or_cases, cond_both}
 use Rattle.preflib_text.specs.Lines.{is_blank}
 use Rattle.preflib_text.specs.Ballot.{IsBlanks, IsDigits, IsNumber}
-use Rattle.preflib_text.specs.Steps.Tokens.{token_of, behind_number, with_digit, tokens_after, tokens_of}
+use Rattle.preflib_text.specs.Steps.Tokens.{token_of, number_before, with_digit, tokens_after, tokens_of}
 use Rattle.preflib_text.specs.declared.ballot.Token.{Token}
 use Rattle.preflib_text.specs.declared.ballot.Token.TheVariants.{Number, Colon, Comma, Open, Close, Other}
 
-behind_number-append : (first : Option ℕ) (xs ys : List Token) → behind_number first (xs ++ ys) ≡ behind_number first xs ++ ys
-behind_number-append None xs ys = refl
-behind_number-append (Some n) xs ys = refl
+number_before-append : (first : Option ℕ) (xs ys : List Token) → number_before first (xs ++ ys) ≡ number_before first xs ++ ys
+number_before-append None xs ys = refl
+number_before-append (Some n) xs ys = refl
 
 -- a byte that is neither a digit nor a blank
 abbrev pub IsMark : ℕ → Type 0
@@ -25,13 +25,13 @@ IsMark b = (is_ascii_digit b ≡ false) × (is_blank b ≡ false)
 -- a byte that is no blank and no digit parts a text
 pub tokens-mark : (first : Option ℕ) (front : List ℕ) (b : ℕ) (rest : List ℕ) → IsMark b → tokens_after first (front ++ b ∷ rest) ≡ tokens_after first front ++ token_of b ∷ tokens_of rest
 unfolding tokens_after
-tokens-mark first [] b rest m = rw (m.0, m.1) (behind_number-append first [] (token_of b ∷ tokens_of rest))
+tokens-mark first [] b rest m = rw (m.0, m.1) (number_before-append first [] (token_of b ∷ tokens_of rest))
 tokens-mark first (x ∷ front) b rest m =
-    elim (is_ascii_digit x) as (λ t. cond t (tokens_after (Some (with_digit first x)) (front ++ b ∷ rest)) (behind_number first (cond (is_blank x) (tokens_of (front ++ b ∷ rest)) (token_of x ∷ tokens_of (front ++ b ∷ rest)))) ≡ cond t (tokens_after (Some (with_digit first x)) front) (behind_number first (cond (is_blank x) (tokens_of front) (token_of x ∷ tokens_of front))) ++ token_of b ∷ tokens_of rest) [
+    elim (is_ascii_digit x) as (λ t. cond t (tokens_after (Some (with_digit first x)) (front ++ b ∷ rest)) (number_before first (cond (is_blank x) (tokens_of (front ++ b ∷ rest)) (token_of x ∷ tokens_of (front ++ b ∷ rest)))) ≡ cond t (tokens_after (Some (with_digit first x)) front) (number_before first (cond (is_blank x) (tokens_of front) (token_of x ∷ tokens_of front))) ++ token_of b ∷ tokens_of rest) [
       | true ↦ tokens-mark (Some (with_digit first x)) front b rest m
-      | false ↦ elim (is_blank x) as (λ t. behind_number first (cond t (tokens_of (front ++ b ∷ rest)) (token_of x ∷ tokens_of (front ++ b ∷ rest))) ≡ behind_number first (cond t (tokens_of front) (token_of x ∷ tokens_of front)) ++ token_of b ∷ tokens_of rest) [
-        | true ↦ ap (behind_number first) (tokens-mark None front b rest m) ∙ behind_number-append first (tokens_of front) (token_of b ∷ tokens_of rest)
-        | false ↦ ap (λ (ts : List Token). behind_number first (token_of x ∷ ts)) (tokens-mark None front b rest m) ∙ behind_number-append first (token_of x ∷ tokens_of front) (token_of b ∷ tokens_of rest)
+      | false ↦ elim (is_blank x) as (λ t. number_before first (cond t (tokens_of (front ++ b ∷ rest)) (token_of x ∷ tokens_of (front ++ b ∷ rest))) ≡ number_before first (cond t (tokens_of front) (token_of x ∷ tokens_of front)) ++ token_of b ∷ tokens_of rest) [
+        | true ↦ ap (number_before first) (tokens-mark None front b rest m) ∙ number_before-append first (tokens_of front) (token_of b ∷ tokens_of rest)
+        | false ↦ ap (λ (ts : List Token). number_before first (token_of x ∷ ts)) (tokens-mark None front b rest m) ∙ number_before-append first (token_of x ∷ tokens_of front) (token_of b ∷ tokens_of rest)
       ]
     ]
 
@@ -51,12 +51,12 @@ tokens-blanks_before (b ∷ before) text blanks =
     rw (blank_no_digit b both.0, both.0) (tokens-blanks_before before text both.1)
 
 -- blanks alone after a number
-tokens-blanks : (first : Option ℕ) (behind : List ℕ) → IsBlanks behind → tokens_after first behind ≡ behind_number first []
+tokens-blanks : (first : Option ℕ) (behind : List ℕ) → IsBlanks behind → tokens_after first behind ≡ number_before first []
 unfolding tokens_after
 tokens-blanks first [] blanks = refl
 tokens-blanks first (b ∷ behind) blanks =
     let both = and_parts (is_blank b) (list_all is_blank behind) blanks in
-    rw (blank_no_digit b both.0, both.0) (ap (behind_number first) (tokens-blanks None behind both.1))
+    rw (blank_no_digit b both.0, both.0) (ap (number_before first) (tokens-blanks None behind both.1))
 
 -- blanks after a text
 pub tokens-blanks_behind : (first : Option ℕ) (text behind : List ℕ) → IsBlanks behind → tokens_after first (text ++ behind) ≡ tokens_after first text

@@ -32,17 +32,17 @@ enum Token {
 /// A place in an order, by what may come next.
 #[derive(Clone, Copy)]
 enum OrderPlace {
-    /// Behind the colon.
+    /// After the colon.
     Order,
-    /// Behind a comma between classes.
+    /// After a comma between classes.
     Class,
-    /// Behind a class.
+    /// After a class.
     Between,
-    /// Behind an opening brace.
+    /// After an opening brace.
     Opened,
-    /// Behind a comma between braces.
+    /// After a comma between braces.
     Inner,
-    /// Behind a number between braces.
+    /// After a number between braces.
     Listed,
 }
 

@@ -40,7 +40,7 @@ pub enum FaultName {
     TooManyVoters,
     /// The way of approval does not fit the type of the file, or there are fewer categories than the one to take.
     PickMisfit,
-    /// A growth was refused.
+    /// An allocation failed.
     Memory,
 }
 

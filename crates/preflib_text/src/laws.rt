@@ -30,8 +30,8 @@ pub fn unfinished_lines()
         → length (without_return (unfinished_line bytes)) ≤ most_line_bytes }
 {}
 
-/// Bytes tell one thing under one pick, and a fault that they tell is that of every input that begins with them. Want
-/// of memory of a reader in pieces is also one of a reader of the whole.
+/// Bytes tell one thing under one pick, and a fault that they tell is that of every input that begins with them. Where
+/// a reader in pieces can run out of memory, so can a reader of the whole.
 pub fn pieces()
     ensures some { (bytes : List ℕ) (pick : Pick) → (fault : Option ReadFault) × Tells bytes pick fault }
     ensures one { (bytes : List ℕ) (pick : Pick) (a b : Option ReadFault) → Tells bytes pick a → Tells bytes pick b

@@ -58,7 +58,7 @@ pub enum LineFault {
     TwoPicks,
     /// `--votes` is given, and a file or a way to read one: status 2.
     VotesAndInput,
-    /// A growth was refused: status 5.
+    /// An allocation failed: status 5.
     Memory,
 }
 

@@ -15,7 +15,7 @@ const PIECE: usize = 8192;
 /// Why there is no input.
 #[derive(Clone, Copy, Debug, PartialEq, Eq)]
 pub(crate) enum InputFault {
-    /// A growth was refused.
+    /// An allocation failed.
     Memory,
     /// A read failed.
     ReadFailed,

@@ -48,7 +48,7 @@ pub(crate) enum Refusal {
     Input(ReadFault),
     /// The request does not fit.
     Request(RequestFault),
-    /// A growth was refused.
+    /// An allocation failed.
     Memory,
     /// A read failed.
     ReadFailed,

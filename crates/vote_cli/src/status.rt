@@ -13,7 +13,7 @@ pub enum Status {
     InputRefused,
     /// The request was refused against the input.
     RequestRefused,
-    /// A growth was refused.
+    /// An allocation failed.
     NoMemory,
     /// A read or a write failed.
     DeviceFailed,

@@ -18,9 +18,9 @@ token_of b = if b == 58 then Colon
     else (if b == 125 then Close else Other)))
 
 -- tokens after a number that ends here, if there is one
-abbrev pub behind_number : Option ℕ → List Token → List Token
-behind_number None tokens = tokens
-behind_number (Some n) tokens = Number n ∷ tokens
+abbrev pub number_before : Option ℕ → List Token → List Token
+number_before None tokens = tokens
+number_before (Some n) tokens = Number n ∷ tokens
 
 -- the number with this first part and one digit more
 abbrev pub with_digit : Option ℕ → ℕ → ℕ
@@ -29,9 +29,9 @@ with_digit (Some n) b = 10 * n + (b - 48)
 
 -- the tokens after the first digits of a number, if there are any
 unfoldable pub tokens_after : Option ℕ → List ℕ → List Token
-tokens_after first [] = behind_number first []
+tokens_after first [] = number_before first []
 tokens_after first (b ∷ bytes) = if is_ascii_digit b then tokens_after (Some (with_digit first b)) bytes
-    else behind_number first (if is_blank b then tokens_after None bytes else token_of b ∷ tokens_after None bytes)
+    else number_before first (if is_blank b then tokens_after None bytes else token_of b ∷ tokens_after None bytes)
 
 -- the tokens of a text
 abbrev pub tokens_of : List ℕ → List Token

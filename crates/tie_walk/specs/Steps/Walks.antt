@@ -105,7 +105,7 @@ module _ (value : List ℕ → ℕ) (m k best : ℕ) where
   IsWait from before None rest = rest.counts.ceilings + waits_from rest.place ≤ before.ceilings + waits_from from
   IsWait from before (Some set) rest = rest.counts.ceilings ≤ before.ceilings + waits_from from
 
--- what that part adds to the counts: each prefix with a bound, and no more bounds than the prefixes that it leaves behind
+-- what that part adds to the counts: each prefix with a bound, and no more bounds than the prefixes that it passes
 pub record IsRaised (m : ℕ) (from : Option Prefix) (before : Counts) (rest : Walk) : Type 0 where
   pub entered : before.entered ≤ rest.counts.entered
   pub asked : rest.counts.entered + before.ceilings ≤ before.entered + rest.counts.ceilings

@@ -21,7 +21,7 @@ a number at the word|# NUMBER ALTERNATIVES: 3;# ALTERNATIVE NAME1: a|||
 after a ballot|# NUMBER ALTERNATIVES: 3;# ALTERNATIVE NAME 1: a;1: 1;# ALTERNATIVE NAME 1: b;# ALTERNATIVE NAME 2: c|a||";
 
 /// A profile of three candidates, with a ballot after its header.
-fn profile_behind(alloc: Global, header: &[u8]) -> Result<Profile, Fail> {
+fn profile_after(alloc: Global, header: &[u8]) -> Result<Profile, Fail> {
     let request = request(alloc, "1 --kind cat")?;
     let mut text = Vec::from_slice(alloc, header)?;
     text.extend_from_slice(b"\n1: 1\n")?;
@@ -34,7 +34,7 @@ fn names_in_a_file(rt: HostRuntime) -> Result<(), Fail> {
     for row in NAMES.split('\n') {
         let (case, rest) = row.split_once('|').ok_or("a case")?;
         let (header, names) = rest.split_once('|').ok_or("a header")?;
-        let profile = profile_behind(alloc, lines(alloc, header)?.as_bytes())?;
+        let profile = profile_after(alloc, lines(alloc, header)?.as_bytes())?;
         assert_eq!(rt; profile.m(), 3, "{case}");
         for (n, name) in (1..).zip(names.split('|')) {
             let wanted = Some(name.as_bytes()).filter(|name| !name.is_empty());
@@ -47,7 +47,7 @@ fn names_in_a_file(rt: HostRuntime) -> Result<(), Fail> {
 #[test]
 fn names_that_are_no_text(rt: HostRuntime) -> Result<(), Fail> {
     let header = b"# NUMBER ALTERNATIVES: 3\n# ALTERNATIVE NAME 3:\xFF\x00\x0B";
-    let profile = profile_behind(rt.alloc(), header)?;
+    let profile = profile_after(rt.alloc(), header)?;
     assert!(rt; name_in(&profile, 2).is_none());
     assert!(rt; name_in(&profile, 3) == Some(b"\xFF\x00\x0B".as_slice()));
     Ok(())
