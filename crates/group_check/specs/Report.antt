@@ -21,7 +21,8 @@ includes set other = list_all (has_member set) other
 -- - for JR, EJR and EJR+, they are fewer than the level
 abbrev pub is_supporter : Property → List ℕ → ℕ → List ℕ × List ℕ → List ℕ → Bool
 is_supporter Jr committee level pair ballot = includes ballot pair.0 && nat_lt (hits ballot committee) level
-is_supporter Pjr committee level pair ballot = includes ballot pair.0 && includes pair.1 (common_members ballot committee)
+is_supporter Pjr committee level pair ballot =
+    includes ballot pair.0 && includes pair.1 (common_members ballot committee)
 is_supporter Ejr committee level pair ballot = includes ballot pair.0 && nat_lt (hits ballot committee) level
 is_supporter EjrPlus committee level pair ballot = includes ballot pair.0 && nat_lt (hits ballot committee) level
 

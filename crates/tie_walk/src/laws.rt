@@ -61,8 +61,8 @@ pub fn ceilings()
         → IsIncreasing 1 c set → IsBound (closeness m rows) m c set left (closeness_upto m rows c set) }
 {}
 
-/// Which prefixes are counted: a prefix is live exactly where neither below it nor below one of its beginnings the count
-/// is 0. So the count, which takes 1 for each such prefix, is that of the live ones.
+/// Which prefixes are counted: a prefix is live exactly where neither below it nor below one of its beginnings the
+/// count is 0. So the count, which takes 1 for each such prefix, is that of the live ones.
 pub fn live_prefixes()
     ensures { (bound : ℕ → List ℕ → ℕ → ℕ) (m k best : ℕ) (after : Option (List ℕ)) (prefix : Prefix)
         → IsIncreasing 1 prefix.c prefix.set → prefix.c ≤ m → IsLive bound m k best after prefix

@@ -84,8 +84,8 @@ fn reaches<T: Tally>(
     true
 }
 
-/// Whether the walk enters a prefix, which counts there: where it can become a committee, and the bound reaches the best
-/// value. No other step of the walk goes down, and no other raises that count.
+/// Whether the walk enters a prefix, which counts there: where it can become a committee, and the bound reaches the
+/// best value. No other step of the walk goes down, and no other raises that count.
 fn enter<T: Tally>(
     tally: &T,
     m: u8,

@@ -106,9 +106,9 @@ impl<'a, T: Tally> Winners<'a, T> {
         self.walk.counts.entered
     }
 
-    /// How many bounds were asked for so far by the walk that hands out the winners: one for each prefix at which it had
-    /// to know whether the bound reaches the greatest value, also where the bound of another prefix had told it. The
-    /// walk that found the greatest value does not count. No prefix is entered without one.
+    /// How many bounds were asked for so far by the walk that hands out the winners: one for each prefix at which it
+    /// had to know whether the bound reaches the greatest value, also where the bound of another prefix had told it.
+    /// The walk that found the greatest value does not count. No prefix is entered without one.
     pub fn ceilings(&self) -> u128
         ensures count { result ≡ self.now.ceilings }
         ensures entered { self.now.entered ≤ result }
@@ -120,9 +120,9 @@ impl<'a, T: Tally> Winners<'a, T> {
 impl<'a, T: Tally> Iterator for Winners<'a, T> {
     type Item = CandSet;
 
-    // The first of the winners left, or nothing where none is left: then, without a start, exactly the live prefixes were
-    // entered. All else is as it was. The counts never fall, and where bounds are exact at the greatest value, few are
-    // asked for until the next winner or the end.
+    // The first of the winners left, or nothing where none is left: then, without a start, exactly the live prefixes
+    // were entered. All else is as it was. The counts never fall, and where bounds are exact at the greatest value, few
+    // are asked for until the next winner or the end.
     ghost next_gives = { λ s r t. YieldsFirst (λ (w : Winning T). w.left) s r t
         × (t.tally ≡ s.tally) × (t.m ≡ s.m) × (t.k ≡ s.k) × (t.best ≡ s.best) × (t.after ≡ s.after)
         × (r ≡ None → t.after ≡ None → t.entered ≡ live_count (T.bound_of t.tally) t.m t.k t.best t.after)

@@ -132,7 +132,8 @@ fn write_by<W: Sink, N: Allocator + Copy, T: Tally>(
     print_listing(&mut printer, names, limit, winners)
 }
 
-/// Writes the answer of a Thiele rule, and flushes the writer. The bounds of approval voting are exact without a search.
+/// Writes the answer of a Thiele rule, and flushes the writer. The bounds of approval voting are exact without a
+/// search.
 fn write_thiele<W: Sink, A: Allocator + Copy>(
     out: &mut W,
     profile: &Profile<A>,

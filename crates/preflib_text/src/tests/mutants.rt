@@ -31,8 +31,8 @@ impl Numbers {
     }
 }
 
-/// The file with a change of its bytes at some place: one bit turned, another byte there, a byte more, a byte less, or the
-/// end cut off.
+/// The file with a change of its bytes at some place: one bit turned, another byte there, a byte more, a byte less, or
+/// the end cut off.
 fn with_other_bytes(
     alloc: Global,
     file: &[u8],

@@ -73,7 +73,8 @@ fn has_refused(heap: &Refusing) -> bool {
     heap.left.get() == 0
 }
 
-/// Asserts that a run over these bytes ends so exactly where no growth is refused. The run takes memory so often at least.
+/// Asserts that a run over these bytes ends so exactly where no growth is refused. The run takes memory so often at
+/// least.
 fn assert_growths_of_run(
     rt: &impl Abort,
     alloc: Global,
@@ -212,8 +213,8 @@ fn each_growth_of_a_reading(rt: HostRuntime) -> Result<(), Fail> {
     Ok(())
 }
 
-/// A reader in pieces whose memory ran out answers so from each later call. It begins with two growths, for the names and
-/// for a line; the third is that of the first ballot.
+/// A reader in pieces whose memory ran out answers so from each later call. It begins with two growths, for the names
+/// and for a line; the third is that of the first ballot.
 #[test]
 fn a_refused_reader(rt: HostRuntime) -> Result<(), Fail> {
     let alloc = rt.alloc();
