@@ -16,7 +16,7 @@ fn common_multiple(n: u128) -> u128 {
 }
 
 /// The increments of a rule for so many seats, over their denominator.
-fn increments(rule: &str, size: usize) -> (Vec<u128>, u128) {
+pub fn increments(rule: &str, size: usize) -> (Vec<u128>, u128) {
     let (denominator, base) = match rule {
         "pav" => (common_multiple(size as u128), None),
         "geom2" => (2u128.pow(size as u32 - 1), Some(2u128)),

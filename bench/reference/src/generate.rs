@@ -15,7 +15,7 @@ impl Random {
 /// different.
 pub fn write(mut words: impl Iterator<Item = String>, out: &mut impl Write) -> io::Result<()> {
     let kind = words.next().expect("a kind");
-    if let "independent" | "resampled" | "square" = kind.as_str() {
+    if let "independent" | "resampled" | "square" | "popular" = kind.as_str() {
         let mut number = || words.next().and_then(|n| n.parse().ok()).expect("a number");
         return write_voters(&kind, number(), number(), out);
     }
@@ -35,7 +35,7 @@ pub fn write(mut words: impl Iterator<Item = String>, out: &mut impl Write) -> i
 }
 
 /// Writes a `cat` file: `generate MODEL CANDIDATES VOTERS`. Voters approve a fifth of the candidates: drawn independently,
-/// resampled round one ballot, or those nearest to them in a square.
+/// resampled round one ballot, those nearest to them in a square, or drawn where some candidates are more popular.
 fn write_voters(model: &str, candidates: u64, voters: u64, out: &mut impl Write) -> io::Result<()> {
     write!(out, "# DATA TYPE: cat\n# NUMBER ALTERNATIVES: {candidates}\n")?;
     let mut random = Random(candidates ^ voters << 8);
@@ -51,6 +51,7 @@ fn write_voters(model: &str, candidates: u64, voters: u64, out: &mut impl Write)
         let is_near = |n: u64| near[..some as usize].contains(&n);
         let approves = |n: u64, random: &mut Random| match model {
             "square" => is_near(n),
+            "popular" => random.below(5 * candidates) < 2 * (candidates - n) + 1,
             "resampled" if random.below(2) == 0 => n <= some,
             _ => random.below(5) == 0,
         };

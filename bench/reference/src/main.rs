@@ -5,9 +5,11 @@ mod check;
 mod compare;
 mod elect;
 mod generate;
+mod integer_program;
 mod profile;
 mod sets;
 mod share;
+mod waits;
 
 use profile::Profile;
 use std::collections::HashMap;
@@ -76,10 +78,15 @@ fn main() -> ExitCode {
         compare::print(words).expect("two programs");
         return ExitCode::SUCCESS;
     }
+    if command == "waits" {
+        waits::print(words).expect("a program");
+        return ExitCode::SUCCESS;
+    }
     let words = Words::parse(words);
     let mut out = BufWriter::new(io::stdout().lock());
     let holds = match command.as_str() {
         "elect" => elect::write(&mut out, &words.profile(), words.text("rule"), words.number("size")),
+        "integer-program" => integer_program::write(&mut out, &words.profile(), words.text("rule"), words.number("size")),
         "check" => {
             let committee = words.list("committee").expect("a committee");
             check::write(&mut out, &words.profile(), words.text("property"), &committee)
