@@ -1,5 +1,6 @@
 //! Inputs, the same for each run.
 use std::io::{self, Write};
+use std::iter;
 
 /// A linear congruential generator (Knuth's).
 struct Random(u64);
@@ -18,6 +19,10 @@ pub fn write(mut words: impl Iterator<Item = String>, out: &mut impl Write) -> i
     if let "independent" | "resampled" | "square" | "popular" = kind.as_str() {
         let mut number = || words.next().and_then(|n| n.parse().ok()).expect("a number");
         return write_voters(&kind, number(), number(), out);
+    }
+    if let "colliding" | "scattered" = kind.as_str() {
+        let count = words.next().and_then(|n| n.parse().ok()).expect("a number");
+        return write_words(kind == "colliding", count, out);
     }
     let mut number = || words.next().and_then(|n| n.parse().ok()).expect("a number");
     let (candidates, lines, different): (u64, u64, u64) = (number(), number(), number());
@@ -59,6 +64,27 @@ fn write_voters(model: &str, candidates: u64, voters: u64, out: &mut impl Write)
         writeln!(out, "1: {{{}}}", approved.join(","))?;
     }
     Ok(())
+}
+
+/// Writes a `cat` file: `generate colliding COUNT` or `generate scattered COUNT`, with so many ballots over 64 candidates.
+/// Those that collide begin in one place of a table under the fixed hash of the program.
+fn write_words(collide: bool, count: usize, out: &mut impl Write) -> io::Result<()> {
+    out.write_all(b"# DATA TYPE: cat\n# NUMBER ALTERNATIVES: 64\n")?;
+    let mut random = Random(count as u64);
+    let words = iter::repeat_with(|| random.below(1 << 31) << 33 ^ random.below(1 << 31) << 16 ^ random.below(1 << 31));
+    for word in words.filter(|&word| !collide || place(word) == 0).take(count) {
+        let members: Vec<String> = (1..=64).filter(|n| word >> (n - 1) & 1 == 1).map(|n| n.to_string()).collect();
+        writeln!(out, "1: {{{}}}", members.join(","))?;
+    }
+    Ok(())
+}
+
+/// Where a ballot begins in a table of 4,096 places, the most that 36,864 ballots have, under the fixed hash.
+fn place(word: u64) -> u64 {
+    const FACTOR: u128 = 0x9e37_79b9_7f4a_7c15_f39c_c060_5ced_c835;
+    const TERM: u128 = 0x243f_6a88_85a3_08d3_1319_8a2e_0370_7344;
+    let hash = (FACTOR.wrapping_mul(word.swap_bytes().into()).wrapping_add(TERM) >> 64) as u64;
+    (hash ^ hash >> 32) & 4095
 }
 
 /// An order of a kind over the candidates. A quarter of the candidates stand in the first category of a `cat` ballot.

@@ -1,5 +1,5 @@
 -- Each definition, computed on a small example.
-use Rattle.std.proofs.Common.{◌≡◌, ◌^◌, List, [], ◌∷◌, true, false, refl, lit≤, Some, None, replicate, arith, length, codes}
+use Rattle.std.proofs.Common.{◌≡◌, ◌+◌, ◌*◌, ◌^◌, List, [], ◌∷◌, true, false, refl, lit≤, Some, None, replicate, arith, length, codes}
 use Rattle.ballot_base.specs.Lists.{IsIncreasing, lists_of, increasing_lists, is_later, IsLater, AreInOrder, later_than}
 use Rattle.ballot_base.specs.CandSet.{has_member, with_member, without_member, common_members, members_upto}
 use Rattle.ballot_base.specs.Steps.Words.{members_among, members, word_of}
@@ -7,6 +7,7 @@ use Rattle.ballot_base.specs.Steps.Subsets.{lists_from, sets_from, IsPlace, IsLa
 use Rattle.ballot_base.specs.Ballots.{Row, IsElection, election, ballots_of, name_of, hits, voter_count, has_ballot, with_votes}
 use Rattle.ballot_base.specs.CommonMultiple.{least_multiple, common_multiple, AllDivide}
 use Rattle.ballot_base.specs.Increments.{increment, denominator, increments}
+use Rattle.ballot_base.specs.Hashing.{word_of_bytes, start, with_word, upper_half}
 use Rattle.ballot_base.specs.RuleNames.{thiele_name, thiele_named, thiele_rules}
 use Rattle.ballot_base.specs.declared.increments.ThieleRule.TheVariants.{Av, Pav, Cc, Geom2, Geom3, Geom4}
 use Rattle.ballot_base.proofs.Committees.{increasing_lists-order}
@@ -259,3 +260,12 @@ rule_of_a_name = refl
 
 rule_of_another_text : thiele_named (codes "AV") ≡ None
 rule_of_another_text = refl
+
+-- ---- hashing
+bytes_as_a_word : word_of_bytes 0 (1 ∷ 2 ∷ 3 ∷ []) ≡ 66051
+unfolding word_of_bytes
+bytes_as_a_word = refl
+
+hash_of_a_word : upper_half (with_word (start (record { factor = 3 * 2 ^ 64 + 5; term = 7 * 2 ^ 64 })) (2 ∷ [])) ≡ 13
+unfolding word_of_bytes
+hash_of_a_word = refl

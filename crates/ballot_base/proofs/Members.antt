@@ -6,10 +6,10 @@ use Rattle.std.proofs.lemmas.Bool.Decides.{same_from_decides}
 use Rattle.std.specs.Str.{bytes_eq}
 use Rattle.std.specs.Cmp.Lexicographic.{bytes_decides}
 use Rattle.std.proofs.lemmas.Nat.{pow_below, one_shl, or_lt, and_le_l}
-use Rattle.std.proofs.lemmas.Nat.Bits.{bit_at-lt, bit_at_and, bit_at_set_same, bit_at_set_other, bit_at_clear_same, bit_at_clear_other, shr_and_one}
+use Rattle.std.proofs.lemmas.Nat.Bits.{bit_at-lt, bit_at_and, bit_at_set_same, bit_at_set_other, bit_at_clear_same, bit_at_clear_other, bit_at_not, shr_and_one}
 use Rattle.ballot_base.specs.Limits.{most_candidates}
 use Rattle.ballot_base.specs.Lists.{IsIncreasing}
-use Rattle.ballot_base.specs.CandSet.{has_member, with_member, without_member, common_members}
+use Rattle.ballot_base.specs.CandSet.{has_member, with_member, without_member, common_members, other_members}
 use Rattle.ballot_base.specs.Steps.Words.{members_among, members, word_of, word_of_members}
 use Rattle.ballot_base.proofs.Increasing.{IsIncreasing-lower, has_member-below, has_member-above, has_member_head, has_member_tail, same_increasing, has_member-filter, IsIncreasing-filter, has_member-with_member, IsIncreasing-with_member}
 
@@ -148,3 +148,18 @@ members_common bits other =
     (IsIncreasing-filter (has_member (members other)) 1 most_candidates (members bits) (IsIncreasing-members bits))
     (λ k kl kh. rw (has_member-filter (has_member (members other)) (members bits) k, has_member-members other k kl kh, has_member-members bits k kl kh, bit_at_and bits other (k - 1))
     (both_set (bit_at bits (k - 1)) (bit_at other (k - 1)) (bit_at-lt bits (k - 1)) (bit_at-lt other (k - 1))))
+
+one_set : (a b : ℕ) → a < 2 → b < 2 → (min a (1 - b) == 1) ≡ (not (b == 1) && (a == 1))
+one_set zero zero h k = refl
+one_set zero (suc zero) h k = refl
+one_set (suc zero) zero h k = refl
+one_set (suc zero) (suc zero) h k = refl
+one_set (suc (suc a)) b h k = absurd (omega arith)
+one_set a (suc (suc b)) h k = absurd (omega arith)
+
+pub members_minus : (bits other : ℕ) → other < 2 ^ most_candidates → members (bit_and bits (2 ^ 64 - 1 - other)) ≡ other_members (members bits) (members other)
+members_minus bits other small =
+    same_members (bit_and bits (2 ^ 64 - 1 - other)) (other_members (members bits) (members other))
+    (IsIncreasing-filter (λ n. not (has_member (members other) n)) 1 most_candidates (members bits) (IsIncreasing-members bits))
+    (λ k kl kh. rw (has_member-filter (λ n. not (has_member (members other) n)) (members bits) k, has_member-members other k kl kh, has_member-members bits k kl kh, bit_at_and bits (2 ^ 64 - 1 - other) (k - 1), bit_at_not w64 other (k - 1) (omega arith) (omega arith))
+    (one_set (bit_at bits (k - 1)) (bit_at other (k - 1)) (bit_at-lt bits (k - 1)) (bit_at-lt other (k - 1))))

@@ -19,6 +19,10 @@ without_member set n = filter (λ x. not (x == n)) set
 abbrev pub common_members : List ℕ → List ℕ → List ℕ
 common_members set other = filter (has_member other) set
 
+-- the members that are not in the other set
+abbrev pub other_members : List ℕ → List ℕ → List ℕ
+other_members set other = filter (λ n. not (has_member other n)) set
+
 -- the members that are at most c
 abbrev pub members_upto : List ℕ → ℕ → List ℕ
 members_upto set c = filter (λ n. nat_le n c) set

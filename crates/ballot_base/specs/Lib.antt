@@ -3,6 +3,7 @@ pub mod Lists
 pub mod CandSet
 pub mod Ballots
 pub mod CommonMultiple
+pub mod Hashing
 pub mod Increments
 pub mod RuleNames
 pub mod Steps

@@ -6,7 +6,7 @@ ghost use Rattle.std.specs.Cmp.Lexicographic.{slice_cmp};
 ghost use Rattle.std.specs.Ordering.{nat_cmp};
 ghost use Rattle.ballot_base.specs.Limits.{most_candidates};
 ghost use Rattle.ballot_base.specs.Lists.{IsIncreasing};
-ghost use Rattle.ballot_base.specs.CandSet.{has_member, with_member, without_member, common_members, members_upto};
+ghost use Rattle.ballot_base.specs.CandSet.{has_member, with_member, without_member, common_members, other_members, members_upto};
 ghost use Rattle.ballot_base.specs.Steps.Subsets.{IsLastSet, IsNextSet};
 
 use crate::limits::MOST_CANDIDATES;
@@ -150,6 +150,15 @@ impl CandSet {
     {
         CandSet {
             bits: self.bits & other.bits,
+        }
+    }
+
+    /// The members that are not in the other set.
+    pub fn minus(self, other: CandSet) -> CandSet
+        ensures { result ≡ other_members self other }
+    {
+        CandSet {
+            bits: self.bits & !other.bits,
         }
     }
 

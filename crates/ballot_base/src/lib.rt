@@ -2,6 +2,7 @@
 #![tactic(auto)]
 
 pub mod cand_set;
+pub mod hashing;
 pub mod increments;
 pub mod laws;
 pub mod limits;
@@ -10,6 +11,7 @@ pub mod profile;
 pub mod subsets;
 
 pub use cand_set::CandSet;
+pub use hashing::BallotHashing;
 pub use increments::{Increments, ThieleRule};
 pub use limits::{MOST_CANDIDATES, MOST_MEMBERS, MOST_VOTERS};
 pub use multiples::common_multiple;

@@ -8,15 +8,15 @@ ghost use Rattle.ballot_base.specs.Ballots.{Row, IsElection, election, name_of, 
 ghost use Rattle.ballot_base.specs.Steps.Profiles.{texts};
 
 use crate::cand_set::CandSet;
+use crate::hashing::BallotHashing;
 use crate::limits::MOST_VOTERS;
 use indexmap::IndexMap;
 use indexmap::map::Iter;
 use std::alloc::{AllocError, Allocator, Global};
-use std::hash::{BuildHasherDefault, FoldHasher};
 use std::marker::Model;
 
 /// The ballots in the order of their first appearance, each with its voters.
-type Rows<A> = IndexMap<CandSet, u64, BuildHasherDefault<FoldHasher>, A>;
+type Rows<A> = IndexMap<CandSet, u64, BallotHashing, A>;
 
 /// The name of each candidate, empty where there is none.
 type Names<A> = Vec<Vec<u8, A>, A>;
@@ -58,8 +58,22 @@ impl<A: Allocator + Copy> Model for ProfileBuilder<A> {
 }
 
 impl<A: Allocator + Copy + Drop> ProfileBuilder<A> {
-    /// No ballot yet, for m candidates without names.
+    /// No ballot yet, for m candidates without names. Ballots are hashed by the fixed numbers.
     pub fn new(alloc: A, m: u8) -> Result<ProfileBuilder<A>, AllocError>
+        requires some { 1 ≤ m }
+        requires most { m ≤ most_candidates }
+        ensures { IfOk result (λ builder. builder ≡ election m (replicate m []) []) }
+    {
+        ProfileBuilder::with_hashing(alloc, m, BallotHashing::fixed())
+    }
+
+    /// The same with ballots that are hashed by these numbers. They change the time that ballots take, and nothing
+    /// else.
+    pub fn with_hashing(
+        alloc: A,
+        m: u8,
+        hashing: BallotHashing,
+    ) -> Result<ProfileBuilder<A>, AllocError>
         requires some { 1 ≤ m }
         requires most { m ≤ most_candidates }
         ensures { IfOk result (λ builder. builder ≡ election m (replicate m []) []) }
@@ -68,7 +82,7 @@ impl<A: Allocator + Copy + Drop> ProfileBuilder<A> {
             m,
             names: no_names(alloc, m)?,
             voters: 0,
-            rows: IndexMap::new(alloc),
+            rows: IndexMap::with_hasher(alloc, hashing),
         })
     }
 

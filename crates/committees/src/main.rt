@@ -2,10 +2,11 @@
 #![tactic(auto)]
 
 use std::fs::File;
+use std::hash::RandomState;
 use std::io::Read;
 use std::process::ExitCode;
 use std::{env, io};
-use vote_cli::{LineFault, Request, Told, read_request, run};
+use vote_cli::{BallotHashing, LineFault, Request, Told, read_request, run_with_hashing};
 
 /// The status of words that were refused.
 const WORDS_REFUSED: u8 = 2;
@@ -74,8 +75,25 @@ fn answer_over<R: Read + Drop>(rt: &HostRuntime, request: &Request, reader: R) -
     let mut reader = Told::new(reader);
     let mut out = Told::new(rt.stdout());
     let mut err = Told::new(rt.stderr());
-    let status = run(rt.alloc(), request, &mut reader, &mut out, &mut err);
+    let hashing = hashing(rt);
+    let status = run_with_hashing(
+        rt.alloc(),
+        hashing,
+        request,
+        &mut reader,
+        &mut out,
+        &mut err,
+    );
     ExitCode::from(status.code())
+}
+
+/// What ballots are hashed by: numbers that no one knows who writes a file. Where the system gives no random bytes, the
+/// fixed ones serve.
+fn hashing(rt: &HostRuntime) -> BallotHashing {
+    match RandomState::new(rt) {
+        Ok(keys) => BallotHashing::secret(&keys),
+        Err(_) => BallotHashing::fixed(),
+    }
 }
 
 fn no_memory(rt: &HostRuntime) -> ExitCode {

@@ -13,7 +13,7 @@ use Rattle.preflib_text.specs.declared.ballot.OrderPlace.{OrderPlace}
 use Rattle.preflib_text.specs.declared.ballot.OrderPlace.TheVariants.{Order, Class, Between, Opened, Inner, Listed}
 use Rattle.preflib_text.specs.Lines.{onto_first}
 use Rattle.preflib_text.specs.Reading.{or_else}
-use Rattle.preflib_text.specs.Steps.Tokens.{capped, capped_token, tokens_of, IsFirstToken, next_place, is_end, order_at}
+use Rattle.preflib_text.specs.Steps.Tokens.{capped, capped_token, tokens_of, IsFirstToken, IsListed, next_place, is_end, order_at}
 use Rattle.preflib_text.specs.Steps.Marks.{wrong_with, with_number, with_end, with_classes, with_read}
 use Rattle.preflib_text.proofs.BallotRead.{some, map_some}
 
@@ -158,6 +158,23 @@ module _ (m : ℕ) (way : Taking) where
   marks_last Opened text marks e = rw e refl
   marks_last Inner text marks e = rw e refl
   marks_last Listed text marks e = rw e refl
+
+  -- a number with a comma right after it
+  pub listed_more : (place next : OrderPlace) (n : ℕ) (text rest : List ℕ) (marks : Marks) → m ≤ most_candidates → IsListed text n rest → option_and_then (λ at. next_place at Comma) (next_place place (Number n)) ≡ Some next → marked (with_read m way place (Number n) marks) (order_at next (tokens_of rest)) ≡ marked marks (order_at place (tokens_of text))
+  listed_more Order next n text rest marks h l e = marks_more Between next Comma (44 ∷ rest) rest (with_read m way Order (Number n) marks) h l.1 e ∙ marks_more Order Between (Number n) text (44 ∷ rest) marks h l.0 refl
+  listed_more Class next n text rest marks h l e = marks_more Between next Comma (44 ∷ rest) rest (with_read m way Class (Number n) marks) h l.1 e ∙ marks_more Class Between (Number n) text (44 ∷ rest) marks h l.0 refl
+  listed_more Opened next n text rest marks h l e = marks_more Listed next Comma (44 ∷ rest) rest (with_read m way Opened (Number n) marks) h l.1 e ∙ marks_more Opened Listed (Number n) text (44 ∷ rest) marks h l.0 refl
+  listed_more Inner next n text rest marks h l e = marks_more Listed next Comma (44 ∷ rest) rest (with_read m way Inner (Number n) marks) h l.1 e ∙ marks_more Inner Listed (Number n) text (44 ∷ rest) marks h l.0 refl
+  listed_more Between next n text rest marks h l e = absurd (cc)
+  listed_more Listed next n text rest marks h l e = absurd (cc)
+
+  pub listed_fail : (place : OrderPlace) (n : ℕ) (text rest : List ℕ) (marks : Marks) → IsListed text n rest → option_and_then (λ at. next_place at Comma) (next_place place (Number n)) ≡ None → marked marks (order_at place (tokens_of text)) ≡ None
+  listed_fail Between n text rest marks l e = marks_fail Between (Number n) text (44 ∷ rest) marks l.0 refl
+  listed_fail Listed n text rest marks l e = marks_fail Listed (Number n) text (44 ∷ rest) marks l.0 refl
+  listed_fail Order n text rest marks l e = absurd (cc)
+  listed_fail Class n text rest marks l e = absurd (cc)
+  listed_fail Opened n text rest marks l e = absurd (cc)
+  listed_fail Inner n text rest marks l e = absurd (cc)
 
   -- ---- how many classes and numbers there are
 

@@ -8,6 +8,7 @@ pub mod BallotTexts
 pub mod BallotWritten
 pub mod BallotRead
 pub mod BallotSteps
+pub mod ListedNumbers
 pub mod BallotSets
 pub mod BallotTaken
 pub mod BallotFaults

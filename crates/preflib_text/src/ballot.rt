@@ -1,13 +1,13 @@
 //! Reading one line of a ballot: a count, a colon and an order.
-ghost use Rattle.std.specs.Prelude.{◌≡◌, ℕ, ◌+◌, ◌^◌, ◌<◌, ◌≤◌, length, List, [], ◌∷◌, Some, None, MatchOption};
-ghost use Rattle.std.specs.Prelude.{IfOk, IfErr};
-ghost use Rattle.std.specs.Option.{option_map};
+ghost use Rattle.std.specs.Prelude.{◌≡◌, ℕ, ◌+◌, ◌*◌, ◌^◌, ◌<◌, ◌≤◌, length, List, [], ◌∷◌, Some, None, MatchOption};
+ghost use Rattle.std.specs.Prelude.{IfOk, IfErr, IfSome};
+ghost use Rattle.std.specs.Option.{option_map, option_and_then};
 ghost use Rattle.ballot_base.specs.Limits.{most_candidates, most_voters};
 ghost use Rattle.ballot_base.specs.Lists.{IsIncreasing};
 ghost use Rattle.preflib_text.specs.Limits.{word_limit};
 ghost use Rattle.preflib_text.specs.Ballot.{IsBallotLine};
 ghost use Rattle.preflib_text.specs.Approvals.{HasNumber};
-ghost use Rattle.preflib_text.specs.Steps.Tokens.{token_of, tokens_after, tokens_of, capped, IsFirstToken};
+ghost use Rattle.preflib_text.specs.Steps.Tokens.{token_of, tokens_after, tokens_of, capped, IsFirstToken, IsListed};
 ghost use Rattle.preflib_text.specs.Steps.Tokens.{next_place, is_end, order_at, ballot_of};
 ghost use Rattle.preflib_text.specs.Steps.Marks.{no_marks, with_classes, with_read};
 ghost use Rattle.preflib_text.specs.Steps.Answers.{HasMarks, IsGoodBallot, IsBallotFault};
@@ -99,6 +99,30 @@ impl OrderPlace {
         }
     }
 
+    /// The place after a number and a comma, if they may come here. The number, or the end of its class, goes into the
+    /// marks.
+    fn after_listed(self, n: u64, marks: &mut Marks, m: u8, taking: Taking) -> Option<OrderPlace>
+        requires candidates { m ≤ most_candidates }
+        requires classes { marks.old.classes + 1 < word_limit }
+        requires numbers { marks.old.before + marks.old.numbers + 1 < word_limit }
+        ensures place { result ≡ option_and_then (λ place. next_place place Token.Comma)
+            (next_place self (Token.Number n)) }
+        ensures marks { marks.new ≡ with_read m taking self (Token.Number n) marks.old }
+    {
+        match self {
+            OrderPlace::Order | OrderPlace::Class => {
+                marks.add_number(m, taking, n);
+                marks.end_class();
+                Some(OrderPlace::Class)
+            }
+            OrderPlace::Opened | OrderPlace::Inner => {
+                marks.add_number(m, taking, n);
+                Some(OrderPlace::Inner)
+            }
+            OrderPlace::Between | OrderPlace::Listed => None,
+        }
+    }
+
     /// Whether an order may end here.
     fn is_end(self) -> bool
         ensures { result ≡ is_end self }
@@ -171,6 +195,45 @@ fn next_token(text: &[u8]) -> Option<(Token, &[u8])>
     None
 }
 
+/// The value of a digit at the front of a text, and the text after it.
+#[tactic(auto, unfolding(crate::specs::Steps::Tokens::tokens_after))]
+fn first_digit(text: &[u8]) -> Option<(u64, &[u8])>
+    ensures first { IfSome result (λ x. tokens_of text.now ≡ tokens_after (Some x.0) x.1.now) }
+    ensures next { IfSome result (λ x. (n : ℕ) → tokens_after (Some n) text.now
+        ≡ tokens_after (Some (10 * n + x.0)) x.1.now) }
+    ensures value { IfSome result (λ x. x.0 ≤ 9) }
+    ensures shorter { IfSome result (λ x. length x.1.now < length text.now) }
+{
+    match text {
+        [digit @ b'0'..=b'9', rest @ ..] => Some((u64::from(*digit - b'0'), rest)),
+        _ => None,
+    }
+}
+
+/// The text after a comma at its front.
+fn after_comma(text: &[u8]) -> Option<&[u8]>
+    ensures { IfSome result (λ rest. text.now ≡ 44 ∷ rest.now) }
+{
+    match text {
+        [b',', rest @ ..] => Some(rest),
+        _ => None,
+    }
+}
+
+/// The number at the front of a text that has one or two digits and a comma right after them, and the text after the
+/// comma. Most numbers of a ballot are such.
+fn listed_number(text: &[u8]) -> Option<(u64, &[u8])>
+    ensures { IfSome result (λ x. IsListed text.now x.0 x.1.now) }
+{
+    let (first, after) = first_digit(text)?;
+    if let Some((second, after)) = first_digit(after) {
+        let rest = after_comma(after)?;
+        return Some((10 * first + second, rest));
+    }
+    let rest = after_comma(after)?;
+    Some((first, rest))
+}
+
 /// The marks of the classes of an order.
 fn read_order(text: &[u8], m: u8, taking: Taking) -> Option<Marks>
     requires { m ≤ most_candidates }
@@ -179,11 +242,17 @@ fn read_order(text: &[u8], m: u8, taking: Taking) -> Option<Marks>
     let mut marks = Marks::new();
     let mut place = OrderPlace::Order;
     let mut rest = text;
-    while let Some((token, after)) = next_token(rest) {
-        place = place.after(token, &mut marks, m, taking)?;
-        rest = after;
+    loop {
+        if let Some((n, after)) = listed_number(rest) {
+            place = place.after_listed(n, &mut marks, m, taking)?;
+            rest = after;
+        } else if let Some((token, after)) = next_token(rest) {
+            place = place.after(token, &mut marks, m, taking)?;
+            rest = after;
+        } else {
+            return place.is_end().then_some(marks);
+        }
     }
-    place.is_end().then_some(marks)
 }
 
 /// The count and the marks of a line, if it has the shape of a ballot line.

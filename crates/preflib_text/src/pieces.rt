@@ -20,7 +20,7 @@ use crate::lines::{without_mark, without_return};
 use crate::notes::Notes;
 use crate::pick::Pick;
 use crate::reader::{fault_of_line, finish, take_line};
-use ballot_base::{MOST_CANDIDATES, Profile, ProfileBuilder};
+use ballot_base::{BallotHashing, MOST_CANDIDATES, Profile, ProfileBuilder};
 use bstr::ByteSlice;
 use std::alloc::{Allocator, Global};
 use std::marker::Model;
@@ -286,8 +286,23 @@ impl<A: Allocator + Copy> Model for LineReader<A> {
 }
 
 impl<A: Allocator + Copy + Drop> LineReader<A> {
-    /// A reader to which nothing was fed. The room for a line is taken here. Out of memory has no line.
+    /// A reader to which nothing was fed. The room for a line is taken here. Out of memory has no line. Ballots are
+    /// hashed by the fixed numbers.
     pub fn new(alloc: A, pick: Pick) -> Result<LineReader<A>, ReadFault>
+        requires { HasNumber pick.way }
+        ensures ok { IfOk result (λ reader. reader ≡ feeding pick [] None) }
+        ensures err { IfErr result (λ fault. fault ≡ at_end FaultName.Memory) }
+    {
+        LineReader::with_hashing(alloc, pick, BallotHashing::fixed())
+    }
+
+    /// The same with ballots that are hashed by these numbers. They change the time that ballots take, and nothing
+    /// else.
+    pub fn with_hashing(
+        alloc: A,
+        pick: Pick,
+        hashing: BallotHashing,
+    ) -> Result<LineReader<A>, ReadFault>
         requires { HasNumber pick.way }
         ensures ok { IfOk result (λ reader. reader ≡ feeding pick [] None) }
         ensures err { IfErr result (λ fault. fault ≡ at_end FaultName.Memory) }
@@ -296,7 +311,7 @@ impl<A: Allocator + Copy + Drop> LineReader<A> {
             name: FaultName::Memory,
             line: None,
         };
-        let Ok(builder) = ProfileBuilder::new(alloc, MOST_CANDIDATES) else {
+        let Ok(builder) = ProfileBuilder::with_hashing(alloc, MOST_CANDIDATES, hashing) else {
             return Err(memory);
         };
         let Ok(held) = Vec::with_capacity(alloc, LINE_ROOM) else {

@@ -4,6 +4,7 @@ use Rattle.std.proofs.Common.{◌≡◌, true, false, [], ◌∷◌, refl, sum, 
 use Rattle.ballot_base.specs.Lists.{lists_of}
 use Rattle.tie_search.specs.Completions.{IsOpen, IsCompletion, IsReaching, IsOutOfReach, is_reached, exact_bound}
 use Rattle.tie_search.specs.Prices.{kept, base, price}
+use Rattle.tie_search.specs.Steps.Columns.{ballot_of, given, total, voters_of}
 
 best-at_root : exact_bound sum 3 2 0 [] 2 ≡ 5
 unfolding lists_of
@@ -75,3 +76,15 @@ price-one = refl
 
 price-two : price (((1 ∷ 2 ∷ [], 2), 3) ∷ ((2 ∷ [], 1), 6) ∷ []) 2 ≡ 12
 price-two = refl
+
+voters-three : voters_of ((1 ∷ 2 ∷ [], 2) ∷ (3 ∷ [], 1) ∷ []) ≡ (1 ∷ 2 ∷ []) ∷ (1 ∷ 2 ∷ []) ∷ (3 ∷ []) ∷ []
+voters-three = refl
+
+-- a voter with one member already gives the second weight
+given-second : given (6 ∷ 3 ∷ 2 ∷ []) (2 ∷ []) 1 (1 ∷ 2 ∷ []) ≡ 3
+given-second = refl
+
+-- two voters give it, the third gives nothing, and there is no fourth
+given-by_all : total (λ v. given (6 ∷ 3 ∷ 2 ∷ []) (2 ∷ []) 1 (ballot_of ((1 ∷ 2 ∷ []) ∷ (1 ∷ 2 ∷ []) ∷ (3 ∷ []) ∷ []) v)) 4 ≡ 6
+unfolding total
+given-by_all = refl

@@ -1,5 +1,7 @@
+pub mod ColumnLemmas
 pub mod CompletionLemmas
 mod Examples
 pub mod PriceLemmas
 pub mod ReachLemmas
 pub mod SearchLemmas
+mod WholeLemmas

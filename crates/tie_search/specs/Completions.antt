@@ -46,5 +46,7 @@ is_reached value m c set left least =
 abbrev pub exact_bound : (List ℕ → ℕ) → ℕ → ℕ → ℕ → List ℕ → ℕ → ℕ
 exact_bound value m k c set left =
     if length set + left == k
-    then (if is_reached value m c set left (best_value value m k) then best_value value m k else best_value value m k - 1)
+    then (if is_reached value m c set left (best_value value m k)
+    then best_value value m k
+    else best_value value m k - 1)
     else ceiling value m c set left

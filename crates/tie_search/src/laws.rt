@@ -32,8 +32,8 @@ pub fn thresholds()
         + sum_by (λ n. gain_at (thiele_value (increments rule k) rows) set n - threshold) free }
 {}
 
-/// Prices bound values: whatever multiplier is chosen for each row, no committee is worth more than what all voters keep
-/// and the prices of its members, times the scale; and any threshold bounds the committees that complete a set.
+/// Prices bound values: whatever multiplier is chosen for each row, no committee is worth more than what all voters
+/// keep and the prices of its members, times the scale; and any threshold bounds the committees that complete a set.
 pub fn prices()
     ensures committees { (weights : List ℕ) (scale m : ℕ) (priced : List Priced) (committee : List ℕ)
         → AllByRecursion (λ row. IsIncreasing 1 m row.0) (rows_of priced) → IsIncreasing 1 m committee

@@ -2,12 +2,12 @@
 //! over the winners enters only prefixes with a winner below.
 #![tactic(auto)]
 
+mod columns;
 pub mod laws;
 mod order;
-pub mod search;
+mod search;
 pub mod tally;
 
-pub use search::find;
 pub use tally::SearchTally;
 
 #[cfg(test)]

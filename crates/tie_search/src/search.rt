@@ -1,31 +1,61 @@
 //! The search for a committee of at least a value, depth first, that goes into no set whose bound is too low.
-ghost use Rattle.std.specs.Prelude.{◌≡◌, ℕ, ◌+◌, ◌-◌, ◌*◌, ◌^◌, ◌<◌, ◌≤◌, ◌↔◌, MatchOption, IsTrue, length, slice_index, sum_by};
+ghost use Rattle.std.specs.Prelude.{◌≡◌, ℕ, ◌+◌, ◌-◌, ◌*◌, ◌^◌, ◌<◌, ◌≤◌, ◌↔◌, ◌||◌, true, false, MatchOption, IsTrue, length, slice_index, sum_by};
+ghost use Rattle.ballot_base.specs.CandSet.{has_member};
+ghost use Rattle.ballot_base.specs.Lists.{IsIncreasing};
+ghost use Rattle.ballot_base.specs.Increments.{increments};
+ghost use Rattle.tie_walk.specs.Sequences.{gain};
+ghost use Rattle.tie_search.specs.Steps.Searched.{IsKept};
 ghost use Rattle.tie_search.specs.Completions.{IsOpen, IsOutOfReach, IsReaching, value_by};
 
+use crate::columns::{Columns, widened};
 use crate::order::Order;
-use ballot_base::CandSet;
+use ballot_base::{CandSet, ThieleRule};
 use std::alloc::Allocator;
 use tie_walk::{PLACES, Tally, ThieleTally};
 
 /// A committee of the set and of `left` of the free candidates whose value is at least `least`, if there is one.
 /// (Nemhauser and Wolsey, Maximizing submodular set functions)
-pub fn find<A: Allocator + Copy>(
+pub(crate) fn find<A: Allocator + Copy>(
     tally: &ThieleTally<A>,
+    columns: &Option<Columns>,
     set: CandSet,
     free: CandSet,
     left: u8,
     least: u128,
 ) -> Option<CandSet>
-    requires { IsOpen tally.now.election.m set free }
+    requires columns { IsKept tally.now columns.now }
+    requires opened { IsOpen tally.now.election.m set free }
+    ensures { MatchOption result (IsOutOfReach (value_by tally.now) tally.now.election.m set free left least)
+        (IsReaching (value_by tally.now) tally.now.election.m set free left least) }
+{
+    if !may_suffice(tally, set, free, least) {
+        return None;
+    }
+    let value = tally.value(set);
+    descend(tally, columns, set, value, free, left, least)
+}
+
+/// The same, where the value of the set is known.
+fn descend<A: Allocator + Copy>(
+    tally: &ThieleTally<A>,
+    columns: &Option<Columns>,
+    set: CandSet,
+    value: u128,
+    free: CandSet,
+    left: u8,
+    least: u128,
+) -> Option<CandSet>
+    requires columns { IsKept tally.now columns.now }
+    requires opened { IsOpen tally.now.election.m set free }
+    requires value { value ≡ value_by tally.now set }
     ensures { MatchOption result (IsOutOfReach (value_by tally.now) tally.now.election.m set free left least)
         (IsReaching (value_by tally.now) tally.now.election.m set free left least) }
 {
     tally.valid();
     if left == 0 {
-        let value = tally.value(set);
         return if value < least { None } else { Some(set) };
     }
-    let (value, gains) = tally.value_and_gains(set, free);
+    let gains = gains_at(tally, columns, set, free);
     let order = Order::by_worth(free, &gains);
     let mut rest = free;
     while may_reach(
@@ -38,12 +68,72 @@ pub fn find<A: Allocator + Copy>(
     ) {
         let next = order.first_of(rest)?;
         rest = rest.without(next);
-        let found = find(tally, set.with(next), rest, left - 1, least);
+        let more = value + gains[usize::from(next)];
+        let found = descend(tally, columns, set.with(next), more, rest, left - 1, least);
         if let Some(committee) = found {
             return Some(committee);
         }
+        if !may_suffice(tally, set, rest, least) {
+            return None;
+        }
     }
     None
+}
+
+/// What the set gains by each of the free candidates, at the candidate's number: from the columns, where they are kept.
+fn gains_at<A: Allocator + Copy>(
+    tally: &ThieleTally<A>,
+    columns: &Option<Columns>,
+    set: CandSet,
+    free: CandSet,
+) -> [u128; PLACES]
+    requires columns { IsKept tally.now columns.now }
+    ensures gains { (n : ℕ) → has_member free n ≡ true → slice_index result n
+        ≡ gain (increments tally.now.rule tally.now.k) tally.now.election.rows set n }
+    ensures small { (n : ℕ) → slice_index result n ≤ 2 ^ 116 }
+{
+    tally.valid();
+    free.valid();
+    match columns {
+        Some(columns) => widened(&columns.gains(set)),
+        None => tally.value_and_gains(set, free).1,
+    }
+}
+
+/// Whether all the free candidates together could lift the set to the value. It is asked where a voter's first hit
+/// alone counts, since there it is soon not so; else the answer is yes.
+fn may_suffice<A: Allocator + Copy>(
+    tally: &ThieleTally<A>,
+    set: CandSet,
+    free: CandSet,
+    least: u128,
+) -> bool
+    requires { IsOpen tally.now.election.m set free }
+    ensures { result ≡ false
+        → (left : ℕ) → IsOutOfReach (value_by tally.now) tally.now.election.m set free left least }
+{
+    tally.valid();
+    if !matches!(tally.rule(), ThieleRule::Cc) {
+        return true;
+    }
+    let value = tally.value(together(set, free));
+    value >= least
+}
+
+/// The members of either set.
+fn together(set: CandSet, other: CandSet) -> CandSet
+    ensures members { (n : ℕ) → has_member result n ≡ (has_member set n || has_member other n) }
+    ensures within { (m : ℕ) → IsIncreasing 1 m set → IsIncreasing 1 m other → IsIncreasing 1 m result }
+{
+    set.valid();
+    other.valid();
+    let mut both = set;
+    let mut left = other;
+    while let Some(parts) = left.split_first() {
+        both = both.with(parts.0);
+        left = parts.1;
+    }
+    both
 }
 
 /// Whether so many candidates are free, and a value with the greatest gains reaches `least`. Any threshold is right;

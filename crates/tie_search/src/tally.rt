@@ -4,8 +4,10 @@ ghost use Rattle.ballot_base.specs.Limits.{most_members};
 ghost use Rattle.ballot_base.specs.Lists.{IsIncreasing};
 ghost use Rattle.tie_walk.specs.Values.{thiele_of};
 ghost use Rattle.tie_walk.specs.Winners.{best_value};
+ghost use Rattle.tie_search.specs.Steps.Searched.{IsKept};
 ghost use Rattle.tie_search.specs.Completions.{IsOpen, IsOutOfReach, IsReaching, is_reached, exact_bound, value_by};
 
+use crate::columns::Columns;
 use crate::search::find;
 use ballot_base::{CandSet, Profile, ThieleRule};
 use std::alloc::{Allocator, Global};
@@ -20,6 +22,7 @@ use tie_walk::{Tally, ThieleTally, those_after};
 #[derive(Drop)]
 pub struct SearchTally<'a, A: Allocator + Copy = Global> {
     values: ThieleTally<'a, A>,
+    columns: Option<Columns>,
     m: u8,
     k: u8,
     // The greatest value of a committee of k, and a committee that has it.
@@ -37,7 +40,7 @@ impl<'a, A: Allocator + Copy> Model for SearchTally<'a, A> {
 
     ghost view = { λ t. t.values };
 
-    ghost invariant = { λ t. IsSearched t.values t.m t.k t.best t.committee };
+    ghost invariant = { λ t. IsSearched t.values t.columns t.m t.k t.best t.committee };
 }
 
 impl<'a, A: Allocator + Copy> SearchTally<'a, A> {
@@ -50,10 +53,12 @@ impl<'a, A: Allocator + Copy> SearchTally<'a, A> {
     {
         let values = ThieleTally::new(profile, rule, k);
         let m = values.m();
-        let committee = best_committee(&values, m, k);
+        let columns = Columns::of(profile, rule, k);
+        let committee = best_committee(&values, &columns, m, k);
         let best = values.value(committee);
         SearchTally {
             values,
+            columns,
             m,
             k,
             best,
@@ -82,7 +87,7 @@ impl<'a, A: Allocator + Copy> SearchTally<'a, A> {
         }
         self.values.valid();
         let free = those_after(c, self.m);
-        match find(&self.values, set, free, left, self.best) {
+        match find(&self.values, &self.columns, set, free, left, self.best) {
             Some(committee) => {
                 self.found.set(committee);
                 true
@@ -147,7 +152,13 @@ impl<'a, A: Allocator + Copy> Tally for SearchTally<'a, A> {
 }
 
 /// A committee of k that none has a greater value than.
-fn best_committee<A: Allocator + Copy>(values: &ThieleTally<A>, m: u8, k: u8) -> CandSet
+fn best_committee<A: Allocator + Copy>(
+    values: &ThieleTally<A>,
+    columns: &Option<Columns>,
+    m: u8,
+    k: u8,
+) -> CandSet
+    requires columns { IsKept values.now columns.now }
     requires candidates { m ≡ values.now.election.m }
     requires fits { k ≤ m }
     ensures candidates { IsIncreasing 1 m result }
@@ -157,7 +168,7 @@ fn best_committee<A: Allocator + Copy>(values: &ThieleTally<A>, m: u8, k: u8) ->
     values.valid();
     let all = those_after(0, m);
     let mut best = CandSet::all(k);
-    while let Some(better) = better_than(values, all, best, k) {
+    while let Some(better) = better_than(values, columns, all, best, k) {
         best = better;
     }
     best
@@ -166,10 +177,12 @@ fn best_committee<A: Allocator + Copy>(values: &ThieleTally<A>, m: u8, k: u8) ->
 /// A committee of k of all candidates with a greater value, if there is one.
 fn better_than<A: Allocator + Copy>(
     values: &ThieleTally<A>,
+    columns: &Option<Columns>,
     all: CandSet,
     committee: CandSet,
     k: u8,
 ) -> Option<CandSet>
+    requires columns { IsKept values.now columns.now }
     requires all { IsIncreasing 1 values.now.election.m all }
     requires candidates { IsIncreasing 1 values.now.election.m committee }
     ensures { MatchOption result
@@ -178,5 +191,5 @@ fn better_than<A: Allocator + Copy>(
 {
     values.valid();
     let least = values.value(committee) + 1;
-    find(values, CandSet::empty(), all, k, least)
+    find(values, columns, CandSet::empty(), all, k, least)
 }

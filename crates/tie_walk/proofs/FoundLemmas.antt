@@ -69,16 +69,20 @@ Contains-from_insert_all keys (other ∷ sets) set inside = elim (Contains-from_
   | inr later ↦ inr (suc later.0, omega (arith, later.1), later.2)
 ]
 
--- the sets that were found are those that the choices make
-pub found-next_level : (step : Step) (weights : List ℕ) (m : ℕ) (rows : List Row) (level found next : List (List ℕ))
-    → found ≡ insert_all bytes_eq [] (flat_map (changes step weights m rows) level) → IsInOrder found next → IsNextLevel step weights m rows level next
-found-next_level step weights m rows level found next is made = record {
+-- the sets that were found are those that were inserted, each once
+pub found-in_order : (sets found next : List (List ℕ)) → found ≡ insert_all bytes_eq [] sets → IsInOrder found next → IsInOrder sets next
+found-in_order sets found next is made = record {
   order = made.order;
   members = λ set. (
-    λ inside. elim (Contains-from_insert_all [] (flat_map (changes step weights m rows) level) set (subst (λ l. Contains l set) is ((made.members set).0 inside))) [
+    λ inside. elim (Contains-from_insert_all [] sets set (subst (λ l. Contains l set) is ((made.members set).0 inside))) [
       | inl none ↦ absurd (omega (arith, none.1))
       | inr own ↦ own
     ],
-    λ inside. (made.members set).1 (subst (λ l. Contains l set) (sym is) (Contains-insert_all [] (flat_map (changes step weights m rows) level) set inside)),
+    λ inside. (made.members set).1 (subst (λ l. Contains l set) (sym is) (Contains-insert_all [] sets set inside)),
   );
 }
+
+-- they are those that the choices make
+pub found-next_level : (step : Step) (weights : List ℕ) (m : ℕ) (rows : List Row) (level found next : List (List ℕ))
+    → found ≡ insert_all bytes_eq [] (flat_map (changes step weights m rows) level) → IsInOrder found next → IsNextLevel step weights m rows level next
+found-next_level step weights m rows level found next is made = found-in_order (flat_map (changes step weights m rows) level) found next is made

@@ -78,6 +78,13 @@ impl<'a, A: Allocator + Copy> ThieleTally<'a, A> {
         self.denom
     }
 
+    /// The rule.
+    pub fn rule(&self) -> ThieleRule
+        ensures { result ≡ self.now.rule }
+    {
+        self.rule
+    }
+
     /// The value of a set, and what it gains by each of the others, at the candidate's number.
     pub fn value_and_gains(&self, set: CandSet, others: CandSet) -> (u128, [u128; PLACES])
         ensures value { result.0 ≡ thiele_value (increments self.now.rule self.now.k) self.now.election.rows set }

@@ -26,7 +26,7 @@ use group_check::{Property, find_violation};
 use request_words::{Page, Rule};
 use seat_share::{Method, ShareFault, Shares};
 use std::alloc::Allocator;
-use tie_walk::SeqWinners;
+use tie_families::{Families, FamilyWinners};
 
 /// What an answer that was written says.
 #[derive(Clone, Copy, Debug, PartialEq, Eq)]
@@ -79,11 +79,14 @@ pub(crate) fn answer_election<A: Allocator + Copy + Drop, W: Sink>(
             write_scored(out, profile, rule, size, after, page.limit, &names),
             Outcome::Answered,
         ),
-        Rule::Sequential(rule) => match SeqWinners::new(alloc, profile, rule, size, after) {
-            Ok(winners) => written(
-                write_sequential(out, winners, rule, size, page.limit, &names),
-                Outcome::Answered,
-            ),
+        Rule::Sequential(rule) => match Families::new(alloc, profile, rule, size) {
+            Ok(families) => {
+                let winners = FamilyWinners::new(&families, after);
+                written(
+                    write_sequential(out, winners, rule, size, page.limit, &names),
+                    Outcome::Answered,
+                )
+            }
             Err(_) => Err(Refusal::Memory),
         },
     }

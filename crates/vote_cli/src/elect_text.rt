@@ -13,10 +13,12 @@ use crate::names::Names;
 use crate::printing::{Printer, WriteFailed};
 use ballot_base::{CandSet, Increments, Profile, ThieleRule, common_multiple};
 use itoa::Buffer;
+use minimax_search::NearTally;
 use request_words::{Rule, ScoredRule};
 use std::alloc::Allocator;
 use tie_search::SearchTally;
-use tie_walk::{MinimaxTally, SavTally, SeqRule, SeqWinners, Tally, ThieleTally, Winners};
+use tie_families::FamilyWinners;
+use tie_walk::{SavTally, SeqRule, Tally, ThieleTally, Winners};
 
 /// Prints a score over its denominator, on a line.
 fn print_score<W: Sink>(
@@ -186,7 +188,7 @@ pub(crate) fn write_scored<W: Sink, A: Allocator + Copy>(
             write_by(out, &tally, rule, size, after, limit, names)
         }
         ScoredRule::Minimax => {
-            let tally = MinimaxTally::new(profile);
+            let tally = NearTally::new(profile, size);
             write_by(out, &tally, rule, size, after, limit, names)
         }
     }
@@ -195,14 +197,14 @@ pub(crate) fn write_scored<W: Sink, A: Allocator + Copy>(
 /// Writes the answer of a sequential rule, of which these winners are asked for, and flushes the writer.
 pub(crate) fn write_sequential<W: Sink, A: Allocator + Copy + Drop>(
     out: &mut W,
-    winners: SeqWinners<A>,
+    winners: FamilyWinners<'_, A>,
     rule: SeqRule,
     size: u8,
     limit: Option<u32>,
     names: &Names<'_, A>,
 ) -> Result<(), WriteFailed>
     ensures { Sends W.contents W.has_failed out.old out.new (is_ok result)
-        (rule_lines (Rule.Sequential rule) size ++ answers_text (committee_line names.now) limit winners) }
+        (rule_lines (Rule.Sequential rule) size ++ answers_text (committee_line names.now) limit winners.entry) }
 {
     let mut printer = Printer::new(out);
     print_rule(&mut printer, Rule::Sequential(rule), size)?;

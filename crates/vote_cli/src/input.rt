@@ -6,6 +6,7 @@ ghost use Rattle.vote_cli.specs.Answer.{IsAllRead};
 ghost use Rattle.vote_cli.specs.Steps.Input.{TellsOfInput};
 
 use crate::device::Source;
+use ballot_base::BallotHashing;
 use preflib_text::{FaultName, LineReader, Pick};
 use std::alloc::Allocator;
 
@@ -41,6 +42,7 @@ fn feed_piece<A: Allocator + Copy + Drop>(
 /// than a `u64` can count, they are more than can be fed.
 pub(crate) fn read_to_end<A: Allocator + Copy + Drop, R: Source>(
     alloc: A,
+    hashing: BallotHashing,
     pick: &Pick,
     reader: &mut R,
 ) -> Result<LineReader<A>, InputFault>
@@ -50,7 +52,7 @@ pub(crate) fn read_to_end<A: Allocator + Copy + Drop, R: Source>(
     ensures end { IfOk result (λ _. IsAllRead (R.remaining reader.old) (R.remaining reader.new)) }
     ensures failed { TellsOfInput (R.has_failed reader.old) (R.has_failed reader.new) result }
 {
-    let Ok(mut lines) = LineReader::new(alloc, *pick) else {
+    let Ok(mut lines) = LineReader::with_hashing(alloc, *pick, hashing) else {
         return Err(InputFault::Memory);
     };
     let mut piece = [0; PIECE];

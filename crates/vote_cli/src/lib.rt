@@ -20,9 +20,10 @@ mod share_text;
 mod starts;
 pub mod status;
 
+pub use ballot_base::BallotHashing;
 pub use device::{Device, Sink, Source, Told};
 pub use request_words::{
     LineFault, ListOption, Page, Request, Rule, ScoredRule, Task, read_request,
 };
-pub use run_request::run;
+pub use run_request::{run, run_with_hashing};
 pub use status::Status;

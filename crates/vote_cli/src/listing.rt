@@ -12,7 +12,8 @@ use crate::printing::{Printer, WriteFailed};
 use ballot_base::CandSet;
 use seat_share::{Allocation, Shares};
 use std::alloc::Allocator;
-use tie_walk::{SeqWinners, Tally, Winners};
+use tie_families::FamilyWinners;
+use tie_walk::{Tally, Winners};
 
 /// What hands out the answers to a request one by one. Each answer is a list of numbers: the members of a committee, or
 /// the seats of the parties.
@@ -64,7 +65,7 @@ impl<'a, T: Tally> Answers for Winners<'a, T> {
     }
 }
 
-impl<A: Allocator + Copy + Drop> Answers for SeqWinners<A> {
+impl<'a, A: Allocator + Copy> Answers for FamilyWinners<'a, A> {
     type Answer = CandSet;
 
     ghost left = { λ winners. winners };

@@ -13,7 +13,7 @@ use crate::input::{InputFault, read_to_end};
 use crate::names::Names;
 use crate::refusal::{Refusal, refusal_of};
 use crate::status::Status;
-use ballot_base::Profile;
+use ballot_base::{BallotHashing, Profile};
 use preflib_text::{LineReader, Pick};
 use request_words::{Request, Task};
 use std::alloc::Allocator;
@@ -33,6 +33,7 @@ fn ballots_of<A: Allocator + Copy + Drop>(lines: LineReader<A>) -> Result<Profil
 /// Reads the ballots of the whole input.
 fn read_ballots<A: Allocator + Copy + Drop, R: Source>(
     alloc: A,
+    hashing: BallotHashing,
     pick: &Pick,
     reader: &mut R,
 ) -> Result<Profile<A>, Refusal>
@@ -42,7 +43,7 @@ fn read_ballots<A: Allocator + Copy + Drop, R: Source>(
     ensures end { ReadsOn (R.remaining reader.old) (R.remaining reader.new) result }
     ensures unwritten { result ≢ Err Refusal.WriteFailed }
 {
-    let lines = match read_to_end(alloc, pick, reader) {
+    let lines = match read_to_end(alloc, hashing, pick, reader) {
         Ok(lines) => lines,
         Err(InputFault::Memory) => return Err(Refusal::Memory),
         Err(InputFault::ReadFailed) => return Err(Refusal::ReadFailed),
@@ -53,6 +54,7 @@ fn read_ballots<A: Allocator + Copy + Drop, R: Source>(
 /// Writes the answer where there is one. The input is read only where its ballots are asked about.
 fn answer<A: Allocator + Copy + Drop, R: Source, W: Sink>(
     alloc: A,
+    hashing: BallotHashing,
     request: &Request,
     reader: &mut R,
     out: &mut W,
@@ -68,11 +70,11 @@ fn answer<A: Allocator + Copy + Drop, R: Source, W: Sink>(
     let with_names = request.names();
     match request.task() {
         Task::Elect(rule, size, page) => {
-            let profile = read_ballots(alloc, &request.pick(), reader)?;
+            let profile = read_ballots(alloc, hashing, &request.pick(), reader)?;
             answer_election(alloc, out, &profile, *rule, *size, page, with_names)
         }
         Task::Check(property, committee) => {
-            let profile = read_ballots(alloc, &request.pick(), reader)?;
+            let profile = read_ballots(alloc, hashing, &request.pick(), reader)?;
             answer_check(out, &profile, *property, committee.as_slice(), with_names)
         }
         Task::Share(method, seats, votes, page) => match votes {
@@ -81,7 +83,7 @@ fn answer<A: Allocator + Copy + Drop, R: Source, W: Sink>(
                 answer_share(out, votes.as_slice(), *method, *seats, page, &names)
             }
             None => {
-                let profile = read_ballots(alloc, &request.pick(), reader)?;
+                let profile = read_ballots(alloc, hashing, &request.pick(), reader)?;
                 answer_share_of_ballots(out, &profile, *method, *seats, page, with_names)
             }
         },
@@ -101,7 +103,7 @@ fn refuse<E: Sink>(err: &mut E, refusal: Refusal) -> Status
 ///
 /// The input is read to its end, whatever stands in it. Only then is the request tested, and only then something
 /// written. No memory is taken after the first write. Where the votes stand in the request, nothing is read, and no
-/// memory is taken.
+/// memory is taken. Ballots are hashed by the fixed numbers.
 pub fn run<A: Allocator + Copy + Drop, R: Source, W: Sink, E: Sink>(
     alloc: A,
     request: &Request,
@@ -124,7 +126,34 @@ pub fn run<A: Allocator + Copy + Drop, R: Source, W: Sink, E: Sink>(
     // With votes in the request the reader is left alone, and no memory is taken.
     ensures votes { has_votes request.now.demand ≡ true → (reader.new ≡ reader.old) × (result ≢ Status.NoMemory) }
 {
-    match answer(alloc, request, reader, out) {
+    run_with_hashing(alloc, BallotHashing::fixed(), request, reader, out, err)
+}
+
+/// The same with ballots that are hashed by these numbers. They change the time that ballots take, and nothing else.
+pub fn run_with_hashing<A: Allocator + Copy + Drop, R: Source, W: Sink, E: Sink>(
+    alloc: A,
+    hashing: BallotHashing,
+    request: &Request,
+    reader: &mut R,
+    out: &mut W,
+    err: &mut E,
+) -> Status
+    // What was written is the answer of the request and the bytes, or what the status says of it.
+    ensures ends { IfSome (input_for request.now.demand (R.remaining reader.old)) (λ bytes.
+        Ends request.now bytes (W.contents out.old) (W.contents out.new)
+        (E.contents err.old) (E.contents err.new) (E.has_failed err.new)
+        (R.has_failed reader.old) (R.has_failed reader.new) (W.has_failed out.old) (W.has_failed out.new) result) }
+    // A device is blamed exactly where it has failed, by its own line, whether or not the devices tell their bytes.
+    ensures devices { TellsOf result
+        (R.has_failed reader.old) (R.has_failed reader.new) (W.has_failed out.old) (W.has_failed out.new)
+        (Reports (E.contents err.old) (E.contents err.new) (E.has_failed err.new)) }
+    // The input is read to its end, whatever stands in it.
+    ensures input { has_votes request.now.demand ≡ false →
+        ReadsAll result (R.remaining reader.old) (R.remaining reader.new) }
+    // With votes in the request the reader is left alone, and no memory is taken.
+    ensures votes { has_votes request.now.demand ≡ true → (reader.new ≡ reader.old) × (result ≢ Status.NoMemory) }
+{
+    match answer(alloc, hashing, request, reader, out) {
         Ok(outcome) => outcome.status(),
         Err(refusal) => refuse(err, refusal),
     }

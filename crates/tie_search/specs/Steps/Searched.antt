@@ -1,12 +1,19 @@
 -- What a tally by search keeps.
-use Rattle.std.specs.Prelude.{◌≡◌, ℕ, ◌≤◌, List, length}
+use Rattle.std.specs.Prelude.{◌≡◌, ℕ, ◌≤◌, List, length, Option, MatchOption, ⊤}
 use Rattle.ballot_base.specs.Lists.{IsIncreasing}
 use Rattle.tie_walk.specs.Values.{Thiele}
 use Rattle.tie_walk.specs.Winners.{best_value}
+use Rattle.tie_search.specs.declared.columns.Columns.{Columns}
+use Rattle.tie_search.specs.Steps.Columns.{AreColumnsOf}
 use Rattle.tie_search.specs.Completions.{value_by}
 
+-- the columns are those of the election, where they are kept
+abbrev pub IsKept : Thiele → Option Columns → Type 0
+IsKept tally columns = MatchOption columns ⊤ (λ kept. AreColumnsOf tally kept.blocks kept.used kept.weights kept.levels)
+
 -- what is true of each tally by search: its committee has the greatest value
-pub record IsSearched (values : Thiele) (m k best : ℕ) (committee : List ℕ) : Type 0 where
+pub record IsSearched (values : Thiele) (columns : Option Columns) (m k best : ℕ) (committee : List ℕ) : Type 0 where
+  pub kept : IsKept values columns
   pub m_is : m ≡ values.election.m
   pub k_is : k ≡ values.k
   pub fits : k ≤ m

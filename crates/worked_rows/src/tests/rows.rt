@@ -1,8 +1,9 @@
 //! Worked runs of approval voting, from the words to the bytes.
 use super::support::{ANSWER, THREE, assert_ended, read_line, request};
+use std::hash::RandomState;
 use std::test::Fail;
 use test_devices::{Wanted, reader, run_on, writer};
-use vote_cli::{Device, LineFault, Status, Task, Told, run};
+use vote_cli::{BallotHashing, Device, LineFault, Status, Task, Told, run, run_with_hashing};
 
 #[test]
 fn approval_voting(rt: HostRuntime) -> Result<(), Fail> {
@@ -91,6 +92,28 @@ fn readers_and_writers_of_std(rt: HostRuntime) -> Result<(), Fail> {
     assert!(rt; !told_reader.failed() && !told_out.failed() && !told_err.failed());
     assert_eq!(rt; out.as_slice(), ANSWER);
     assert!(rt; err.is_empty());
+    Ok(())
+}
+
+#[test]
+fn a_secret_hash(rt: HostRuntime) -> Result<(), Fail> {
+    let alloc = rt.alloc();
+    let request = request(alloc, "1")?;
+    let hashing = BallotHashing::secret(&RandomState::new(&rt)?);
+    let mut out = Vec::new(alloc);
+    let mut told_reader = Told::new(THREE);
+    let mut told_out = Told::new(&mut out);
+    let mut told_err = Told::new(Vec::new(alloc));
+    let status = run_with_hashing(
+        alloc,
+        hashing,
+        &request,
+        &mut told_reader,
+        &mut told_out,
+        &mut told_err,
+    );
+    assert_eq!(rt; status, Status::Answered);
+    assert_eq!(rt; out.as_slice(), ANSWER);
     Ok(())
 }
 

@@ -9,8 +9,11 @@ use Rattle.tie_search.proofs.tally.SearchTally.is_reached.Goals as goal
 pub those_after-free-requires-clause-most : goal.those_after-free-requires-clause-most
 those_after-free-requires-clause-most g c = omega (arith, c.valid.ensures.election.most, c.self.invariant.m_is)
 
-pub find-requires : goal.find-requires
-find-requires g c =
+pub find-requires-clause-columns : goal.find-requires-clause-columns
+find-requires-clause-columns g c = c.self.invariant.kept
+
+pub find-requires-clause-opened : goal.find-requires-clause-opened
+find-requires-clause-opened g c =
     let t = c.self.inside in
     let size : t.values.election.m ≡ c.args.self.now.election.m = ap (λ (x : Thiele). x.election.m) c.self.view_is in
     let after : IsIncreasing (c.args.c + 1) t.values.election.m c.those_after-free.result = rw (← c.self.invariant.m_is) c.those_after-free.ensures.within in

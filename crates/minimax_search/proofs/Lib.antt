@@ -1,0 +1,3 @@
+pub mod BoundLemmas
+mod Examples
+pub mod NeedLemmas

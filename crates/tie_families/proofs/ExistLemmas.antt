@@ -1,0 +1,170 @@
+-- Some sequence of choices makes a committee: at each set somebody ties for the best.
+use Rattle.std.proofs.Common.{◌≡◌, ℕ, zero, suc, ◌+◌, ◌-◌, ◌<◌, ◌≤◌, ◌==◌, ◌∙◌, Bool, true, false, cond, List, [], ◌∷◌, refl, sym, ap, subst, arith, inl, inr, ◌⊎◌, length}
+use Rattle.std.specs.List.{range_with_len, AllByRecursion}
+use Rattle.std.proofs.lemmas.Bool.{cases_lt, cases_eq, le-leb, leb-true, and_from}
+use Rattle.std.proofs.lemmas.List.FromFn.{length-range_with_len}
+use Rattle.ballot_base.specs.Lists.{IsIncreasing, increasing_lists}
+use Rattle.ballot_base.specs.CandSet.{has_member}
+use Rattle.ballot_base.specs.Ballots.{Row, Election}
+use Rattle.ballot_base.proofs.Committees.{increasing_lists-contains}
+use Rattle.ballot_base.proofs.Increasing.{has_member_head, has_member_tail}
+use Rattle.tie_walk.specs.Sequences.{hit_weights, others, is_sequential_winner, sequential_winners}
+use Rattle.tie_walk.specs.Steps.Choices.{change, worth, is_no_better, open_candidates, is_choice, start}
+use Rattle.tie_walk.specs.Winners.{best_value, winners}
+use Rattle.tie_walk.specs.declared.sequential.SeqRule.{SeqRule}
+use Rattle.tie_walk.specs.declared.sequential.SeqRule.TheVariants.{SeqPav, SeqCc, RevSeqPav}
+use Rattle.tie_walk.specs.declared.sequential.Step.{Step}
+use Rattle.tie_walk.specs.declared.sequential.Step.TheVariants.{Grow, Shrink}
+use Rattle.tie_walk.proofs.Choices.{reached_none, reached_more, made_from_reached}
+use Rattle.tie_walk.proofs.LawLemmas.{no_greater_value}
+use Rattle.tie_walk.proofs.LevelLemmas.{followed-candidates, reached-increasing}
+use Rattle.tie_walk.proofs.SequenceLemmas.{IsSized, grown_set-made, left_set-made, reached-sized}
+use Rattle.tie_walk.proofs.WinnersLemmas.{greatest-most, same_filter, winners-best}
+use Rattle.tie_families.specs.Families.{Sequential, is_winner}
+use Rattle.tie_families.specs.Steps.Levels.{IsReachedBy}
+use Rattle.tie_families.proofs.Lists.{members-of, count-others, all-from}
+use Rattle.tie_families.proofs.Numbers.{length-sum}
+
+-- ---- one of those that nobody is better than
+
+no_better-total : (step : Step) (x y : ℕ) → (is_no_better step x y ≡ true) ⊎ (is_no_better step y x ≡ true)
+no_better-total Grow x y = elim (cases_lt x y) [ inl less ↦ inl (le-leb x y (omega (arith, less))) | inr more ↦ inr (le-leb y x more) ]
+no_better-total Shrink x y = elim (cases_lt x y) [ inl less ↦ inr (le-leb x y (omega (arith, less))) | inr more ↦ inl (le-leb y x more) ]
+
+no_better-joined : (step : Step) (x y z : ℕ) → is_no_better step x y ≡ true → is_no_better step y z ≡ true → is_no_better step x z ≡ true
+no_better-joined Grow x y z xy yz = le-leb x z (omega (arith, leb-true x y xy, leb-true y z yz))
+no_better-joined Shrink x y z xy yz = le-leb z x (omega (arith, leb-true y x xy, leb-true z y yz))
+
+no_better-itself : (step : Step) (x : ℕ) → is_no_better step x x ≡ true
+no_better-itself Grow x = le-leb x x (omega arith)
+no_better-itself Shrink x = le-leb x x (omega arith)
+
+some-best : (step : Step) (w : ℕ → ℕ) (x : ℕ) (xs : List ℕ) → (c : ℕ) × (has_member (x ∷ xs) c ≡ true) × ((d : ℕ) → has_member (x ∷ xs) d ≡ true → is_no_better step (w d) (w c) ≡ true)
+some-best step w x [] = (
+  x,
+  has_member_head x [],
+  λ d inside. elim (cases_eq x d) [
+    | inl same ↦ subst (λ k. is_no_better step (w k) (w x) ≡ true) same (no_better-itself step (w x))
+    | inr other ↦ absurd (let e : false ≡ true = sym (has_member_tail x d [] other) ∙ inside in cc)
+  ],
+)
+some-best step w x (y ∷ ys) =
+    let rest = some-best step w y ys in
+    elim (no_better-total step (w x) (w rest.0)) [
+      | inl fine ↦ (
+        rest.0,
+        later rest.0 rest.1,
+        λ d inside. elim (cases_eq x d) [
+          | inl same ↦ subst (λ k. is_no_better step (w k) (w rest.0) ≡ true) same fine
+          | inr other ↦ rest.2 d (sym (has_member_tail x d (y ∷ ys) other) ∙ inside)
+        ],
+      )
+      | inr more ↦ (
+        x,
+        has_member_head x (y ∷ ys),
+        λ d inside. elim (cases_eq x d) [
+          | inl same ↦ subst (λ k. is_no_better step (w k) (w x) ≡ true) same (no_better-itself step (w x))
+          | inr other ↦ no_better-joined step (w d) (w rest.0) (w x) (rest.2 d (sym (has_member_tail x d (y ∷ ys) other) ∙ inside)) more
+        ],
+      )
+    ]
+  where
+    later : (c : ℕ) → has_member (y ∷ ys) c ≡ true → has_member (x ∷ y ∷ ys) c ≡ true
+    later c inside = elim (cases_eq x c) [
+      | inl same ↦ subst (λ k. has_member (x ∷ y ∷ ys) k ≡ true) same (has_member_head x (y ∷ ys))
+      | inr other ↦ has_member_tail x c (y ∷ ys) other ∙ inside
+    ]
+
+-- ---- somebody is free as long as choices are left
+
+some-free : (step : Step) (m size : ℕ) (set : List ℕ) → IsIncreasing 1 m set → IsSized step m size set → size < m → 1 ≤ length (open_candidates step m set)
+some-free Grow m size set up sized more =
+    omega (
+      arith,
+      sized,
+      more,
+      count-others (λ (x : ℕ). true) m set up,
+      length-sum set,
+      length-sum (others m set),
+      length-sum (range_with_len 1 m),
+      length-range_with_len 1 m,
+    )
+some-free Shrink m size set up sized more = omega (arith, ap length (members-of m set up), sized, more)
+
+module _ (step : Step) (weights : List ℕ) (m : ℕ) (rows : List Row) where
+  choice-of : (set all : List ℕ) → all ≡ open_candidates step m set → 1 ≤ length all → (c : ℕ) × (is_choice step weights m rows set c ≡ true)
+  choice-of set [] is some = absurd (omega (arith, some))
+  choice-of set (x ∷ xs) is some =
+      let best = some-best step (worth step weights rows set) x xs in
+      (best.0, tied best.0 (ap (λ l. has_member l best.0) (sym is) ∙ best.1) (λ d inside. best.2 d (ap (λ l. has_member l d) is ∙ inside)))
+    where
+      tied : (c : ℕ) → has_member (open_candidates step m set) c ≡ true
+          → ((d : ℕ) → has_member (open_candidates step m set) d ≡ true → is_no_better step (worth step weights rows set d) (worth step weights rows set c) ≡ true)
+          → is_choice step weights m rows set c ≡ true
+      tied c free each =
+          and_from (has_member (open_candidates step m set) c) _ free
+          (all-from (λ d. is_no_better step (worth step weights rows set d) (worth step weights rows set c)) (open_candidates step m set) each)
+
+  some-reached : (size : ℕ) → size ≤ m → (set : List ℕ) × IsReachedBy step weights m rows size set
+  some-reached zero fits = (start step m, reached_none (is_choice step weights m rows) (change step) (start step m))
+  some-reached (suc size) fits =
+      let old = some-reached size (omega (arith, fits)) in
+      let up = reached-increasing step weights m rows size old.0 old.1 in
+      let c = choice-of old.0 (open_candidates step m old.0) refl (some-free step m size old.0 up (reached-sized step weights m rows size old.0 old.1) (omega (arith, fits))) in
+      let next : size + 1 ≡ suc size = omega arith in
+      (change step old.0 c.0, subst (λ n. IsReachedBy step weights m rows n (change step old.0 c.0)) next (reached_more (is_choice step weights m rows) (change step) (start step m) size old.0 c.0 old.1 c.1))
+
+-- ---- some committee wins
+
+pub some-wins : (rule : SeqRule) (e : Election) (k : ℕ) → k ≤ e.m → (set : List ℕ) × (is_sequential_winner rule e k set ≡ true) × IsIncreasing 1 e.m set × (length set ≡ k)
+some-wins SeqPav e k fits =
+    let w = hit_weights SeqPav e.m in
+    let s = some-reached Grow w e.m e.rows k fits in (
+      s.0,
+      grown_set-made w e.m e.rows k s.0 ∙ made_from_reached (is_choice Grow w e.m e.rows) (change Grow) e.m (start Grow e.m) k s.0 s.1 (followed-candidates Grow w e.m e.rows (start Grow e.m) s.1.list s.1.made),
+      reached-increasing Grow w e.m e.rows k s.0 s.1,
+      reached-sized Grow w e.m e.rows k s.0 s.1,
+    )
+some-wins SeqCc e k fits =
+    let w = hit_weights SeqCc e.m in
+    let s = some-reached Grow w e.m e.rows k fits in (
+      s.0,
+      grown_set-made w e.m e.rows k s.0 ∙ made_from_reached (is_choice Grow w e.m e.rows) (change Grow) e.m (start Grow e.m) k s.0 s.1 (followed-candidates Grow w e.m e.rows (start Grow e.m) s.1.list s.1.made),
+      reached-increasing Grow w e.m e.rows k s.0 s.1,
+      reached-sized Grow w e.m e.rows k s.0 s.1,
+    )
+some-wins RevSeqPav e k fits =
+    let w = hit_weights RevSeqPav e.m in
+    let s = some-reached Shrink w e.m e.rows (e.m - k) (omega arith) in
+    let sized = reached-sized Shrink w e.m e.rows (e.m - k) s.0 s.1 in (
+      s.0,
+      left_set-made w e.m e.rows k s.0 ∙ made_from_reached (is_choice Shrink w e.m e.rows) (change Shrink) e.m (start Shrink e.m) (e.m - k) s.0 s.1 (followed-candidates Shrink w e.m e.rows (start Shrink e.m) s.1.list s.1.made),
+      reached-increasing Shrink w e.m e.rows (e.m - k) s.0 s.1,
+      omega (arith, sized, fits),
+    )
+
+-- ---- the winners of the values are those of the rule
+
+bit-most : (b : Bool) → cond b 1 0 ≤ 1
+bit-most true = omega arith
+bit-most false = omega arith
+
+bit-is : (b : Bool) → (cond b 1 0 == 1) ≡ b
+bit-is true = refl
+bit-is false = refl
+
+all-pass : (P : List ℕ → Type 0) (xs : List (List ℕ)) → ((x : List ℕ) → P x) → AllByRecursion P xs
+all-pass P [] each = tt
+all-pass P (x ∷ xs) each = (each x, all-pass P xs each)
+
+pub winners-are : (s : Sequential) → s.k ≤ s.election.m → winners (λ w. cond (is_winner s w) 1 0) s.election.m s.k ≡ sequential_winners s.rule s.election s.k
+winners-are s fits =
+    let value : List ℕ → ℕ = λ (w : List ℕ). cond (is_winner s w) 1 0 in
+    let all = increasing_lists 1 s.election.m s.k in
+    let one = some-wins s.rule s.election s.k fits in
+    let reached : value one.0 ≤ best_value value s.election.m s.k = no_greater_value value s.election.m s.k one.0 (increasing_lists-contains 1 s.election.m s.k one.0 (one.2, one.3)) in
+    let most : best_value value s.election.m s.k ≤ 1 = greatest-most value 0 1 all (omega arith) (all-pass (λ w. value w ≤ 1) all (λ w. bit-most (is_winner s w))) in
+    let best : best_value value s.election.m s.k ≡ 1 = omega (arith, reached, most, ap {B = ℕ} (λ b. cond b 1 0) one.1) in
+    winners-best value s.election.m s.k
+    ∙ same_filter (λ w. value w == best_value value s.election.m s.k) (is_winner s) all
+    (all-pass (λ w. (value w == best_value value s.election.m s.k) ≡ is_winner s w) all (λ w. ap (λ n. value w == n) best ∙ bit-is (is_winner s w)))

@@ -1,0 +1,154 @@
+-- Members of lists, of filters and of sets.
+use Rattle.std.proofs.Common.{◌≡◌, ℕ, zero, suc, ◌+◌, ◌-◌, ◌≤◌, ◌==◌, ◌&&◌, ◌||◌, ◌∙◌, Bool, true, false, not, List, [], ◌∷◌, refl, sym, ap, arith, inl, inr, filter, map, count_by, Contains}
+use Rattle.std.specs.List.{flat_map, list_all, range_with_len}
+use Rattle.std.proofs.lemmas.Bool.{cases_Bool, cases_eq, and_parts, and_from, and_left, both_ways, not-true, eq-eqb, ne_eqb, or_right, or_left, not_from_true}
+use Rattle.std.proofs.lemmas.List.Elements.{Contains-append_cases}
+use Rattle.ballot_base.specs.Lists.{IsIncreasing}
+use Rattle.ballot_base.specs.CandSet.{has_member, with_member, without_member}
+use Rattle.ballot_base.proofs.Increasing.{IsIncreasing-filter, IsIncreasing-with_member, has_member-filter, has_member-with_member, has_member_head, has_member_tail, same_increasing}
+use Rattle.tie_walk.specs.Sequences.{others}
+use Rattle.tie_walk.specs.Steps.Choices.{is_open, open_candidates}
+use Rattle.tie_walk.specs.declared.sequential.Step.{Step}
+use Rattle.tie_walk.specs.declared.sequential.Step.TheVariants.{Grow}
+use Rattle.tie_walk.proofs.LawLemmas.{IsIncreasing-range}
+use Rattle.tie_walk.proofs.LevelLemmas.{in_bounds}
+use Rattle.tie_walk.proofs.StepLemmas.{has_member-range}
+use Rattle.tie_families.proofs.Numbers.{count-parts}
+
+-- ---- what is true of all
+
+pub all-at : (p : ℕ → Bool) (xs : List ℕ) (x : ℕ) → list_all p xs ≡ true → has_member xs x ≡ true → p x ≡ true
+all-at p [] x all inside = absurd (let e : false ≡ true = inside in cc)
+all-at p (y ∷ xs) x all inside = elim (cases_eq y x) [
+  | inl same ↦ ap p (sym same) ∙ (and_parts (p y) (list_all p xs) all).0
+  | inr other ↦ all-at p xs x (and_parts (p y) (list_all p xs) all).1 (sym (has_member_tail y x xs other) ∙ inside)
+]
+
+pub all-from : (p : ℕ → Bool) (xs : List ℕ) → ((x : ℕ) → has_member xs x ≡ true → p x ≡ true) → list_all p xs ≡ true
+all-from p [] each = refl
+all-from p (y ∷ xs) each =
+    and_from (p y) (list_all p xs) (each y (has_member_head y xs)) (all-from p xs (λ x inside. each x (or_right (y == x) (has_member xs x) inside)))
+
+pub some-fails : (p : ℕ → Bool) (xs : List ℕ) → list_all p xs ≡ false → (x : ℕ) × (has_member xs x ≡ true) × (p x ≡ false)
+some-fails p [] fails = absurd (let e : true ≡ false = fails in cc)
+some-fails p (y ∷ xs) fails = elim (cases_Bool (p y)) [
+  | inr here ↦ (y, has_member_head y xs, here)
+  | inl passes ↦
+      let rest = some-fails p xs (ap (λ b. b && list_all p xs) (sym passes) ∙ fails) in
+      (rest.0, or_right (y == rest.0) (has_member xs rest.0) rest.1, rest.2)
+]
+
+pub all-fails : (p : ℕ → Bool) (xs : List ℕ) (x : ℕ) → has_member xs x ≡ true → p x ≡ false → list_all p xs ≡ false
+all-fails p xs x inside fails = elim (cases_Bool (list_all p xs)) [
+  | inl all ↦ absurd (both_ways (p x) fails (all-at p xs x all inside))
+  | inr some ↦ some
+]
+
+-- a number more
+pub all-next : (p : ℕ → Bool) (c : ℕ) → 1 ≤ c → list_all p (range_with_len 1 (c - 1)) ≡ true → p c ≡ true → list_all p (range_with_len 1 (c + 1 - 1)) ≡ true
+all-next p c low all here = all-from p (range_with_len 1 (c + 1 - 1)) (λ x inside.
+    let bounds = in_bounds c (range_with_len 1 (c + 1 - 1)) x (IsIncreasing-range 1 (c + 1 - 1) c (omega (arith, low))) inside in
+    elim (cases_eq x c) [
+      | inl same ↦ ap p same ∙ here
+      | inr other ↦ all-at p (range_with_len 1 (c - 1)) x all (has_member-range 1 (c - 1) x bounds.0 (omega (arith, bounds.1, other)))
+    ])
+
+-- ---- where a list of lists has a set from
+
+Contains-later : {X : Type 0} (x y : X) (xs : List X) → Contains xs y → Contains (x ∷ xs) y
+Contains-later x y xs c = (suc c.0, omega (arith, c.1), c.2)
+
+pub Contains-from_map : {X Y : Type 0} (f : X → Y) (xs : List X) (y : Y) → Contains (map f xs) y → (x : X) × Contains xs x × (f x ≡ y)
+Contains-from_map f [] y c = absurd (omega (arith, c.1))
+Contains-from_map f (x ∷ xs) y (zero, inside, is) = (x, (0, omega arith, refl), is)
+Contains-from_map f (x ∷ xs) y (suc i, inside, is) =
+    let rest = Contains-from_map f xs y (i, omega (arith, inside), is) in
+    (rest.0, Contains-later x rest.0 xs rest.1, rest.2)
+
+pub Contains-from_flat_map : {X Y : Type 0} (f : X → List Y) (xs : List X) (y : Y) → Contains (flat_map f xs) y → (x : X) × Contains xs x × Contains (f x) y
+Contains-from_flat_map f [] y c = absurd (omega (arith, c.1))
+Contains-from_flat_map f (x ∷ xs) y c = elim (Contains-append_cases (f x) (flat_map f xs) y c) [
+  | inl here ↦ (x, (0, omega arith, refl), here)
+  | inr later ↦
+      let rest = Contains-from_flat_map f xs y later in
+      (rest.0, Contains-later x rest.0 xs rest.1, rest.2)
+]
+
+pub Contains-only : {X : Type 0} (one x : X) → Contains (one ∷ []) x → one ≡ x
+Contains-only one x (zero, inside, same) = same
+Contains-only one x (suc i, inside, same) = absurd (omega (arith, inside))
+
+-- ---- a member less, and again
+
+pub member-without : (set : List ℕ) (n x : ℕ) → has_member (without_member set n) x ≡ (not (x == n) && has_member set x)
+member-without set n x = has_member-filter (λ y. not (y == n)) set x
+
+pub without-itself : (set : List ℕ) (n : ℕ) → has_member (without_member set n) n ≡ false
+without-itself set n = member-without set n n ∙ and_left (not (n == n)) (has_member set n) (not_from_true (n == n) (eq-eqb n n refl))
+
+pub with-itself : (set : List ℕ) (n : ℕ) → has_member (with_member set n) n ≡ true
+with-itself set n = has_member-with_member set n n ∙ or_left (n == n) (has_member set n) (eq-eqb n n refl)
+
+module _ (m : ℕ) (set : List ℕ) (n : ℕ) (up : IsIncreasing 1 m set) (low : 1 ≤ n) (high : n ≤ m) where
+  pub without-increasing : IsIncreasing 1 m (without_member set n)
+  without-increasing = IsIncreasing-filter (λ x. not (x == n)) 1 m set up
+
+  pub with-increasing : IsIncreasing 1 m (with_member set n)
+  with-increasing = IsIncreasing-with_member 1 m set n low high up
+
+  pub with-without : has_member set n ≡ true → with_member (without_member set n) n ≡ set
+  with-without inside =
+      same_increasing 1 m (with_member (without_member set n) n) set (IsIncreasing-with_member 1 m (without_member set n) n low high without-increasing) up
+      (λ x. has_member-with_member (without_member set n) n x ∙ ap (λ b. (n == x) || b) (member-without set n x) ∙ at x)
+    where
+      at : (x : ℕ) → ((n == x) || (not (x == n) && has_member set x)) ≡ has_member set x
+      at x = elim (cases_eq n x) [
+        | inl same ↦ or_left (n == x) (not (x == n) && has_member set x) (eq-eqb n x same) ∙ sym (ap (has_member set) (sym same) ∙ inside)
+        | inr other ↦ ap (λ b. b || (not (x == n) && has_member set x)) (ne_eqb n x other) ∙ ap (λ b. not b && has_member set x) (ne_eqb x n (λ e. other (sym e)))
+      ]
+
+  pub without-with : has_member set n ≡ false → without_member (with_member set n) n ≡ set
+  without-with outside =
+      same_increasing 1 m (without_member (with_member set n) n) set (IsIncreasing-filter (λ x. not (x == n)) 1 m (with_member set n) with-increasing) up
+      (λ x. member-without (with_member set n) n x ∙ ap (λ b. not (x == n) && b) (has_member-with_member set n x) ∙ at x)
+    where
+      at : (x : ℕ) → (not (x == n) && ((n == x) || has_member set x)) ≡ has_member set x
+      at x = elim (cases_eq x n) [
+        | inl same ↦ and_left (not (x == n)) ((n == x) || has_member set x) (not_from_true (x == n) (eq-eqb x n same)) ∙ sym (ap (has_member set) same ∙ outside)
+        | inr other ↦ ap (λ b. not b && ((n == x) || has_member set x)) (ne_eqb x n other) ∙ ap (λ b. b || has_member set x) (ne_eqb n x (λ e. other (sym e)))
+      ]
+
+-- ---- the candidates inside and outside
+
+-- of the candidates 1 to m, the members of a set are the set
+pub members-of : (m : ℕ) (set : List ℕ) → IsIncreasing 1 m set → filter (has_member set) (range_with_len 1 m) ≡ set
+members-of m set up =
+    same_increasing 1 m (filter (has_member set) (range_with_len 1 m)) set (IsIncreasing-filter (has_member set) 1 m (range_with_len 1 m) (IsIncreasing-range 1 m m (omega arith))) up
+    (λ n. has_member-filter (has_member set) (range_with_len 1 m) n ∙ member n)
+  where
+    member : (n : ℕ) → (has_member set n && has_member (range_with_len 1 m) n) ≡ has_member set n
+    member n = elim (cases_Bool (has_member set n)) [
+      | inl inside ↦
+          let bounds = in_bounds m set n up inside in
+          rw (inside, has_member-range 1 m n bounds.0 (omega (arith, bounds.1)))
+      | inr outside ↦ rw outside
+    ]
+
+pub count-others : (p : ℕ → Bool) (m : ℕ) (set : List ℕ) → IsIncreasing 1 m set → count_by p set + count_by p (others m set) ≡ count_by p (range_with_len 1 m)
+count-others p m set up = omega (arith, count-parts p (has_member set) (range_with_len 1 m), ap (count_by p) (members-of m set up))
+
+pub open-is : (step : Step) (m : ℕ) (set : List ℕ) (c : ℕ) → has_member (open_candidates step m set) c ≡ true → ((1 ≤ c) × (c ≤ m)) × (is_open step set c ≡ true)
+open-is step m set c inside =
+    let parts = and_parts (is_open step set c) (has_member (range_with_len 1 m) c) (sym (has_member-filter (is_open step set) (range_with_len 1 m) c) ∙ inside) in
+    (in_bounds m (range_with_len 1 m) c (IsIncreasing-range 1 m m (omega arith)) parts.1, parts.0)
+
+pub open-from : (step : Step) (m : ℕ) (set : List ℕ) (c : ℕ) → 1 ≤ c → c ≤ m → is_open step set c ≡ true → has_member (open_candidates step m set) c ≡ true
+open-from step m set c low high is =
+    has_member-filter (is_open step set) (range_with_len 1 m) c ∙ and_from (is_open step set c) (has_member (range_with_len 1 m) c) is (has_member-range 1 m c low (omega (arith, high)))
+
+-- the first of those outside
+pub free-is : (m : ℕ) (set : List ℕ) (x : ℕ) (rest : List ℕ) → others m set ≡ x ∷ rest → ((1 ≤ x) × (x ≤ m)) × (has_member set x ≡ false)
+free-is m set x rest is =
+    let inside : has_member (open_candidates Grow m set) x ≡ true = ap (λ l. has_member l x) is ∙ has_member_head x rest in
+    let parts = open-is Grow m set x inside in
+    (parts.0, not-true (has_member set x) parts.1)

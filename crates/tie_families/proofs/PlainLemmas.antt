@@ -1,0 +1,111 @@
+-- Families without clones: where each has k members, they are the winners.
+use Rattle.std.proofs.Common.{◌≡◌, ℕ, suc, ◌≤◌, ◌==◌, ◌&&◌, ◌∙◌, true, false, List, [], ◌∷◌, sym, ap, subst, arith, inl, inr, length, Contains, AllPairs, Option, None, Some}
+use Rattle.std.specs.Prelude.{All, MatchOption, ⊤}
+use Rattle.std.specs.List.{list_all, range_with_len, AllByRecursion}
+use Rattle.std.specs.List.Sorted.{IsStrictlySortedBy}
+use Rattle.std.specs.Cmp.Lexicographic.{slice_cmp}
+use Rattle.std.specs.Ordering.{nat_cmp}
+use Rattle.std.specs.declared.cmp.Ordering.TheVariants.{Less}
+use Rattle.std.proofs.lemmas.Bool.{cases_Bool, cases_eq, eqb-true, both_ways, and_parts}
+use Rattle.std.proofs.lemmas.Cmp.{nat_list_cmp_total}
+use Rattle.std.proofs.lemmas.List.Elements.{All-contains, All-from_recursion, recursion_from_All}
+use Rattle.ballot_base.specs.Lists.{IsIncreasing, IsLater, increasing_lists}
+use Rattle.ballot_base.specs.CandSet.{has_member}
+use Rattle.ballot_base.specs.Ballots.{Row, Election}
+use Rattle.ballot_base.proofs.Committees.{increasing_lists-contains, chosen-from_contains}
+use Rattle.ballot_base.proofs.Increasing.{has_member-filter, has_member_tail, same_increasing}
+use Rattle.ballot_base.proofs.Later.{IsLater-parts}
+use Rattle.tie_walk.specs.Sequences.{is_sequential_winner, sequential_winners}
+use Rattle.tie_walk.specs.Winners.{IsStart}
+use Rattle.tie_walk.specs.declared.sequential.SeqRule.{SeqRule}
+use Rattle.tie_walk.proofs.LawLemmas.{Contains-from_filter, passes-from_filter, Contains-filter}
+use Rattle.tie_walk.proofs.LevelLemmas.{in_bounds}
+use Rattle.tie_walk.proofs.SequenceLaws.{sequential-later}
+use Rattle.tie_walk.proofs.SequenceLemmas.{same_sorted}
+use Rattle.tie_walk.proofs.StepLemmas.{has_member-range}
+use Rattle.tie_families.specs.Clones.{are_clones, clones_among, has_as_many}
+use Rattle.tie_families.specs.Steps.Families.{AreApart}
+use Rattle.tie_families.specs.Steps.Levels.{IsBelow, AreFamilies}
+use Rattle.tie_families.specs.Steps.Tables.{AreClones}
+use Rattle.tie_families.proofs.CloneLemmas.{clones-sameness}
+use Rattle.tie_families.proofs.Numbers.{some-passes, member-counts, within-turned}
+use Rattle.tie_families.proofs.WinnerLemmas.{many-from, below-from, any-from, any-at}
+
+sorted_from_later : (xs : List (List ℕ)) → AllPairs (λ x y. IsLater y x) xs → IsStrictlySortedBy (slice_cmp nat_cmp) xs
+unfolding IsStrictlySortedBy
+sorted_from_later [] pairs = tt
+sorted_from_later (x ∷ xs) pairs = (
+  recursion_from_All (λ y. slice_cmp nat_cmp x y ≡ Less) xs (λ k d inside. (IsLater-parts _ x (pairs 0 (suc k) d (omega arith) (omega (arith, inside)))).1),
+  sorted_from_later xs (λ i j d less inside. pairs (suc i) (suc j) d (omega (arith, less)) (omega (arith, inside))),
+)
+
+-- the two members of a list of one are the same
+only-one : (xs : List ℕ) (c d : ℕ) → length xs ≡ 1 → has_member xs c ≡ true → has_member xs d ≡ true → c ≡ d
+only-one [] c d one inside inside' = absurd (omega (arith, one))
+only-one (x ∷ []) c d one inside inside' = sym (same x c inside) ∙ same x d inside'
+  where
+    same : (y e : ℕ) → has_member (y ∷ []) e ≡ true → y ≡ e
+    same y e is = elim (cases_eq y e) [
+      | inl equal ↦ equal
+      | inr other ↦ absurd (let f : false ≡ true = sym (has_member_tail y e [] other) ∙ is in cc)
+    ]
+only-one (x ∷ y ∷ xs) c d one inside inside' = absurd (omega (arith, one))
+
+module _ (m : ℕ) (rows : List Row) (table : List (List ℕ)) (clones : AreClones m rows table) (apart : AreApart m table) where
+  no-clones : (c d : ℕ) → (1 ≤ c) × (c ≤ m) → (1 ≤ d) × (d ≤ m) → are_clones rows c d ≡ true → c ≡ d
+  no-clones c d low high cd =
+      let one : length (clones_among m rows c) ≡ 1 = ap length (sym (clones c low.0 low.1)) ∙ apart c low.0 low.1 in
+      only-one (clones_among m rows c) c d one (among c c low ((clones-sameness rows).itself c)) (among c d high cd)
+    where
+      among : (a b : ℕ) → (1 ≤ b) × (b ≤ m) → are_clones rows a b ≡ true → has_member (clones_among m rows a) b ≡ true
+      among a b bounds is =
+          has_member-filter (are_clones rows a) (range_with_len 1 m) b ∙ ap (λ x. x && has_member (range_with_len 1 m) b) is ∙ has_member-range 1 m b bounds.0 (omega (arith, bounds.1))
+
+  member-of : (set other : List ℕ) → IsIncreasing 1 m set → IsIncreasing 1 m other → IsBelow rows set other → (x : ℕ) → has_member set x ≡ true → has_member other x ≡ true
+  member-of set other up up' below x inside =
+      let t = some-passes (are_clones rows x) other (omega (arith, below x, member-counts (are_clones rows x) set x inside ((clones-sameness rows).itself x))) in
+      let same : x ≡ t.0 = no-clones x t.0 (in_bounds m set x up inside) (in_bounds m other t.0 up' t.1) t.2 in
+      ap (has_member other) same ∙ t.1
+
+  -- without clones a set of k members has one committee of k, itself
+  same-set : (set other : List ℕ) → IsIncreasing 1 m set → IsIncreasing 1 m other → IsBelow rows set other → length set ≡ length other → set ≡ other
+  same-set set other up up' below size =
+      let above = within-turned (are_clones rows) (clones-sameness rows) set other below (omega (arith, size)) in
+      same_increasing 1 m set other up up' (λ n. elim (cases_Bool (has_member set n)) [
+        | inl here ↦ here ∙ sym (member-of set other up up' below n here)
+        | inr none ↦ elim (cases_Bool (has_member other n)) [
+          | inl there ↦ absurd (both_ways (has_member set n) none (member-of other set up' up above n there))
+          | inr neither ↦ none ∙ sym neither
+        ]
+      ])
+
+pub plain-winners : (rule : SeqRule) (e : Election) (k m : ℕ) (table sets list : List (List ℕ)) → m ≡ e.m → list ≡ sets → AreFamilies rule e k sets → AreClones e.m e.rows table → AreApart m table
+    → list_all (λ set. length set == k) sets ≡ true → list ≡ sequential_winners rule e k
+plain-winners rule e k m table sets list is same families clones apart' sizes' =
+    let all = increasing_lists 1 e.m k in
+    let apart : AreApart e.m table = subst (λ n. AreApart n table) is apart' in
+    let sizes : AllByRecursion (λ set. length set ≡ k) sets = each sets sizes' in
+    let size = λ (set : List ℕ) (inside : Contains sets set). All-contains (λ s. length s ≡ k) sets set (All-from_recursion (λ s. length s ≡ k) sets sizes) inside in
+    let up = λ (set : List ℕ) (inside : Contains sets set). All-contains (λ s. IsIncreasing 1 e.m s) sets set (All-from_recursion (λ s. IsIncreasing 1 e.m s) sets families.candidates) inside in
+    same ∙ same_sorted nat_list_cmp_total sets (sequential_winners rule e k) families.order (sorted_from_later (sequential_winners rule e k) (sequential-later rule e k))
+    (λ set inside.
+    let wins = families.reached set (up set inside) (size set inside) ∙ any-from (has_as_many e.m e.rows set) sets set inside (many-from e.m e.rows set set (λ c. omega arith)) in
+    Contains-filter (is_sequential_winner rule e k) all set (increasing_lists-contains 1 e.m k set (up set inside, size set inside)) wins)
+    (λ set inside.
+    let wins = passes-from_filter (is_sequential_winner rule e k) all set inside in
+    let chosen = chosen-from_contains 1 e.m k set (Contains-from_filter (is_sequential_winner rule e k) all set inside) in
+    let s = any-at (has_as_many e.m e.rows set) sets (sym (families.reached set chosen.0 chosen.1) ∙ wins) in
+    let equal : s.0 ≡ set = same-set e.m e.rows table clones apart s.0 set (up s.0 s.1) chosen.0 (below-from e.m e.rows s.0 set (up s.0 s.1) s.2) (omega (arith, size s.0 s.1, chosen.1)) in
+    subst (Contains sets) equal s.1)
+  where
+    each : (xs : List (List ℕ)) → list_all (λ set. length set == k) xs ≡ true → AllByRecursion (λ set. length set ≡ k) xs
+    each [] passes = tt
+    each (x ∷ xs) passes =
+        let parts = and_parts (length x == k) (list_all (λ set. length set == k) xs) passes in
+        (eqb-true (length x) k parts.0, each xs parts.1)
+
+-- a start has the size of the winners
+pub starts-fit : (m k : ℕ) (after : Option (List ℕ)) (sets : List (List ℕ)) → IsStart m k after → All (λ set. length set ≡ k) sets
+    → MatchOption after ⊤ (λ start. All (λ set. length set ≡ length start) sets)
+starts-fit m k None sets start sizes = tt
+starts-fit m k (Some set) sets start sizes = subst (λ n. All (λ s. length s ≡ n) sets) (sym start.1) sizes

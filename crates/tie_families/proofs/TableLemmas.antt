@@ -1,0 +1,100 @@
+-- The table of clones, and what it counts.
+use Rattle.std.proofs.Common.{◌≡◌, ℕ, suc, ◌+◌, ◌-◌, ◌<◌, ◌≤◌, ◌&&◌, ◌∙◌, Bool, true, false, cond, List, [], ◌∷◌, Some, refl, sym, ap, arith, filter, length, take, get_or, slice_get, count_by}
+use Rattle.std.specs.Prelude.{fold}
+use Rattle.std.specs.List.{range_with_len}
+use Rattle.std.proofs.lemmas.Bool.{lt-ltb, le-ltb}
+use Rattle.std.proofs.lemmas.List.{get_or_default}
+use Rattle.std.proofs.lemmas.List.Folds.{list_all_more}
+use Rattle.std.proofs.lemmas.List.Sums.{length-filter, fold-append}
+use Rattle.std.proofs.lemmas.Option.{get_or_from_slice_get, slice_get_within}
+use Rattle.ballot_base.specs.Lists.{IsIncreasing}
+use Rattle.ballot_base.specs.CandSet.{has_member, common_members, other_members, with_member}
+use Rattle.ballot_base.specs.Ballots.{Row}
+use Rattle.ballot_base.proofs.Increasing.{has_member-filter}
+use Rattle.tie_walk.proofs.StepLemmas.{has_member-range, range-more}
+use Rattle.tie_families.specs.Clones.{are_clones, clones_among, clone_count}
+use Rattle.tie_families.specs.Steps.Tables.{AreClones, completed_by}
+use Rattle.tie_families.proofs.CloneLemmas.{is_both}
+use Rattle.tie_families.proofs.Numbers.{bit, count-cons}
+
+filter-both : {X : Type 0} (p q : X → Bool) (xs : List X) → filter (λ x. p x && q x) xs ≡ filter q (filter p xs)
+filter-both p q [] = refl
+filter-both p q (x ∷ xs) =
+    elim (p x) as (λ b. cond (b && q x) (x ∷ filter (λ y. p y && q y) xs) (filter (λ y. p y && q y) xs) ≡ filter q (cond b (x ∷ filter p xs) (filter p xs))) [
+      | true ↦ ap (λ l. cond (q x) (x ∷ l) l) (filter-both p q xs)
+      | false ↦ filter-both p q xs
+    ]
+
+filter-same : {X : Type 0} (p q : X → Bool) (xs : List X) → ((x : X) → p x ≡ q x) → filter p xs ≡ filter q xs
+filter-same p q [] same = refl
+filter-same p q (x ∷ xs) same = ap (λ b. cond b (x ∷ filter p xs) (filter p xs)) (same x) ∙ ap (λ l. cond (q x) (x ∷ l) l) (filter-same p q xs same)
+
+-- no row tells candidates apart
+pub clones-none : (m c : ℕ) → range_with_len 1 m ≡ clones_among m [] c
+clones-none m c = all (range_with_len 1 m)
+  where
+    all : (xs : List ℕ) → xs ≡ filter (are_clones [] c) xs
+    all [] = refl
+    all (x ∷ xs) = ap (λ l. x ∷ l) (all xs)
+
+module _ (m : ℕ) (rows : List Row) (i : ℕ) (row : Row) (c : ℕ) (found : slice_get rows i ≡ Some row) where
+  clones-more : clones_among m (take (i + 1) rows) c ≡ filter (λ d. is_both (has_member row.0 c) (has_member row.0 d)) (clones_among m (take i rows) c)
+  clones-more =
+      let here : get_or rows i row ≡ row = get_or_from_slice_get rows i row row found in
+      let within : i < length rows = slice_get_within rows i row found in
+      filter-same (are_clones (take (i + 1) rows) c) (λ d. are_clones (take i rows) c d && is_both (has_member row.0 c) (has_member row.0 d)) (range_with_len 1 m)
+      (λ d. list_all_more (λ (r : Row). is_both (has_member r.0 c) (has_member r.0 d)) rows i row within
+      ∙ ap (λ (r : Row). are_clones (take i rows) c d && is_both (has_member r.0 c) (has_member r.0 d)) here)
+      ∙ filter-both (are_clones (take i rows) c) (λ d. is_both (has_member row.0 c) (has_member row.0 d)) (range_with_len 1 m)
+
+  pub clones-approved : has_member row.0 c ≡ true → clones_among m (take (i + 1) rows) c ≡ common_members (clones_among m (take i rows) c) row.0
+  clones-approved is = clones-more ∙ ap (λ b. filter (λ d. is_both b (has_member row.0 d)) (clones_among m (take i rows) c)) is
+
+  pub clones-other : has_member row.0 c ≡ false → clones_among m (take (i + 1) rows) c ≡ other_members (clones_among m (take i rows) c) row.0
+  clones-other is = clones-more ∙ ap (λ b. filter (λ d. is_both b (has_member row.0 d)) (clones_among m (take i rows) c)) is
+
+-- the members of a class
+pub class-count : (m : ℕ) (rows : List Row) (c : ℕ) (set : List ℕ) → IsIncreasing 1 m set → length (common_members set (clones_among m rows c)) ≡ clone_count rows set c
+class-count m rows c set up = length-filter (has_member (clones_among m rows c)) set ∙ each 1 set (omega arith) up
+  where
+    each : (first : ℕ) (xs : List ℕ) → 1 ≤ first → IsIncreasing first m xs → count_by (has_member (clones_among m rows c)) xs ≡ count_by (are_clones rows c) xs
+    each first [] low up' = refl
+    each first (x ∷ xs) low up' =
+        let here : has_member (clones_among m rows c) x ≡ are_clones rows c x =
+        has_member-filter (are_clones rows c) (range_with_len 1 m) x
+        ∙ ap (λ b. are_clones rows c x && b) (has_member-range 1 m x (omega (arith, low, up'.0)) (omega (arith, up'.1))) ∙ and-true (are_clones rows c x) in
+        omega (
+          arith,
+          count-cons (has_member (clones_among m rows c)) x xs,
+          count-cons (are_clones rows c) x xs,
+          ap bit here,
+          each (x + 1) xs (omega arith) up'.2,
+        )
+      where
+        and-true : (b : Bool) → (b && true) ≡ b
+        and-true true = refl
+        and-true false = refl
+
+-- those of a class in a table
+pub place-count : (m : ℕ) (rows : List Row) (table : List (List ℕ)) (k at : ℕ) (any set : List ℕ) → AreClones m rows table → 1 ≤ k → k ≤ m → m < length table → at ≡ k → IsIncreasing 1 m set
+    → length (common_members set (get_or table at any)) ≡ clone_count rows set k
+place-count m rows table k at any set are low high long is up =
+    let own : get_or table at any ≡ clones_among m rows k = ap (λ d. get_or table d any) is ∙ get_or_default table k any [] (omega (arith, high, long)) ∙ are k low high in
+    ap (λ l. length (common_members set l)) own ∙ class-count m rows k set up
+
+-- ---- a set that is completed
+
+pub completed-next : (rows : List Row) (other set all : List ℕ) (c x : ℕ) → c + 1 ≤ x → all ≡ fold (completed_by rows other) set (range_with_len (c + 1) (x - (c + 1)))
+    → fold (completed_by rows other) set (range_with_len (c + 1) (x + 1 - (c + 1))) ≡ completed_by rows other all x
+completed-next rows other set all c x low is =
+    let more : x + 1 - (c + 1) ≡ suc (x - (c + 1)) = omega arith in
+    ap (λ n. fold (completed_by rows other) set (range_with_len (c + 1) n)) more
+    ∙ ap (fold (completed_by rows other) set) (range-more (c + 1) (x - (c + 1)) x (omega arith))
+    ∙ fold-append (completed_by rows other) set (range_with_len (c + 1) (x - (c + 1))) (x ∷ [])
+    ∙ ap (λ s. completed_by rows other s x) (sym is)
+
+pub completed-with : (rows : List Row) (other all : List ℕ) (x : ℕ) → clone_count rows all x < clone_count rows other x → completed_by rows other all x ≡ with_member all x
+completed-with rows other all x less = ap (λ b. cond b (with_member all x) all) (lt-ltb (clone_count rows all x) (clone_count rows other x) less)
+
+pub completed-same : (rows : List Row) (other all : List ℕ) (x : ℕ) → clone_count rows other x ≤ clone_count rows all x → completed_by rows other all x ≡ all
+completed-same rows other all x enough = ap (λ b. cond b (with_member all x) all) (le-ltb (clone_count rows all x) (clone_count rows other x) enough)

@@ -1,0 +1,126 @@
+-- The values and bounds of the families of winners.
+use Rattle.std.proofs.Common.{◌≡◌, ℕ, ◌+◌, ◌-◌, ◌≤◌, ◌∙◌, Bool, true, false, cond, List, ◌++◌, refl, sym, ap, subst, arith, inl, inr, length, length-append, Contains}
+use mir.Val.{bool_byte}
+use Rattle.std.specs.List.{list_any, AllByRecursion}
+use Rattle.std.proofs.lemmas.Bool.{cases_Bool, both_ways}
+use Rattle.std.proofs.lemmas.List.Elements.{All-contains, All-from_recursion}
+use Rattle.ballot_base.specs.Lists.{IsIncreasing, increasing_lists}
+use Rattle.ballot_base.specs.Ballots.{Election}
+use Rattle.ballot_base.proofs.Committees.{increasing_lists-contains, chosen-from_contains}
+use Rattle.tie_walk.specs.Ceilings.{IsBound, IsExactAtBest}
+use Rattle.tie_walk.specs.Sequences.{hit_weights, is_sequential_winner}
+use Rattle.tie_walk.specs.Steps.Choices.{change, is_choice, start}
+use Rattle.tie_walk.specs.declared.sequential.SeqRule.{SeqRule}
+use Rattle.tie_walk.specs.declared.sequential.SeqRule.TheVariants.{SeqPav, SeqCc, RevSeqPav}
+use Rattle.tie_walk.specs.declared.sequential.Step.TheVariants.{Grow, Shrink}
+use Rattle.tie_walk.proofs.Choices.{reached_from_made}
+use Rattle.tie_walk.proofs.SequenceLemmas.{grown_set-made, left_set-made, reached-sized}
+use Rattle.tie_families.specs.Clones.{has_as_many}
+use Rattle.tie_families.specs.Families.{Sequential, sequential_of, is_winner, some_winner}
+use Rattle.tie_families.specs.Steps.Families.{may_be_in}
+use Rattle.tie_families.specs.Steps.Levels.{AreFamilies}
+use Rattle.tie_families.proofs.CompletionLemmas.{joined-increasing, may-is}
+use Rattle.tie_families.proofs.WinnerLemmas.{any-from, any-at}
+
+-- a winner has k members
+pub winner-size : (rule : SeqRule) (e : Election) (k : ℕ) (set : List ℕ) → k ≤ e.m → is_sequential_winner rule e k set ≡ true → length set ≡ k
+winner-size SeqPav e k set fits wins =
+    let w = hit_weights SeqPav e.m in
+    reached-sized Grow w e.m e.rows k set (reached_from_made (is_choice Grow w e.m e.rows) (change Grow) e.m (start Grow e.m) k set (sym (grown_set-made w e.m e.rows k set) ∙ wins))
+winner-size SeqCc e k set fits wins =
+    let w = hit_weights SeqCc e.m in
+    reached-sized Grow w e.m e.rows k set (reached_from_made (is_choice Grow w e.m e.rows) (change Grow) e.m (start Grow e.m) k set (sym (grown_set-made w e.m e.rows k set) ∙ wins))
+winner-size RevSeqPav e k set fits wins =
+    let w = hit_weights RevSeqPav e.m in
+    let sized = reached-sized Shrink w e.m e.rows (e.m - k) set (reached_from_made (is_choice Shrink w e.m e.rows) (change Shrink) e.m (start Shrink e.m) (e.m - k) set (sym (left_set-made w e.m e.rows k set) ∙ wins)) in
+    omega (arith, sized, fits)
+
+module _ (e : Election) (rule : SeqRule) (k : ℕ) (fits : k ≤ e.m) where
+  -- no other size wins
+  pub other-size : (set : List ℕ) → (length set ≡ k → ⊥) → is_winner (sequential_of e rule k) set ≡ false
+  other-size set other = elim (cases_Bool (is_sequential_winner rule e k set)) [
+    | inl wins ↦ absurd (other (winner-size rule e k set fits wins))
+    | inr loses ↦ loses
+  ]
+
+  pub some-other : (c : ℕ) (set : List ℕ) (left : ℕ) → (length set + left ≡ k → ⊥) → some_winner (sequential_of e rule k) c set left ≡ false
+  some-other c set left other = elim (cases_Bool (some_winner (sequential_of e rule k) c set left)) [
+    | inl some ↦
+        let a = any-at (λ added. is_winner (sequential_of e rule k) (set ++ added)) (increasing_lists (c + 1) e.m left) some in
+        let chosen = chosen-from_contains (c + 1) e.m left a.0 a.1 in
+        absurd (other (omega (arith, length-append set a.0, chosen.1, winner-size rule e k (set ++ a.0) fits a.2)))
+    | inr none ↦ none
+  ]
+
+  module _ (sets : List (List ℕ)) (families : AreFamilies rule e k sets) where
+    inside : (family : List ℕ) → Contains sets family → IsIncreasing 1 e.m family
+    inside family c = All-contains (λ s. IsIncreasing 1 e.m s) sets family (All-from_recursion (λ s. IsIncreasing 1 e.m s) sets families.candidates) c
+
+    -- some winner completes the set exactly where some family may have one
+    pub some-is : (c : ℕ) (set : List ℕ) (left : ℕ) → c ≤ e.m → IsIncreasing 1 c set → left ≤ e.m - c → length set + left ≡ k
+        → list_any (may_be_in e.m e.rows c set left) sets ≡ some_winner (sequential_of e rule k) c set left
+    some-is c set left within up room whole =
+        let lists = increasing_lists (c + 1) e.m left in
+        let joined = λ (added : List ℕ) (up' : IsIncreasing (c + 1) e.m added). joined-increasing c e.m 1 set added (omega arith) within up up' in
+        elim (cases_Bool (list_any (may_be_in e.m e.rows c set left) sets)) [
+          | inl may ↦
+              let f = any-at (may_be_in e.m e.rows c set left) sets may in
+              let a = any-at (λ added. has_as_many e.m e.rows (set ++ added) f.0) lists (sym (may-is e.m e.rows c set left f.0 within up room (inside f.0 f.1)) ∙ f.2) in
+              let chosen = chosen-from_contains (c + 1) e.m left a.0 a.1 in
+              let wins = families.reached (set ++ a.0) (joined a.0 chosen.0) (omega (arith, length-append set a.0, chosen.1, whole)) ∙ any-from (has_as_many e.m e.rows (set ++ a.0)) sets f.0 f.1 a.2 in
+              may ∙ sym (any-from (λ added. is_winner (sequential_of e rule k) (set ++ added)) lists a.0 a.1 wins)
+          | inr never ↦ elim (cases_Bool (some_winner (sequential_of e rule k) c set left)) [
+            | inl some ↦
+                let a = any-at (λ added. is_winner (sequential_of e rule k) (set ++ added)) lists some in
+                let chosen = chosen-from_contains (c + 1) e.m left a.0 a.1 in
+                let f = any-at (has_as_many e.m e.rows (set ++ a.0)) sets (sym (families.reached (set ++ a.0) (joined a.0 chosen.0) (omega (arith, length-append set a.0, chosen.1, whole))) ∙ a.2) in
+                let may = may-is e.m e.rows c set left f.0 within up room (inside f.0 f.1) ∙ any-from (λ added. has_as_many e.m e.rows (set ++ added) f.0) lists a.0 a.1 f.2 in
+                absurd (both_ways (list_any (may_be_in e.m e.rows c set left) sets) never (any-from (may_be_in e.m e.rows c set left) sets f.0 f.1 may))
+            | inr none ↦ never ∙ sym none
+          ]
+        ]
+
+-- the same, by other names for the number of candidates and the families
+module _ (e : Election) (rule : SeqRule) (k m : ℕ) (sets list : List (List ℕ)) (is : m ≡ e.m) (fits : k ≤ m) (families : AreFamilies rule e k sets) (same : list ≡ sets) where
+  pub value-wins : (set : List ℕ) → IsIncreasing 1 e.m set → length set ≡ k → list_any (has_as_many m e.rows set) list ≡ is_winner (sequential_of e rule k) set
+  value-wins set up size =
+      ap (λ n. list_any (has_as_many n e.rows set) list) is ∙ ap (list_any (has_as_many e.m e.rows set)) same ∙ sym (families.reached set up size)
+
+  pub bound-wins : (c : ℕ) (set : List ℕ) (left : ℕ) → c ≤ e.m → IsIncreasing 1 c set → left ≤ e.m - c → length set + left ≡ k
+      → list_any (may_be_in m e.rows c set left) list ≡ some_winner (sequential_of e rule k) c set left
+  bound-wins c set left within up room whole =
+      ap (λ n. list_any (may_be_in n e.rows c set left) list) is ∙ ap (list_any (may_be_in e.m e.rows c set left)) same
+      ∙ some-is e rule k (omega (arith, fits, is)) sets families c set left within up room whole
+
+  pub list-candidates : AllByRecursion (λ set. IsIncreasing 1 m set) list
+  list-candidates =
+      subst (λ l. AllByRecursion (λ set. IsIncreasing 1 m set) l) (sym same) (subst (λ n. AllByRecursion (λ set. IsIncreasing 1 n set) sets) (sym is) families.candidates)
+
+pub byte-is : (b : Bool) → bool_byte b ≡ cond b 1 0
+byte-is true = refl
+byte-is false = refl
+
+-- ---- the bound
+
+bit-most : (b : Bool) → cond b 1 0 ≤ 1
+bit-most true = omega arith
+bit-most false = omega arith
+
+pub bound-law : (s : Sequential) (c : ℕ) (set : List ℕ) (left : ℕ)
+    → IsBound (λ w. cond (is_winner s w) 1 0) s.election.m c set left (cond (some_winner s c set left) 1 0)
+bound-law s c set left added up size = elim (cases_Bool (is_winner s (set ++ added))) [
+  | inl wins ↦
+      let some = any-from (λ a. is_winner s (set ++ a)) (increasing_lists (c + 1) s.election.m left) added (increasing_lists-contains (c + 1) s.election.m left added (up, size)) wins in
+      omega (arith, bit-most (is_winner s (set ++ added)), ap {B = ℕ} (λ b. cond b 1 0) some)
+  | inr loses ↦ omega (arith, ap {B = ℕ} (λ b. cond b 1 0) loses)
+]
+
+-- the bounds reach 1 exactly where some committee has that value
+pub exact-law : (s : Sequential) (best : ℕ) → 1 ≤ best
+    → IsExactAtBest (λ w. cond (is_winner s w) 1 0) (λ c set left. cond (some_winner s c set left) 1 0) s.election.m s.k best
+exact-law s best some c set left within up size fits reaches = elim (cases_Bool (some_winner s c set left)) [
+  | inl any ↦
+      let a = any-at (λ added. is_winner s (set ++ added)) (increasing_lists (c + 1) s.election.m left) any in
+      (a.0, chosen-from_contains (c + 1) s.election.m left a.0 a.1, omega (arith, reaches, ap {B = ℕ} (λ b. cond b 1 0) any, ap {B = ℕ} (λ b. cond b 1 0) a.2))
+  | inr none ↦ absurd (omega (arith, reaches, some, ap {B = ℕ} (λ b. cond b 1 0) none))
+]

@@ -1,0 +1,34 @@
+use Rattle.std.proofs.Common.{◌≡◌, ◌∙◌, ℕ, cond, sym, ap, subst, arith}
+use Rattle.std.proofs.lemmas.Bool.{ne_eqb}
+use Rattle.ballot_base.specs.Lists.{IsIncreasing}
+use Rattle.tie_families.specs.Families.{Sequential, sequential_of, is_winner}
+use Rattle.tie_families.specs.Steps.Tables.{AreClones}
+use Rattle.tie_families.proofs.ValueLemmas.{byte-is, other-size, value-wins, list-candidates}
+use Rattle.tie_families.proofs.families.FamiliesTally.value.Goals as goal
+use Rattle.tie_families.proofs.families.FamiliesTally.value.Goals.{then-len-self, else-len-self}
+
+pub is_in_some-wins-requires-clause-most : goal.is_in_some-wins-requires-clause-most
+is_in_some-wins-requires-clause-most g c = c.self.invariant.most
+
+pub is_in_some-wins-requires-clause-sets : goal.is_in_some-wins-requires-clause-sets
+is_in_some-wins-requires-clause-sets g c =
+    let f = c.self.inside in
+    list-candidates f.profile.now f.rule f.k f.m f.sets.items c.deref.result.now c.self.invariant.m_is c.self.invariant.fits c.self.invariant.families c.deref.ensures.value
+
+pub returns : goal.returns
+returns g c =
+    let s : Sequential = c.args.self.now in
+    let set = c.args.set in
+    let f = c.self.inside in
+    let e = f.profile.now in
+    let inv = c.self.invariant in
+    let many : e.m ≡ s.election.m = ap (λ (x : Sequential). x.election.m) c.self.view_is in
+    let up : IsIncreasing 1 e.m set = subst (λ n. IsIncreasing 1 n set) (sym many) c.requires in
+    let wins : c.if-len-self.wins ≡ is_winner (sequential_of e f.rule f.k) set = elim c.if-len-self.branch [
+      | then-len-self w ↦
+          w.wins-is ∙ w.is_in_some-wins.ensures e.rows (subst (λ n. AreClones n e.rows f.clones) (sym inv.m_is) inv.clones_are)
+          ∙ value-wins e f.rule f.k f.m f.sets.items w.deref.result.now inv.m_is inv.fits inv.families w.deref.ensures.value set up (omega (arith, c.len.ensures.count, w.if-len-self.true))
+      | else-len-self w ↦
+          w.wins-is ∙ ne_eqb c.len.result f.k w.if-len-self.false ∙ sym (other-size e f.rule f.k (omega (arith, inv.fits, inv.m_is)) set (λ size. w.if-len-self.false (omega (arith, c.len.ensures.count, size))))
+    ] in
+    c.from.ensures ∙ byte-is c.if-len-self.wins ∙ ap {B = ℕ} (λ b. cond b 1 0) wins ∙ ap {B = ℕ} (λ (x : Sequential). cond (is_winner x set) 1 0) c.self.view_is

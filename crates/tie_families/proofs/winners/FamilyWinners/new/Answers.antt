@@ -1,0 +1,27 @@
+use Rattle.std.proofs.Common.{◌≡◌, ◌∙◌, List, ℕ, All, ap, cond, length, subst, sym}
+use Rattle.ballot_base.specs.Lists.{AreInOrder, later_than}
+use Rattle.tie_walk.specs.Winners.{winners}
+use Rattle.tie_walk.proofs.SequenceLaws.{sequential-later, sequential-sizes}
+use Rattle.tie_families.specs.Families.{Sequential, is_winner}
+use Rattle.tie_families.proofs.ExistLemmas.{winners-are}
+use Rattle.tie_families.proofs.PlainLemmas.{starts-fit}
+use Rattle.tie_families.proofs.winners.FamilyWinners.new.Goals as goal
+
+pub place_after-requires-clause-order : goal.place_after-requires-clause-order
+place_after-requires-clause-order g c =
+    let s : Sequential = c.args.families.now in
+    subst AreInOrder (sym c.in-Some.ensures) (sequential-later s.rule s.election s.k)
+
+pub place_after-requires-clause-sizes : goal.place_after-requires-clause-sizes
+place_after-requires-clause-sizes g c =
+    let s : Sequential = c.args.families.now in
+    starts-fit s.election.m s.k c.args.after c.in-Some.sets.now c.requires (subst (λ l. All (λ set. length set ≡ s.k) l) (sym c.in-Some.ensures) (sequential-sizes s.rule s.election s.k))
+
+pub returns : goal.returns
+returns g c =
+    let s : Sequential = c.args.families.now in
+    let value : List ℕ → ℕ = λ (w : List ℕ). cond (is_winner s w) 1 0 in
+    c.new.ensures.left
+    ∙ ap (λ n. later_than c.args.after (winners value n c.sizes-m.result.1)) c.sizes-m.ensures.m
+    ∙ ap (λ n. later_than c.args.after (winners value s.election.m n)) c.sizes-m.ensures.k
+    ∙ ap (later_than c.args.after) (winners-are s c.sizes-m.ensures.fits)

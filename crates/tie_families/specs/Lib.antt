@@ -1,0 +1,3 @@
+pub mod Clones
+pub mod Families
+pub mod Steps

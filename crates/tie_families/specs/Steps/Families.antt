@@ -1,0 +1,33 @@
+-- What the families of winners keep.
+use Rattle.std.specs.Prelude.{◌≡◌, ℕ, ◌+◌, ◌≤◌, ◌&&◌, Bool, List, [], Option, None, Some, length, nat_le, slice_index_or}
+use Rattle.ballot_base.specs.Limits.{most_candidates}
+use Rattle.ballot_base.specs.Ballots.{Row, Election}
+use Rattle.tie_walk.specs.Winners.{Winning}
+use Rattle.tie_walk.specs.declared.sequential.SeqRule.{SeqRule}
+use Rattle.tie_families.specs.Steps.Levels.{AreFamilies}
+use Rattle.tie_families.specs.Clones.{has_as_many}
+use Rattle.tie_families.specs.Steps.Tables.{AreClones, completed}
+
+-- whether no more than `left` of the candidates after c are needed for as many of each class as the family has
+abbrev pub may_be_in : ℕ → List Row → ℕ → List ℕ → ℕ → List ℕ → Bool
+may_be_in m rows c set left family =
+    let all = completed c m rows set family in
+    nat_le (length all) (length set + left) && has_as_many m rows all family
+
+-- what the families of the committees of k keep
+pub record IsKept (e : Election) (rule : SeqRule) (m k : ℕ) (clones sets : List (List ℕ)) : Type 0 where
+  pub m_is : m ≡ e.m
+  pub some : 1 ≤ k
+  pub most : m ≤ most_candidates
+  pub fits : k ≤ m
+  pub clones_are : AreClones e.m e.rows clones
+  pub families : AreFamilies rule e k sets
+
+-- each candidate is its only clone
+abbrev pub AreApart : ℕ → List (List ℕ) → Type 0
+AreApart m table = (c : ℕ) → 1 ≤ c → c ≤ m → length (slice_index_or table c []) ≡ 1
+
+-- the winners still to come: those that lie in order, or those of the walk
+abbrev pub still_to_come : {T : Type 0} → List (List ℕ) → Option (Winning T) → List (List ℕ)
+still_to_come sorted None = sorted
+still_to_come sorted (Some walk) = walk.left

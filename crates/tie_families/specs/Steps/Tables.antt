@@ -1,0 +1,19 @@
+-- The clones of all candidates in a table.
+use Rattle.std.specs.Prelude.{◌≡◌, ℕ, ◌+◌, ◌-◌, ◌≤◌, List, [], fold, nat_lt, slice_index_or, if◌then◌else◌}
+use Rattle.std.specs.List.{range_with_len}
+use Rattle.ballot_base.specs.CandSet.{with_member}
+use Rattle.ballot_base.specs.Ballots.{Row}
+use Rattle.tie_families.specs.Clones.{clones_among, clone_count}
+
+-- at each candidate's number the table has its clones
+abbrev pub AreClones : ℕ → List Row → List (List ℕ) → Type 0
+AreClones m rows table = (c : ℕ) → 1 ≤ c → c ≤ m → slice_index_or table c [] ≡ clones_among m rows c
+
+-- the set with the candidate, where it has fewer clones of the candidate than the other set
+abbrev pub completed_by : List Row → List ℕ → List ℕ → ℕ → List ℕ
+completed_by rows other set x =
+    if nat_lt (clone_count rows set x) (clone_count rows other x) then with_member set x else set
+
+-- the set with those of the candidates from c + 1 to m that it lacks, one after the other
+abbrev pub completed : ℕ → ℕ → List Row → List ℕ → List ℕ → List ℕ
+completed c m rows set other = fold (completed_by rows other) set (range_with_len (c + 1) (m - c))

@@ -1,0 +1,214 @@
+//! The families of the winners of a sequential rule, and a tally over them.
+ghost use Rattle.std.specs.Prelude.{◌≡◌, ℕ, ◌≤◌, ◌-◌, ◌==◌, ⊤, true, List, IfOk, MatchOption, length, if◌then◌else◌};
+ghost use Rattle.ballot_base.specs.Lists.{IsIncreasing};
+ghost use Rattle.std.specs.List.{AllByRecursion, list_all, list_any};
+ghost use Rattle.ballot_base.specs.Limits.{most_candidates};
+ghost use Rattle.ballot_base.specs.Ballots.{Row};
+ghost use Rattle.tie_walk.specs.Sequences.{sequential_winners};
+ghost use Rattle.tie_families.specs.Clones.{has_as_many};
+ghost use Rattle.tie_families.specs.Families.{Sequential, sequential_of, is_winner, some_winner};
+ghost use Rattle.tie_families.specs.Steps.Families.{AreApart, may_be_in};
+ghost use Rattle.tie_families.specs.Steps.Tables.{AreClones};
+
+use crate::clones::{Clones, all_clones, completed, has_as_many};
+use crate::levels::families_of;
+use ballot_base::{CandSet, Profile};
+use std::alloc::{AllocError, Allocator, Global};
+use std::marker::Model;
+use tie_walk::{SeqRule, Tally};
+
+/// The committees of k that some sequence of choices of a sequential rule makes, as families. A family is a set of k
+/// candidates at most, and its committees are those of k that have at least as many of each class of clones as it. A
+/// committee has the value 1 where a family has it, and 0 where none has. Contracts see the election, the rule and k.
+#[derive(Drop)]
+pub struct Families<'a, A: Allocator + Copy = Global> {
+    profile: &'a Profile<A>,
+    rule: SeqRule,
+    m: u8,
+    k: u8,
+    clones: Clones,
+    sets: Vec<CandSet, A>,
+}
+
+impl<'a, A: Allocator + Copy> Model for Families<'a, A> {
+    ghost use Rattle.tie_families.specs.Families.{Sequential, sequential_of};
+    ghost use Rattle.tie_families.specs.Steps.Families.{IsKept};
+
+    ghost Value = { Sequential };
+
+    ghost view = { λ f. sequential_of f.profile.now f.rule f.k };
+
+    ghost invariant = { λ f. IsKept f.profile.now f.rule f.m f.k f.clones f.sets.items };
+}
+
+impl<'a, A: Allocator + Copy + Drop> Families<'a, A> {
+    /// The families of the winning committees of k. A failed allocation leaves nothing.
+    pub fn new(
+        alloc: A,
+        profile: &'a Profile<A>,
+        rule: SeqRule,
+        k: u8,
+    ) -> Result<Families<'a, A>, AllocError>
+        requires some { 1 ≤ k }
+        requires fits { k ≤ profile.now.m }
+        ensures { IfOk result (λ families. families ≡ sequential_of profile.now rule k) }
+    {
+        let m = profile.m();
+        let clones = all_clones(profile);
+        let sets = families_of(alloc, profile, rule, k, &clones)?;
+        Ok(Families {
+            profile,
+            rule,
+            m,
+            k,
+            clones,
+            sets,
+        })
+    }
+}
+
+impl<'a, A: Allocator + Copy> Families<'a, A> {
+    /// The winners in order, where they lie so: where no candidate has a clone, and each family has k members.
+    pub(crate) fn in_order(&self) -> Option<&[CandSet]>
+        ensures { MatchOption result ⊤ (λ sets.
+            sets.now ≡ sequential_winners self.now.rule self.now.election self.now.k) }
+    {
+        if !are_apart(&self.clones, self.m) || !all_have(&self.sets, self.k) {
+            return None;
+        }
+        Some(&self.sets)
+    }
+
+    /// The number of candidates, and the size of a committee.
+    pub(crate) fn sizes(&self) -> (u8, u8)
+        ensures m { result.0 ≡ self.now.election.m }
+        ensures k { result.1 ≡ self.now.k }
+        ensures some { 1 ≤ self.now.k }
+        ensures fits { self.now.k ≤ self.now.election.m }
+    {
+        (self.m, self.k)
+    }
+}
+
+impl<'a, A: Allocator + Copy> Tally for Families<'a, A> {
+    ghost candidates = { λ families. families.election.m };
+
+    ghost value_of = { λ families set. if is_winner families set then 1 else 0 };
+
+    ghost bound_of = { λ families c set left. if some_winner families c set left then 1 else 0 };
+
+    fn m(&self) -> u8 {
+        self.profile.m()
+    }
+
+    fn value(&self, set: CandSet) -> u128 {
+        let wins = set.len() == self.k && is_in_some(&self.clones, self.m, &self.sets, set);
+        u128::from(wins)
+    }
+
+    fn bound(&self, c: u8, set: CandSet, left: u8) -> u128 {
+        let k = self.k;
+        let may_win = set.len() + left == k
+            && may_be_in_some(&self.clones, self.m, &self.sets, c, set, left);
+        u128::from(may_win)
+    }
+
+    fn good_committee(&self, k: u8) -> Option<CandSet> {
+        if k != self.k {
+            return None;
+        }
+        let family = *self.sets.first()?;
+        filled(family, self.m, k)
+    }
+}
+
+/// Whether each candidate is its only clone.
+fn are_apart(clones: &Clones, m: u8) -> bool
+    requires { m ≤ most_candidates }
+    ensures { result ≡ true → AreApart m clones.now }
+{
+    for c in 1..m + 1 {
+        let class = clones[usize::from(c)];
+        if class.len() != 1 {
+            return false;
+        }
+    }
+    true
+}
+
+/// Whether each of the sets has k members.
+fn all_have(sets: &[CandSet], k: u8) -> bool
+    ensures { result ≡ list_all (λ set. length set == k) sets.now }
+{
+    for set in sets {
+        if set.len() != k {
+            return false;
+        }
+    }
+    true
+}
+
+/// Whether some family has the committee.
+fn is_in_some(clones: &Clones, m: u8, sets: &[CandSet], committee: CandSet) -> bool
+    requires most { m ≤ most_candidates }
+    requires committee { IsIncreasing 1 m committee }
+    requires sets { AllByRecursion (λ set. IsIncreasing 1 m set) sets.now }
+    ensures { (rows : List Row) → AreClones m rows clones.now
+        → result ≡ list_any (has_as_many m rows committee) sets.now }
+{
+    for family in sets {
+        if has_as_many(clones, m, committee, *family) {
+            return true;
+        }
+    }
+    false
+}
+
+/// Whether some family has a committee of the set and of `left` of the candidates after c.
+fn may_be_in_some(clones: &Clones, m: u8, sets: &[CandSet], c: u8, set: CandSet, left: u8) -> bool
+    requires most { m ≤ most_candidates }
+    requires within { c ≤ m }
+    requires set { IsIncreasing 1 c set }
+    requires fits { left ≤ m - c }
+    requires sets { AllByRecursion (λ set. IsIncreasing 1 m set) sets.now }
+    ensures { (rows : List Row) → AreClones m rows clones.now
+        → result ≡ list_any (may_be_in m rows c set left) sets.now }
+{
+    for family in sets {
+        if may_be_in(clones, m, *family, c, set, left) {
+            return true;
+        }
+    }
+    false
+}
+
+/// Whether the family of a set has a committee of this set and of `left` of the candidates after c: those of them that
+/// are needed to have as many of each class are no more than `left`.
+fn may_be_in(clones: &Clones, m: u8, family: CandSet, c: u8, set: CandSet, left: u8) -> bool
+    requires most { m ≤ most_candidates }
+    requires family { IsIncreasing 1 m family }
+    requires within { c ≤ m }
+    requires set { IsIncreasing 1 c set }
+    requires fits { left ≤ m - c }
+    ensures { (rows : List Row) → AreClones m rows clones.now → result ≡ may_be_in m rows c set left family }
+{
+    let all = completed(clones, c, m, set, family);
+    all.len() <= set.len() + left && has_as_many(clones, m, all, family)
+}
+
+/// The set with the first of the candidates 1 to m outside it, as many as make k members.
+fn filled(set: CandSet, m: u8, k: u8) -> Option<CandSet>
+    requires most { m ≤ most_candidates }
+    requires candidates { IsIncreasing 1 m set }
+    ensures { MatchOption result ⊤ (λ filled. IsIncreasing 1 m filled × (length filled ≡ k)) }
+{
+    if set.len() > k {
+        return None;
+    }
+    let mut filled = set;
+    while filled.len() < k {
+        let (next, _others) = CandSet::all(m).minus(filled).split_first()?;
+        filled = filled.with(next);
+    }
+    Some(filled)
+}

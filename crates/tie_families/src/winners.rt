@@ -1,0 +1,90 @@
+//! The winners of a sequential rule, one by one.
+ghost use Rattle.std.specs.Prelude.{◌≡◌, ◌≤◌, ℕ, List, All, MatchOption, ⊤, drop, length};
+ghost use Rattle.std.specs.Iterator.{YieldsFirst, item_count};
+ghost use Rattle.ballot_base.specs.Lists.{AreInOrder, later_than};
+ghost use Rattle.tie_walk.specs.Sequences.{sequential_winners};
+ghost use Rattle.tie_walk.specs.Winners.{IsStart};
+
+use crate::families::Families;
+use ballot_base::CandSet;
+use std::alloc::{Allocator, Global};
+use std::marker::Model;
+use tie_walk::Winners;
+use tie_walk::sequential::first_later;
+
+/// The committees of k that some sequence of choices makes, whichever of those who tie is chosen each time, in
+/// lexicographic order. Contracts see the list of those still to come.
+/// (Lackner and Skowron, Multi-Winner Voting with Approval Preferences, sequential and reverse sequential Thiele
+/// methods)
+#[derive(Drop)]
+pub struct FamilyWinners<'a, A: Allocator + Copy = Global> {
+    // The winners, where they lie in order, and the place of the next one.
+    sorted: &'a [CandSet],
+    place: usize,
+    // Where they do not, a walk over the families.
+    walk: Option<Winners<'a, Families<'a, A>>>,
+}
+
+impl<'a, A: Allocator + Copy> Model for FamilyWinners<'a, A> {
+    ghost use Rattle.std.specs.Prelude.{ℕ, List, drop};
+    ghost use Rattle.tie_families.specs.Steps.Families.{still_to_come};
+
+    ghost Value = { List (List ℕ) };
+
+    ghost view = { λ w. still_to_come (drop w.place w.sorted.now) w.walk };
+}
+
+impl<'a, A: Allocator + Copy> FamilyWinners<'a, A> {
+    /// The winners among the committees of these families that are later than `after`, any committee of k, which need
+    /// not win; all winners where it is None. Neither this nor `next` takes memory.
+    pub fn new(families: &'a Families<'a, A>, after: Option<CandSet>) -> FamilyWinners<'a, A>
+        requires { IsStart families.now.election.m families.now.k after }
+        ensures { result ≡ later_than after
+            (sequential_winners families.now.rule families.now.election families.now.k) }
+    {
+        if let Some(sets) = families.in_order() {
+            return FamilyWinners {
+                sorted: sets,
+                place: place_after(sets, after),
+                walk: None,
+            };
+        }
+        let (m, k) = families.sizes();
+        FamilyWinners {
+            sorted: &[],
+            place: 0,
+            walk: Some(Winners::new(families, m, k, after)),
+        }
+    }
+}
+
+/// The place of the first that is later than a start, of sets of its size in lexicographic order.
+fn place_after(sets: &[CandSet], after: Option<CandSet>) -> usize
+    requires order { AreInOrder sets.now }
+    requires sizes { MatchOption after ⊤ (λ start. All (λ set. length set ≡ length start) sets.now) }
+    ensures { drop result sets.now ≡ later_than after sets.now }
+{
+    match after {
+        Some(start) => first_later(sets, start),
+        None => 0,
+    }
+}
+
+impl<'a, A: Allocator + Copy> Iterator for FamilyWinners<'a, A> {
+    type Item = CandSet;
+
+    ghost next_gives = { YieldsFirst (λ (sets : List (List ℕ)). sets) };
+
+    ghost remaining = { item_count (λ (sets : List (List ℕ)). sets) };
+
+    fn next(&mut self) -> Option<CandSet> {
+        match &mut self.walk {
+            Some(walk) => walk.next(),
+            None => {
+                let set = *self.sorted.get(self.place)?;
+                self.place += 1;
+                Some(set)
+            }
+        }
+    }
+}

@@ -1,0 +1,60 @@
+use Rattle.std.proofs.Common.{◌≡◌, ℕ, zero, suc, ◌+◌, ◌-◌, ◌==◌, ◌<◌, ◌≤◌, ◌^◌, ◌∙◌, cond, List, sym, ap, arith, length, get_or}
+use Rattle.std.specs.Int.{bit_at}
+use Rattle.std.proofs.lemmas.Bool.{eq-eqb, ne_eqb}
+use Rattle.std.proofs.lemmas.Nat.Bits.{bit_at-zero, bit_at_ones}
+use Rattle.ballot_base.specs.Limits.{most_candidates}
+use Rattle.ballot_base.specs.Ballots.{hits}
+use Rattle.ballot_base.specs.CandSet.{has_member}
+use Rattle.tie_walk.proofs.Gains.{hits-none}
+use Rattle.tie_search.proofs.ColumnLemmas.{hits-first, hit-moves}
+use Rattle.tie_search.proofs.SearchLemmas.{rest-increasing}
+use Rattle.tie_search.proofs.columns.by_hits.Goals as goal
+
+begins : (words : List ℕ) (h i all : ℕ) → i < 64 → get_or words 0 0 ≡ 2 ^ 64 - 1 → ((j : ℕ) → 1 ≤ j → get_or words j 0 ≡ 0)
+    → bit_at (get_or words h 0) i ≡ cond (all == h + all) 1 0
+begins words zero i all low first others =
+    ap (λ n. bit_at n i) first ∙ bit_at_ones 64 i low ∙ sym (ap (λ b. cond b 1 0) (eq-eqb all (0 + all) (omega arith)))
+begins words (suc h) i all low first others =
+    ap (λ n. bit_at n i) (others (suc h) (omega arith)) ∙ bit_at-zero i ∙ sym (ap (λ b. cond b 1 0) (ne_eqb all (suc h + all) (λ e. absurd (omega (arith, e)))))
+
+pub bounds-block-from : goal.bounds-block-from
+bounds-block-from c =
+    let first = (rest-increasing most_candidates c.loop-parts.left c.in-Some.parts.1 c.in-Some.parts.0 c.in-Some.ensures c.loop-parts.invariant.rises).0 in
+    omega (arith, first, c.from.ensures)
+
+pub loop-parts-init : goal.loop-parts-init
+loop-parts-init c = record {
+  rises = c.valid.ensures;
+  counted = λ ballot_at block h i low within. begins c.no_hits-words.result h i (hits (ballot_at i) c.args.set) within c.no_hits-words.ensures.none c.no_hits-words.ensures.others;
+  within = λ ballot_at block i. omega arith;
+}
+
+pub loop-parts-smaller : goal.loop-parts-smaller
+loop-parts-smaller c = omega (arith, ap length c.in-Some.ensures)
+
+pub loop-parts-preserved : goal.loop-parts-preserved
+loop-parts-preserved c =
+    let left = c.loop-parts.left in
+    let rest = c.in-Some.parts.1 in
+    let first = c.in-Some.parts.0 in
+    let rises = c.loop-parts.invariant.rises in
+    record {
+      rises = (rest-increasing most_candidates left rest first c.in-Some.ensures rises).1;
+      counted = λ ballot_at block h i low within.
+          c.add_hit.ensures h i low within
+          ∙ hit-moves (has_member (ballot_at i) first) c.loop-parts.words h i (hits (ballot_at i) c.args.set) (hits (ballot_at i) left) (hits (ballot_at i) rest)
+          (get_or c.args.block.now c.from.result 0)
+          (hits-first (ballot_at i) left rest first (block.rises i) rises c.in-Some.ensures)
+          (c.loop-parts.invariant.within ballot_at block i)
+          (ap (λ n. bit_at (get_or c.args.block.now n 0) i) c.from.ensures ∙ block.approves first i within)
+          (λ j most. c.loop-parts.invariant.counted ballot_at block j i (omega (arith, most, low)) within);
+      within = λ ballot_at block i.
+          let more : hits (ballot_at i) left ≡ cond (has_member (ballot_at i) first) 1 0 + hits (ballot_at i) rest =
+          hits-first (ballot_at i) left rest first (block.rises i) rises c.in-Some.ensures in
+          omega (arith, more, c.loop-parts.invariant.within ballot_at block i);
+    }
+
+pub returns : goal.returns
+returns c ballot_at block h i low within =
+    c.loop-parts.invariant.counted ballot_at block h i low within
+    ∙ ap (λ n. cond (hits (ballot_at i) c.args.set == n) 1 0) (let none : hits (ballot_at i) c.loop-parts.left ≡ 0 = ap (hits (ballot_at i)) c.in_default.ensures ∙ hits-none (ballot_at i) in omega (arith, none))

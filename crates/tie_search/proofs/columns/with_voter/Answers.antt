@@ -1,0 +1,91 @@
+use Rattle.std.proofs.Common.{◌≡◌, ℕ, ◌*◌, ◌%◌, ◌^◌, ◌==◌, ◌<◌, ◌&&◌, ◌||◌, ◌∙◌, Bool, true, false, cond, List, ◌∷◌, refl, sym, ap, arith, inl, inr, length, get_or, set, bit_or, w64}
+use Rattle.std.specs.Int.{bit_at}
+use Rattle.std.proofs.Math.ListN.{length-set}
+use Rattle.std.proofs.lemmas.Bool.{cases_eq, eq-eqb, ne_eqb}
+use Rattle.std.proofs.lemmas.List.{get_or-set_same, get_or-set_other}
+use Rattle.std.proofs.lemmas.Nat.Bits.{bit_at_set_same, bit_at_set_other}
+use Rattle.ballot_base.specs.Limits.{most_candidates}
+use Rattle.ballot_base.specs.CandSet.{has_member}
+use Rattle.tie_search.proofs.SearchLemmas.{rest-increasing}
+use Rattle.tie_search.proofs.columns.with_voter.Goals as goal
+
+-- a candidate's bit is set
+one-set : (block left rest : List ℕ) (first place wanted c i : ℕ) → left ≡ first ∷ rest → first < length block → place < 64 → i < 64
+    → cond ((i == place) && has_member left c) 1 (bit_at (get_or block c 0) i) ≡ wanted
+    → cond ((i == place) && has_member rest c) 1 (bit_at (get_or (set block first (bit_or (get_or block first 0) (1 * 2 ^ place % 2 ^ 64))) c 0) i) ≡ wanted
+one-set block left rest first place wanted c i is inside low within before =
+    elim (cases_eq c first) [
+      | inl here ↦ elim (cases_eq i place) [
+        | inl at ↦
+            ap (λ b. cond (b && has_member rest c) 1 (bit_at (get_or (set block first new) c 0) i)) (eq-eqb i place at)
+            ∙ ap (λ j. cond (has_member rest c) 1 (bit_at (get_or (set block first new) j 0) i)) here
+            ∙ ap (λ n. cond (has_member rest c) 1 (bit_at n i)) (get_or-set_same block first new 0 inside)
+            ∙ ap (λ j. cond (has_member rest c) 1 (bit_at new j)) at
+            ∙ ap (λ n. cond (has_member rest c) 1 n) (bit_at_set_same w64 (get_or block first 0) place low)
+            ∙ always (has_member rest c)
+            ∙ sym (ap (λ b. cond b 1 (bit_at (get_or block c 0) i)) (ap (λ b. b && has_member left c) (eq-eqb i place at) ∙ ap (λ l. has_member l c) is ∙ ap (λ b. b || has_member rest c) (eq-eqb first c (sym here))))
+            ∙ before
+        | inr other ↦
+            ap (λ b. cond (b && has_member rest c) 1 (bit_at (get_or (set block first new) c 0) i)) (ne_eqb i place other)
+            ∙ ap (λ j. bit_at (get_or (set block first new) j 0) i) here
+            ∙ ap (λ n. bit_at n i) (get_or-set_same block first new 0 inside)
+            ∙ bit_at_set_other w64 (get_or block first 0) place low i other
+            ∙ ap (λ j. bit_at (get_or block j 0) i) (sym here)
+            ∙ sym (ap (λ b. cond (b && has_member left c) 1 (bit_at (get_or block c 0) i)) (ne_eqb i place other))
+            ∙ before
+      ]
+      | inr other ↦
+          ap (λ n. cond ((i == place) && has_member rest c) 1 (bit_at n i)) (get_or-set_other block first c new 0 other)
+          ∙ ap (λ b. cond ((i == place) && b) 1 (bit_at (get_or block c 0) i)) (sym (ap (λ l. has_member l c) is ∙ ap (λ b. b || has_member rest c) (ne_eqb first c (λ e. other (sym e)))))
+          ∙ before
+    ]
+  where
+    new : ℕ
+    new = bit_or (get_or block first 0) (1 * 2 ^ place % 2 ^ 64)
+
+    always : (b : Bool) → cond {A = ℕ} b 1 1 ≡ 1
+    always true = refl
+    always false = refl
+
+pub loop-parts-init : goal.loop-parts-init
+loop-parts-init c = record {
+  long = c.told-block;
+  rises = c.valid.ensures;
+  made = λ n i within. refl;
+}
+
+pub bounds-with-from : goal.bounds-with-from
+bounds-with-from c =
+    let first = (rest-increasing most_candidates c.loop-parts.left c.in-Some.parts.1 c.in-Some.parts.0 c.in-Some.ensures c.loop-parts.invariant.rises).0 in
+    omega (arith, first, c.from.ensures)
+
+pub bounds-with-from-in-Some : goal.bounds-with-from-in-Some
+bounds-with-from-in-Some c =
+    let first = (rest-increasing most_candidates c.loop-parts.left c.in-Some.parts.1 c.in-Some.parts.0 c.in-Some.ensures c.loop-parts.invariant.rises).0 in
+    omega (arith, first, c.from.ensures)
+
+pub loop-parts-smaller : goal.loop-parts-smaller
+loop-parts-smaller c = omega (arith, ap length c.in-Some.ensures)
+
+pub loop-parts-preserved : goal.loop-parts-preserved
+loop-parts-preserved c =
+    let rest = rest-increasing most_candidates c.loop-parts.left c.in-Some.parts.1 c.in-Some.parts.0 c.in-Some.ensures c.loop-parts.invariant.rises in
+    let is : c.loop-parts.left ≡ c.from.result ∷ c.in-Some.parts.1 = c.in-Some.ensures ∙ ap (λ n. n ∷ c.in-Some.parts.1) (sym c.from.ensures) in
+    let word = bit_or (get_or c.loop-parts.with c.from.result 0) (1 * 2 ^ c.args.place % 2 ^ 64) in
+    record {
+      long = length-set c.loop-parts.with c.from.result word ∙ c.loop-parts.invariant.long;
+      rises = rest.1;
+      made = λ n i within.
+          one-set c.loop-parts.with c.loop-parts.left c.in-Some.parts.1 c.from.result c.args.place _ n i is
+          (omega (arith, rest.0, c.from.ensures, c.loop-parts.invariant.long)) c.requires within (c.loop-parts.invariant.made n i within);
+    }
+
+pub returns : goal.returns
+returns c n i within =
+    none (i == c.args.place) (bit_at (get_or c.loop-parts.with n 0) i)
+    ∙ ap (λ l. cond ((i == c.args.place) && has_member l n) 1 (bit_at (get_or c.loop-parts.with n 0) i)) (sym c.in_default.ensures)
+    ∙ c.loop-parts.invariant.made n i within
+  where
+    none : (b : Bool) (x : ℕ) → x ≡ cond (b && false) 1 x
+    none true x = refl
+    none false x = refl

@@ -1,0 +1,77 @@
+-- The ballots of all voters, candidate by candidate, as bits.
+use Rattle.std.specs.Prelude.{ℕ, zero, suc, ◌≡◌, ◌+◌, ◌*◌, ◌<◌, ◌≤◌, ◌==◌, ◌^◌, List, [], ◌∷◌, ◌++◌, length, replicate, slice_index, get_or, if◌then◌else◌}
+use Rattle.std.specs.Int.{bit_at}
+use Rattle.ballot_base.specs.Limits.{most_candidates, most_members}
+use Rattle.ballot_base.specs.Lists.{IsIncreasing}
+use Rattle.ballot_base.specs.CandSet.{has_member}
+use Rattle.ballot_base.specs.Ballots.{Row, hits}
+use Rattle.ballot_base.specs.Increments.{increments}
+use Rattle.tie_walk.specs.Values.{Thiele}
+
+-- how many voters share a word, and how many blocks of so many there may be
+abbrev pub block_voters : ℕ
+block_voters = 64
+
+abbrev pub most_blocks : ℕ
+most_blocks = 128
+
+-- the ballots of the voters, each as often as it was cast
+abbrev pub voters_of : List Row → List (List ℕ)
+voters_of [] = []
+voters_of (row ∷ rows) = replicate row.1 row.0 ++ voters_of rows
+
+-- the ballot of a voter, none after the last
+abbrev pub ballot_of : List (List ℕ) → ℕ → List ℕ
+ballot_of [] v = []
+ballot_of (ballot ∷ ballots) zero = ballot
+ballot_of (ballot ∷ ballots) (suc v) = ballot_of ballots v
+
+-- the sum of what f gives the numbers below n
+unfoldable pub total : (ℕ → ℕ) → ℕ → ℕ
+total f zero = 0
+total f (suc n) = f 0 + total (λ i. f (suc i)) n
+
+-- what a voter gives for a candidate who joins the set
+abbrev pub given : List ℕ → List ℕ → ℕ → List ℕ → ℕ
+given weights set c ballot = if has_member ballot c then slice_index weights (hits ballot set) else 0
+
+-- a block holds who approves each candidate, of so many voters with these ballots
+pub record IsBlock (ballot_at : ℕ → List ℕ) (block : List ℕ) : Type 0 where
+  pub rises : (i : ℕ) → IsIncreasing 1 most_candidates (ballot_at i)
+  pub approves : (c i : ℕ) → i < block_voters
+      → bit_at (slice_index block c) i ≡ (if has_member (ballot_at i) c then 1 else 0)
+
+-- the blocks hold who approves each candidate, of all voters
+abbrev pub AreColumns : List (List ℕ) → List (List ℕ) → Type 0
+AreColumns ballots blocks = (b c i : ℕ) → b < most_blocks → i < block_voters
+    → bit_at (slice_index (get_or blocks b []) c) i
+    ≡ (if has_member (ballot_of ballots (b * block_voters + i)) c then 1 else 0)
+
+-- the words hold who of a block has each number of hits, of the first `levels`
+abbrev pub AreByHits : (ℕ → List ℕ) → List ℕ → ℕ → List ℕ → Type 0
+AreByHits ballot_at set levels words = (h i : ℕ) → h < levels → i < block_voters
+    → bit_at (slice_index words h) i ≡ (if hits (ballot_at i) set == h then 1 else 0)
+
+-- the word before one, none before the first
+abbrev pub word_before : List ℕ → ℕ → ℕ
+word_before words zero = 0
+word_before words (suc h) = slice_index words h
+
+-- no weight is too large to add up, and none counts after the first `levels`
+pub record AreWeights (weights : List ℕ) (levels : ℕ) : Type 0 where
+  pub few : levels ≤ most_members
+  pub small : (j : ℕ) → slice_index weights j < 2 ^ 44
+  pub end : (j : ℕ) → levels ≤ j → slice_index weights j ≡ 0
+
+-- each ballot is an increasing list of candidates
+abbrev pub AreRising : List (List ℕ) → Type 0
+AreRising ballots = (v : ℕ) → IsIncreasing 1 most_candidates (ballot_of ballots v)
+
+-- what is kept of an election: all its voters in blocks, and what each hit gives
+pub record AreColumnsOf (tally : Thiele) (blocks : List (List ℕ)) (used : ℕ) (weights : List ℕ) (levels : ℕ) : Type 0
+  where
+    pub few : used ≤ most_blocks
+    pub all : length (voters_of tally.election.rows) ≤ used * block_voters
+    pub columns : AreColumns (voters_of tally.election.rows) blocks
+    pub sound : AreWeights weights levels
+    pub weights_are : (j : ℕ) → slice_index weights j ≡ slice_index (increments tally.rule tally.k) j

@@ -1,0 +1,252 @@
+//! The ballots of all voters, candidate by candidate: a bit a voter, 64 voters to a word. What a set gains by each
+//! candidate is counted for 64 voters at once.
+ghost use Rattle.std.specs.Prelude.{◌≡◌, ℕ, ◌+◌, ◌-◌, ◌*◌, ◌^◌, ◌<◌, ◌≤◌, ◌==◌, ◌&&◌, List, [], ◌∷◌, ◌++◌, length, replicate, slice_index, MatchOption, ⊤, if◌then◌else◌};
+ghost use Rattle.std.specs.Int.{bit_at};
+ghost use Rattle.std.specs.Int.Bits.{bit_and};
+ghost use Rattle.std.specs.Int.RustNames.{count_ones};
+ghost use Rattle.ballot_base.specs.Limits.{most_candidates, most_members};
+ghost use Rattle.ballot_base.specs.Lists.{IsIncreasing};
+ghost use Rattle.ballot_base.specs.Ballots.{voter_count};
+ghost use Rattle.ballot_base.specs.CandSet.{has_member};
+ghost use Rattle.tie_walk.specs.Values.{thiele_of};
+ghost use Rattle.tie_search.specs.Steps.Columns.{block_voters, most_blocks, total, given, IsBlock, AreByHits, AreColumns, AreColumnsOf, AreRising, AreWeights, voters_of, ballot_of, word_before};
+
+use ballot_base::{CandSet, Increments, MOST_MEMBERS, Profile, ThieleRule};
+use std::alloc::Allocator;
+use tie_walk::PLACES;
+
+/// How many voters share a word.
+const BLOCK_VOTERS: usize = 64;
+
+/// How many blocks of so many voters there may be: 8,192 voters.
+const MOST_BLOCKS: usize = 128;
+
+/// With more voters a row than this, a pass over the rows is quicker than one over the blocks.
+const ROW_VOTERS: usize = 2;
+
+/// A weight that is too large: the gains of all blocks may not fit a word of 64 bits.
+const LARGE_WEIGHT: u128 = 1 << 44;
+
+/// What a voter gives for each hit, the first at 0.
+type Weights = [u64; MOST_MEMBERS as usize];
+
+/// Who of 64 voters approve each candidate, at the candidate's number.
+type Block = [u64; PLACES];
+
+/// Moves those who approve a further member on by one hit.
+fn add_hit(words: &mut Block, approving: u64, levels: usize)
+    requires { levels ≤ most_members }
+    ensures { (h i : ℕ) → h < levels → i < block_voters → bit_at (slice_index words.new h) i
+        ≡ (if bit_at approving i == 1 then bit_at (word_before words.old h) i else bit_at (slice_index words.old h) i) }
+{
+    let mut before = 0;
+    for h in 0..levels {
+        let here = words[h];
+        words[h] = here & !approving | before & approving;
+        before = here;
+    }
+}
+
+/// All voters of a block have no hit.
+fn no_hits() -> Block
+    ensures long { length result ≡ most_candidates + 1 }
+    ensures none { slice_index result 0 ≡ 2 ^ 64 - 1 }
+    ensures others { (h : ℕ) → 1 ≤ h → slice_index result h ≡ 0 }
+{
+    let mut words = [0; PLACES];
+    words[0] = u64::MAX;
+    words
+}
+
+/// Who of a block has each number of hits, at the number, for the first `levels` numbers.
+fn by_hits(block: &Block, set: CandSet, levels: usize) -> Block
+    requires { levels ≤ most_members }
+    ensures { (ballot_at : ℕ → List ℕ) → IsBlock ballot_at block.now → AreByHits ballot_at set levels result }
+{
+    set.valid();
+    let mut words = no_hits();
+    let mut left = set;
+    while let Some(parts) = left.split_first() {
+        add_hit(&mut words, block[usize::from(parts.0)], levels);
+        left = parts.1;
+    }
+    words
+}
+
+/// Adds to the gain of each candidate what those of the voters who approve it give.
+fn add_votes(gains: &mut Block, block: &Block, voters: u64, weight: u64)
+    requires small { weight < 2 ^ 44 }
+    requires fits { (c : ℕ) → slice_index gains.old c < 2 ^ 63 + 2 ^ 62 }
+    ensures sum { (c : ℕ) → c ≤ most_candidates → slice_index gains.new c
+        ≡ slice_index gains.old c + weight * count_ones (bit_and (slice_index block.now c) voters) }
+    ensures most { (c : ℕ) → slice_index gains.new c ≤ slice_index gains.old c + 2 ^ 50 }
+{
+    if voters == 0 {
+        return;
+    }
+    for c in 0..PLACES {
+        gains[c] += weight * u64::from((block[c] & voters).count_ones());
+    }
+}
+
+/// Adds to the gain of each candidate what the voters of a block give.
+fn add_block(gains: &mut Block, block: &Block, weights: &Weights, levels: usize, set: CandSet)
+    requires weights { AreWeights weights.now levels }
+    requires fits { (c : ℕ) → slice_index gains.old c < 2 ^ 63 }
+    ensures sum { (ballot_at : ℕ → List ℕ) → IsBlock ballot_at block.now → (c : ℕ) → c ≤ most_candidates
+        → slice_index gains.new c
+        ≡ slice_index gains.old c + total (λ i. given weights.now set c (ballot_at i)) block_voters }
+    ensures most { (c : ℕ) → slice_index gains.new c ≤ slice_index gains.old c + levels * 2 ^ 50 }
+{
+    let words = by_hits(block, set, levels);
+    for h in 0..levels {
+        add_votes(gains, block, words[h], weights[h]);
+    }
+}
+
+/// The block with a voter at a place: the bit of the place is set for each candidate whom the ballot approves.
+fn with_voter(block: &Block, place: u32, ballot: CandSet) -> Block
+    requires { place < block_voters }
+    ensures { (c i : ℕ) → i < block_voters → bit_at (slice_index result c) i
+        ≡ (if (i == place) && has_member ballot c then 1 else bit_at (slice_index block.now c) i) }
+{
+    ballot.valid();
+    let mut with = *block;
+    let mut left = ballot;
+    while let Some(parts) = left.split_first() {
+        with[usize::from(parts.0)] |= 1 << place;
+        left = parts.1;
+    }
+    with
+}
+
+/// Puts the voters of a row after so many others.
+fn add_row(blocks: &mut [Block; MOST_BLOCKS], voters: usize, ballot: CandSet, count: usize)
+    requires { voters + count ≤ most_blocks * block_voters }
+    ensures { (ballots : List (List ℕ)) → length ballots ≡ voters → AreColumns ballots blocks.old
+        → AreColumns (ballots ++ replicate count ballot) blocks.new }
+{
+    for passed in 0..count {
+        let voter = voters + passed;
+        let at = voter / BLOCK_VOTERS;
+        let place = (voter % BLOCK_VOTERS) as u32;
+        blocks[at] = with_voter(&blocks[at], place, ballot);
+    }
+}
+
+/// Blocks in which no voter approves anyone.
+fn no_voters() -> [Block; MOST_BLOCKS]
+    ensures long { length result ≡ most_blocks }
+    ensures none { AreColumns [] result }
+{
+    [[0; PLACES]; MOST_BLOCKS]
+}
+
+/// The voters of a profile, in blocks.
+fn blocks_of<A: Allocator + Copy>(profile: &Profile<A>) -> [Block; MOST_BLOCKS]
+    requires { voter_count profile.now.rows ≤ most_blocks * block_voters }
+    ensures { AreColumns (voters_of profile.now.rows) result }
+{
+    let mut blocks = no_voters();
+    let mut voters = 0;
+    for i in 0..profile.rows() {
+        let (ballot, count) = profile.row(i);
+        let count = count as usize;
+        add_row(&mut blocks, voters, ballot, count);
+        voters += count;
+    }
+    blocks
+}
+
+/// The same weights in smaller words, if none is too large to be added up there.
+fn small_weights(weights: &[u128; MOST_MEMBERS as usize]) -> Option<Weights>
+    ensures { MatchOption result ⊤ (λ small. (j : ℕ) → (slice_index small j ≡ slice_index weights.now j)
+        × (slice_index small j < 2 ^ 44)) }
+{
+    let mut small = [0; MOST_MEMBERS as usize];
+    for j in 0..small.len() {
+        if weights[j] >= LARGE_WEIGHT {
+            return None;
+        }
+        small[j] = weights[j] as u64;
+    }
+    Some(small)
+}
+
+/// Up to which hit something is given.
+fn last_level(weights: &Weights) -> usize
+    ensures most { result ≤ most_members }
+    ensures end { (j : ℕ) → result ≤ j → slice_index weights.now j ≡ 0 }
+{
+    let mut levels = 0;
+    for j in 0..weights.len() {
+        if weights[j] > 0 {
+            levels = j + 1;
+        }
+    }
+    levels
+}
+
+/// The ballots of a profile, candidate by candidate, and what is given for each hit.
+#[derive(Drop)]
+pub(crate) struct Columns {
+    pub(crate) blocks: [Block; MOST_BLOCKS],
+    pub(crate) used: usize,
+    pub(crate) weights: Weights,
+    pub(crate) levels: usize,
+}
+
+impl Columns {
+    /// The ballots of a profile, if there is room for so many voters, and what a hit gives is not too large. Where many
+    /// voters cast the same ballots, a pass over the rows is quicker.
+    pub(crate) fn of<A: Allocator + Copy>(
+        profile: &Profile<A>,
+        rule: ThieleRule,
+        k: u8,
+    ) -> Option<Columns>
+        requires some { 1 ≤ k }
+        requires size { k ≤ most_members }
+        ensures { MatchOption result ⊤ (λ columns. AreColumnsOf (thiele_of profile.now rule k)
+            columns.blocks columns.used columns.weights columns.levels) }
+    {
+        let voters = profile.voters() as usize;
+        if voters > MOST_BLOCKS * BLOCK_VOTERS || voters / ROW_VOTERS > profile.rows() {
+            return None;
+        }
+        let weights = small_weights(&Increments::of(rule, k).w)?;
+        let levels = last_level(&weights);
+        Some(Columns {
+            blocks: blocks_of(profile),
+            used: voters.div_ceil(BLOCK_VOTERS),
+            weights,
+            levels,
+        })
+    }
+
+    /// What the set gains by each candidate, at the candidate's number.
+    pub(crate) fn gains(&self, set: CandSet) -> Block
+        requires used { self.now.used ≤ most_blocks }
+        requires weights { AreWeights self.now.weights self.now.levels }
+        ensures { (ballots : List (List ℕ)) → AreColumns ballots self.now.blocks → AreRising ballots
+            → (c : ℕ) → c ≤ most_candidates → slice_index result c
+            ≡ total (λ v. given self.now.weights set c (ballot_of ballots v)) (self.now.used * block_voters) }
+    {
+        let mut gains = [0; PLACES];
+        for b in 0..self.used {
+            add_block(&mut gains, &self.blocks[b], &self.weights, self.levels, set);
+        }
+        gains
+    }
+}
+
+/// The same sums in wider words.
+pub(crate) fn widened(sums: &Block) -> [u128; PLACES]
+    ensures same { (n : ℕ) → slice_index result n ≡ slice_index sums.now n }
+    ensures small { (n : ℕ) → slice_index result n < 2 ^ 64 }
+{
+    let mut wide = [0; PLACES];
+    for n in 0..PLACES {
+        wide[n] = u128::from(sums[n]);
+    }
+    wide
+}
