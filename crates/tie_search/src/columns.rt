@@ -238,15 +238,3 @@ impl Columns {
         gains
     }
 }
-
-/// The same sums in wider words.
-pub(crate) fn widened(sums: &Block) -> [u128; PLACES]
-    ensures same { (n : ℕ) → slice_index result n ≡ slice_index sums.now n }
-    ensures small { (n : ℕ) → slice_index result n < 2 ^ 64 }
-{
-    let mut wide = [0; PLACES];
-    for n in 0..PLACES {
-        wide[n] = u128::from(sums[n]);
-    }
-    wide
-}

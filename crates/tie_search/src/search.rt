@@ -7,11 +7,11 @@ ghost use Rattle.tie_walk.specs.Sequences.{gain};
 ghost use Rattle.tie_search.specs.Steps.Searched.{IsKept};
 ghost use Rattle.tie_search.specs.Completions.{IsOpen, IsOutOfReach, IsReaching, value_by};
 
-use crate::columns::{Columns, widened};
+use crate::columns::Columns;
 use crate::order::Order;
 use ballot_base::{CandSet, ThieleRule};
 use std::alloc::Allocator;
-use tie_walk::{PLACES, Tally, ThieleTally};
+use tie_walk::{PLACES, Tally, ThieleTally, widened};
 
 /// A committee of the set and of `left` of the free candidates whose value is at least `least`, if there is one.
 /// (Nemhauser and Wolsey, Maximizing submodular set functions)

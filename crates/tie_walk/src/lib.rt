@@ -18,7 +18,7 @@ pub use minimax::MinimaxTally;
 pub use satisfaction::SavTally;
 pub use sequential::{SeqRule, SeqWinners};
 pub use tally::{PLACES, Tally};
-pub use thiele::{ThieleTally, those_after};
+pub use thiele::{ThieleTally, those_after, widened};
 pub use winners::Winners;
 
 #[cfg(test)]

@@ -260,8 +260,9 @@ fn add_votes(totals: &mut [u64; PLACES], members: CandSet, votes: u64)
 }
 
 /// The same totals in wider words.
-fn widened(totals: &[u64; PLACES]) -> [u128; PLACES]
-    ensures { (n : ℕ) → slice_index result n ≡ slice_index totals.now n }
+pub fn widened(totals: &[u64; PLACES]) -> [u128; PLACES]
+    ensures same { (n : ℕ) → slice_index result n ≡ slice_index totals.now n }
+    ensures small { (n : ℕ) → slice_index result n < 2 ^ 64 }
 {
     let mut wide = [0; PLACES];
     for n in 0..PLACES {

@@ -1,4 +1,4 @@
-use Rattle.std.proofs.Common.{◌≡◌, ◌+◌, ◌<◌, ◌∙◌, refl, sym, subst, arith, inl, inr, length, get_or, set, get_or-set_same, get_or-set_other}
+use Rattle.std.proofs.Common.{◌≡◌, ℕ, ◌+◌, ◌<◌, ◌≤◌, ◌∙◌, List, refl, sym, subst, arith, inl, inr, length, get_or, set, get_or-set_same, get_or-set_other}
 use Rattle.std.proofs.Math.ListN.{length-set}
 use Rattle.std.proofs.lemmas.Bool.{cases_eq, cases_lt}
 use Rattle.std.proofs.lemmas.List.{get_or_past}
@@ -24,8 +24,15 @@ loop-n-preserved c =
       ];
     }
 
-pub returns : goal.returns
-returns c n = elim (cases_lt n 65) [
-  | inl low ↦ c.loop-n.invariant.same n (omega (arith, low, c.loop-n-test.false))
-  | inr high ↦ get_or_past c.loop-n.wide n 0 (omega (arith, high, c.loop-n.invariant.long)) ∙ sym (get_or_past c.args.totals.now n 0 (omega (arith, high, c.told-totals)))
+all-same : (totals wide : List ℕ) (n at : ℕ) → length totals ≡ 65 → length wide ≡ 65 → 65 ≤ at → ((i : ℕ) → i < at → get_or wide i 0 ≡ get_or totals i 0) → get_or wide n 0 ≡ get_or totals n 0
+all-same totals wide n at long long' end same = elim (cases_lt n at) [
+  | inl low ↦ same n low
+  | inr high ↦ get_or_past wide n 0 (omega (arith, high, end, long')) ∙ sym (get_or_past totals n 0 (omega (arith, high, end, long)))
 ]
+
+pub returns-clause-same : goal.returns-clause-same
+returns-clause-same c n = all-same c.args.totals.now c.loop-n.wide n c.loop-n.n c.told-totals c.loop-n.invariant.long c.loop-n-test.false c.loop-n.invariant.same
+
+pub returns-clause-small : goal.returns-clause-small
+returns-clause-small c n =
+    omega (arith, all-same c.args.totals.now c.loop-n.wide n c.loop-n.n c.told-totals c.loop-n.invariant.long c.loop-n-test.false c.loop-n.invariant.same, c.fits-totals n)

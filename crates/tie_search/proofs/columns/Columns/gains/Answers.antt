@@ -1,12 +1,8 @@
 use Rattle.std.proofs.Common.{◌≡◌, ℕ, zero, suc, ◌+◌, ◌*◌, ◌<◌, ◌∙◌, List, [], refl, sym, ap, arith, get_or, replicate}
+use Rattle.tie_walk.proofs.WorthLemmas.{no_total}
 use Rattle.tie_search.specs.Steps.Columns.{block_voters, most_blocks, total, given, ballot_of, AreColumns, AreRising, IsBlock}
 use Rattle.tie_search.proofs.ColumnLemmas.{total-add, total-zero}
 use Rattle.tie_search.proofs.columns.Columns.gains.Goals as goal
-
-zeros : (n h : ℕ) → get_or {A = ℕ} (replicate n 0) h 0 ≡ 0
-zeros zero h = refl
-zeros (suc n) zero = refl
-zeros (suc n) (suc h) = zeros n h
 
 -- one block of all
 block-at : (ballots blocks : List (List ℕ)) (b : ℕ) → b < most_blocks → AreColumns ballots blocks → AreRising ballots
@@ -18,8 +14,8 @@ block-at ballots blocks b low held up = record {
 
 pub loop-b-init : goal.loop-b-init
 loop-b-init c = record {
-  summed = λ ballots held up n low. zeros 65 n ∙ sym (total-zero (λ v. given c.args.self.now.weights c.args.set n (ballot_of ballots v)));
-  most = λ n. let e : get_or {A = ℕ} (replicate 65 0) n 0 ≡ 0 = zeros 65 n in omega (arith, e);
+  summed = λ ballots held up n low. no_total 65 n ∙ sym (total-zero (λ v. given c.args.self.now.weights c.args.set n (ballot_of ballots v)));
+  most = λ n. let e : get_or {A = ℕ} (replicate 65 0) n 0 ≡ 0 = no_total 65 n in omega (arith, e);
 }
 
 pub add_block-requires-clause-fits : goal.add_block-requires-clause-fits

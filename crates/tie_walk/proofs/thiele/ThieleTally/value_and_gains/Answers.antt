@@ -47,7 +47,7 @@ returns-clause-gains g c n wanted =
     let t = c.self.inside in
     let e : Election = t.profile.now in
     let same : thiele_of e t.rule t.k ≡ c.args.self.now = c.self.view_is in
-    c.widened.ensures n ∙ c.hits_and_gains.ensures.gains n
+    c.widened.ensures.same n ∙ c.hits_and_gains.ensures.gains n
     ∙ ap (λ b. cond b (gain t.weights e.rows c.args.set n) 0) wanted
     ∙ ap (λ l. gain l e.rows c.args.set n) c.self.invariant.weights_are
     ∙ ap (λ (x : Thiele). gain (increments x.rule x.k) x.election.rows c.args.set n) same
@@ -58,7 +58,7 @@ returns-clause-small g c n =
     let small : (i : ℕ) → get_or t.weights i 0 ≤ 2 ^ 84 = λ i. weights-small t.rule t.k t.weights i c.self.invariant.size c.self.invariant.weights_are in
     omega (
       arith,
-      c.widened.ensures n,
+      c.widened.ensures.same n,
       c.hits_and_gains.ensures.gains n,
       part-most (has_member c.args.others n) (gain t.weights t.profile.now.rows c.args.set n),
       gain-most t.profile.now t.weights c.args.set n (2 ^ 84) c.m-m.ensures.valid small,
