@@ -16,8 +16,8 @@ use itoa::Buffer;
 use minimax_search::NearTally;
 use request_words::{Rule, ScoredRule};
 use std::alloc::Allocator;
-use tie_search::SearchTally;
 use tie_families::FamilyWinners;
+use tie_search::SearchTally;
 use tie_walk::{SavTally, SeqRule, Tally, ThieleTally, Winners};
 
 /// Prints a score over its denominator, on a line.
