@@ -11,11 +11,11 @@ mod sets;
 mod share;
 mod waits;
 
-use profile::Profile;
+use profile::{Profile, ReadError};
 use std::collections::HashMap;
 use std::env;
 use std::fs::File;
-use std::io::{self, BufWriter, Read, Write};
+use std::io::{self, BufReader, BufWriter, Write};
 use std::process::ExitCode;
 
 /// The options by their names, and the file, if one is named.
@@ -56,14 +56,14 @@ impl Words {
         Some(text.split(',').map(|n| n.parse().expect("a number")).collect())
     }
 
-    fn profile(&self) -> Profile {
-        let mut input = Vec::new();
-        let read = match &self.file {
-            Some(path) => File::open(path).and_then(|mut file| file.read_to_end(&mut input)),
-            None => io::stdin().read_to_end(&mut input),
-        };
-        read.expect("an input");
-        Profile::read(&input)
+    fn profile(&self) -> Result<Profile, ReadError> {
+        match &self.file {
+            Some(path) => {
+                let file = File::open(path).map_err(ReadError::Input)?;
+                Profile::read(BufReader::new(file), path.rsplit_once('.').map(|(_, ending)| ending))
+            }
+            None => Profile::read(io::stdin().lock(), None),
+        }
     }
 }
 
@@ -82,22 +82,36 @@ fn main() -> ExitCode {
         waits::print(words).expect("a program");
         return ExitCode::SUCCESS;
     }
-    let words = Words::parse(words);
+    match write_answer(&command, &Words::parse(words)) {
+        Ok(true) => ExitCode::SUCCESS,
+        Ok(false) => ExitCode::from(1),
+        Err(error) => {
+            eprintln!("reference: {error}");
+            ExitCode::from(3)
+        }
+    }
+}
+
+/// Writes the answer to a command, and tells whether a property holds.
+fn write_answer(command: &str, words: &Words) -> Result<bool, ReadError> {
     let mut out = BufWriter::new(io::stdout().lock());
-    let holds = match command.as_str() {
-        "elect" => elect::write(&mut out, &words.profile(), words.text("rule"), words.number("size")),
-        "integer-program" => integer_program::write(&mut out, &words.profile(), words.text("rule"), words.number("size")),
+    let holds = match command {
+        "elect" => elect::write(&mut out, &words.profile()?, words.text("rule"), words.number("size")),
+        "integer-program" => integer_program::write(&mut out, &words.profile()?, words.text("rule"), words.number("size")),
         "check" => {
             let committee = words.list("committee").expect("a committee");
-            check::write(&mut out, &words.profile(), words.text("property"), &committee)
+            check::write(&mut out, &words.profile()?, words.text("property"), &committee)
         }
         "share" => {
-            let votes = words.list("votes").unwrap_or_else(|| words.profile().party_votes());
+            let votes = match words.list("votes") {
+                Some(votes) => votes,
+                None => words.profile()?.party_votes(),
+            };
             share::write(&mut out, &votes, words.text("method"), words.number("seats"))
         }
         other => panic!("no command {other}"),
     };
     let holds = holds.expect("an output");
     out.flush().expect("an output");
-    if holds { ExitCode::SUCCESS } else { ExitCode::from(1) }
+    Ok(holds)
 }
