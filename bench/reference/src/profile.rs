@@ -94,7 +94,7 @@ impl Profile {
                 text = text.strip_prefix(b"\xEF\xBB\xBF").unwrap_or(text);
             }
             text = text.strip_suffix(b"\r").unwrap_or(text);
-            reader.take(text).map_err(|fault| ReadError::Fault(fault, Some(number)))?;
+            reader.take(text).map_err(|fault| ReadError::Fault(fault, (fault != Fault::NoAlternatives).then_some(number)))?;
         }
         reader.finish().map_err(|fault| ReadError::Fault(fault, None))
     }
