@@ -2,6 +2,7 @@ pub mod ColumnLemmas
 pub mod CompletionLemmas
 mod Examples
 pub mod PriceLemmas
+pub mod PricedLemmas
 pub mod ReachLemmas
 pub mod SearchLemmas
 mod WholeLemmas

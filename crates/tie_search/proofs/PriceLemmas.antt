@@ -51,11 +51,11 @@ hits-turned m ballot committee up rises =
 
 -- ---- all rows
 
-row-price : (b : Bool) (n : ℕ) → cond b n 0 ≡ n * cond b 1 0
+pub row-price : (b : Bool) (n : ℕ) → cond b n 0 ≡ n * cond b 1 0
 row-price true n = omega arith
 row-price false n = omega arith
 
-price-cons : (p : Priced) (priced : List Priced) (n : ℕ) → price (p ∷ priced) n ≡ p.0.1 * p.1 * cond (has_member p.0.0 n) 1 0 + price priced n
+pub price-cons : (p : Priced) (priced : List Priced) (n : ℕ) → price (p ∷ priced) n ≡ p.0.1 * p.1 * cond (has_member p.0.0 n) 1 0 + price priced n
 price-cons p priced n = by (has_member p.0.0 n) refl
   where
     by : (b : Bool) → has_member p.0.0 n ≡ b → price (p ∷ priced) n ≡ p.0.1 * p.1 * cond b 1 0 + price priced n

@@ -28,7 +28,7 @@ const ROW_VOTERS: usize = 2;
 const LARGE_WEIGHT: u128 = 1 << 44;
 
 /// What a voter gives for each hit, the first at 0.
-type Weights = [u64; MOST_MEMBERS as usize];
+pub(crate) type Weights = [u64; MOST_MEMBERS as usize];
 
 /// Who of 64 voters approve each candidate, at the candidate's number.
 type Block = [u64; PLACES];
@@ -159,7 +159,7 @@ fn blocks_of<A: Allocator + Copy>(profile: &Profile<A>) -> [Block; MOST_BLOCKS]
 }
 
 /// The same weights in smaller words, if none is too large to be added up there.
-fn small_weights(weights: &[u128; MOST_MEMBERS as usize]) -> Option<Weights>
+pub(crate) fn small_weights(weights: &[u128; MOST_MEMBERS as usize]) -> Option<Weights>
     ensures { MatchOption result ⊤ (λ small. (j : ℕ) → (slice_index small j ≡ slice_index weights.now j)
         × (slice_index small j < 2 ^ 44)) }
 {

@@ -4,7 +4,9 @@
 
 mod columns;
 pub mod laws;
+mod multipliers;
 mod order;
+mod prices;
 mod search;
 pub mod tally;
 

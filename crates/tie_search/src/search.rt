@@ -4,26 +4,35 @@ ghost use Rattle.ballot_base.specs.CandSet.{has_member};
 ghost use Rattle.ballot_base.specs.Lists.{IsIncreasing};
 ghost use Rattle.ballot_base.specs.Increments.{increments};
 ghost use Rattle.tie_walk.specs.Sequences.{gain};
-ghost use Rattle.tie_search.specs.Steps.Searched.{IsKept};
+ghost use Rattle.tie_search.specs.Steps.Searched.{IsAided, IsKept};
+ghost use Rattle.tie_search.specs.Steps.Priced.{IsPriced};
 ghost use Rattle.tie_search.specs.Completions.{IsOpen, IsOutOfReach, IsReaching, value_by};
 
 use crate::columns::Columns;
 use crate::order::Order;
+use crate::prices::{Prices, SCALE};
 use ballot_base::{CandSet, ThieleRule};
 use std::alloc::Allocator;
 use tie_walk::{PLACES, Tally, ThieleTally, widened};
+
+/// What a search is helped by, where it is worth its making.
+#[derive(Drop)]
+pub(crate) struct Aids {
+    pub(crate) columns: Option<Columns>,
+    pub(crate) prices: Option<Prices>,
+}
 
 /// A committee of the set and of `left` of the free candidates whose value is at least `least`, if there is one.
 /// (Nemhauser and Wolsey, Maximizing submodular set functions)
 pub(crate) fn find<A: Allocator + Copy>(
     tally: &ThieleTally<A>,
-    columns: &Option<Columns>,
+    aids: &Aids,
     set: CandSet,
     free: CandSet,
     left: u8,
     least: u128,
 ) -> Option<CandSet>
-    requires columns { IsKept tally.now columns.now }
+    requires aids { IsAided tally.now aids.now }
     requires opened { IsOpen tally.now.election.m set free }
     ensures { MatchOption result (IsOutOfReach (value_by tally.now) tally.now.election.m set free left least)
         (IsReaching (value_by tally.now) tally.now.election.m set free left least) }
@@ -32,20 +41,20 @@ pub(crate) fn find<A: Allocator + Copy>(
         return None;
     }
     let value = tally.value(set);
-    descend(tally, columns, set, value, free, left, least)
+    descend(tally, aids, set, value, free, left, least)
 }
 
 /// The same, where the value of the set is known.
 fn descend<A: Allocator + Copy>(
     tally: &ThieleTally<A>,
-    columns: &Option<Columns>,
+    aids: &Aids,
     set: CandSet,
     value: u128,
     free: CandSet,
     left: u8,
     least: u128,
 ) -> Option<CandSet>
-    requires columns { IsKept tally.now columns.now }
+    requires aids { IsAided tally.now aids.now }
     requires opened { IsOpen tally.now.election.m set free }
     requires value { value ≡ value_by tally.now set }
     ensures { MatchOption result (IsOutOfReach (value_by tally.now) tally.now.election.m set free left least)
@@ -55,7 +64,10 @@ fn descend<A: Allocator + Copy>(
     if left == 0 {
         return if value < least { None } else { Some(set) };
     }
-    let gains = gains_at(tally, columns, set, free);
+    if !may_afford(tally, &aids.prices, set, free, left, least) {
+        return None;
+    }
+    let gains = gains_at(tally, &aids.columns, set, free);
     let order = Order::by_worth(free, &gains);
     let mut rest = free;
     while may_reach(
@@ -69,11 +81,13 @@ fn descend<A: Allocator + Copy>(
         let next = order.first_of(rest)?;
         rest = rest.without(next);
         let more = value + gains[usize::from(next)];
-        let found = descend(tally, columns, set.with(next), more, rest, left - 1, least);
+        let found = descend(tally, aids, set.with(next), more, rest, left - 1, least);
         if let Some(committee) = found {
             return Some(committee);
         }
-        if !may_suffice(tally, set, rest, least) {
+        if !may_suffice(tally, set, rest, least)
+            || !may_afford(tally, &aids.prices, set, rest, left, least)
+        {
             return None;
         }
     }
@@ -120,6 +134,30 @@ fn may_suffice<A: Allocator + Copy>(
     value >= least
 }
 
+/// Whether the prices, where they are kept, allow a committee of the set and of `left` of the free candidates whose value
+/// is at least `least`.
+fn may_afford<A: Allocator + Copy>(
+    tally: &ThieleTally<A>,
+    prices: &Option<Prices>,
+    set: CandSet,
+    free: CandSet,
+    left: u8,
+    least: u128,
+) -> bool
+    requires prices { IsPriced tally.now prices.now }
+    requires opened { IsOpen tally.now.election.m set free }
+    ensures { result ≡ false → IsOutOfReach (value_by tally.now) tally.now.election.m set free left least }
+{
+    tally.valid();
+    let Some(prices) = prices else {
+        return true;
+    };
+    let paid = prices.base + excess(&prices.worths, set, 0);
+    let threshold = prices.order.nth_worth(free, left, &prices.worths);
+    let scaled = least.saturating_mul(u128::from(SCALE));
+    may_reach(paid, &prices.worths, free, left, threshold, scaled)
+}
+
 /// The members of either set.
 fn together(set: CandSet, other: CandSet) -> CandSet
     ensures members { (n : ℕ) → has_member result n ≡ (has_member set n || has_member other n) }
@@ -146,7 +184,7 @@ fn may_reach(
     threshold: u128,
     least: u128,
 ) -> bool
-    requires value { value ≤ 2 ^ 116 }
+    requires value { value ≤ 2 ^ 123 }
     requires small { (n : ℕ) → slice_index gains.now n ≤ 2 ^ 116 }
     requires threshold { threshold ≤ 2 ^ 116 }
     ensures { IsTrue result ↔ ((left ≤ length free)

@@ -1,14 +1,15 @@
 //! Values whose bounds are found by search.
 ghost use Rattle.std.specs.Prelude.{◌≡◌, ℕ, ◌+◌, ◌-◌, ◌≤◌, List, [], true, IsTrue, MatchOption, length};
-ghost use Rattle.ballot_base.specs.Limits.{most_members};
+ghost use Rattle.ballot_base.specs.Limits.{most_candidates, most_members};
 ghost use Rattle.ballot_base.specs.Lists.{IsIncreasing};
 ghost use Rattle.tie_walk.specs.Values.{thiele_of};
 ghost use Rattle.tie_walk.specs.Winners.{best_value};
-ghost use Rattle.tie_search.specs.Steps.Searched.{IsKept};
+ghost use Rattle.tie_search.specs.Steps.Searched.{IsAided};
 ghost use Rattle.tie_search.specs.Completions.{IsOpen, IsOutOfReach, IsReaching, is_reached, exact_bound, value_by};
 
 use crate::columns::Columns;
-use crate::search::find;
+use crate::prices::Prices;
+use crate::search::{Aids, find};
 use ballot_base::{CandSet, Profile, ThieleRule};
 use std::alloc::{Allocator, Global};
 use std::cell::Cell;
@@ -22,7 +23,7 @@ use tie_walk::{Tally, ThieleTally, those_after};
 #[derive(Drop)]
 pub struct SearchTally<'a, A: Allocator + Copy = Global> {
     values: ThieleTally<'a, A>,
-    columns: Option<Columns>,
+    aids: Aids,
     m: u8,
     k: u8,
     // The greatest value of a committee of k, and a committee that has it.
@@ -40,7 +41,7 @@ impl<'a, A: Allocator + Copy> Model for SearchTally<'a, A> {
 
     ghost view = { λ t. t.values };
 
-    ghost invariant = { λ t. IsSearched t.values t.columns t.m t.k t.best t.committee };
+    ghost invariant = { λ t. IsSearched t.values t.aids t.m t.k t.best t.committee };
 }
 
 impl<'a, A: Allocator + Copy> SearchTally<'a, A> {
@@ -53,12 +54,15 @@ impl<'a, A: Allocator + Copy> SearchTally<'a, A> {
     {
         let values = ThieleTally::new(profile, rule, k);
         let m = values.m();
-        let columns = Columns::of(profile, rule, k);
-        let committee = best_committee(&values, &columns, m, k);
+        let aids = Aids {
+            columns: Columns::of(profile, rule, k),
+            prices: Prices::of(profile, &values, rule, k),
+        };
+        let committee = best_committee(&values, &aids, m, k);
         let best = values.value(committee);
         SearchTally {
             values,
-            columns,
+            aids,
             m,
             k,
             best,
@@ -87,7 +91,7 @@ impl<'a, A: Allocator + Copy> SearchTally<'a, A> {
         }
         self.values.valid();
         let free = those_after(c, self.m);
-        match find(&self.values, &self.columns, set, free, left, self.best) {
+        match find(&self.values, &self.aids, set, free, left, self.best) {
             Some(committee) => {
                 self.found.set(committee);
                 true
@@ -154,11 +158,11 @@ impl<'a, A: Allocator + Copy> Tally for SearchTally<'a, A> {
 /// A committee of k that none has a greater value than.
 fn best_committee<A: Allocator + Copy>(
     values: &ThieleTally<A>,
-    columns: &Option<Columns>,
+    aids: &Aids,
     m: u8,
     k: u8,
 ) -> CandSet
-    requires columns { IsKept values.now columns.now }
+    requires aids { IsAided values.now aids.now }
     requires candidates { m ≡ values.now.election.m }
     requires fits { k ≤ m }
     ensures candidates { IsIncreasing 1 m result }
@@ -167,22 +171,39 @@ fn best_committee<A: Allocator + Copy>(
 {
     values.valid();
     let all = those_after(0, m);
-    let mut best = CandSet::all(k);
-    while let Some(better) = better_than(values, columns, all, best, k) {
+    let mut best = first_committee(&aids.prices, m, k);
+    while let Some(better) = better_than(values, aids, all, best, k) {
         best = better;
     }
     best
 }
 
+/// A committee of k to begin with: the good one that was met when the prices were made, where it is one.
+fn first_committee(prices: &Option<Prices>, m: u8, k: u8) -> CandSet
+    requires most { m ≤ most_candidates }
+    requires fits { k ≤ m }
+    ensures candidates { IsIncreasing 1 m result }
+    ensures size { length result ≡ k }
+{
+    if let Some(prices) = prices {
+        prices.committee.valid();
+        let committee = prices.committee.upto(m);
+        if committee.len() == k {
+            return committee;
+        }
+    }
+    CandSet::all(k)
+}
+
 /// A committee of k of all candidates with a greater value, if there is one.
 fn better_than<A: Allocator + Copy>(
     values: &ThieleTally<A>,
-    columns: &Option<Columns>,
+    aids: &Aids,
     all: CandSet,
     committee: CandSet,
     k: u8,
 ) -> Option<CandSet>
-    requires columns { IsKept values.now columns.now }
+    requires aids { IsAided values.now aids.now }
     requires all { IsIncreasing 1 values.now.election.m all }
     requires candidates { IsIncreasing 1 values.now.election.m committee }
     ensures { MatchOption result
@@ -191,5 +212,5 @@ fn better_than<A: Allocator + Copy>(
 {
     values.valid();
     let least = values.value(committee) + 1;
-    find(values, columns, CandSet::empty(), all, k, least)
+    find(values, aids, CandSet::empty(), all, k, least)
 }

@@ -4,16 +4,23 @@ use Rattle.ballot_base.specs.Lists.{IsIncreasing}
 use Rattle.tie_walk.specs.Values.{Thiele}
 use Rattle.tie_walk.specs.Winners.{best_value}
 use Rattle.tie_search.specs.declared.columns.Columns.{Columns}
+use Rattle.tie_search.specs.declared.search.Aids.{Aids}
 use Rattle.tie_search.specs.Steps.Columns.{AreColumnsOf}
+use Rattle.tie_search.specs.Steps.Priced.{IsPriced}
 use Rattle.tie_search.specs.Completions.{value_by}
 
 -- the columns are those of the election, where they are kept
 abbrev pub IsKept : Thiele → Option Columns → Type 0
 IsKept tally columns = MatchOption columns ⊤ (λ kept. AreColumnsOf tally kept.blocks kept.used kept.weights kept.levels)
 
+-- what a search is helped by is of the election
+pub record IsAided (tally : Thiele) (aids : Aids) : Type 0 where
+  pub columns : IsKept tally aids.columns
+  pub prices : IsPriced tally aids.prices
+
 -- what is true of each tally by search: its committee has the greatest value
-pub record IsSearched (values : Thiele) (columns : Option Columns) (m k best : ℕ) (committee : List ℕ) : Type 0 where
-  pub kept : IsKept values columns
+pub record IsSearched (values : Thiele) (aids : Aids) (m k best : ℕ) (committee : List ℕ) : Type 0 where
+  pub aided : IsAided values aids
   pub m_is : m ≡ values.election.m
   pub k_is : k ≡ values.k
   pub fits : k ≤ m

@@ -1,0 +1,11 @@
+use Rattle.std.proofs.Common.{◌≡◌, ◌*◌, ◌^◌, ◌≤◌, get_or, take}
+use Rattle.tie_search.specs.Prices.{base}
+use Rattle.tie_search.specs.Steps.Priced.{scale, priced_by}
+use Rattle.tie_search.proofs.prices.base_of.Given as goal
+
+-- what the voters of the rows so far keep
+abbrev pub invariant-loop-i : goal.invariant-loop-i
+invariant-loop-i g l = record {
+  summed : l.sum ≡ base l.weights scale (priced_by (λ i. get_or l.multipliers i 0) (take l.i l.profile.rows));
+  small : l.sum ≤ l.i * 2 ^ 94;
+}

@@ -1,0 +1,13 @@
+use Rattle.std.proofs.Common.{◌≡◌, ◌-◌, ◌*◌, ◌^◌, ◌≤◌, length, map, fold, max, sum, take}
+use Rattle.std.specs.List.{range_with_len}
+use Rattle.tie_search.specs.Steps.Priced.{scale}
+use Rattle.tie_search.proofs.prices.kept.Given as goal
+
+-- the greatest of what is kept at the numbers of hits so far
+abbrev pub invariant-loop-hits : goal.invariant-loop-hits
+invariant-loop-hits l = record {
+  given_is : l.given ≡ scale * sum (take l.hits l.weights);
+  few : l.given ≤ l.hits * 2 ^ 56;
+  most_is : l.most ≡ fold max 0 (map (λ j. scale * sum (take j l.weights) - j * l.multiplier) (range_with_len 0 l.hits));
+  small : l.most ≤ 2 ^ 62;
+}

@@ -1,0 +1,34 @@
+use Rattle.std.proofs.Common.{◌≡◌, ℕ, ◌+◌, ◌*◌, ◌^◌, ◌≤◌, ◌∙◌, cond, sym, ap, arith, get_or, replicate}
+use Rattle.std.proofs.Math.Nat.{mul-le-mul}
+use Rattle.tie_walk.proofs.WorthLemmas.{no_total}
+use Rattle.ballot_base.specs.CandSet.{has_member}
+use Rattle.tie_search.proofs.PricedLemmas.{price-more, price-none, row-voters}
+use Rattle.tie_search.proofs.prices.prices_of.Goals as goal
+
+pub loop-i-init : goal.loop-i-init
+loop-i-init g c = record {
+  priced = λ n low. no_total 65 n ∙ sym (price-none (λ i. get_or c.args.multipliers.now i 0) c.args.profile.now.rows n);
+  small = λ n. let e : get_or {A = ℕ} (replicate 65 0) n 0 ≡ 0 = no_total 65 n in omega (arith, e);
+}
+
+pub loop-i-preserved : goal.loop-i-preserved
+loop-i-preserved g c =
+    let f : ℕ → ℕ = λ i. get_or c.args.multipliers.now i 0 in
+    let rows = c.args.profile.now.rows in
+    let row = c.row-ballot.result in
+    let i = c.loop-i.i in
+    let product : c.from.result * c.from-in-loop-i.result ≡ row.1 * f i =
+    ap (λ x. x * c.from-in-loop-i.result) c.from.ensures ∙ ap (λ x. row.1 * x) c.from-in-loop-i.ensures in
+    let voters : c.from.result ≤ 2 ^ 32 = omega (arith, c.from.ensures, row-voters rows i row c.rows-i-end.ensures.valid.voters c.row-ballot.ensures) in
+    let slight : c.from-in-loop-i.result ≤ 2 ^ 56 = omega (arith, c.from-in-loop-i.ensures, c.requires.multipliers i) in
+    let few : c.from.result * c.from-in-loop-i.result ≤ 2 ^ 32 * 2 ^ 56 = mul-le-mul voters slight in
+    record {
+      priced = λ n low. omega (
+        arith,
+        c.add_to_members.ensures.sum n low,
+        ap (λ x. cond (has_member row.0 n) x 0) product,
+        c.loop-i.invariant.priced n low,
+        price-more f rows i row n c.row-ballot.ensures,
+      );
+      small = λ n. omega (arith, few, c.add_to_members.ensures.most n, c.loop-i.invariant.small n);
+    }

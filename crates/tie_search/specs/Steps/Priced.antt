@@ -1,0 +1,34 @@
+-- Rows with the multipliers that were chosen for them, and the prices that a search keeps.
+use Rattle.std.specs.Prelude.{ℕ, suc, ◌≡◌, ◌≤◌, ◌^◌, List, [], ◌∷◌, slice_index, Option, MatchOption, ⊤}
+use Rattle.ballot_base.specs.Limits.{most_candidates}
+use Rattle.ballot_base.specs.Ballots.{Row}
+use Rattle.ballot_base.specs.Increments.{increments}
+use Rattle.tie_walk.specs.Values.{Thiele}
+use Rattle.tie_search.specs.Prices.{Priced, base, price}
+use Rattle.tie_search.specs.declared.prices.Prices.{Prices}
+
+-- what hits give is multiplied by this, so that there are multipliers between two increments
+abbrev pub scale : ℕ
+scale = 4096
+
+-- for how many rows multipliers are chosen at most
+abbrev pub most_rows : ℕ
+most_rows = 8192
+
+-- the rows, each with the multiplier of its number
+unfoldable pub priced_by : (ℕ → ℕ) → List Row → List Priced
+priced_by multiplier [] = []
+priced_by multiplier (row ∷ rows) = (row, multiplier 0) ∷ priced_by (λ i. multiplier (suc i)) rows
+
+-- what all voters keep, and the price of each candidate, by some multipliers
+pub record ArePrices (tally : Thiele) (all_keep : ℕ) (worths : List ℕ) : Type 0 where
+  pub multiplier : ℕ → ℕ
+  pub keep : all_keep ≡ base (increments tally.rule tally.k) scale (priced_by multiplier tally.election.rows)
+  pub prices : (n : ℕ) → n ≤ most_candidates
+      → slice_index worths n ≡ price (priced_by multiplier tally.election.rows) n
+  pub small_base : all_keep ≤ 2 ^ 116
+  pub small : (n : ℕ) → slice_index worths n ≤ 2 ^ 116
+
+-- the prices are those of the election, where they are kept
+abbrev pub IsPriced : Thiele → Option Prices → Type 0
+IsPriced tally prices = MatchOption prices ⊤ (λ kept. ArePrices tally kept.base kept.worths)

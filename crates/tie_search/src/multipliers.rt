@@ -1,0 +1,147 @@
+//! The choice of a multiplier for each row, by which the prices of committees are little more than their values: a
+//! subgradient method (Held, Wolfe and Crowder, Validation of subgradient optimization). Any multipliers are right.
+ghost use Rattle.std.specs.Prelude.{◌≡◌, ℕ, ◌^◌, ◌<◌, ◌≤◌, length, slice_index};
+ghost use Rattle.ballot_base.specs.Limits.{most_candidates};
+ghost use Rattle.tie_search.specs.Steps.Priced.{most_rows};
+
+use crate::columns::Weights;
+use crate::order::Order;
+use crate::prices::{MOST_ROWS, Multipliers, SCALE, base_of, prices_of};
+use ballot_base::{CandSet, MOST_MEMBERS, Profile};
+use std::alloc::Allocator;
+use tie_walk::{PLACES, Tally, ThieleTally, those_after};
+
+/// How often the multipliers are moved at most.
+const ROUNDS: u8 = 100;
+
+/// After so many rounds without a lower bound the steps are halved.
+const PATIENCE: u8 = 8;
+
+/// The length of a step is counted in parts of which so many are the whole gap.
+const WHOLE: u128 = 16;
+
+/// Multipliers by which the bound of all committees of k is low, and a good committee that was met on the way.
+pub(crate) fn chosen<A: Allocator + Copy>(
+    profile: &Profile<A>,
+    values: &ThieleTally<A>,
+    weights: &Weights,
+    k: u8,
+) -> (Multipliers, CandSet)
+    requires rows { length profile.now.rows ≤ most_rows }
+    requires weights { (j : ℕ) → slice_index weights.now j < 2 ^ 44 }
+    ensures { (i : ℕ) → slice_index result.0 i ≤ 2 ^ 56 }
+{
+    let m = values.m();
+    let scale = u128::from(SCALE);
+    let mut multipliers = [SCALE * weights[0] / 2; MOST_ROWS];
+    let mut best = multipliers;
+    let mut lowest = u128::MAX;
+    let mut committee = CandSet::empty();
+    let mut value = 0;
+    let mut pace = WHOLE;
+    let mut stalled = 0;
+    for _round in 0..ROUNDS {
+        let worths = prices_of(profile, &multipliers);
+        let dearest = dearest(&worths, m, k);
+        let bound = base_of(profile, weights, &multipliers).saturating_add(sum_of(&worths, dearest));
+        let reached = values.value(dearest.upto(m)).saturating_mul(scale);
+        if reached > value {
+            committee = dearest;
+            value = reached;
+        }
+        stalled += 1;
+        if bound < lowest {
+            best = multipliers;
+            lowest = bound;
+            stalled = 0;
+        }
+        if lowest < value.saturating_add(scale) {
+            break;
+        }
+        if stalled < PATIENCE {
+            let gap = bound.saturating_sub(value).saturating_mul(pace) / WHOLE;
+            step(profile, weights, &mut multipliers, dearest, gap);
+        } else {
+            multipliers = best;
+            pace /= 2;
+            stalled = 0;
+        }
+    }
+    (best, committee)
+}
+
+/// The `count` candidates of the greatest worth.
+fn dearest(worths: &[u128; PLACES], m: u8, count: u8) -> CandSet
+    requires { m ≤ most_candidates }
+{
+    let mut rest = those_after(0, m);
+    let order = Order::by_worth(rest, worths);
+    let mut dearest = CandSet::empty();
+    for _passed in 0..count {
+        if let Some(next) = order.first_of(rest) {
+            dearest = dearest.with(next);
+            rest = rest.without(next);
+        }
+    }
+    dearest
+}
+
+/// The worths of the candidates, together.
+fn sum_of(worths: &[u128; PLACES], candidates: CandSet) -> u128 {
+    let mut sum: u128 = 0;
+    let mut left = candidates;
+    while let Some(parts) = left.split_first() {
+        sum = sum.saturating_add(worths[usize::from(parts.0)]);
+        left = parts.1;
+    }
+    sum
+}
+
+/// Moves the multiplier of each row: up where the committee hits it less often than the row asks for at this multiplier,
+/// and down where more often. The step is the gap over the square of all these differences.
+fn step<A: Allocator + Copy>(
+    profile: &Profile<A>,
+    weights: &Weights,
+    multipliers: &mut Multipliers,
+    committee: CandSet,
+    gap: u128,
+)
+    requires rows { length profile.now.rows ≤ most_rows }
+    requires weights { (j : ℕ) → slice_index weights.now j < 2 ^ 44 }
+    requires before { (i : ℕ) → slice_index multipliers.old i ≤ 2 ^ 56 }
+    ensures { (i : ℕ) → slice_index multipliers.new i ≤ 2 ^ 56 }
+{
+    let mut square: u128 = 1;
+    for i in 0..profile.rows() {
+        let (ballot, count) = profile.row(i);
+        let hits = ballot.common(committee).len();
+        let wanted = wanted(weights, multipliers[i], ballot.len(), hits);
+        let apart = u128::from(hits.abs_diff(wanted));
+        square = square.saturating_add(u128::from(count).saturating_mul(apart.saturating_mul(apart)));
+    }
+    let top = SCALE * weights[0];
+    let length = (gap / square).min(u128::from(top)) as u64;
+    for i in 0..profile.rows() {
+        let (ballot, _count) = profile.row(i);
+        let hits = ballot.common(committee).len();
+        let wanted = wanted(weights, multipliers[i], ballot.len(), hits);
+        let up = length.saturating_mul(u64::from(wanted.saturating_sub(hits)));
+        let down = length.saturating_mul(u64::from(hits.saturating_sub(wanted)));
+        multipliers[i] = multipliers[i].saturating_add(up).saturating_sub(down).min(top);
+    }
+}
+
+/// The number of hits, nearest to `hits`, at which a ballot of this size gives the most beside the multiplier for each.
+fn wanted(weights: &Weights, multiplier: u64, size: u8, hits: u8) -> u8
+    requires weights { (j : ℕ) → slice_index weights.now j < 2 ^ 44 }
+{
+    let mut least = 0;
+    while least < size && least < MOST_MEMBERS && SCALE * weights[usize::from(least)] > multiplier {
+        least += 1;
+    }
+    let mut most = least;
+    while most < size && most < MOST_MEMBERS && SCALE * weights[usize::from(most)] == multiplier {
+        most += 1;
+    }
+    hits.max(least).min(most)
+}

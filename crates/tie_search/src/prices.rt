@@ -1,0 +1,138 @@
+//! Prices of candidates. A search passes over a set whose price is too low without counting what the set gains.
+ghost use Rattle.std.specs.Prelude.{◌≡◌, ℕ, ◌+◌, ◌^◌, ◌<◌, ◌≤◌, length, slice_index, MatchOption, ⊤, if◌then◌else◌};
+ghost use Rattle.ballot_base.specs.Limits.{most_candidates, most_members};
+ghost use Rattle.ballot_base.specs.CandSet.{has_member};
+ghost use Rattle.tie_walk.specs.Values.{thiele_of};
+ghost use Rattle.tie_search.specs.Prices.{kept, base, price};
+ghost use Rattle.tie_search.specs.Steps.Priced.{ArePrices, scale, most_rows, priced_by};
+
+use crate::columns::{Weights, small_weights};
+use crate::multipliers::chosen;
+use crate::order::Order;
+use ballot_base::{CandSet, Increments, Profile, ThieleRule};
+use std::alloc::Allocator;
+use tie_walk::{PLACES, Tally, ThieleTally, those_after};
+
+/// What hits give is multiplied by this, so that there are multipliers between two increments.
+pub(crate) const SCALE: u64 = 4096;
+
+/// For how many rows multipliers are chosen at most.
+pub(crate) const MOST_ROWS: usize = 8192;
+
+/// A multiplier for each row, at the row's number.
+pub(crate) type Multipliers = [u64; MOST_ROWS];
+
+/// The price of each candidate, at its number: of a committee of candidates who are dear no voter gets more than what
+/// is kept for the voter and the multiplier for each hit.
+#[derive(Drop)]
+pub(crate) struct Prices {
+    // What all voters keep.
+    pub(crate) base: u128,
+    pub(crate) worths: [u128; PLACES],
+    pub(crate) order: Order,
+    // A good committee that was met when the multipliers were chosen.
+    pub(crate) committee: CandSet,
+}
+
+impl Prices {
+    /// The prices by multipliers that make them low, if there is room for so many rows, and what a hit gives is not too
+    /// large.
+    pub(crate) fn of<A: Allocator + Copy>(
+        profile: &Profile<A>,
+        values: &ThieleTally<A>,
+        rule: ThieleRule,
+        k: u8,
+    ) -> Option<Prices>
+        requires some { 1 ≤ k }
+        requires size { k ≤ most_members }
+        ensures { MatchOption result ⊤ (λ prices. ArePrices (thiele_of profile.now rule k) prices.base prices.worths) }
+    {
+        if profile.rows() > MOST_ROWS {
+            return None;
+        }
+        let weights = small_weights(&Increments::of(rule, k).w)?;
+        let (multipliers, committee) = chosen(profile, values, &weights, k);
+        let worths = prices_of(profile, &multipliers);
+        let candidates = those_after(0, profile.m());
+        Some(Prices {
+            base: base_of(profile, &weights, &multipliers),
+            worths,
+            order: Order::by_worth(candidates, &worths),
+            committee,
+        })
+    }
+}
+
+/// The most that a voter of a ballot of this size gives, times the scale, beside the multiplier for each hit.
+fn kept(weights: &Weights, multiplier: u64, size: u8) -> u64
+    requires weights { (j : ℕ) → slice_index weights.now j < 2 ^ 44 }
+    requires multiplier { multiplier ≤ 2 ^ 56 }
+    requires size { size ≤ most_candidates }
+    ensures value { result ≡ kept weights.now scale multiplier size }
+    ensures most { result ≤ 2 ^ 62 }
+{
+    let mut most = 0;
+    let mut given: u64 = 0;
+    for hits in 0..usize::from(size) + 1 {
+        most = given.saturating_sub(hits as u64 * multiplier).max(most);
+        if hits < weights.len() {
+            given += SCALE * weights[hits];
+        }
+    }
+    most
+}
+
+/// What all voters keep.
+pub(crate) fn base_of<A: Allocator + Copy>(
+    profile: &Profile<A>,
+    weights: &Weights,
+    multipliers: &Multipliers,
+) -> u128
+    requires rows { length profile.now.rows ≤ most_rows }
+    requires weights { (j : ℕ) → slice_index weights.now j < 2 ^ 44 }
+    requires multipliers { (i : ℕ) → slice_index multipliers.now i ≤ 2 ^ 56 }
+    ensures value { result ≡ base weights.now scale (priced_by (slice_index multipliers.now) profile.now.rows) }
+    ensures small { result ≤ 2 ^ 116 }
+{
+    let mut sum = 0;
+    for i in 0..profile.rows() {
+        let (ballot, count) = profile.row(i);
+        sum += u128::from(count) * u128::from(kept(weights, multipliers[i], ballot.len()));
+    }
+    sum
+}
+
+/// The price of each candidate, at its number.
+pub(crate) fn prices_of<A: Allocator + Copy>(
+    profile: &Profile<A>,
+    multipliers: &Multipliers,
+) -> [u128; PLACES]
+    requires rows { length profile.now.rows ≤ most_rows }
+    requires multipliers { (i : ℕ) → slice_index multipliers.now i ≤ 2 ^ 56 }
+    ensures value { (n : ℕ) → n ≤ most_candidates → slice_index result n
+        ≡ price (priced_by (slice_index multipliers.now) profile.now.rows) n }
+    ensures small { (n : ℕ) → slice_index result n ≤ 2 ^ 116 }
+{
+    let mut worths = [0; PLACES];
+    for i in 0..profile.rows() {
+        let (ballot, count) = profile.row(i);
+        let worth = u128::from(count) * u128::from(multipliers[i]);
+        add_to_members(&mut worths, ballot, worth);
+    }
+    worths
+}
+
+/// Adds to the worth of each member of a ballot.
+fn add_to_members(worths: &mut [u128; PLACES], ballot: CandSet, worth: u128)
+    requires fits { (n : ℕ) → slice_index worths.old n + worth < 2 ^ 128 }
+    ensures sum { (n : ℕ) → n ≤ most_candidates → slice_index worths.new n
+        ≡ slice_index worths.old n + (if has_member ballot n then worth else 0) }
+    ensures most { (n : ℕ) → slice_index worths.new n ≤ slice_index worths.old n + worth }
+{
+    ballot.valid();
+    let mut left = ballot;
+    while let Some(parts) = left.split_first() {
+        worths[usize::from(parts.0)] += worth;
+        left = parts.1;
+    }
+}
