@@ -2,11 +2,13 @@
 //! subgradient method (Held, Wolfe and Crowder, Validation of subgradient optimization). Any multipliers are right.
 ghost use Rattle.std.specs.Prelude.{◌≡◌, ℕ, ◌^◌, ◌<◌, ◌≤◌, length, slice_index};
 ghost use Rattle.ballot_base.specs.Limits.{most_candidates};
+ghost use Rattle.ballot_base.specs.Lists.{IsIncreasing};
 ghost use Rattle.tie_search.specs.Steps.Priced.{most_rows};
 
 use crate::columns::Weights;
 use crate::order::Order;
 use crate::prices::{MOST_ROWS, Multipliers, SCALE, base_of, prices_of};
+use crate::search::excess;
 use ballot_base::{CandSet, MOST_MEMBERS, Profile};
 use std::alloc::Allocator;
 use tie_walk::{PLACES, Tally, ThieleTally, those_after};
@@ -33,7 +35,7 @@ pub(crate) fn chosen<A: Allocator + Copy>(
 {
     let m = values.m();
     let scale = u128::from(SCALE);
-    let mut multipliers = [SCALE * weights[0] / 2; MOST_ROWS];
+    let mut multipliers = alike(SCALE * weights[0] / 2);
     let mut best = multipliers;
     let mut lowest = u128::MAX;
     let mut committee = CandSet::empty();
@@ -43,8 +45,8 @@ pub(crate) fn chosen<A: Allocator + Copy>(
     for _round in 0..ROUNDS {
         let worths = prices_of(profile, &multipliers);
         let dearest = dearest(&worths, m, k);
-        let bound = base_of(profile, weights, &multipliers).saturating_add(sum_of(&worths, dearest));
-        let reached = values.value(dearest.upto(m)).saturating_mul(scale);
+        let bound = base_of(profile, weights, &multipliers) + excess(&worths, dearest, 0);
+        let reached = values.value(dearest).saturating_mul(scale);
         if reached > value {
             committee = dearest;
             value = reached;
@@ -70,9 +72,18 @@ pub(crate) fn chosen<A: Allocator + Copy>(
     (best, committee)
 }
 
+/// The same multiplier for each row.
+fn alike(multiplier: u64) -> Multipliers
+    requires { multiplier ≤ 2 ^ 56 }
+    ensures { (i : ℕ) → slice_index result i ≤ 2 ^ 56 }
+{
+    [multiplier; MOST_ROWS]
+}
+
 /// The `count` candidates of the greatest worth.
 fn dearest(worths: &[u128; PLACES], m: u8, count: u8) -> CandSet
     requires { m ≤ most_candidates }
+    ensures { IsIncreasing 1 m result }
 {
     let mut rest = those_after(0, m);
     let order = Order::by_worth(rest, worths);
@@ -84,17 +95,6 @@ fn dearest(worths: &[u128; PLACES], m: u8, count: u8) -> CandSet
         }
     }
     dearest
-}
-
-/// The worths of the candidates, together.
-fn sum_of(worths: &[u128; PLACES], candidates: CandSet) -> u128 {
-    let mut sum: u128 = 0;
-    let mut left = candidates;
-    while let Some(parts) = left.split_first() {
-        sum = sum.saturating_add(worths[usize::from(parts.0)]);
-        left = parts.1;
-    }
-    sum
 }
 
 /// Moves the multiplier of each row: up where the committee hits it less often than the row asks for at this multiplier,

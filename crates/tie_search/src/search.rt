@@ -195,7 +195,7 @@ fn may_reach(
 }
 
 /// What the worths of the candidates exceed the threshold by, together.
-fn excess(worths: &[u128; PLACES], candidates: CandSet, threshold: u128) -> u128
+pub(crate) fn excess(worths: &[u128; PLACES], candidates: CandSet, threshold: u128) -> u128
     requires small { (n : ℕ) → slice_index worths.now n ≤ 2 ^ 116 }
     ensures sum { result ≡ sum_by (λ n. slice_index worths.now n - threshold) candidates }
     ensures small { result ≤ 2 ^ 122 }

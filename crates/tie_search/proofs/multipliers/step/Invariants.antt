@@ -1,0 +1,9 @@
+use Rattle.std.proofs.Common.{ℕ, ◌^◌, ◌≤◌, get_or}
+use Rattle.tie_search.proofs.multipliers.step.Given as goal
+
+abbrev pub invariant-loop-i : goal.invariant-loop-i
+invariant-loop-i g l = 1 ≤ l.square
+
+-- no multiplier is too large
+abbrev pub invariant-loop-i-2 : goal.invariant-loop-i-2
+invariant-loop-i-2 g l = (j : ℕ) → get_or l.multipliers j 0 ≤ 2 ^ 56
