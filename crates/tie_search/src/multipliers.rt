@@ -117,7 +117,9 @@ fn step<A: Allocator + Copy>(
         let hits = ballot.common(committee).len();
         let wanted = wanted(weights, multipliers[i], ballot.len(), hits);
         let apart = u128::from(hits.abs_diff(wanted));
-        square = square.saturating_add(u128::from(count).saturating_mul(apart.saturating_mul(apart)));
+        square = square.saturating_add(u128::from(count).saturating_mul(apart.saturating_mul(
+            apart,
+        )));
     }
     let top = SCALE * weights[0];
     let length = (gap / square).min(u128::from(top)) as u64;
@@ -127,7 +129,10 @@ fn step<A: Allocator + Copy>(
         let wanted = wanted(weights, multipliers[i], ballot.len(), hits);
         let up = length.saturating_mul(u64::from(wanted.saturating_sub(hits)));
         let down = length.saturating_mul(u64::from(hits.saturating_sub(wanted)));
-        multipliers[i] = multipliers[i].saturating_add(up).saturating_sub(down).min(top);
+        multipliers[i] = multipliers[i]
+            .saturating_add(up)
+            .saturating_sub(down)
+            .min(top);
     }
 }
 

@@ -85,9 +85,10 @@ fn descend<A: Allocator + Copy>(
         if let Some(committee) = found {
             return Some(committee);
         }
-        if !may_suffice(tally, set, rest, least)
-            || !may_afford(tally, &aids.prices, set, rest, left, least)
-        {
+        if !may_suffice(tally, set, rest, least) {
+            return None;
+        }
+        if !may_afford(tally, &aids.prices, set, rest, left, least) {
             return None;
         }
     }

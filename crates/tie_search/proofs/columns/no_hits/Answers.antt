@@ -1,4 +1,4 @@
-use Rattle.std.proofs.Common.{◌≡◌, ℕ, zero, suc, refl, arith, get_or, replicate}
+use Rattle.std.proofs.Common.{zero, suc, arith}
 use Rattle.tie_walk.proofs.WorthLemmas.{no_total}
 use Rattle.tie_search.proofs.columns.no_hits.Goals as goal
 

@@ -1,4 +1,4 @@
-use Rattle.std.proofs.Common.{◌≡◌, ◌==◌, ◌∙◌, not, arith}
+use Rattle.std.proofs.Common.{◌==◌, not, arith}
 use Rattle.ballot_base.proofs.Increasing.{IsIncreasing-filter, IsIncreasing-with_member}
 use Rattle.tie_search.proofs.CompletionLemmas.{member-low, member-high}
 use Rattle.tie_search.proofs.multipliers.dearest.Goals as goal

@@ -1,8 +1,7 @@
-use Rattle.std.proofs.Common.{◌≡◌, ℕ, ◌+◌, ◌*◌, ◌^◌, ◌≤◌, ◌∙◌, sym, ap, arith, length, get_or, take}
+use Rattle.std.proofs.Common.{◌≡◌, ℕ, ◌*◌, ◌^◌, ◌≤◌, ◌∙◌, sym, ap, arith, length, get_or}
 use Rattle.std.proofs.Math.Nat.{mul-le-mul}
-use Rattle.std.proofs.lemmas.List.{take_all}
-use Rattle.tie_search.specs.Prices.{base, kept}
-use Rattle.tie_search.specs.Steps.Priced.{scale, priced_by}
+use Rattle.tie_search.specs.Prices.{kept}
+use Rattle.tie_search.specs.Steps.Priced.{scale}
 use Rattle.tie_search.proofs.PricedLemmas.{base-more, base-none, row-voters}
 use Rattle.tie_search.proofs.prices.base_of.Goals as goal
 

@@ -1,4 +1,4 @@
-use Rattle.std.proofs.Common.{◌≡◌, ◌-◌, ◌*◌, ◌^◌, ◌≤◌, length, map, fold, max, sum, take}
+use Rattle.std.proofs.Common.{◌≡◌, ◌-◌, ◌*◌, ◌^◌, ◌≤◌, map, fold, max, sum, take}
 use Rattle.std.specs.List.{range_with_len}
 use Rattle.tie_search.specs.Steps.Priced.{scale}
 use Rattle.tie_search.proofs.prices.kept.Given as goal

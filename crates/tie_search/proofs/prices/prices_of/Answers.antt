@@ -1,4 +1,4 @@
-use Rattle.std.proofs.Common.{◌≡◌, ℕ, ◌+◌, ◌*◌, ◌^◌, ◌≤◌, ◌∙◌, cond, sym, ap, arith, get_or, replicate}
+use Rattle.std.proofs.Common.{◌≡◌, ℕ, ◌*◌, ◌^◌, ◌≤◌, ◌∙◌, cond, sym, ap, arith, get_or, replicate}
 use Rattle.std.proofs.Math.Nat.{mul-le-mul}
 use Rattle.tie_walk.proofs.WorthLemmas.{no_total}
 use Rattle.ballot_base.specs.CandSet.{has_member}

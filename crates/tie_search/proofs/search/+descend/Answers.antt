@@ -67,7 +67,7 @@ descend-found-requires g t c κs within =
     ap (λ n. get_or c.gains_at-gains.result n 0) c.from.ensures ∙ c.gains_at-gains.ensures.gains next free in
     let value : c.args.value + get_or c.gains_at-gains.result c.from.result 0 ≡ value_by c.args.tally.now (with_member c.args.set next) =
     omega (arith, gained, same, c.requires.value) in
-    (omega (arith, c.if-left-eq0.false, c.decreases), (within, (c.requires.columns, (rw (c.with.ensures, c.without-rest.ensures) opened, rw c.with.ensures value))))
+    (omega (arith, c.if-left-eq0.false, c.decreases), (within, (c.requires.aids, (rw (c.with.ensures, c.without-rest.ensures) opened, rw c.with.ensures value))))
 
 pub may_suffice-requires : goal.may_suffice-requires
 may_suffice-requires g t c =
@@ -83,6 +83,21 @@ returns-then-not-may_suffice g t c =
     (rw (c.with.ensures, c.without-rest.ensures) at c.in_default.ensures) in
     none-left (value_by c.args.tally.now) c.args.tally.now.election.m c.args.set c.args.left c.args.least c.args.free (without_member rest next) left_out
     (rw c.without-rest.ensures at (c.may_suffice.ensures c.if-not-may_suffice.true c.args.left))
+
+pub may_afford-requires-in-loop-set-clause-opened : goal.may_afford-requires-in-loop-set-clause-opened
+may_afford-requires-in-loop-set-clause-opened g t c =
+    rw c.without-rest.ensures (open-without c.args.tally.now.election.m c.args.set c.loop-set.rest c.in_ok-next.next c.loop-set.invariant.opened)
+
+pub returns-then-not-may_afford-2 : goal.returns-then-not-may_afford-2
+returns-then-not-may_afford-2 g t c =
+    let rest = c.loop-set.rest in
+    let next = c.in_ok-next.next in
+    let left_out : AreLeft (value_by c.args.tally.now) c.args.tally.now.election.m c.args.set c.args.left c.args.least c.args.free (without_member rest next) =
+    struck-out (value_by c.args.tally.now) c.args.tally.now.election.m c.args.set c.args.left c.args.least c.args.free rest next
+    (omega (arith, c.if-left-eq0.false)) c.loop-set.invariant.opened c.in_ok-next.ensures c.loop-set.invariant.kept
+    (rw (c.with.ensures, c.without-rest.ensures) at c.in_default.ensures) in
+    none-left (value_by c.args.tally.now) c.args.tally.now.election.m c.args.set c.args.left c.args.least c.args.free (without_member rest next) left_out
+    (rw c.without-rest.ensures at (c.may_afford-in-loop-set.ensures c.if-not-may_afford-2.true))
 
 pub returns-in-Some : goal.returns-in-Some
 returns-in-Some g t c =

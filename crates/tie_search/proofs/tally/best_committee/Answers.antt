@@ -1,15 +1,13 @@
 use Rattle.std.proofs.Common.{◌+◌, [], arith, refl}
-use Rattle.std.proofs.lemmas.List.FromFn.{length-range_with_len}
-use Rattle.tie_walk.proofs.LawLemmas.{IsIncreasing-range}
 use Rattle.tie_search.specs.Completions.{IsReaching, IsOutOfReach, value_by}
 use Rattle.tie_search.proofs.ReachLemmas.{best-found}
 use Rattle.tie_search.proofs.SearchLemmas.{value-most}
 use Rattle.tie_search.proofs.tally.best_committee.Goals as goal
 
 pub loop-better-init : goal.loop-better-init
-loop-better-init g c = rw c.all-best.ensures record {
-  candidates = IsIncreasing-range 1 c.args.k c.args.m (omega (arith, c.requires.fits));
-  size = length-range_with_len 1 c.args.k;
+loop-better-init g c = record {
+  candidates = c.first_committee-best.ensures.candidates;
+  size = c.first_committee-best.ensures.size;
 }
 
 pub better_than-requires-clause-candidates : goal.better_than-requires-clause-candidates

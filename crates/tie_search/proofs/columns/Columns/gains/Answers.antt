@@ -1,4 +1,4 @@
-use Rattle.std.proofs.Common.{◌≡◌, ℕ, zero, suc, ◌+◌, ◌*◌, ◌<◌, ◌∙◌, List, [], refl, sym, ap, arith, get_or, replicate}
+use Rattle.std.proofs.Common.{◌≡◌, ℕ, ◌+◌, ◌*◌, ◌<◌, ◌∙◌, List, [], sym, ap, arith, get_or, replicate}
 use Rattle.tie_walk.proofs.WorthLemmas.{no_total}
 use Rattle.tie_search.specs.Steps.Columns.{block_voters, most_blocks, total, given, ballot_of, AreColumns, AreRising, IsBlock}
 use Rattle.tie_search.proofs.ColumnLemmas.{total-add, total-zero}

@@ -9,8 +9,8 @@ use Rattle.tie_search.proofs.tally.SearchTally.is_reached.Goals as goal
 pub those_after-free-requires-clause-most : goal.those_after-free-requires-clause-most
 those_after-free-requires-clause-most g c = omega (arith, c.valid.ensures.election.most, c.self.invariant.m_is)
 
-pub find-requires-clause-columns : goal.find-requires-clause-columns
-find-requires-clause-columns g c = c.self.invariant.kept
+pub find-requires-clause-aids : goal.find-requires-clause-aids
+find-requires-clause-aids g c = c.self.invariant.aided
 
 pub find-requires-clause-opened : goal.find-requires-clause-opened
 find-requires-clause-opened g c =
