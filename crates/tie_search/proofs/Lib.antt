@@ -4,4 +4,5 @@ mod Examples
 pub mod PriceLemmas
 pub mod ReachLemmas
 pub mod SearchLemmas
+pub mod ToldLemmas
 mod WholeLemmas

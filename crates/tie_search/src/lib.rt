@@ -7,8 +7,10 @@ pub mod laws;
 mod order;
 mod search;
 pub mod tally;
+pub mod told;
 
 pub use tally::SearchTally;
+pub use told::{told_upto, with_last};
 
 #[cfg(test)]
 mod tests;
