@@ -1,25 +1,21 @@
 -- Bounds under minimax approval voting that are exact at the greatest value.
-use Rattle.std.proofs.Common.{◌≡◌, ℕ, ◌+◌, ◌-◌, ◌≤◌, ◌∙◌, Bool, true, false, cond, List, [], ◌∷◌, ◌++◌, refl, sym, ap, subst, arith, inl, inr, length, length-append}
+use Rattle.std.proofs.Common.{◌≡◌, ℕ, ◌+◌, ◌-◌, ◌<◌, ◌≤◌, ◌∙◌, Bool, true, false, cond, List, ◌++◌, refl, sym, ap, subst, arith, inl, inr, length, length-append}
 use Rattle.std.specs.Prelude.{nat_le}
 use Rattle.std.specs.List.{range_with_len}
 use Rattle.std.proofs.lemmas.Bool.{cases_eq, cases_lt, le-leb, leb-true, eq-eqb, ne_eqb}
 use Rattle.std.proofs.lemmas.List.FromFn.{length-range_with_len}
 use Rattle.ballot_base.specs.Lists.{IsIncreasing, increasing_lists}
 use Rattle.ballot_base.proofs.Committees.{chosen-from_contains, increasing_lists-contains}
-use Rattle.ballot_base.proofs.Increasing.{IsIncreasing-lower}
 use Rattle.ballot_base.specs.Ballots.{Row}
 use Rattle.tie_walk.specs.Values.{closeness}
 use Rattle.tie_walk.specs.Ceilings.{IsAdded, IsBound, IsExactAtBest, closeness_upto}
 use Rattle.tie_walk.proofs.Closeness.{closeness-bounds}
 use Rattle.tie_walk.proofs.LawLemmas.{IsIncreasing-range, no_greater_value}
 use Rattle.tie_search.specs.Completions.{is_reached}
-use Rattle.tie_search.proofs.ReachLemmas.{any-true, any-found}
+use Rattle.tie_search.specs.Steps.Told.{IsReachedTo, IsTold}
+use Rattle.tie_search.proofs.ReachLemmas.{any-true, any-found, increasing-append}
+use Rattle.tie_search.proofs.ToldLemmas.{short-some}
 use Rattle.minimax_search.specs.Bounds.{Minimax, closeness_by, best_closeness, near_bound}
-
-increasing-append : (first middle last : ℕ) (xs ys : List ℕ) → first ≤ middle + 1 → middle ≤ last → IsIncreasing first middle xs → IsIncreasing (middle + 1) last ys → IsIncreasing first last (xs ++ ys)
-increasing-append first middle last [] ys low high up after = IsIncreasing-lower first (middle + 1) last ys low after
-increasing-append first middle last (x ∷ xs) ys low high up after =
-    (up.0, omega (arith, up.1), increasing-append (x + 1) middle last xs ys (omega (arith, up.1)) high up.2 after)
 
 module _ (tally : Minimax) (c : ℕ) (set : List ℕ) (left : ℕ) where
   -- whether the greatest value is reached
@@ -81,3 +77,20 @@ near-at_best tally c set left within up whole fits reaches = by (reached tally c
 -- no value exceeds the number of candidates
 pub closeness-most : (m : ℕ) (rows : List Row) (committee : List ℕ) → closeness m rows committee ≤ m
 closeness-most m rows committee = omega arith
+
+-- so far the bounds reach the best value
+module _ (tally : Minimax) (c : ℕ) (set : List ℕ) (left : ℕ) (within : c ≤ tally.election.m) (up : IsIncreasing 1 c set)
+    (fits : left ≤ tally.election.m - c) (whole : length set + left ≡ tally.k) where
+  pub near-reached-to : (best end : ℕ) → best ≡ best_closeness tally → IsTold (closeness_by tally) tally.election.m set left (best_closeness tally) c end
+      → (end ≡ c → reached tally c set left ≡ false) → IsReachedTo (closeness_by tally) (near_bound tally) tally.election.m set left best c end
+  near-reached-to best end is told none = record {
+    low = told.low;
+    high = told.high;
+    reached = λ n low high. subst (λ b. best ≤ b) (sym (near-reached tally n set left whole (told.reached n low high))) (omega (arith, is));
+    short = λ same.
+        let out = none same in
+        let some = short-some (closeness_by tally) tally.election.m c set left (best_closeness tally) within fits out in (
+          subst (λ b. b < best) (sym (near-short tally c set left whole out)) (omega (arith, is, some)),
+          near-bounds tally c set left within up,
+        );
+  }

@@ -1,10 +1,11 @@
 //! Values under minimax approval voting whose bounds are found by search.
-ghost use Rattle.std.specs.Prelude.{◌≡◌, ℕ, ◌+◌, ◌-◌, ◌≤◌, List, [], true, IsTrue, MatchOption, length};
+ghost use Rattle.std.specs.Prelude.{◌≡◌, ℕ, ◌+◌, ◌-◌, ◌≤◌, List, [], false, MatchOption, length};
 ghost use Rattle.ballot_base.specs.Ballots.{IsElection};
 ghost use Rattle.ballot_base.specs.Lists.{IsIncreasing};
 ghost use Rattle.tie_walk.specs.Values.{closeness};
 ghost use Rattle.tie_walk.specs.Winners.{best_value};
 ghost use Rattle.tie_search.specs.Completions.{IsOutOfReach, IsReaching, is_reached};
+ghost use Rattle.tie_search.specs.Steps.Told.{IsReachedTo, IsTold};
 ghost use Rattle.minimax_search.specs.Bounds.{minimax_of, closeness_by, best_closeness, near_bound};
 
 use crate::search::find_near;
@@ -12,6 +13,7 @@ use ballot_base::{CandSet, Profile};
 use std::alloc::{Allocator, Global};
 use std::cell::Cell;
 use std::marker::Model;
+use tie_search::{told_upto, with_last};
 use tie_walk::{MinimaxTally, Tally, those_after};
 
 /// The values under minimax approval voting. Where a set and the number of those to add make a committee of k, the
@@ -70,35 +72,71 @@ impl<'a, A: Allocator + Copy> NearTally<'a, A> {
         requires fits { left ≤ self.now.election.m - c }
         ensures { result ≡ is_reached (closeness_by self.now) self.now.election.m c set left (best_closeness self.now) }
     {
-        if self.is_known(c, set, left) {
-            return true;
-        }
-        let free = those_after(c, self.profile.m());
-        match find_near(self.profile, set, free, left, self.most) {
-            Some(committee) => {
-                self.found.set(committee);
-                true
-            }
-            None => false,
-        }
+        self.reached_upto(c, set, left) > c
     }
 
-    /// Whether the committee that a search found last is one of these, and has the greatest value.
-    fn is_known(&self, c: u8, set: CandSet, left: u8) -> bool
+    /// A place before which, from c on, at each some committee of the set and of `left` of the candidates after it has
+    /// the greatest value: c only where none has. A committee tells of many places by one search, or by none.
+    fn reached_upto(&self, c: u8, set: CandSet, left: u8) -> u8
         requires within { c ≤ self.now.election.m }
         requires candidates { IsIncreasing 1 c set }
         requires fits { left ≤ self.now.election.m - c }
-        ensures { IsTrue result
-            → is_reached (closeness_by self.now) self.now.election.m c set left (best_closeness self.now) ≡ true }
+        ensures told { IsTold (closeness_by self.now) self.now.election.m set left (best_closeness self.now) c result }
+        ensures none { result ≡ c → is_reached (closeness_by self.now) self.now.election.m c set left
+            (best_closeness self.now) ≡ false }
     {
-        let found = self.found.get();
-        found.valid();
-        let known = found.upto(self.profile.m());
-        if known.upto(c) != set || known.len() != set.len() + left {
-            return false;
+        let m = self.profile.m();
+        let known = self.told(self.found.get(), c, set, left);
+        if known > c {
+            return known;
         }
-        let far = greatest_distance(self.profile, known);
-        far <= self.most
+        let latest = self.told(with_last(set, left, m), c, set, left);
+        if latest > c {
+            return latest;
+        }
+        let free = those_after(c, m);
+        match find_near(self.profile, set, free, left, self.most) {
+            Some(committee) => {
+                self.found.set(committee);
+                told_upto(committee, m, c, set, left)
+            }
+            None => c,
+        }
+    }
+
+    /// The same as far as a committee tells; c where it has not the greatest value, or is none of these.
+    fn told(&self, committee: CandSet, c: u8, set: CandSet, left: u8) -> u8
+        requires within { c ≤ self.now.election.m }
+        requires candidates { IsIncreasing 1 c set }
+        requires fits { left ≤ self.now.election.m - c }
+        ensures { IsTold (closeness_by self.now) self.now.election.m set left (best_closeness self.now) c result }
+    {
+        let m = self.profile.m();
+        committee.valid();
+        let known = committee.upto(m);
+        let end = told_upto(known, m, c, set, left);
+        if end == c || greatest_distance(self.profile, known) > self.most {
+            return c;
+        }
+        end
+    }
+
+    /// A place before which, from c on, all bounds of the set reach `best`: c only where that of c does not.
+    fn reaching_upto(&self, c: u8, set: CandSet, left: u8, best: u128) -> u8
+        requires within { c ≤ self.now.election.m }
+        requires candidates { IsIncreasing 1 c set }
+        requires fits { left ≤ self.now.election.m - c }
+        ensures { IsReachedTo (closeness_by self.now) (λ c set left. near_bound self.now c set left)
+            self.now.election.m set left best c result }
+    {
+        self.profile.m();
+        if set.len() + left == self.k && best == self.best() {
+            return self.reached_upto(c, set, left);
+        }
+        if self.bound(c, set, left) < best {
+            return c;
+        }
+        c + 1
     }
 }
 
@@ -128,6 +166,21 @@ impl<'a, A: Allocator + Copy> Tally for NearTally<'a, A> {
         } else {
             best.saturating_sub(1)
         }
+    }
+
+    fn reach(&self, c: u8, set: CandSet, left: u8, best: u128) -> Option<u8> {
+        let m = self.profile.m();
+        let mut last = None;
+        let mut here = c;
+        while here + left <= m {
+            let next = self.reaching_upto(here, set, left, best);
+            if next == here {
+                return last;
+            }
+            last = Some(next - 1);
+            here = next;
+        }
+        last
     }
 
     fn good_committee(&self, k: u8) -> Option<CandSet> {

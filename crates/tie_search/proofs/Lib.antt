@@ -5,4 +5,5 @@ pub mod PriceLemmas
 pub mod PricedLemmas
 pub mod ReachLemmas
 pub mod SearchLemmas
+pub mod ToldLemmas
 mod WholeLemmas

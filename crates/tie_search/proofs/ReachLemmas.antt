@@ -1,21 +1,21 @@
 -- Bounds that are exact at the greatest value.
-use Rattle.std.proofs.Common.{◌≡◌, ℕ, zero, suc, ◌+◌, ◌-◌, ◌<◌, ◌≤◌, ◌==◌, ◌&&◌, ◌||◌, ◌∙◌, Bool, true, false, cond, List, [], ◌∷◌, ◌++◌, refl, sym, ap, subst, arith, inl, inr, length, Contains, length-append}
+use Rattle.std.proofs.Common.{◌≡◌, ℕ, zero, suc, ◌+◌, ◌-◌, ◌<◌, ◌≤◌, ◌==◌, ◌||◌, ◌∙◌, Bool, true, false, cond, List, [], ◌∷◌, ◌++◌, refl, sym, ap, subst, arith, inl, inr, length, Contains, length-append}
 use Rattle.std.specs.Prelude.{nat_le}
 use Rattle.std.specs.List.{list_any, range_with_len}
 use Rattle.std.proofs.lemmas.Bool.{cases_eq, cases_lt, le-leb, leb-true, eq-eqb, ne_eqb}
 use Rattle.std.proofs.lemmas.List.Folds.{list_any-append}
 use Rattle.std.proofs.lemmas.List.FromFn.{length-range_with_len}
 use Rattle.ballot_base.specs.Lists.{IsIncreasing, increasing_lists}
-use Rattle.ballot_base.specs.CandSet.{has_member, members_upto}
+use Rattle.ballot_base.specs.CandSet.{has_member}
 use Rattle.ballot_base.proofs.Committees.{chosen-from_contains, increasing_lists-contains}
-use Rattle.ballot_base.proofs.Increasing.{IsIncreasing-filter, IsIncreasing-higher, IsIncreasing-lower, has_member-above, has_member-filter, same_increasing}
+use Rattle.ballot_base.proofs.Increasing.{IsIncreasing-filter, IsIncreasing-higher, IsIncreasing-lower, has_member-above, same_increasing}
 use Rattle.tie_walk.specs.Ceilings.{IsAdded, IsBound, IsExactAtBest, IsSubmodular, ceiling}
 use Rattle.tie_walk.specs.Winners.{best_value}
 use Rattle.tie_walk.proofs.LawLemmas.{IsIncreasing-range, no_greater_value, some_winner, winner-is}
-use Rattle.tie_walk.proofs.StepLemmas.{has_member-range}
 use Rattle.tie_walk.proofs.Submodular.{ceiling-bounds}
-use Rattle.tie_search.specs.Completions.{IsOpen, IsCompletion, IsReaching, IsOutOfReach, is_reached, exact_bound}
-use Rattle.tie_search.proofs.CompletionLemmas.{added, added-size, and-true, completion-members, member-low, member-high}
+use Rattle.tie_search.specs.Completions.{IsOpen, IsCompletion, IsOutOfReach, is_reached, exact_bound}
+use Rattle.tie_search.specs.Steps.Told.{IsJoined}
+use Rattle.tie_search.proofs.CompletionLemmas.{added, added-size, completion-members, member-low, member-high}
 
 -- ---- tests of lists
 
@@ -40,7 +40,7 @@ any-found {X} p (y ∷ ys) h = by (p y) refl (λ there. any-found p ys there)
 
 -- ---- committees of a set and of those after it
 
-increasing-append : (first middle last : ℕ) (xs ys : List ℕ) → first ≤ middle + 1 → middle ≤ last → IsIncreasing first middle xs → IsIncreasing (middle + 1) last ys → IsIncreasing first last (xs ++ ys)
+pub increasing-append : (first middle last : ℕ) (xs ys : List ℕ) → first ≤ middle + 1 → middle ≤ last → IsIncreasing first middle xs → IsIncreasing (middle + 1) last ys → IsIncreasing first last (xs ++ ys)
 increasing-append first middle last [] ys low high up after = IsIncreasing-lower first (middle + 1) last ys low after
 increasing-append first middle last (x ∷ xs) ys low high up after =
     (up.0, omega (arith, up.1), increasing-append (x + 1) middle last xs ys (omega (arith, up.1)) high up.2 after)
@@ -68,24 +68,18 @@ module _ (value : List ℕ → ℕ) (m c : ℕ) (set free : List ℕ) (left : �
       or-more true q r h is = refl
       or-more false q r h is = h is
 
-  parts : (committee : List ℕ) → IsCompletion m set free left committee → (more : List ℕ) × IsIncreasing (c + 1) m more × (length more ≡ left) × (committee ≡ set ++ more)
-  parts committee whole =
+  -- a committee that was found is the set and some of those after c
+  pub joined-completion : (committee : List ℕ) → IsCompletion m set free left committee → IsJoined m c set left committee
+  joined-completion committee whole =
       let more = added m set free left committee open-after whole in
       let rises : IsIncreasing (c + 1) m more = IsIncreasing-filter (has_member committee) (c + 1) m free after in (
         more,
-        rises,
-        added-size m set free left committee open-after whole,
-        same_increasing 1 m committee (set ++ more) whole.candidates (increasing-append 1 c m set more (omega arith) within up rises)
-            (completion-members m set free left committee open-after whole),
+        (
+          (rises, added-size m set free left committee open-after whole),
+          same_increasing 1 m committee (set ++ more) whole.candidates (increasing-append 1 c m set more (omega arith) within up rises)
+              (completion-members m set free left committee open-after whole),
+        ),
       )
-
-  -- a committee was found
-  pub reached-found : (least : ℕ) (committee : List ℕ) → IsReaching value m set free left least committee → is_reached value m c set left least ≡ true
-  reached-found least committee found =
-      let split = parts committee found.completes in
-      any-true (λ more. nat_le least (value (set ++ more))) (increasing_lists (c + 1) m left) split.0
-      (increasing_lists-contains (c + 1) m left split.0 (split.1, split.2))
-      (le-leb least (value (set ++ split.0)) (omega (arith, found.reaches, ap value split.3)))
 
   -- there is none
   pub reached-none : (least : ℕ) → IsOutOfReach value m set free left least → is_reached value m c set left least ≡ false
@@ -97,29 +91,6 @@ module _ (value : List ℕ → ℕ) (m c : ℕ) (set free : List ℕ) (left : �
           let some = any-found (λ more. nat_le least (value (set ++ more))) (increasing_lists (c + 1) m left) e in
           let chosen = chosen-from_contains (c + 1) m left some.0 some.1 in
           absurd (omega (arith, none (set ++ some.0) (completion-made some.0 chosen.0 chosen.1), leb-true least (value (set ++ some.0)) some.2))
-
--- a committee that is known is one of them
-pub reached-known : (value : List ℕ → ℕ) (m c : ℕ) (set : List ℕ) (left : ℕ) → c ≤ m → IsIncreasing 1 c set → (least : ℕ) (known : List ℕ) → IsIncreasing 1 m known
-    → members_upto known c ≡ set → length known ≡ length set + left → least ≤ value known → is_reached value m c set left least ≡ true
-reached-known value m c set left within up least known rises begins size reaches =
-    reached-found value m c set (range_with_len (c + 1) (m - c)) left within up (IsIncreasing-range (c + 1) (m - c) m (omega (arith, within)))
-    (λ n low high. has_member-range (c + 1) (m - c) n (omega (arith, low)) (omega (arith, low, high))) least known record {
-      completes = record {
-        candidates = rises;
-        whole = λ n h. (and-true (nat_le n c) (has_member known n) (sym (has_member-filter (λ x. nat_le x c) known n) ∙ ap (λ l. has_member l n) begins ∙ h)).1;
-        within = λ n h. elim (cases_lt c n) [
-          | inl later ↦ ap (λ b. has_member set n || b) (has_member-range (c + 1) (m - c) n (omega (arith, later)) (let high : n ≤ m = member-high 1 m known n rises h in omega (arith, later, high))) ∙ or-true (has_member set n)
-          | inr early ↦ ap (λ b. b || has_member (range_with_len (c + 1) (m - c)) n)
-              (ap (λ l. has_member l n) (sym begins) ∙ has_member-filter (λ x. nat_le x c) known n ∙ ap (λ b. b && has_member known n) (le-leb n c early) ∙ h)
-        ];
-        size = size;
-      };
-      reaches = reaches;
-    }
-  where
-    or-true : (b : Bool) → (b || true) ≡ true
-    or-true true = refl
-    or-true false = refl
 
 -- ---- the bound
 

@@ -9,8 +9,10 @@ mod order;
 mod prices;
 mod search;
 pub mod tally;
+pub mod told;
 
 pub use tally::SearchTally;
+pub use told::{told_upto, with_last};
 
 #[cfg(test)]
 mod tests;

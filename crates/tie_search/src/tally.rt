@@ -1,15 +1,17 @@
 //! Values whose bounds are found by search.
-ghost use Rattle.std.specs.Prelude.{◌≡◌, ℕ, ◌+◌, ◌-◌, ◌≤◌, List, [], true, IsTrue, MatchOption, length};
+ghost use Rattle.std.specs.Prelude.{◌≡◌, ℕ, ◌+◌, ◌-◌, ◌≤◌, List, [], false, MatchOption, length};
 ghost use Rattle.ballot_base.specs.Limits.{most_candidates, most_members};
 ghost use Rattle.ballot_base.specs.Lists.{IsIncreasing};
 ghost use Rattle.tie_walk.specs.Values.{thiele_of};
 ghost use Rattle.tie_walk.specs.Winners.{best_value};
 ghost use Rattle.tie_search.specs.Steps.Searched.{IsAided};
 ghost use Rattle.tie_search.specs.Completions.{IsOpen, IsOutOfReach, IsReaching, is_reached, exact_bound, value_by};
+ghost use Rattle.tie_search.specs.Steps.Told.{IsTold, IsReachedTo};
 
 use crate::columns::Columns;
 use crate::prices::Prices;
 use crate::search::{Aids, find};
+use crate::told::{told_upto, with_last};
 use ballot_base::{CandSet, Profile, ThieleRule};
 use std::alloc::{Allocator, Global};
 use std::cell::Cell;
@@ -86,37 +88,73 @@ impl<'a, A: Allocator + Copy> SearchTally<'a, A> {
         ensures { result ≡ is_reached (value_by self.now) self.now.election.m c set left
             (best_value (value_by self.now) self.now.election.m self.now.k) }
     {
-        if self.is_known(c, set, left) {
-            return true;
-        }
+        self.reached_upto(c, set, left) > c
+    }
+
+    /// A place before which, from c on, at each some committee of the set and of `left` of the candidates after it has
+    /// the greatest value: c only where none has. A committee tells of many places by one search, or by none.
+    fn reached_upto(&self, c: u8, set: CandSet, left: u8) -> u8
+        requires within { c ≤ self.now.election.m }
+        requires candidates { IsIncreasing 1 c set }
+        requires fits { left ≤ self.now.election.m - c }
+        ensures told { IsTold (value_by self.now) self.now.election.m set left
+            (best_value (value_by self.now) self.now.election.m self.now.k) c result }
+        ensures none { result ≡ c → is_reached (value_by self.now) self.now.election.m c set left
+            (best_value (value_by self.now) self.now.election.m self.now.k) ≡ false }
+    {
         self.values.valid();
+        let known = self.told(self.found.get(), c, set, left);
+        if known > c {
+            return known;
+        }
+        let latest = self.told(with_last(set, left, self.m), c, set, left);
+        if latest > c {
+            return latest;
+        }
         let free = those_after(c, self.m);
         match find(&self.values, &self.aids, set, free, left, self.best) {
             Some(committee) => {
                 self.found.set(committee);
-                true
+                told_upto(committee, self.m, c, set, left)
             }
-            None => false,
+            None => c,
         }
     }
 
-    /// Whether the committee that a search found last is one of these, and has the greatest value.
-    fn is_known(&self, c: u8, set: CandSet, left: u8) -> bool
+    /// The same as far as a committee tells; c where it has not the greatest value, or is none of these.
+    fn told(&self, committee: CandSet, c: u8, set: CandSet, left: u8) -> u8
         requires within { c ≤ self.now.election.m }
         requires candidates { IsIncreasing 1 c set }
         requires fits { left ≤ self.now.election.m - c }
-        ensures { IsTrue result → is_reached (value_by self.now) self.now.election.m c set left
-            (best_value (value_by self.now) self.now.election.m self.now.k) ≡ true }
+        ensures { IsTold (value_by self.now) self.now.election.m set left
+            (best_value (value_by self.now) self.now.election.m self.now.k) c result }
     {
         self.values.valid();
-        let found = self.found.get();
-        found.valid();
-        let known = found.upto(self.m);
-        if known.upto(c) != set || known.len() != set.len() + left {
-            return false;
+        committee.valid();
+        let known = committee.upto(self.m);
+        let end = told_upto(known, self.m, c, set, left);
+        if end == c || self.values.value(known) < self.best {
+            return c;
         }
-        let value = self.values.value(known);
-        value >= self.best
+        end
+    }
+
+    /// A place before which, from c on, all bounds of the set reach `best`: c only where that of c does not.
+    fn reaching_upto(&self, c: u8, set: CandSet, left: u8, best: u128) -> u8
+        requires within { c ≤ self.now.election.m }
+        requires candidates { IsIncreasing 1 c set }
+        requires fits { left ≤ self.now.election.m - c }
+        ensures { IsReachedTo (value_by self.now) (λ c set left. exact_bound (value_by self.now) self.now.election.m
+            self.now.k c set left) self.now.election.m set left best c result }
+    {
+        self.values.valid();
+        if set.len() + left == self.k && best == self.best {
+            return self.reached_upto(c, set, left);
+        }
+        if self.bound(c, set, left) < best {
+            return c;
+        }
+        c + 1
     }
 }
 
@@ -145,6 +183,21 @@ impl<'a, A: Allocator + Copy> Tally for SearchTally<'a, A> {
         } else {
             self.best.saturating_sub(1)
         }
+    }
+
+    fn reach(&self, c: u8, set: CandSet, left: u8, best: u128) -> Option<u8> {
+        self.values.valid();
+        let mut last = None;
+        let mut here = c;
+        while here + left <= self.m {
+            let next = self.reaching_upto(here, set, left, best);
+            if next == here {
+                return last;
+            }
+            last = Some(next - 1);
+            here = next;
+        }
+        last
     }
 
     fn good_committee(&self, k: u8) -> Option<CandSet> {
