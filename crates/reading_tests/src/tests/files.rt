@@ -2,6 +2,7 @@
 ghost use Rattle.std.specs.Prelude.{◌≡◌, ◌<◌};
 ghost use Rattle.preflib_text.specs.Approvals.{HasNumber};
 
+mod ballots;
 mod faults;
 mod headers;
 mod lines;
@@ -11,8 +12,8 @@ mod order;
 mod pieces;
 mod rows;
 
-use crate::{FaultName, Kind, LineReader, Pick, ReadFault, Way, read_profile};
 use ballot_base::{CandSet, Profile};
+use preflib_text::{FaultName, Kind, LineReader, Pick, ReadFault, Way, read_profile};
 use std::alloc::Global;
 use std::process::Abort;
 

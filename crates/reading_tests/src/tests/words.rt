@@ -1,8 +1,10 @@
-use super::{LineFault, ListOption, read_request};
-use crate::request::{MOST_LIMIT, Page, Request, Rule, ScoredRule, Task};
+//! Words of the command line, and the requests that they make.
 use ballot_base::ThieleRule;
 use group_check::Property;
 use preflib_text::{Kind, Pick, Way};
+use request_words::{
+    LineFault, ListOption, MOST_LIMIT, Page, Request, Rule, ScoredRule, Task, read_request,
+};
 use seat_share::Method;
 use std::alloc::Global;
 use std::process::Abort;

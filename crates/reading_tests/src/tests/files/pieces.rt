@@ -3,7 +3,7 @@ ghost use Rattle.std.specs.Prelude.{◌≤◌, length};
 ghost use Rattle.preflib_text.specs.Limits.{most_line_bytes};
 
 use super::*;
-use crate::{LineReader, MOST_LINE_BYTES};
+use preflib_text::MOST_LINE_BYTES;
 use std::test::Fail;
 
 /// A file, and the voters of each of its ballots.

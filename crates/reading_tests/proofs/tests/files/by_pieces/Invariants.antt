@@ -1,5 +1,5 @@
 use Rattle.std.proofs.Common.{◌≡◌, ◌+◌, length}
-use Rattle.preflib_text.proofs.tests.by_pieces.Given as goal
+use Rattle.reading_tests.proofs.tests.files.by_pieces.Given as goal
 
 -- what was fed and what is left are the file
 abbrev pub invariant-loop-rest : goal.invariant-loop-rest
