@@ -9,6 +9,3 @@ mod search;
 pub mod tally;
 
 pub use tally::SearchTally;
-
-#[cfg(test)]
-mod tests;
