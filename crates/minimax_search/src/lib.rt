@@ -10,6 +10,3 @@ pub mod tally;
 pub use needs::hits_needed;
 pub use search::find_near;
 pub use tally::NearTally;
-
-#[cfg(test)]
-mod tests;

@@ -20,6 +20,3 @@ pub use limits::{MOST_CATEGORIES, MOST_LINE_BYTES};
 pub use pick::{Kind, Pick, Way};
 pub use pieces::LineReader;
 pub use reader::{one_outcome, read_profile, some_outcome};
-
-#[cfg(test)]
-mod tests;

@@ -581,6 +581,3 @@ fn fault(alloc: Global, error: &Error) -> LineFault
         _ => LineFault::Usage(text),
     }
 }
-
-#[cfg(test)]
-mod tests;

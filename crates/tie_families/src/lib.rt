@@ -10,6 +10,3 @@ mod winners;
 
 pub use families::Families;
 pub use winners::FamilyWinners;
-
-#[cfg(test)]
-mod tests;

@@ -13,6 +13,3 @@ pub mod told;
 
 pub use tally::SearchTally;
 pub use told::{told_upto, with_last};
-
-#[cfg(test)]
-mod tests;

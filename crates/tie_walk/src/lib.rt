@@ -20,6 +20,3 @@ pub use sequential::{SeqRule, SeqWinners};
 pub use tally::{PLACES, Tally};
 pub use thiele::{ThieleTally, those_after, widened};
 pub use winners::Winners;
-
-#[cfg(test)]
-mod tests;

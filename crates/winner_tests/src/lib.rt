@@ -1,0 +1,5 @@
+//! Tests of the committees that win.
+#![tactic(auto)]
+
+#[cfg(test)]
+mod tests;

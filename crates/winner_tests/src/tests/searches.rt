@@ -1,0 +1,129 @@
+//! Winners by search against a walk with plain ceilings.
+ghost use Rattle.std.specs.Prelude.{◌≡◌, ◌≤◌, IfOk};
+ghost use Rattle.ballot_base.specs.Limits.{most_candidates, most_members};
+
+use super::support::{ballot_of, election};
+use ballot_base::{CandSet, Profile, ProfileBuilder, ThieleRule};
+use std::alloc::Global;
+use std::process::Abort;
+use std::test::Fail;
+use tie_search::SearchTally;
+use tie_walk::{Tally, ThieleTally, Winners};
+
+/// Asserts that the search and the walk with ceilings find the same winners, all of them and those later than the first.
+fn assert_same(rt: &impl Abort, profile: &Profile, rule: ThieleRule, k: u8)
+    requires some { 1 ≤ k }
+    requires size { k ≤ most_members }
+    requires fits { k ≤ profile.now.m }
+{
+    let m = profile.m();
+    let plain = ThieleTally::new(profile, rule, k);
+    let searched = SearchTally::new(profile, rule, k);
+    let Some(good) = searched.good_committee(k) else {
+        panic!(rt; "a good committee of {k}");
+    };
+    assert_eq!(rt; searched.value(good), searched.best());
+    let mut winners = Winners::new(&plain, m, k, None);
+    assert_eq!(rt; winners.best(), searched.best());
+    for found in Winners::new(&searched, m, k, None) {
+        assert!(rt; winners.next() == Some(found), "{k} of {m}: {found:?}");
+    }
+    assert!(rt; winners.next().is_none(), "{k} of {m}");
+    let start = CandSet::all(k);
+    let mut later = Winners::new(&plain, m, k, Some(start));
+    for found in Winners::new(&searched, m, k, Some(start)) {
+        assert!(rt; later.next() == Some(found), "{k} of {m}, later: {found:?}");
+    }
+    assert!(rt; later.next().is_none(), "{k} of {m}, later");
+}
+
+/// Asserts the same of each rule and size.
+fn assert_all_same(rt: &impl Abort, profile: &Profile)
+    requires { profile.now.m ≤ most_members }
+{
+    let m = profile.m();
+    for rule in ThieleRule::ALL {
+        for k in 1..m + 1 {
+            assert_same(rt, profile, rule, k);
+        }
+    }
+}
+
+#[test]
+fn the_same_winners(rt: HostRuntime) -> Result<(), Fail> {
+    for seed in 1..4 {
+        for (m, ballots) in [(1, 3), (5, 1), (5, 150), (8, 9)] {
+            let profile = election(rt.alloc(), m, seed, ballots, 1)?;
+            assert_all_same(&rt, &profile);
+        }
+    }
+    Ok(())
+}
+
+#[test]
+fn the_same_winners_among_more_candidates(rt: HostRuntime) -> Result<(), Fail> {
+    let profile = election(rt.alloc(), 10, 1, 80, 1)?;
+    assert_all_same(&rt, &profile);
+    Ok(())
+}
+
+/// So many voters, 4 billion of them, that none stands in columns.
+#[test]
+fn the_same_winners_of_very_many_voters(rt: HostRuntime) -> Result<(), Fail> {
+    for seed in 1..3 {
+        let profile = election(rt.alloc(), 7, seed, 9, 150_000_000)?;
+        assert_all_same(&rt, &profile);
+    }
+    Ok(())
+}
+
+/// An election of m candidates and of these ballots, as words with a bit for each candidate, and their voters.
+fn election_of(alloc: Global, m: u8, ballots: &[(u64, u64)]) -> Result<Profile, Fail>
+    requires some { 1 ≤ m }
+    requires most { m ≤ most_candidates }
+    ensures { IfOk result (λ profile. profile.m ≡ m) }
+{
+    let mut builder = ProfileBuilder::new(alloc, m)?;
+    for (word, voters) in ballots {
+        let count = *voters;
+        if count > 0 {
+            builder
+                .add(ballot_of(m, *word), count)
+                .map_err(|_| "memory, or too many voters")?;
+        }
+    }
+    match builder.finish() {
+        Ok(profile) => Ok(profile),
+        Err(_) => Err("no voters")?,
+    }
+}
+
+/// As many voters as stand in columns, and one more.
+#[test]
+fn the_same_winners_of_as_many_voters_as_columns_hold(rt: HostRuntime) -> Result<(), Fail> {
+    for last in [96, 97] {
+        let ballots = [(0b00_0111, 4096), (0b01_1100, 4000), (0b11_0001, last)];
+        let profile = election_of(rt.alloc(), 6, &ballots)?;
+        assert_all_same(&rt, &profile);
+    }
+    Ok(())
+}
+
+/// Each candidate has one voter of its own.
+#[test]
+fn all_candidates_tie(rt: HostRuntime) -> Result<(), Fail> {
+    let ballots = [
+        (1, 1),
+        (2, 1),
+        (4, 1),
+        (8, 1),
+        (16, 1),
+        (32, 1),
+        (64, 1),
+        (128, 1),
+        (256, 1),
+    ];
+    let profile = election_of(rt.alloc(), 9, &ballots)?;
+    assert_all_same(&rt, &profile);
+    Ok(())
+}

@@ -1,0 +1,235 @@
+//! How many prefixes the walk enters: against live prefixes counted by their definition, and in elections worked out by
+//! hand.
+ghost use Rattle.std.specs.Prelude.{◌≡◌, ◌≤◌, length};
+ghost use Rattle.ballot_base.specs.Limits.{most_candidates};
+ghost use Rattle.ballot_base.specs.Lists.{IsIncreasing};
+ghost use Rattle.ballot_base.specs.Increments.{increments};
+ghost use Rattle.tie_walk.specs.Ceilings.{ceiling};
+ghost use Rattle.tie_walk.specs.Values.{thiele_value};
+
+use super::super::support::{ballot_of, election};
+use ballot_base::{CandSet, KSets, MOST_CANDIDATES, ProfileBuilder, ThieleRule};
+use std::cell::Cell;
+use std::process::Abort;
+use std::test::Fail;
+use tie_walk::{MinimaxTally, SavTally, Tally, ThieleTally, Winners};
+
+/// A Thiele tally that counts the calls of its values and bounds, and of how far they reach.
+#[derive(Drop)]
+struct Counting<'a> {
+    tally: ThieleTally<'a>,
+    calls: Cell<u64>,
+}
+
+impl<'a> Counting<'a> {
+    fn count(&self) {
+        self.calls.set(self.calls.get().saturating_add(1));
+    }
+}
+
+impl<'a> Tally for Counting<'a> {
+    ghost candidates = { λ counting. counting.tally.election.m };
+
+    ghost value_of = { λ counting set.
+        thiele_value (increments counting.tally.rule counting.tally.k) counting.tally.election.rows set };
+
+    ghost bound_of = { λ counting c set left.
+        ceiling (thiele_value (increments counting.tally.rule counting.tally.k) counting.tally.election.rows)
+        counting.tally.election.m c set left };
+
+    fn m(&self) -> u8 {
+        self.tally.m()
+    }
+
+    fn value(&self, set: CandSet) -> u128 {
+        self.count();
+        self.tally.value(set)
+    }
+
+    fn bound(&self, c: u8, set: CandSet, left: u8) -> u128 {
+        self.count();
+        self.tally.bound(c, set, left)
+    }
+
+    fn reach(&self, c: u8, set: CandSet, left: u8, best: u128) -> Option<u8> {
+        self.count();
+        self.tally.reach(c, set, left, best)
+    }
+}
+
+/// Of 40 candidates a voter approves the first 20, who win 20 seats: a walk over 41 prefixes, and few calls in all.
+#[test]
+fn twenty_of_forty_in_few_calls(rt: HostRuntime) -> Result<(), Fail> {
+    let mut builder = ProfileBuilder::new(rt.alloc(), 40)?;
+    builder
+        .add(ballot_of(40, (1 << 20) - 1), 1)
+        .map_err(|_| "memory")?;
+    let Ok(profile) = builder.finish() else {
+        panic!(rt; "a ballot was added");
+    };
+    let counting = Counting {
+        tally: ThieleTally::new(&profile, ThieleRule::Av, 20),
+        calls: Cell::new(0),
+    };
+    let mut winners = Winners::new(&counting, 40, 20, None);
+    assert!(rt; winners.next() == Some(CandSet::all(20)), "the winner");
+    assert!(rt; winners.next().is_none(), "after the winner");
+    assert_eq!(rt; winners.entered(), 41);
+    assert!(rt; counting.calls.get() <= 10_000, "too many calls");
+    Ok(())
+}
+
+/// Two voters approve 1 and 2, and one voter 3: nine prefixes are live, and four after 1 and 3.
+#[test]
+fn entered_for_two_seats(rt: HostRuntime) -> Result<(), Fail> {
+    let mut builder = ProfileBuilder::new(rt.alloc(), 3)?;
+    builder.add(ballot_of(3, 0b011), 2).map_err(|_| "memory")?;
+    builder.add(ballot_of(3, 0b100), 1).map_err(|_| "memory")?;
+    let Ok(profile) = builder.finish() else {
+        panic!(rt; "ballots were added");
+    };
+    let tally = ThieleTally::new(&profile, ThieleRule::Pav, 2);
+    let mut winners = Winners::new(&tally, 3, 2, None);
+    assert!(rt; winners.entered() >= 1, "the empty prefix");
+    for _ in 0..4 {
+        assert!(rt; winners.entered() <= 12, "before the end");
+        let _winner = winners.next();
+    }
+    assert_eq!(rt; winners.entered(), 9);
+    let start = ballot_of(3, 0b101);
+    if start.len() != 2 {
+        return Err(Fail::from("a start is a pair"));
+    }
+    let mut later = Winners::new(&tally, 3, 2, Some(start));
+    for _ in 0..3 {
+        assert!(rt; later.entered() <= 7, "after 1 and 3");
+        let _winner = later.next();
+    }
+    assert!(rt; later.entered() >= 4, "the live prefixes after 1 and 3");
+    Ok(())
+}
+
+/// Whether all beginnings of a prefix are open, whose members are the candidates 1 to c whose bit of the word is 1.
+fn is_open<T: Tally>(tally: &T, m: u8, k: u8, best: u128, c: u8, word: u64) -> bool
+    requires candidates { m ≡ T.candidates tally.now }
+    requires most { m ≤ most_candidates }
+    requires within { c ≤ m }
+{
+    for d in 0..c + 1 {
+        let set = ballot_of(d, word);
+        let len = set.len();
+        if len > k || len + (m - d) < k || tally.bound(d, set, k - len) < best {
+            return false;
+        }
+    }
+    true
+}
+
+/// Whether a committee after the start has exactly the members of this prefix up to c.
+fn is_ahead(m: u8, k: u8, start: CandSet, c: u8, word: u64) -> bool
+    requires most { m ≤ most_candidates }
+    requires within { c ≤ m }
+    requires fits { k ≤ m }
+    requires members { IsIncreasing 1 m start }
+    requires size { length start ≡ k }
+{
+    let set = ballot_of(c, word);
+    for committee in KSets::after(m, k, start) {
+        if committee.upto(c) == set {
+            return true;
+        }
+    }
+    false
+}
+
+/// Asserts that the walk over all winners enters exactly the live prefixes.
+fn assert_all_live<T: Tally>(rt: &impl Abort, tally: &T, m: u8, k: u8)
+    requires candidates { m ≡ T.candidates tally.now }
+    requires most { m ≤ 10 }
+    requires some { 1 ≤ k }
+    requires fits { k ≤ m }
+{
+    let mut winners = Winners::new(tally, m, k, None);
+    let best = winners.best();
+    let mut live = 0_u32;
+    for c in 0..m + 1 {
+        for word in 0..1_u64 << c {
+            live = live.saturating_add(u32::from(is_open(tally, m, k, best, c, word)));
+        }
+    }
+    for _winner in &mut winners {}
+    assert_eq!(rt; winners.entered(), u128::from(live), "{k} of {m}");
+}
+
+/// Asserts that the walk after a start enters few more than the live prefixes.
+fn assert_live_after<T: Tally>(rt: &impl Abort, tally: &T, m: u8, k: u8, start: CandSet)
+    requires candidates { m ≡ T.candidates tally.now }
+    requires most { m ≤ 10 }
+    requires some { 1 ≤ k }
+    requires fits { k ≤ m }
+    requires members { IsIncreasing 1 m start }
+    requires size { length start ≡ k }
+{
+    let mut winners = Winners::new(tally, m, k, Some(start));
+    let best = winners.best();
+    let mut live = 0_u32;
+    for c in 0..m + 1 {
+        for word in 0..1_u64 << c {
+            let counts = is_open(tally, m, k, best, c, word) && is_ahead(m, k, start, c, word);
+            live = live.saturating_add(u32::from(counts));
+        }
+    }
+    for _winner in &mut winners {}
+    assert!(rt;
+        winners.entered() >= u128::from(live),
+        "{k} of {m} after {start:?}"
+    );
+    let others = winners.entered().saturating_sub(u128::from(live));
+    assert!(rt; others <= u128::from(m), "{k} of {m} after {start:?}");
+}
+
+/// Asserts both, after each start.
+fn assert_live<T: Tally>(rt: &impl Abort, tally: &T, m: u8, k: u8)
+    requires candidates { m ≡ T.candidates tally.now }
+    requires most { m ≤ 10 }
+    requires some { 1 ≤ k }
+    requires fits { k ≤ m }
+{
+    assert_all_live(rt, tally, m, k);
+    for start in KSets::new(m, k) {
+        assert_live_after(rt, tally, m, k, start);
+    }
+}
+
+#[test]
+fn live_prefixes_of_small_elections(rt: HostRuntime) -> Result<(), Fail> {
+    let alloc = rt.alloc();
+    for seed in 0..8 {
+        let m = 3 + (seed % 3) as u8;
+        let profile = election(alloc, m, seed, 5, 1)?;
+        for k in 1..m + 1 {
+            assert_live(&rt, &ThieleTally::new(&profile, ThieleRule::Pav, k), m, k);
+            assert_live(&rt, &SavTally::new(&profile), m, k);
+            assert_live(&rt, &MinimaxTally::new(&profile), m, k);
+        }
+    }
+    Ok(())
+}
+
+/// Of 64 candidates a voter approves all: all committees of 32 tie, and the first come soon.
+#[test]
+fn the_first_of_all_tied_committees(rt: HostRuntime) -> Result<(), Fail> {
+    let mut builder = ProfileBuilder::new(rt.alloc(), MOST_CANDIDATES)?;
+    builder
+        .add(ballot_of(MOST_CANDIDATES, u64::MAX), 1)
+        .map_err(|_| "memory")?;
+    let Ok(profile) = builder.finish() else {
+        panic!(rt; "a ballot was added");
+    };
+    let tally = SavTally::new(&profile);
+    let mut winners = Winners::new(&tally, MOST_CANDIDATES, 32, None);
+    for committee in KSets::new(MOST_CANDIDATES, 32).take(100) {
+        assert!(rt; winners.next() == Some(committee), "{committee:?}");
+    }
+    Ok(())
+}
