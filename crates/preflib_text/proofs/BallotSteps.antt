@@ -1,5 +1,5 @@
 -- A token more, and the marks.
-use Rattle.std.proofs.Common.{◌≡◌, ℕ, ◌+◌, ◌<◌, ◌≤◌, cond, List, [], ◌∷◌, Option, Some, None, refl, sym, ap, ◌∙◌, arith, inl, inr}
+use Rattle.std.proofs.Common.{◌≡◌, ℕ, ◌+◌, ◌<◌, ◌≤◌, cond, Bool, false, is_some, List, [], ◌∷◌, Option, Some, None, refl, sym, ap, ◌∙◌, arith, inl, inr}
 use Rattle.std.specs.Option.{option_map, option_and_then}
 use Rattle.std.proofs.lemmas.Bool.{cases_lt, lt-ltb, ne_eqb}
 use Rattle.ballot_base.specs.Limits.{most_candidates, most_voters}
@@ -14,7 +14,7 @@ use Rattle.preflib_text.specs.declared.ballot.OrderPlace.TheVariants.{Order, Cla
 use Rattle.preflib_text.specs.Lines.{onto_first}
 use Rattle.preflib_text.specs.Reading.{or_else}
 use Rattle.preflib_text.specs.Steps.Tokens.{capped, capped_token, tokens_of, IsFirstToken, IsListed, next_place, is_end, order_at}
-use Rattle.preflib_text.specs.Steps.Marks.{wrong_with, with_number, with_end, with_classes, with_read}
+use Rattle.preflib_text.specs.Steps.Marks.{wrong_with, takes, with_new, with_number, with_end, with_classes, with_read, marks_at, IsReadOn}
 use Rattle.preflib_text.proofs.BallotRead.{some, map_some}
 
 -- ---- numbers that are capped
@@ -71,6 +71,10 @@ next_place-capped place Comma = refl
 next_place-capped place Open = refl
 next_place-capped place Close = refl
 next_place-capped place Other = refl
+
+none_of : (o : Option FaultName) → is_some o ≡ false → o ≡ None
+none_of None e = refl
+none_of (Some name) e = cc
 
 -- ---- the marks of a token and of the classes after it
 
@@ -206,3 +210,35 @@ module _ (m : ℕ) (way : Taking) where
   counts_read Opened Close marks = record { classes = omega arith; numbers = omega arith }
   counts_read Listed Close marks = record { classes = omega arith; numbers = omega arith }
   counts_read place token marks = record { classes = omega arith; numbers = omega arith }
+
+  -- ---- reading on
+
+  pub read_then : (place next last : OrderPlace) (text rest end : List ℕ) (marks after final : Marks) → IsReadOn m way place text marks next rest after → IsReadOn m way next rest after last end final → IsReadOn m way place text marks last end final
+  read_then place next last text rest end marks after final first second = record {
+    same = second.same ∙ first.same;
+    shorter = omega (arith, first.shorter, second.shorter);
+    classes = omega (arith, first.classes, second.classes);
+    numbers = omega (arith, first.numbers, second.numbers);
+  }
+
+  pub token_read : (place next : OrderPlace) (read : Token) (text rest : List ℕ) (marks after : Marks) → m ≤ most_candidates → IsFirstToken text read rest → next_place place read ≡ Some next → after ≡ with_read m way place read marks → IsReadOn m way place text marks next rest after
+  token_read place next read text rest marks after h first to is =
+      let more = counts_read place read marks in record {
+        same = ap (λ (x : Marks). marks_at m way next rest x) is ∙ marks_more place next read text rest marks h first to;
+        shorter = omega (arith, first.3);
+        classes = omega (arith, more.classes, ap (λ (x : Marks). x.classes) is, first.3);
+        numbers = omega (arith, more.numbers, ap (λ (x : Marks). x.before + x.numbers) is, first.3);
+      }
+
+  pub listed_read : (place next : OrderPlace) (n : ℕ) (text rest : List ℕ) (marks after : Marks) → m ≤ most_candidates → IsListed text n rest → option_and_then (λ at. next_place at Comma) (next_place place (Number n)) ≡ Some next → after ≡ with_read m way place (Number n) marks → IsReadOn m way place text marks next rest after
+  listed_read place next n text rest marks after h listed to is =
+      let more = counts_read place (Number n) marks in record {
+        same = ap (λ (x : Marks). marks_at m way next rest x) is ∙ listed_more place next n text rest marks h listed to;
+        shorter = omega (arith, listed.0.3);
+        classes = omega (arith, more.classes, ap (λ (x : Marks). x.classes) is, listed.0.3);
+        numbers = omega (arith, more.numbers, ap (λ (x : Marks). x.before + x.numbers) is, listed.0.3);
+      }
+
+  -- a number with which nothing is wrong
+  pub new_number : (marks next : Marks) (taken : Bool) (n : ℕ) → is_some (wrong_with m marks n) ≡ false → taken ≡ takes way marks.classes marks.before → next ≡ with_new marks taken n → next ≡ with_number m way marks n
+  new_number marks next taken n fine is to = to ∙ ap (λ (b : Bool). with_new marks b n) is ∙ sym (rw (none_of (wrong_with m marks n) fine) refl)

@@ -4,7 +4,7 @@ ghost use Rattle.ballot_base.specs.Limits.{most_candidates};
 ghost use Rattle.ballot_base.specs.Lists.{IsIncreasing};
 ghost use Rattle.preflib_text.specs.Limits.{word_limit};
 ghost use Rattle.preflib_text.specs.Reading.{is_strict, is_complete};
-ghost use Rattle.preflib_text.specs.Steps.Marks.{no_marks, taking_of, takes, wrong_with, with_number, with_end};
+ghost use Rattle.preflib_text.specs.Steps.Marks.{no_marks, taking_of, takes, wrong_with, with_new, with_number, with_end};
 ghost use Rattle.preflib_text.specs.Steps.Marks.{fault_of};
 
 use crate::fault::FaultName;
@@ -73,7 +73,7 @@ impl Marks {
     }
 
     /// Whether the numbers of the class that comes are taken.
-    fn takes(&self, taking: Taking) -> bool
+    pub(crate) fn takes(&self, taking: Taking) -> bool
         requires { self.now.classes + 1 < word_limit }
         ensures { result ≡ takes taking self.now.classes self.now.before }
     {
@@ -85,7 +85,7 @@ impl Marks {
     }
 
     /// What is wrong with this number, or with one before it.
-    fn wrong_with(&self, m: u8, n: u64) -> Option<FaultName>
+    pub(crate) fn wrong_with(&self, m: u8, n: u64) -> Option<FaultName>
         requires { m ≤ most_candidates }
         ensures { result ≡ wrong_with m self.now n }
     {
@@ -101,6 +101,20 @@ impl Marks {
         None
     }
 
+    /// Adds a number with which nothing is wrong to the class that comes, whose numbers are taken or not.
+    pub(crate) fn add_new(&mut self, n: u64, taken: bool)
+        requires low { 1 ≤ n }
+        requires high { n ≤ most_candidates }
+        requires numbers { self.old.numbers + 1 < word_limit }
+        ensures { self.new ≡ with_new self.old taken n }
+    {
+        self.numbers += 1;
+        self.seen = self.seen.with(n as u8);
+        if taken {
+            self.approved = self.approved.with(n as u8);
+        }
+    }
+
     /// Adds a number to the class that comes.
     pub(crate) fn add_number(&mut self, m: u8, taking: Taking, n: u64)
         requires candidates { m ≤ most_candidates }
@@ -109,12 +123,10 @@ impl Marks {
         ensures { self.new ≡ with_number m taking self.old n }
     {
         self.wrong = self.wrong_with(m, n);
-        self.numbers += 1;
-        if self.wrong.is_none() {
-            self.seen = self.seen.with(n as u8);
-            if self.takes(taking) {
-                self.approved = self.approved.with(n as u8);
-            }
+        if self.wrong.is_some() {
+            self.numbers += 1;
+        } else {
+            self.add_new(n, self.takes(taking));
         }
     }
 

@@ -9,7 +9,7 @@ ghost use Rattle.preflib_text.specs.Ballot.{IsBallotLine};
 ghost use Rattle.preflib_text.specs.Approvals.{HasNumber};
 ghost use Rattle.preflib_text.specs.Steps.Tokens.{token_of, tokens_after, tokens_of, capped, IsFirstToken, IsListed};
 ghost use Rattle.preflib_text.specs.Steps.Tokens.{next_place, is_end, order_at, ballot_of};
-ghost use Rattle.preflib_text.specs.Steps.Marks.{no_marks, with_classes, with_read};
+ghost use Rattle.preflib_text.specs.Steps.Marks.{no_marks, with_classes, with_read, IsReadOn};
 ghost use Rattle.preflib_text.specs.Steps.Answers.{HasMarks, IsGoodBallot, IsBallotFault};
 
 use crate::approvals::{Marks, Taking};
@@ -120,6 +120,20 @@ impl OrderPlace {
                 Some(OrderPlace::Inner)
             }
             OrderPlace::Between | OrderPlace::Listed => None,
+        }
+    }
+
+    /// Reads the common numbers that come at this place, and is at the same place in what is left of the text.
+    fn read_on<'a>(self, text: &'a [u8], marks: &mut Marks, m: u8, taking: Taking) -> &'a [u8]
+        requires candidates { m ≤ most_candidates }
+        requires classes { marks.old.classes + length text.now + 1 < word_limit }
+        requires numbers { marks.old.before + marks.old.numbers + length text.now + 1 < word_limit }
+        ensures { IsReadOn m taking self text.now marks.old self result.now marks.new }
+    {
+        match self {
+            OrderPlace::Inner => read_members(text, marks, m, taking),
+            OrderPlace::Class => read_classes(text, marks, m, taking),
+            _ => text,
         }
     }
 
@@ -234,6 +248,50 @@ fn listed_number(text: &[u8]) -> Option<(u64, &[u8])>
     Some((first, rest))
 }
 
+/// Reads numbers between braces that have a comma right after each, as long as nothing is wrong with them. What is left
+/// of the text comes after a comma between braces, too.
+fn read_members<'a>(text: &'a [u8], marks: &mut Marks, m: u8, taking: Taking) -> &'a [u8]
+    requires candidates { m ≤ most_candidates }
+    requires classes { marks.old.classes + length text.now + 1 < word_limit }
+    requires numbers { marks.old.before + marks.old.numbers + length text.now + 1 < word_limit }
+    ensures { IsReadOn m taking OrderPlace.Inner text.now marks.old OrderPlace.Inner result.now marks.new }
+{
+    let mut read = *marks;
+    let taken = read.takes(taking);
+    let mut rest = text;
+    while let Some((n, after)) = listed_number(rest) {
+        if read.wrong_with(m, n).is_some() {
+            break;
+        }
+        read.add_new(n, taken);
+        rest = after;
+    }
+    *marks = read;
+    rest
+}
+
+/// Reads classes of one number that have a comma right after each, as long as nothing is wrong with them. What is left
+/// of the text comes after a comma between classes, too.
+fn read_classes<'a>(text: &'a [u8], marks: &mut Marks, m: u8, taking: Taking) -> &'a [u8]
+    requires candidates { m ≤ most_candidates }
+    requires classes { marks.old.classes + length text.now + 1 < word_limit }
+    requires numbers { marks.old.before + marks.old.numbers + length text.now + 1 < word_limit }
+    ensures { IsReadOn m taking OrderPlace.Class text.now marks.old OrderPlace.Class result.now marks.new }
+{
+    let mut read = *marks;
+    let mut rest = text;
+    while let Some((n, after)) = listed_number(rest) {
+        if read.wrong_with(m, n).is_some() {
+            break;
+        }
+        read.add_new(n, read.takes(taking));
+        read.end_class();
+        rest = after;
+    }
+    *marks = read;
+    rest
+}
+
 /// The marks of the classes of an order.
 fn read_order(text: &[u8], m: u8, taking: Taking) -> Option<Marks>
     requires { m ≤ most_candidates }
@@ -245,7 +303,7 @@ fn read_order(text: &[u8], m: u8, taking: Taking) -> Option<Marks>
     loop {
         if let Some((n, after)) = listed_number(rest) {
             place = place.after_listed(n, &mut marks, m, taking)?;
-            rest = after;
+            rest = place.read_on(after, &mut marks, m, taking);
         } else if let Some((token, after)) = next_token(rest) {
             place = place.after(token, &mut marks, m, taking)?;
             rest = after;

@@ -1,6 +1,6 @@
 -- What is noted of a ballot while its classes come, and what that says at the end.
-use Rattle.std.specs.Prelude.{ℕ, ◌+◌, ◌==◌, ◌&&◌, ◌||◌, Bool, true, not, List, [], length, fold, Option, Some, None}
-use Rattle.std.specs.Prelude.{unwrap_or, nat_lt, if◌then◌else◌}
+use Rattle.std.specs.Prelude.{◌≡◌, ◌≤◌, ℕ, ◌+◌, ◌==◌, ◌&&◌, ◌||◌, Bool, true, not, List, [], length, fold}
+use Rattle.std.specs.Prelude.{Option, Some, None, option_map, unwrap_or, nat_lt, if◌then◌else◌}
 use Rattle.ballot_base.specs.Limits.{most_voters}
 use Rattle.ballot_base.specs.CandSet.{has_member, with_member}
 use Rattle.preflib_text.specs.declared.pick.Kind.{Kind}
@@ -17,6 +17,7 @@ use Rattle.preflib_text.specs.declared.ballot.Token.{Token}
 use Rattle.preflib_text.specs.declared.ballot.Token.TheVariants.{Number, Close}
 use Rattle.preflib_text.specs.declared.ballot.OrderPlace.{OrderPlace}
 use Rattle.preflib_text.specs.declared.ballot.OrderPlace.TheVariants.{Order, Class, Opened, Inner, Listed}
+use Rattle.preflib_text.specs.Steps.Tokens.{tokens_of, order_at}
 use Rattle.preflib_text.specs.Reading.{or_else, fault_if, is_strict, is_complete, is_cat}
 
 -- the marks before the first class
@@ -45,18 +46,21 @@ abbrev pub wrong_with : ℕ → Marks → ℕ → Option FaultName
 wrong_with m marks n = or_else marks.wrong
     (or_else (fault_if ((n == 0) || nat_lt m n) NoSuchCandidate) (fault_if (has_member marks.seen n) RepeatedCandidate))
 
+-- the marks with a number more in the class that comes, with which nothing is wrong
+abbrev pub with_new : Marks → Bool → ℕ → Marks
+with_new marks taken n = record marks {
+  numbers = marks.numbers + 1;
+  seen = with_member marks.seen n;
+  approved = if taken then with_member marks.approved n else marks.approved;
+}
+
 -- the marks with a number more in the class that comes
 abbrev pub with_number : ℕ → Taking → Marks → ℕ → Marks
 with_number m taking marks n = by (wrong_with m marks n)
   where
     by : Option FaultName → Marks
     by (Some name) = record marks { wrong = Some name; numbers = marks.numbers + 1 }
-    by None = record marks {
-      numbers = marks.numbers + 1;
-      seen = with_member marks.seen n;
-      approved =
-          if takes taking marks.classes marks.before then with_member marks.approved n else marks.approved;
-    }
+    by None = with_new marks (takes taking marks.classes marks.before) n
 
 -- the marks at the end of a class
 abbrev pub with_end : Marks → Marks
@@ -83,6 +87,19 @@ with_read m taking Inner (Number n) marks = with_number m taking marks n
 with_read m taking Opened Close marks = with_end marks
 with_read m taking Listed Close marks = with_end marks
 with_read m taking place token marks = marks
+
+-- the marks of an order that goes on with this text at this place, after what these marks note
+abbrev pub marks_at : ℕ → Taking → OrderPlace → List ℕ → Marks → Option Marks
+marks_at m taking place text marks = option_map (with_classes m taking marks) (order_at place (tokens_of text))
+
+-- the text at a place was read up to this rest of it at the next: the order keeps its marks, and each class and each
+-- number that was read had a byte at least
+pub record IsReadOn (m : ℕ) (taking : Taking) (place : OrderPlace) (text : List ℕ) (marks : Marks)
+    (next : OrderPlace) (rest : List ℕ) (after : Marks) : Type 0 where
+  pub same : marks_at m taking next rest after ≡ marks_at m taking place text marks
+  pub shorter : length rest ≤ length text
+  pub classes : after.classes + length rest ≤ marks.classes + length text
+  pub numbers : after.before + after.numbers + length rest ≤ marks.before + marks.numbers + length text
 
 -- what is wrong with a ballot of this count
 abbrev pub fault_of : Kind → ℕ → Option ℕ → ℕ → Marks → Option FaultName

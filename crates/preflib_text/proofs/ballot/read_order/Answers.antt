@@ -1,9 +1,8 @@
-use Rattle.std.proofs.Common.{sym, ap, ◌∙◌, arith, Some, None, cond, Bool, true, false, refl, ◌+◌, ◌≡◌}
+use Rattle.std.proofs.Common.{sym, ap, ◌∙◌, arith, Some, None, cond, Bool, true, false, refl, ◌≡◌}
 use Rattle.std.specs.Bool.{then_some}
-use Rattle.preflib_text.specs.Steps.Tokens.{tokens_of, order_at}
-use Rattle.preflib_text.specs.declared.approvals.Marks.{Marks}
-use Rattle.preflib_text.specs.declared.ballot.Token.TheVariants.{Number}
-use Rattle.preflib_text.proofs.BallotSteps.{marked, marks_more, marks_fail, marks_last, listed_more, listed_fail, counts_read}
+use Rattle.preflib_text.proofs.BallotSteps.{marks_fail, marks_last, listed_fail, read_then, token_read, listed_read}
+use Rattle.preflib_text.specs.declared.ballot.OrderPlace.TheVariants.{Order}
+use Rattle.preflib_text.specs.Steps.Marks.{no_marks}
 use Rattle.preflib_text.proofs.ballot.read_order.Goals as goal
 
 pub returns-in_err-place : goal.returns-in_err-place
@@ -13,14 +12,16 @@ returns-in_err-place c =
 
 pub loop-n-preserved-in-Some : goal.loop-n-preserved-in-Some
 loop-n-preserved-in-Some c =
+    let m = c.args.m in
+    let taking = c.args.taking in
+    let text = c.args.text.now in
     let loop = c.loop-n in
-    let more = counts_read c.args.m c.args.taking loop.place (Number c.in-Some.n) loop.marks in
-    let is = c.after_listed.ensures.marks in
-    record {
-      same = ap (λ (marks : Marks). marked c.args.m c.args.taking marks (order_at c.in_ok-place.place (tokens_of c.in-Some.after.now))) is ∙ listed_more c.args.m c.args.taking loop.place c.in_ok-place.place c.in-Some.n loop.rest.now c.in-Some.after.now loop.marks (omega arith) c.in-Some.ensures (sym c.in_ok-place.ensures.place) ∙ loop.invariant.same;
-      classes = omega (arith, more.classes, ap (λ (marks : Marks). marks.classes) is, c.in-Some.ensures.0.3, loop.invariant.classes);
-      numbers = omega (arith, more.numbers, ap (λ (marks : Marks). marks.before + marks.numbers) is, c.in-Some.ensures.0.3, loop.invariant.numbers);
-    }
+    let place = c.in_ok-place.place in
+    let after = c.in-Some.after.now in
+    let marks = c.after_listed.new.marks in
+    let listed = listed_read m taking loop.place place c.in-Some.n loop.rest.now after loop.marks marks (omega arith) c.in-Some.ensures (sym c.in_ok-place.ensures.place) c.after_listed.ensures.marks in
+    read_then m taking Order place place text after c.read_on-rest.result.now no_marks marks c.read_on-rest.new.marks
+    (read_then m taking Order loop.place place text loop.rest.now after no_marks loop.marks marks loop.invariant listed) c.read_on-rest.ensures
 
 pub returns-in_err-place-2 : goal.returns-in_err-place-2
 returns-in_err-place-2 c =
@@ -29,14 +30,14 @@ returns-in_err-place-2 c =
 
 pub loop-n-preserved : goal.loop-n-preserved
 loop-n-preserved c =
+    let m = c.args.m in
+    let taking = c.args.taking in
     let loop = c.loop-n in
-    let more = counts_read c.args.m c.args.taking loop.place c.in-Some-next_token.token loop.marks in
-    let is = c.after.ensures.marks in
-    record {
-      same = ap (λ (marks : Marks). marked c.args.m c.args.taking marks (order_at c.in_ok-place-2.place (tokens_of c.in-Some-next_token.after.now))) is ∙ marks_more c.args.m c.args.taking loop.place c.in_ok-place-2.place c.in-Some-next_token.token loop.rest.now c.in-Some-next_token.after.now loop.marks (omega arith) c.in-Some-next_token.ensures (sym c.in_ok-place-2.ensures.place) ∙ loop.invariant.same;
-      classes = omega (arith, more.classes, ap (λ (marks : Marks). marks.classes) is, c.in-Some-next_token.ensures.3, loop.invariant.classes);
-      numbers = omega (arith, more.numbers, ap (λ (marks : Marks). marks.before + marks.numbers) is, c.in-Some-next_token.ensures.3, loop.invariant.numbers);
-    }
+    let place = c.in_ok-place-2.place in
+    let after = c.in-Some-next_token.after.now in
+    let marks = c.after.new.marks in
+    read_then m taking Order loop.place place c.args.text.now loop.rest.now after no_marks loop.marks marks loop.invariant
+    (token_read m taking loop.place place c.in-Some-next_token.token loop.rest.now after loop.marks marks (omega arith) c.in-Some-next_token.ensures (sym c.in_ok-place-2.ensures.place) c.after.ensures.marks)
 
 then_some_is : {A : Type 0} (b : Bool) (x : A) → then_some b x ≡ cond b (Some x) None
 then_some_is true x = refl
