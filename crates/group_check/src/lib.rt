@@ -7,6 +7,3 @@ pub mod property;
 
 pub use checking::find_violation;
 pub use property::{Property, Violation};
-
-#[cfg(test)]
-mod tests;

@@ -12,6 +12,3 @@ pub mod shares;
 pub use limits::{MOST_PARTIES, MOST_SEATS, MOST_VOTES};
 pub use method::{Method, ShareFault};
 pub use shares::{Allocation, Shares};
-
-#[cfg(test)]
-mod tests;

@@ -158,6 +158,3 @@ pub fn run_with_hashing<A: Allocator + Copy + Drop, R: Source, W: Sink, E: Sink>
         Err(refusal) => refuse(err, refusal),
     }
 }
-
-#[cfg(test)]
-mod tests;

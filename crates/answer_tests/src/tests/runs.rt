@@ -1,11 +1,10 @@
 //! Worked runs of approval voting over every type of file, and of starts, limits and names. Expected values are worked
 //! by hand.
-use super::run;
-use crate::device::Told;
 use request_words::read_request;
 use std::alloc::Global;
 use std::process::Abort;
 use std::test::Fail;
+use vote_cli::{Told, run};
 
 /// Three candidates and two ballots: two voters put 1 and 2 first, and one puts 3 first.
 static THREE: &str =

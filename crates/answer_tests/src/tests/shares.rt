@@ -1,5 +1,5 @@
 //! Allocations worked by hand, and from public tables.
-use crate::{Allocation, Method, ShareFault, Shares};
+use seat_share::{Allocation, Method, ShareFault, Shares};
 use std::alloc::{AllocError, Global};
 use std::process::Abort;
 use std::test::Fail;

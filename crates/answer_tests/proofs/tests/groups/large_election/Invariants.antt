@@ -1,6 +1,6 @@
 use Rattle.std.proofs.Common.{◌≡◌}
 use Rattle.ballot_base.specs.Limits.{most_candidates}
-use Rattle.group_check.proofs.tests.large_election.Given as goal
+use Rattle.answer_tests.proofs.tests.groups.large_election.Given as goal
 
 -- the builder keeps its candidates
 abbrev pub invariant-loop-candidate : goal.invariant-loop-candidate

@@ -1,6 +1,6 @@
 use Rattle.std.proofs.Common.{◌≡◌}
 use Rattle.ballot_base.specs.Limits.{most_candidates}
-use Rattle.group_check.proofs.tests.small_election.Given as goal
+use Rattle.answer_tests.proofs.tests.groups.small_election.Given as goal
 
 -- the builder keeps its candidates
 abbrev pub invariant-loop-round : goal.invariant-loop-round

@@ -1,6 +1,6 @@
 //! Each property, held and violated, on profiles worked by hand.
-use crate::{Property, Violation, find_violation};
 use ballot_base::{CandSet, KSets, MOST_CANDIDATES, MOST_MEMBERS, Profile, ProfileBuilder};
+use group_check::{Property, Violation, find_violation};
 use std::alloc::Global;
 use std::test::Fail;
 
