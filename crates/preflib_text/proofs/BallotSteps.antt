@@ -1,11 +1,13 @@
 -- A token more, and the marks.
-use Rattle.std.proofs.Common.{◌≡◌, ℕ, ◌+◌, ◌<◌, ◌≤◌, cond, Bool, false, is_some, List, [], ◌∷◌, Option, Some, None, refl, sym, ap, ◌∙◌, arith, inl, inr}
+use Rattle.std.proofs.Common.{◌≡◌, ℕ, ◌+◌, ◌<◌, ◌≤◌, cond, Bool, true, false, is_some, List, [], ◌∷◌, Option, Some, None, refl, sym, ap, ◌∙◌, arith, inl, inr}
 use Rattle.std.specs.Option.{option_map, option_and_then}
 use Rattle.std.proofs.lemmas.Bool.{cases_lt, lt-ltb, ne_eqb}
+use Rattle.std.proofs.lemmas.Bool.Decides.{nat_tests}
 use Rattle.ballot_base.specs.Limits.{most_candidates, most_voters}
 use Rattle.preflib_text.specs.declared.fault.FaultName.{FaultName}
 use Rattle.preflib_text.specs.declared.fault.FaultName.TheVariants.{NoSuchCandidate}
 use Rattle.preflib_text.specs.declared.approvals.Taking.{Taking}
+use Rattle.preflib_text.specs.declared.approvals.Taking.TheVariants.{Category, SetSize, Classes}
 use Rattle.preflib_text.specs.declared.approvals.Marks.{Marks}
 use Rattle.preflib_text.specs.declared.ballot.Token.{Token}
 use Rattle.preflib_text.specs.declared.ballot.Token.TheVariants.{Number, Colon, Comma, Open, Close, Other}
@@ -14,7 +16,7 @@ use Rattle.preflib_text.specs.declared.ballot.OrderPlace.TheVariants.{Order, Cla
 use Rattle.preflib_text.specs.Lines.{onto_first}
 use Rattle.preflib_text.specs.Reading.{or_else}
 use Rattle.preflib_text.specs.Steps.Tokens.{capped, capped_token, tokens_of, IsFirstToken, IsListed, next_place, is_end, order_at}
-use Rattle.preflib_text.specs.Steps.Marks.{wrong_with, takes, with_new, with_number, with_end, with_classes, with_read, marks_at, IsReadOn}
+use Rattle.preflib_text.specs.Steps.Marks.{wrong_with, takes, is_past, with_new, with_number, with_end, with_classes, with_read, marks_at, IsReadOn}
 use Rattle.preflib_text.proofs.BallotRead.{some, map_some}
 
 -- ---- numbers that are capped
@@ -75,6 +77,18 @@ next_place-capped place Other = refl
 none_of : (o : Option FaultName) → is_some o ≡ false → o ≡ None
 none_of None e = refl
 none_of (Some name) e = cc
+
+-- ---- classes that are not taken any more
+
+pub past_takes : (way : Taking) (classes before : ℕ) → is_past way classes before ≡ true → false ≡ takes way classes before
+past_takes (Category n) classes before past = grind (arith, nat_tests)
+past_takes (SetSize n) classes before past = grind (arith, nat_tests)
+past_takes (Classes n) classes before past = grind (arith, nat_tests)
+
+pub past_later : (way : Taking) (classes before later more : ℕ) → classes ≤ later → before ≤ more → is_past way classes before ≡ true → is_past way later more ≡ true
+past_later (Category n) classes before later more h i past = grind (arith, nat_tests)
+past_later (SetSize n) classes before later more h i past = grind (arith, nat_tests)
+past_later (Classes n) classes before later more h i past = grind (arith, nat_tests)
 
 -- ---- the marks of a token and of the classes after it
 

@@ -4,7 +4,7 @@ ghost use Rattle.ballot_base.specs.Limits.{most_candidates};
 ghost use Rattle.ballot_base.specs.Lists.{IsIncreasing};
 ghost use Rattle.preflib_text.specs.Limits.{word_limit};
 ghost use Rattle.preflib_text.specs.Reading.{is_strict, is_complete};
-ghost use Rattle.preflib_text.specs.Steps.Marks.{no_marks, taking_of, takes, wrong_with, with_new, with_number, with_end};
+ghost use Rattle.preflib_text.specs.Steps.Marks.{no_marks, taking_of, takes, is_past, wrong_with, with_new, with_number, with_end};
 ghost use Rattle.preflib_text.specs.Steps.Marks.{fault_of};
 
 use crate::fault::FaultName;
@@ -81,6 +81,16 @@ impl Marks {
             Taking::Category(n) => self.classes + 1 == u64::from(n),
             Taking::SetSize(n) => self.before < u64::from(n),
             Taking::Classes(n) => self.classes < u64::from(n),
+        }
+    }
+
+    /// Whether no class that comes is taken.
+    pub(crate) fn is_past(&self, taking: Taking) -> bool
+        ensures { result ≡ is_past taking self.now.classes self.now.before }
+    {
+        match taking {
+            Taking::Category(n) | Taking::Classes(n) => u64::from(n) <= self.classes,
+            Taking::SetSize(n) => u64::from(n) <= self.before,
         }
     }
 

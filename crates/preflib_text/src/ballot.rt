@@ -250,6 +250,7 @@ fn listed_number(text: &[u8]) -> Option<(u64, &[u8])>
 
 /// Reads numbers between braces that have a comma right after each, as long as nothing is wrong with them. What is left
 /// of the text comes after a comma between braces, too.
+#[inline(never)]
 fn read_members<'a>(text: &'a [u8], marks: &mut Marks, m: u8, taking: Taking) -> &'a [u8]
     requires candidates { m ≤ most_candidates }
     requires classes { marks.old.classes + length text.now + 1 < word_limit }
@@ -270,21 +271,25 @@ fn read_members<'a>(text: &'a [u8], marks: &mut Marks, m: u8, taking: Taking) ->
     rest
 }
 
-/// Reads classes of one number that have a comma right after each, as long as nothing is wrong with them. What is left
-/// of the text comes after a comma between classes, too.
+/// Reads classes of one number that have a comma right after each, as long as nothing is wrong with them, once no class
+/// is taken any more. What is left of the text comes after a comma between classes, too.
+#[inline(never)]
 fn read_classes<'a>(text: &'a [u8], marks: &mut Marks, m: u8, taking: Taking) -> &'a [u8]
     requires candidates { m ≤ most_candidates }
     requires classes { marks.old.classes + length text.now + 1 < word_limit }
     requires numbers { marks.old.before + marks.old.numbers + length text.now + 1 < word_limit }
     ensures { IsReadOn m taking OrderPlace.Class text.now marks.old OrderPlace.Class result.now marks.new }
 {
+    if !marks.is_past(taking) {
+        return text;
+    }
     let mut read = *marks;
     let mut rest = text;
     while let Some((n, after)) = listed_number(rest) {
         if read.wrong_with(m, n).is_some() {
             break;
         }
-        read.add_new(n, read.takes(taking));
+        read.add_new(n, false);
         read.end_class();
         rest = after;
     }

@@ -1,6 +1,6 @@
 -- What is noted of a ballot while its classes come, and what that says at the end.
 use Rattle.std.specs.Prelude.{◌≡◌, ◌≤◌, ℕ, ◌+◌, ◌==◌, ◌&&◌, ◌||◌, Bool, true, not, List, [], length, fold}
-use Rattle.std.specs.Prelude.{Option, Some, None, option_map, unwrap_or, nat_lt, if◌then◌else◌}
+use Rattle.std.specs.Prelude.{Option, Some, None, option_map, unwrap_or, nat_le, nat_lt, if◌then◌else◌}
 use Rattle.ballot_base.specs.Limits.{most_voters}
 use Rattle.ballot_base.specs.CandSet.{has_member, with_member}
 use Rattle.preflib_text.specs.declared.pick.Kind.{Kind}
@@ -40,6 +40,12 @@ abbrev pub takes : Taking → ℕ → ℕ → Bool
 takes (Category n) classes numbers = classes + 1 == n
 takes (SetSize n) classes numbers = nat_lt numbers n
 takes (Classes n) classes numbers = nat_lt classes n
+
+-- whether no class that comes is taken, after so many classes with so many numbers
+abbrev pub is_past : Taking → ℕ → ℕ → Bool
+is_past (Category n) classes numbers = nat_le n classes
+is_past (SetSize n) classes numbers = nat_le n numbers
+is_past (Classes n) classes numbers = nat_le n classes
 
 -- what is wrong with the number or with one before it
 abbrev pub wrong_with : ℕ → Marks → ℕ → Option FaultName

@@ -1,7 +1,8 @@
-use Rattle.std.proofs.Common.{ap, ◌∙◌, refl, rules}
+use Rattle.std.proofs.Common.{ap, ◌∙◌, refl, rules, false, arith}
 use Rattle.preflib_text.specs.Steps.Marks.{with_end}
+use Rattle.preflib_text.specs.declared.approvals.Marks.{Marks}
 use Rattle.preflib_text.specs.declared.ballot.OrderPlace.TheVariants.{Class}
-use Rattle.preflib_text.proofs.BallotSteps.{read_then, listed_read, new_number}
+use Rattle.preflib_text.proofs.BallotSteps.{read_then, listed_read, new_number, past_takes, past_later}
 use Rattle.preflib_text.proofs.ballot.read_classes.Goals as goal
 
 pub loop-n-preserved : goal.loop-n-preserved
@@ -9,6 +10,15 @@ loop-n-preserved c =
     let marks = c.loop-n.read in
     let rest = c.loop-n.rest.now in
     let after = c.in-Some.after.now in
-    let is = new_number c.args.m c.args.taking marks c.add_new.new.self c.takes.result c.in-Some.n (search rules) c.takes.ensures c.add_new.ensures in
-    read_then c.args.m c.args.taking Class Class Class c.args.text.now rest after c.args.marks.now marks c.end_class.new.self c.loop-n.invariant
-    (listed_read c.args.m c.args.taking Class Class c.in-Some.n rest after marks c.end_class.new.self c.requires.candidates c.in-Some.ensures refl (c.end_class.ensures ∙ ap with_end is))
+    let ended = c.end_class.new.self in
+    let past = c.loop-n.invariant.past in
+    let is = new_number c.args.m c.args.taking marks c.add_new.new.self false c.in-Some.n (search rules) (past_takes c.args.taking marks.classes marks.before past) c.add_new.ensures in
+    let added = c.add_new.ensures in
+    let end = c.end_class.ensures in
+    record {
+      read = read_then c.args.m c.args.taking Class Class Class c.args.text.now rest after c.args.marks.now marks ended c.loop-n.invariant.read
+          (listed_read c.args.m c.args.taking Class Class c.in-Some.n rest after marks ended c.requires.candidates c.in-Some.ensures refl (c.end_class.ensures ∙ ap with_end is));
+      past = past_later c.args.taking marks.classes marks.before ended.classes ended.before
+          (omega (arith, ap (λ (x : Marks). x.classes) added, ap (λ (x : Marks). x.classes) end))
+          (omega (arith, ap (λ (x : Marks). x.before) added, ap (λ (x : Marks). x.before) end)) past;
+    }
