@@ -1,6 +1,7 @@
 pub mod ColumnLemmas
 pub mod CompletionLemmas
 mod Examples
+pub mod LiveLemmas
 pub mod PriceLemmas
 pub mod PricedLemmas
 pub mod ReachLemmas

@@ -2,9 +2,9 @@
 use Rattle.std.specs.Prelude.{◌≡◌, ℕ, ◌+◌, ◌-◌, ◌<◌, ◌≤◌, ◌||◌, ◌==◌, Bool, true, false, List, ◌++◌, length, nat_le, if◌then◌else◌}
 use Rattle.std.specs.List.{list_any}
 use Rattle.ballot_base.specs.Lists.{IsIncreasing, increasing_lists}
-use Rattle.ballot_base.specs.CandSet.{has_member}
+use Rattle.ballot_base.specs.CandSet.{has_member, members_upto}
 use Rattle.ballot_base.specs.Increments.{increments}
-use Rattle.tie_walk.specs.Ceilings.{ceiling}
+use Rattle.tie_walk.specs.Ceilings.{Prefix, ceiling}
 use Rattle.tie_walk.specs.Values.{Thiele, thiele_value}
 use Rattle.tie_walk.specs.Winners.{best_value}
 
@@ -50,3 +50,10 @@ exact_bound value m k c set left =
     then best_value value m k
     else best_value value m k - 1)
     else ceiling value m c set left
+
+-- a winner that begins with the prefix: its members up to the prefix's last candidate are those of the prefix
+pub record IsWinnerFrom (value : List ℕ → ℕ) (m k : ℕ) (prefix : Prefix) (committee : List ℕ) : Type 0 where
+  pub candidates : IsIncreasing 1 m committee
+  pub size : length committee ≡ k
+  pub best : value committee ≡ best_value value m k
+  pub begins : members_upto committee prefix.c ≡ prefix.set

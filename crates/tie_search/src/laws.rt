@@ -1,15 +1,15 @@
 //! Laws of the definitions. Each function does nothing, and its contract is the law.
-ghost use Rattle.std.specs.Prelude.{◌≡◌, ℕ, ◌+◌, ◌-◌, ◌*◌, ◌≤◌, List, sum_by};
+ghost use Rattle.std.specs.Prelude.{◌≡◌, ℕ, ◌+◌, ◌-◌, ◌*◌, ◌≤◌, List, None, length, sum_by};
 ghost use Rattle.std.specs.List.{AllByRecursion};
 ghost use Rattle.ballot_base.specs.Limits.{most_members};
 ghost use Rattle.ballot_base.specs.Ballots.{Row};
 ghost use Rattle.ballot_base.specs.Increments.{increments};
 ghost use Rattle.ballot_base.specs.Lists.{IsIncreasing};
-ghost use Rattle.tie_walk.specs.Ceilings.{IsBound, IsExactAtBest, IsSubmodular, gain_at};
+ghost use Rattle.tie_walk.specs.Ceilings.{Prefix, IsBound, IsExactAtBest, IsLive, IsSubmodular, gain_at, live_count};
 ghost use Rattle.tie_walk.specs.Values.{thiele_value};
-ghost use Rattle.tie_walk.specs.Winners.{best_value};
+ghost use Rattle.tie_walk.specs.Winners.{best_value, winners};
 ghost use Rattle.tie_search.specs.Prices.{Priced, rows_of, base, price};
-ghost use Rattle.tie_search.specs.Completions.{IsOpen, IsCompletion, exact_bound};
+ghost use Rattle.tie_search.specs.Completions.{IsOpen, IsCompletion, IsWinnerFrom, exact_bound};
 
 use ballot_base::ThieleRule;
 
@@ -20,6 +20,18 @@ pub fn exact_bounds()
         → IsIncreasing 1 c set → IsBound value m c set left (exact_bound value m k c set left) }
     ensures exact { (value : List ℕ → ℕ) (m k : ℕ)
         → IsExactAtBest value (exact_bound value m k) m k (best_value value m k) }
+{}
+
+/// Which prefixes a walk without a start has to enter where bounds are exact at the greatest value: each begins some
+/// winner, and there are at most 1 + m for each winner.
+pub fn live_prefixes()
+    ensures winners { (value : List ℕ → ℕ) (bound : ℕ → List ℕ → ℕ → ℕ) (m k : ℕ) (prefix : Prefix)
+        → IsExactAtBest value bound m k (best_value value m k)
+        → IsLive bound m k (best_value value m k) None prefix
+        → (committee : List ℕ) × IsWinnerFrom value m k prefix committee }
+    ensures few { (value : List ℕ → ℕ) (bound : ℕ → List ℕ → ℕ → ℕ) (m k : ℕ)
+        → IsExactAtBest value bound m k (best_value value m k)
+        → live_count bound m k (best_value value m k) None ≤ (1 + m) * length (winners value m k) }
 {}
 
 /// Any threshold bounds the committees that complete a set: each member that is added brings its gain at the set at
