@@ -1,10 +1,11 @@
 //! Laws of the definitions. Each function does nothing, and its contract is the law.
-ghost use Rattle.std.specs.Prelude.{◌≡◌, ℕ, ◌+◌, ◌-◌, ◌*◌, ◌≤◌, List, None, length, sum_by};
+ghost use Rattle.std.specs.Prelude.{◌≡◌, ℕ, ◌+◌, ◌-◌, ◌*◌, ◌≤◌, List, None, Some, ◌⊎◌, length, sum_by};
 ghost use Rattle.std.specs.List.{AllByRecursion};
 ghost use Rattle.ballot_base.specs.Limits.{most_members};
 ghost use Rattle.ballot_base.specs.Ballots.{Row};
 ghost use Rattle.ballot_base.specs.Increments.{increments};
-ghost use Rattle.ballot_base.specs.Lists.{IsIncreasing};
+ghost use Rattle.ballot_base.specs.Lists.{IsIncreasing, IsLater};
+ghost use Rattle.ballot_base.specs.CandSet.{members_upto};
 ghost use Rattle.tie_walk.specs.Ceilings.{Prefix, IsBound, IsExactAtBest, IsLive, IsSubmodular, gain_at, live_count};
 ghost use Rattle.tie_walk.specs.Values.{thiele_value};
 ghost use Rattle.tie_walk.specs.Winners.{best_value, winners};
@@ -22,13 +23,18 @@ pub fn exact_bounds()
         → IsExactAtBest value (exact_bound value m k) m k (best_value value m k) }
 {}
 
-/// Which prefixes a walk without a start has to enter where bounds are exact at the greatest value: each begins some
-/// winner, and there are at most 1 + m for each winner.
+/// Which prefixes a walk has to enter where bounds are exact at the greatest value. Without a start each begins some
+/// winner, and there are at most 1 + m for each winner; with one, each begins some later winner, or the start.
 pub fn live_prefixes()
     ensures winners { (value : List ℕ → ℕ) (bound : ℕ → List ℕ → ℕ → ℕ) (m k : ℕ) (prefix : Prefix)
         → IsExactAtBest value bound m k (best_value value m k)
         → IsLive bound m k (best_value value m k) None prefix
         → (committee : List ℕ) × IsWinnerFrom value m k prefix committee }
+    ensures later { (value : List ℕ → ℕ) (bound : ℕ → List ℕ → ℕ → ℕ) (m k : ℕ) (start : List ℕ) (prefix : Prefix)
+        → IsExactAtBest value bound m k (best_value value m k) → IsIncreasing 1 m start → length start ≡ k
+        → IsLive bound m k (best_value value m k) (Some start) prefix
+        → ((committee : List ℕ) × IsWinnerFrom value m k prefix committee × IsLater committee start)
+        ⊎ (members_upto start prefix.c ≡ prefix.set) }
     ensures few { (value : List ℕ → ℕ) (bound : ℕ → List ℕ → ℕ → ℕ) (m k : ℕ)
         → IsExactAtBest value bound m k (best_value value m k)
         → live_count bound m k (best_value value m k) None ≤ (1 + m) * length (winners value m k) }
