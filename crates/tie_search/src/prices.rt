@@ -22,8 +22,8 @@ pub(crate) const MOST_ROWS: usize = 8192;
 /// A multiplier for each row, at the row's number.
 pub(crate) type Multipliers = [u64; MOST_ROWS];
 
-/// The price of each candidate, at its number: of a committee of candidates who are dear no voter gets more than what
-/// is kept for the voter and the multiplier for each hit.
+/// The price of each candidate, at its number: times the scale, all voters together give a committee no more than what
+/// they keep and the prices of its members.
 #[derive(Drop)]
 pub(crate) struct Prices {
     // What all voters keep.
