@@ -165,3 +165,22 @@ pub fn winners(rule: &impl Rule, size: u32, best: u128, found: &mut impl FnMut(u
         best
     });
 }
+
+/// How many prefixes a walk over the winners enters: those whose bounds, and those of each beginning, reach the greatest
+/// value. A prefix decides on the candidates up to one of them.
+pub fn entered(rule: &impl Rule, size: u32) -> u64 {
+    entered_below(rule, 0, 0, size, best(rule, size))
+}
+
+fn entered_below(rule: &impl Rule, c: u32, set: u64, left: u32, best: u128) -> u64 {
+    let Some(last) = rule.reach(c, set, left, best) else {
+        return 0;
+    };
+    let mut count = u64::from(last - c + 1);
+    if left > 0 {
+        for n in c + 1..=last + 1 {
+            count += entered_below(rule, n, set | single(n), left - 1, best);
+        }
+    }
+    count
+}

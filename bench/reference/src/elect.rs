@@ -63,14 +63,8 @@ pub fn write(out: &mut impl Write, profile: &Profile, rule: &str, size: usize) -
     let is_many = committees(m, size) > FEW_COMMITTEES;
     match rule {
         "sav" if is_many => {
-            let l = common_multiple(u128::from(m));
-            let mut scores = vec![0; m as usize + 1];
-            for &(ballot, count) in &profile.rows {
-                for n in members(ballot) {
-                    scores[n as usize] += l / u128::from(ballot.count_ones()) * u128::from(count);
-                }
-            }
-            write_pruned(out, &Satisfaction { candidates: m, scores }, size, Some(l))?;
+            let denominator = common_multiple(u128::from(m));
+            write_pruned(out, &satisfaction(profile), size, Some(denominator))?;
         }
         "minimax" if is_many => write_pruned(out, &Minimax(profile), size, None)?,
         "av" | "pav" | "cc" | "geom2" | "geom3" | "geom4" if is_many => {
@@ -113,6 +107,33 @@ pub fn write(out: &mut impl Write, profile: &Profile, rule: &str, size: usize) -
         }
     }
     out.write_all(b"end\n")?;
+    Ok(true)
+}
+
+/// Satisfaction approval voting, times the common multiple of the sizes of ballots.
+fn satisfaction(profile: &Profile) -> Satisfaction {
+    let m = profile.candidates;
+    let l = common_multiple(u128::from(m));
+    let mut scores = vec![0; m as usize + 1];
+    for &(ballot, count) in &profile.rows {
+        for n in members(ballot) {
+            scores[n as usize] += l / u128::from(ballot.count_ones()) * u128::from(count);
+        }
+    }
+    Satisfaction { candidates: m, scores }
+}
+
+/// Prints how many prefixes a walk with ceilings over the winners of a rule enters.
+pub fn write_entered(out: &mut impl Write, profile: &Profile, rule: &str, size: usize) -> io::Result<bool> {
+    let entered = match rule {
+        "sav" => ceilings::entered(&satisfaction(profile), size as u32),
+        "minimax" => ceilings::entered(&Minimax(profile), size as u32),
+        _ => {
+            let (weights, _) = increments(rule, size);
+            ceilings::entered(&Thiele { profile, weights }, size as u32)
+        }
+    };
+    writeln!(out, "{entered}")?;
     Ok(true)
 }
 

@@ -97,6 +97,7 @@ fn write_answer(command: &str, words: &Words) -> Result<bool, ReadError> {
     let mut out = BufWriter::new(io::stdout().lock());
     let holds = match command {
         "elect" => elect::write(&mut out, &words.profile()?, words.text("rule"), words.number("size")),
+        "entered" => elect::write_entered(&mut out, &words.profile()?, words.text("rule"), words.number("size")),
         "integer-program" => integer_program::write(&mut out, &words.profile()?, words.text("rule"), words.number("size")),
         "check" => {
             let committee = words.list("committee").expect("a committee");
