@@ -97,8 +97,8 @@ fn dearest(worths: &[u128; PLACES], m: u8, count: u8) -> CandSet
     dearest
 }
 
-/// Moves the multiplier of each row: up where the committee hits it less often than the row asks for at this multiplier,
-/// and down where more often. The step is the gap over the square of all these differences.
+/// Moves the multiplier of each row: up where the committee hits it less often than the row asks for at this
+/// multiplier, and down where more often. The step is the gap over the square of all these differences.
 fn step<A: Allocator + Copy>(
     profile: &Profile<A>,
     weights: &Weights,

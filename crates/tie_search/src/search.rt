@@ -135,8 +135,8 @@ fn may_suffice<A: Allocator + Copy>(
     value >= least
 }
 
-/// Whether the prices, where they are kept, allow a committee of the set and of `left` of the free candidates whose value
-/// is at least `least`.
+/// Whether the prices, where they are kept, allow a committee of the set and of `left` of the free candidates whose
+/// value is at least `least`.
 fn may_afford<A: Allocator + Copy>(
     tally: &ThieleTally<A>,
     prices: &Option<Prices>,
