@@ -86,6 +86,17 @@ module _ (m c : ℕ) (set : List ℕ) (left : ℕ) (within : c ≤ m) (up : IsIn
       pub joined-end : (n : ℕ) → IsJoined m n set left committee
       joined-end n = ([], ((tt, sym none-left_to_add), joined.1.1 ∙ ap (λ l. set ++ l) (sym others-added ∙ is)))
 
+-- at the first who was added the committee is not so any more
+pub next-ends : (m c : ℕ) (set : List ℕ) (left : ℕ) → c ≤ m → IsIncreasing 1 c set → (committee : List ℕ) → IsJoined m c set left committee
+    → (next : ℕ) (rest : List ℕ) → other_members committee set ≡ next ∷ rest → IsJoined m next set left committee → ⊥
+next-ends m c set left within up committee joined next rest is later =
+    let first = first-added m c set left within up committee joined next rest is in
+    let high : next ≤ m = first.0.1 in
+    let wide : IsIncreasing 1 next set = IsIncreasing-higher 1 c next set (omega (arith, first.0.0)) up in
+    let same : later.0 ≡ next ∷ rest = sym (others-added m next set left high wide committee later) ∙ is in
+    let rises : IsIncreasing (next + 1) m (next ∷ rest) = subst (λ l. IsIncreasing (next + 1) m l) same later.1.0.0 in
+    omega (arith, rises.0)
+
 -- a committee with the value tells that it is reached
 reached-joined : (value : List ℕ → ℕ) (m c : ℕ) (set : List ℕ) (left least : ℕ) (committee : List ℕ) → IsJoined m c set left committee → least ≤ value committee
     → is_reached value m c set left least ≡ true

@@ -1,7 +1,6 @@
 //! Prices of candidates. A search passes over a set whose price is too low without counting what the set gains.
-ghost use Rattle.std.specs.Prelude.{◌≡◌, ℕ, ◌+◌, ◌^◌, ◌<◌, ◌≤◌, length, slice_index, MatchOption, ⊤, if◌then◌else◌};
+ghost use Rattle.std.specs.Prelude.{◌≡◌, ℕ, ◌+◌, ◌^◌, ◌<◌, ◌≤◌, length, slice_index, MatchOption, ⊤};
 ghost use Rattle.ballot_base.specs.Limits.{most_candidates, most_members};
-ghost use Rattle.ballot_base.specs.CandSet.{has_member};
 ghost use Rattle.tie_walk.specs.Values.{thiele_of};
 ghost use Rattle.tie_search.specs.Prices.{kept, base, price};
 ghost use Rattle.tie_search.specs.Steps.Priced.{ArePrices, scale, most_rows, priced_by};
@@ -11,7 +10,7 @@ use crate::multipliers::chosen;
 use crate::order::Order;
 use ballot_base::{CandSet, Increments, Profile, ThieleRule};
 use std::alloc::Allocator;
-use tie_walk::{PLACES, Tally, ThieleTally, those_after};
+use tie_walk::{PLACES, ThieleTally, add_to_members, those_after};
 
 /// What hits give is multiplied by this, so that there are multipliers between two increments.
 pub(crate) const SCALE: u64 = 4096;
@@ -120,19 +119,4 @@ pub(crate) fn prices_of<A: Allocator + Copy>(
         add_to_members(&mut worths, ballot, worth);
     }
     worths
-}
-
-/// Adds to the worth of each member of a ballot.
-fn add_to_members(worths: &mut [u128; PLACES], ballot: CandSet, worth: u128)
-    requires fits { (n : ℕ) → slice_index worths.old n + worth < 2 ^ 128 }
-    ensures sum { (n : ℕ) → n ≤ most_candidates → slice_index worths.new n
-        ≡ slice_index worths.old n + (if has_member ballot n then worth else 0) }
-    ensures most { (n : ℕ) → slice_index worths.new n ≤ slice_index worths.old n + worth }
-{
-    ballot.valid();
-    let mut left = ballot;
-    while let Some(parts) = left.split_first() {
-        worths[usize::from(parts.0)] += worth;
-        left = parts.1;
-    }
 }

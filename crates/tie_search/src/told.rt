@@ -18,7 +18,7 @@ pub fn told_upto(committee: CandSet, m: u8, c: u8, set: CandSet, left: u8) -> u8
     ensures low { c ≤ result }
     ensures high { result + left ≤ m + 1 }
     ensures told { (n : ℕ) → c ≤ n → n < result → IsJoined m n set left committee }
-    ensures here { IsJoined m c set left committee → c < result }
+    ensures end { result ≤ m → IsJoined m result set left committee → ⊥ }
 {
     if committee.upto(c) != set || committee.len() != set.len() + left {
         return c;

@@ -1,9 +1,13 @@
-use Rattle.std.proofs.Common.{◌≡◌, ℕ, ◌*◌, ◌^◌, ◌≤◌, ◌∙◌, cond, sym, ap, arith, get_or, replicate}
+use Rattle.std.proofs.Common.{◌≡◌, ℕ, Bool, true, false, ◌*◌, ◌^◌, ◌≤◌, ◌∙◌, cond, sym, ap, arith, get_or, replicate}
 use Rattle.std.proofs.Math.Nat.{mul-le-mul}
 use Rattle.tie_walk.proofs.WorthLemmas.{no_total}
 use Rattle.ballot_base.specs.CandSet.{has_member}
 use Rattle.tie_search.proofs.PricedLemmas.{price-more, price-none, row-voters}
 use Rattle.tie_search.proofs.prices.prices_of.Goals as goal
+
+part-most : (b : Bool) (n : ℕ) → cond b n 0 ≤ n
+part-most true n = omega arith
+part-most false n = omega arith
 
 pub loop-i-init : goal.loop-i-init
 loop-i-init g c = record {
@@ -25,10 +29,10 @@ loop-i-preserved g c =
     record {
       priced = λ n low. omega (
         arith,
-        c.add_to_members.ensures.sum n low,
+        c.add_to_members.ensures n,
         ap (λ x. cond (has_member row.0 n) x 0) product,
         c.loop-i.invariant.priced n low,
         price-more f rows i row n c.row-ballot.ensures,
       );
-      small = λ n. omega (arith, few, c.add_to_members.ensures.most n, c.loop-i.invariant.small n);
+      small = λ n. omega (arith, few, c.add_to_members.ensures n, part-most (has_member row.0 n) (c.from.result * c.from-in-loop-i.result), c.loop-i.invariant.small n);
     }

@@ -40,8 +40,9 @@ returns-in-Some-clause-none g c same =
     let joined : IsJoined t.values.election.m c.args.c c.args.set c.args.left c.in-Some.committee =
     joined-completion V t.values.election.m c.args.c c.args.set c.those_after-free.result c.args.left (omega (arith, c.requires.within, size))
     c.requires.candidates after (λ n low high. c.those_after-free.ensures.all n low (omega (arith, high, c.self.invariant.m_is))) c.in-Some.committee found.completes in
-    let past = c.told_upto.ensures.here (subst (λ n. IsJoined n c.args.c c.args.set c.args.left c.in-Some.committee) (sym c.self.invariant.m_is) joined) in
-    absurd (omega (arith, same, past))
+    absurd (c.told_upto.ensures.end (omega (arith, same, c.requires.within, size, c.self.invariant.m_is))
+    (subst (λ n. IsJoined n c.told_upto.result c.args.set c.args.left c.in-Some.committee) (sym c.self.invariant.m_is)
+    (subst (λ n. IsJoined t.values.election.m n c.args.set c.args.left c.in-Some.committee) (sym same) joined)))
 
 pub returns-in-None-clause-none : goal.returns-in-None-clause-none
 returns-in-None-clause-none g c same =
