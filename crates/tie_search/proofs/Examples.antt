@@ -2,8 +2,9 @@
 -- of the candidates 1 to 3 the best has 2 and 3.
 use Rattle.std.proofs.Common.{◌≡◌, true, false, [], ◌∷◌, refl, sum, lit≤, lit<, arith}
 use Rattle.ballot_base.specs.Lists.{lists_of}
-use Rattle.tie_search.specs.Completions.{IsOpen, IsCompletion, IsReaching, IsOutOfReach, is_reached, exact_bound}
+use Rattle.tie_search.specs.Completions.{IsOpen, IsCompletion, IsReaching, IsOutOfReach, IsWinnerFrom, is_reached, exact_bound}
 use Rattle.tie_search.specs.Prices.{kept, base, price}
+use Rattle.tie_search.specs.Steps.Told.{IsJoined}
 use Rattle.tie_search.specs.Steps.Columns.{ballot_of, given, total, voters_of}
 
 best-at_root : exact_bound sum 3 2 0 [] 2 ≡ 5
@@ -32,6 +33,22 @@ reached-four = refl
 short-five : is_reached sum 3 1 (1 ∷ []) 1 5 ≡ false
 unfolding lists_of
 short-five = refl
+
+-- ---- a winner and its beginnings
+
+-- the committee of 2 and 3 wins, and begins with nobody of the candidates up to 1
+wins-from_one : IsWinnerFrom sum 3 2 (record { c = 1; set = [] }) (2 ∷ 3 ∷ [])
+unfolding lists_of
+wins-from_one = record {
+  candidates = (lit≤ tt, lit≤ tt, (lit≤ tt, lit≤ tt, tt));
+  size = refl;
+  best = refl;
+  begins = refl;
+}
+
+-- it is the empty set and two of the candidates after 1
+joined-at_one : IsJoined 3 1 [] 2 (2 ∷ 3 ∷ [])
+joined-at_one = (2 ∷ 3 ∷ [], (((lit≤ tt, lit≤ tt, (lit≤ tt, lit≤ tt, tt)), refl), refl))
 
 -- ---- committees that complete a set
 
