@@ -82,7 +82,7 @@ pub all_whole : (rows : List Row) → AllByRecursion (IsWhole (are_clones rows))
 all_whole rows = whole-rows (are_clones rows) rows (λ c d cd. cd)
 
 -- the hits are the members of the set whom the ballot approves
-hits-members : (m : ℕ) (ballot set : List ℕ) → IsIncreasing 1 m ballot → IsIncreasing 1 m set → hits ballot set ≡ count_by (has_member ballot) set
+pub hits-members : (m : ℕ) (ballot set : List ℕ) → IsIncreasing 1 m ballot → IsIncreasing 1 m set → hits ballot set ≡ count_by (has_member ballot) set
 hits-members m ballot set up inside =
     let same : common_members ballot set ≡ common_members set ballot =
     same_increasing 1 m (common_members ballot set) (common_members set ballot) (IsIncreasing-filter (has_member set) 1 m ballot up) (IsIncreasing-filter (has_member ballot) 1 m set inside)

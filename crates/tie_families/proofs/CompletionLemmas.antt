@@ -1,23 +1,22 @@
 -- Which families have a committee of a set and of some of the candidates after it: those that the set lacks of each
--- class are added one by one, and fit.
-use Rattle.std.proofs.Common.{◌≡◌, ℕ, zero, suc, ◌+◌, ◌-◌, ◌≤◌, ◌∙◌, Bool, true, false, cond, List, [], ◌∷◌, ◌++◌, refl, sym, ap, subst, arith, inl, inr, length, length-append, append_assoc, count_by}
+-- class are added one by one, and fit, and more of them can be added up to the most.
+use Rattle.std.proofs.Common.{◌≡◌, ℕ, zero, suc, ◌+◌, ◌-◌, ◌≤◌, ◌∙◌, Bool, true, false, cond, not, ◌&&◌, ◌<◌, List, [], ◌∷◌, ◌++◌, refl, sym, ap, subst, arith, inl, inr, filter, length, length-append, append_assoc, count_by}
 use Rattle.std.specs.Prelude.{fold, nat_le}
 use Rattle.std.specs.List.{list_any, range_with_len}
-use Rattle.std.proofs.lemmas.Bool.{cases_Bool, cases_lt, cases_eq, both_ways, le-leb, leb-true, and_parts, and_from}
-use Rattle.std.proofs.lemmas.List.FromFn.{length-range_with_len}
+use Rattle.std.proofs.lemmas.Bool.{cases_Bool, cases_lt, cases_eq, both_ways, le-leb, leb-true, not-true, and_parts, and_from}
 use Rattle.std.proofs.lemmas.List.Sums.{sum_by-append}
 use Rattle.ballot_base.specs.Lists.{IsIncreasing, increasing_lists}
-use Rattle.ballot_base.specs.CandSet.{has_member}
+use Rattle.ballot_base.specs.CandSet.{has_member, with_member}
 use Rattle.ballot_base.specs.Ballots.{Row}
 use Rattle.ballot_base.proofs.Committees.{increasing_lists-contains, chosen-from_contains}
-use Rattle.ballot_base.proofs.Increasing.{IsIncreasing-lower, IsIncreasing-higher, IsIncreasing-push, has_member-above, with_member-above}
-use Rattle.tie_walk.proofs.LawLemmas.{IsIncreasing-range}
-use Rattle.tie_families.specs.Clones.{are_clones, clone_count, has_as_many}
+use Rattle.ballot_base.proofs.Increasing.{IsIncreasing-lower, IsIncreasing-higher, IsIncreasing-push, IsIncreasing-filter, IsIncreasing-with_member, has_member-above, has_member-below, has_member-filter, same_increasing, with_member-above}
+use Rattle.tie_walk.proofs.SequenceLemmas.{length-with_member}
+use Rattle.tie_families.specs.Clones.{are_clones, clone_count, has_as_many, is_between}
 use Rattle.tie_families.specs.Steps.Families.{may_be_in}
 use Rattle.tie_families.specs.Steps.Levels.{IsBelow}
 use Rattle.tie_families.specs.Steps.Tables.{completed, completed_by}
 use Rattle.tie_families.proofs.CloneLemmas.{clones-sameness}
-use Rattle.tie_families.proofs.Numbers.{bit, count-cons, count-class, length-within}
+use Rattle.tie_families.proofs.Numbers.{bit, count-cons, count-class, count-parts, count-with, length-within, some-passes, some-more}
 use Rattle.tie_families.proofs.TableLemmas.{completed-with, completed-same}
 use Rattle.tie_families.proofs.WinnerLemmas.{many-from, below-from, any-from, any-at}
 
@@ -31,7 +30,7 @@ joined-increasing c m first (x ∷ set) added low fits up up' =
     (up.0, omega (arith, up.1, fits), joined-increasing c m (x + 1) set added (omega (arith, up.1)) fits up.2 up')
 
 -- no more of a class than a range has
-range-most : (p : ℕ → Bool) (n first last : ℕ) (set : List ℕ) → first + n ≡ last + 1 → IsIncreasing first last set → count_by p set ≤ count_by p (range_with_len first n)
+pub range-most : (p : ℕ → Bool) (n first last : ℕ) (set : List ℕ) → first + n ≡ last + 1 → IsIncreasing first last set → count_by p set ≤ count_by p (range_with_len first n)
 range-most p n first last [] all up = omega arith
 range-most p zero first last (x ∷ xs) all up = absurd (omega (arith, all, up.0, up.1))
 range-most p (suc n) first last (x ∷ xs) all up = elim (cases_eq x first) [
@@ -43,48 +42,55 @@ range-most p (suc n) first last (x ∷ xs) all up = elim (cases_eq x first) [
       omega (arith, rest, count-cons p first (range_with_len (first + 1) n))
 ]
 
--- a list of some numbers of a range, with more of them
-pub record IsExtended (first last left : ℕ) (taken : List ℕ) : Type 0 where
-  pub added : List ℕ
-  pub candidates : IsIncreasing first last added
-  pub size : length added ≡ left
-  pub many : (p : ℕ → Bool) → count_by p taken ≤ count_by p added
+bounded : (first last : ℕ) (xs : List ℕ) (x : ℕ) → IsIncreasing first last xs → has_member xs x ≡ true → (first ≤ x) × (x ≤ last)
+bounded first last xs x up inside = (
+  elim (cases_lt x first) [ inl below ↦ absurd (both_ways (has_member xs x) (has_member-below first last xs x up below) inside) | inr fine ↦ fine ],
+  elim (cases_lt last x) [ inl above ↦ absurd (both_ways (has_member xs x) (has_member-above first last xs x up above) inside) | inr fine ↦ fine ],
+)
 
-extended : (n first last left : ℕ) (taken : List ℕ) → first + n ≡ last + 1 → IsIncreasing first last taken → length taken ≤ left → left ≤ n → IsExtended first last left taken
-extended n first last left [] all up few fits = record {
-  added = range_with_len first left;
-  candidates = IsIncreasing-range first left last (omega (arith, all, fits));
-  size = length-range_with_len first left;
-  many = λ p. omega arith;
-}
-extended zero first last left (x ∷ xs) all up few fits = absurd (omega (arith, all, up.0, up.1))
-extended (suc n) first last zero (x ∷ xs) all up few fits = absurd (omega (arith, few))
-extended (suc n) first last (suc left) (x ∷ xs) all up few fits = elim (cases_eq x first) [
-  | inl same ↦
-      let rest = extended n (first + 1) last left xs (omega (arith, all)) (subst (λ k. IsIncreasing (k + 1) last xs) same up.2) (omega (arith, few)) (omega (arith, fits)) in
-      record {
-        added = first ∷ rest.added;
-        candidates = (omega arith, omega (arith, up.1, same), rest.candidates);
-        size = omega (arith, rest.size);
-        many = λ p. omega (arith, rest.many p, count-cons p x xs, count-cons p first rest.added, ap (λ k. bit (p k)) same);
-      }
-  | inr other ↦ elim (cases_lt n (suc left)) [
-    | inl full ↦ record {
-      added = range_with_len first (suc left);
-      candidates = IsIncreasing-range first (suc left) last (omega (arith, all, fits));
-      size = length-range_with_len first (suc left);
-      many = λ p. range-most p (suc left) first last (x ∷ xs) (omega (arith, all, full, fits)) up;
-    }
-    | inr room ↦
-        let rest = extended n (first + 1) last (suc left) (x ∷ xs) (omega (arith, all)) (omega (arith, up.0, other), up.1, up.2) few room in
-        record {
-          added = rest.added;
-          candidates = IsIncreasing-lower first (first + 1) last rest.added (omega arith) rest.candidates;
-          size = rest.size;
-          many = rest.many;
-        }
-  ]
-]
+-- of a list with more that pass there is one outside the other
+missing : (p : ℕ → Bool) (first last : ℕ) (xs ys : List ℕ) → IsIncreasing first last xs → IsIncreasing first last ys → count_by p xs < count_by p ys
+    → (x : ℕ) × (has_member ys x ≡ true) × (p x ≡ true) × (has_member xs x ≡ false)
+missing p first last xs ys up up' less =
+    let both : filter (has_member xs) ys ≡ filter (has_member ys) xs =
+    same_increasing first last (filter (has_member xs) ys) (filter (has_member ys) xs) (IsIncreasing-filter (has_member xs) first last ys up') (IsIncreasing-filter (has_member ys) first last xs up)
+    (λ n. has_member-filter (has_member xs) ys n ∙ and-turned (has_member xs n) (has_member ys n) ∙ sym (has_member-filter (has_member ys) xs n)) in
+    let x = some-passes p (filter (λ n. not (has_member xs n)) ys)
+    (omega (arith, less, ap (count_by p) both, count-parts p (has_member xs) ys, count-parts p (has_member ys) xs)) in
+    let parts = and_parts (not (has_member xs x.0)) (has_member ys x.0) (sym (has_member-filter (λ n. not (has_member xs n)) ys x.0) ∙ x.1) in
+    (x.0, parts.1, x.2, not-true (has_member xs x.0) parts.0)
+  where
+    and-turned : (a b : Bool) → (a && b) ≡ (b && a)
+    and-turned true true = refl
+    and-turned true false = refl
+    and-turned false true = refl
+    and-turned false false = refl
+
+-- a list of as many, from one list that has no more of each class than another
+module _ (rows : List Row) (first last : ℕ) (full : List ℕ) (up' : IsIncreasing first last full) where
+  pub record IsFilled (left : ℕ) (taken : List ℕ) : Type 0 where
+    pub added : List ℕ
+    pub candidates : IsIncreasing first last added
+    pub size : length added ≡ left
+    pub least : IsBelow rows taken added
+    pub most : IsBelow rows added full
+
+  filled : (n left : ℕ) (taken : List ℕ) → length taken + n ≡ left → IsIncreasing first last taken → IsBelow rows taken full → left ≤ length full → IsFilled left taken
+  filled zero left taken all up below fits = record { added = taken; candidates = up; size = omega (arith, all); least = λ y. omega arith; most = below }
+  filled (suc n) left taken all up below fits =
+      let y = some-more (are_clones rows) (clones-sameness rows) taken full (omega (arith, all, fits)) in
+      let x = missing (are_clones rows y.0) first last taken full up up' y.2 in
+      let bounds = bounded first last full x.0 up' x.1 in
+      let grown = λ (z : ℕ). count-with (are_clones rows z) taken x.0 x.3 in
+      let rest = filled n left (with_member taken x.0) (omega (arith, all, length-with_member taken x.0 x.3)) (IsIncreasing-with_member first last taken x.0 bounds.0 bounds.1 up)
+      (λ z. elim (cases_Bool (are_clones rows z x.0)) [
+        | inl same ↦
+            let zy : are_clones rows z y.0 ≡ true = (clones-sameness rows).joined z x.0 y.0 same ((clones-sameness rows).turned y.0 x.0 x.2) in
+            omega (arith, grown z, ap bit same, y.2, count-class (are_clones rows) (clones-sameness rows) z y.0 taken zy, count-class (are_clones rows) (clones-sameness rows) z y.0 full zy)
+        | inr apart ↦ omega (arith, grown z, ap bit apart, below z)
+      ])
+      fits in
+      record { added = rest.added; candidates = rest.candidates; size = rest.size; least = λ z. omega (arith, grown z, rest.least z); most = rest.most }
 
 -- ---- a set with what it lacks
 
@@ -95,7 +101,7 @@ module _ (rows : List Row) (family : List ℕ) where
     pub candidates : IsIncreasing (c + 1) (c + n) taken
     pub is : whole ≡ set ++ taken
     pub least : (other : List ℕ) → IsBelow rows family other → IsBelow rows set other → IsBelow rows whole other
-    pub enough : (y : ℕ) → clone_count rows family y ≤ clone_count rows set y + count_by (are_clones rows y) (range_with_len (c + 1) n) → clone_count rows family y ≤ clone_count rows whole y
+    pub enough : (y k : ℕ) → k ≤ clone_count rows family y → k ≤ clone_count rows set y + count_by (are_clones rows y) (range_with_len (c + 1) n) → k ≤ clone_count rows whole y
 
   append_none : (xs : List ℕ) → xs ≡ xs ++ []
   append_none [] = refl
@@ -107,7 +113,7 @@ module _ (rows : List Row) (family : List ℕ) where
     candidates = tt;
     is = append_none set;
     least = λ other below below'. below';
-    enough = λ y h. omega (arith, h);
+    enough = λ y k few h. omega (arith, h);
   }
   completed-is (suc n) c set up = elim (cases_lt (clone_count rows set (c + 1)) (clone_count rows family (c + 1))) [
     | inl less ↦
@@ -136,7 +142,7 @@ module _ (rows : List Row) (family : List ℕ) where
                 )
             | inr apart ↦ omega (arith, own y, one y, ap bit apart, below' y)
           ]);
-          enough = λ y h. rest.enough y (omega (arith, h, own y, one y, count-cons (are_clones rows y) x (range_with_len (x + 1) n)));
+          enough = λ y k few h. rest.enough y k few (omega (arith, h, own y, one y, count-cons (are_clones rows y) x (range_with_len (x + 1) n)));
         })
     | inr enough' ↦
         let x : ℕ = c + 1 in
@@ -147,10 +153,11 @@ module _ (rows : List Row) (family : List ℕ) where
           candidates = IsIncreasing-lower (c + 1) (x + 1) (c + suc n) rest.taken (omega arith) (IsIncreasing-higher (x + 1) (x + n) (c + suc n) rest.taken (omega arith) rest.candidates);
           is = rest.is;
           least = rest.least;
-          enough = λ y h. rest.enough y (elim (cases_Bool (are_clones rows y x)) [
+          enough = λ y k few h. rest.enough y k few (elim (cases_Bool (are_clones rows y x)) [
             | inl same ↦
                 omega (
                   arith,
+                  few,
                   enough',
                   count-class (are_clones rows) (clones-sameness rows) y x set same,
                   count-class (are_clones rows) (clones-sameness rows) y x family same,
@@ -161,52 +168,96 @@ module _ (rows : List Row) (family : List ℕ) where
   ]
 
 -- a family may have a committee of the set and of `left` candidates after c exactly where it has one
-module _ (m : ℕ) (rows : List Row) (c : ℕ) (set : List ℕ) (left : ℕ) (family : List ℕ) (within : c ≤ m) (up : IsIncreasing 1 c set) (fits : left ≤ m - c) (inside : IsIncreasing 1 m family) where
-  may-from : (added : List ℕ) → IsIncreasing (c + 1) m added → length added ≡ left → has_as_many m rows (set ++ added) family ≡ true → may_be_in m rows c set left family ≡ true
-  may-from added up' size many =
-      let all : List ℕ = completed c m rows set family in
-      let done = completed-is rows family (m - c) c set up in
-      let below = below-from m rows family (set ++ added) inside many in
-      let under : IsBelow rows set (set ++ added) = λ y. omega (arith, count-append (are_clones rows y) set added) in
-      let least : IsBelow rows all (set ++ added) = done.least (set ++ added) below under in
-      let short : length all ≤ length set + left = omega (arith, size, length-append set added, length-within (are_clones rows) (clones-sameness rows) all (set ++ added) least) in
-      let enough : IsBelow rows family all = λ y. done.enough y
-      (omega (arith, below y, count-append (are_clones rows y) set added, range-most (are_clones rows y) (m - c) (c + 1) m added (omega (arith, within)) up')) in
-      and_from (nat_le (length all) (length set + left)) (has_as_many m rows all family) (le-leb (length all) (length set + left) short) (many-from m rows family all enough)
+module _ (m : ℕ) (rows : List Row) (c : ℕ) (set : List ℕ) (left : ℕ) (family : List ℕ × List ℕ) (within : c ≤ m) (up : IsIncreasing 1 c set) (inside : IsIncreasing 1 m family.0) where
+  all : List ℕ
+  all = completed c m rows set family.0
 
-  may-to : may_be_in m rows c set left family ≡ true → (added : List ℕ) × IsIncreasing (c + 1) m added × (length added ≡ left) × (has_as_many m rows (set ++ added) family ≡ true)
+  full : List ℕ
+  full = completed c m rows set family.1
+
+  last : c + (m - c) ≡ m
+  last = omega (arith, within)
+
+  to_all : IsCompleted rows family.0 c (m - c) set all
+  unfolding all
+  to_all = completed-is rows family.0 (m - c) c set up
+
+  to_full : IsCompleted rows family.1 c (m - c) set full
+  unfolding full
+  to_full = completed-is rows family.1 (m - c) c set up
+
+  -- a set and candidates after it have no more of a class than the set and all of them
+  joined-most : (added : List ℕ) → IsIncreasing (c + 1) m added → (y : ℕ) → clone_count rows (set ++ added) y ≤ clone_count rows set y + count_by (are_clones rows y) (range_with_len (c + 1) (m - c))
+  joined-most added up' y = omega (arith, count-append (are_clones rows y) set added, range-most (are_clones rows y) (m - c) (c + 1) m added (omega (arith, within)) up')
+
+  may-from : (added : List ℕ) → IsIncreasing (c + 1) m added → length added ≡ left → is_between m rows family.0 family.1 (set ++ added) ≡ true → may_be_in m rows c set left family ≡ true
+  unfolding all full
+  may-from added up' size between =
+      let joined : List ℕ = set ++ added in
+      let parts = and_parts (has_as_many m rows joined family.0) (has_as_many m rows family.1 joined) between in
+      let above : IsBelow rows family.0 joined = below-from m rows family.0 joined inside parts.0 in
+      let under : IsBelow rows joined family.1 = below-from m rows joined family.1 (joined-increasing c m 1 set added (omega arith) within up up') parts.1 in
+      let least : IsBelow rows all joined = to_all.least joined above (λ y. omega (arith, count-append (are_clones rows y) set added)) in
+      let most : IsBelow rows joined full = λ y. to_full.enough y (clone_count rows joined y) (under y) (joined-most added up' y) in
+      let short : length all ≤ length set + left = omega (arith, size, length-append set added, length-within (are_clones rows) (clones-sameness rows) all joined least) in
+      let long : length set + left ≤ length full = omega (arith, size, length-append set added, length-within (are_clones rows) (clones-sameness rows) joined full most) in
+      let enough : IsBelow rows family.0 all = λ y. to_all.enough y (clone_count rows family.0 y) (omega arith) (omega (arith, above y, joined-most added up' y)) in
+      let room : IsBelow rows all family.1 = λ y. omega (arith, least y, under y) in
+      and_from (nat_le (length all) (length set + left) && is_between m rows family.0 family.1 all) (nat_le (length set + left) (length full))
+      (and_from (nat_le (length all) (length set + left)) (is_between m rows family.0 family.1 all) (le-leb (length all) (length set + left) short)
+      (and_from (has_as_many m rows all family.0) (has_as_many m rows family.1 all) (many-from m rows family.0 all enough) (many-from m rows all family.1 room)))
+      (le-leb (length set + left) (length full) long)
+
+  may-to : may_be_in m rows c set left family ≡ true → (added : List ℕ) × IsIncreasing (c + 1) m added × (length added ≡ left) × (is_between m rows family.0 family.1 (set ++ added) ≡ true)
+  unfolding all full
   may-to may =
-      let all : List ℕ = completed c m rows set family in
-      let done = completed-is rows family (m - c) c set up in
-      let parts = and_parts (nat_le (length all) (length set + left)) (has_as_many m rows all family) may in
-      let few : length done.taken ≤ left = omega (arith, leb-true (length all) (length set + left) parts.0, ap length done.is, length-append set done.taken) in
-      let last : c + (m - c) ≡ m = omega (arith, within) in
-      let more = extended (m - c) (c + 1) m left done.taken (omega (arith, within)) (subst (λ n. IsIncreasing (c + 1) n done.taken) last done.candidates) few fits in
-      let below : IsBelow rows family all = below-from m rows family all inside parts.1 in (
+      let parts = and_parts (nat_le (length all) (length set + left) && is_between m rows family.0 family.1 all) (nat_le (length set + left) (length full)) may in
+      let parts' = and_parts (nat_le (length all) (length set + left)) (is_between m rows family.0 family.1 all) parts.0 in
+      let both = and_parts (has_as_many m rows all family.0) (has_as_many m rows family.1 all) parts'.1 in
+      let taken : IsIncreasing (c + 1) m to_all.taken = subst (λ n. IsIncreasing (c + 1) n to_all.taken) last to_all.candidates in
+      let taken' : IsIncreasing (c + 1) m to_full.taken = subst (λ n. IsIncreasing (c + 1) n to_full.taken) last to_full.candidates in
+      let few : length to_all.taken ≤ left = omega (arith, leb-true (length all) (length set + left) parts'.0, ap length to_all.is, length-append set to_all.taken) in
+      let many : left ≤ length to_full.taken = omega (arith, leb-true (length set + left) (length full) parts.1, ap length to_full.is, length-append set to_full.taken) in
+      let above : IsBelow rows family.0 all = below-from m rows family.0 all inside both.0 in
+      let under : IsBelow rows all family.1 =
+      below-from m rows all family.1 (subst (IsIncreasing 1 m) (sym to_all.is) (joined-increasing c m 1 set to_all.taken (omega arith) within up taken)) both.1 in
+      let own = λ (y : ℕ). ap (count_by (are_clones rows y)) to_all.is in
+      let own' = λ (y : ℕ). ap (count_by (are_clones rows y)) to_full.is in
+      let most : IsBelow rows full family.1 = to_full.least family.1 (λ y. omega arith) (λ y. omega (arith, under y, own y, count-append (are_clones rows y) set to_all.taken)) in
+      let below : IsBelow rows to_all.taken to_full.taken = λ y.
+      omega (
+        arith,
+        to_full.enough y (clone_count rows all y) (under y) (omega (arith, own y, joined-most to_all.taken taken y)),
+        own y,
+        own' y,
+        count-append (are_clones rows y) set to_all.taken,
+        count-append (are_clones rows y) set to_full.taken,
+      ) in
+      let more = filled rows (c + 1) m to_full.taken taken' (left - length to_all.taken) left to_all.taken (omega (arith, few)) taken below many in
+      let joined : List ℕ = set ++ more.added in (
         more.added,
         more.candidates,
         more.size,
-        many-from m rows family (set ++ more.added)
-            (λ y. omega (
-              arith,
-              below y,
-              ap (count_by (are_clones rows y)) done.is,
-              count-append (are_clones rows y) set done.taken,
-              count-append (are_clones rows y) set more.added,
-              more.many (are_clones rows y),
-            )),
+        and_from (has_as_many m rows joined family.0) (has_as_many m rows family.1 joined)
+            (many-from m rows family.0 joined
+            (λ y. omega (arith, above y, own y, count-append (are_clones rows y) set to_all.taken, count-append (are_clones rows y) set more.added, more.least y)))
+            (many-from m rows joined family.1
+            (λ y. omega (arith, most y, own' y, count-append (are_clones rows y) set to_full.taken, count-append (are_clones rows y) set more.added, more.most y))),
       )
 
-  pub may-is : may_be_in m rows c set left family ≡ list_any (λ added. has_as_many m rows (set ++ added) family) (increasing_lists (c + 1) m left)
-  may-is = elim (cases_Bool (may_be_in m rows c set left family)) [
-    | inl may ↦
-        let some = may-to may in
-        may ∙ sym (any-from (λ added. has_as_many m rows (set ++ added) family) (increasing_lists (c + 1) m left) some.0 (increasing_lists-contains (c + 1) m left some.0 (some.1, some.2)) some.3)
-    | inr never ↦ elim (cases_Bool (list_any (λ added. has_as_many m rows (set ++ added) family) (increasing_lists (c + 1) m left))) [
-      | inl any ↦
-          let some = any-at (λ added. has_as_many m rows (set ++ added) family) (increasing_lists (c + 1) m left) any in
-          let chosen = chosen-from_contains (c + 1) m left some.0 some.1 in
-          absurd (both_ways (may_be_in m rows c set left family) never (may-from some.0 chosen.0 chosen.1 some.2))
-      | inr none ↦ never ∙ sym none
-    ]
-  ]
+  pub may-is : may_be_in m rows c set left family ≡ list_any (λ added. is_between m rows family.0 family.1 (set ++ added)) (increasing_lists (c + 1) m left)
+  may-is =
+      let test : List ℕ → Bool = λ (added : List ℕ). is_between m rows family.0 family.1 (set ++ added) in
+      let lists = increasing_lists (c + 1) m left in
+      elim (cases_Bool (may_be_in m rows c set left family)) [
+        | inl may ↦
+            let some = may-to may in
+            may ∙ sym (any-from test lists some.0 (increasing_lists-contains (c + 1) m left some.0 (some.1, some.2)) some.3)
+        | inr never ↦ elim (cases_Bool (list_any test lists)) [
+          | inl any ↦
+              let some = any-at test lists any in
+              let chosen = chosen-from_contains (c + 1) m left some.0 some.1 in
+              absurd (both_ways (may_be_in m rows c set left family) never (may-from some.0 chosen.0 chosen.1 some.2))
+          | inr none ↦ never ∙ sym none
+        ]
+      ]

@@ -1,16 +1,18 @@
 -- The families of a level have exactly the sets that so many choices make.
-use Rattle.std.proofs.Common.{◌≡◌, ℕ, zero, suc, ◌+◌, ◌≤◌, ◌==◌, ◌&&◌, ◌∙◌, Bool, true, false, cond, List, [], ◌∷◌, refl, sym, ap, subst, arith, inl, inr, filter, map, length, Contains}
-use Rattle.std.specs.List.{range_with_len}
+use Rattle.std.proofs.Common.{◌≡◌, ℕ, zero, suc, ◌+◌, ◌<◌, ◌≤◌, Option, Some, None, is_some, ◌&&◌, ◌∙◌, Bool, true, false, cond, List, [], ◌∷◌, refl, sym, ap, subst, arith, inl, inr, filter, length, Contains}
+use Rattle.std.specs.Prelude.{nat_le}
+use Rattle.std.specs.List.{range_with_len, AllByRecursion}
+use Rattle.std.proofs.lemmas.List.Elements.{recursion_from_All, All-weaker, All-contains_itself}
 use Rattle.std.specs.List.Sorted.{IsStrictlySortedBy}
 use Rattle.std.specs.Cmp.Lexicographic.{slice_cmp}
 use Rattle.std.specs.Ordering.{nat_cmp}
 use Rattle.std.proofs.lemmas.List.FromFn.{length-range_with_len}
-use Rattle.std.proofs.lemmas.Bool.{cases_Bool, and_parts, and_from, both_ways, eqb-true, le-leb, not-true, not_from_false}
+use Rattle.std.proofs.lemmas.Bool.{cases_Bool, cases_lt, and_parts, and_from, both_ways, le-leb, leb-true, not-true, not_from_false}
 use Rattle.ballot_base.specs.Lists.{IsIncreasing}
 use Rattle.ballot_base.specs.CandSet.{has_member, with_member, without_member}
 use Rattle.ballot_base.specs.Ballots.{Row}
 use Rattle.ballot_base.proofs.Committees.{length-increasing}
-use Rattle.tie_walk.specs.Sequences.{gain, others}
+use Rattle.tie_walk.specs.Sequences.{others}
 use Rattle.tie_walk.specs.Steps.Choices.{is_open, change, is_choice, start}
 use Rattle.tie_walk.specs.declared.sequential.Step.{Step}
 use Rattle.tie_walk.specs.declared.sequential.Step.TheVariants.{Grow, Shrink}
@@ -20,20 +22,16 @@ use Rattle.tie_walk.proofs.LevelLemmas.{choice-parts, in_bounds, reached-increas
 use Rattle.tie_walk.proofs.RowSums.{AreBallots}
 use Rattle.tie_walk.proofs.SequenceLemmas.{IsSized, length-with_member, length-without_member, reached-sized}
 use Rattle.tie_families.specs.Clones.{are_clones, clones_among}
-use Rattle.tie_families.specs.Steps.Levels.{is_first_open, is_settled, family_changes, IsNextFamilies, IsBelow, IsFalling, IsOfSize, IsReachedBy, IsPlaced, IsFamilyLevel}
-use Rattle.tie_families.proofs.CloneLemmas.{clones-sameness, worth-same, gain-falls}
-use Rattle.tie_families.proofs.Lists.{all-at, Contains-from_map, Contains-from_flat_map, Contains-only, count-others, open-is, open-from, with-without, without-itself, with-increasing, without-increasing}
-use Rattle.tie_families.proofs.Numbers.{bit, some-passes, some-more, member-counts, count-class, count-with, count-without, within-turned}
-use Rattle.tie_families.proofs.TiedClones.{below-itself, choice-from, choice-moves, open-moves, first-tied, change-below, undone}
+use Rattle.tie_families.specs.Steps.Levels.{is_first_open, ties, end, end_or, chosen, followed, family_changes, IsNextFamilies, IsBelow, IsAhead, IsFalling, IsStrict, IsOfSize, IsReachedBy, IsPlaced, IsOf, IsFamilyLevel}
+use Rattle.tie_families.proofs.CloneLemmas.{clones-sameness}
+use Rattle.tie_families.proofs.Lists.{Contains-from_map, Contains-from_flat_map, Contains-only, count-others, open-is, open-from, with-without, without-with, without-itself, with-itself, with-increasing, without-increasing}
+use Rattle.tie_families.proofs.Numbers.{bit, some-passes, some-more, count-class, count-with, count-without, within-turned}
+use Rattle.tie_families.proofs.SpanLemmas.{IsSpan, end-span}
+use Rattle.tie_families.proofs.TiedClones.{choice-moves, open-moves, first-tied, change-below, undone}
 
 of_size : (step : Step) (m size : ℕ) (set : List ℕ) → IsSized step m size set → IsOfSize step m size set
 of_size Grow m size set sized = sized
 of_size Shrink m size set sized = sized
-
--- of families of one size, one that is no more is the same
-sized-length : (step : Step) (m size : ℕ) (set other : List ℕ) → IsOfSize step m size set → IsOfSize step m size other → length other ≤ length set
-sized-length Grow m size set other sized sized' = omega (arith, sized, sized')
-sized-length Shrink m size set other sized sized' = omega (arith, sized, sized')
 
 change-increasing : (step : Step) (m : ℕ) (set : List ℕ) (c : ℕ) → IsIncreasing 1 m set → 1 ≤ c → c ≤ m → IsIncreasing 1 m (change step set c)
 change-increasing Grow m set c up low high = with-increasing m set c up low high
@@ -57,114 +55,167 @@ full-range (suc n) first last (x ∷ xs) all up many =
     let rest : range_with_len (first + 1) n ≡ xs = full-range n (first + 1) last xs (omega (arith, all)) (subst (λ k. IsIncreasing (k + 1) last xs) (sym same) up.2) (omega (arith, many)) in
     ap (λ k. k ∷ range_with_len (first + 1) n) same ∙ ap (λ l. x ∷ l) rest
 
--- what a set that is settled looks like
-settled-grows : (step : Step) (weights : List ℕ) (m : ℕ) (rows : List Row) (set : List ℕ) → is_settled step weights m rows set ≡ true → step ≡ Grow
-settled-grows Grow weights m rows set settled = refl
-settled-grows Shrink weights m rows set settled = absurd (let e : false ≡ true = settled in cc)
+-- ---- sets of a number of choices
 
-module _ (step : Step) (weights : List ℕ) (m : ℕ) (rows : List Row) where
-  -- the sets that one choice makes
-  pub data IsMade (set made : List ℕ) : Type 0 where
-    stays : is_settled step weights m rows set ≡ true → set ≡ made → IsMade set made
-    chosen : (c : ℕ) → is_settled step weights m rows set ≡ false → is_choice step weights m rows set c ≡ true → change step set c ≡ made → IsMade set made
+pub sized-chosen : (step : Step) (m size : ℕ) (set : List ℕ) → IsOfSize step m size set → chosen step m set ≡ size
+sized-chosen Grow m size set sized = sized
+sized-chosen Shrink m size set sized = omega (arith, sized)
 
-  pub made-from : (set made : List ℕ) → Contains (family_changes step weights m rows set) made → IsMade set made
-  unfolding family_changes
-  made-from set made inside = by (is_settled step weights m rows set) refl inside
-    where
-      test : ℕ → Bool
-      test c = is_choice step weights m rows set c && is_first_open step (clones_among m rows c) set c
+chosen-sized : (step : Step) (m size : ℕ) (set : List ℕ) → IsIncreasing 1 m set → chosen step m set ≡ size → IsOfSize step m size set
+chosen-sized Grow m size set up are = are
+chosen-sized Shrink m size set up are = omega (arith, are, length-increasing 1 m set up)
 
-      by : (b : Bool) → is_settled step weights m rows set ≡ b → Contains (cond b (set ∷ []) (map (change step set) (filter test (range_with_len 1 m)))) made → IsMade set made
-      by true settled here = stays settled (Contains-only set made here)
-      by false settled here =
-          let some = Contains-from_map (change step set) (filter test (range_with_len 1 m)) made here in
-          let passes = passes-from_filter test (range_with_len 1 m) some.0 some.1 in
-          chosen some.0 settled (and_parts (is_choice step weights m rows set some.0) (is_first_open step (clones_among m rows some.0) set some.0) passes).0 some.2
+pub ahead-itself : (step : Step) (rows : List Row) (set : List ℕ) → IsAhead step rows set set
+ahead-itself Grow rows set = λ c. omega arith
+ahead-itself Shrink rows set = λ c. omega arith
 
-  pub stays-contains : (set : List ℕ) → is_settled step weights m rows set ≡ true → Contains (family_changes step weights m rows set) set
-  unfolding family_changes
-  stays-contains set settled = rw settled (0, omega arith, refl)
+pub ahead-joined : (step : Step) (rows : List Row) (x y z : List ℕ) → IsAhead step rows x y → IsAhead step rows y z → IsAhead step rows x z
+ahead-joined Grow rows x y z xy yz = λ c. omega (arith, xy c, yz c)
+ahead-joined Shrink rows x y z xy yz = λ c. omega (arith, xy c, yz c)
 
-  pub chosen-contains : (set : List ℕ) (c : ℕ) → is_settled step weights m rows set ≡ false → is_choice step weights m rows set c ≡ true → is_first_open step (clones_among m rows c) set c ≡ true
-      → Contains (family_changes step weights m rows set) (change step set c)
-  unfolding family_changes
-  chosen-contains set c settled is first =
-      let candidate = (choice-parts step weights m rows set c is).0 in
-      let test : ℕ → Bool = λ (d : ℕ). is_choice step weights m rows set d && is_first_open step (clones_among m rows d) set d in
-      rw settled
-      (Contains-map (change step set) (filter test (range_with_len 1 m)) c
-      (Contains-filter test (range_with_len 1 m) c (Contains-range m c candidate.0 candidate.1) (and_from (is_choice step weights m rows set c) (is_first_open step (clones_among m rows c) set c) is first)))
+ahead-same : (step : Step) (rows : List Row) (x y z : List ℕ) → x ≡ y → IsAhead step rows y z → IsAhead step rows x z
+ahead-same step rows x y z same ahead = subst (λ s. IsAhead step rows s z) (sym same) ahead
 
--- a set to which nobody brings anything gains nothing by anybody later
-module _ (weights : List ℕ) (m : ℕ) (rows : List Row) (ballots : AreBallots m rows) (falls : IsFalling weights) where
-  nothing-left : (set other : List ℕ) (c : ℕ) → IsIncreasing 1 m set → IsIncreasing 1 m other → IsBelow rows set other → is_settled Grow weights m rows set ≡ true
-      → has_member (others m other) c ≡ true → gain weights rows other c ≡ 0
-  nothing-left set other c up up' below settled outside =
-      let d = some-passes (are_clones rows c) (others m set)
-      (omega (
-        arith,
-        below c,
-        count-others (are_clones rows c) m set up,
-        count-others (are_clones rows c) m other up',
-        member-counts (are_clones rows c) (others m other) c outside ((clones-sameness rows).itself c),
-      )) in
-      let none : gain weights rows set d.0 ≡ 0 = eqb-true (gain weights rows set d.0) 0 (all-at (λ e. gain weights rows set e == 0) (others m set) d.0 settled d.1) in
-      let same : gain weights rows set c ≡ gain weights rows set d.0 = worth-same m rows ballots Grow weights set set c d.0 up up (below-itself m rows ballots set) (below-itself m rows ballots set) d.2 in
-      omega (arith, none, same, gain-falls m rows ballots weights set other c falls up up' below)
+pub ahead-turned : (step : Step) (m size : ℕ) (rows : List Row) (x y : List ℕ) → IsOfSize step m size x → IsOfSize step m size y → IsAhead step rows x y → IsAhead step rows y x
+ahead-turned Grow m size rows x y sized sized' ahead = within-turned (are_clones rows) (clones-sameness rows) x y ahead (omega (arith, sized, sized'))
+ahead-turned Shrink m size rows x y sized sized' ahead = within-turned (are_clones rows) (clones-sameness rows) y x ahead (omega (arith, sized, sized'))
 
-  -- so each candidate ties there
-  pub all-tie : (set other : List ℕ) (c : ℕ) → IsIncreasing 1 m set → IsIncreasing 1 m other → IsBelow rows set other → is_settled Grow weights m rows set ≡ true
-      → has_member (others m other) c ≡ true → is_choice Grow weights m rows other c ≡ true
-  all-tie set other c up up' below settled outside =
-      choice-from m rows ballots Grow weights other c outside
-      (λ d outside'. le-leb (gain weights rows other d) (gain weights rows other c) (omega (arith, nothing-left set other d up up' below settled outside')))
+ahead-below : (step : Step) (rows : List Row) (x y : List ℕ) → IsAhead step rows x y → IsAhead step rows y x → IsBelow rows x y
+ahead-below Grow rows x y ahead behind = ahead
+ahead-below Shrink rows x y ahead behind = behind
 
--- a set that a choice makes of one above a family
-pub record IsGrownFrom (step : Step) (weights : List ℕ) (m : ℕ) (rows : List Row) (size : ℕ) (set made : List ℕ) : Type 0 where
+below-ahead : (step : Step) (rows : List Row) (x y : List ℕ) → IsBelow rows x y → IsBelow rows y x → IsAhead step rows x y
+below-ahead Grow rows x y below above = below
+below-ahead Shrink rows x y below above = above
+
+ahead-change : (step : Step) (m : ℕ) (rows : List Row) (set : List ℕ) (c : ℕ) → IsIncreasing 1 m set → is_open step set c ≡ true → IsAhead step rows set (change step set c)
+ahead-change Grow m rows set c up free = λ x. omega (arith, count-with (are_clones rows x) set c (not-true (has_member set c) free))
+ahead-change Shrink m rows set c up free = λ x. omega (arith, count-without (are_clones rows x) 1 m set c up free)
+
+-- a set that a choice makes of one between a family and its end
+pub record IsGrownFrom (step : Step) (weights : List ℕ) (m : ℕ) (rows : List Row) (size : ℕ) (set last made : List ℕ) : Type 0 where
   pub old : List ℕ
   pub one : ℕ
   pub increasing : IsIncreasing 1 m old
   pub sized : IsOfSize step m size old
   pub choice : is_choice step weights m rows old one ≡ true
   pub is : change step old one ≡ made
-  pub below : IsBelow rows set old
+  pub ahead : IsAhead step rows set old
+  pub until : IsAhead step rows old last
 
--- each set of a size above a settled one is made by a choice from a set above it
-settled-made : (step : Step) (weights : List ℕ) (m : ℕ) (rows : List Row) → AreBallots m rows → IsFalling weights → (size : ℕ) (set made : List ℕ) → IsIncreasing 1 m set → IsIncreasing 1 m made
-    → is_settled step weights m rows set ≡ true → length set ≤ size → IsOfSize step m (size + 1) made → IsBelow rows set made → IsGrownFrom step weights m rows size set made
-settled-made Grow weights m rows ballots falls size set made up up' settled few sized below =
+-- each later set between a family and its end is made by a choice from such a set
+span-made : (step : Step) (weights : List ℕ) (m : ℕ) (rows : List Row) (size : ℕ) (set last made : List ℕ) → IsSpan step weights m rows set last → IsIncreasing 1 m set → IsIncreasing 1 m made
+    → chosen step m set ≤ size → IsOfSize step m (size + 1) made → IsAhead step rows set made → IsAhead step rows made last → IsGrownFrom step weights m rows size set last made
+span-made Grow weights m rows size set last made span up up' few sized ahead until =
     let t = some-more (are_clones rows) (clones-sameness rows) set made (omega (arith, few, sized)) in
     let bounds = in_bounds m made t.0 up' t.1 in
     let old : List ℕ = without_member made t.0 in
+    let less = λ (x : ℕ). count-without (are_clones rows x) 1 m made t.0 up' t.1 in
     let inner : IsIncreasing 1 m old = without-increasing m made t.0 up' bounds.0 bounds.1 in
     let free : is_open Grow old t.0 ≡ true = not_from_false (has_member old t.0) (without-itself made t.0) in
     let is : with_member old t.0 ≡ made = with-without m made t.0 up' bounds.0 bounds.1 t.1 in
     let under : IsBelow rows set old = λ x. elim (cases_Bool (are_clones rows x t.0)) [
       | inl same ↦
-          omega (arith, t.2, count-class (are_clones rows) (clones-sameness rows) x t.0 set same, count-class (are_clones rows) (clones-sameness rows) x t.0 made same, count-without (are_clones rows x) 1 m made t.0 up' t.1, ap bit same)
-      | inr other ↦ omega (arith, below x, count-without (are_clones rows x) 1 m made t.0 up' t.1, ap bit other)
+          omega (arith, t.2, count-class (are_clones rows) (clones-sameness rows) x t.0 set same, count-class (are_clones rows) (clones-sameness rows) x t.0 made same, less x, ap bit same)
+      | inr other ↦ omega (arith, ahead x, less x, ap bit other)
     ] in
     record {
       old = old;
       one = t.0;
       increasing = inner;
       sized = old-sized Grow m size old t.0 made inner free is sized;
-      choice = all-tie weights m rows ballots falls set old t.0 up inner under settled (open-from Grow m old t.0 bounds.0 bounds.1 free);
+      choice = span.may old t.0 inner under (open-from Grow m old t.0 bounds.0 bounds.1 free) (ahead-same Grow rows (with_member old t.0) made last is until);
       is = is;
-      below = under;
+      ahead = under;
+      until = λ x. omega (arith, until x, less x);
     }
-settled-made Shrink weights m rows ballots falls size set made up up' settled few sized below = absurd (let e : false ≡ true = settled in cc)
+span-made Shrink weights m rows size set last made span up up' few sized ahead until =
+    let y = some-more (are_clones rows) (clones-sameness rows) made set (omega (arith, few, sized, length-increasing 1 m set up)) in
+    let t = some-passes (are_clones rows y.0) (others m made) (omega (arith, y.2, count-others (are_clones rows y.0) m made up', count-others (are_clones rows y.0) m set up)) in
+    let parts = open-is Grow m made t.0 t.1 in
+    let new = not-true (has_member made t.0) parts.1 in
+    let old : List ℕ = with_member made t.0 in
+    let more = λ (x : ℕ). count-with (are_clones rows x) made t.0 new in
+    let inner : IsIncreasing 1 m old = with-increasing m made t.0 up' parts.0.0 parts.0.1 in
+    let free : is_open Shrink old t.0 ≡ true = with-itself made t.0 in
+    let is : without_member old t.0 ≡ made = without-with m made t.0 up' parts.0.0 parts.0.1 new in
+    let under : IsBelow rows old set = λ x. elim (cases_Bool (are_clones rows x t.0)) [
+      | inl same ↦
+          let alike = (clones-sameness rows).joined x t.0 y.0 same ((clones-sameness rows).turned y.0 t.0 t.2) in
+          omega (arith, y.2, count-class (are_clones rows) (clones-sameness rows) x y.0 set alike, count-class (are_clones rows) (clones-sameness rows) x y.0 made alike, more x, ap bit same)
+      | inr other ↦ omega (arith, ahead x, more x, ap bit other)
+    ] in
+    record {
+      old = old;
+      one = t.0;
+      increasing = inner;
+      sized = old-sized Shrink m size old t.0 made inner free is sized;
+      choice = span.may old t.0 inner under (open-from Shrink m old t.0 parts.0.0 parts.0.1 free) (ahead-same Shrink rows (without_member old t.0) made last is until);
+      is = is;
+      ahead = under;
+      until = λ x. omega (arith, until x, more x);
+    }
 
-settled-length : (step : Step) (weights : List ℕ) (m : ℕ) (rows : List Row) (size : ℕ) (set : List ℕ) → is_settled step weights m rows set ≡ true → IsPlaced step weights m rows size set → length set ≤ size
-settled-length step weights m rows size set settled (inr few) = few.1
-settled-length Grow weights m rows size set settled (inl sized) = omega (arith, sized)
-settled-length Shrink weights m rows size set settled (inl sized) = absurd (let e : false ≡ true = settled in cc)
+-- ---- what follows a set
 
-settled-below : (step : Step) (weights : List ℕ) (m : ℕ) (rows : List Row) (set old : List ℕ) (c : ℕ) → is_settled step weights m rows set ≡ true → is_open step old c ≡ true → IsBelow rows set old
-    → IsBelow rows set (change step old c)
-settled-below Grow weights m rows set old c settled free below x = omega (arith, below x, count-with (are_clones rows x) old c (not-true (has_member old c) free))
-settled-below Shrink weights m rows set old c settled free below x = absurd (let e : false ≡ true = settled in cc)
+fails-over : (n size : ℕ) → size < n → nat_le n size ≡ false
+fails-over n size more = grind arith
+
+one-contains : {X : Type 0} (x y : X) → x ≡ y → Contains (x ∷ []) y
+one-contains x y same = (0, omega arith, same)
+
+module _ (step : Step) (weights : List ℕ) (m : ℕ) (rows : List Row) (size : ℕ) where
+  -- the sets that follow
+  pub data IsMade (set made : List ℕ) : Type 0 where
+    stays : (last : List ℕ) → end step weights m rows set ≡ Some last → size + 1 < chosen step m last → set ≡ made → IsMade set made
+    ends : (last : List ℕ) → end step weights m rows set ≡ Some last → chosen step m last ≤ size + 1 → last ≡ made → IsMade set made
+    changed : (c : ℕ) → end step weights m rows set ≡ None → is_choice step weights m rows set c ≡ true → change step set c ≡ made → IsMade set made
+
+  pub made-from : (set made : List ℕ) → Contains (family_changes step weights m rows size set) made → IsMade set made
+  unfolding family_changes
+  made-from set made inside = by (end step weights m rows set) refl inside
+    where
+      test : ℕ → Bool
+      test c = is_choice step weights m rows set c && is_first_open step (clones_among m rows c) set c
+
+      by : (o : Option (List ℕ)) → end step weights m rows set ≡ o → Contains (followed step m size set (ties step weights m rows set) o) made → IsMade set made
+      by (Some last) is here =
+          let same = Contains-only (cond (nat_le (chosen step m last) (size + 1)) last set) made here in
+          elim (cases_Bool (nat_le (chosen step m last) (size + 1))) [
+            | inl over ↦ ends last is (leb-true (chosen step m last) (size + 1) over) (sym (ap (λ b. cond b last set) over) ∙ same)
+            | inr less ↦
+                let more : size + 1 < chosen step m last = elim (cases_lt (size + 1) (chosen step m last)) [
+                  | inl fine ↦ fine
+                  | inr over ↦ absurd (both_ways (nat_le (chosen step m last) (size + 1)) less (le-leb (chosen step m last) (size + 1) over))
+                ] in
+                stays last is more (sym (ap (λ b. cond b last set) less) ∙ same)
+          ]
+      by None is here =
+          let some = Contains-from_map (change step set) (filter test (range_with_len 1 m)) made here in
+          let passes = passes-from_filter test (range_with_len 1 m) some.0 some.1 in
+          changed some.0 is (and_parts (is_choice step weights m rows set some.0) (is_first_open step (clones_among m rows some.0) set some.0) passes).0 some.2
+
+  pub stays-contains : (set last : List ℕ) → end step weights m rows set ≡ Some last → size + 1 < chosen step m last → Contains (family_changes step weights m rows size set) set
+  unfolding family_changes
+  stays-contains set last is more =
+      subst (λ o. Contains (followed step m size set (ties step weights m rows set) o) set) (sym is)
+      (one-contains (cond (nat_le (chosen step m last) (size + 1)) last set) set (ap (λ b. cond b last set) (fails-over (chosen step m last) (size + 1) more)))
+
+  pub ends-contains : (set last : List ℕ) → end step weights m rows set ≡ Some last → chosen step m last ≤ size + 1 → Contains (family_changes step weights m rows size set) last
+  unfolding family_changes
+  ends-contains set last is over =
+      subst (λ o. Contains (followed step m size set (ties step weights m rows set) o) last) (sym is)
+      (one-contains (cond (nat_le (chosen step m last) (size + 1)) last set) last (ap (λ b. cond b last set) (le-leb (chosen step m last) (size + 1) over)))
+
+  pub changed-contains : (set : List ℕ) (c : ℕ) → end step weights m rows set ≡ None → is_choice step weights m rows set c ≡ true → is_first_open step (clones_among m rows c) set c ≡ true
+      → Contains (family_changes step weights m rows size set) (change step set c)
+  unfolding family_changes
+  changed-contains set c none is first =
+      let candidate = (choice-parts step weights m rows set c is).0 in
+      let test : ℕ → Bool = λ (d : ℕ). is_choice step weights m rows set d && is_first_open step (clones_among m rows d) set d in
+      subst (λ o. Contains (followed step m size set (ties step weights m rows set) o) (change step set c)) (sym none)
+      (Contains-map (change step set) (filter test (range_with_len 1 m)) c
+      (Contains-filter test (range_with_len 1 m) c (Contains-range m c candidate.0 candidate.1) (and_from (is_choice step weights m rows set c) (is_first_open step (clones_among m rows c) set c) is first)))
 
 first-is : (step : Step) (m : ℕ) → IsIncreasing 1 m (start step m)
 first-is Grow m = tt
@@ -174,13 +225,28 @@ first-sized : (step : Step) (m : ℕ) → IsOfSize step m 0 (start step m)
 first-sized Grow m = refl
 first-sized Shrink m = omega (arith, length-range_with_len 1 m)
 
-module _ (step : Step) (weights : List ℕ) (m : ℕ) (rows : List Row) (ballots : AreBallots m rows) (falls : IsFalling weights) where
-  sized-from : (size : ℕ) (set : List ℕ) → is_settled step weights m rows set ≡ false → IsPlaced step weights m rows size set → IsOfSize step m size set
-  sized-from size set unsettled (inl sized) = sized
-  sized-from size set unsettled (inr settled) = absurd (both_ways (is_settled step weights m rows set) unsettled settled.0)
+module _ (step : Step) (weights : List ℕ) (m : ℕ) (rows : List Row) (ballots : AreBallots m rows) (falls : IsFalling weights) (strict : IsStrict weights) where
+  -- a set as far as a family, by numbers of each class, is of it
+  of-same : (size : ℕ) (set made : List ℕ) → IsIncreasing 1 m set → IsOfSize step m size set → IsOfSize step m size made → IsAhead step rows set made → IsOf step weights m rows set made
+  of-same size set made up sized sized' ahead = record {
+    ahead = ahead;
+    until = λ last e.
+        ahead-joined step rows made set last (ahead-turned step m size rows set made sized sized' ahead) (end-span step weights m rows ballots falls strict set last up e).0.ahead;
+  }
 
-  turned-below : (size : ℕ) (set other : List ℕ) → IsOfSize step m size set → IsOfSize step m size other → IsBelow rows set other → IsBelow rows other set
-  turned-below size set other sized sized' below = within-turned (are_clones rows) (clones-sameness rows) set other below (sized-length step m size set other sized sized')
+  -- a family that lasts has more sets to come
+  still-lasts : (size : ℕ) (set last : List ℕ) → size < m → IsIncreasing 1 m set → IsPlaced step weights m rows size set → end step weights m rows set ≡ Some last
+      → (chosen step m set ≤ size) × (size < chosen step m last)
+  still-lasts size set last fits up (inl sized) e =
+      let many = sized-chosen step m size set sized in
+      (omega (arith, many), omega (arith, many, (end-span step weights m rows ballots falls strict set last up e).1 (omega (arith, many, fits))))
+  still-lasts size set last fits up (inr lasting) e =
+      let same : lasting.1.0 ≡ last = ap (end_or []) (sym lasting.1.1 ∙ e) in
+      (omega (arith, lasting.0), omega (arith, lasting.1.2, ap (chosen step m) same))
+
+  still-sized : (size : ℕ) (set : List ℕ) → IsPlaced step weights m rows size set → end step weights m rows set ≡ None → IsOfSize step m size set
+  still-sized size set (inl sized) none = sized
+  still-sized size set (inr lasting) none = absurd (let f : true ≡ false = ap is_some (sym lasting.1.1 ∙ none) in cc)
 
   pub level-first : (sets : List (List ℕ)) → sets ≡ start step m ∷ [] → IsFamilyLevel step weights m rows 0 sets
   unfolding IsStrictlySortedBy
@@ -189,11 +255,13 @@ module _ (step : Step) (weights : List ℕ) (m : ℕ) (rows : List Row) (ballots
     candidates = λ set inside. subst (IsIncreasing 1 m) (one set inside) (first-is step m);
     placed = λ set inside. inl (subst (IsOfSize step m 0) (one set inside) (first-sized step m));
     reached = λ made r.
-        let same = reached_start (is_choice step weights m rows) (change step) (start step m) made r in
-        (start step m, subst (λ l. Contains l (start step m)) (sym is) (0, omega arith, refl), subst (IsBelow rows (start step m)) (sym same) (below-itself m rows ballots (start step m)));
-    made = λ made set up sized inside below.
-        let under : IsBelow rows (start step m) made = subst (λ s. IsBelow rows s made) (sym (one set inside)) below in
-        let above = turned-below 0 (start step m) made (first-sized step m) sized under in
+        let same = reached_start (is_choice step weights m rows) (change step) (start step m) made r in (
+          start step m,
+          subst (λ l. Contains l (start step m)) (sym is) (0, omega arith, refl),
+          subst (IsOf step weights m rows (start step m)) (sym same)
+              (of-same 0 (start step m) (start step m) (first-is step m) (first-sized step m) (first-sized step m) (ahead-itself step rows (start step m))),
+        );
+    made = λ made set up sized inside of.
         subst (IsReachedBy step weights m rows 0) (first-made step made (first-sized step m) sized up) (reached_none (is_choice step weights m rows) (change step) (start step m));
   }
     where
@@ -205,24 +273,25 @@ module _ (step : Step) (weights : List ℕ) (m : ℕ) (rows : List Row) (ballots
       first-made Grow (x ∷ xs) sized' sized up = absurd (omega (arith, sized))
       first-made Shrink made sized' sized up = full-range m 1 m made (omega arith) up (omega (arith, sized))
 
-  module _ (size : ℕ) (sets next : List (List ℕ)) (level : IsFamilyLevel step weights m rows size sets) (follow : IsNextFamilies step weights m rows sets next) where
-    -- a set of the next level, and the one that it is made of
-    made-of : (set : List ℕ) → Contains next set → (old : List ℕ) × Contains sets old × IsMade step weights m rows old set
+  module _ (size : ℕ) (fits : size < m) (sets next : List (List ℕ)) (level : IsFamilyLevel step weights m rows size sets) (follow : IsNextFamilies step weights m rows size sets next) where
+    -- a set of the next level, and the one that it follows
+    made-of : (set : List ℕ) → Contains next set → (old : List ℕ) × Contains sets old × IsMade step weights m rows size old set
     made-of set inside =
-        let some = Contains-from_flat_map (family_changes step weights m rows) sets set ((follow.members set).0 inside) in
-        (some.0, some.1, made-from step weights m rows some.0 set some.2)
+        let some = Contains-from_flat_map (family_changes step weights m rows size) sets set ((follow.members set).0 inside) in
+        (some.0, some.1, made-from step weights m rows size some.0 set some.2)
 
-    next-has : (old set : List ℕ) → Contains sets old → Contains (family_changes step weights m rows old) set → Contains next set
-    next-has old set inside here = (follow.members set).1 (Contains-flat_map (family_changes step weights m rows) sets old set inside here)
+    next-has : (old set : List ℕ) → Contains sets old → Contains (family_changes step weights m rows size old) set → Contains next set
+    next-has old set inside here = (follow.members set).1 (Contains-flat_map (family_changes step weights m rows size) sets old set inside here)
 
     next-candidates : (set : List ℕ) → Contains next set → IsIncreasing 1 m set
     next-candidates set inside =
         let some = made-of set inside in
         by some.0 (level.candidates some.0 some.1) some.2
       where
-        by : (old : List ℕ) → IsIncreasing 1 m old → IsMade step weights m rows old set → IsIncreasing 1 m set
-        by old up (stays settled same) = subst (IsIncreasing 1 m) same up
-        by old up (chosen c unsettled choice is) =
+        by : (old : List ℕ) → IsIncreasing 1 m old → IsMade step weights m rows size old set → IsIncreasing 1 m set
+        by old up (stays last e more same) = subst (IsIncreasing 1 m) same up
+        by old up (ends last e over same) = subst (IsIncreasing 1 m) same (end-span step weights m rows ballots falls strict old last up e).0.increasing
+        by old up (changed c none choice is) =
             let candidate = (choice-parts step weights m rows old c choice).0 in
             subst (IsIncreasing 1 m) is (change-increasing step m old c up candidate.0 candidate.1)
 
@@ -231,65 +300,122 @@ module _ (step : Step) (weights : List ℕ) (m : ℕ) (rows : List Row) (ballots
         let some = made-of set inside in
         by some.0 (level.candidates some.0 some.1) (level.placed some.0 some.1) some.2
       where
-        by : (old : List ℕ) → IsIncreasing 1 m old → IsPlaced step weights m rows size old → IsMade step weights m rows old set → IsPlaced step weights m rows (size + 1) set
-        by old up placed (stays settled same) =
-            inr (subst (λ s. is_settled step weights m rows s ≡ true) same settled, omega (arith, settled-length step weights m rows size old settled placed, ap length same))
-        by old up placed (chosen c unsettled choice is) =
-            inl (subst (IsOfSize step m (size + 1)) is (change-sized step m size old c up (choice-parts step weights m rows old c choice).1 (sized-from size old unsettled placed)))
+        by : (old : List ℕ) → IsIncreasing 1 m old → IsPlaced step weights m rows size old → IsMade step weights m rows size old set → IsPlaced step weights m rows (size + 1) set
+        by old up placed (stays last e more same) =
+            let lasts = still-lasts size old last fits up placed e in
+            subst (IsPlaced step weights m rows (size + 1)) same (inr (omega (arith, lasts.0), (last, e, more)))
+        by old up placed (ends last e over same) =
+            let lasts = still-lasts size old last fits up placed e in
+            inl (subst (IsOfSize step m (size + 1)) same
+            (chosen-sized step m (size + 1) last (end-span step weights m rows ballots falls strict old last up e).0.increasing (omega (arith, lasts.1, over))))
+        by old up placed (changed c none choice is) =
+            inl (subst (IsOfSize step m (size + 1)) is (change-sized step m size old c up (choice-parts step weights m rows old c choice).1 (still-sized size old placed none)))
 
-    -- a set that one more choice makes is above a family of the next level
-    next-reached : (made : List ℕ) → IsReachedBy step weights m rows (size + 1) made → (set : List ℕ) × Contains next set × IsBelow rows set made
+    -- a set that one more choice makes is of a family of the next level
+    next-reached : (made : List ℕ) → IsReachedBy step weights m rows (size + 1) made → (set : List ℕ) × Contains next set × IsOf step weights m rows set made
     next-reached made r =
         let last = reached_last (is_choice step weights m rows) (change step) (start step m) size made r in
         let some = level.reached last.old last.reached in
-        let up = level.candidates some.0 some.1 in
-        let up' = reached-increasing step weights m rows size last.old last.reached in
-        let sized' = of_size step m size last.old (reached-sized step weights m rows size last.old last.reached) in
-        let parts = choice-parts step weights m rows last.old last.choice last.allowed in
-        elim (cases_Bool (is_settled step weights m rows some.0)) [
-          | inl settled ↦ (
-            some.0,
-            next-has some.0 some.0 some.1 (stays-contains step weights m rows some.0 settled),
-            subst (IsBelow rows some.0) last.is (settled-below step weights m rows some.0 last.old last.choice settled parts.1 some.2),
-          )
-          | inr unsettled ↦
-              let sized = sized-from size some.0 unsettled (level.placed some.0 some.1) in
-              let above = turned-below size some.0 last.old sized sized' some.2 in
-              let d = open-moves m rows ballots step weights last.old some.0 last.choice up' up above some.2 (open-from step m last.old last.choice parts.0.0 parts.0.1 parts.1) in
-              let tied = choice-moves m rows ballots step weights last.old some.0 last.choice d.0 up' up above some.2 last.allowed d.2 d.1 in
-              let e = first-tied m rows ballots step weights some.0 d.0 up tied in
-              let clone : are_clones rows e.0 last.choice ≡ true = (clones-sameness rows).turned last.choice e.0 ((clones-sameness rows).joined last.choice d.0 e.0 d.2 e.3) in
-              let free = (choice-parts step weights m rows some.0 e.0 e.1).1 in (
-                change step some.0 e.0,
-                next-has some.0 (change step some.0 e.0) some.1 (chosen-contains step weights m rows some.0 e.0 unsettled e.1 e.2),
-                subst (IsBelow rows (change step some.0 e.0)) last.is (change-below m rows ballots step some.0 last.old e.0 last.choice up up' free parts.1 clone some.2),
+        by last.old last.choice some.0 last.reached last.allowed last.is some.1 some.2 (end step weights m rows some.0) refl
+      where
+        by : (old : List ℕ) (c : ℕ) (set : List ℕ) → IsReachedBy step weights m rows size old → is_choice step weights m rows old c ≡ true → change step old c ≡ made → Contains sets set
+            → IsOf step weights m rows set old → (o : Option (List ℕ)) → end step weights m rows set ≡ o → (set' : List ℕ) × Contains next set' × IsOf step weights m rows set' made
+        by old c set reached allowed is inside of (Some last) e =
+            let up = level.candidates set inside in
+            let up' = reached-increasing step weights m rows size old reached in
+            let sized' = of_size step m size old (reached-sized step weights m rows size old reached) in
+            let parts = choice-parts step weights m rows old c allowed in
+            let span = (end-span step weights m rows ballots falls strict set last up e).0 in
+            let lasts = still-lasts size set last fits up (level.placed set inside) e in
+            let many = sized-chosen step m size old sized' in
+            let until : IsAhead step rows made last = subst (λ s. IsAhead step rows s last) is (span.stays old c up' of.ahead (of.until last e) (omega (arith, many, lasts.1)) allowed) in
+            let sized : IsOfSize step m (size + 1) made = subst (IsOfSize step m (size + 1)) is (change-sized step m size old c up' parts.1 sized') in
+            elim (cases_lt (size + 1) (chosen step m last)) [
+              | inl more ↦ (
+                set,
+                next-has set set inside (stays-contains step weights m rows size set last e more),
+                record {
+                  ahead = ahead-joined step rows set old made of.ahead (subst (IsAhead step rows old) is (ahead-change step m rows old c up' parts.1));
+                  until = λ last' e'. subst (IsAhead step rows made) (ap (end_or []) (sym e ∙ e')) until;
+                },
               )
-        ]
+              | inr over ↦
+                  let ended = chosen-sized step m (size + 1) last span.increasing (omega (arith, lasts.1, over)) in (
+                    last,
+                    next-has set last inside (ends-contains step weights m rows size set last e over),
+                    of-same (size + 1) last made span.increasing ended sized (ahead-turned step m (size + 1) rows made last sized ended until),
+                  )
+            ]
+        by old c set reached allowed is inside of None none =
+            let up = level.candidates set inside in
+            let up' = reached-increasing step weights m rows size old reached in
+            let sized' = of_size step m size old (reached-sized step weights m rows size old reached) in
+            let parts = choice-parts step weights m rows old c allowed in
+            let sized = still-sized size set (level.placed set inside) none in
+            let behind = ahead-turned step m size rows set old sized sized' of.ahead in
+            let below = ahead-below step rows set old of.ahead behind in
+            let above = ahead-below step rows old set behind of.ahead in
+            let d = open-moves m rows ballots step weights old set c up' up above below (open-from step m old c parts.0.0 parts.0.1 parts.1) in
+            let tied = choice-moves m rows ballots step weights old set c d.0 up' up above below allowed d.2 d.1 in
+            let e = first-tied m rows ballots step weights set d.0 up tied in
+            let own = choice-parts step weights m rows set e.0 e.1 in
+            let clone : are_clones rows c e.0 ≡ true = (clones-sameness rows).joined c d.0 e.0 d.2 e.3 in
+            let next-up = change-increasing step m set e.0 up own.0.0 own.0.1 in
+            let under : IsBelow rows (change step set e.0) made =
+            subst (IsBelow rows (change step set e.0)) is (change-below m rows ballots step set old e.0 c up up' own.1 parts.1 ((clones-sameness rows).turned c e.0 clone) below) in
+            let over : IsBelow rows made (change step set e.0) =
+            subst (λ s. IsBelow rows s (change step set e.0)) is (change-below m rows ballots step old set c e.0 up' up parts.1 own.1 clone above) in (
+              change step set e.0,
+              next-has set (change step set e.0) inside (changed-contains step weights m rows size set e.0 none e.1 e.2),
+              of-same (size + 1) (change step set e.0) made next-up (change-sized step m size set e.0 up own.1 sized)
+                  (subst (IsOfSize step m (size + 1)) is (change-sized step m size old c up' parts.1 sized')) (below-ahead step rows (change step set e.0) made under over),
+            )
 
     reached-by : (old : List ℕ) (one : ℕ) (made : List ℕ) → IsReachedBy step weights m rows size old → is_choice step weights m rows old one ≡ true → change step old one ≡ made
         → IsReachedBy step weights m rows (size + 1) made
     reached-by old one made r choice is =
         subst (IsReachedBy step weights m rows (size + 1)) is (reached_more (is_choice step weights m rows) (change step) (start step m) size old one r choice)
 
-    -- each set of that size above a family of the next level is made by one more choice
-    next-made : (made set : List ℕ) → IsIncreasing 1 m made → IsOfSize step m (size + 1) made → Contains next set → IsBelow rows set made → IsReachedBy step weights m rows (size + 1) made
-    next-made made set up sized inside below =
+    -- each set of that size between a family and its end is made by one more choice
+    span-reached : (set last made : List ℕ) → Contains sets set → end step weights m rows set ≡ Some last → IsIncreasing 1 m made → IsOfSize step m (size + 1) made → IsAhead step rows set made
+        → IsAhead step rows made last → IsReachedBy step weights m rows (size + 1) made
+    span-reached set last made inside e up sized ahead until =
+        let up' = level.candidates set inside in
+        let lasts = still-lasts size set last fits up' (level.placed set inside) e in
+        let g = span-made step weights m rows size set last made (end-span step weights m rows ballots falls strict set last up' e).0 up' up lasts.0 sized ahead until in
+        reached-by g.old g.one made
+        (level.made g.old set g.increasing g.sized inside (record { ahead = g.ahead; until = λ last' e'. subst (IsAhead step rows g.old) (ap (end_or []) (sym e ∙ e')) g.until })) g.choice g.is
+
+    next-made : (made set : List ℕ) → IsIncreasing 1 m made → IsOfSize step m (size + 1) made → Contains next set → IsOf step weights m rows set made → IsReachedBy step weights m rows (size + 1) made
+    next-made made set up sized inside of =
         let some = made-of set inside in
         by some.0 some.1 (level.candidates some.0 some.1) (level.placed some.0 some.1) some.2
       where
-        by : (old : List ℕ) → Contains sets old → IsIncreasing 1 m old → IsPlaced step weights m rows size old → IsMade step weights m rows old set → IsReachedBy step weights m rows (size + 1) made
-        by old from up' placed (stays settled same) =
-            let g = settled-made step weights m rows ballots falls size old made up' up settled (settled-length step weights m rows size old settled placed) sized (subst (λ s. IsBelow rows s made) (sym same) below) in
-            reached-by g.old g.one made (level.made g.old old g.increasing g.sized from g.below) g.choice g.is
-        by old from up' placed (chosen c unsettled choice is) =
+        by : (old : List ℕ) → Contains sets old → IsIncreasing 1 m old → IsPlaced step weights m rows size old → IsMade step weights m rows size old set → IsReachedBy step weights m rows (size + 1) made
+        by old from up' placed (stays last e more same) =
+            let here : IsOf step weights m rows old made = subst (λ s. IsOf step weights m rows s made) (sym same) of in
+            span-reached old last made from e up sized here.ahead (here.until last e)
+        by old from up' placed (ends last e over same) =
+            let lasts = still-lasts size old last fits up' placed e in
+            let span = (end-span step weights m rows ballots falls strict old last up' e).0 in
+            let ended = chosen-sized step m (size + 1) last span.increasing (omega (arith, lasts.1, over)) in
+            let beyond : IsAhead step rows last made = subst (λ s. IsAhead step rows s made) (sym same) of.ahead in
+            span-reached old last made from e up sized (ahead-joined step rows old last made span.ahead beyond) (ahead-turned step m (size + 1) rows last made ended sized beyond)
+        by old from up' placed (changed c none choice is) =
             let parts = choice-parts step weights m rows old c choice in
-            let old-is = sized-from size old unsettled placed in
-            let under : IsBelow rows (change step old c) made = subst (λ s. IsBelow rows s made) (sym is) below in
-            let above = turned-below (size + 1) (change step old c) made (change-sized step m size old c up' parts.1 old-is) sized under in
-            let u = undone m rows ballots step old c made up' up parts.0.0 parts.0.1 parts.1 under above in
+            let old-is = still-sized size old placed none in
+            let ahead : IsAhead step rows (change step old c) made = subst (λ s. IsAhead step rows s made) (sym is) of.ahead in
+            let behind = ahead-turned step m (size + 1) rows (change step old c) made (change-sized step m size old c up' parts.1 old-is) sized ahead in
+            let u = undone m rows ballots step old c made up' up parts.0.0 parts.0.1 parts.1 (ahead-below step rows (change step old c) made ahead behind) (ahead-below step rows made (change step old c) behind ahead) in
             let free = open-is step m u.old u.one u.free in
             let tied = choice-moves m rows ballots step weights old u.old c u.one up' u.increasing u.below u.above choice u.clone u.free in
-            reached-by u.old u.one made (level.made u.old old u.increasing (old-sized step m size u.old u.one made u.increasing free.1 u.is sized) from u.below) tied u.is
+            let u-is = old-sized step m size u.old u.one made u.increasing free.1 u.is sized in
+            reached-by u.old u.one made
+            (level.made u.old old u.increasing u-is from (of-same size old u.old up' old-is u-is (below-ahead step rows old u.old u.below u.above))) tied u.is
 
     pub level-next : IsFamilyLevel step weights m rows (size + 1) next
     level-next = record { order = follow.order; candidates = next-candidates; placed = next-placed; reached = next-reached; made = next-made }
+
+pub level-candidates : (step : Step) (weights : List ℕ) (m : ℕ) (rows : List Row) (size : ℕ) (sets : List (List ℕ)) → IsFamilyLevel step weights m rows size sets → AllByRecursion (λ set. IsIncreasing 1 m set) sets
+level-candidates step weights m rows size sets level =
+    recursion_from_All (λ s. IsIncreasing 1 m s) sets (All-weaker (Contains sets) (λ s. IsIncreasing 1 m s) (λ s inside. level.candidates s inside) sets (All-contains_itself sets))

@@ -4,12 +4,11 @@ use Rattle.std.specs.List.{flat_map, list_all, range_with_len}
 use Rattle.std.proofs.lemmas.Bool.{cases_Bool, cases_eq, and_parts, and_from, and_left, both_ways, not-true, eq-eqb, ne_eqb, or_right, or_left, not_from_true}
 use Rattle.std.proofs.lemmas.List.Elements.{Contains-append_cases}
 use Rattle.ballot_base.specs.Lists.{IsIncreasing}
-use Rattle.ballot_base.specs.CandSet.{has_member, with_member, without_member}
+use Rattle.ballot_base.specs.CandSet.{has_member, other_members, with_member, without_member}
 use Rattle.ballot_base.proofs.Increasing.{IsIncreasing-filter, IsIncreasing-with_member, has_member-filter, has_member-with_member, has_member_head, has_member_tail, same_increasing}
 use Rattle.tie_walk.specs.Sequences.{others}
 use Rattle.tie_walk.specs.Steps.Choices.{is_open, open_candidates}
 use Rattle.tie_walk.specs.declared.sequential.Step.{Step}
-use Rattle.tie_walk.specs.declared.sequential.Step.TheVariants.{Grow}
 use Rattle.tie_walk.proofs.LawLemmas.{IsIncreasing-range}
 use Rattle.tie_walk.proofs.LevelLemmas.{in_bounds}
 use Rattle.tie_walk.proofs.StepLemmas.{has_member-range}
@@ -146,9 +145,9 @@ pub open-from : (step : Step) (m : ℕ) (set : List ℕ) (c : ℕ) → 1 ≤ c �
 open-from step m set c low high is =
     has_member-filter (is_open step set) (range_with_len 1 m) c ∙ and_from (is_open step set c) (has_member (range_with_len 1 m) c) is (has_member-range 1 m c low (omega (arith, high)))
 
--- the first of those outside
-pub free-is : (m : ℕ) (set : List ℕ) (x : ℕ) (rest : List ℕ) → others m set ≡ x ∷ rest → ((1 ≤ x) × (x ≤ m)) × (has_member set x ≡ false)
-free-is m set x rest is =
-    let inside : has_member (open_candidates Grow m set) x ≡ true = ap (λ l. has_member l x) is ∙ has_member_head x rest in
-    let parts = open-is Grow m set x inside in
-    (parts.0, not-true (has_member set x) parts.1)
+-- the first of the members of a set outside another
+pub free-among : (m : ℕ) (most set : List ℕ) (x : ℕ) (rest : List ℕ) → IsIncreasing 1 m most → other_members most set ≡ x ∷ rest → ((1 ≤ x) × (x ≤ m)) × (has_member set x ≡ false)
+free-among m most set x rest up is =
+    let inside : has_member (other_members most set) x ≡ true = ap (λ l. has_member l x) is ∙ has_member_head x rest in
+    let parts = and_parts (not (has_member set x)) (has_member most x) (sym (has_member-filter (λ n. not (has_member set n)) most x) ∙ inside) in
+    (in_bounds m most x up parts.1, not-true (has_member set x) parts.0)

@@ -186,7 +186,7 @@ module _ (same : ℕ → ℕ → Bool) (sameness : IsSameness same) where
     ]
   ]
 
-  at_member : (P : ℕ → Type 0) (xs : List ℕ) (x : ℕ) → AllByRecursion P xs → has_member xs x ≡ true → P x
+  pub at_member : (P : ℕ → Type 0) (xs : List ℕ) (x : ℕ) → AllByRecursion P xs → has_member xs x ≡ true → P x
   at_member P [] x all inside = absurd (let e : false ≡ true = inside in cc)
   at_member P (y ∷ xs) x all inside = elim (cases_eq y x) [
     | inl is ↦ subst P is all.0

@@ -1,13 +1,14 @@
 -- Families without clones: where each has k members, they are the winners.
-use Rattle.std.proofs.Common.{◌≡◌, ℕ, suc, ◌≤◌, ◌==◌, ◌&&◌, ◌∙◌, true, false, List, [], ◌∷◌, sym, ap, subst, arith, inl, inr, length, Contains, AllPairs, Option, None, Some}
+use Rattle.std.proofs.Common.{◌≡◌, ℕ, suc, ◌<◌, ◌≤◌, ◌==◌, ◌&&◌, ◌∙◌, true, false, List, [], ◌∷◌, sym, ap, subst, arith, inl, inr, length, get_or, Contains, AllPairs, Option, None, Some}
 use Rattle.std.specs.Prelude.{All, MatchOption, ⊤}
-use Rattle.std.specs.List.{list_all, range_with_len, AllByRecursion}
+use Rattle.std.specs.List.{list_all, list_any, range_with_len, zip, AllByRecursion}
 use Rattle.std.specs.List.Sorted.{IsStrictlySortedBy}
 use Rattle.std.specs.Cmp.Lexicographic.{slice_cmp}
 use Rattle.std.specs.Ordering.{nat_cmp}
 use Rattle.std.specs.declared.cmp.Ordering.TheVariants.{Less}
-use Rattle.std.proofs.lemmas.Bool.{cases_Bool, cases_eq, eqb-true, both_ways, and_parts}
+use Rattle.std.proofs.lemmas.Bool.{cases_Bool, cases_eq, eqb-true, both_ways, and_parts, and_from}
 use Rattle.std.proofs.lemmas.Cmp.{nat_list_cmp_total}
+use Rattle.std.proofs.lemmas.List.{get_or_default}
 use Rattle.std.proofs.lemmas.List.Elements.{All-contains, All-from_recursion, recursion_from_All}
 use Rattle.ballot_base.specs.Lists.{IsIncreasing, IsLater, increasing_lists}
 use Rattle.ballot_base.specs.CandSet.{has_member}
@@ -23,13 +24,14 @@ use Rattle.tie_walk.proofs.LevelLemmas.{in_bounds}
 use Rattle.tie_walk.proofs.SequenceLaws.{sequential-later}
 use Rattle.tie_walk.proofs.SequenceLemmas.{same_sorted}
 use Rattle.tie_walk.proofs.StepLemmas.{has_member-range}
-use Rattle.tie_families.specs.Clones.{are_clones, clones_among, has_as_many}
+use Rattle.tie_families.specs.Clones.{are_clones, clones_among, has_as_many, is_between}
 use Rattle.tie_families.specs.Steps.Families.{AreApart}
 use Rattle.tie_families.specs.Steps.Levels.{IsBelow, AreFamilies}
 use Rattle.tie_families.specs.Steps.Tables.{AreClones}
 use Rattle.tie_families.proofs.CloneLemmas.{clones-sameness}
 use Rattle.tie_families.proofs.Numbers.{some-passes, member-counts, within-turned}
-use Rattle.tie_families.proofs.WinnerLemmas.{many-from, below-from, any-from, any-at}
+use Rattle.tie_families.proofs.PairLemmas.{pairs-first, pairs-pass}
+use Rattle.tie_families.proofs.WinnerLemmas.{many-from, below-from, any-at}
 
 sorted_from_later : (xs : List (List ℕ)) → AllPairs (λ x y. IsLater y x) xs → IsStrictlySortedBy (slice_cmp nat_cmp) xs
 unfolding IsStrictlySortedBy
@@ -79,30 +81,44 @@ module _ (m : ℕ) (rows : List Row) (table : List (List ℕ)) (clones : AreClon
         ]
       ])
 
-pub plain-winners : (rule : SeqRule) (e : Election) (k m : ℕ) (table sets list : List (List ℕ)) → m ≡ e.m → list ≡ sets → AreFamilies rule e k sets → AreClones e.m e.rows table → AreApart m table
-    → list_all (λ set. length set == k) sets ≡ true → list ≡ sequential_winners rule e k
-plain-winners rule e k m table sets list is same families clones apart' sizes' =
+pub plain-winners : (rule : SeqRule) (e : Election) (k m : ℕ) (table leasts mosts list : List (List ℕ)) → m ≡ e.m → list ≡ leasts → AreFamilies rule e k leasts mosts → AreClones e.m e.rows table
+    → AreApart m table → list_all (λ set. length set == k) leasts ≡ true → list ≡ sequential_winners rule e k
+plain-winners rule e k m table leasts mosts list is same families clones apart' sizes' =
     let all = increasing_lists 1 e.m k in
     let apart : AreApart e.m table = subst (λ n. AreApart n table) is apart' in
-    let sizes : AllByRecursion (λ set. length set ≡ k) sets = each sets sizes' in
-    let size = λ (set : List ℕ) (inside : Contains sets set). All-contains (λ s. length s ≡ k) sets set (All-from_recursion (λ s. length s ≡ k) sets sizes) inside in
-    let up = λ (set : List ℕ) (inside : Contains sets set). All-contains (λ s. IsIncreasing 1 e.m s) sets set (All-from_recursion (λ s. IsIncreasing 1 e.m s) sets families.candidates) inside in
-    same ∙ same_sorted nat_list_cmp_total sets (sequential_winners rule e k) families.order (sorted_from_later (sequential_winners rule e k) (sequential-later rule e k))
+    let sizes : AllByRecursion (λ set. length set ≡ k) leasts = each leasts sizes' in
+    let size = λ (set : List ℕ) (inside : Contains leasts set). All-contains (λ s. length s ≡ k) leasts set (All-from_recursion (λ s. length s ≡ k) leasts sizes) inside in
+    let up = λ (set : List ℕ) (inside : Contains leasts set). All-contains (λ s. IsIncreasing 1 e.m s) leasts set (All-from_recursion (λ s. IsIncreasing 1 e.m s) leasts families.least_sets) inside in
+    let has = λ (committee : List ℕ) (family : List ℕ × List ℕ). is_between e.m e.rows family.0 family.1 committee in
+    same ∙ same_sorted nat_list_cmp_total leasts (sequential_winners rule e k) (families.order sizes') (sorted_from_later (sequential_winners rule e k) (sequential-later rule e k))
     (λ set inside.
-    let wins = families.reached set (up set inside) (size set inside) ∙ any-from (has_as_many e.m e.rows set) sets set inside (many-from e.m e.rows set set (λ c. omega arith)) in
+    let wins = families.reached set (up set inside) (size set inside) ∙ own families set inside in
     Contains-filter (is_sequential_winner rule e k) all set (increasing_lists-contains 1 e.m k set (up set inside, size set inside)) wins)
     (λ set inside.
     let wins = passes-from_filter (is_sequential_winner rule e k) all set inside in
     let chosen = chosen-from_contains 1 e.m k set (Contains-from_filter (is_sequential_winner rule e k) all set inside) in
-    let s = any-at (has_as_many e.m e.rows set) sets (sym (families.reached set chosen.0 chosen.1) ∙ wins) in
-    let equal : s.0 ≡ set = same-set e.m e.rows table clones apart s.0 set (up s.0 s.1) chosen.0 (below-from e.m e.rows s.0 set (up s.0 s.1) s.2) (omega (arith, size s.0 s.1, chosen.1)) in
-    subst (Contains sets) equal s.1)
+    let s = any-at (has set) (zip leasts mosts) (sym (families.reached set chosen.0 chosen.1) ∙ wins) in
+    let least = pairs-first leasts mosts s.0 s.1 in
+    let above = (and_parts (has_as_many e.m e.rows set s.0.0) (has_as_many e.m e.rows s.0.1 set) s.2).0 in
+    let equal : s.0.0 ≡ set = same-set e.m e.rows table clones apart s.0.0 set (up s.0.0 least) chosen.0 (below-from e.m e.rows s.0.0 set (up s.0.0 least) above) (omega (arith, size s.0.0 least, chosen.1)) in
+    subst (Contains leasts) equal least)
   where
     each : (xs : List (List ℕ)) → list_all (λ set. length set == k) xs ≡ true → AllByRecursion (λ set. length set ≡ k) xs
     each [] passes = tt
     each (x ∷ xs) passes =
         let parts = and_parts (length x == k) (list_all (λ set. length set == k) xs) passes in
         (eqb-true (length x) k parts.0, each xs parts.1)
+
+    -- a least set is a committee of its family
+    own : AreFamilies rule e k leasts mosts → (set : List ℕ) → Contains leasts set → list_any (λ family. is_between e.m e.rows family.0 family.1 set) (zip leasts mosts) ≡ true
+    own families set (i, within, is) =
+        let most : List ℕ = get_or mosts i [] in
+        let within' : i < length mosts = omega (arith, within, families.paired) in
+        let here : get_or leasts i [] ≡ set = get_or_default leasts i [] set within ∙ is in
+        let spans : has_as_many e.m e.rows most set ≡ true = ap (has_as_many e.m e.rows most) (sym here) ∙ families.spans i within in
+        pairs-pass (λ family. is_between e.m e.rows family.0 family.1 set) leasts mosts i set most within within'
+        (λ d. sym is ∙ get_or_default leasts i set d within) (λ d. get_or_default mosts i [] d within')
+        (and_from (has_as_many e.m e.rows set set) (has_as_many e.m e.rows most set) (many-from e.m e.rows set set (λ c. omega arith)) spans)
 
 -- a start has the size of the winners
 pub starts-fit : (m k : ℕ) (after : Option (List ℕ)) (sets : List (List ℕ)) → IsStart m k after → All (λ set. length set ≡ k) sets

@@ -1,19 +1,21 @@
 -- What one choice does to a family, as the code finds it.
-use Rattle.std.proofs.Common.{◌≡◌, ℕ, zero, suc, ◌+◌, ◌-◌, ◌<◌, ◌≤◌, ◌^◌, ◌==◌, ◌&&◌, ◌∙◌, Bool, true, false, List, [], ◌∷◌, refl, sym, ap, arith, inl, inr, filter, map, get_or}
-use Rattle.std.specs.Prelude.{fold, nat_le}
+use Rattle.std.proofs.Common.{◌≡◌, ℕ, zero, suc, ◌+◌, ◌-◌, ◌<◌, ◌≤◌, ◌^◌, ◌==◌, ◌&&◌, ◌++◌, ◌∙◌, cond, length, Option, Some, None, is_some, slice_get, subst, Bool, true, false, List, [], ◌∷◌, refl, sym, ap, arith, inl, inr, filter, map, get_or}
+use Rattle.std.specs.Prelude.{fold, nat_le, nat_lt}
 use Rattle.std.specs.List.{list_all, range_with_len, AllByRecursion}
-use Rattle.std.proofs.lemmas.Bool.{cases_Bool, and_left}
-use Rattle.ballot_base.specs.CandSet.{has_member}
+use Rattle.std.proofs.lemmas.Bool.{cases_Bool, and_left, and_from, le-leb}
+use Rattle.ballot_base.specs.Lists.{IsIncreasing}
+use Rattle.ballot_base.specs.CandSet.{has_member, with_member}
 use Rattle.ballot_base.specs.Ballots.{Row}
-use Rattle.ballot_base.proofs.Increasing.{has_member-filter}
+use Rattle.ballot_base.proofs.Increasing.{IsIncreasing-filter, IsIncreasing-lower, has_member-filter, with_member-above}
+use Rattle.tie_walk.proofs.LawLemmas.{IsIncreasing-range}
 use Rattle.tie_walk.specs.Sequences.{gain, others}
 use Rattle.tie_walk.specs.Steps.Choices.{is_open, change, worth, is_no_better, better, worst, open_candidates, is_choice}
 use Rattle.tie_walk.specs.declared.sequential.Step.{Step}
 use Rattle.tie_walk.specs.declared.sequential.Step.TheVariants.{Grow, Shrink}
-use Rattle.tie_walk.proofs.StepLemmas.{best-is, has_member-range}
+use Rattle.tie_walk.proofs.StepLemmas.{best-is, filter-next, has_member-range}
 use Rattle.tie_walk.proofs.WinnersLemmas.{greatest, bounds-greatest, same_filter}
 use Rattle.tie_families.specs.Clones.{clones_among}
-use Rattle.tie_families.specs.Steps.Levels.{is_first_open, is_settled, has_settled, family_changes}
+use Rattle.tie_families.specs.Steps.Levels.{is_first_open, is_settled, has_settled, ties, shares_no_voter, tied_worth, is_independent, end, chosen, followed, family_changes}
 use Rattle.tie_families.specs.Steps.Tables.{AreClones}
 
 list_all-same : {X : Type 0} (p q : X → Bool) (xs : List X) → ((x : X) → p x ≡ q x) → list_all p xs ≡ list_all q xs
@@ -34,10 +36,6 @@ settled-is Grow weights m rows set w best are is =
     ∙ ap (λ b. b && list_all (λ c. nat_le (w c) 0) (others m set)) nothing
     ∙ list_all-same (λ c. nat_le (w c) 0) (λ c. gain weights rows set c == 0) (others m set) (λ c. no_more (w c) ∙ ap (λ n. n == 0) (are c))
 settled-is Shrink weights m rows set w best are is = refl
-
-pub settled-changes : (step : Step) (weights : List ℕ) (m : ℕ) (rows : List Row) (set : List ℕ) → is_settled step weights m rows set ≡ true → family_changes step weights m rows set ≡ set ∷ []
-unfolding family_changes
-settled-changes step weights m rows set settled = rw settled
 
 all_range : (P : ℕ → Type 0) (a n : ℕ) → ((c : ℕ) → a ≤ c → c < a + n → P c) → AllByRecursion P (range_with_len a n)
 all_range P a zero each = tt
@@ -70,16 +68,88 @@ module _ (step : Step) (weights : List ℕ) (m : ℕ) (rows : List Row) (set : L
             ∙ sym (and_left (has_member all c) (list_all (λ d. is_no_better step (worth step weights rows set d) (worth step weights rows set c)) all) (member ∙ shut))
       ]
 
-  -- the changes that the code finds are those of the first of the clones that tie
-  pub choice-changes : (table : List (List ℕ)) → ((c : ℕ) → w c ≡ worth step weights rows set c) → ((c : ℕ) → w c ≤ 2 ^ 128 - 1) → best ≡ fold (better step) (worst step) (map w (open_candidates step m set))
-      → AreClones m rows table → is_settled step weights m rows set ≡ false
-      → map (change step set) (filter (λ c. is_open step set c && (w c == best && is_first_open step (get_or table c []) set c)) (range_with_len 1 m)) ≡ family_changes step weights m rows set
-  unfolding family_changes
-  choice-changes table are fit is clones unsettled =
-      rw unsettled
-      (ap (map (change step set))
-      (same_filter (λ c. is_open step set c && (w c == best && is_first_open step (get_or table c []) set c)) (λ c. is_choice step weights m rows set c && is_first_open step (clones_among m rows c) set c) (range_with_len 1 m)
+  -- those whom the code finds are the first of the clones that tie
+  pub ties-are : (table : List (List ℕ)) → ((c : ℕ) → w c ≡ worth step weights rows set c) → ((c : ℕ) → w c ≤ 2 ^ 128 - 1) → best ≡ fold (better step) (worst step) (map w (open_candidates step m set))
+      → AreClones m rows table
+      → filter (λ c. is_open step set c && (w c == best && is_first_open step (get_or table c []) set c)) (range_with_len 1 m) ≡ ties step weights m rows set
+  ties-are table are fit is clones =
+      same_filter (λ c. is_open step set c && (w c == best && is_first_open step (get_or table c []) set c)) (λ c. is_choice step weights m rows set c && is_first_open step (clones_among m rows c) set c) (range_with_len 1 m)
       (all_range (λ c. (is_open step set c && (w c == best && is_first_open step (get_or table c []) set c)) ≡ (is_choice step weights m rows set c && is_first_open step (clones_among m rows c) set c)) 1 m
       (λ c low high. and-assoc (is_open step set c) (w c == best) (is_first_open step (get_or table c []) set c)
       ∙ ap (λ b. b && is_first_open step (get_or table c []) set c) (choice-is are fit is c low high)
-      ∙ ap (λ s. is_choice step weights m rows set c && is_first_open step s set c) (clones c low (omega (arith, high)))))))
+      ∙ ap (λ s. is_choice step weights m rows set c && is_first_open step s set c) (clones c low (omega (arith, high)))))
+
+-- one candidate more of those that pass
+pub passes-more : (p : ℕ → Bool) (c : ℕ) (old new : List ℕ) → 1 ≤ c → p c ≡ true → old ≡ filter p (range_with_len 1 (c - 1)) → new ≡ with_member old c → new ≡ filter p (range_with_len 1 (c + 1 - 1))
+passes-more p c old new low is before more =
+    more ∙ ap (λ s. with_member s c) before
+    ∙ with_member-above 1 (c - 1) (filter p (range_with_len 1 (c - 1))) c (IsIncreasing-filter p 1 (c - 1) (range_with_len 1 (c - 1)) (IsIncreasing-range 1 (c - 1) (c - 1) (omega arith))) (omega (arith, low))
+    ∙ sym (filter-next p c low ∙ ap (λ b. filter p (range_with_len 1 (c - 1)) ++ cond b (c ∷ []) []) is)
+
+-- ---- the end, as the code finds it
+
+some-more-than : (n most : ℕ) → n < most → nat_lt n most ≡ true
+some-more-than n most more = grind arith
+
+pub none-more : (n most : ℕ) → most ≤ n → nat_lt n most ≡ false
+none-more n most few = grind arith
+
+pub worths-are : (f g : ℕ → ℕ) → ((c : ℕ) → f c ≡ g c) → (xs : List ℕ) → map f xs ≡ map g xs
+worths-are f g same [] = refl
+worths-are f g same (x ∷ xs) = ap (λ n. n ∷ map f xs) (same x) ∙ ap (λ l. g x ∷ l) (worths-are f g same xs)
+
+pub end-settled : (step : Step) (weights : List ℕ) (m n : ℕ) (rows : List Row) (set : List ℕ) → n ≡ m → is_settled step weights m rows set ≡ true → Some (range_with_len 1 n) ≡ end step weights m rows set
+unfolding end
+end-settled step weights m n rows set same settled = ap (λ k. Some (range_with_len 1 k)) same ∙ sym (ap (λ b. cond b (Some (range_with_len 1 m)) (cond (is_independent step weights m rows set) (Some (fold (change step) set (ties step weights m rows set))) None)) settled)
+
+module _ (step : Step) (weights : List ℕ) (m : ℕ) (rows : List Row) (set tied : List ℕ) (unsettled : is_settled step weights m rows set ≡ false) (are : tied ≡ ties step weights m rows set) where
+  pub end-independent : 0 < tied_worth step weights m rows set → 2 ≤ length tied → shares_no_voter rows tied ≡ true → Some (fold (change step) set tied) ≡ end step weights m rows set
+  unfolding end
+  end-independent may some apart =
+      let independent : is_independent step weights m rows set ≡ true =
+      and_from (nat_lt 0 (tied_worth step weights m rows set)) (nat_le 2 (length (ties step weights m rows set)) && shares_no_voter rows (ties step weights m rows set)) (some-more-than 0 (tied_worth step weights m rows set) may)
+      (and_from (nat_le 2 (length (ties step weights m rows set))) (shares_no_voter rows (ties step weights m rows set)) (le-leb 2 (length (ties step weights m rows set)) (omega (arith, some, ap length are)))
+      (ap (shares_no_voter rows) (sym are) ∙ apart)) in
+      ap (λ t. Some (fold (change step) set t)) are
+      ∙ sym (ap (λ b. cond b (Some (fold (change step) set (ties step weights m rows set))) None) independent)
+      ∙ sym (ap (λ b. cond b (Some (range_with_len 1 m)) (cond (is_independent step weights m rows set) (Some (fold (change step) set (ties step weights m rows set))) None)) unsettled)
+
+  pub end-none : (nat_lt 0 (tied_worth step weights m rows set) && (nat_le 2 (length tied) && shares_no_voter rows tied)) ≡ false → None ≡ end step weights m rows set
+  unfolding end
+  end-none not =
+      let dependent : is_independent step weights m rows set ≡ false = ap (λ t. nat_lt 0 (tied_worth step weights m rows set) && (nat_le 2 (length t) && shares_no_voter rows t)) (sym are) ∙ not in
+      sym (ap (λ b. cond b (Some (fold (change step) set (ties step weights m rows set))) None) dependent)
+      ∙ sym (ap (λ b. cond b (Some (range_with_len 1 m)) (cond (is_independent step weights m rows set) (Some (fold (change step) set (ties step weights m rows set))) None)) unsettled)
+
+pub over-fails : (n most : ℕ) → most < n → nat_le n most ≡ false
+over-fails n most more = grind arith
+
+pub row-at : (rows : List Row) (i : ℕ) (row : Row) → slice_get rows i ≡ Some row → (i < length rows) × (get_or rows i row ≡ row)
+row-at [] i row found = absurd (let f : false ≡ true = ap is_some found in cc)
+row-at (r ∷ rows) zero row found = (omega arith, ap (λ o. of_some o row) found)
+  where
+    of_some : Option Row → Row → Row
+    of_some None d = d
+    of_some (Some x) d = x
+row-at (r ∷ rows) (suc i) row found =
+    let rest = row-at rows i row found in
+    (omega (arith, rest.0), rest.1)
+
+-- ---- a set that is gone through
+
+pub first-parts : (left rest : List ℕ) (k last : ℕ) → left ≡ k ∷ rest → IsIncreasing 1 last left → ((1 ≤ k) × (k ≤ last)) × IsIncreasing 1 last rest
+first-parts left rest k last parts up =
+    let up' : IsIncreasing 1 last (k ∷ rest) = subst (λ l. IsIncreasing 1 last l) parts up in
+    ((up'.0, up'.1), IsIncreasing-lower 1 (k + 1) last rest (omega arith) up'.2)
+
+-- ---- what follows a set, as the code finds it
+
+pub changes-none : (step : Step) (weights : List ℕ) (m : ℕ) (rows : List Row) (size : ℕ) (set : List ℕ) → end step weights m rows set ≡ None
+    → map (change step set) (ties step weights m rows set) ≡ family_changes step weights m rows size set
+unfolding family_changes
+changes-none step weights m rows size set is = ap (followed step m size set (ties step weights m rows set)) (sym is)
+
+pub changes-last : (step : Step) (weights : List ℕ) (m : ℕ) (rows : List Row) (size : ℕ) (set last next : List ℕ) → end step weights m rows set ≡ Some last
+    → next ≡ cond (nat_le (chosen step m last) (size + 1)) last set → next ∷ [] ≡ family_changes step weights m rows size set
+unfolding family_changes
+changes-last step weights m rows size set last next is next-is = ap (λ s. s ∷ []) next-is ∙ ap (followed step m size set (ties step weights m rows set)) (sym is)

@@ -57,10 +57,10 @@ module _ (m : ℕ) (rows : List Row) (ballots : AreBallots m rows) where
         some-passes (are_clones rows c) (open_candidates step m other)
         (omega (arith, member-counts (are_clones rows c) (open_candidates step m set) c free (itself c), open-count step m rows set other c up up' below above))
 
-    choice-open : (set : List ℕ) (c : ℕ) → is_choice step weights m rows set c ≡ true → has_member (open_candidates step m set) c ≡ true
+    pub choice-open : (set : List ℕ) (c : ℕ) → is_choice step weights m rows set c ≡ true → has_member (open_candidates step m set) c ≡ true
     choice-open set c is = (and_parts (has_member (open_candidates step m set) c) (list_all (λ d. is_no_better step (worth step weights rows set d) (worth step weights rows set c)) (open_candidates step m set)) is).0
 
-    choice-best : (set : List ℕ) (c d : ℕ) → is_choice step weights m rows set c ≡ true → has_member (open_candidates step m set) d ≡ true
+    pub choice-best : (set : List ℕ) (c d : ℕ) → is_choice step weights m rows set c ≡ true → has_member (open_candidates step m set) d ≡ true
         → is_no_better step (worth step weights rows set d) (worth step weights rows set c) ≡ true
     choice-best set c d is free =
         all-at (λ e. is_no_better step (worth step weights rows set e) (worth step weights rows set c)) (open_candidates step m set) d

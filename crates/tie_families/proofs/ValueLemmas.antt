@@ -1,7 +1,7 @@
 -- The values and bounds of the families of winners.
 use Rattle.std.proofs.Common.{◌≡◌, ℕ, ◌+◌, ◌-◌, ◌≤◌, ◌∙◌, Bool, true, false, cond, List, ◌++◌, refl, sym, ap, subst, arith, inl, inr, length, length-append, Contains}
 use mir.Val.{bool_byte}
-use Rattle.std.specs.List.{list_any, AllByRecursion}
+use Rattle.std.specs.List.{list_any, zip, AllByRecursion}
 use Rattle.std.proofs.lemmas.Bool.{cases_Bool, both_ways}
 use Rattle.std.proofs.lemmas.List.Elements.{All-contains, All-from_recursion}
 use Rattle.ballot_base.specs.Lists.{IsIncreasing, increasing_lists}
@@ -15,11 +15,12 @@ use Rattle.tie_walk.specs.declared.sequential.SeqRule.TheVariants.{SeqPav, SeqCc
 use Rattle.tie_walk.specs.declared.sequential.Step.TheVariants.{Grow, Shrink}
 use Rattle.tie_walk.proofs.Choices.{reached_from_made}
 use Rattle.tie_walk.proofs.SequenceLemmas.{grown_set-made, left_set-made, reached-sized}
-use Rattle.tie_families.specs.Clones.{has_as_many}
+use Rattle.tie_families.specs.Clones.{is_between}
 use Rattle.tie_families.specs.Families.{Sequential, sequential_of, is_winner, some_winner}
 use Rattle.tie_families.specs.Steps.Families.{may_be_in}
 use Rattle.tie_families.specs.Steps.Levels.{AreFamilies}
 use Rattle.tie_families.proofs.CompletionLemmas.{joined-increasing, may-is}
+use Rattle.tie_families.proofs.PairLemmas.{pairs-first}
 use Rattle.tie_families.proofs.WinnerLemmas.{any-from, any-at}
 
 -- a winner has k members
@@ -52,49 +53,58 @@ module _ (e : Election) (rule : SeqRule) (k : ℕ) (fits : k ≤ e.m) where
     | inr none ↦ none
   ]
 
-  module _ (sets : List (List ℕ)) (families : AreFamilies rule e k sets) where
-    inside : (family : List ℕ) → Contains sets family → IsIncreasing 1 e.m family
-    inside family c = All-contains (λ s. IsIncreasing 1 e.m s) sets family (All-from_recursion (λ s. IsIncreasing 1 e.m s) sets families.candidates) c
+  module _ (leasts mosts : List (List ℕ)) (families : AreFamilies rule e k leasts mosts) where
+    inside : (family : List ℕ × List ℕ) → Contains (zip leasts mosts) family → IsIncreasing 1 e.m family.0
+    inside family c =
+        All-contains (λ s. IsIncreasing 1 e.m s) leasts family.0 (All-from_recursion (λ s. IsIncreasing 1 e.m s) leasts families.least_sets) (pairs-first leasts mosts family c)
 
     -- some winner completes the set exactly where some family may have one
-    pub some-is : (c : ℕ) (set : List ℕ) (left : ℕ) → c ≤ e.m → IsIncreasing 1 c set → left ≤ e.m - c → length set + left ≡ k
-        → list_any (may_be_in e.m e.rows c set left) sets ≡ some_winner (sequential_of e rule k) c set left
-    some-is c set left within up room whole =
+    pub some-is : (c : ℕ) (set : List ℕ) (left : ℕ) → c ≤ e.m → IsIncreasing 1 c set → length set + left ≡ k
+        → list_any (may_be_in e.m e.rows c set left) (zip leasts mosts) ≡ some_winner (sequential_of e rule k) c set left
+    some-is c set left within up whole =
         let lists = increasing_lists (c + 1) e.m left in
+        let pairs = zip leasts mosts in
+        let has = λ (committee : List ℕ) (family : List ℕ × List ℕ). is_between e.m e.rows family.0 family.1 committee in
         let joined = λ (added : List ℕ) (up' : IsIncreasing (c + 1) e.m added). joined-increasing c e.m 1 set added (omega arith) within up up' in
-        elim (cases_Bool (list_any (may_be_in e.m e.rows c set left) sets)) [
+        elim (cases_Bool (list_any (may_be_in e.m e.rows c set left) pairs)) [
           | inl may ↦
-              let f = any-at (may_be_in e.m e.rows c set left) sets may in
-              let a = any-at (λ added. has_as_many e.m e.rows (set ++ added) f.0) lists (sym (may-is e.m e.rows c set left f.0 within up room (inside f.0 f.1)) ∙ f.2) in
+              let f = any-at (may_be_in e.m e.rows c set left) pairs may in
+              let a = any-at (λ added. has (set ++ added) f.0) lists (sym (may-is e.m e.rows c set left f.0 within up (inside f.0 f.1)) ∙ f.2) in
               let chosen = chosen-from_contains (c + 1) e.m left a.0 a.1 in
-              let wins = families.reached (set ++ a.0) (joined a.0 chosen.0) (omega (arith, length-append set a.0, chosen.1, whole)) ∙ any-from (has_as_many e.m e.rows (set ++ a.0)) sets f.0 f.1 a.2 in
+              let wins = families.reached (set ++ a.0) (joined a.0 chosen.0) (omega (arith, length-append set a.0, chosen.1, whole)) ∙ any-from (has (set ++ a.0)) pairs f.0 f.1 a.2 in
               may ∙ sym (any-from (λ added. is_winner (sequential_of e rule k) (set ++ added)) lists a.0 a.1 wins)
           | inr never ↦ elim (cases_Bool (some_winner (sequential_of e rule k) c set left)) [
             | inl some ↦
                 let a = any-at (λ added. is_winner (sequential_of e rule k) (set ++ added)) lists some in
                 let chosen = chosen-from_contains (c + 1) e.m left a.0 a.1 in
-                let f = any-at (has_as_many e.m e.rows (set ++ a.0)) sets (sym (families.reached (set ++ a.0) (joined a.0 chosen.0) (omega (arith, length-append set a.0, chosen.1, whole))) ∙ a.2) in
-                let may = may-is e.m e.rows c set left f.0 within up room (inside f.0 f.1) ∙ any-from (λ added. has_as_many e.m e.rows (set ++ added) f.0) lists a.0 a.1 f.2 in
-                absurd (both_ways (list_any (may_be_in e.m e.rows c set left) sets) never (any-from (may_be_in e.m e.rows c set left) sets f.0 f.1 may))
+                let f = any-at (has (set ++ a.0)) pairs (sym (families.reached (set ++ a.0) (joined a.0 chosen.0) (omega (arith, length-append set a.0, chosen.1, whole))) ∙ a.2) in
+                let may = may-is e.m e.rows c set left f.0 within up (inside f.0 f.1) ∙ any-from (λ added. has (set ++ added) f.0) lists a.0 a.1 f.2 in
+                absurd (both_ways (list_any (may_be_in e.m e.rows c set left) pairs) never (any-from (may_be_in e.m e.rows c set left) pairs f.0 f.1 may))
             | inr none ↦ never ∙ sym none
           ]
         ]
 
 -- the same, by other names for the number of candidates and the families
-module _ (e : Election) (rule : SeqRule) (k m : ℕ) (sets list : List (List ℕ)) (is : m ≡ e.m) (fits : k ≤ m) (families : AreFamilies rule e k sets) (same : list ≡ sets) where
-  pub value-wins : (set : List ℕ) → IsIncreasing 1 e.m set → length set ≡ k → list_any (has_as_many m e.rows set) list ≡ is_winner (sequential_of e rule k) set
+module _ (e : Election) (rule : SeqRule) (k m : ℕ) (leasts mosts least_list most_list : List (List ℕ)) (is : m ≡ e.m) (fits : k ≤ m) (families : AreFamilies rule e k leasts mosts) (same : least_list ≡ leasts) (same' : most_list ≡ mosts) where
+  pairs-are : zip least_list most_list ≡ zip leasts mosts
+  pairs-are = ap (λ l. zip l most_list) same ∙ ap (zip leasts) same'
+
+  pub value-wins : (set : List ℕ) → IsIncreasing 1 e.m set → length set ≡ k
+      → list_any (λ family. is_between m e.rows family.0 family.1 set) (zip least_list most_list) ≡ is_winner (sequential_of e rule k) set
   value-wins set up size =
-      ap (λ n. list_any (has_as_many n e.rows set) list) is ∙ ap (list_any (has_as_many e.m e.rows set)) same ∙ sym (families.reached set up size)
+      ap (λ n. list_any (λ family. is_between n e.rows family.0 family.1 set) (zip least_list most_list)) is
+      ∙ ap (list_any (λ family. is_between e.m e.rows family.0 family.1 set)) pairs-are ∙ sym (families.reached set up size)
 
-  pub bound-wins : (c : ℕ) (set : List ℕ) (left : ℕ) → c ≤ e.m → IsIncreasing 1 c set → left ≤ e.m - c → length set + left ≡ k
-      → list_any (may_be_in m e.rows c set left) list ≡ some_winner (sequential_of e rule k) c set left
-  bound-wins c set left within up room whole =
-      ap (λ n. list_any (may_be_in n e.rows c set left) list) is ∙ ap (list_any (may_be_in e.m e.rows c set left)) same
-      ∙ some-is e rule k (omega (arith, fits, is)) sets families c set left within up room whole
+  pub bound-wins : (c : ℕ) (set : List ℕ) (left : ℕ) → c ≤ e.m → IsIncreasing 1 c set → length set + left ≡ k
+      → list_any (may_be_in m e.rows c set left) (zip least_list most_list) ≡ some_winner (sequential_of e rule k) c set left
+  bound-wins c set left within up whole =
+      ap (λ n. list_any (may_be_in n e.rows c set left) (zip least_list most_list)) is ∙ ap (list_any (may_be_in e.m e.rows c set left)) pairs-are
+      ∙ some-is e rule k (omega (arith, fits, is)) leasts mosts families c set left within up whole
 
-  pub list-candidates : AllByRecursion (λ set. IsIncreasing 1 m set) list
-  list-candidates =
-      subst (λ l. AllByRecursion (λ set. IsIncreasing 1 m set) l) (sym same) (subst (λ n. AllByRecursion (λ set. IsIncreasing 1 n set) sets) (sym is) families.candidates)
+-- candidates, by other names for their number and the sets
+pub list-candidates : (m n : ℕ) (sets list : List (List ℕ)) → m ≡ n → list ≡ sets → AllByRecursion (λ set. IsIncreasing 1 n set) sets → AllByRecursion (λ set. IsIncreasing 1 m set) list
+list-candidates m n sets list is same all =
+    subst (λ l. AllByRecursion (λ set. IsIncreasing 1 m set) l) (sym same) (subst (λ x. AllByRecursion (λ set. IsIncreasing 1 x set) sets) (sym is) all)
 
 pub byte-is : (b : Bool) → bool_byte b ≡ cond b 1 0
 byte-is true = refl

@@ -1,6 +1,6 @@
 -- Clones: candidates whom the same voters approve
 -- (Tideman, Independence of clones as a criterion for voting rules; here voters approve or do not).
-use Rattle.std.specs.Prelude.{ℕ, Bool, List, not, filter, count_by, nat_le, if◌then◌else◌}
+use Rattle.std.specs.Prelude.{ℕ, ◌&&◌, Bool, List, not, filter, count_by, nat_le, if◌then◌else◌}
 use Rattle.std.specs.List.{list_all, range_with_len}
 use Rattle.ballot_base.specs.CandSet.{has_member}
 use Rattle.ballot_base.specs.Ballots.{Row}
@@ -22,3 +22,7 @@ clone_count rows set c = count_by (are_clones rows c) set
 abbrev pub has_as_many : ℕ → List Row → List ℕ → List ℕ → Bool
 has_as_many m rows set other =
     list_all (λ c. nat_le (clone_count rows other c) (clone_count rows set c)) (range_with_len 1 m)
+
+-- whether a set has at least as many clones of each candidate as one set, and at most as many as another
+abbrev pub is_between : ℕ → List Row → List ℕ → List ℕ → List ℕ → Bool
+is_between m rows least most set = has_as_many m rows set least && has_as_many m rows most set

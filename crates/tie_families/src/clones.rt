@@ -3,7 +3,7 @@ ghost use Rattle.std.specs.Prelude.{◌≡◌, ◌≤◌, ℕ, List};
 ghost use Rattle.ballot_base.specs.Limits.{most_candidates};
 ghost use Rattle.ballot_base.specs.Lists.{IsIncreasing};
 ghost use Rattle.ballot_base.specs.Ballots.{Row};
-ghost use Rattle.tie_families.specs.Clones.{clones_among, has_as_many};
+ghost use Rattle.tie_families.specs.Clones.{clones_among, has_as_many, is_between};
 ghost use Rattle.tie_families.specs.Steps.Tables.{AreClones, completed};
 
 use ballot_base::{CandSet, Profile};
@@ -54,6 +54,23 @@ pub(crate) fn has_as_many(clones: &Clones, m: u8, set: CandSet, other: CandSet) 
         }
     }
     true
+}
+
+/// Whether a set has at least as many of each class of clones as one set, and at most as many as another.
+pub(crate) fn is_between(
+    clones: &Clones,
+    m: u8,
+    least: CandSet,
+    most: CandSet,
+    set: CandSet,
+) -> bool
+    requires most { m ≤ most_candidates }
+    requires least_set { IsIncreasing 1 m least }
+    requires most_set { IsIncreasing 1 m most }
+    requires set { IsIncreasing 1 m set }
+    ensures { (rows : List Row) → AreClones m rows clones.now → result ≡ is_between m rows least most set }
+{
+    has_as_many(clones, m, set, least) && has_as_many(clones, m, most, set)
 }
 
 /// The set, and those of the candidates after c that it lacks to have as many of each class as the other one.

@@ -1,25 +1,26 @@
 //! The families of the winners of a sequential rule, and a tally over them.
 ghost use Rattle.std.specs.Prelude.{◌≡◌, ℕ, ◌≤◌, ◌-◌, ◌==◌, ⊤, true, List, IfOk, MatchOption, length, if◌then◌else◌};
 ghost use Rattle.ballot_base.specs.Lists.{IsIncreasing};
-ghost use Rattle.std.specs.List.{AllByRecursion, list_all, list_any};
+ghost use Rattle.std.specs.List.{AllByRecursion, list_all, list_any, zip};
 ghost use Rattle.ballot_base.specs.Limits.{most_candidates};
 ghost use Rattle.ballot_base.specs.Ballots.{Row};
 ghost use Rattle.tie_walk.specs.Sequences.{sequential_winners};
-ghost use Rattle.tie_families.specs.Clones.{has_as_many};
+ghost use Rattle.tie_families.specs.Clones.{is_between};
 ghost use Rattle.tie_families.specs.Families.{Sequential, sequential_of, is_winner, some_winner};
 ghost use Rattle.tie_families.specs.Steps.Families.{AreApart, may_be_in};
 ghost use Rattle.tie_families.specs.Steps.Tables.{AreClones};
 
-use crate::clones::{Clones, all_clones, completed, has_as_many};
-use crate::levels::families_of;
+use crate::clones::{Clones, all_clones, completed, is_between};
+use crate::levels::{Spans, families_of};
 use ballot_base::{CandSet, Profile};
 use std::alloc::{AllocError, Allocator, Global};
 use std::marker::Model;
 use tie_walk::{SeqRule, Tally};
 
-/// The committees of k that some sequence of choices of a sequential rule makes, as families. A family is a set of k
-/// candidates at most, and its committees are those of k that have at least as many of each class of clones as it. A
-/// committee has the value 1 where a family has it, and 0 where none has. Contracts see the election, the rule and k.
+/// The committees of k that some sequence of choices of a sequential rule makes, as families. A family is a pair of sets,
+/// and its committees are those of k that have at least as many of each class of clones as the one, and at most as many
+/// as the other. A committee has the value 1 where a family has it, and 0 where none has. Contracts see the election,
+/// the rule and k.
 #[derive(Drop)]
 pub struct Families<'a, A: Allocator + Copy = Global> {
     profile: &'a Profile<A>,
@@ -27,7 +28,8 @@ pub struct Families<'a, A: Allocator + Copy = Global> {
     m: u8,
     k: u8,
     clones: Clones,
-    sets: Vec<CandSet, A>,
+    leasts: Vec<CandSet, A>,
+    mosts: Vec<CandSet, A>,
 }
 
 impl<'a, A: Allocator + Copy> Model for Families<'a, A> {
@@ -38,7 +40,7 @@ impl<'a, A: Allocator + Copy> Model for Families<'a, A> {
 
     ghost view = { λ f. sequential_of f.profile.now f.rule f.k };
 
-    ghost invariant = { λ f. IsKept f.profile.now f.rule f.m f.k f.clones f.sets.items };
+    ghost invariant = { λ f. IsKept f.profile.now f.rule f.m f.k f.clones f.leasts.items f.mosts.items };
 }
 
 impl<'a, A: Allocator + Copy + Drop> Families<'a, A> {
@@ -55,28 +57,30 @@ impl<'a, A: Allocator + Copy + Drop> Families<'a, A> {
     {
         let m = profile.m();
         let clones = all_clones(profile);
-        let sets = families_of(alloc, profile, rule, k, &clones)?;
+        let Spans { leasts, mosts } = families_of(alloc, profile, rule, k, &clones)?;
         Ok(Families {
             profile,
             rule,
             m,
             k,
             clones,
-            sets,
+            leasts,
+            mosts,
         })
     }
 }
 
 impl<'a, A: Allocator + Copy> Families<'a, A> {
-    /// The winners in order, where they lie so: where no candidate has a clone, and each family has k members.
+    /// The winners in order, where they lie so: where no candidate has a clone, and each family's
+    /// least set has k members.
     pub(crate) fn in_order(&self) -> Option<&[CandSet]>
         ensures { MatchOption result ⊤ (λ sets.
             sets.now ≡ sequential_winners self.now.rule self.now.election self.now.k) }
     {
-        if !are_apart(&self.clones, self.m) || !all_have(&self.sets, self.k) {
+        if !are_apart(&self.clones, self.m) || !all_have(&self.leasts, self.k) {
             return None;
         }
-        Some(&self.sets)
+        Some(&self.leasts)
     }
 
     /// The number of candidates, and the size of a committee.
@@ -102,14 +106,23 @@ impl<'a, A: Allocator + Copy> Tally for Families<'a, A> {
     }
 
     fn value(&self, set: CandSet) -> u128 {
-        let wins = set.len() == self.k && is_in_some(&self.clones, self.m, &self.sets, set);
+        let wins = set.len() == self.k
+            && is_in_some(&self.clones, self.m, &self.leasts, &self.mosts, set);
         u128::from(wins)
     }
 
     fn bound(&self, c: u8, set: CandSet, left: u8) -> u128 {
         let k = self.k;
         let may_win = set.len() + left == k
-            && may_be_in_some(&self.clones, self.m, &self.sets, c, set, left);
+            && may_be_in_some(
+                &self.clones,
+                self.m,
+                &self.leasts,
+                &self.mosts,
+                c,
+                set,
+                left,
+            );
         u128::from(may_win)
     }
 
@@ -117,8 +130,9 @@ impl<'a, A: Allocator + Copy> Tally for Families<'a, A> {
         if k != self.k {
             return None;
         }
-        let family = *self.sets.first()?;
-        filled(family, self.m, k)
+        let least = *self.leasts.first()?;
+        let most = *self.mosts.first()?;
+        filled(least, most, self.m, k)
     }
 }
 
@@ -149,15 +163,22 @@ fn all_have(sets: &[CandSet], k: u8) -> bool
 }
 
 /// Whether some family has the committee.
-fn is_in_some(clones: &Clones, m: u8, sets: &[CandSet], committee: CandSet) -> bool
+fn is_in_some(
+    clones: &Clones,
+    m: u8,
+    leasts: &[CandSet],
+    mosts: &[CandSet],
+    committee: CandSet,
+) -> bool
     requires most { m ≤ most_candidates }
     requires committee { IsIncreasing 1 m committee }
-    requires sets { AllByRecursion (λ set. IsIncreasing 1 m set) sets.now }
+    requires leasts { AllByRecursion (λ set. IsIncreasing 1 m set) leasts.now }
+    requires mosts { AllByRecursion (λ set. IsIncreasing 1 m set) mosts.now }
     ensures { (rows : List Row) → AreClones m rows clones.now
-        → result ≡ list_any (has_as_many m rows committee) sets.now }
+        → result ≡ list_any (λ family. is_between m rows family.0 family.1 committee) (zip leasts.now mosts.now) }
 {
-    for family in sets {
-        if has_as_many(clones, m, committee, *family) {
+    for (least, most) in leasts.iter().zip(mosts) {
+        if is_between(clones, m, *least, *most, committee) {
             return true;
         }
     }
@@ -165,49 +186,72 @@ fn is_in_some(clones: &Clones, m: u8, sets: &[CandSet], committee: CandSet) -> b
 }
 
 /// Whether some family has a committee of the set and of `left` of the candidates after c.
-fn may_be_in_some(clones: &Clones, m: u8, sets: &[CandSet], c: u8, set: CandSet, left: u8) -> bool
+fn may_be_in_some(
+    clones: &Clones,
+    m: u8,
+    leasts: &[CandSet],
+    mosts: &[CandSet],
+    c: u8,
+    set: CandSet,
+    left: u8,
+) -> bool
     requires most { m ≤ most_candidates }
     requires within { c ≤ m }
     requires set { IsIncreasing 1 c set }
     requires fits { left ≤ m - c }
-    requires sets { AllByRecursion (λ set. IsIncreasing 1 m set) sets.now }
+    requires leasts { AllByRecursion (λ set. IsIncreasing 1 m set) leasts.now }
+    requires mosts { AllByRecursion (λ set. IsIncreasing 1 m set) mosts.now }
     ensures { (rows : List Row) → AreClones m rows clones.now
-        → result ≡ list_any (may_be_in m rows c set left) sets.now }
+        → result ≡ list_any (may_be_in m rows c set left) (zip leasts.now mosts.now) }
 {
-    for family in sets {
-        if may_be_in(clones, m, *family, c, set, left) {
+    for (least, most) in leasts.iter().zip(mosts) {
+        if may_be_in(clones, m, *least, *most, c, set, left) {
             return true;
         }
     }
     false
 }
 
-/// Whether the family of a set has a committee of this set and of `left` of the candidates after c: those of them that
-/// are needed to have as many of each class are no more than `left`.
-fn may_be_in(clones: &Clones, m: u8, family: CandSet, c: u8, set: CandSet, left: u8) -> bool
-    requires most { m ≤ most_candidates }
-    requires family { IsIncreasing 1 m family }
+/// Whether the family of two sets has a committee of this set and of `left` of the candidates after c. Those of them
+/// that are needed to have as many of each class as the least are no more than `left`, and those that the most has room
+/// for are no fewer.
+fn may_be_in(
+    clones: &Clones,
+    m: u8,
+    least: CandSet,
+    most: CandSet,
+    c: u8,
+    set: CandSet,
+    left: u8,
+) -> bool
+    requires candidates { m ≤ most_candidates }
+    requires least { IsIncreasing 1 m least }
+    requires most { IsIncreasing 1 m most }
     requires within { c ≤ m }
     requires set { IsIncreasing 1 c set }
     requires fits { left ≤ m - c }
-    ensures { (rows : List Row) → AreClones m rows clones.now → result ≡ may_be_in m rows c set left family }
+    ensures { (rows : List Row) → AreClones m rows clones.now → result ≡ may_be_in m rows c set left (least, most) }
 {
-    let all = completed(clones, c, m, set, family);
-    all.len() <= set.len() + left && has_as_many(clones, m, all, family)
+    let all = completed(clones, c, m, set, least);
+    let size = set.len() + left;
+    all.len() <= size
+        && is_between(clones, m, least, most, all)
+        && size <= completed(clones, c, m, set, most).len()
 }
 
-/// The set with the first of the candidates 1 to m outside it, as many as make k members.
-fn filled(set: CandSet, m: u8, k: u8) -> Option<CandSet>
-    requires most { m ≤ most_candidates }
-    requires candidates { IsIncreasing 1 m set }
+/// The least set of a family with the first of those whom the most has beside it, as many as make k members.
+fn filled(least: CandSet, most: CandSet, m: u8, k: u8) -> Option<CandSet>
+    requires candidates { m ≤ most_candidates }
+    requires least { IsIncreasing 1 m least }
+    requires most { IsIncreasing 1 m most }
     ensures { MatchOption result ⊤ (λ filled. IsIncreasing 1 m filled × (length filled ≡ k)) }
 {
-    if set.len() > k {
+    if least.len() > k {
         return None;
     }
-    let mut filled = set;
+    let mut filled = least;
     while filled.len() < k {
-        let (next, _others) = CandSet::all(m).minus(filled).split_first()?;
+        let (next, _others) = most.minus(filled).split_first()?;
         filled = filled.with(next);
     }
     Some(filled)

@@ -1,5 +1,5 @@
 //! The families that the choices of a sequential rule make, level by level.
-ghost use Rattle.std.specs.Prelude.{◌≡◌, ℕ, ◌^◌, ◌<◌, ◌≤◌, List, IfOk, OnOk, slice_index};
+ghost use Rattle.std.specs.Prelude.{◌≡◌, ℕ, ◌^◌, ◌<◌, ◌≤◌, List, IfOk, OnOk, fold, map, length, slice_index};
 ghost use Rattle.std.specs.List.{AllByRecursion};
 ghost use Rattle.std.specs.Str.{bytes_eq};
 ghost use Rattle.indexmap.specs.IndexSet.{insert_all};
@@ -7,9 +7,9 @@ ghost use Rattle.ballot_base.specs.Limits.{most_candidates};
 ghost use Rattle.ballot_base.specs.Lists.{IsIncreasing};
 ghost use Rattle.ballot_base.specs.Ballots.{Row};
 ghost use Rattle.tie_walk.specs.Sequences.{hit_weights};
-ghost use Rattle.tie_walk.specs.Steps.Choices.{worth, step_of, choices_of};
+ghost use Rattle.tie_walk.specs.Steps.Choices.{change, worth, better, worst, open_candidates};
 ghost use Rattle.tie_families.specs.Steps.Tables.{AreClones};
-ghost use Rattle.tie_families.specs.Steps.Levels.{is_first_open, has_settled, family_changes, IsFalling, IsFamilyLevel, IsNextFamilies, AreFamilies};
+ghost use Rattle.tie_families.specs.Steps.Levels.{is_first_open, has_settled, ties, tied_worth, shares_no_voter, end, chosen, family_changes, other_end, IsFalling, IsStrict, IsFamilyLevel, IsNextFamilies, AreFamilies};
 
 use crate::clones::Clones;
 use ballot_base::{CandSet, Profile};
@@ -21,6 +21,13 @@ use tie_walk::{PLACES, SeqRule};
 
 /// The families of a level that were found so far, each once.
 type FoundFamilies<A> = IndexSet<CandSet, BuildHasherDefault<FoldHasher>, A>;
+
+/// Families, each as the least and the most that its committees have of each class of clones.
+#[derive(Drop)]
+pub(crate) struct Spans<A: Allocator + Copy> {
+    pub(crate) leasts: Vec<CandSet, A>,
+    pub(crate) mosts: Vec<CandSet, A>,
+}
 
 /// Whether none of the candidates below c may be chosen whom the set of clones has.
 fn is_first_open(step: Step, clones: CandSet, set: CandSet, c: u8) -> bool
@@ -44,55 +51,175 @@ fn is_settled(step: Step, best: u128) -> bool
     }
 }
 
-/// Adds the families that one choice makes of a set, those that are not there yet: of clones who tie, the first one
-/// is followed alone, and where nobody brings anything the set stays.
-fn insert_changes<A: Allocator + Copy>(
-    next: &mut FoundFamilies<A>,
+/// Those who are chosen next, where this is the best worth: of clones who tie, the first one.
+fn ties(
     step: Step,
     m: u8,
     worths: &[u128; PLACES],
+    best: u128,
     clones: &Clones,
     set: CandSet,
-) -> Result<(), AllocError>
+) -> CandSet
     requires { m ≤ most_candidates }
     ensures { (weights : List ℕ) (rows : List Row)
         → ((c : ℕ) → slice_index worths.now c ≡ worth step weights rows set c) → AreClones m rows clones.now
-        → OnOk result (next.new.keys
-        ≡ insert_all bytes_eq next.old.keys (family_changes step weights m rows set)) }
+        → best ≡ fold (better step) (worst step) (map (λ c. slice_index worths.now c) (open_candidates step m set))
+        → result ≡ ties step weights m rows set }
 {
-    let best = best_worth(step, m, worths, set);
-    if is_settled(step, best) {
-        next.insert(set)?;
-        return Ok(());
-    }
+    let mut ties = CandSet::empty();
     for c in 1..m + 1 {
         let at = usize::from(c);
         if step.is_open(set, c) && worths[at] == best && is_first_open(step, clones[at], set, c) {
-            next.insert(step.change(set, c))?;
+            ties = ties.with(c);
         }
+    }
+    ties
+}
+
+/// Whether no voter approves two of the candidates.
+fn shares_no_voter<A: Allocator + Copy>(profile: &Profile<A>, candidates: CandSet) -> bool
+    ensures { result ≡ shares_no_voter profile.now.rows candidates }
+{
+    for i in 0..profile.rows() {
+        let (ballot, _voters) = profile.row(i);
+        if ballot.common(candidates).len() > 1 {
+            return false;
+        }
+    }
+    true
+}
+
+/// The set after all of these choices.
+fn after_all(step: Step, set: CandSet, choices: CandSet) -> CandSet
+    ensures { result ≡ fold (change step) set choices }
+{
+    choices.valid();
+    let mut after = set;
+    let mut left = choices;
+    while let Some(parts) = left.split_first() {
+        after = step.change(after, parts.0);
+        left = parts.1;
+    }
+    after
+}
+
+/// The set that all choices lead to where they may be made in any order; who ties is known, and the best worth.
+fn end<A: Allocator + Copy>(
+    profile: &Profile<A>,
+    step: Step,
+    best: u128,
+    set: CandSet,
+    tied: CandSet,
+) -> Option<CandSet>
+    ensures { (weights : List ℕ) → best ≡ tied_worth step weights profile.now.m profile.now.rows set
+        → tied ≡ ties step weights profile.now.m profile.now.rows set
+        → result ≡ end step weights profile.now.m profile.now.rows set }
+{
+    if is_settled(step, best) {
+        return Some(CandSet::all(profile.m()));
+    }
+    if best > 0 && tied.len() >= 2 && shares_no_voter(profile, tied) {
+        return Some(after_all(step, set, tied));
+    }
+    None
+}
+
+/// Those who are chosen next, and the set that all choices lead to where they may be made in any order.
+fn ties_and_end<A: Allocator + Copy>(
+    profile: &Profile<A>,
+    step: Step,
+    weights: &[u128],
+    clones: &Clones,
+    set: CandSet,
+) -> (CandSet, Option<CandSet>)
+    requires weights { (j : ℕ) → slice_index weights.now j < 2 ^ 90 }
+    requires clones { AreClones profile.now.m profile.now.rows clones.now }
+    ensures ties { result.0 ≡ ties step weights.now profile.now.m profile.now.rows set }
+    ensures end { result.1 ≡ end step weights.now profile.now.m profile.now.rows set }
+{
+    let m = profile.m();
+    let totals = worths(profile, step, weights, set);
+    let best = best_worth(step, m, &totals, set);
+    let tied = ties(step, m, &totals, best, clones, set);
+    let end = end(profile, step, best, set, tied);
+    (tied, end)
+}
+
+/// How many choices lead to a set.
+fn chosen(step: Step, m: u8, set: CandSet) -> u8
+    requires { length set ≤ m }
+    ensures { result ≡ chosen step m set }
+{
+    match step {
+        Step::Grow => set.len(),
+        Step::Shrink => m - set.len(),
+    }
+}
+
+/// Adds the families that follow a set where so many choices were made, those that are not there yet.
+fn insert_changes<A: Allocator + Copy, B: Allocator + Copy>(
+    next: &mut FoundFamilies<A>,
+    profile: &Profile<B>,
+    step: Step,
+    weights: &[u128],
+    clones: &Clones,
+    size: u8,
+    set: CandSet,
+) -> Result<(), AllocError>
+    requires weights { (j : ℕ) → slice_index weights.now j < 2 ^ 90 }
+    requires clones { AreClones profile.now.m profile.now.rows clones.now }
+    requires set { IsIncreasing 1 profile.now.m set }
+    requires size { size < profile.now.m }
+    ensures { OnOk result (next.new.keys ≡ insert_all bytes_eq next.old.keys
+        (family_changes step weights.now profile.now.m profile.now.rows size set)) }
+{
+    let (tied, end) = ties_and_end(profile, step, weights, clones, set);
+    if let Some(last) = end {
+        let is_over = chosen(step, profile.m(), last) <= size + 1;
+        next.insert(if is_over { last } else { set })?;
+        return Ok(());
+    }
+    insert_each(next, step, set, tied)
+}
+
+/// Adds the sets that each of these choices makes of a set, those that are not there yet.
+fn insert_each<A: Allocator + Copy>(
+    next: &mut FoundFamilies<A>,
+    step: Step,
+    set: CandSet,
+    choices: CandSet,
+) -> Result<(), AllocError>
+    ensures { OnOk result (next.new.keys ≡ insert_all bytes_eq next.old.keys (map (change step set) choices)) }
+{
+    choices.valid();
+    let mut left = choices;
+    while let Some(parts) = left.split_first() {
+        next.insert(step.change(set, parts.0))?;
+        left = parts.1;
     }
     Ok(())
 }
 
-/// The families that one choice makes of those of a level.
+/// The families that follow those of a level where so many choices were made.
 fn next_level<A: Allocator + Copy + Drop, B: Allocator + Copy>(
     alloc: A,
     profile: &Profile<B>,
     step: Step,
     weights: &[u128],
     clones: &Clones,
+    size: u8,
     level: &[CandSet],
 ) -> Result<Vec<CandSet, A>, AllocError>
     requires weights { (j : ℕ) → slice_index weights.now j < 2 ^ 90 }
     requires clones { AreClones profile.now.m profile.now.rows clones.now }
+    requires size { size < profile.now.m }
+    requires sets { AllByRecursion (λ set. IsIncreasing 1 profile.now.m set) level.now }
     ensures { IfOk result (λ next.
-        IsNextFamilies step weights.now profile.now.m profile.now.rows level.now next.items) }
+        IsNextFamilies step weights.now profile.now.m profile.now.rows size level.now next.items) }
 {
-    let m = profile.m();
     let mut found = IndexSet::new(alloc);
     for set in level {
-        let totals = worths(profile, step, weights, *set);
-        insert_changes(&mut found, step, m, &totals, clones, *set)?;
+        insert_changes(&mut found, profile, step, weights, clones, size, *set)?;
     }
     let mut next = Vec::from_slice(alloc, found.as_slice())?;
     put_in_order(&mut next);
@@ -110,34 +237,90 @@ fn reached_families<A: Allocator + Copy + Drop, B: Allocator + Copy>(
 ) -> Result<Vec<CandSet, A>, AllocError>
     requires weights { (j : ℕ) → slice_index weights.now j < 2 ^ 90 }
     requires falling { IsFalling weights.now }
+    requires strict { IsStrict weights.now }
     requires clones { AreClones profile.now.m profile.now.rows clones.now }
+    requires fits { choices ≤ profile.now.m }
     ensures { IfOk result (λ sets.
         IsFamilyLevel step weights.now profile.now.m profile.now.rows choices sets.items) }
 {
     let mut level = Vec::new(alloc);
     level.push(step.start(profile.m()))?;
-    for _done in 0..choices {
-        level = next_level(alloc, profile, step, weights, clones, &level)?;
+    for done in 0..choices {
+        level = next_level(alloc, profile, step, weights, clones, done, &level)?;
     }
     Ok(level)
 }
 
-/// The families of the committees of k that some sequence of choices makes, in lexicographic order.
+/// Where a family of the committees of k ends on the other side: at its set, where that has k members.
+fn other_end<A: Allocator + Copy>(
+    profile: &Profile<A>,
+    step: Step,
+    weights: &[u128],
+    clones: &Clones,
+    k: u8,
+    set: CandSet,
+) -> CandSet
+    requires weights { (j : ℕ) → slice_index weights.now j < 2 ^ 90 }
+    requires clones { AreClones profile.now.m profile.now.rows clones.now }
+    ensures { result ≡ other_end step weights.now profile.now.m profile.now.rows k set }
+{
+    if set.len() == k {
+        return set;
+    }
+    let (_ties, end) = ties_and_end(profile, step, weights, clones, set);
+    end.unwrap_or(set)
+}
+
+/// The other ends of families, in order.
+fn other_ends<A: Allocator + Copy + Drop, B: Allocator + Copy>(
+    alloc: A,
+    profile: &Profile<B>,
+    step: Step,
+    weights: &[u128],
+    clones: &Clones,
+    k: u8,
+    sets: &[CandSet],
+) -> Result<Vec<CandSet, A>, AllocError>
+    requires weights { (j : ℕ) → slice_index weights.now j < 2 ^ 90 }
+    requires clones { AreClones profile.now.m profile.now.rows clones.now }
+    ensures { IfOk result (λ ends.
+        ends.items ≡ map (other_end step weights.now profile.now.m profile.now.rows k) sets.now) }
+{
+    let mut ends = Vec::with_capacity(alloc, sets.len())?;
+    for set in sets {
+        ends.push(other_end(profile, step, weights, clones, k, *set))?;
+    }
+    Ok(ends)
+}
+
+/// The families of the committees of k that some sequence of choices makes, in lexicographic order where each has a
+/// least set of k members.
 pub(crate) fn families_of<A: Allocator + Copy + Drop, B: Allocator + Copy>(
     alloc: A,
     profile: &Profile<B>,
     rule: SeqRule,
     k: u8,
     clones: &Clones,
-) -> Result<Vec<CandSet, A>, AllocError>
+) -> Result<Spans<A>, AllocError>
     requires fits { k ≤ profile.now.m }
     requires clones { AreClones profile.now.m profile.now.rows clones.now }
-    ensures { IfOk result (λ sets. AreFamilies rule profile.now k sets.items) }
+    ensures { IfOk result (λ spans. AreFamilies rule profile.now k spans.leasts.items spans.mosts.items) }
 {
     let m = profile.m();
     let weights = hit_weights(rule, m);
     let weights = &weights[..usize::from(m)];
     let choices = rule.choices(m, k);
-    let sets = reached_families(alloc, profile, rule.step(), weights, clones, choices)?;
-    Ok(sets)
+    let step = rule.step();
+    let sets = reached_families(alloc, profile, step, weights, clones, choices)?;
+    let ends = other_ends(alloc, profile, step, weights, clones, k, &sets)?;
+    Ok(match step {
+        Step::Grow => Spans {
+            leasts: sets,
+            mosts: ends,
+        },
+        Step::Shrink => Spans {
+            leasts: ends,
+            mosts: sets,
+        },
+    })
 }

@@ -5,23 +5,26 @@ use Rattle.ballot_base.specs.Ballots.{Row, Election}
 use Rattle.tie_walk.specs.Winners.{Winning}
 use Rattle.tie_walk.specs.declared.sequential.SeqRule.{SeqRule}
 use Rattle.tie_families.specs.Steps.Levels.{AreFamilies}
-use Rattle.tie_families.specs.Clones.{has_as_many}
+use Rattle.tie_families.specs.Clones.{is_between}
 use Rattle.tie_families.specs.Steps.Tables.{AreClones, completed}
 
--- whether no more than `left` of the candidates after c are needed for as many of each class as the family has
-abbrev pub may_be_in : ℕ → List Row → ℕ → List ℕ → ℕ → List ℕ → Bool
+-- whether the family has a committee of the set and of `left` of the candidates after c: no more of them are needed for
+-- as many of each class as its least, and no fewer are left for as many as its most
+abbrev pub may_be_in : ℕ → List Row → ℕ → List ℕ → ℕ → List ℕ × List ℕ → Bool
 may_be_in m rows c set left family =
-    let all = completed c m rows set family in
-    nat_le (length all) (length set + left) && has_as_many m rows all family
+    let all = completed c m rows set family.0 in
+    let full = completed c m rows set family.1 in
+    nat_le (length all) (length set + left) && is_between m rows family.0 family.1 all
+    && nat_le (length set + left) (length full)
 
 -- what the families of the committees of k keep
-pub record IsKept (e : Election) (rule : SeqRule) (m k : ℕ) (clones sets : List (List ℕ)) : Type 0 where
+pub record IsKept (e : Election) (rule : SeqRule) (m k : ℕ) (clones leasts mosts : List (List ℕ)) : Type 0 where
   pub m_is : m ≡ e.m
   pub some : 1 ≤ k
   pub most : m ≤ most_candidates
   pub fits : k ≤ m
   pub clones_are : AreClones e.m e.rows clones
-  pub families : AreFamilies rule e k sets
+  pub families : AreFamilies rule e k leasts mosts
 
 -- each candidate is its only clone
 abbrev pub AreApart : ℕ → List (List ℕ) → Type 0

@@ -1,18 +1,18 @@
 -- The families that choices make, level by level.
-use Rattle.std.specs.Prelude.{◌≡◌, ℕ, ◌+◌, ◌-◌, ◌≤◌, ◌⊎◌, Contains, true, ◌&&◌, ◌==◌, Bool, false, not, List, [], ◌∷◌, length, map, filter, if◌then◌else◌}
-use Rattle.std.specs.List.{list_all, list_any, flat_map, range_with_len, AllByRecursion}
+use Rattle.std.specs.Prelude.{◌≡◌, ℕ, nat_lt, nat_le, fold, Option, None, Some, ◌+◌, ◌-◌, ◌<◌, ◌≤◌, ◌⊎◌, Contains, true, ◌&&◌, ◌==◌, Bool, false, not, List, [], ◌∷◌, length, map, filter, slice_index_or, if◌then◌else◌}
+use Rattle.std.specs.List.{list_all, list_any, flat_map, range_with_len, zip, AllByRecursion}
 use Rattle.std.specs.List.Sorted.{IsStrictlySortedBy}
 use Rattle.std.specs.Cmp.Lexicographic.{slice_cmp}
 use Rattle.std.specs.Ordering.{nat_cmp}
 use Rattle.ballot_base.specs.Lists.{IsIncreasing}
 use Rattle.ballot_base.specs.CandSet.{has_member}
-use Rattle.ballot_base.specs.Ballots.{Row, Election}
+use Rattle.ballot_base.specs.Ballots.{Row, Election, hits}
 use Rattle.tie_walk.specs.Sequences.{weight, gain, others, is_sequential_winner}
-use Rattle.tie_walk.specs.Steps.Choices.{is_open, change, is_choice, start, IsReached, IsInOrder}
+use Rattle.tie_walk.specs.Steps.Choices.{is_open, change, worth, better, worst, open_candidates, is_choice, start, IsReached, IsInOrder}
 use Rattle.tie_walk.specs.declared.sequential.SeqRule.{SeqRule}
 use Rattle.tie_walk.specs.declared.sequential.Step.{Step}
 use Rattle.tie_walk.specs.declared.sequential.Step.TheVariants.{Grow, Shrink}
-use Rattle.tie_families.specs.Clones.{clones_among, clone_count, has_as_many}
+use Rattle.tie_families.specs.Clones.{clones_among, clone_count, has_as_many, is_between}
 
 -- whether none of the candidates below c may be chosen whom the set of clones has
 abbrev pub is_first_open : Step → List ℕ → List ℕ → ℕ → Bool
@@ -29,26 +29,81 @@ abbrev pub has_settled : Step → ℕ → Bool
 has_settled Grow best = best == 0
 has_settled Shrink best = false
 
--- the sets that one choice makes of a set, of clones by the first one alone; a settled set stays
-unfoldable pub family_changes : Step → List ℕ → ℕ → List Row → List ℕ → List (List ℕ)
-family_changes step weights m rows set =
-    if is_settled step weights m rows set
-    then set ∷ []
-    else map (change step set)
-    (filter (λ c. is_choice step weights m rows set c && is_first_open step (clones_among m rows c) set c)
-    (range_with_len 1 m))
+-- those who are chosen next: of clones who tie, the first one
+abbrev pub ties : Step → List ℕ → ℕ → List Row → List ℕ → List ℕ
+ties step weights m rows set =
+    filter (λ c. is_choice step weights m rows set c && is_first_open step (clones_among m rows c) set c)
+    (range_with_len 1 m)
 
--- the list has exactly the families that one choice makes of those of another, in lexicographic order, each once
-abbrev pub IsNextFamilies : Step → List ℕ → ℕ → List Row → List (List ℕ) → List (List ℕ) → Type 0
-IsNextFamilies step weights m rows level next = IsInOrder (flat_map (family_changes step weights m rows) level) next
+-- whether no voter approves two of the candidates
+abbrev pub shares_no_voter : List Row → List ℕ → Bool
+shares_no_voter rows candidates = list_all (λ (row : Row). nat_le (hits row.0 candidates) 1) rows
+
+-- what those bring who are chosen next, or take away
+abbrev pub tied_worth : Step → List ℕ → ℕ → List Row → List ℕ → ℕ
+tied_worth step weights m rows set =
+    fold (better step) (worst step) (map (worth step weights rows set) (open_candidates step m set))
+
+-- whether two or more tie who bring something, and no voter approves two of them
+abbrev pub is_independent : Step → List ℕ → ℕ → List Row → List ℕ → Bool
+is_independent step weights m rows set =
+    nat_lt 0 (tied_worth step weights m rows set)
+    && (nat_le 2 (length (ties step weights m rows set)) && shares_no_voter rows (ties step weights m rows set))
+
+-- where the choices from the set may be made in any order, the set that all of them lead to
+unfoldable pub end : Step → List ℕ → ℕ → List Row → List ℕ → Option (List ℕ)
+end step weights m rows set =
+    if is_settled step weights m rows set
+    then Some (range_with_len 1 m)
+    else if is_independent step weights m rows set
+    then Some (fold (change step) set (ties step weights m rows set))
+    else None
+
+-- how many choices lead to a set
+abbrev pub chosen : Step → ℕ → List ℕ → ℕ
+chosen Grow m set = length set
+chosen Shrink m set = m - length set
+
+-- what the level after so many choices has of a set: the set itself, or its end once it is reached, or the sets that
+-- one choice makes
+abbrev pub followed : Step → ℕ → ℕ → List ℕ → List ℕ → Option (List ℕ) → List (List ℕ)
+followed step m size set tied None = map (change step set) tied
+followed step m size set tied (Some last) = (if nat_le (chosen step m last) (size + 1) then last else set) ∷ []
+
+-- what follows a set where so many choices were made
+unfoldable pub family_changes : Step → List ℕ → ℕ → List Row → ℕ → List ℕ → List (List ℕ)
+family_changes step weights m rows size set =
+    followed step m size set (ties step weights m rows set) (end step weights m rows set)
+
+-- where a family of the committees of k ends on the other side: at its set, where that has k members
+abbrev pub end_or : List ℕ → Option (List ℕ) → List ℕ
+end_or set None = set
+end_or set (Some last) = last
+
+abbrev pub other_end : Step → List ℕ → ℕ → List Row → ℕ → List ℕ → List ℕ
+other_end step weights m rows k set = if length set == k then set else end_or set (end step weights m rows set)
+
+-- the list has exactly the families that follow those of another, in lexicographic order, each once
+abbrev pub IsNextFamilies : Step → List ℕ → ℕ → List Row → ℕ → List (List ℕ) → List (List ℕ) → Type 0
+IsNextFamilies step weights m rows size level next =
+    IsInOrder (flat_map (family_changes step weights m rows size) level) next
 
 -- at most as many of each class of clones
 abbrev pub IsBelow : List Row → List ℕ → List ℕ → Type 0
 IsBelow rows set other = (c : ℕ) → clone_count rows set c ≤ clone_count rows other c
 
+-- as many of each class as choices may make of the set
+abbrev pub IsAhead : Step → List Row → List ℕ → List ℕ → Type 0
+IsAhead Grow rows set other = IsBelow rows set other
+IsAhead Shrink rows set other = IsBelow rows other set
+
 -- what later hits bring is no more
 abbrev pub IsFalling : List ℕ → Type 0
 IsFalling weights = (a b : ℕ) → a ≤ b → weight weights (b + 1) ≤ weight weights (a + 1)
+
+-- after a hit that brings something, the next one brings less
+abbrev pub IsStrict : List ℕ → Type 0
+IsStrict weights = (j : ℕ) → 0 < weight weights (j + 1) → weight weights (j + 1 + 1) < weight weights (j + 1)
 
 -- as many members as so many choices leave
 abbrev pub IsOfSize : Step → ℕ → ℕ → List ℕ → Type 0
@@ -60,22 +115,37 @@ module _ (step : Step) (weights : List ℕ) (m : ℕ) (rows : List Row) where
   abbrev pub IsReachedBy : ℕ → List ℕ → Type 0
   IsReachedBy size set = IsReached (is_choice step weights m rows) (change step) (start step m) size set
 
-  -- a family of a level has as many members as so many choices leave, or it is settled
-  abbrev pub IsPlaced : ℕ → List ℕ → Type 0
-  IsPlaced size set = IsOfSize step m size set ⊎ ((is_settled step weights m rows set ≡ true) × (length set ≤ size))
+  -- the set has an end that more than so many choices lead to
+  abbrev pub IsLasting : ℕ → List ℕ → Type 0
+  IsLasting size set = (last : List ℕ) × (end step weights m rows set ≡ Some last) × (size < chosen step m last)
 
-  -- the sets that so many choices make are those of their size that have as many of each class as some family
+  -- a family of a level has as many members as so many choices leave, or fewer choices led to it, and it lasts
+  abbrev pub IsPlaced : ℕ → List ℕ → Type 0
+  IsPlaced size set = IsOfSize step m size set ⊎ ((chosen step m set < size) × IsLasting size set)
+
+  -- between the set and its end, by numbers of each class
+  pub record IsOf (set made : List ℕ) : Type 0 where
+    pub ahead : IsAhead step rows set made
+    pub until : (last : List ℕ) → end step weights m rows set ≡ Some last → IsAhead step rows made last
+
+  -- the sets that so many choices make are those of their size between some family and its end
   pub record IsFamilyLevel (size : ℕ) (sets : List (List ℕ)) : Type 0 where
     pub order : IsStrictlySortedBy (slice_cmp nat_cmp) sets
     pub candidates : (set : List ℕ) → Contains sets set → IsIncreasing 1 m set
     pub placed : (set : List ℕ) → Contains sets set → IsPlaced size set
-    pub reached : (made : List ℕ) → IsReachedBy size made → (set : List ℕ) × Contains sets set × IsBelow rows set made
+    pub reached : (made : List ℕ) → IsReachedBy size made → (set : List ℕ) × Contains sets set × IsOf set made
     pub made : (made set : List ℕ) → IsIncreasing 1 m made → IsOfSize step m size made → Contains sets set
-        → IsBelow rows set made → IsReachedBy size made
+        → IsOf set made → IsReachedBy size made
 
--- the committees of k of the families are those that some sequence of choices makes
-pub record AreFamilies (rule : SeqRule) (e : Election) (k : ℕ) (sets : List (List ℕ)) : Type 0 where
-  pub order : IsStrictlySortedBy (slice_cmp nat_cmp) sets
-  pub candidates : AllByRecursion (λ set. IsIncreasing 1 e.m set) sets
+-- Families, each as the least and the most that its committees have of each class: those of k are the committees that
+-- some sequence of choices makes. Where each has a least set of k members, these lie in order.
+pub record AreFamilies (rule : SeqRule) (e : Election) (k : ℕ) (leasts mosts : List (List ℕ)) : Type 0 where
+  pub paired : length mosts ≡ length leasts
+  pub least_sets : AllByRecursion (λ set. IsIncreasing 1 e.m set) leasts
+  pub most_sets : AllByRecursion (λ set. IsIncreasing 1 e.m set) mosts
+  pub spans : (i : ℕ) → i < length leasts
+      → has_as_many e.m e.rows (slice_index_or mosts i []) (slice_index_or leasts i []) ≡ true
+  pub order : list_all (λ set. length set == k) leasts ≡ true → IsStrictlySortedBy (slice_cmp nat_cmp) leasts
   pub reached : (committee : List ℕ) → IsIncreasing 1 e.m committee → length committee ≡ k
-      → is_sequential_winner rule e k committee ≡ list_any (has_as_many e.m e.rows committee) sets
+      → is_sequential_winner rule e k committee
+      ≡ list_any (λ family. is_between e.m e.rows family.0 family.1 committee) (zip leasts mosts)

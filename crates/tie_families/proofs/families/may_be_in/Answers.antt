@@ -1,4 +1,4 @@
 use Rattle.tie_families.proofs.families.may_be_in.Goals as goal
 
-pub has_as_many-requires-clause-set : goal.has_as_many-requires-clause-set
-has_as_many-requires-clause-set c = c.completed-all.ensures.candidates
+pub is_between-requires-clause-set : goal.is_between-requires-clause-set
+is_between-requires-clause-set c = c.completed-all.ensures.candidates

@@ -15,7 +15,7 @@ pub returns : goal.returns
 returns g c =
     let e = c.args.profile.now in
     let level = c.args.level.now in
-    let is : c.in_ok-next.next.items ≡ insert_all bytes_eq [] (flat_map (family_changes c.args.step c.args.weights.now e.m e.rows) level) =
+    let is : c.in_ok-next.next.items ≡ insert_all bytes_eq [] (flat_map (family_changes c.args.step c.args.weights.now e.m e.rows c.args.size) level) =
     c.in_ok-next.ensures.items ∙ c.as_slice.ensures.keys ∙ c.loop-set.invariant
-    ∙ ap (λ l. insert_all bytes_eq [] (flat_map (family_changes c.args.step c.args.weights.now e.m e.rows) l)) (take_all c.loop-set.set-index level (omega arith)) in
-    found-in_order (flat_map (family_changes c.args.step c.args.weights.now e.m e.rows) level) c.in_ok-next.next.items c.put_in_order.new.sets.items is c.put_in_order.ensures
+    ∙ ap (λ l. insert_all bytes_eq [] (flat_map (family_changes c.args.step c.args.weights.now e.m e.rows c.args.size) l)) (take_all c.loop-set.set-index level (omega arith)) in
+    found-in_order (flat_map (family_changes c.args.step c.args.weights.now e.m e.rows c.args.size) level) c.in_ok-next.next.items c.put_in_order.new.sets.items is c.put_in_order.ensures

@@ -8,4 +8,4 @@ use Rattle.tie_families.proofs.levels.next_level.Given as goal
 -- the families that one choice makes of the sets so far, each once
 abbrev pub invariant-loop-set : goal.invariant-loop-set
 invariant-loop-set g l =
-    l.found.keys ≡ insert_all bytes_eq [] (flat_map (family_changes l.step l.weights l.profile.m l.profile.rows) (take l.set-index l.level))
+    l.found.keys ≡ insert_all bytes_eq [] (flat_map (family_changes l.step l.weights l.profile.m l.profile.rows l.size) (take l.set-index l.level))

@@ -1,7 +1,9 @@
-use Rattle.std.proofs.Common.{◌≡◌, ◌++◌, ◌∷◌, [], ◌∙◌, ap, subst, arith}
+use Rattle.std.proofs.Common.{◌≡◌, ◌<◌, ◌++◌, ◌∷◌, [], ◌∙◌, sym, ap, subst, arith}
+use Rattle.std.specs.List.{AllByRecursion}
+use Rattle.ballot_base.specs.Lists.{IsIncreasing}
 use Rattle.tie_walk.specs.Steps.Choices.{start}
 use Rattle.tie_families.specs.Steps.Levels.{IsFamilyLevel, IsNextFamilies}
-use Rattle.tie_families.proofs.LevelLemmas.{level-next, level-first}
+use Rattle.tie_families.proofs.LevelLemmas.{level-next, level-first, level-candidates}
 use Rattle.tie_families.proofs.levels.reached_families.Goals as goal
 
 pub loop-done-init : goal.loop-done-init
@@ -10,17 +12,27 @@ loop-done-init g c =
     let made : c.start.result ≡ start c.args.step e.m = c.start.ensures ∙ ap (start c.args.step) c.m.ensures.value in
     let first : c.push.new.self.items ≡ start c.args.step e.m ∷ [] =
     c.in_ok-push.ensures.items ∙ ap (λ l. l ++ c.start.result ∷ []) c.new-level.ensures.items ∙ ap (λ s. s ∷ []) made in
-    level-first c.args.step c.args.weights.now e.m e.rows c.m.ensures.valid.ballots c.requires.falling c.push.new.self.items first
+    level-first c.args.step c.args.weights.now e.m e.rows c.m.ensures.valid.ballots c.requires.falling c.requires.strict c.push.new.self.items first
+
+pub next_level-requires-clause-size : goal.next_level-requires-clause-size
+next_level-requires-clause-size g c = omega (arith, c.requires.fits)
+
+pub next_level-requires-clause-sets : goal.next_level-requires-clause-sets
+next_level-requires-clause-sets g c =
+    let e = c.args.profile.now in
+    subst (AllByRecursion (λ set. IsIncreasing 1 e.m set)) (sym c.deref.ensures.value)
+    (level-candidates c.args.step c.args.weights.now e.m e.rows c.loop-done.done c.loop-done.level.items c.loop-done.invariant)
 
 pub loop-done-preserved : goal.loop-done-preserved
 loop-done-preserved g c =
     let e = c.args.profile.now in
-    let made : IsNextFamilies c.args.step c.args.weights.now e.m e.rows c.loop-done.level.items c.in_ok-level.level.items =
-    subst (λ l. IsNextFamilies c.args.step c.args.weights.now e.m e.rows l c.in_ok-level.level.items) c.deref.ensures.value c.in_ok-level.ensures in
-    level-next c.args.step c.args.weights.now e.m e.rows c.m.ensures.valid.ballots c.requires.falling c.loop-done._done c.loop-done.level.items c.in_ok-level.level.items c.loop-done.invariant made
+    let fits : c.loop-done.done < e.m = omega (arith, c.requires.fits) in
+    let made : IsNextFamilies c.args.step c.args.weights.now e.m e.rows c.loop-done.done c.loop-done.level.items c.in_ok-level.level.items =
+    subst (λ l. IsNextFamilies c.args.step c.args.weights.now e.m e.rows c.loop-done.done l c.in_ok-level.level.items) c.deref.ensures.value c.in_ok-level.ensures in
+    level-next c.args.step c.args.weights.now e.m e.rows c.m.ensures.valid.ballots c.requires.falling c.requires.strict c.loop-done.done fits c.loop-done.level.items c.in_ok-level.level.items c.loop-done.invariant made
 
 pub returns : goal.returns
 returns g c =
     let e = c.args.profile.now in
-    let all : c.loop-done._done ≡ c.args.choices = omega arith in
+    let all : c.loop-done.done ≡ c.args.choices = omega arith in
     subst (λ n. IsFamilyLevel c.args.step c.args.weights.now e.m e.rows n c.loop-done.level.items) all c.loop-done.invariant

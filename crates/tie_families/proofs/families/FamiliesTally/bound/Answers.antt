@@ -14,10 +14,15 @@ overflow_add-len g c =
 pub may_be_in_some-may_win-requires-clause-most : goal.may_be_in_some-may_win-requires-clause-most
 may_be_in_some-may_win-requires-clause-most g c = c.self.invariant.most
 
-pub may_be_in_some-may_win-requires-clause-sets : goal.may_be_in_some-may_win-requires-clause-sets
-may_be_in_some-may_win-requires-clause-sets g c =
+pub may_be_in_some-may_win-requires-clause-leasts : goal.may_be_in_some-may_win-requires-clause-leasts
+may_be_in_some-may_win-requires-clause-leasts g c =
     let f = c.self.inside in
-    list-candidates f.profile.now f.rule f.k f.m f.sets.items c.deref.result.now c.self.invariant.m_is c.self.invariant.fits c.self.invariant.families c.deref.ensures.value
+    list-candidates f.m f.profile.now.m f.leasts.items c.deref.result.now c.self.invariant.m_is c.deref.ensures.value c.self.invariant.families.least_sets
+
+pub may_be_in_some-may_win-requires-clause-mosts : goal.may_be_in_some-may_win-requires-clause-mosts
+may_be_in_some-may_win-requires-clause-mosts g c =
+    let f = c.self.inside in
+    list-candidates f.m f.profile.now.m f.mosts.items c.deref-then-len-left.result.now c.self.invariant.m_is c.deref-then-len-left.ensures.value c.self.invariant.families.most_sets
 
 may_win-is : (g : _) (c : goal.After-from g) → c.from.result ≡ cond (some_winner c.args.self.now c.args.c c.args.set c.args.left) 1 0
 may_win-is g c =
@@ -31,8 +36,8 @@ may_win-is g c =
     let wins : c.if-len-left.may_win ≡ some_winner (sequential_of e f.rule f.k) c.args.c set left = elim c.if-len-left.branch [
       | then-len-left w ↦
           w.may_win-is ∙ w.may_be_in_some-may_win.ensures e.rows (subst (λ n. AreClones n e.rows f.clones) (sym inv.m_is) inv.clones_are)
-          ∙ bound-wins e f.rule f.k f.m f.sets.items w.deref.result.now inv.m_is inv.fits inv.families w.deref.ensures.value c.args.c set left (omega (arith, many, c.requires.within)) c.requires.candidates
-          (omega (arith, many, c.requires.fits)) (omega (arith, c.len.ensures.count, w.if-len-left.true))
+          ∙ bound-wins e f.rule f.k f.m f.leasts.items f.mosts.items w.deref.result.now w.deref-then-len-left.result.now inv.m_is inv.fits inv.families w.deref.ensures.value w.deref-then-len-left.ensures.value c.args.c set left (omega (arith, many, c.requires.within)) c.requires.candidates
+          (omega (arith, c.len.ensures.count, w.if-len-left.true))
       | else-len-left w ↦
           w.may_win-is ∙ ne_eqb (c.len.result + left) f.k w.if-len-left.false
           ∙ sym (some-other e f.rule f.k (omega (arith, inv.fits, inv.m_is)) c.args.c set left (λ size. w.if-len-left.false (omega (arith, c.len.ensures.count, size))))

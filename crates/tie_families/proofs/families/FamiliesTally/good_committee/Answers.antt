@@ -1,4 +1,4 @@
 use Rattle.tie_families.proofs.families.FamiliesTally.good_committee.Goals as goal
 
-pub filled-requires-clause-most : goal.filled-requires-clause-most
-filled-requires-clause-most g c = c.self.invariant.most
+pub filled-requires-clause-candidates : goal.filled-requires-clause-candidates
+filled-requires-clause-candidates g c = c.self.invariant.most
