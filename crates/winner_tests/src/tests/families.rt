@@ -3,8 +3,9 @@ ghost use Rattle.std.specs.Prelude.{◌≡◌, ◌≤◌, IfOk};
 ghost use Rattle.ballot_base.specs.Limits.{most_candidates};
 ghost use Rattle.ballot_base.specs.Lists.{IsIncreasing};
 
-use ballot_base::{CandSet, MOST_CANDIDATES, Profile, ProfileBuilder};
+use ballot_base::{CandSet, KSets, MOST_CANDIDATES, Profile, ProfileBuilder};
 use std::alloc::Global;
+use std::cmp::Ordering;
 use std::process::Abort;
 use std::test::Fail;
 use tie_families::{Families, FamilyWinners};
@@ -122,6 +123,142 @@ fn all_committees_of_one_ballot(rt: HostRuntime) -> Result<(), Fail> {
         let mut second = CandSet::all(39);
         second = second.with(41);
         assert!(rt; winners.next() == Some(second), "{rule:?}");
+    }
+    Ok(())
+}
+
+/// Elections of nine candidates with ties: for each voter a word of the digits of those approved.
+static TIES: [&str; 12] = [
+    // Each with voters of their own, as many or not.
+    "1 2 3 4 5 6 7 8 9",
+    "1 1 2 2 3 3 4 5 6",
+    "1 2 3",
+    // Parties.
+    "123 456 789",
+    "12 34 56 7 8 9",
+    // Those who tie have a voter in common: two pairs, a ring, a star, all.
+    "12 1 2 34 3 4 5 5 6 6",
+    "12 23 34 45 15 6 6 7 7",
+    "123 14 25 36 7 7 8 8",
+    "123456789 1 2 3 4",
+    // They have none, and their voters approve others too.
+    "14 25 36 0 7",
+    "12 13 23 4 4 5 5 6 6",
+    "17 28 39 17 28 39 7 8 9",
+];
+
+/// The election of m candidates with a voter for each word of their digits.
+fn voters(alloc: Global, m: u8, words: &str) -> Result<Profile, Fail>
+    requires some { 1 ≤ m }
+    requires most { m ≤ most_candidates }
+{
+    let mut builder = ProfileBuilder::new(alloc, m)?;
+    for word in words.split(' ') {
+        let mut approved = 0;
+        for digit in word.bytes() {
+            approved |= 1 << (digit % 16);
+        }
+        let set = ballot_of(m, MOST_CANDIDATES, approved);
+        builder.add(set, 1).map_err(|_| "memory")?;
+    }
+    match builder.finish() {
+        Ok(profile) => Ok(profile),
+        Err(_) => Err("no voters")?,
+    }
+}
+
+/// Asserts that these are the winners, and that those later than each start come after it.
+fn assert_later(
+    rt: &impl Abort,
+    alloc: Global,
+    profile: &Profile,
+    rule: SeqRule,
+    k: u8,
+    winners: &[CandSet],
+) -> Result<(), Fail>
+    requires some { 1 ≤ k }
+    requires fits { k ≤ profile.now.m }
+{
+    let families = Families::new(alloc, profile, rule, k)?;
+    let m = profile.m();
+    for word in 0..1_u64.wrapping_shl(u32::from(m)) {
+        let start = ballot_of(m, MOST_CANDIDATES, word << 1);
+        if start.len() == k {
+            let mut found = FamilyWinners::new(&families, Some(start));
+            for winner in winners {
+                if winner.cmp_lex(start) == Ordering::Greater {
+                    assert!(rt; found.next() == Some(*winner), "{winner:?} after {start:?}");
+                }
+            }
+            assert!(rt; found.next().is_none(), "one more after {start:?}");
+        }
+    }
+    Ok(())
+}
+
+#[test]
+fn ties_after_each_start(rt: HostRuntime) -> Result<(), Fail> {
+    let alloc = rt.alloc();
+    for words in TIES {
+        let profile = voters(alloc, 9, words)?;
+        for rule in SeqRule::ALL {
+            for k in 1..profile.m() + 1 {
+                let mut winners = Vec::new(alloc);
+                for winner in SeqWinners::new(alloc, &profile, rule, k, None)? {
+                    winners.push(winner)?;
+                }
+                assert_later(&rt, alloc, &profile, rule, k, &winners)?;
+            }
+        }
+        assert_all(&rt, alloc, &profile)?;
+    }
+    Ok(())
+}
+
+/// An election of m candidates with a voter each.
+fn a_voter_each(alloc: Global, m: u8) -> Result<Profile, Fail>
+    requires some { 1 ≤ m }
+    requires most { m ≤ most_candidates }
+    ensures { IfOk result (λ profile. profile.m ≡ m) }
+{
+    let mut builder = ProfileBuilder::new(alloc, m)?;
+    for n in 1..m + 1 {
+        let own = ballot_of(m, MOST_CANDIDATES, 1_u64.wrapping_shl(u32::from(n)));
+        builder.add(own, 1).map_err(|_| "memory")?;
+    }
+    match builder.finish() {
+        Ok(profile) => Ok(profile),
+        Err(_) => Err("no voters")?,
+    }
+}
+
+/// Where each of 40 candidates has a voter, all committees of 20 win: the first thousand.
+#[test]
+fn first_of_many_winners(rt: HostRuntime) -> Result<(), Fail> {
+    let alloc = rt.alloc();
+    let profile = a_voter_each(alloc, 40)?;
+    for rule in SeqRule::ALL {
+        let families = Families::new(alloc, &profile, rule, 20)?;
+        let mut winners = FamilyWinners::new(&families, None);
+        for committee in KSets::new(40, 20).take(1000) {
+            assert!(rt; winners.next() == Some(committee), "{rule:?} {committee:?}");
+        }
+    }
+    Ok(())
+}
+
+/// All 38,760 committees of 6 out of 20 candidates with a voter each.
+#[test]
+fn many_winners_are_counted(rt: HostRuntime) -> Result<(), Fail> {
+    let alloc = rt.alloc();
+    let profile = a_voter_each(alloc, 20)?;
+    for rule in SeqRule::ALL {
+        let families = Families::new(alloc, &profile, rule, 6)?;
+        let mut count = 0_u32;
+        for _committee in FamilyWinners::new(&families, None) {
+            count = count.wrapping_add(1);
+        }
+        assert_eq!(rt; count, 38_760);
     }
     Ok(())
 }
