@@ -97,9 +97,6 @@ module _ (m : ℕ) (rows : List Row) (committee set other : List ℕ) where
 module _ (step : Step) (weights : List ℕ) (m : ℕ) (rows : List Row) (ballots : AreBallots m rows) (falls : IsFalling weights) (strict : IsStrict weights) (size k : ℕ)
     (sizes : (set : List ℕ) → length set ≡ k → IsOfSize step m size set) (unsizes : (set : List ℕ) → IsOfSize step m size set → length set ≡ k) (sets : List (List ℕ)) (level : IsFamilyLevel step weights m rows size sets)
   where
-    other : List ℕ → List ℕ
-    other set = other_end step weights m rows k set
-
     -- the other end: the set itself where it is of size k, else its end
     pub data IsOther (set last : List ℕ) : Type 0 where
       itself : length set ≡ k → set ≡ last → IsOther set last

@@ -135,6 +135,17 @@ row-at (r ∷ rows) (suc i) row found =
     let rest = row-at rows i row found in
     (omega (arith, rest.0), rest.1)
 
+-- where there is no end, somebody brings something
+pub none-unsettled : (step : Step) (weights : List ℕ) (m : ℕ) (rows : List Row) (set : List ℕ) → end step weights m rows set ≡ None → is_settled step weights m rows set ≡ false
+unfolding end
+none-unsettled step weights m rows set none = elim (cases_Bool (is_settled step weights m rows set)) [
+  | inl settled ↦
+      let f : true ≡ false =
+      ap is_some (sym (ap (λ b. cond b (Some (range_with_len 1 m)) (cond (is_independent step weights m rows set) (Some (fold (change step) set (ties step weights m rows set))) None)) settled) ∙ none) in
+      absurd cc
+  | inr unsettled ↦ unsettled
+]
+
 -- ---- a set that is gone through
 
 pub first-parts : (left rest : List ℕ) (k last : ℕ) → left ≡ k ∷ rest → IsIncreasing 1 last left → ((1 ≤ k) × (k ≤ last)) × IsIncreasing 1 last rest

@@ -1,5 +1,5 @@
 -- The committees of the families of the last level are the winners of a sequential rule.
-use Rattle.std.proofs.Common.{◌≡◌, ℕ, zero, suc, ◌+◌, ◌-◌, ◌/◌, ◌≤◌, ◌∙◌, Bool, true, List, sym, ap, arith, inl, inr, length, get_or, Contains, add-one}
+use Rattle.std.proofs.Common.{◌≡◌, ℕ, zero, suc, ◌+◌, ◌-◌, ◌/◌, ◌≤◌, Bool, true, List, ap, arith, inl, inr, get_or, Contains, add-one}
 use Rattle.std.specs.Prelude.{nat_le}
 use Rattle.std.specs.List.{list_any, range_with_len}
 use Rattle.std.proofs.Math.Nat.{div-mul-le_self}

@@ -1,5 +1,5 @@
 //! The families that the choices of a sequential rule make, level by level.
-ghost use Rattle.std.specs.Prelude.{◌≡◌, ℕ, ◌^◌, ◌<◌, ◌≤◌, List, IfOk, OnOk, fold, map, length, slice_index};
+ghost use Rattle.std.specs.Prelude.{◌≡◌, ℕ, ◌^◌, ◌<◌, ◌≤◌, false, List, None, IfOk, OnOk, fold, map, length, slice_index};
 ghost use Rattle.std.specs.List.{AllByRecursion};
 ghost use Rattle.std.specs.Str.{bytes_eq};
 ghost use Rattle.indexmap.specs.IndexSet.{insert_all};
@@ -112,7 +112,7 @@ fn end<A: Allocator + Copy>(
     tied: CandSet,
 ) -> Option<CandSet>
     ensures { (weights : List ℕ) → best ≡ tied_worth step weights profile.now.m profile.now.rows set
-        → tied ≡ ties step weights profile.now.m profile.now.rows set
+        → (has_settled step best ≡ false → tied ≡ ties step weights profile.now.m profile.now.rows set)
         → result ≡ end step weights profile.now.m profile.now.rows set }
 {
     if is_settled(step, best) {
@@ -124,7 +124,7 @@ fn end<A: Allocator + Copy>(
     None
 }
 
-/// Those who are chosen next, and the set that all choices lead to where they may be made in any order.
+/// The set that all choices lead to where they may be made in any order, and who is chosen next where there is none.
 fn ties_and_end<A: Allocator + Copy>(
     profile: &Profile<A>,
     step: Step,
@@ -134,13 +134,17 @@ fn ties_and_end<A: Allocator + Copy>(
 ) -> (CandSet, Option<CandSet>)
     requires weights { (j : ℕ) → slice_index weights.now j < 2 ^ 90 }
     requires clones { AreClones profile.now.m profile.now.rows clones.now }
-    ensures ties { result.0 ≡ ties step weights.now profile.now.m profile.now.rows set }
+    ensures ties { result.1 ≡ None → result.0 ≡ ties step weights.now profile.now.m profile.now.rows set }
     ensures end { result.1 ≡ end step weights.now profile.now.m profile.now.rows set }
 {
     let m = profile.m();
     let totals = worths(profile, step, weights, set);
     let best = best_worth(step, m, &totals, set);
-    let tied = ties(step, m, &totals, best, clones, set);
+    let tied = if is_settled(step, best) {
+        CandSet::empty()
+    } else {
+        ties(step, m, &totals, best, clones, set)
+    };
     let end = end(profile, step, best, set, tied);
     (tied, end)
 }

@@ -1,5 +1,5 @@
-//! The winners of the sequential rules, as families: committees that differ in clones alone, or in candidates who bring
-//! nothing, are kept as one set.
+//! The winners of the sequential rules, as families: of all committees that lie between two sets, by how many of each class
+//! of clones they have, the two sets alone are kept.
 #![tactic(auto)]
 
 mod clones;

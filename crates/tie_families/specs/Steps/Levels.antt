@@ -75,11 +75,12 @@ unfoldable pub family_changes : Step → List ℕ → ℕ → List Row → ℕ �
 family_changes step weights m rows size set =
     followed step m size set (ties step weights m rows set) (end step weights m rows set)
 
--- where a family of the committees of k ends on the other side: at its set, where that has k members
+-- the end, or the set itself where there is none
 abbrev pub end_or : List ℕ → Option (List ℕ) → List ℕ
 end_or set None = set
 end_or set (Some last) = last
 
+-- where a family of the committees of k ends on the other side: at its set, where that has k members
 abbrev pub other_end : Step → List ℕ → ℕ → List Row → ℕ → List ℕ → List ℕ
 other_end step weights m rows k set = if length set == k then set else end_or set (end step weights m rows set)
 

@@ -17,9 +17,10 @@ pub returns-then-shares_no_voter : goal.returns-then-shares_no_voter
 returns-then-shares_no_voter g c weights most are =
     let e = c.args.profile.now in
     let settled = settled-is c.args.step weights e.m e.rows c.args.set (worth c.args.step weights e.rows c.args.set) c.args.best (λ d. refl) most in
+    let unsettled-best = sym c.is_settled.ensures ∙ c.if-is_settled.false in
     let unsettled : is_settled c.args.step weights e.m e.rows c.args.set ≡ false = sym settled ∙ sym c.is_settled.ensures ∙ c.if-is_settled.false in
     ap (λ s. Some s) c.after_all.ensures
-    ∙ end-independent c.args.step weights e.m e.rows c.args.set c.args.tied unsettled are (omega (arith, most, c.if-best-gt0.true)) (omega (arith, c.if-len-ge2.true, c.len.ensures.count))
+    ∙ end-independent c.args.step weights e.m e.rows c.args.set c.args.tied unsettled (are unsettled-best) (omega (arith, most, c.if-best-gt0.true)) (omega (arith, c.if-len-ge2.true, c.len.ensures.count))
     (sym c.shares_no_voter.ensures ∙ c.if-shares_no_voter.true)
 
 pub returns : goal.returns
@@ -28,6 +29,7 @@ returns g c weights most are =
     let settled = settled-is c.args.step weights e.m e.rows c.args.set (worth c.args.step weights e.rows c.args.set) c.args.best (λ d. refl) most in
     let step = c.args.step in
     let tied = c.args.tied in
+    let unsettled-best = sym c.is_settled.ensures ∙ c.if-is_settled.false in
     let unsettled : is_settled step weights e.m e.rows c.args.set ≡ false = sym settled ∙ sym c.is_settled.ensures ∙ c.if-is_settled.false in
     let not : (nat_lt 0 (tied_worth step weights e.m e.rows c.args.set) && (nat_le 2 (length tied) && shares_no_voter e.rows tied)) ≡ false = elim c.else-best-gt0.branch [
       | else-best-gt0-via-then-best-gt0+then-len-ge2+else-shares_no_voter w ↦
@@ -39,4 +41,4 @@ returns g c weights most are =
       | else-best-gt0-via-else-best-gt0 w ↦
           and_left (nat_lt 0 (tied_worth step weights e.m e.rows c.args.set)) (nat_le 2 (length tied) && shares_no_voter e.rows tied) (none-more 0 (tied_worth step weights e.m e.rows c.args.set) (omega (arith, most, w.if-best-gt0.false)))
     ] in
-    end-none step weights e.m e.rows c.args.set tied unsettled are not
+    end-none step weights e.m e.rows c.args.set tied unsettled (are unsettled-best) not

@@ -41,5 +41,5 @@ returns g c =
     let weights = c.args.weights.now in
     let none : end step weights e.m e.rows set ≡ None = sym c.ties_and_end-tied.ensures.end ∙ c.in_default.is in
     let are : map (change step set) c.ties_and_end-tied.result.0 ≡ family_changes step weights e.m e.rows c.args.size set =
-    ap (map (change step set)) c.ties_and_end-tied.ensures.ties ∙ changes-none step weights e.m e.rows c.args.size set none in
+    ap (map (change step set)) (c.ties_and_end-tied.ensures.ties c.in_default.is) ∙ changes-none step weights e.m e.rows c.args.size set none in
     subst (λ l. OnOk c.insert_each.result (c.insert_each.new.next.keys ≡ insert_all bytes_eq c.args.next.now.keys l)) are c.insert_each.ensures
