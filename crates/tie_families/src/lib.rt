@@ -1,5 +1,5 @@
-//! The winners of the sequential rules, as families: of all committees that lie between two sets, by how many of each class
-//! of clones they have, the two sets alone are kept.
+//! The winners of the sequential rules, as families: of all committees between two sets, by how many of each class of
+//! clones they have, the two sets alone are kept.
 #![tactic(auto)]
 
 mod clones;

@@ -10,7 +10,8 @@ use std::test::Fail;
 use tie_search::SearchTally;
 use tie_walk::{Tally, ThieleTally, Winners};
 
-/// Asserts that the search and the walk with ceilings find the same winners, all of them and those later than the first.
+/// Asserts that the search and the walk with ceilings find the same winners, all of them and those later than the
+/// first.
 fn assert_same(rt: &impl Abort, profile: &Profile, rule: ThieleRule, k: u8)
     requires some { 1 ≤ k }
     requires size { k ≤ most_members }
