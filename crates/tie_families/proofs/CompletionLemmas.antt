@@ -30,7 +30,7 @@ joined-increasing c m first (x ∷ set) added low fits up up' =
     (up.0, omega (arith, up.1, fits), joined-increasing c m (x + 1) set added (omega (arith, up.1)) fits up.2 up')
 
 -- no more of a class than a range has
-pub range-most : (p : ℕ → Bool) (n first last : ℕ) (set : List ℕ) → first + n ≡ last + 1 → IsIncreasing first last set → count_by p set ≤ count_by p (range_with_len first n)
+range-most : (p : ℕ → Bool) (n first last : ℕ) (set : List ℕ) → first + n ≡ last + 1 → IsIncreasing first last set → count_by p set ≤ count_by p (range_with_len first n)
 range-most p n first last [] all up = omega arith
 range-most p zero first last (x ∷ xs) all up = absurd (omega (arith, all, up.0, up.1))
 range-most p (suc n) first last (x ∷ xs) all up = elim (cases_eq x first) [
