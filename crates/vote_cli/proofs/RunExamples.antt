@@ -29,7 +29,7 @@ use Rattle.seat_share.specs.Allocations.{lists_with_sum}
 use Rattle.std.specs.Borrow.{MutBor}
 use Rattle.vote_cli.specs.declared.printing.Printer.{Printer}
 use Rattle.vote_cli.specs.Steps.Printing.{Prints, Sends}
-use Rattle.vote_cli.specs.Answer.{Answer, answered, violated, refused, request_refused, election_answer, IsCheckAnswer, IsCommittee, share_answer, share_answer_by, ballots_answer, IsAnswer, has_votes, input_for, Reports, ReadsAll, Ends, TellsOf, memory_line, read_failed_line, write_failed_line}
+use Rattle.vote_cli.specs.Answer.{Answer, answered, violated, refused, request_refused, election_answer, IsCheckAnswer, IsCommittee, share_answer, share_answer_by, ballots_answer, IsAnswer, IsTooLong, has_votes, input_for, Reports, ReadsAll, Ends, TellsOf, memory_line, read_failed_line, write_failed_line}
 use Rattle.vote_cli.specs.Steps.Refusals.{IsRefusal, status_of, error_of, ReadsBallots, TellsOfReads, TellsOfWrites, ReadsOn, WritesRight, IsWritten, outcome_status}
 use Rattle.vote_cli.specs.Steps.RequestFaults.{request_fault_word}
 use Rattle.ballot_base.specs.Lists.{IsIncreasing}
@@ -285,8 +285,8 @@ failed_writes = (refl, refl, refl, refl)
 two_of_three : AppendsBeginning (Some (7 ∷ [])) (Some (7 ∷ 1 ∷ 2 ∷ [])) (1 ∷ 2 ∷ 3 ∷ [])
 two_of_three = (1 ∷ 2 ∷ [], 3 ∷ [], refl, refl)
 
-failed_input : (TellsOfInput {T = ℕ} false true (Err fault.ReadFailed)) × (TellsOfInput {T = ℕ} false false (Err fault.Memory)) × (TellsOfInput {T = ℕ} false false (Ok 1))
-failed_input = (refl, refl, refl)
+failed_input : (TellsOfInput {T = ℕ} None false true (Err fault.ReadFailed)) × (TellsOfInput {T = ℕ} None false false (Err fault.Memory)) × (TellsOfInput {T = ℕ} None false false (Ok 1))
+failed_input = (inl refl, refl, refl)
 
 -- a whole line, and a beginning of one
 reported : Reports (Some []) (Some (line (codes "a"))) false (line (codes "a"))
@@ -367,7 +367,7 @@ ends_without_memory = record { nothing = refl; error = record { beginning = (mem
 
 -- a read failed, and the line on it was not taken whole
 ends_unread : Ends (seats 1) [] (Some []) (Some []) (Some []) (Some (codes "committees")) true false true false false DeviceFailed
-ends_unread = inl ((refl, refl), record { nothing = refl; error = record { beginning = (codes "committees", codes ": read failed" ++ 10 ∷ [], refl, refl); whole = λ unfailed. absurd (both_ways true unfailed refl) } })
+ends_unread = inl ((inl refl, refl), record { nothing = refl; error = record { beginning = (codes "committees", codes ": read failed" ++ 10 ∷ [], refl, refl); whole = λ unfailed. absurd (both_ways true unfailed refl) } })
 
 -- a write failed after the first line
 ends_in_part : Ends (seats 1) example_text (Some []) (Some (line (codes "rule av"))) (Some []) (Some write_failed_line) false false false false true DeviceFailed
@@ -382,7 +382,7 @@ ends_in_part = inr (
 )
 
 -- only the writer failed, and nothing failed after an earlier failure of the writer
-devices_told : (TellsOf DeviceFailed false false false true (λ said. said ≡ write_failed_line)) × (TellsOf Answered false false true true (λ said. ⊥))
+devices_told : (TellsOf None DeviceFailed false false false true (λ said. said ≡ write_failed_line)) × (TellsOf None Answered false false true true (λ said. ⊥))
 devices_told = (inr ((refl, refl), refl), (refl, refl))
 
 all_read : (ReadsAll Answered (Some (1 ∷ [])) (Some [])) × (ReadsOn {T = ℕ} (Some (1 ∷ [])) (Some []) (Err refusal.WriteFailed))
@@ -391,8 +391,12 @@ all_read = (refl, refl)
 input_of_demands : (input_for (sharing Dhondt 2 (Some (1 ∷ [])) whole) None ≡ Some []) × (input_for (sharing Dhondt 2 None whole) (Some (1 ∷ [])) ≡ Some (1 ∷ []))
 input_of_demands = (refl, refl)
 
-refusals_told : (TellsOfReads {T = ℕ} false true (Err refusal.ReadFailed)) × (TellsOfReads {T = ℕ} false false (Err refusal.Memory)) × (TellsOfWrites {T = ℕ} false true (Err refusal.WriteFailed)) × (TellsOfWrites {T = ℕ} false false (Ok 1))
-refusals_told = (refl, refl, refl, refl)
+refusals_told : (TellsOfReads {T = ℕ} None false true (Err refusal.ReadFailed)) × (TellsOfReads {T = ℕ} None false false (Err refusal.Memory)) × (TellsOfWrites {T = ℕ} false true (Err refusal.WriteFailed)) × (TellsOfWrites {T = ℕ} false false (Ok 1))
+refusals_told = (inl refl, refl, refl, refl)
+
+-- three bytes are not too many
+few_bytes : IsTooLong (1 ∷ 2 ∷ 3 ∷ []) → ⊥
+few_bytes long = omega (arith, long)
 
 prepared : (ReadsBallots usual example_text (Ok three)) × (ReadsBallots usual [] (Err (refusal.Input (at_end name.NoAlternatives)))) × (ReadsBallots usual [] (Err refusal.Memory))
 prepared = (reads_three, reads_nothing, tt)

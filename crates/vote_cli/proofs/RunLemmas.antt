@@ -1,8 +1,9 @@
 -- What is known of the input and of the writers, joined to the answer.
-use Rattle.std.proofs.Common.{◌≡◌, ◌≢◌, ◌⊎◌, inl, inr, ℕ, Bool, true, false, List, [], Option, Some, None, Ok, Err, IfSome, Result, is_ok, refl, sym, ap, ap₂, subst, ◌∙◌, ◌++◌, append-nil, true≢false}
+use Rattle.std.proofs.Common.{arith, length, ◌≤◌, ◌≡◌, ◌≢◌, ◌⊎◌, inl, inr, ℕ, Bool, true, false, List, [], Option, Some, None, Ok, Err, IfSome, Result, is_ok, refl, sym, ap, ap₂, subst, ◌∙◌, ◌++◌, append-nil, true≢false}
 use Rattle.std.specs.Prelude.{IsErr, IsErrAnd, codes, if◌then◌else◌}
-use Rattle.std.specs.Io.KnownBytes.{Appends}
+use Rattle.std.specs.Io.KnownBytes.{Appends, Consumes}
 use Rattle.std.proofs.KnownBytes.{Appends-nil}
+use Rattle.std.proofs.lemmas.List.{length-append}
 use Rattle.ballot_base.specs.Ballots.{Election}
 use Rattle.group_check.specs.Groups.{HasProperty}
 use Rattle.group_check.specs.Report.{IsReport}
@@ -11,6 +12,7 @@ use Rattle.group_check.specs.declared.property.Violation.{Violation}
 use Rattle.seat_share.specs.declared.method.Method.{Method}
 use Rattle.vote_cli.specs.Parties.{has_many_approved, party_votes}
 use Rattle.vote_cli.specs.CheckText.{holds_text, violation_text}
+use Rattle.preflib_text.specs.Limits.{word_limit}
 use Rattle.preflib_text.specs.Lines.{lines_of}
 use Rattle.preflib_text.specs.Reading.{Reads}
 use Rattle.preflib_text.specs.Pieces.{LacksMemory}
@@ -27,7 +29,7 @@ use Rattle.request_words.specs.Request.{Asked, Demand, Paging}
 use Rattle.vote_cli.specs.FaultText.{fault_text}
 use Rattle.vote_cli.specs.Names.{Naming, naming}
 use Rattle.vote_cli.specs.Steps.RequestFaults.{request_fault_word}
-use Rattle.vote_cli.specs.Answer.{Answer, Ends, IsAnswer, IsAnswerOver, IsAnswerTo, IsAllRead, IsCheckAnswer, IsCommittee, ReadsAll, Reports, TellsOf, ballots_answer, has_votes, input_for, share_answer, answered, request_refused, refused, violated}
+use Rattle.vote_cli.specs.Answer.{Answer, Ends, IsAnswer, IsAnswerOver, IsAnswerTo, IsAllRead, IsCheckAnswer, IsCommittee, IsTooLong, ReadsAll, Reports, TellsOf, ballots_answer, has_votes, input_for, share_answer, answered, request_refused, refused, violated}
 use Rattle.vote_cli.specs.Steps.Printing.{Outlet, Passes}
 use Rattle.vote_cli.proofs.PrintingLemmas.{alone}
 use Rattle.vote_cli.specs.Steps.Refusals.{WritesRight, IsRefusal, IsWritten, ReadsBallots, ReadsOn, TellsOfReads, TellsOfWrites, error_of, status_of, outcome_status}
@@ -162,6 +164,13 @@ writes_alone None asked demand P old new result is same h = tt
 writes_alone (Some bytes) asked demand P old new result is same h =
     writes_wider P (IsAnswer asked bytes) old new result (λ answer it. is_answer asked demand same bytes answer (is asked.pick bytes answer it)) h
 
+-- bytes of which so many were read are too many
+pub too_many : (before after : Option (List ℕ)) (read : List ℕ) → Consumes before after read → word_limit ≤ length read → IfSome before IsTooLong
+too_many None after read consumed long = tt
+too_many (Some bytes) None read consumed long = elim consumed [ ]
+too_many (Some bytes) (Some rest) read consumed long =
+    omega (arith, long, ap length consumed, length-append read rest)
+
 -- ---- what a run leaves
 
 module _ (known : Option (List ℕ)) (asked : Asked) (old new err : Option (List ℕ)) (err_failed : Bool)
@@ -187,7 +196,7 @@ module _ (known : Option (List ℕ)) (asked : Asked) (old new err : Option (List
     -- a refusal, with its line
     ends_refused : (k : Option (List ℕ)) (refusal : Refusal)
         → IfSome k (λ bytes. WritesRight (IsAnswer asked bytes) old new (Err refusal)) → Reports err err' err_failed (error_of refusal)
-        → TellsOfReads {T = Outcome} read_old read_new (Err refusal) → TellsOfWrites {T = Outcome} wrote_old wrote_new (Err refusal)
+        → TellsOfReads {T = Outcome} k read_old read_new (Err refusal) → TellsOfWrites {T = Outcome} wrote_old wrote_new (Err refusal)
         → IfSome k (λ bytes. Ends asked bytes old new err err' err_failed read_old read_new wrote_old wrote_new (status_of refusal))
     ends_refused None refusal h error reads writes = tt
     ends_refused (Some bytes) (Input fault) h error reads writes =
@@ -202,25 +211,25 @@ module _ (known : Option (List ℕ)) (asked : Asked) (old new err : Option (List
     -- the same, with the status that was answered
     pub ends_by_refusal : (refusal : Refusal) (ended : Status) → ended ≡ status_of refusal
         → IfSome known (λ bytes. WritesRight (IsAnswer asked bytes) old new (Err refusal)) → Reports err err' err_failed (error_of refusal)
-        → TellsOfReads {T = Outcome} read_old read_new (Err refusal) → TellsOfWrites {T = Outcome} wrote_old wrote_new (Err refusal)
+        → TellsOfReads {T = Outcome} known read_old read_new (Err refusal) → TellsOfWrites {T = Outcome} wrote_old wrote_new (Err refusal)
         → IfSome known (λ bytes. Ends asked bytes old new err err' err_failed read_old read_new wrote_old wrote_new ended)
     ends_by_refusal refusal ended is h error reads writes =
         subst (λ s. IfSome known (λ bytes. Ends asked bytes old new err err' err_failed read_old read_new wrote_old wrote_new s))
         (sym is) (ends_refused known refusal h error reads writes)
 
-module _ (read_old read_new wrote_old wrote_new : Bool) (Says : List ℕ → Type 0) where
+module _ (known : Option (List ℕ)) (read_old read_new wrote_old wrote_new : Bool) (Says : List ℕ → Type 0) where
   -- devices do not fail where an answer is written
   pub tells_whole : (ended : Outcome) (status : Status) → status ≡ outcome_status ended
-      → read_new ≡ read_old → wrote_new ≡ wrote_old → TellsOf status read_old read_new wrote_old wrote_new Says
+      → read_new ≡ read_old → wrote_new ≡ wrote_old → TellsOf known status read_old read_new wrote_old wrote_new Says
   tells_whole outcome.Answered status is reads writes =
-      subst (λ s. TellsOf s read_old read_new wrote_old wrote_new Says) (sym is) (reads, writes)
+      subst (λ s. TellsOf known s read_old read_new wrote_old wrote_new Says) (sym is) (reads, writes)
   tells_whole outcome.Violated status is reads writes =
-      subst (λ s. TellsOf s read_old read_new wrote_old wrote_new Says) (sym is) (reads, writes)
+      subst (λ s. TellsOf known s read_old read_new wrote_old wrote_new Says) (sym is) (reads, writes)
 
   -- one that has failed is blamed
-  tells_refused : (refusal : Refusal) → TellsOfReads {T = Outcome} read_old read_new (Err refusal)
+  tells_refused : (refusal : Refusal) → TellsOfReads {T = Outcome} known read_old read_new (Err refusal)
       → TellsOfWrites {T = Outcome} wrote_old wrote_new (Err refusal) → Says (error_of refusal)
-      → TellsOf (status_of refusal) read_old read_new wrote_old wrote_new Says
+      → TellsOf known (status_of refusal) read_old read_new wrote_old wrote_new Says
   tells_refused (Input fault) reads writes says = (reads, writes)
   tells_refused (Request fault) reads writes says = (reads, writes)
   tells_refused Memory reads writes says = (reads, writes)
@@ -228,10 +237,10 @@ module _ (read_old read_new wrote_old wrote_new : Bool) (Says : List ℕ → Typ
   tells_refused WriteFailed reads writes says = inr ((reads, writes), says)
 
   pub tells_by_refusal : (refusal : Refusal) (ended : Status) → ended ≡ status_of refusal
-      → TellsOfReads {T = Outcome} read_old read_new (Err refusal) → TellsOfWrites {T = Outcome} wrote_old wrote_new (Err refusal)
-      → Says (error_of refusal) → TellsOf ended read_old read_new wrote_old wrote_new Says
+      → TellsOfReads {T = Outcome} known read_old read_new (Err refusal) → TellsOfWrites {T = Outcome} wrote_old wrote_new (Err refusal)
+      → Says (error_of refusal) → TellsOf known ended read_old read_new wrote_old wrote_new Says
   tells_by_refusal refusal ended is reads writes says =
-      subst (λ s. TellsOf s read_old read_new wrote_old wrote_new Says) (sym is) (tells_refused refusal reads writes says)
+      subst (λ s. TellsOf known s read_old read_new wrote_old wrote_new Says) (sym is) (tells_refused refusal reads writes says)
 
 pub whole_has_memory : (ended : Outcome) (code : Status) → code ≡ outcome_status ended → code ≢ status.NoMemory
 whole_has_memory outcome.Answered code is none = let h : status.Answered ≡ status.NoMemory = sym is ∙ none in cc

@@ -11,6 +11,7 @@ use Rattle.group_check.specs.declared.property.Property.{Property}
 use Rattle.group_check.specs.declared.property.Violation.{Violation}
 use Rattle.preflib_text.specs.declared.fault.ReadFault.{ReadFault}
 use Rattle.preflib_text.specs.declared.pick.Pick.{Pick}
+use Rattle.preflib_text.specs.Limits.{word_limit}
 use Rattle.preflib_text.specs.Reading.{Reads}
 use Rattle.seat_share.specs.Faults.{first_fault}
 use Rattle.seat_share.specs.Names.{share_fault_name}
@@ -136,9 +137,17 @@ read_failed_line = line (codes "committees: read failed")
 abbrev pub write_failed_line : List ℕ
 write_failed_line = line (codes "committees: write failed")
 
--- a call of the reader has failed, and none of the writer in this run
-abbrev pub BlamesReader : Bool → Bool → Bool → Bool → Type 0
-BlamesReader read_old read_new out_old out_new = (read_new ≡ true) × (out_new ≡ out_old)
+-- more bytes than a run can count, which are a failed read though no call has failed
+abbrev pub IsTooLong : List ℕ → Type 0
+IsTooLong bytes = word_limit ≤ length bytes
+
+-- a call of the reader has failed; or none has, and its bytes, where they are known, are too many
+abbrev pub FailsToRead : Option (List ℕ) → Bool → Bool → Type 0
+FailsToRead bytes old new = (new ≡ true) ⊎ ((new ≡ old) × IfSome bytes IsTooLong)
+
+-- the input could not be read, and no call of the writer has failed in this run
+abbrev pub BlamesReader : Option (List ℕ) → Bool → Bool → Bool → Bool → Type 0
+BlamesReader bytes read_old read_new out_old out_new = FailsToRead bytes read_old read_new × (out_new ≡ out_old)
 
 -- a call of the writer has failed, and none of the reader in this run
 abbrev pub BlamesWriter : Bool → Bool → Bool → Bool → Type 0
@@ -170,22 +179,22 @@ module _ (asked : Asked) (bytes : List ℕ) (out_old out_new err_old err_new : O
     pub text : AppendsBeginning out_old out_new answer.text
     pub error : Reports err_old err_new err_failed write_failed_line
 
-  -- Where a device failed, it is the one that the line names: after a failed read nothing was written, and after a
-  -- failed write a beginning.
+  -- Where a device failed, or there were too many bytes, the line says which: after a failed read nothing was written,
+  -- and after a failed write a beginning.
   abbrev pub Ends : Bool → Bool → Bool → Bool → Status → Type 0
   Ends read_old read_new wrote_old wrote_new NoMemory = WritesNothing memory_line
   Ends read_old read_new wrote_old wrote_new DeviceFailed =
-      (BlamesReader read_old read_new wrote_old wrote_new × WritesNothing read_failed_line)
+      (BlamesReader (Some bytes) read_old read_new wrote_old wrote_new × WritesNothing read_failed_line)
       ⊎ (BlamesWriter read_old read_new wrote_old wrote_new × WritesBeginning)
   Ends read_old read_new wrote_old wrote_new status = WritesAnswer status
 
 -- What the devices tell after a run that ended with this status, whether or not they tell their bytes: which of them
 -- failed, where one did, and the line on it.
-abbrev pub TellsOf : Status → Bool → Bool → Bool → Bool → (List ℕ → Type 0) → Type 0
-TellsOf DeviceFailed read_old read_new out_old out_new Says =
-    (BlamesReader read_old read_new out_old out_new × Says read_failed_line)
+abbrev pub TellsOf : Option (List ℕ) → Status → Bool → Bool → Bool → Bool → (List ℕ → Type 0) → Type 0
+TellsOf bytes DeviceFailed read_old read_new out_old out_new Says =
+    (BlamesReader bytes read_old read_new out_old out_new × Says read_failed_line)
     ⊎ (BlamesWriter read_old read_new out_old out_new × Says write_failed_line)
-TellsOf status read_old read_new out_old out_new Says = BlamesNobody read_old read_new out_old out_new
+TellsOf bytes status read_old read_new out_old out_new Says = BlamesNobody read_old read_new out_old out_new
 
 -- a reader that told its bytes before has none left
 abbrev pub IsAllRead : Option (List ℕ) → Option (List ℕ) → Type 0

@@ -18,7 +18,7 @@ const PIECE: usize = 8192;
 pub(crate) enum InputFault {
     /// An allocation failed.
     Memory,
-    /// A read failed.
+    /// A read failed, or the bytes are more than a `u64` can count.
     ReadFailed,
 }
 
@@ -38,8 +38,8 @@ fn feed_piece<A: Allocator + Copy + Drop>(
     }
 }
 
-/// Feeds the whole input, in pieces. After a fault of the input it is still read to its end. Where there are more bytes
-/// than a `u64` can count, they are more than can be fed.
+/// Feeds the whole input, in pieces. After a fault of the input it is still read to its end. More bytes than a `u64` can
+/// count are a failed read.
 pub(crate) fn read_to_end<A: Allocator + Copy + Drop, R: Source>(
     alloc: A,
     hashing: BallotHashing,
@@ -50,7 +50,7 @@ pub(crate) fn read_to_end<A: Allocator + Copy + Drop, R: Source>(
     ensures bytes { IfOk result (λ lines. IfSome (R.remaining reader.old) (λ bytes. lines.fed ≡ bytes)) }
     ensures pick { IfOk result (λ lines. lines.pick ≡ pick.now) }
     ensures end { IfOk result (λ _. IsAllRead (R.remaining reader.old) (R.remaining reader.new)) }
-    ensures failed { TellsOfInput (R.has_failed reader.old) (R.has_failed reader.new) result }
+    ensures failed { TellsOfInput (R.remaining reader.old) (R.has_failed reader.old) (R.has_failed reader.new) result }
 {
     let Ok(mut lines) = LineReader::with_hashing(alloc, *pick, hashing) else {
         return Err(InputFault::Memory);
@@ -66,7 +66,7 @@ pub(crate) fn read_to_end<A: Allocator + Copy + Drop, R: Source>(
             return Ok(lines);
         }
         if count as u64 > left {
-            return Err(InputFault::Memory);
+            return Err(InputFault::ReadFailed);
         }
         left -= count as u64;
         feed_piece(&mut lines, &piece[..count])?;

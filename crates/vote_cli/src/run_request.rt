@@ -39,7 +39,7 @@ fn read_ballots<A: Allocator + Copy + Drop, R: Source>(
 ) -> Result<Profile<A>, Refusal>
     requires way { HasNumber pick.now.way }
     ensures input { IfSome (R.remaining reader.old) (λ bytes. ReadsBallots pick.now bytes result) }
-    ensures reads { TellsOfReads (R.has_failed reader.old) (R.has_failed reader.new) result }
+    ensures reads { TellsOfReads (R.remaining reader.old) (R.has_failed reader.old) (R.has_failed reader.new) result }
     ensures end { ReadsOn (R.remaining reader.old) (R.remaining reader.new) result }
     ensures unwritten { result ≢ Err Refusal.WriteFailed }
 {
@@ -61,7 +61,8 @@ fn answer<A: Allocator + Copy + Drop, R: Source, W: Sink>(
 ) -> Result<Outcome, Refusal>
     ensures answer { IfSome (input_for request.now.demand (R.remaining reader.old)) (λ bytes.
         WritesRight (IsAnswer request.now bytes) (W.contents out.old) (W.contents out.new) result) }
-    ensures reads { TellsOfReads (R.has_failed reader.old) (R.has_failed reader.new) result }
+    ensures reads { TellsOfReads (input_for request.now.demand (R.remaining reader.old))
+        (R.has_failed reader.old) (R.has_failed reader.new) result }
     ensures writes { TellsOfWrites (W.has_failed out.old) (W.has_failed out.new) result }
     ensures end { has_votes request.now.demand ≡ false →
         ReadsOn (R.remaining reader.old) (R.remaining reader.new) result }
@@ -116,8 +117,9 @@ pub fn run<A: Allocator + Copy + Drop, R: Source, W: Sink, E: Sink>(
         Ends request.now bytes (W.contents out.old) (W.contents out.new)
         (E.contents err.old) (E.contents err.new) (E.has_failed err.new)
         (R.has_failed reader.old) (R.has_failed reader.new) (W.has_failed out.old) (W.has_failed out.new) result) }
-    // A device is blamed exactly where it has failed, by its own line, whether or not the devices tell their bytes.
-    ensures devices { TellsOf result
+    // A device is blamed exactly where it has failed, by its own line, whether or not the devices tell their bytes; and
+    // so is the reader where there are more than 2^64 - 1 bytes.
+    ensures devices { TellsOf (input_for request.now.demand (R.remaining reader.old)) result
         (R.has_failed reader.old) (R.has_failed reader.new) (W.has_failed out.old) (W.has_failed out.new)
         (Reports (E.contents err.old) (E.contents err.new) (E.has_failed err.new)) }
     // The input is read to its end, whatever stands in it.
@@ -143,8 +145,9 @@ pub fn run_with_hashing<A: Allocator + Copy + Drop, R: Source, W: Sink, E: Sink>
         Ends request.now bytes (W.contents out.old) (W.contents out.new)
         (E.contents err.old) (E.contents err.new) (E.has_failed err.new)
         (R.has_failed reader.old) (R.has_failed reader.new) (W.has_failed out.old) (W.has_failed out.new) result) }
-    // A device is blamed exactly where it has failed, by its own line, whether or not the devices tell their bytes.
-    ensures devices { TellsOf result
+    // A device is blamed exactly where it has failed, by its own line, whether or not the devices tell their bytes; and
+    // so is the reader where there are more than 2^64 - 1 bytes.
+    ensures devices { TellsOf (input_for request.now.demand (R.remaining reader.old)) result
         (R.has_failed reader.old) (R.has_failed reader.new) (W.has_failed out.old) (W.has_failed out.new)
         (Reports (E.contents err.old) (E.contents err.new) (E.has_failed err.new)) }
     // The input is read to its end, whatever stands in it.

@@ -1,10 +1,11 @@
 -- Reading a whole input.
-use Rattle.std.specs.Prelude.{◌≡◌, Bool, true, Result, Ok, Err}
+use Rattle.std.specs.Prelude.{◌≡◌, ℕ, Bool, List, Option, Result, Ok, Err}
+use Rattle.vote_cli.specs.Answer.{FailsToRead}
 use Rattle.vote_cli.specs.declared.input.InputFault.{InputFault}
 use Rattle.vote_cli.specs.declared.input.InputFault.TheVariants.{Memory, ReadFailed}
 
--- a call of the reader has failed exactly where that is the fault
-abbrev pub TellsOfInput : {T : Type 0} → Bool → Bool → Result T InputFault → Type 0
-TellsOfInput old new (Err ReadFailed) = new ≡ true
-TellsOfInput old new (Err Memory) = new ≡ old
-TellsOfInput old new (Ok input) = new ≡ old
+-- the bytes could not be read exactly where that is the fault
+abbrev pub TellsOfInput : {T : Type 0} → Option (List ℕ) → Bool → Bool → Result T InputFault → Type 0
+TellsOfInput bytes old new (Err ReadFailed) = FailsToRead bytes old new
+TellsOfInput bytes old new (Err Memory) = new ≡ old
+TellsOfInput bytes old new (Ok input) = new ≡ old

@@ -18,7 +18,8 @@ use Rattle.preflib_text.specs.declared.pick.Pick.{Pick}
 use Rattle.preflib_text.specs.Reading.{Reads}
 use Rattle.vote_cli.specs.FaultText.{fault_text}
 use Rattle.vote_cli.specs.Answer.{Answer, answered, violated, refused}
-use Rattle.vote_cli.specs.Answer.{request_refused, IsAllRead, memory_line, read_failed_line, write_failed_line}
+use Rattle.vote_cli.specs.Answer.{request_refused, IsAllRead, FailsToRead}
+use Rattle.vote_cli.specs.Answer.{memory_line, read_failed_line, write_failed_line}
 
 -- the statuses of outcomes and refusals
 abbrev pub outcome_status : Outcome → Status
@@ -54,10 +55,10 @@ ReadsBallots pick bytes (Err Memory) = Unit {0}
 ReadsBallots pick bytes (Err ReadFailed) = Unit {0}
 ReadsBallots pick bytes (Err refusal) = ⊥
 
--- a call of the reader has failed exactly where that is the refusal
-abbrev pub TellsOfReads : {T : Type 0} → Bool → Bool → Result T Refusal → Type 0
-TellsOfReads old new (Err ReadFailed) = new ≡ true
-TellsOfReads old new result = new ≡ old
+-- the bytes could not be read exactly where that is the refusal
+abbrev pub TellsOfReads : {T : Type 0} → Option (List ℕ) → Bool → Bool → Result T Refusal → Type 0
+TellsOfReads bytes old new (Err ReadFailed) = FailsToRead bytes old new
+TellsOfReads bytes old new result = new ≡ old
 
 -- a call of the writer has failed exactly where that is the refusal
 abbrev pub TellsOfWrites : {T : Type 0} → Bool → Bool → Result T Refusal → Type 0

@@ -1,7 +1,8 @@
-use Rattle.std.proofs.Common.{rules, sym, ap, subst, ◌∙◌, arith, length, take}
+use Rattle.std.proofs.Common.{rules, sym, ap, subst, ◌∙◌, ◌++◌, inr, arith, length, take}
 use Rattle.std.proofs.lemmas.List.{length-append}
 use Rattle.std.proofs.KnownBytes.{Consumes-trans}
 use Rattle.std.specs.Io.KnownBytes.{Consumes}
+use Rattle.vote_cli.proofs.RunLemmas.{too_many}
 use Rattle.vote_cli.proofs.input.read_to_end.Goals as goal
 
 pub loop-count-preserved : goal.loop-count-preserved
@@ -15,3 +16,15 @@ loop-count-preserved g c =
       pick = search rules;
       left = omega (arith, all, c.in-Ok-read.ensures.bound.1, c.loop-count.invariant.left, c.if-count-left.false);
     }
+
+-- more bytes than may be fed
+pub returns-then-count-left-clause-failed : goal.returns-then-count-left-clause-failed
+returns-then-count-left-clause-failed g c =
+    let fed = c.loop-count.lines.fed in
+    let piece = take c.in-Ok-read.count c.read.new.buf in
+    inr (
+      search rules,
+      too_many _ _ (fed ++ piece)
+          (Consumes-trans _ _ _ fed piece c.loop-count.invariant.read c.in-Ok-read.ensures.bytes.0)
+          (omega (arith, length-append fed piece, c.in-Ok-read.ensures.bound.1, c.loop-count.invariant.left, c.if-count-left.true)),
+    )
