@@ -1,19 +1,11 @@
-//! One table a topic. Expected values are worked by hand, or computed apart from the program where a file says so.
-mod base;
-mod checks;
+//! Runs from words and bytes to bytes, readings of files, and what devices and memory do to them.
+mod drawn;
 mod failures;
 mod growths;
-mod inputs;
-mod many_ballots;
-mod names;
-mod pages;
-mod pieces;
-mod refusals;
+mod listings;
+mod long;
+mod reading;
 mod rest;
-mod rows;
-mod scores;
-mod shares;
-mod sixty_four;
+mod streams;
 mod support;
-mod ways;
-mod word_faults;
+mod tables;

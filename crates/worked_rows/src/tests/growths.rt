@@ -1,214 +1,251 @@
 //! Growths that are refused, one after the other.
-ghost use Rattle.std.specs.Prelude.{◌≡◌};
+ghost use Rattle.std.specs.Prelude.{◌≡◌, ◌≤◌};
 ghost use Rattle.ballot_base.specs.Limits.{most_candidates};
 
-use super::support::{ANSWER, THREE, add, assert_ended, name_in, read_line, request, set_name};
-use ballot_base::{AddFault, CandSet, FinishFault, MOST_CANDIDATES, Profile, ProfileBuilder};
-use preflib_text::{FaultName, LineReader, ReadFault, read_profile};
+use super::reading::pieces::told_of;
+use super::reading::{outcome, profile_text};
+use super::support::{ANSWER, THREE, assert_ended, ending, one_seat, read_line, reader, writer};
+use ballot_base::{AddFault, CandSet, MOST_CANDIDATES, ProfileBuilder};
+use preflib_text::{FaultName, read_profile};
 use std::alloc::{Allocator, Global};
 use std::process::Abort;
 use std::test::Fail;
-use test_devices::{
-    Refusing, SliceReader, Wanted, answered, reader, refused, run_on, violated, writer,
-};
-use vote_cli::Request;
+use test_devices::{Refusing, run_on};
 
 /// More growths than any of the calls below asks for.
 const MANY: u64 = 100;
 
-/// A file with names, and what comes of it.
-#[derive(Clone, Copy)]
-struct File {
-    kind: &'static str,
-    bytes: &'static [u8],
-    /// The answer for one seat.
-    answer: &'static [u8],
-    /// The lines that take memory: the first, where the builder is made, those of names, and those of new ballots.
-    growing: &'static [u64],
-    voters: u64,
-}
-
-static FILES: [File; 5] = [
-    File {
-        kind: "cat",
-        bytes: b"# DATA TYPE: cat\n# ALTERNATIVE NAME 9: Nobody\n# NUMBER ALTERNATIVES: 3\n# ALTERNATIVE NAME 1: Ada\n# NUMBER CATEGORIES: 2\n# ALTERNATIVE NAME 3: Cy\n2: {1,2},3\n1: 3,{1,2}\n2: {1,2}\n",
-        answer: b"rule av\nsize 1\nscore 4/1\n1\n2\nend\n",
-        growing: &[1, 2, 4, 6, 7, 8],
-        voters: 5,
-    },
-    File {
-        kind: "soc",
-        bytes: b"# ALTERNATIVE NAME 2: Bo\n# DATA TYPE: soc\n# NUMBER ALTERNATIVES: 3\n2: 1,2,3\n1: 3,1,2\n",
-        answer: b"rule av\nsize 1\nscore 2/1\n1\nend\n",
-        growing: &[1, 4, 5],
-        voters: 3,
-    },
-    File {
-        kind: "soi",
-        bytes: b"# NUMBER ALTERNATIVES: 3\n# DATA TYPE: soi\n# ALTERNATIVE NAME 2: Bo\n2: 2\n4: 2,3\n1:\n1: 3,1\n",
-        answer: b"rule av\nsize 1\nscore 6/1\n2\nend\n",
-        growing: &[1, 3, 4, 6, 7],
-        voters: 8,
-    },
-    File {
-        kind: "toc",
-        bytes: b"# DATA TYPE: toc\n# NUMBER ALTERNATIVES: 3\n# ALTERNATIVE NAME 1: Ada\n\n2: {1,3},2\n1: 2,{1,3}\n# ALTERNATIVE NAME 2: Bo\n",
-        answer: b"rule av\nsize 1\nscore 2/1\n1\n3\nend\n",
-        growing: &[1, 3, 5, 6],
-        voters: 3,
-    },
-    File {
-        kind: "toi",
-        bytes: b"# ALTERNATIVE NAME 3: Cy\n# ALTERNATIVE NAME 3: Di\n# DATA TYPE: toi\n# NUMBER ALTERNATIVES: 3\n1: {},{2}\n2: {2,3}\n",
-        answer: b"rule av\nsize 1\nscore 3/1\n2\nend\n",
-        growing: &[1, 2, 5, 6],
-        voters: 3,
-    },
-];
-
-static MEMORY: &[u8] = b"committees: memory\n";
+const MEMORY: &[u8] = b"committees: memory\n";
 
 /// Whether the growth was asked for, and refused.
 fn has_refused(heap: &Refusing) -> bool {
     heap.left.get() == 0
 }
 
-/// Asserts that a run over these bytes ends so exactly where no growth is refused. The run takes memory so often at
-/// least.
-fn assert_growths_of_run(
+/// Asserts that a run ends so exactly where no growth is refused, and answers how many growths it asks for.
+fn growths_of_run(
     rt: &impl Abort,
     alloc: Global,
-    case: &str,
-    request: &Request,
+    words: &str,
     bytes: &[u8],
-    wanted: Wanted<'_>,
-    least: u64,
-) -> Result<(), Fail> {
+    text: &[u8],
+) -> Result<u64, Fail> {
+    let request = read_line(alloc, words)??;
     for n in 1..=MANY {
         let heap = Refusing::new(alloc, n);
-        let ended = run_on(&heap, request, reader(bytes), writer(alloc), writer(alloc));
-        if !has_refused(&heap) {
-            assert_ended(rt, case, 0, &ended, wanted);
-            assert!(rt; n > least, "{case} takes memory");
-            return Ok(());
+        let ended = run_on(&heap, &request, reader(bytes), writer(alloc), writer(alloc));
+        let is_refused = has_refused(&heap);
+        let wanted = ending(if is_refused { MEMORY } else { text });
+        assert_ended(rt, words, n as usize, &ended, wanted);
+        if !is_refused {
+            return Ok(n - 1);
         }
-        assert_ended(rt, case, n as usize, &ended, refused(5, MEMORY));
     }
-    panic!(rt; "each run has a refused growth")
+    panic!(rt; "each run of {words} has a refused growth")
 }
+
+/// A file of each type, with names.
+const CAT: &[u8] =
+    b"# DATA TYPE: cat\n# ALTERNATIVE NAME 9: Nobody\n# NUMBER ALTERNATIVES: 3\n# ALTERNATIVE NAME 1: Ada\n# NUMBER CATEGORIES: 2\n# ALTERNATIVE NAME 3: Cy\n2: {1,2},3\n1: 3,{1,2}\n2: {1,2}\n";
+
+const SOC: &[u8] =
+    b"# ALTERNATIVE NAME 2: Bo\n# DATA TYPE: soc\n# NUMBER ALTERNATIVES: 3\n2: 1,2,3\n1: 3,1,2\n";
+
+const SOI: &[u8] =
+    b"# NUMBER ALTERNATIVES: 3\n# DATA TYPE: soi\n# ALTERNATIVE NAME 2: Bo\n2: 2\n4: 2,3\n1:\n1: 3,1\n";
+
+const TOC: &[u8] =
+    b"# DATA TYPE: toc\n# NUMBER ALTERNATIVES: 3\n# ALTERNATIVE NAME 1: Ada\n\n2: {1,3},2\n1: 2,{1,3}\n# ALTERNATIVE NAME 2: Bo\n";
+
+const TOI: &[u8] =
+    b"# ALTERNATIVE NAME 3: Cy\n# ALTERNATIVE NAME 3: Di\n# DATA TYPE: toi\n# NUMBER ALTERNATIVES: 3\n1: {},{2}\n2: {2,3}\n";
+
+/// Two groups of voters with nothing in common.
+const PARTED: &[u8] = b"# DATA TYPE: cat\n# NUMBER ALTERNATIVES: 4\n3: {1,2}\n1: {3,4}\n";
+
+/// Words, an input, what the run leaves, and the fewest growths that it asks for: the room of names and for a line, each
+/// name and each new ballot, and sets that choices make.
+type Run<'a> = (&'a str, &'a [u8], &'a [u8], u64);
+
+static RUNS: [Run<'static>; 16] = [
+    ("elect --rule av --size 1", THREE, ANSWER, 3),
+    (
+        "elect --rule av --size 1",
+        CAT,
+        b"rule av\nsize 1\nscore 4/1\n1\n2\nend\n",
+        4,
+    ),
+    (
+        "elect --rule av --size 1",
+        SOC,
+        b"rule av\nsize 1\nscore 2/1\n1\nend\n",
+        4,
+    ),
+    (
+        "elect --rule av --size 1",
+        SOI,
+        b"rule av\nsize 1\nscore 6/1\n2\nend\n",
+        4,
+    ),
+    (
+        "elect --rule av --size 1",
+        TOC,
+        b"rule av\nsize 1\nscore 2/1\n1\n3\nend\n",
+        4,
+    ),
+    (
+        "elect --rule av --size 1",
+        TOI,
+        b"rule av\nsize 1\nscore 3/1\n2\nend\n",
+        4,
+    ),
+    (
+        "elect --rule pav --size 2",
+        THREE,
+        b"rule pav\nsize 2\nscore 6/2\n1,2\n1,3\n2,3\nend\n",
+        3,
+    ),
+    (
+        "elect --rule geom3 --size 2",
+        THREE,
+        b"rule geom3\nsize 2\nscore 9/3\n1,3\n2,3\nend\n",
+        3,
+    ),
+    (
+        "elect --rule seqpav --size 2",
+        THREE,
+        b"rule seqpav\nsize 2\n1,2\n1,3\n2,3\nend\n",
+        4,
+    ),
+    (
+        "elect --rule revseqpav --size 1",
+        THREE,
+        b"rule revseqpav\nsize 1\n1\n2\nend\n",
+        4,
+    ),
+    (
+        "check --property jr --committee 3,4",
+        PARTED,
+        b"violated jr\nlevel 1\ncandidates 1\nvoters 3 of 4\n3: 1,2\n",
+        3,
+    ),
+    ("check --property ejr --committee 1,3", THREE, b"holds\n", 3),
+    (
+        "share --method dhondt --seats 2 --names p.soi",
+        b"# NUMBER ALTERNATIVES: 3\n# ALTERNATIVE NAME 1: Red\n# ALTERNATIVE NAME 3: Blue\n5: 1,2\n3: 3\n2:\n",
+        b"method dhondt\nseats 2\n1,0,1\tRed; Blue\nend\n",
+        5,
+    ),
+    (
+        "share --method dhondt --seats 2",
+        THREE,
+        b"committees: request: ManyApproved\n",
+        3,
+    ),
+    // With votes in the words no memory is taken.
+    (
+        "share --method dhondt --seats 7 --votes 53,24,23",
+        THREE,
+        b"method dhondt\nseats 7\n4,2,1\nend\n",
+        0,
+    ),
+    (
+        "share --method dhondt --seats 7 --votes 4294967296,1",
+        THREE,
+        b"committees: request: TooManyVotes\n",
+        0,
+    ),
+];
 
 #[test]
 fn each_growth_of_a_run(rt: HostRuntime) -> Result<(), Fail> {
-    let alloc = rt.alloc();
-    let one = request(alloc, "1")?;
-    // The names, the room for a line and the rows take memory.
-    assert_growths_of_run(&rt, alloc, "no name", &one, THREE, answered(ANSWER), 3)?;
-    for file in &FILES {
-        // A name does too.
-        let wanted = answered(file.answer);
-        assert_growths_of_run(&rt, alloc, file.kind, &one, file.bytes, wanted, 4)?;
+    for (words, bytes, text, least) in &RUNS {
+        let growths = growths_of_run(&rt, rt.alloc(), words, bytes, text)?;
+        let is_right = growths >= *least && (*least > 0 || growths == 0);
+        assert!(rt; is_right, "{words} asks for {growths} growths");
     }
     Ok(())
 }
 
+/// Comments take no memory: 2,100,000 bytes of them before a file make no growth more.
 #[test]
-fn each_growth_of_a_sequence(rt: HostRuntime) -> Result<(), Fail> {
+fn comments_take_no_memory(rt: HostRuntime) -> Result<(), Fail> {
     let alloc = rt.alloc();
-    // The sets that the choices make take memory, too.
-    let grown = read_line(alloc, "committees elect --rule seqpav --size 2")??;
-    let wanted = answered(b"rule seqpav\nsize 2\n1,2\n1,3\n2,3\nend\n");
-    assert_growths_of_run(&rt, alloc, "seqpav", &grown, THREE, wanted, 4)?;
-    let shrunk = read_line(alloc, "committees elect --rule revseqpav --size 1")??;
-    let wanted = answered(b"rule revseqpav\nsize 1\n1\n2\nend\n");
-    assert_growths_of_run(&rt, alloc, "revseqpav", &shrunk, THREE, wanted, 4)
-}
-
-#[test]
-fn each_growth_of_a_check(rt: HostRuntime) -> Result<(), Fail> {
-    let alloc = rt.alloc();
-    let holds = read_line(alloc, "committees check --property ejr --committee 1,3")??;
-    let wanted = answered(b"holds\n");
-    assert_growths_of_run(&rt, alloc, "holds", &holds, THREE, wanted, 3)?;
-    let line = "committees check --property jr --committee 1,2 --category 2";
-    let violated_by_two = read_line(alloc, line)??;
-    let wanted = violated(b"violated jr\nlevel 1\ncandidates 3\nvoters 2 of 3\n2: 3\n");
-    assert_growths_of_run(&rt, alloc, "violated", &violated_by_two, THREE, wanted, 3)
-}
-
-#[test]
-fn each_growth_of_shares(rt: HostRuntime) -> Result<(), Fail> {
-    let alloc = rt.alloc();
-    let shares = read_line(alloc, "committees share --method adams --seats 2")??;
-    let text = b"# DATA TYPE: cat\n# NUMBER ALTERNATIVES: 3\n5: 1\n3: 2\n3: 3\n".as_slice();
-    let wanted = answered(b"method adams\nseats 2\n1,0,1\n1,1,0\nend\n");
-    assert_growths_of_run(&rt, alloc, "shares", &shares, text, wanted, 3)
-}
-
-/// Votes in the words want neither memory nor an input: each growth that there were would be refused, and each read
-/// would fail.
-#[test]
-fn votes_in_the_words(rt: HostRuntime) -> Result<(), Fail> {
-    let alloc = rt.alloc();
-    let cases = [
-        (
-            "53,24,23",
-            answered(b"method dhondt\nseats 7\n4,2,1\nend\n"),
-        ),
-        ("1", answered(b"method dhondt\nseats 7\n7\nend\n")),
-        ("0,0", refused(4, b"committees: request: NoVotes\n")),
-        (
-            "4294967296,1",
-            refused(4, b"committees: request: TooManyVotes\n"),
-        ),
-    ];
-    for (votes, wanted) in cases {
-        let line = format!(in alloc; "committees share --method dhondt --seats 7 --votes {votes}")?;
-        let request = read_line(alloc, line.as_str())??;
-        let heap = Refusing::new(alloc, 1);
-        let reader = SliceReader::failing(THREE, 16, 1);
-        let ended = run_on(&heap, &request, reader, writer(alloc), writer(alloc));
-        assert_ended(&rt, votes, 0, &ended, wanted);
-        assert!(rt; !has_refused(&heap), "no growth of {votes}");
+    let mut long = Vec::new(alloc);
+    for _ in 0..300_000u32 {
+        long.extend_from_slice(b"# X: y\n")?;
     }
+    long.extend_from_slice(THREE)?;
+    let words = "elect --rule av --size 1";
+    let few = growths_of_run(&rt, alloc, words, THREE, ANSWER)?;
+    let many = growths_of_run(&rt, alloc, words, &long, ANSWER)?;
+    assert_eq!(rt; many, few);
     Ok(())
 }
 
-/// Asserts that a file is read exactly where no growth is refused, and that each growth is refused at a line that takes
-/// memory, the later ones at no earlier line.
-fn assert_growths_of_reading(rt: &impl Abort, alloc: Global, file: File) -> Result<(), Fail> {
-    let kind = file.kind;
-    let request = request(alloc, "1")?;
+/// Asserts that a file is read exactly where no growth is refused, and that each growth is refused at one of these
+/// lines, the later ones at no earlier line.
+fn assert_growths_of_reading(
+    rt: &impl Abort,
+    alloc: Global,
+    file: &[u8],
+    growing: &[u64],
+) -> Result<(), Fail> {
+    let pick = one_seat(alloc, "")?.pick();
     let mut last = 1;
     for n in 1..=MANY {
         let heap = Refusing::new(alloc, n);
-        let read = read_profile(&heap, file.bytes, &request.pick());
-        if !has_refused(&heap) {
-            assert_eq!(rt; read?.voters(), file.voters, "{kind}");
-            assert!(rt; n > 3, "{kind} takes memory");
-            return Ok(());
-        }
+        let read = read_profile(&heap, file, &pick);
         let Err(fault) = read else {
-            panic!(rt; "{kind} is read without growth {n}");
+            assert!(rt; !has_refused(&heap) && n > 3, "growth {n}");
+            return Ok(());
         };
-        assert_eq!(rt; fault.name, FaultName::Memory, "{kind}, growth {n}");
+        assert_eq!(rt; fault.name, FaultName::Memory, "growth {n}");
         let line = fault.line.ok_or("a line")?;
-        assert!(rt;
-            file.growing.contains(&line),
-            "{kind}, growth {n}: line {line}"
-        );
-        assert!(rt;
-            last <= line,
-            "{kind}, growth {n}: line {line} after {last}"
-        );
+        let is_due = has_refused(&heap) && growing.contains(&line) && last <= line;
+        assert!(rt; is_due, "growth {n}: line {line} after {last}");
         last = line;
     }
     panic!(rt; "each reading has a refused growth")
 }
 
+/// The lines that take memory: the first, where the builder is made, those of names, and those of new ballots.
 #[test]
 fn each_growth_of_a_reading(rt: HostRuntime) -> Result<(), Fail> {
-    for file in &FILES {
-        assert_growths_of_reading(&rt, rt.alloc(), *file)?;
+    let files: [(&[u8], &[u64]); 5] = [
+        (CAT, &[1, 2, 4, 6, 7, 8]),
+        (SOC, &[1, 4, 5]),
+        (SOI, &[1, 3, 4, 6, 7]),
+        (TOC, &[1, 3, 5, 6]),
+        (TOI, &[1, 2, 5, 6]),
+    ];
+    for (file, growing) in files {
+        assert_growths_of_reading(&rt, rt.alloc(), file, growing)?;
+    }
+    Ok(())
+}
+
+/// Where the first growth is refused, the first line's own fault comes before out of memory.
+#[test]
+fn the_first_growth_of_a_reading(rt: HostRuntime) -> Result<(), Fail> {
+    let alloc = rt.alloc();
+    let pick = one_seat(alloc, "")?.pick();
+    let cases: [(&[u8], &[u8]); 7] = [
+        (b"", b"NoAlternatives"),
+        (b"\xEF\xBB\xBF", b"NoAlternatives"),
+        (b"x\n", b"NoAlternatives"),
+        (b"# NUMBER ALTERNATIVES: 65\n", b"line 1: TooManyCandidates"),
+        (b"\n", b"line 1: Memory"),
+        (b"# NUMBER ALTERNATIVES: 3", b"line 1: Memory"),
+        (
+            b"# DATA TYPE: cat\n# NUMBER ALTERNATIVES: 65\n",
+            b"line 1: Memory",
+        ),
+    ];
+    for (file, wanted) in cases {
+        let heap = Refusing::new(alloc, 1);
+        let read = outcome(alloc, read_profile(&heap, file, &pick))?;
+        assert_eq!(rt; read.as_slice(), wanted, "{file:?}");
     }
     Ok(())
 }
@@ -218,261 +255,71 @@ fn each_growth_of_a_reading(rt: HostRuntime) -> Result<(), Fail> {
 #[test]
 fn a_refused_reader(rt: HostRuntime) -> Result<(), Fail> {
     let alloc = rt.alloc();
-    let request = request(alloc, "1")?;
+    let pick = one_seat(alloc, "--kind toi")?.pick();
     let heap = Refusing::new(alloc, 3);
-    let mut reader = LineReader::new(&heap, request.pick())?;
-    reader.feed(b"# NUMBER ALTERNATIVES: 3\n# DATA TYPE: toi\n")?;
-    let wanted = Some(ReadFault {
-        name: FaultName::Memory,
-        line: Some(3),
-    });
-    assert_eq!(rt; reader.feed(b"1: 1\n").err(), wanted);
-    assert_eq!(rt; reader.feed(b"1: x\n").err(), wanted);
-    assert_eq!(rt; reader.finish().err(), wanted);
+    let file = b"# NUMBER ALTERNATIVES: 3\n1: 1\n1: x\n";
+    let told = told_of(alloc, &heap, pick, file, 25, 30)?;
+    let wanted = b"0; line 2: Memory; line 2: Memory; line 2: Memory".as_slice();
+    assert_eq!(rt; told.as_slice(), wanted);
     Ok(())
 }
 
-/// Comments take no memory: the next growth would be refused.
-#[test]
-fn comments_take_no_memory(rt: HostRuntime) -> Result<(), Fail> {
-    let alloc = rt.alloc();
-    let request = request(alloc, "1")?;
-    let mut comments = Vec::new(alloc);
-    // 2,000,000 bytes and more.
-    for _ in 0..286_000u32 {
-        comments.extend_from_slice(b"# X: y\n")?;
-    }
-    let heap = Refusing::new(alloc, 3);
-    let mut reader = LineReader::new(&heap, request.pick())?;
-    reader.feed(&comments)?;
-    assert!(rt; !has_refused(&heap), "comments take memory");
-    Ok(())
-}
-
-#[test]
-fn the_first_growth_of_a_reading(rt: HostRuntime) -> Result<(), Fail> {
-    let alloc = rt.alloc();
-    let request = request(alloc, "1")?;
-    let cases: [(&[u8], FaultName, Option<u64>); 7] = [
-        (b"", FaultName::NoAlternatives, None),
-        (b"\xEF\xBB\xBF", FaultName::NoAlternatives, None),
-        (b"x\n", FaultName::NoAlternatives, None),
-        (
-            b"# NUMBER ALTERNATIVES: 65\n",
-            FaultName::TooManyCandidates,
-            Some(1),
-        ),
-        (b"\n", FaultName::Memory, Some(1)),
-        (b"# NUMBER ALTERNATIVES: 3", FaultName::Memory, Some(1)),
-        (
-            b"# DATA TYPE: cat\n# NUMBER ALTERNATIVES: 65\n",
-            FaultName::Memory,
-            Some(1),
-        ),
-    ];
-    for (bytes, name, line) in cases {
-        let heap = Refusing::new(alloc, 1);
-        let Err(fault) = read_profile(&heap, bytes, &request.pick()) else {
-            panic!(rt; "no profile takes no memory");
-        };
-        assert_eq!(rt; fault, ReadFault { name, line }, "{bytes:?}");
-    }
-    Ok(())
-}
-
-/// Adds, for each candidate from 1 to 9, as many voters who approve only that one. Where a growth is refused it adds
-/// them again, or leaves them out. To a ballot that is there it adds 100 voters, which takes no memory. Answers whom a
-/// growth was refused for.
-fn add_nine<A: Allocator + Copy + Drop>(
-    builder: &mut ProfileBuilder<A>,
-    again: bool,
-) -> Result<Option<u8>, AddFault>
-    requires { builder.old.m ≡ most_candidates }
+/// Adds a voter for this candidate alone, once more where the growth for it is refused.
+fn add<A: Allocator + Copy + Drop>(builder: &mut ProfileBuilder<A>, n: u8) -> Result<(), AddFault>
+    requires all { builder.old.m ≡ most_candidates }
+    requires some { 1 ≤ n }
+    requires most { n ≤ most_candidates }
+    ensures { builder.new.m ≡ most_candidates }
 {
-    let mut refused = None;
-    for n in 1..=9u8 {
-        let set = CandSet::empty().with(n);
-        match add(builder, set, u64::from(n)) {
-            Ok(()) => {}
-            Err(AddFault::Memory) => refused = Some(n),
-            Err(fault) => return Err(fault),
-        }
-        if refused != Some(n) {
-            add(builder, set, 100)?;
-        } else if again {
-            add(builder, set, u64::from(n))?;
-            add(builder, set, 100)?;
-        }
+    let set = CandSet::empty().with(n);
+    set.valid();
+    match builder.add(set, 1) {
+        Err(AddFault::Memory) => builder.add(set, 1),
+        added => added,
     }
-    Ok(refused)
 }
 
-/// Asserts that the profile has the ballots of those nine candidates, in their order, but not of this one.
-fn assert_nine<A: Allocator + Copy + Drop>(
-    rt: &impl Abort,
-    profile: &Profile<A>,
-    left_out: Option<u8>,
-) {
-    let mut i = 0;
-    let mut voters = 0u64;
-    for n in 1..=9u8 {
-        if left_out == Some(n) {
-            continue;
-        }
-        assert!(rt; i < profile.rows(), "a ballot for {n}");
-        let (set, count) = profile.row(i);
-        assert!(rt; set == CandSet::empty().with(n), "the ballot for {n}");
-        assert_eq!(rt; count, 100 + u64::from(n), "the voters for {n}");
-        i += 1;
-        voters = voters.saturating_add(count);
+/// Gives this candidate a name, once more where the growth for it is refused.
+fn set_name<A: Allocator + Copy + Drop>(
+    builder: &mut ProfileBuilder<A>,
+    n: u8,
+    name: &[u8],
+) -> Result<(), AddFault>
+    requires all { builder.old.m ≡ most_candidates }
+    requires some { 1 ≤ n }
+    requires most { n ≤ most_candidates }
+    ensures { builder.new.m ≡ most_candidates }
+{
+    match builder.set_name(n, name) {
+        Err(AddFault::Memory) => builder.set_name(n, name),
+        named => named,
     }
-    assert_eq!(rt; profile.rows(), i);
-    assert_eq!(rt; profile.voters(), voters);
 }
 
+/// After a refused growth a builder is as it was, and the same call succeeds with memory.
 #[test]
 fn each_growth_of_a_builder(rt: HostRuntime) -> Result<(), Fail> {
     let alloc = rt.alloc();
-    for again in [true, false] {
-        for n in 1..=MANY {
-            let heap = Refusing::new(alloc, n);
-            let Ok(mut builder) = ProfileBuilder::new(&heap, MOST_CANDIDATES) else {
-                assert!(rt; n == 1 && has_refused(&heap), "growth {n}");
-                continue;
-            };
-            let refused = add_nine(&mut builder, again)?;
-            assert_eq!(rt; refused.is_some(), has_refused(&heap), "growth {n}");
-            let Ok(profile) = builder.finish() else {
-                panic!(rt; "no ballot after growth {n}");
-            };
-            assert_nine(&rt, &profile, if again { None } else { refused });
-            if refused.is_none() {
-                assert!(rt; n > 2, "nine ballots take memory");
-                break;
-            }
-            assert!(rt; n < MANY, "each growth is refused");
+    for n in 2..=MANY {
+        let heap = Refusing::new(alloc, n);
+        let mut builder = ProfileBuilder::new(&heap, MOST_CANDIDATES)?;
+        set_name(&mut builder, 64, b"Red")?;
+        add(&mut builder, 7)?;
+        add(&mut builder, 64)?;
+        set_name(&mut builder, 7, b"Blue")?;
+        add(&mut builder, 7)?;
+        let Ok(profile) = builder.finish() else {
+            panic!(rt; "no ballot after growth {n}");
+        };
+        let text = profile_text(alloc, &profile)?;
+        assert_eq!(rt;
+            text.as_slice(),
+            b"64\n7 Blue\n64 Red\n2: 7\n1: 64".as_slice()
+        );
+        if !has_refused(&heap) {
+            assert!(rt; n > 4, "growth {n}");
+            return Ok(());
         }
     }
-    Ok(())
-}
-
-#[test]
-fn the_first_ballot_of_a_builder(rt: HostRuntime) -> Result<(), Fail> {
-    // The first growth is the builder's own.
-    let heap = Refusing::new(rt.alloc(), 2);
-    let mut builder = ProfileBuilder::new(&heap, MOST_CANDIDATES)?;
-    let set = CandSet::empty().with(7);
-    assert_eq!(rt; add(&mut builder, set, 1), Err(AddFault::Memory));
-    let Err((fault, mut builder)) = builder.finish() else {
-        panic!(rt; "no ballot was added");
-    };
-    assert_eq!(rt; fault, FinishFault::NoVoters);
-    add(&mut builder, set, 1)?;
-    let Ok(profile) = builder.finish() else {
-        panic!(rt; "a ballot was added");
-    };
-    assert_eq!(rt; profile.rows(), 1);
-    assert_eq!(rt; profile.voters(), 1);
-    Ok(())
-}
-
-/// Names, with their candidates. Some come in place of earlier ones.
-static NAMES: [(u8, &[u8]); 6] = [
-    (1, b"Red"),
-    (2, b"Blue"),
-    (64, b"Green"),
-    (1, b"Rose"),
-    (2, b"Navy"),
-    (64, b""),
-];
-
-/// Adds three voters, and then gives those names. Where a growth is refused for a name it gives the name again, or
-/// leaves it out. Answers the place of the name that a growth was refused for.
-fn add_names<A: Allocator + Copy + Drop>(
-    builder: &mut ProfileBuilder<A>,
-    again: bool,
-) -> Result<Option<usize>, AddFault>
-    requires { builder.old.m ≡ most_candidates }
-{
-    let set = CandSet::empty().with(7);
-    if add(builder, set, 3).is_err() {
-        add(builder, set, 3)?;
-    }
-    let mut refused = None;
-    for i in 0..NAMES.len() {
-        let (n, name) = NAMES[i];
-        let n = n.clamp(1, MOST_CANDIDATES);
-        if set_name(builder, n, name).is_err() {
-            refused = Some(i);
-            if again {
-                set_name(builder, n, name)?;
-            }
-        }
-    }
-    Ok(refused)
-}
-
-/// The names of candidates 1, 2 and 64 where the name at this place was left out.
-fn names_without(left_out: Option<usize>) -> [Option<&'static [u8]>; 3] {
-    match left_out {
-        Some(3) => [Some(b"Red"), Some(b"Navy"), None],
-        Some(4) => [Some(b"Rose"), Some(b"Blue"), None],
-        Some(5) => [Some(b"Rose"), Some(b"Navy"), Some(b"Green")],
-        _ => [Some(b"Rose"), Some(b"Navy"), None],
-    }
-}
-
-/// Asserts that the profile has those three voters, and names without the one at this place.
-fn assert_names<A: Allocator + Copy + Drop>(
-    rt: &impl Abort,
-    profile: &Profile<A>,
-    left_out: Option<usize>,
-) {
-    assert_eq!(rt; profile.m(), MOST_CANDIDATES);
-    assert_eq!(rt; profile.rows(), 1);
-    assert!(rt; profile.row(0) == (CandSet::empty().with(7), 3));
-    assert_eq!(rt; profile.voters(), 3);
-    let names = names_without(left_out);
-    assert!(rt;
-        name_in(profile, 1) == names[0],
-        "candidate 1 without {left_out:?}"
-    );
-    assert!(rt;
-        name_in(profile, 2) == names[1],
-        "candidate 2 without {left_out:?}"
-    );
-    assert!(rt;
-        name_in(profile, MOST_CANDIDATES) == names[2],
-        "candidate 64 without {left_out:?}"
-    );
-    for n in 3..MOST_CANDIDATES {
-        assert!(rt; name_in(profile, n).is_none(), "candidate {n}");
-    }
-}
-
-#[test]
-fn each_growth_of_names(rt: HostRuntime) -> Result<(), Fail> {
-    let alloc = rt.alloc();
-    for again in [true, false] {
-        let mut refusals = 0u32;
-        for n in 2..=MANY {
-            let heap = Refusing::new(alloc, n);
-            let mut builder = ProfileBuilder::new(&heap, MOST_CANDIDATES)?;
-            let refused = add_names(&mut builder, again)?;
-            let Ok(profile) = builder.finish() else {
-                panic!(rt; "no ballot after growth {n}");
-            };
-            assert_names(&rt, &profile, if again { None } else { refused });
-            if !has_refused(&heap) {
-                break;
-            }
-            if refused.is_some() {
-                refusals = refusals.saturating_add(1);
-            }
-            assert!(rt; n < MANY, "each growth is refused");
-        }
-        // The empty name takes no memory.
-        assert_eq!(rt; refusals, 5);
-    }
-    Ok(())
+    panic!(rt; "each builder has a refused growth")
 }

@@ -1,128 +1,62 @@
 //! Answers that a failed write cut off, and the second runs that fetch the rest.
-use super::pages::LISTS;
-use super::support::{THREE, assert_ended, read_line};
-use std::alloc::{AllocError, Global};
+use super::listings::{LISTINGS, Listing, listing_of};
+use super::support::{THREE, Wanted, assert_ended, assert_leaves, read_line, reader, writer};
+use std::alloc::Global;
 use std::process::Abort;
 use std::test::Fail;
-use test_devices::{Ended, Fault, Recorder, answered, reader, run_on, writer};
-use vote_cli::Status;
+use test_devices::{Fault, Recorder, run_on};
 
-/// A list of answers: the words that ask for it, its lines before the answers, and the answers with a `;` between.
-#[derive(Clone, Copy)]
-struct List<'a> {
-    words: &'a str,
-    header: &'a str,
-    answers: &'a str,
-}
-
-/// The words, and a limit where there is one.
-fn limited(alloc: Global, words: &str, limit: Option<usize>) -> Result<String, AllocError> {
-    match limit {
-        Some(limit) => format!(in alloc; "{words} --limit {limit}"),
-        None => String::from_str(alloc, words),
-    }
-}
-
-/// The text of the first answers of a list, as many as the limit allows.
-fn text(alloc: Global, list: List<'_>, limit: Option<usize>) -> Result<String, Fail> {
-    let most = limit.unwrap_or(usize::MAX);
-    let mut text = String::new(alloc);
-    for line in list.header.split(';') {
-        text.push_str(format!(in alloc; "{line}\n")?.as_str())?;
-    }
-    for answer in list.answers.split(';').take(most) {
-        text.push_str(format!(in alloc; "{answer}\n")?.as_str())?;
-    }
-    let is_cut = list.answers.split(';').count() > most;
-    text.push_str(if is_cut { "more\n" } else { "end\n" })?;
-    Ok(text)
-}
-
-/// The last answer of a list whose line ends within so many bytes: how many answers there are up to it, the answer, and
-/// where its line ends.
-fn last_whole<'a>(list: List<'a>, taken: usize) -> Option<(usize, &'a str, usize)> {
-    let mut end = list.header.len().saturating_add(1);
-    let mut last = None;
-    for (i, answer) in list.answers.split(';').enumerate() {
-        end = end.saturating_add(answer.len()).saturating_add(1);
-        if end > taken {
-            return last;
-        }
-        last = Some((i.saturating_add(1), answer, end));
-    }
-    last
-}
-
-/// What these words leave over `THREE`, with this fault of the output.
-fn run_words(alloc: Global, words: &str, fault: Fault) -> Result<Ended<'static>, Fail> {
-    let line = format!(in alloc; "committees {words}")?;
-    let request = read_line(alloc, line.as_str())??;
-    let out = Recorder::new(alloc, usize::MAX, fault);
-    Ok(run_on(alloc, &request, reader(THREE), out, writer(alloc)))
-}
-
-/// Asserts that what was taken of a text up to the last whole answer, and what a second run from there has after its
-/// header, are the whole text. Nothing is asserted where only the last line was missing under a limit.
+/// Asserts that a second run fetches what is missing after this beginning of a text: it starts after the last whole
+/// answer, with what is left of the limit. Where no answer is whole, or only the last line is missing, there is no such run.
 fn assert_fetched(
     rt: &impl Abort,
     alloc: Global,
-    list: List<'_>,
-    limit: Option<usize>,
-    taken: usize,
+    listing: Listing<'_>,
+    limit: usize,
+    taken: &str,
 ) -> Result<(), Fail> {
-    let whole = text(alloc, list, limit)?;
-    let Some((count, answer, end)) = last_whole(list, taken) else {
-        return Ok(());
-    };
-    let left = limit.map(|limit| limit.saturating_sub(count));
-    if left == Some(0) {
+    let lines = taken.split('\n').count().saturating_sub(1);
+    let answers = lines.saturating_sub(listing.header_lines());
+    let left = limit.saturating_sub(answers);
+    if answers == 0 || left == 0 {
         return Ok(());
     }
-    let words = format!(in alloc; "{} --after {answer}", list.words)?;
-    let words = limited(alloc, words.as_str(), left)?;
-    let ended = run_words(alloc, words.as_str(), Fault::Sound)?;
-    let mut header = super::support::lines(alloc, list.header)?;
-    header.push_str("\n")?;
-    let rest = ended.out.taken().strip_prefix(header.as_bytes());
-    let mut joined = Vec::from_slice(alloc, whole.as_bytes().get(..end).ok_or("a beginning")?)?;
-    joined.extend_from_slice(rest.ok_or("the same header")?)?;
-    assert_eq!(rt; joined.as_slice(), whole.as_bytes(), "{words}");
-    Ok(())
+    let words = listing.words(alloc, answers, left)?;
+    let text = listing.text(alloc, answers, left)?;
+    assert_leaves(rt, alloc, words.as_str(), THREE, text.as_bytes())
 }
 
-/// Cuts the text of a list off after each of its bytes, and fetches the rest.
+/// Cuts the text of a listing off after each of its bytes, and fetches the rest.
 fn assert_cuts(
     rt: &impl Abort,
     alloc: Global,
-    list: List<'_>,
-    limit: Option<usize>,
+    listing: Listing<'_>,
+    limit: usize,
 ) -> Result<(), Fail> {
-    let whole = text(alloc, list, limit)?;
-    let words = limited(alloc, list.words, limit)?;
-    for taken in 0..whole.len() {
-        let ended = run_words(alloc, words.as_str(), Fault::ErrorAfter(taken))?;
-        assert_eq!(rt; ended.status, Status::DeviceFailed, "{words}, {taken}");
-        assert_eq!(rt; ended.out.taken(), &whole.as_bytes()[..taken], "{words}");
-        assert_fetched(rt, alloc, list, limit, taken)?;
+    let words = listing.words(alloc, 0, limit)?;
+    let text = listing.text(alloc, 0, limit)?;
+    let request = read_line(alloc, words.as_str())??;
+    for (place, _byte) in text.as_str().char_indices() {
+        let taken = &text.as_str()[..place];
+        let out = Recorder::new(alloc, usize::MAX, Fault::ErrorAfter(place));
+        let ended = run_on(alloc, &request, reader(THREE), out, writer(alloc));
+        let wanted = Wanted {
+            status: 6,
+            out: taken.as_bytes(),
+            err: b"committees: write failed\n",
+        };
+        assert_ended(rt, words.as_str(), place, &ended, wanted);
+        assert_fetched(rt, alloc, listing, limit, taken)?;
     }
-    let ended = run_words(alloc, words.as_str(), Fault::Sound)?;
-    assert_ended(rt, words.as_str(), 0, &ended, answered(whole.as_bytes()));
     Ok(())
 }
 
 #[test]
-fn each_cut_of_each_list(rt: HostRuntime) -> Result<(), Fail> {
-    let alloc = rt.alloc();
-    for row in LISTS.lines() {
-        let (words, rest) = row.split_once('|').ok_or("words")?;
-        let (header, answers) = rest.split_once('|').ok_or("answers")?;
-        let list = List {
-            words,
-            header,
-            answers,
-        };
-        for limit in [None, Some(1), Some(2), Some(3)] {
-            assert_cuts(&rt, alloc, list, limit)?;
+fn each_cut_of_each_listing(rt: HostRuntime) -> Result<(), Fail> {
+    for row in LISTINGS.lines() {
+        let listing = listing_of(row).ok_or("a listing")?;
+        for limit in [1, 2, 3, 9] {
+            assert_cuts(&rt, rt.alloc(), listing, limit)?;
         }
     }
     Ok(())

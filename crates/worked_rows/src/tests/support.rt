@@ -1,117 +1,80 @@
 //! What the tests share: requests from words, what runs leave, and texts of tables.
-ghost use Rattle.std.specs.Prelude.{◌≡◌, ◌≤◌, ◌==◌, ◌||◌};
-ghost use Rattle.ballot_base.specs.Limits.{most_candidates};
+ghost use Rattle.std.specs.Prelude.{◌≡◌, ◌==◌, ◌||◌};
 ghost use Rattle.vote_cli.specs.Status.{code_of};
 
-use ballot_base::{AddFault, CandSet, Profile, ProfileBuilder};
-use std::alloc::{AllocError, Allocator, Global};
+use std::alloc::{AllocError, Global};
+use std::fmt::Write;
 use std::process::Abort;
 use std::test::Fail;
-use test_devices::{Ended, Wanted, answered, reader, refused, run_on, writer};
+use test_devices::{Ended, Fault, Recorder, SliceReader, run_on};
 use vote_cli::{Device, LineFault, Request, read_request};
 
 /// Three candidates and two ballots: two voters approve 1 and 2, and one voter approves 3.
-pub(super) static THREE: &[u8] =
+pub(super) const THREE: &[u8] =
     b"# DATA TYPE: cat\n# NUMBER ALTERNATIVES: 3\n# NUMBER CATEGORIES: 2\n2: {1,2},3\n1: 3,{1,2}\n";
 
 /// The answer to it by approval voting, for one seat.
-pub(super) static ANSWER: &[u8] = b"rule av\nsize 1\nscore 2/1\n1\n2\nend\n";
+pub(super) const ANSWER: &[u8] = b"rule av\nsize 1\nscore 2/1\n1\n2\nend\n";
 
-/// The words of a line, read as a request.
+/// The words of a line, after the program's name, read as a request.
 pub(super) fn read_line(
     alloc: Global,
     line: &str,
 ) -> Result<Result<Request, LineFault>, AllocError> {
     let mut words = Vec::new(alloc);
+    words.push(String::from_str(alloc, "committees")?)?;
     for word in line.split_whitespace() {
         words.push(String::from_str(alloc, word)?)?;
     }
     Ok(read_request(alloc, words.as_slice()))
 }
 
-/// The request of approval voting for so many seats. More words may follow the number.
-pub(super) fn request(alloc: Global, words: &str) -> Result<Request, Fail> {
-    let mut line = String::from_str(alloc, "committees elect --rule av --size ")?;
-    line.push_str(words)?;
+/// The request of approval voting for one seat. More words may follow.
+pub(super) fn one_seat(alloc: Global, words: &str) -> Result<Request, Fail> {
+    let line = format!(in alloc; "elect --rule av --size 1 {words}")?;
     Ok(read_line(alloc, line.as_str())??)
 }
 
-/// Asserts what these words after the program's name leave over these bytes.
-pub(super) fn assert_leaves(
-    rt: &impl Abort,
-    alloc: Global,
-    words: &str,
-    bytes: &[u8],
-    wanted: Wanted<'_>,
-) -> Result<(), Fail> {
-    let line = format!(in alloc; "committees {words}")?;
-    let request = read_line(alloc, line.as_str())??;
-    let ended = run_on(alloc, &request, reader(bytes), writer(alloc), writer(alloc));
-    assert_ended(rt, words, 0, &ended, wanted);
-    Ok(())
+/// What a run has to leave: its exit status, and the bytes on its two writers.
+#[derive(Clone, Copy)]
+pub(super) struct Wanted<'a> {
+    pub status: u8,
+    pub out: &'a [u8],
+    pub err: &'a [u8],
 }
 
-/// Asserts that these words after the program's name do not fit these bytes, by a fault of this name.
-pub(super) fn assert_misfit(
-    rt: &impl Abort,
-    alloc: Global,
-    words: &str,
-    bytes: &[u8],
-    name: &str,
-) -> Result<(), Fail> {
-    let line = format!(in alloc; "committees: request: {name}\n")?;
-    assert_leaves(rt, alloc, words, bytes, refused(4, line.as_bytes()))
+/// What a run has to leave that ends with this text: the report of a violation has status 1, a line on the input 3, and
+/// one on the request 4.
+pub(super) fn ending(text: &[u8]) -> Wanted<'_> {
+    let (out, err): (&[u8], &[u8]) = if text.starts_with(b"committees: ") {
+        (b"", text)
+    } else {
+        (text, b"")
+    };
+    let status = if out.starts_with(b"violated ") {
+        1
+    } else if err.starts_with(b"committees: input") {
+        3
+    } else if err.starts_with(b"committees: request") {
+        4
+    } else if err == b"committees: memory\n".as_slice() {
+        5
+    } else if !err.is_empty() {
+        6
+    } else {
+        0
+    };
+    Wanted { status, out, err }
 }
 
-/// Asserts what the words from the number of seats on leave over these bytes.
-pub(super) fn assert_runs(
-    rt: &impl Abort,
-    alloc: Global,
-    case: &str,
-    words: &str,
-    bytes: &[u8],
-    wanted: Wanted<'_>,
-) -> Result<(), Fail> {
-    let request = request(alloc, words)?;
-    let ended = run_on(alloc, &request, reader(bytes), writer(alloc), writer(alloc));
-    assert_ended(rt, case, 0, &ended, wanted);
-    Ok(())
+/// A reader that gives all that is asked for, and never fails.
+pub(super) fn reader(bytes: &[u8]) -> SliceReader<'_> {
+    SliceReader::new(bytes, usize::MAX)
 }
 
-/// Asserts that the election of one candidate, with these words, prints these lines between its head and its end.
-pub(super) fn assert_elects(
-    rt: &impl Abort,
-    alloc: Global,
-    case: &str,
-    options: &str,
-    bytes: &[u8],
-    lines: &str,
-) -> Result<(), Fail> {
-    let mut words = String::from_str(alloc, "1 ")?;
-    words.push_str(options)?;
-    let mut answer = String::from_str(alloc, "rule av\nsize 1\n")?;
-    answer.push_str(lines)?;
-    answer.push_str("end\n")?;
-    let wanted = answered(answer.as_bytes());
-    assert_runs(rt, alloc, case, words.as_str(), bytes, wanted)
-}
-
-/// Asserts that the election of one candidate, with these words, ends with this fault of the input.
-pub(super) fn assert_refuses(
-    rt: &impl Abort,
-    alloc: Global,
-    case: &str,
-    options: &str,
-    bytes: &[u8],
-    fault: &str,
-) -> Result<(), Fail> {
-    let mut words = String::from_str(alloc, "1 ")?;
-    words.push_str(options)?;
-    let mut line = String::from_str(alloc, "committees: input")?;
-    line.push_str(fault)?;
-    line.push_str("\n")?;
-    let wanted = refused(3, line.as_bytes());
-    assert_runs(rt, alloc, case, words.as_str(), bytes, wanted)
+/// A writer that takes all that it is given, and never fails.
+pub(super) fn writer(alloc: Global) -> Recorder {
+    Recorder::new(alloc, usize::MAX, Fault::Sound)
 }
 
 /// Asserts that the run left this, and that a device failed exactly where its status says so. The number tells cases of
@@ -150,69 +113,60 @@ pub(super) fn assert_ended(
     );
 }
 
-/// A text of a table: a `;` stands for the end of a line.
-pub(super) fn lines(alloc: Global, text: &str) -> Result<String, AllocError> {
-    let mut lines = String::with_capacity(alloc, text.len())?;
-    for (i, line) in text.split(';').enumerate() {
-        if i > 0 {
-            lines.push_str("\n")?;
-        }
-        lines.push_str(line)?;
-    }
-    Ok(lines)
-}
-
-/// A cat file with so many alternatives and these ballots. A `;` stands for the end of a line.
-pub(super) fn cat_file(
+/// Asserts that these words after the program's name end with this text over these bytes.
+pub(super) fn assert_leaves(
+    rt: &impl Abort,
     alloc: Global,
-    alternatives: &str,
-    ballots: &str,
-) -> Result<String, AllocError> {
-    let ballots = lines(alloc, ballots)?;
-    format!(in alloc; "# DATA TYPE: cat\n# NUMBER ALTERNATIVES: {alternatives}\n{ballots}\n")
+    words: &str,
+    bytes: &[u8],
+    text: &[u8],
+) -> Result<(), Fail> {
+    let request = read_line(alloc, words)??;
+    let ended = run_on(alloc, &request, reader(bytes), writer(alloc), writer(alloc));
+    assert_ended(rt, words, 0, &ended, ending(text));
+    Ok(())
 }
 
-/// The numbers from 1 to the last, joined by commas.
-pub(super) fn numbers_to(alloc: Global, last: u8) -> Result<String, AllocError> {
-    let mut list = String::from_str(alloc, "1")?;
-    for n in 2..=last {
-        list.push_str(format!(in alloc; ",{n}")?.as_str())?;
+/// Adds the numbers from the first to the last, up or down, with commas between them.
+fn push_range(text: &mut String, first: u8, last: u8) -> Result<(), Fail> {
+    write!(text, "{first}")?;
+    for step in 1..=first.abs_diff(last) {
+        let n = if first < last {
+            first.saturating_add(step)
+        } else {
+            first.saturating_sub(step)
+        };
+        write!(text, ",{n}")?;
     }
-    Ok(list)
+    Ok(())
 }
 
-/// Adds voters with one ballot over as many candidates as there may be.
-pub(super) fn add<A: Allocator + Copy + Drop>(
-    builder: &mut ProfileBuilder<A>,
-    set: CandSet,
-    count: u64,
-) -> Result<(), AddFault>
-    requires alternatives { builder.old.m ≡ most_candidates }
-    requires voters { 1 ≤ count }
-    ensures { builder.new.m ≡ most_candidates }
-{
-    set.valid();
-    builder.add(set, count)
-}
-
-/// Gives a candidate a name, of as many as there may be.
-pub(super) fn set_name<A: Allocator + Copy + Drop>(
-    builder: &mut ProfileBuilder<A>,
-    n: u8,
-    name: &[u8],
-) -> Result<(), AddFault>
-    requires alternatives { builder.old.m ≡ most_candidates }
-    requires low { 1 ≤ n }
-    requires high { n ≤ most_candidates }
-    ensures { builder.new.m ≡ most_candidates }
-{
-    builder.set_name(n, name)
-}
-
-/// The name of a candidate, where the profile has the candidate and the name.
-pub(super) fn name_in<A: Allocator + Copy>(profile: &Profile<A>, n: u8) -> Option<&[u8]> {
-    if n == 0 || n > profile.m() {
-        return None;
+/// Adds a list in brackets: `1..4` is `1,2,3,4`, and `0*3` is `0,0,0`.
+fn push_list(text: &mut String, list: &str) -> Result<(), Fail> {
+    if let Some((first, last)) = list.split_once("..") {
+        return push_range(text, first.parse()?, last.parse()?);
     }
-    profile.name(n)
+    let (number, count) = list.split_once('*').ok_or("a list in brackets")?;
+    let count: u8 = count.parse()?;
+    for i in 0..count {
+        text.push_str(if i > 0 { "," } else { "" })?;
+        text.push_str(number)?;
+    }
+    Ok(())
+}
+
+/// The text that a part of a table stands for: `¶` ends a line, and lists may stand in brackets.
+pub(super) fn written_out(alloc: Global, part: &str) -> Result<String, Fail> {
+    let mut text = String::with_capacity(alloc, part.len())?;
+    for (i, line) in part.split('¶').enumerate() {
+        text.push_str(if i > 0 { "\n" } else { "" })?;
+        let mut pieces = line.split('[');
+        text.push_str(pieces.next().unwrap_or(""))?;
+        for piece in pieces {
+            let (list, rest) = piece.split_once(']').ok_or("a bracket")?;
+            push_list(&mut text, list)?;
+            text.push_str(rest)?;
+        }
+    }
+    Ok(text)
 }

@@ -1,0 +1,206 @@
+//! Elections of drawn ballots, the same each time.
+use super::support::{assert_leaves, read_line, reader, writer};
+use std::alloc::{AllocError, Global};
+use std::process::Abort;
+use std::test::Fail;
+use test_devices::run_on;
+
+/// The next state of a linear congruential generator (Knuth's).
+fn next_state(state: u64) -> u64 {
+    state
+        .wrapping_mul(6_364_136_223_846_793_005)
+        .wrapping_add(1_442_695_040_888_963_407)
+}
+
+/// How voters choose among candidates.
+#[derive(Clone, Copy)]
+enum Sort {
+    /// Each a quarter of them, drawn independently.
+    Independent,
+    /// All nearly the same.
+    Alike,
+    /// Each some that stand beside one another on a circle.
+    Circle,
+}
+
+/// A voter's candidates, as bits of a word, by three numbers that were drawn.
+fn chosen(sort: Sort, a: u64, b: u64, c: u64) -> u64 {
+    match sort {
+        Sort::Independent => a & b,
+        Sort::Alike => 0xff00_ff0f ^ (a & b & c),
+        Sort::Circle => {
+            let mut bits = 0u64;
+            for step in 0..(b >> 20) % 6 + 3 {
+                let place = (a >> 20).wrapping_add(step) % 40;
+                bits |= 1u64.wrapping_shl(place as u32);
+            }
+            bits
+        }
+    }
+}
+
+/// A ballot of the candidates from 1 on whose bit is 1.
+fn ballot_of(alloc: Global, m: u8, bits: u64) -> Result<String, AllocError> {
+    let mut list = String::new(alloc);
+    for n in 1..=m {
+        if bits.wrapping_shr(u32::from(n).wrapping_sub(1)) & 1 == 1 {
+            let comma = if list.is_empty() { "" } else { "," };
+            list.push_str(format!(in alloc; "{comma}{n}")?.as_str())?;
+        }
+    }
+    format!(in alloc; "1: {{{list}}}\n")
+}
+
+/// The ballots of a thousand voters among 40 candidates.
+fn thousand(alloc: Global, sort: Sort) -> Result<String, AllocError> {
+    let mut text = String::from_str(alloc, "# DATA TYPE: cat\n# NUMBER ALTERNATIVES: 40\n")?;
+    let mut state = 1u64;
+    for _voter in 0..1000 {
+        let a = next_state(state);
+        let b = next_state(a);
+        state = next_state(b);
+        let bits = chosen(sort, a >> 24, b >> 24, state >> 24);
+        text.push_str(ballot_of(alloc, 40, bits)?.as_str())?;
+    }
+    Ok(text)
+}
+
+/// Asserts that a committee has every property.
+fn assert_stable(rt: &impl Abort, alloc: Global, file: &str, committee: &str) -> Result<(), Fail> {
+    for property in ["jr", "pjr", "ejr", "ejrplus"] {
+        let words = format!(in alloc; "check --property {property} --committee {committee}")?;
+        assert_leaves(rt, alloc, words.as_str(), file.as_bytes(), b"holds\n")?;
+    }
+    Ok(())
+}
+
+/// Committees of twenty whose value under `pav` no exchange of one member for one other candidate raises, found apart
+/// from the program. They have every property (Aziz and others, The Complexity of Extended and Proportional Justified
+/// Representation; Brill and Peters).
+#[test]
+fn stable_committees(rt: HostRuntime) -> Result<(), Fail> {
+    let cases = [
+        (
+            Sort::Independent,
+            "1,2,4,5,7,8,10,13,14,16,20,21,23,26,30,31,32,34,39,40",
+        ),
+        (
+            Sort::Alike,
+            "1,2,3,4,9,10,11,12,13,14,15,16,25,26,27,28,29,30,31,32",
+        ),
+        (
+            Sort::Circle,
+            "2,4,5,8,10,12,14,17,18,20,22,24,25,27,29,31,33,35,38,40",
+        ),
+    ];
+    for (sort, committee) in cases {
+        let file = thousand(rt.alloc(), sort)?;
+        assert_stable(&rt, rt.alloc(), file.as_str(), committee)?;
+    }
+    Ok(())
+}
+
+/// A file of ballots on which each candidate stands where so many of the first bits of the next state are 0.
+fn by_chance(
+    alloc: Global,
+    m: u8,
+    ballots: u32,
+    bits: u32,
+    seed: u64,
+) -> Result<String, AllocError> {
+    let mut text = format!(in alloc; "# DATA TYPE: cat\n# NUMBER ALTERNATIVES: {m}\n")?;
+    let mut state = seed;
+    for _ballot in 0..ballots {
+        let mut word = 0u64;
+        for n in 0..m {
+            state = next_state(state);
+            let is_chosen = state.leading_zeros() >= bits;
+            word |= u64::from(is_chosen).wrapping_shl(u32::from(n));
+        }
+        text.push_str(ballot_of(alloc, m, word)?.as_str())?;
+    }
+    Ok(text)
+}
+
+/// What elections of three by proportional approval voting leave over a file.
+fn pav_of_three(alloc: Global, file: &str) -> Result<String, Fail> {
+    let request = read_line(alloc, "elect --rule pav --size 3")??;
+    let source = reader(file.as_bytes());
+    let ended = run_on(alloc, &request, source, writer(alloc), writer(alloc));
+    Ok(String::from_str(alloc, str::from_utf8(ended.out.taken())?)?)
+}
+
+/// Committees that win by proportional approval voting have EJR+ (Brill and Peters), and with it all four properties.
+#[test]
+fn winners_of_pav_have_every_property(rt: HostRuntime) -> Result<(), Fail> {
+    let alloc = rt.alloc();
+    for seed in 1..=4u64 {
+        let file = by_chance(alloc, 64, 16, 3, seed)?;
+        let answer = pav_of_three(alloc, file.as_str())?;
+        // After the lines of the rule, the size and the score, and before the last.
+        assert!(rt; answer.as_str().lines().count() > 4, "some committee wins");
+        for line in answer.as_str().lines().skip(3) {
+            if line != "end" {
+                assert_stable(&rt, alloc, file.as_str(), line)?;
+            }
+        }
+    }
+    Ok(())
+}
+
+/// The committee of sequential and of reverse sequential proportional approval voting.
+const PROPORTIONAL: &str = "2,5,6,8,9,14,16,19,20,24,26,27,28,29,30,32,34,37,38,40\n";
+
+/// The committees of sequential Chamberlin-Courant.
+const COVERING: &str = "\
+1,2,3,4,6,8,9,10,14,15,17,18,19,23,24,29,32,33,35,36
+1,2,3,4,6,8,9,10,14,15,17,18,19,23,25,29,32,33,35,36
+1,2,3,4,6,8,9,10,14,15,17,18,19,23,29,32,33,35,36,39
+1,2,4,6,8,9,10,13,14,15,17,18,19,20,23,29,32,33,35,36
+1,2,4,6,8,9,10,13,14,15,17,18,19,23,24,29,32,33,35,36
+2,3,4,5,6,8,9,10,14,15,17,18,19,23,29,30,32,33,35,36
+2,3,4,5,6,8,9,10,14,15,17,18,19,23,29,32,33,35,36,39
+2,3,4,6,8,9,10,12,14,15,17,18,19,23,29,32,33,35,36,39
+2,3,4,6,8,9,10,14,15,16,17,18,19,23,29,32,33,35,36,39
+2,3,4,6,8,9,10,14,15,17,18,19,20,23,29,32,33,35,36,39
+2,3,4,6,8,9,10,14,15,17,18,19,23,24,29,30,32,33,35,36
+2,3,4,6,8,9,10,14,15,17,18,19,23,24,29,32,33,35,36,39
+2,3,4,6,8,9,10,14,15,17,18,19,23,25,29,30,32,33,35,36
+2,3,4,6,8,9,10,14,15,17,18,19,23,25,29,32,33,35,36,39
+2,3,4,6,8,9,10,14,15,17,18,19,23,29,30,32,33,35,36,39
+2,3,4,6,8,9,10,14,15,17,18,19,23,29,31,32,33,35,36,39
+2,3,4,6,8,9,10,14,15,17,18,19,23,29,32,33,35,36,37,39
+2,3,4,6,8,9,10,14,15,17,18,19,23,29,32,33,35,36,39,40
+2,4,5,6,8,9,10,14,15,17,18,19,20,23,29,30,32,33,35,36
+2,4,6,8,9,10,13,14,15,17,18,19,20,23,29,30,32,33,35,36
+2,4,6,8,9,10,13,14,15,17,18,19,23,24,29,30,32,33,35,36
+2,4,6,8,9,10,14,15,17,18,19,20,23,29,30,31,32,33,35,36
+2,4,6,8,9,10,14,15,17,18,19,20,23,29,31,32,33,35,36,39
+2,4,6,8,9,10,14,15,17,18,19,23,24,29,30,31,32,33,35,36
+2,4,6,8,9,10,14,15,17,18,19,23,25,29,30,31,32,33,35,36
+";
+
+/// Sequential rules over 5,000 different ballots. The committees were computed apart from the program, by a script that
+/// takes the same ballots and follows each tied choice in exact arithmetic.
+#[test]
+fn sequences_over_many_ballots(rt: HostRuntime) -> Result<(), Fail> {
+    let alloc = rt.alloc();
+    let ballots = by_chance(alloc, 40, 5000, 2, 1)?;
+    let cases = [
+        ("seqpav", PROPORTIONAL),
+        ("seqcc", COVERING),
+        ("revseqpav", PROPORTIONAL),
+    ];
+    for (rule, committees) in cases {
+        let words = format!(in alloc; "elect --rule {rule} --size 20")?;
+        let answer = format!(in alloc; "rule {rule}\nsize 20\n{committees}end\n")?;
+        assert_leaves(
+            &rt,
+            alloc,
+            words.as_str(),
+            ballots.as_bytes(),
+            answer.as_bytes(),
+        )?;
+    }
+    Ok(())
+}

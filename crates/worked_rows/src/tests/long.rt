@@ -1,0 +1,159 @@
+//! Long lines, long files, and long answers.
+use super::reading::list_of;
+use super::support::{THREE, assert_leaves};
+use ballot_base::KSets;
+use std::alloc::{AllocError, Global};
+use std::test::Fail;
+
+/// A file of two candidates and 349,525 categories with a long line: its front, so many times a part, and its end.
+static FILES: [(&str, &str, u32, &str); 20] = [
+    // Lines of 1,048,576 bytes, which are the longest.
+    ("1: 1", ",{}", 349_524, "\n"),
+    ("1: 1", ",{}", 349_524, "\r\n"),
+    ("1: 1", ",{}", 349_524, ""),
+    ("1:0", "000", 349_524, "1\n"),
+    ("", "0", 1_000_000, "1: 1"),
+    ("#   ", "a:b", 349_524, "\n1: 1\n"),
+    ("1: 1\n#   ", "a:b", 349_524, "\n"),
+    ("    ", " \t ", 349_524, "\n1: 1\n"),
+    ("1: 1\n", " ", 1_048_576, "\r\n"),
+    ("1: 1\n", " ", 1_048_576, "\r"),
+    // Many lines.
+    ("", "# X: y\n", 300_000, "1: 1\n"),
+    // Lines of a byte more.
+    ("10: 1", ",{}", 349_524, "\n"),
+    ("10: 1", ",{}", 349_524, "\r\n"),
+    ("10: 1", ",{}", 349_524, ""),
+    ("abcde", "fgh", 349_524, "\n"),
+    ("#    ", "a:b", 349_524, "\n1: 1\n"),
+    ("1: 1\n#    ", "a:b", 349_524, "\n"),
+    ("     ", " \t ", 349_524, "\n1: 1\n"),
+    ("1: 1\n", " ", 1_048_576, "\r\r\n"),
+    // A late line.
+    ("", "\n", 123_452, "# NUMBER CATEGORIES: x"),
+];
+
+/// What elections of one seat leave over those files.
+fn wanted(number: usize) -> &'static [u8] {
+    match number {
+        0..=10 => b"rule av\nsize 1\nscore 1/1\n1\nend\n",
+        16 | 18 => b"committees: input line 5: LongLine\n",
+        19 => b"committees: input line 123456: BadNumber\n",
+        _ => b"committees: input line 4: LongLine\n",
+    }
+}
+
+#[test]
+fn long_lines_and_many(rt: HostRuntime) -> Result<(), Fail> {
+    let alloc = rt.alloc();
+    for (number, (front, part, times, end)) in FILES.iter().enumerate() {
+        let mut file = String::from_str(
+            alloc,
+            "# DATA TYPE: cat\n# NUMBER ALTERNATIVES: 2\n# NUMBER CATEGORIES: 349525\n",
+        )?;
+        file.push_str(front)?;
+        for _ in 0..*times {
+            file.push_str(part)?;
+        }
+        file.push_str(end)?;
+        let words = "elect --rule av --size 1";
+        assert_leaves(&rt, alloc, words, file.as_bytes(), wanted(number))?;
+    }
+    Ok(())
+}
+
+/// All 41,664 committees of three of 64 candidates, of whom nobody is approved: many times what is put together before
+/// it is written.
+#[test]
+fn a_long_answer(rt: HostRuntime) -> Result<(), Fail> {
+    let alloc = rt.alloc();
+    let mut answer = String::from_str(alloc, "rule av\nsize 3\nscore 0/1\n")?;
+    for members in KSets::new(64, 3) {
+        answer.push_str(list_of(alloc, members)?.as_str())?;
+        answer.push_str("\n")?;
+    }
+    answer.push_str("end\n")?;
+    let words = "elect --rule av --size 3 --kind cat";
+    let file = b"# NUMBER ALTERNATIVES: 64\n1: {}\n".as_slice();
+    assert_leaves(&rt, alloc, words, file, answer.as_bytes())
+}
+
+/// Of 40 candidates, one voter for each two of 2 to 39, who approves 1 beside them: the lines of the ballots, after a
+/// header, or as a report has them.
+pub(super) fn all_beside_one(alloc: Global, open: &str, close: &str) -> Result<String, AllocError> {
+    let mut text = String::new(alloc);
+    if !open.is_empty() {
+        text.push_str("# NUMBER ALTERNATIVES: 40\n")?;
+    }
+    for first in 2..39u8 {
+        for second in first + 1..=39 {
+            let line = format!(in alloc; "1: {open}1,{first},{second}{close}\n")?;
+            text.push_str(line.as_str())?;
+        }
+    }
+    Ok(text)
+}
+
+/// The report on the committee that nobody of those 703 voters approves.
+pub(super) fn report_of_all(alloc: Global) -> Result<String, Fail> {
+    let rows = all_beside_one(alloc, "", "")?;
+    Ok(format!(in alloc; "violated jr\nlevel 1\ncandidates 1\nvoters 703 of 703\n{rows}")?)
+}
+
+#[test]
+fn a_long_report(rt: HostRuntime) -> Result<(), Fail> {
+    let alloc = rt.alloc();
+    let file = all_beside_one(alloc, "{", "}")?;
+    let report = report_of_all(alloc)?;
+    // 51 bytes, and 7 on each of 703 lines beside the digits: 37 lines have each of 8 + 30 candidates.
+    assert_eq!(rt; report.len(), 51 + 703 * 7 + 37 * (8 + 30 * 2));
+    let words = "check --property jr --committee 40 --kind cat";
+    assert_leaves(&rt, alloc, words, file.as_bytes(), report.as_bytes())
+}
+
+/// A name of a thousand bytes, one of bytes that are no text, and one that was taken away.
+#[test]
+fn names_of_any_bytes(rt: HostRuntime) -> Result<(), Fail> {
+    let alloc = rt.alloc();
+    let mut file = Vec::from_slice(alloc, b"# NUMBER ALTERNATIVES: 3\n# ALTERNATIVE NAME 1: ")?;
+    let mut answer = Vec::from_slice(alloc, b"rule av\nsize 3\nscore 1/1\n1,2,3\t")?;
+    for _byte in 0..1000 {
+        file.push(b'x')?;
+        answer.push(b'x')?;
+    }
+    file.extend_from_slice(
+        b"\n# ALTERNATIVE NAME 2:\xFF\x00\x0B\n# ALTERNATIVE NAME 3: Blue\n# ALTERNATIVE NAME 3:\n1: 1\n",
+    )?;
+    answer.extend_from_slice(b"; \xFF\x00\x0B; 3\nend\n")?;
+    let words = "elect --rule av --size 3 --kind soi --names";
+    assert_leaves(&rt, alloc, words, &file, &answer)
+}
+
+/// Each beginning of `THREE`.
+#[test]
+fn beginnings_of_a_file(rt: HostRuntime) -> Result<(), Fail> {
+    assert_eq!(rt; THREE.len(), 87);
+    for n in 0..=THREE.len() {
+        let left: &[u8] = match n {
+            0..=38 => b"committees: input: NoAlternatives\n",
+            // After the colon of the alternatives.
+            39 | 40 => b"committees: input line 2: BadNumber\n",
+            // After the colon of the categories.
+            62 | 63 => b"committees: input line 3: BadNumber\n",
+            41..=65 => b"committees: input: NoVoters\n",
+            66 | 69..=72 | 74 => b"committees: input line 4: BadBallot\n",
+            // Two voters approve nobody so far.
+            67 | 68 => b"rule av\nsize 1\nscore 0/1\n1\n2\n3\nend\n",
+            77 | 81..=85 => b"committees: input line 5: BadBallot\n",
+            _ => b"rule av\nsize 1\nscore 2/1\n1\n2\nend\n",
+        };
+        assert_leaves(
+            &rt,
+            rt.alloc(),
+            "elect --rule av --size 1",
+            &THREE[..n],
+            left,
+        )?;
+    }
+    Ok(())
+}

@@ -1,0 +1,64 @@
+//! Runs over the streams of the standard library, with hashes by fixed and by secret numbers.
+use super::support::{ANSWER, THREE, one_seat};
+use std::alloc::Global;
+use std::hash::RandomState;
+use std::process::Abort;
+use std::test::Fail;
+use vote_cli::{BallotHashing, Device, Status, Told, run, run_with_hashing};
+
+/// Asserts that a run over `THREE` answers, with these numbers of the hash where there are some.
+fn assert_answers(
+    rt: &impl Abort,
+    alloc: Global,
+    hashing: Option<BallotHashing>,
+) -> Result<(), Fail> {
+    let request = one_seat(alloc, "a.cat")?;
+    assert!(rt; request.file() == Some("a.cat"));
+    let mut reader = Told::new(THREE);
+    let mut out = Told::new(Vec::new(alloc));
+    let mut err = Told::new(Vec::new(alloc));
+    let status = match hashing {
+        Some(hashing) => {
+            run_with_hashing(alloc, hashing, &request, &mut reader, &mut out, &mut err)
+        }
+        None => run(alloc, &request, &mut reader, &mut out, &mut err),
+    };
+    assert_eq!(rt; status, Status::Answered);
+    assert!(rt; !reader.failed() && !out.failed() && !err.failed());
+    Ok(())
+}
+
+#[test]
+fn streams_of_std(rt: HostRuntime) -> Result<(), Fail> {
+    assert_answers(&rt, rt.alloc(), None)?;
+    let secret = BallotHashing::secret(&RandomState::new(&rt)?);
+    assert_answers(&rt, rt.alloc(), Some(secret))
+}
+
+/// What a run writes to a vector.
+#[test]
+fn bytes_of_an_answer(rt: HostRuntime) -> Result<(), Fail> {
+    let alloc = rt.alloc();
+    let request = one_seat(alloc, "")?;
+    let mut written = Vec::new(alloc);
+    let mut out = Told::new(&mut written);
+    let mut err = Told::new(Vec::new(alloc));
+    run(alloc, &request, &mut Told::new(THREE), &mut out, &mut err);
+    assert_eq!(rt; written.as_slice(), ANSWER);
+    Ok(())
+}
+
+#[test]
+fn codes_of_statuses(rt: HostRuntime) {
+    let cases = [
+        (Status::Answered, 0),
+        (Status::Violated, 1),
+        (Status::InputRefused, 3),
+        (Status::RequestRefused, 4),
+        (Status::NoMemory, 5),
+        (Status::DeviceFailed, 6),
+    ];
+    for (status, code) in cases {
+        assert_eq!(rt; status.code(), code, "{status:?}");
+    }
+}

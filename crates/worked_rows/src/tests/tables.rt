@@ -1,0 +1,62 @@
+//! Tables of runs. Expected values are worked by hand from the rules, or taken from public tables.
+mod approvals;
+mod checks;
+mod elections;
+mod inputs;
+mod names;
+mod pages;
+mod refusals;
+mod shares;
+mod words;
+
+use super::support::{assert_ended, ending, read_line, writer, written_out};
+use std::alloc::Global;
+use std::process::Abort;
+use std::test::Fail;
+use test_devices::{SliceReader, run_on};
+use vote_cli::LineFault;
+
+/// Asserts that words that make no request are refused like this: by a line, or by `help` or `usage` for the texts of
+/// `clap`.
+fn assert_refused(rt: &impl Abort, row: &str, fault: &LineFault, wanted: &str) {
+    let told = match fault {
+        LineFault::Help(_) => "help",
+        LineFault::Usage(_) => "usage",
+        other => other.line().unwrap_or("memory"),
+    };
+    assert!(rt; told == wanted, "{row}: {told}");
+}
+
+/// Asserts a row of a table over an input, which comes as a whole and in single bytes.
+fn assert_row(rt: &impl Abort, alloc: Global, row: &str, input: &[u8]) -> Result<(), Fail> {
+    let (words, wanted) = row.split_once(" | ").ok_or("a bar")?;
+    let request = match read_line(alloc, written_out(alloc, words)?.as_str())? {
+        Ok(request) => request,
+        Err(fault) => {
+            assert_refused(rt, row, &fault, wanted);
+            return Ok(());
+        }
+    };
+    let mut text = written_out(alloc, wanted)?;
+    text.push_str("\n")?;
+    for piece in [usize::MAX, 1] {
+        let reader = SliceReader::new(input, piece);
+        let ended = run_on(alloc, &request, reader, writer(alloc), writer(alloc));
+        assert_ended(rt, row, piece, &ended, ending(text.as_bytes()));
+    }
+    Ok(())
+}
+
+/// Asserts each row of a table. A row has the words after the program's name, a bar, and what the run leaves, without
+/// the end of its last line. A row that begins with `<` is the input of the rows after it, and one that begins with `//`
+/// says what they are.
+fn assert_table(rt: &impl Abort, alloc: Global, table: &str) -> Result<(), Fail> {
+    let mut input = String::new(alloc);
+    for row in table.split('\n').filter(|row| !row.starts_with("//")) {
+        match row.strip_prefix('<') {
+            Some(file) => input = written_out(alloc, file.strip_prefix(' ').unwrap_or(""))?,
+            None => assert_row(rt, alloc, row, input.as_bytes())?,
+        }
+    }
+    Ok(())
+}
