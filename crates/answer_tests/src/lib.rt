@@ -1,4 +1,4 @@
-//! Tests of the answers: representation, seats, and whole runs.
+//! Tests of the answers: representation and seats.
 #![tactic(auto)]
 
 #[cfg(test)]

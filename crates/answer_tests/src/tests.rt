@@ -1,4 +1,3 @@
-//! One file a part of what is answered. Expected values are worked by hand, or from public tables.
+//! One file a part of what is answered. Expected values are worked by hand, or found by a plainer search.
 mod groups;
-mod runs;
 mod shares;

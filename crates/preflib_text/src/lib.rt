@@ -4,7 +4,6 @@
 mod approvals;
 mod ballot;
 pub mod fault;
-mod fed;
 pub mod laws;
 pub mod limits;
 mod lines;
@@ -13,6 +12,7 @@ mod notes;
 pub mod pick;
 mod pieces;
 mod reader;
+mod trace;
 
 pub use ballot::one_ballot_line;
 pub use fault::{FaultName, ReadFault};
@@ -20,3 +20,4 @@ pub use limits::{MOST_CATEGORIES, MOST_LINE_BYTES};
 pub use pick::{Kind, Pick, Way};
 pub use pieces::LineReader;
 pub use reader::{one_outcome, read_profile, some_outcome};
+pub use trace::Trace;

@@ -14,12 +14,12 @@ ghost use Rattle.preflib_text.specs.Steps.After.{IsAfter, IsFine};
 ghost use Rattle.preflib_text.specs.Steps.Pieces.{line_room, unmarked, line_with, IsRead, IsRefused, IsFed, Agrees};
 
 use crate::fault::{FaultName, ReadFault};
-use crate::fed::Fed;
 use crate::limits::MOST_LINE_BYTES;
 use crate::lines::{without_mark, without_return};
 use crate::notes::Notes;
 use crate::pick::Pick;
 use crate::reader::{fault_of_line, finish, take_line};
+use crate::trace::Trace;
 use ballot_base::{BallotHashing, MOST_CANDIDATES, Profile, ProfileBuilder};
 use bstr::ByteSlice;
 use std::alloc::{Allocator, Global};
@@ -140,7 +140,7 @@ fn feed_lines<A: Allocator + Copy + Drop>(
     progress: &mut Progress<A>,
     held: &mut Vec<u8, A>,
     pick: &Pick,
-    _fed: &Fed,
+    _fed: &Trace,
     bytes: &[u8],
 ) -> Result<(), ReadFault>
     requires way { HasNumber pick.now.way }
@@ -173,7 +173,7 @@ fn fault_after<A: Allocator + Copy + Drop>(
     progress: &mut Progress<A>,
     held: &mut Vec<u8, A>,
     pick: &Pick,
-    fed: &Fed,
+    fed: &Trace,
     bytes: &[u8],
 ) -> Option<ReadFault>
     requires way { HasNumber pick.now.way }
@@ -211,7 +211,7 @@ fn end_input<A: Allocator + Copy + Drop>(
     progress: &mut Progress<A>,
     held: &[u8],
     pick: &Pick,
-    _fed: &Fed,
+    _fed: &Trace,
 ) -> Result<(), ReadFault>
     requires way { HasNumber pick.now.way }
     requires fed { IsFed pick.now _fed.now.bytes progress.old.notes progress.old.builder progress.old.number held.now }
@@ -233,7 +233,7 @@ fn finish_lines<A: Allocator + Copy + Drop>(
     mut progress: Progress<A>,
     held: &[u8],
     pick: &Pick,
-    fed: &Fed,
+    fed: &Trace,
 ) -> Result<Profile<A>, ReadFault>
     requires way { HasNumber pick.now.way }
     requires fed { IsFed pick.now fed.now.bytes progress.notes progress.builder progress.number held.now }
@@ -265,7 +265,7 @@ pub struct LineReader<A: Allocator + Copy = Global> {
     /// The bytes since the last LF.
     held: Vec<u8, A>,
     fault: Option<ReadFault>,
-    fed: Fed,
+    fed: Trace,
 }
 
 impl<A: Allocator + Copy> Model for LineReader<A> {
@@ -327,7 +327,7 @@ impl<A: Allocator + Copy + Drop> LineReader<A> {
             },
             held,
             fault: None,
-            fed: Fed::new(),
+            fed: Trace::new(),
         })
     }
 

@@ -1,4 +1,4 @@
-//! Tests of what is read: ballot files, and the words of the command line.
+//! Tests of what is read: sets and profiles, ballot files, and the words of the command line.
 #![tactic(auto)]
 
 #[cfg(test)]

@@ -1,3 +1,8 @@
 //! One file a part of what is read. Expected values are worked by hand.
 mod files;
+mod growths;
+mod mutants;
+mod pieces;
+mod sets;
+mod support;
 mod words;

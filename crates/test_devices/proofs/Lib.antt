@@ -1,2 +1,1 @@
-mod Due
 mod Examples

@@ -2,17 +2,18 @@
 ghost use Rattle.std.specs.Prelude.{◌≡◌, ◌≢◌, ◌↔◌, ◌≤◌, ◌+◌, ◌-◌, ◌^◌, ◌==◌, ◌||◌, [], Some, true, false, IsErr, is_err, length, min};
 ghost use Rattle.std.specs.Io.{ReadsAtMost, WritesAtMost};
 ghost use Rattle.std.specs.Io.KnownBytes.{ReadConsumes, WriteAppends};
-ghost use Rattle.vote_cli.specs.Device.{is_failed_write};
+ghost use Rattle.vote_cli.specs.Device.{bytes_given, is_failed_write};
 ghost use Rattle.test_devices.specs.Faults.{IsDue};
 
+use preflib_text::Trace;
 use std::alloc::Global;
 use std::io;
 use std::io::ErrorKind;
 use std::marker::Model;
 use vote_cli::{Device, Sink, Source};
 
-/// A reader over bytes. Contracts see the bytes that it has still to give, whether a call has failed, and how many
-/// calls there are up to the one that fails: 0 where none is to.
+/// A reader over bytes. Contracts see the bytes that it has still to give, whether a call has failed, how many calls
+/// there are up to the one that fails (0 where none is to), and how many bytes it has given.
 #[derive(Drop)]
 pub struct SliceReader<'a> {
     rest: &'a [u8],
@@ -20,14 +21,15 @@ pub struct SliceReader<'a> {
     /// How many calls there are up to the one that fails, and 0 where none is to.
     left: u64,
     has_failed: bool,
+    given: Trace,
 }
 
 impl<'a> Model for SliceReader<'a> {
-    ghost use Rattle.std.specs.Prelude.{ℕ, ◌≤◌, Bool, List};
+    ghost use Rattle.std.specs.Prelude.{ℕ, ◌≤◌, Bool, List, length};
 
-    ghost Value = { List ℕ × Bool × ℕ };
+    ghost Value = { List ℕ × Bool × ℕ × ℕ };
 
-    ghost view = { λ reader. (reader.rest.now, reader.has_failed, reader.left) };
+    ghost view = { λ reader. (reader.rest.now, reader.has_failed, reader.left, length reader.given.bytes) };
 
     ghost invariant = { λ reader. 1 ≤ reader.piece };
 }
@@ -36,7 +38,7 @@ impl<'a> SliceReader<'a> {
     /// Gives at most `piece` bytes a call, and never fails.
     pub fn new(bytes: &'a [u8], piece: usize) -> SliceReader<'a>
         requires some { 1 ≤ piece }
-        ensures { result ≡ (bytes.now, false, 0) }
+        ensures { result ≡ (bytes.now, false, 0, 0) }
     {
         SliceReader::failing(bytes, piece, 0)
     }
@@ -45,13 +47,14 @@ impl<'a> SliceReader<'a> {
     /// after it are not. With 0 no call is.
     pub fn failing(bytes: &'a [u8], piece: usize, fails: u64) -> SliceReader<'a>
         requires some { 1 ≤ piece }
-        ensures { result ≡ (bytes.now, false, fails) }
+        ensures { result ≡ (bytes.now, false, fails, 0) }
     {
         SliceReader {
             rest: bytes,
             piece,
             left: fails,
             has_failed: false,
+            given: Trace::new(),
         }
     }
 }
@@ -67,9 +70,12 @@ impl<'a> Device for SliceReader<'a> {
 impl<'a> Source for SliceReader<'a> {
     ghost remaining = { λ reader. Some reader.0 };
 
+    ghost given = { λ reader. reader.3 };
+
     fn read(&mut self, buf: &mut [u8]) -> io::Result<usize>
         ensures bound { ReadsAtMost result buf.new }
         ensures bytes { ReadConsumes (Some self.old.0) (Some self.new.0) result buf.new }
+        ensures given { self.new.3 ≡ self.old.3 + bytes_given result }
         ensures failed { self.new.1 ≡ (self.old.1 || is_err result) }
         ensures due { is_err result ≡ (self.old.2 == 1) }
         ensures left { self.new.2 ≡ self.old.2 - 1 }
@@ -84,6 +90,7 @@ impl<'a> Source for SliceReader<'a> {
         let (given, rest) = self.rest.split_at(count);
         buf[..count].copy_from_slice(given);
         self.rest = rest;
+        self.given.add(given);
         Ok(count)
     }
 }

@@ -1,5 +1,5 @@
 -- Answers and what runs leave, computed on small examples.
-use Rattle.std.proofs.Common.{◌≡◌, ℕ, zero, suc, arith, List, [], ◌∷◌, ◌++◌, true, false, Some, None, Ok, Err, inl, inr, refl, lit≤, Bool, Option}
+use Rattle.std.proofs.Common.{◌≡◌, ℕ, zero, suc, arith, ◌+◌, ◌^◌, List, [], ◌∷◌, ◌++◌, true, false, true≢false, sym, Some, None, Ok, Err, inl, inr, refl, lit≤, Bool, Option}
 use Rattle.std.specs.Prelude.{codes}
 use Rattle.std.specs.List.{range_with_len}
 use Rattle.std.proofs.lemmas.Bool.{both_ways}
@@ -15,7 +15,7 @@ use Rattle.vote_cli.specs.declared.answers.Outcome.TheVariants as outcome
 use Rattle.vote_cli.specs.declared.refusal.RequestFault.TheVariants as request_fault
 use Rattle.vote_cli.specs.declared.refusal.Refusal.TheVariants as refusal
 use Rattle.request_words.specs.Request.{Asked, Demand, IsPage, Paging, electing, checking, sharing, whole, InRange}
-use Rattle.vote_cli.specs.Device.{is_failed_write, AppendsBeginning}
+use Rattle.vote_cli.specs.Device.{is_failed_write, bytes_given, AppendsBeginning, ReaderState, reader_state}
 use Rattle.vote_cli.specs.Steps.Input.{TellsOfInput}
 use Rattle.vote_cli.specs.Laws.{IsCut, IsListed, IsPart, IsRest, IsSameRefusal, Listed, asked_for, elect_listed, front, is_listing, later_of, line_for, page_from, share_listed, text_after, with_page}
 use Rattle.vote_cli.specs.Listing.{allocation_line, committee_line}
@@ -29,7 +29,7 @@ use Rattle.seat_share.specs.Allocations.{lists_with_sum}
 use Rattle.std.specs.Borrow.{MutBor}
 use Rattle.vote_cli.specs.declared.printing.Printer.{Printer}
 use Rattle.vote_cli.specs.Steps.Printing.{Prints, Sends}
-use Rattle.vote_cli.specs.Answer.{Answer, answered, violated, refused, request_refused, election_answer, IsCheckAnswer, IsCommittee, share_answer, share_answer_by, ballots_answer, IsAnswer, IsTooLong, has_votes, input_for, Reports, ReadsAll, Ends, TellsOf, memory_line, read_failed_line, write_failed_line}
+use Rattle.vote_cli.specs.Answer.{Answer, answered, violated, refused, request_refused, election_answer, IsCheckAnswer, IsCommittee, share_answer, share_answer_by, ballots_answer, IsAnswer, IsTooLong, FailsToRead, has_votes, input_for, Reports, ReadsAll, Ends, TellsOf, memory_line, read_failed_line, write_failed_line}
 use Rattle.vote_cli.specs.Steps.Refusals.{IsRefusal, status_of, error_of, ReadsBallots, TellsOfReads, TellsOfWrites, ReadsOn, WritesRight, IsWritten, outcome_status}
 use Rattle.vote_cli.specs.Steps.RequestFaults.{request_fault_word}
 use Rattle.ballot_base.specs.Lists.{IsIncreasing}
@@ -285,7 +285,17 @@ failed_writes = (refl, refl, refl, refl)
 two_of_three : AppendsBeginning (Some (7 ∷ [])) (Some (7 ∷ 1 ∷ 2 ∷ [])) (1 ∷ 2 ∷ 3 ∷ [])
 two_of_three = (1 ∷ 2 ∷ [], 3 ∷ [], refl, refl)
 
-failed_input : (TellsOfInput {T = ℕ} None false true (Err fault.ReadFailed)) × (TellsOfInput {T = ℕ} None false false (Err fault.Memory)) × (TellsOfInput {T = ℕ} None false false (Ok 1))
+-- a reader that was not read yet, and one that gave five bytes and has failed, or not
+unread : ReaderState
+unread = reader_state false 0
+
+broken : ReaderState
+broken = reader_state true 5
+
+sound : ReaderState
+sound = reader_state false 5
+
+failed_input : (TellsOfInput {T = ℕ} None unread broken (Err fault.ReadFailed)) × (TellsOfInput {T = ℕ} None unread sound (Err fault.Memory)) × (TellsOfInput {T = ℕ} None unread sound (Ok 1))
 failed_input = (inl refl, refl, refl)
 
 -- a whole line, and a beginning of one
@@ -350,10 +360,10 @@ right_of_one : IsAnswer (seats 1) example_text (answered text)
 unfolding digits lists_of increments
 right_of_one = (Ok three, reads_three, refl)
 
-ends_answered : Ends (seats 1) example_text (Some []) (Some text) (Some []) (Some []) false false false false false Answered
+ends_answered : Ends (seats 1) example_text (Some []) (Some text) (Some []) (Some []) false unread sound false false Answered
 ends_answered = record { answer = answered text; right = right_of_one; status_is = refl; text = refl; error = record { beginning = ([], [], refl, refl); whole = λ unfailed. refl } }
 
-ends_refused : Ends (seats 1) [] (Some []) (Some []) (Some []) (Some (line (codes "committees: input: NoAlternatives"))) false false false false false InputRefused
+ends_refused : Ends (seats 1) [] (Some []) (Some []) (Some []) (Some (line (codes "committees: input: NoAlternatives"))) false unread sound false false InputRefused
 ends_refused = record {
   answer = refused InputRefused (codes "committees: input: NoAlternatives");
   right = (Err (at_end name.NoAlternatives), reads_nothing, refl);
@@ -362,15 +372,15 @@ ends_refused = record {
   error = record { beginning = (line (codes "committees: input: NoAlternatives"), [], refl, refl); whole = λ unfailed. refl };
 }
 
-ends_without_memory : Ends (seats 1) [] (Some []) (Some []) (Some []) (Some memory_line) false false false false false NoMemory
+ends_without_memory : Ends (seats 1) [] (Some []) (Some []) (Some []) (Some memory_line) false unread sound false false NoMemory
 ends_without_memory = record { nothing = refl; error = record { beginning = (memory_line, [], refl, refl); whole = λ unfailed. refl } }
 
 -- a read failed, and the line on it was not taken whole
-ends_unread : Ends (seats 1) [] (Some []) (Some []) (Some []) (Some (codes "committees")) true false true false false DeviceFailed
+ends_unread : Ends (seats 1) [] (Some []) (Some []) (Some []) (Some (codes "committees")) true unread broken false false DeviceFailed
 ends_unread = inl ((inl refl, refl), record { nothing = refl; error = record { beginning = (codes "committees", codes ": read failed" ++ 10 ∷ [], refl, refl); whole = λ unfailed. absurd (both_ways true unfailed refl) } })
 
 -- a write failed after the first line
-ends_in_part : Ends (seats 1) example_text (Some []) (Some (line (codes "rule av"))) (Some []) (Some write_failed_line) false false false false true DeviceFailed
+ends_in_part : Ends (seats 1) example_text (Some []) (Some (line (codes "rule av"))) (Some []) (Some write_failed_line) false unread sound false true DeviceFailed
 ends_in_part = inr (
   (refl, refl),
   record {
@@ -382,7 +392,7 @@ ends_in_part = inr (
 )
 
 -- only the writer failed, and nothing failed after an earlier failure of the writer
-devices_told : (TellsOf None DeviceFailed false false false true (λ said. said ≡ write_failed_line)) × (TellsOf None Answered false false true true (λ said. ⊥))
+devices_told : (TellsOf None DeviceFailed unread sound false true (λ said. said ≡ write_failed_line)) × (TellsOf None Answered unread sound true true (λ said. ⊥))
 devices_told = (inr ((refl, refl), refl), (refl, refl))
 
 all_read : (ReadsAll Answered (Some (1 ∷ [])) (Some [])) × (ReadsOn {T = ℕ} (Some (1 ∷ [])) (Some []) (Err refusal.WriteFailed))
@@ -391,12 +401,24 @@ all_read = (refl, refl)
 input_of_demands : (input_for (sharing Dhondt 2 (Some (1 ∷ [])) whole) None ≡ Some []) × (input_for (sharing Dhondt 2 None whole) (Some (1 ∷ [])) ≡ Some (1 ∷ []))
 input_of_demands = (refl, refl)
 
-refusals_told : (TellsOfReads {T = ℕ} None false true (Err refusal.ReadFailed)) × (TellsOfReads {T = ℕ} None false false (Err refusal.Memory)) × (TellsOfWrites {T = ℕ} false true (Err refusal.WriteFailed)) × (TellsOfWrites {T = ℕ} false false (Ok 1))
+refusals_told : (TellsOfReads {T = ℕ} None unread broken (Err refusal.ReadFailed)) × (TellsOfReads {T = ℕ} None unread sound (Err refusal.Memory)) × (TellsOfWrites {T = ℕ} false true (Err refusal.WriteFailed)) × (TellsOfWrites {T = ℕ} false false (Ok 1))
 refusals_told = (inl refl, refl, refl, refl)
 
--- three bytes are not too many
+-- three bytes are not too many, nor are five that a reader gave that does not tell them; 2^64 are, and those before do
+-- not count
 few_bytes : IsTooLong (1 ∷ 2 ∷ 3 ∷ []) → ⊥
 few_bytes long = omega (arith, long)
+
+few_given : FailsToRead None unread sound → ⊥
+few_given (inl failed) = absurd (true≢false (sym failed))
+few_given (inr long) = omega (arith, long.1)
+
+many_given : (FailsToRead None sound (reader_state false (5 + 2 ^ 64))) × (FailsToRead None sound (reader_state false (4 + 2 ^ 64)) → ⊥)
+many_given = (inr (refl, omega arith, tt), none)
+  where
+    none : FailsToRead None sound (reader_state false (4 + 2 ^ 64)) → ⊥
+    none (inl failed) = absurd (true≢false (sym failed))
+    none (inr long) = omega (arith, long.1)
 
 prepared : (ReadsBallots usual example_text (Ok three)) × (ReadsBallots usual [] (Err (refusal.Input (at_end name.NoAlternatives)))) × (ReadsBallots usual [] (Err refusal.Memory))
 prepared = (reads_three, reads_nothing, tt)

@@ -27,6 +27,7 @@ use Rattle.vote_cli.specs.declared.status.Status.{Status}
 use Rattle.vote_cli.specs.declared.status.Status.TheVariants as status
 use Rattle.request_words.specs.Request.{Asked, Demand, Paging}
 use Rattle.vote_cli.specs.FaultText.{fault_text}
+use Rattle.vote_cli.specs.Device.{ReaderState}
 use Rattle.vote_cli.specs.Names.{Naming, naming}
 use Rattle.vote_cli.specs.Steps.RequestFaults.{request_fault_word}
 use Rattle.vote_cli.specs.Answer.{Answer, Ends, IsAnswer, IsAnswerOver, IsAnswerTo, IsAllRead, IsCheckAnswer, IsCommittee, IsTooLong, ReadsAll, Reports, TellsOf, ballots_answer, has_votes, input_for, share_answer, answered, request_refused, refused, violated}
@@ -174,7 +175,7 @@ too_many (Some bytes) (Some rest) read consumed long =
 -- ---- what a run leaves
 
 module _ (known : Option (List ℕ)) (asked : Asked) (old new err : Option (List ℕ)) (err_failed : Bool)
-    (read_old read_new wrote_old wrote_new : Bool) where
+    (read_old read_new : ReaderState) (wrote_old wrote_new : Bool) where
   -- an answer that was written whole
   ends_whole : (k : Option (List ℕ)) (ended : Outcome) → IfSome k (λ bytes. WritesRight (IsAnswer asked bytes) old new (Ok ended))
       → IfSome k (λ bytes. Ends asked bytes old new err err err_failed read_old read_new wrote_old wrote_new (outcome_status ended))
@@ -217,10 +218,10 @@ module _ (known : Option (List ℕ)) (asked : Asked) (old new err : Option (List
         subst (λ s. IfSome known (λ bytes. Ends asked bytes old new err err' err_failed read_old read_new wrote_old wrote_new s))
         (sym is) (ends_refused known refusal h error reads writes)
 
-module _ (known : Option (List ℕ)) (read_old read_new wrote_old wrote_new : Bool) (Says : List ℕ → Type 0) where
+module _ (known : Option (List ℕ)) (read_old read_new : ReaderState) (wrote_old wrote_new : Bool) (Says : List ℕ → Type 0) where
   -- devices do not fail where an answer is written
   pub tells_whole : (ended : Outcome) (status : Status) → status ≡ outcome_status ended
-      → read_new ≡ read_old → wrote_new ≡ wrote_old → TellsOf known status read_old read_new wrote_old wrote_new Says
+      → read_new.has_failed ≡ read_old.has_failed → wrote_new ≡ wrote_old → TellsOf known status read_old read_new wrote_old wrote_new Says
   tells_whole outcome.Answered status is reads writes =
       subst (λ s. TellsOf known s read_old read_new wrote_old wrote_new Says) (sym is) (reads, writes)
   tells_whole outcome.Violated status is reads writes =

@@ -1,5 +1,5 @@
 -- The answer to a request and an input, and what a run leaves.
-use Rattle.std.specs.Prelude.{◌≡◌, ◌⊎◌, ◌≤◌, ◌++◌, ℕ, length, Bool, true, false, not, List}
+use Rattle.std.specs.Prelude.{◌≡◌, ◌⊎◌, ◌≤◌, ◌+◌, ◌++◌, ℕ, length, Bool, true, false, not, List}
 use Rattle.std.specs.Prelude.{[], Option, Some, None, Result, IfSome, MatchResult, codes, nat_lt, if◌then◌else◌}
 use Rattle.std.specs.Io.KnownBytes.{Appends}
 use Rattle.ballot_base.specs.Limits.{most_members}
@@ -22,7 +22,7 @@ use Rattle.vote_cli.specs.declared.status.Status.{Status}
 use Rattle.vote_cli.specs.declared.status.Status.TheVariants.{Answered, Violated, InputRefused}
 use Rattle.vote_cli.specs.declared.status.Status.TheVariants.{RequestRefused, NoMemory, DeviceFailed}
 use Rattle.request_words.specs.Request.{Asked, Demand, Paging, electing, checking, sharing}
-use Rattle.vote_cli.specs.Device.{AppendsBeginning}
+use Rattle.vote_cli.specs.Device.{AppendsBeginning, ReaderState}
 use Rattle.vote_cli.specs.ElectText.{elect_text}
 use Rattle.vote_cli.specs.FaultText.{fault_text}
 use Rattle.vote_cli.specs.Names.{Naming, naming}
@@ -141,21 +141,23 @@ write_failed_line = line (codes "committees: write failed")
 abbrev pub IsTooLong : List ℕ → Type 0
 IsTooLong bytes = word_limit ≤ length bytes
 
--- a call of the reader has failed; or none has, and its bytes, where they are known, are too many
-abbrev pub FailsToRead : Option (List ℕ) → Bool → Bool → Type 0
-FailsToRead bytes old new = (new ≡ true) ⊎ ((new ≡ old) × IfSome bytes IsTooLong)
+-- a call of the reader has failed; or none has, and in this run it gave more bytes than a run can count: so many there
+-- are, where they are known
+abbrev pub FailsToRead : Option (List ℕ) → ReaderState → ReaderState → Type 0
+FailsToRead bytes old new = (new.has_failed ≡ true)
+    ⊎ ((new.has_failed ≡ old.has_failed) × (old.given + word_limit ≤ new.given) × IfSome bytes IsTooLong)
 
 -- the input could not be read, and no call of the writer has failed in this run
-abbrev pub BlamesReader : Option (List ℕ) → Bool → Bool → Bool → Bool → Type 0
+abbrev pub BlamesReader : Option (List ℕ) → ReaderState → ReaderState → Bool → Bool → Type 0
 BlamesReader bytes read_old read_new out_old out_new = FailsToRead bytes read_old read_new × (out_new ≡ out_old)
 
 -- a call of the writer has failed, and none of the reader in this run
-abbrev pub BlamesWriter : Bool → Bool → Bool → Bool → Type 0
-BlamesWriter read_old read_new out_old out_new = (read_new ≡ read_old) × (out_new ≡ true)
+abbrev pub BlamesWriter : ReaderState → ReaderState → Bool → Bool → Type 0
+BlamesWriter read_old read_new out_old out_new = (read_new.has_failed ≡ read_old.has_failed) × (out_new ≡ true)
 
 -- no call failed in this run
-abbrev pub BlamesNobody : Bool → Bool → Bool → Bool → Type 0
-BlamesNobody read_old read_new out_old out_new = (read_new ≡ read_old) × (out_new ≡ out_old)
+abbrev pub BlamesNobody : ReaderState → ReaderState → Bool → Bool → Type 0
+BlamesNobody read_old read_new out_old out_new = (read_new.has_failed ≡ read_old.has_failed) × (out_new ≡ out_old)
 
 -- What two writers took in a run that ended with this status, over the bytes of the input.
 module _ (asked : Asked) (bytes : List ℕ) (out_old out_new err_old err_new : Option (List ℕ)) (err_failed : Bool) where
@@ -181,7 +183,7 @@ module _ (asked : Asked) (bytes : List ℕ) (out_old out_new err_old err_new : O
 
   -- Where a device failed, or there were too many bytes, the line says which: after a failed read nothing was written,
   -- and after a failed write a beginning.
-  abbrev pub Ends : Bool → Bool → Bool → Bool → Status → Type 0
+  abbrev pub Ends : ReaderState → ReaderState → Bool → Bool → Status → Type 0
   Ends read_old read_new wrote_old wrote_new NoMemory = WritesNothing memory_line
   Ends read_old read_new wrote_old wrote_new DeviceFailed =
       (BlamesReader (Some bytes) read_old read_new wrote_old wrote_new × WritesNothing read_failed_line)
@@ -190,7 +192,7 @@ module _ (asked : Asked) (bytes : List ℕ) (out_old out_new err_old err_new : O
 
 -- What the devices tell after a run that ended with this status, whether or not they tell their bytes: which of them
 -- failed, where one did, and the line on it.
-abbrev pub TellsOf : Option (List ℕ) → Status → Bool → Bool → Bool → Bool → (List ℕ → Type 0) → Type 0
+abbrev pub TellsOf : Option (List ℕ) → Status → ReaderState → ReaderState → Bool → Bool → (List ℕ → Type 0) → Type 0
 TellsOf bytes DeviceFailed read_old read_new out_old out_new Says =
     (BlamesReader bytes read_old read_new out_old out_new × Says read_failed_line)
     ⊎ (BlamesWriter read_old read_new out_old out_new × Says write_failed_line)

@@ -1,9 +1,10 @@
 //! The devices that a run reads and writes, which tell whether a call has failed.
-ghost use Rattle.std.specs.Prelude.{◌≡◌, ℕ, ◌||◌, Bool, List, Option, false, is_err};
+ghost use Rattle.std.specs.Prelude.{◌≡◌, ◌+◌, ℕ, ◌||◌, Bool, List, Option, false, is_err};
 ghost use Rattle.std.specs.Io.{ReadsAtMost, WritesAtMost};
 ghost use Rattle.std.specs.Io.KnownBytes.{Keeps, ReadConsumes, WriteAppends};
-ghost use Rattle.vote_cli.specs.Device.{is_failed_write};
+ghost use Rattle.vote_cli.specs.Device.{bytes_given, is_failed_write};
 
+use preflib_text::Trace;
 use std::io;
 use std::io::{Read, Write};
 use std::marker::Model;
@@ -21,11 +22,15 @@ pub trait Source: Device {
     // The bytes that reads will give from here on, where they are known.
     ghost remaining: { Self → Option (List ℕ) };
 
+    // How many bytes reads have given so far.
+    ghost given: { Self → ℕ };
+
     /// Reads into the front of `buf`. A count of 0 for a `buf` with room says that nothing is left. An error of any
     /// kind is a failed call.
     fn read(&mut self, buf: &mut [u8]) -> io::Result<usize>
         ensures bound { ReadsAtMost result buf.new }
         ensures bytes { ReadConsumes (remaining self.old) (remaining self.new) result buf.new }
+        ensures given { given self.new ≡ given self.old + bytes_given result }
         ensures failed { Self.has_failed self.new ≡ (Self.has_failed self.old || is_err result) };
 }
 
@@ -47,30 +52,33 @@ pub trait Sink: Device {
         ensures failed { Self.has_failed self.new ≡ (Self.has_failed self.old || is_err result) };
 }
 
-/// A reader or a writer of `std` as a device. Contracts see it as the pair of what it holds and whether a call has
-/// failed.
+/// A reader or a writer of `std` as a device. Contracts see what it holds, whether a call has failed, and how many bytes
+/// its reads have given.
 #[derive(Drop)]
 pub struct Told<T> {
     inner: T,
     has_failed: bool,
+    /// The bytes that reads have given.
+    given: Trace,
 }
 
 impl<T> Model for Told<T> {
-    ghost use Rattle.std.specs.Prelude.{Bool};
+    ghost use Rattle.std.specs.Prelude.{ℕ, Bool, length};
 
-    ghost Value = { T × Bool };
+    ghost Value = { T × Bool × ℕ };
 
-    ghost view = { λ told. (told.inner, told.has_failed) };
+    ghost view = { λ told. (told.inner, told.has_failed, length told.given.bytes) };
 }
 
 impl<T> Told<T> {
     /// The device over this reader or writer, of which no call has failed yet.
     pub fn new(inner: T) -> Told<T>
-        ensures { result ≡ (inner, false) }
+        ensures { result ≡ (inner, false, 0) }
     {
         Told {
             inner,
             has_failed: false,
+            given: Trace::new(),
         }
     }
 }
@@ -86,8 +94,13 @@ impl<T> Device for Told<T> {
 impl<T: Read> Source for Told<T> {
     ghost remaining = { λ told. T.remaining told.0 };
 
+    ghost given = { λ told. told.2 };
+
     fn read(&mut self, buf: &mut [u8]) -> io::Result<usize> {
         let result = self.inner.read(buf);
+        if let Ok(count) = &result {
+            self.given.add(&buf[..*count]);
+        }
         self.has_failed = self.has_failed || result.is_err();
         result
     }

@@ -3,6 +3,7 @@ ghost use Rattle.std.specs.Prelude.{◌≡◌, ◌<◌, ◌+◌, ◌++◌, lengt
 ghost use Rattle.preflib_text.specs.Approvals.{HasNumber};
 ghost use Rattle.preflib_text.specs.Limits.{word_limit};
 ghost use Rattle.vote_cli.specs.Answer.{IsAllRead};
+ghost use Rattle.vote_cli.specs.Device.{reader_state};
 ghost use Rattle.vote_cli.specs.Steps.Input.{TellsOfInput};
 
 use crate::device::Source;
@@ -50,7 +51,9 @@ pub(crate) fn read_to_end<A: Allocator + Copy + Drop, R: Source>(
     ensures bytes { IfOk result (λ lines. IfSome (R.remaining reader.old) (λ bytes. lines.fed ≡ bytes)) }
     ensures pick { IfOk result (λ lines. lines.pick ≡ pick.now) }
     ensures end { IfOk result (λ _. IsAllRead (R.remaining reader.old) (R.remaining reader.new)) }
-    ensures failed { TellsOfInput (R.remaining reader.old) (R.has_failed reader.old) (R.has_failed reader.new) result }
+    ensures failed { TellsOfInput (R.remaining reader.old)
+        (reader_state (R.has_failed reader.old) (R.given reader.old))
+        (reader_state (R.has_failed reader.new) (R.given reader.new)) result }
 {
     let Ok(mut lines) = LineReader::with_hashing(alloc, *pick, hashing) else {
         return Err(InputFault::Memory);

@@ -2,6 +2,7 @@
 ghost use Rattle.std.specs.Prelude.{◌≡◌, ◌≢◌, Err, IfSome, true, false};
 ghost use Rattle.preflib_text.specs.Approvals.{HasNumber};
 ghost use Rattle.vote_cli.specs.Answer.{Ends, IsAnswer, ReadsAll, Reports, TellsOf, has_votes, input_for};
+ghost use Rattle.vote_cli.specs.Device.{reader_state};
 ghost use Rattle.vote_cli.specs.Steps.Refusals.{WritesRight, ReadsBallots, ReadsOn};
 ghost use Rattle.vote_cli.specs.Steps.Refusals.{TellsOfReads, TellsOfWrites, error_of, status_of};
 
@@ -39,7 +40,9 @@ fn read_ballots<A: Allocator + Copy + Drop, R: Source>(
 ) -> Result<Profile<A>, Refusal>
     requires way { HasNumber pick.now.way }
     ensures input { IfSome (R.remaining reader.old) (λ bytes. ReadsBallots pick.now bytes result) }
-    ensures reads { TellsOfReads (R.remaining reader.old) (R.has_failed reader.old) (R.has_failed reader.new) result }
+    ensures reads { TellsOfReads (R.remaining reader.old)
+        (reader_state (R.has_failed reader.old) (R.given reader.old))
+        (reader_state (R.has_failed reader.new) (R.given reader.new)) result }
     ensures end { ReadsOn (R.remaining reader.old) (R.remaining reader.new) result }
     ensures unwritten { result ≢ Err Refusal.WriteFailed }
 {
@@ -62,7 +65,8 @@ fn answer<A: Allocator + Copy + Drop, R: Source, W: Sink>(
     ensures answer { IfSome (input_for request.now.demand (R.remaining reader.old)) (λ bytes.
         WritesRight (IsAnswer request.now bytes) (W.contents out.old) (W.contents out.new) result) }
     ensures reads { TellsOfReads (input_for request.now.demand (R.remaining reader.old))
-        (R.has_failed reader.old) (R.has_failed reader.new) result }
+        (reader_state (R.has_failed reader.old) (R.given reader.old))
+        (reader_state (R.has_failed reader.new) (R.given reader.new)) result }
     ensures writes { TellsOfWrites (W.has_failed out.old) (W.has_failed out.new) result }
     ensures end { has_votes request.now.demand ≡ false →
         ReadsOn (R.remaining reader.old) (R.remaining reader.new) result }
@@ -116,11 +120,15 @@ pub fn run<A: Allocator + Copy + Drop, R: Source, W: Sink, E: Sink>(
     ensures ends { IfSome (input_for request.now.demand (R.remaining reader.old)) (λ bytes.
         Ends request.now bytes (W.contents out.old) (W.contents out.new)
         (E.contents err.old) (E.contents err.new) (E.has_failed err.new)
-        (R.has_failed reader.old) (R.has_failed reader.new) (W.has_failed out.old) (W.has_failed out.new) result) }
+        (reader_state (R.has_failed reader.old) (R.given reader.old))
+        (reader_state (R.has_failed reader.new) (R.given reader.new))
+        (W.has_failed out.old) (W.has_failed out.new) result) }
     // A device is blamed exactly where it has failed, by its own line, whether or not the devices tell their bytes; and
-    // so is the reader where there are more than 2^64 - 1 bytes.
+    // so is the reader where it gave more than 2^64 - 1 bytes.
     ensures devices { TellsOf (input_for request.now.demand (R.remaining reader.old)) result
-        (R.has_failed reader.old) (R.has_failed reader.new) (W.has_failed out.old) (W.has_failed out.new)
+        (reader_state (R.has_failed reader.old) (R.given reader.old))
+        (reader_state (R.has_failed reader.new) (R.given reader.new))
+        (W.has_failed out.old) (W.has_failed out.new)
         (Reports (E.contents err.old) (E.contents err.new) (E.has_failed err.new)) }
     // The input is read to its end, whatever stands in it.
     ensures input { has_votes request.now.demand ≡ false →
@@ -144,11 +152,15 @@ pub fn run_with_hashing<A: Allocator + Copy + Drop, R: Source, W: Sink, E: Sink>
     ensures ends { IfSome (input_for request.now.demand (R.remaining reader.old)) (λ bytes.
         Ends request.now bytes (W.contents out.old) (W.contents out.new)
         (E.contents err.old) (E.contents err.new) (E.has_failed err.new)
-        (R.has_failed reader.old) (R.has_failed reader.new) (W.has_failed out.old) (W.has_failed out.new) result) }
+        (reader_state (R.has_failed reader.old) (R.given reader.old))
+        (reader_state (R.has_failed reader.new) (R.given reader.new))
+        (W.has_failed out.old) (W.has_failed out.new) result) }
     // A device is blamed exactly where it has failed, by its own line, whether or not the devices tell their bytes; and
-    // so is the reader where there are more than 2^64 - 1 bytes.
+    // so is the reader where it gave more than 2^64 - 1 bytes.
     ensures devices { TellsOf (input_for request.now.demand (R.remaining reader.old)) result
-        (R.has_failed reader.old) (R.has_failed reader.new) (W.has_failed out.old) (W.has_failed out.new)
+        (reader_state (R.has_failed reader.old) (R.given reader.old))
+        (reader_state (R.has_failed reader.new) (R.given reader.new))
+        (W.has_failed out.old) (W.has_failed out.new)
         (Reports (E.contents err.old) (E.contents err.new) (E.has_failed err.new)) }
     // The input is read to its end, whatever stands in it.
     ensures input { has_votes request.now.demand ≡ false →

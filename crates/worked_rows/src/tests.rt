@@ -1,10 +1,9 @@
-//! Runs from words and bytes to bytes, readings of files, and what devices and memory do to them.
+//! Runs from words and bytes to bytes, and what devices and memory do to them.
 mod drawn;
 mod failures;
 mod growths;
 mod listings;
 mod long;
-mod reading;
 mod rest;
 mod streams;
 mod support;

@@ -1,152 +1,26 @@
-//! Allocations worked by hand, and from public tables.
+//! Allocations one by one, and requests that are refused.
 use seat_share::{Allocation, Method, ShareFault, Shares};
-use std::alloc::{AllocError, Global};
-use std::process::Abort;
 use std::test::Fail;
 
-/// The method, the seats, the votes of the parties, the start if there is one, and each allocation.
-static TABLE: &str = "\
-dhondt 7 53,24,23 = 4,2,1
-saintelague 7 53,24,23 = 3,2,2
-hamilton 7 53,24,23 = 4,2,1
-saintelague 2 3,1 = 1,1 2,0
-hamilton 1 1,1,1 = 0,0,1 0,1,0 1,0,0
-hamilton 1 1,0,1 = 0,0,1 1,0,0
-adams 2 5,3,3 = 1,0,1 1,1,0
-adams 5 5,3,3 = 2,1,2 2,2,1
-saintelague 5 5,3,3 = 2,1,2 2,2,1 3,1,1
-huntington 10 1,6 = 1,9 2,8
-dean 10 1,6 = 2,8
-dhondt 2 5,0,3 = 1,0,1
-dhondt 10000 4294967295,1 = 10000,0
-saintelague 10000 4294967295,1 = 10000,0
-hamilton 10000 4294967295,1 = 10000,0
-huntington 10000 4294967295,1 = 9999,1
-adams 10000 4294967295,1 = 9999,1
-dean 10000 4294967295,1 = 9999,1
-dhondt 1 4294967296 = 1";
-
-/// Starts: allocations, and lists that are none.
-static STARTS: &str = "\
-dhondt 7 53,24,23 4,2,0 = 4,2,1
-dhondt 7 53,24,23 4,2,1 =
-dhondt 7 53,24,23 5,0,0 =
-dhondt 7 53,24,23 10001,0,0 =
-dhondt 7 53,24,23 0,65535,65535 = 4,2,1
-hamilton 1 1,1,1 0,0,0 = 0,0,1 0,1,0 1,0,0
-hamilton 1 1,1,1 0,0,1 = 0,1,0 1,0,0
-hamilton 1 1,1,1 0,1,0 = 1,0,0
-hamilton 1 1,1,1 0,1,1 = 1,0,0
-hamilton 1 1,1,1 1,0,0 =
-adams 2 5,3,3 1,0,1 = 1,1,0
-adams 2 5,3,3 1,0,2 = 1,1,0
-adams 2 5,3,3 0,9,9 = 1,0,1 1,1,0
-adams 2 5,3,3 1,1,0 =
-saintelague 5 5,3,3 2,1,9 = 2,2,1 3,1,1
-saintelague 5 5,3,3 2,2,1 = 3,1,1
-saintelague 5 5,3,3 3,0,9 = 3,1,1";
-
-/// Balinski and Young, Fair Representation: six states and 36 seats, by each divisor method and by Hamilton's.
-static SIX_STATES: &str = "\
-adams 36 27744,25178,19951,14610,9225,3292 = 10,9,7,5,3,2
-dean 36 27744,25178,19951,14610,9225,3292 = 10,9,7,5,4,1
-huntington 36 27744,25178,19951,14610,9225,3292 = 10,9,7,6,3,1
-saintelague 36 27744,25178,19951,14610,9225,3292 = 10,9,8,5,3,1
-dhondt 36 27744,25178,19951,14610,9225,3292 = 11,9,7,5,3,1
-hamilton 36 27744,25178,19951,14610,9225,3292 = 10,9,7,5,4,1";
-
-/// The census of the United States of 1790, and the bills of 1792 by Jefferson's and by Hamilton's method (Balinski and
-/// Young, Fair Representation).
-static CENSUS: &str = "\
-dhondt 105 236841,55540,70835,68705,278514,475327,141822,179570,331589,353523,432879,68446,206236,85533,630560 = 7,1,2,2,8,14,4,5,10,10,13,2,6,2,19
-hamilton 120 236841,55540,70835,68705,278514,475327,141822,179570,331589,353523,432879,68446,206236,85533,630560 = 8,2,2,2,9,16,5,6,11,12,14,2,7,3,21";
-
-/// The Alabama paradox: one seat more, and the third party has one fewer
-/// (https://en.wikipedia.org/wiki/Apportionment_paradox).
-static PARADOX: &str = "\
-hamilton 10 6,6,2 = 4,4,2
-hamilton 11 6,6,2 = 5,5,1";
-
-/// The numbers between commas.
-fn numbers(alloc: Global, text: &str) -> Result<Vec<u64>, Fail> {
-    let mut numbers = Vec::new(alloc);
-    for word in text.split(',') {
-        numbers.push(word.parse()?)?;
-    }
-    Ok(numbers)
-}
-
-/// The numbers of seats between commas.
-fn start_of(alloc: Global, text: &str) -> Result<Vec<u16>, Fail> {
-    let mut numbers = Vec::new(alloc);
-    for word in text.split(',') {
-        numbers.push(word.parse()?)?;
-    }
-    Ok(numbers)
-}
-
-/// Numbers with commas between them.
-fn text_of(alloc: Global, numbers: &[u16]) -> Result<String, AllocError> {
-    let mut text = String::new(alloc);
-    for number in numbers {
-        if !text.is_empty() {
-            text.push_str(",")?;
-        }
-        text.push_str(format!(in alloc; "{number}")?.as_str())?;
-    }
-    Ok(text)
-}
-
-/// Asserts each line of a table.
-fn assert_table(rt: &impl Abort, alloc: Global, table: &str) -> Result<(), Fail> {
-    for line in table.lines() {
-        let (request, allocations) = line.split_once(" =").ok_or("a line")?;
-        let mut words = request.split(' ');
-        let method = Method::named(words.next().ok_or("a method")?).ok_or("a method")?;
-        let seats: u16 = words.next().ok_or("seats")?.parse()?;
-        let votes = numbers(alloc, words.next().ok_or("votes")?)?;
-        let shares = match words.next() {
-            Some(text) => {
-                let start = start_of(alloc, text)?;
-                Shares::new(votes.as_slice(), method, seats, Some(start.as_slice()))
-            }
-            None => Shares::new(votes.as_slice(), method, seats, None),
-        };
-        let Ok(shares) = shares else {
-            panic!(rt; "{line}");
-        };
-        assert_shares(rt, alloc, shares, allocations, line)?;
-    }
-    Ok(())
-}
-
-/// Asserts that these allocations are still to come, each after a space, and no other.
-fn assert_shares(
-    rt: &impl Abort,
-    alloc: Global,
-    mut shares: Shares,
-    allocations: &str,
-    line: &str,
-) -> Result<(), Fail> {
-    for allocation in allocations.split(' ').skip(1) {
-        let next = shares.next().ok_or("an allocation is missing")?;
-        let text = text_of(alloc, next.seats())?;
-        assert_eq!(rt; text.as_str(), allocation, "{line}");
-    }
-    for _ in 0..2 {
-        assert!(rt; shares.next().is_none(), "{line}: one more");
-    }
-    Ok(())
-}
-
+/// Starts with more seats than may be shared out, which no list in words can have.
 #[test]
-fn tables(rt: HostRuntime) -> Result<(), Fail> {
-    let alloc = rt.alloc();
-    assert_table(&rt, alloc, TABLE)?;
-    assert_table(&rt, alloc, STARTS)?;
-    assert_table(&rt, alloc, SIX_STATES)?;
-    assert_table(&rt, alloc, CENSUS)?;
-    assert_table(&rt, alloc, PARADOX)
+fn starts_of_too_many_seats(rt: HostRuntime) -> Result<(), Fail> {
+    let votes = [53, 24, 23];
+    let start: [u16; 3] = [0, 65_535, 65_535];
+    let Ok(mut shares) = Shares::new(&votes, Method::Dhondt, 7, Some(&start)) else {
+        panic!(rt; "a start before all");
+    };
+    let first = shares.next().ok_or("an allocation")?;
+    let wanted: [u16; 3] = [4, 2, 1];
+    assert_eq!(rt; first.seats(), wanted.as_slice());
+    assert!(rt; shares.next().is_none());
+    assert!(rt; shares.next().is_none());
+    let start: [u16; 3] = [10_001, 0, 0];
+    let Ok(mut shares) = Shares::new(&votes, Method::Dhondt, 7, Some(&start)) else {
+        panic!(rt; "a start after all");
+    };
+    assert!(rt; shares.next().is_none());
+    Ok(())
 }
 
 /// All 12,870 allocations by one walk, and each by a walk of its own that starts after the one before.

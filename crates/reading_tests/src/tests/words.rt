@@ -1,4 +1,5 @@
 //! Words of the command line, and the requests that they make.
+use super::support::{read_line, read_words, reading_as};
 use ballot_base::ThieleRule;
 use group_check::Property;
 use preflib_text::{Kind, Pick, Way};
@@ -10,25 +11,17 @@ use std::alloc::Global;
 use std::process::Abort;
 use std::test::Fail;
 
-fn read(alloc: Global, line: &str) -> Result<Result<Request, LineFault>, Fail> {
-    let mut words = Vec::new(alloc);
-    for word in line.split_whitespace() {
-        words.push(word.to_string(alloc)?)?;
-    }
-    Ok(read_request(alloc, words.as_slice()))
-}
-
 #[test]
 fn reads_elections(rt: HostRuntime) -> Result<(), Fail> {
     let alloc = rt.alloc();
     let av = Rule::Scored(ScoredRule::Thiele(ThieleRule::Av));
-    let request = read(alloc, "committees elect --rule av --size 007")?.expect(&rt, "no file");
+    let request = read_line(alloc, "elect --rule av --size 007")?.expect(&rt, "no file");
     match request.task() {
         Task::Elect(rule, size, _) => assert!(rt; *rule == av && *size == 7),
         other => panic!(rt; "{other:?}"),
     }
     assert!(rt; request.file().is_none());
-    let request = read(alloc, "committees elect a.cat --size=40 --rule=av")?.expect(&rt, "a file");
+    let request = read_line(alloc, "elect a.cat --size=40 --rule=av")?.expect(&rt, "a file");
     match request.task() {
         Task::Elect(rule, size, _) => assert!(rt; *rule == av && *size == 40),
         other => panic!(rt; "{other:?}"),
@@ -51,8 +44,8 @@ fn reads_checks(rt: HostRuntime) -> Result<(), Fail> {
         ),
     ];
     for (words, wanted, members) in lines {
-        let line = format!(in alloc; "committees check --property {words}")?;
-        let request = read(alloc, line.as_str())?.expect(&rt, words);
+        let line = format!(in alloc; "check --property {words}")?;
+        let request = read_line(alloc, line.as_str())?.expect(&rt, words);
         match request.task() {
             Task::Check(property, committee) => assert!(rt;
                 *property == wanted && committee.as_slice() == members,
@@ -81,8 +74,8 @@ fn reads_sharings(rt: HostRuntime) -> Result<(), Fail> {
         ("dean --seats 5 a.soi", Method::Dean, 5, None),
     ];
     for (words, wanted, number, given) in lines {
-        let line = format!(in alloc; "committees share --method {words}")?;
-        let request = read(alloc, line.as_str())?.expect(&rt, words);
+        let line = format!(in alloc; "share --method {words}")?;
+        let request = read_line(alloc, line.as_str())?.expect(&rt, words);
         match request.task() {
             Task::Share(method, seats, votes, _) => assert!(rt;
                 *method == wanted
@@ -123,10 +116,8 @@ fn reads_how_the_file_is_read(rt: HostRuntime) -> Result<(), Fail> {
         ),
     ];
     for (words, kind, ending, way) in lines {
-        let line = format!(in alloc; "committees elect --rule av --size 1 {words}")?;
-        let request = read(alloc, line.as_str())?.expect(&rt, words);
         let wanted = Pick { kind, ending, way };
-        assert!(rt; request.pick() == wanted, "{words}");
+        assert!(rt; reading_as(alloc, words)?.pick() == wanted, "{words}");
     }
     Ok(())
 }
@@ -148,9 +139,7 @@ fn reads_endings(rt: HostRuntime) -> Result<(), Fail> {
         ("/", None),
     ];
     for (path, ending) in paths {
-        let line = format!(in alloc; "committees elect --rule av --size 1 {path}")?;
-        let request = read(alloc, line.as_str())?.expect(&rt, path);
-        assert!(rt; request.pick().ending == ending, "{path}");
+        assert!(rt; reading_as(alloc, path)?.pick().ending == ending, "{path}");
     }
     Ok(())
 }
@@ -179,8 +168,8 @@ fn reads_pages(rt: HostRuntime) -> Result<(), Fail> {
             "elect --rule seqcc --size 2",
             "share --method dean --seats 2",
         ] {
-            let line = format!(in alloc; "committees {command} {words}")?;
-            let request = read(alloc, line.as_str())?.expect(&rt, words);
+            let line = format!(in alloc; "{command} {words}")?;
+            let request = read_line(alloc, line.as_str())?.expect(&rt, words);
             match page_of(&request) {
                 Some(page) => assert!(rt;
                     page.after.as_ref().map(|list| list.as_slice()) == after && page.limit == limit,
@@ -203,208 +192,295 @@ fn reads_whether_names_are_wanted(rt: HostRuntime) -> Result<(), Fail> {
         "share --method dean --seats 1 --votes 1",
     ];
     for command in commands {
-        let with = format!(in alloc; "committees {command} --names")?;
+        let with = format!(in alloc; "{command} --names")?;
         assert!(rt;
-            read(alloc, with.as_str())?.expect(&rt, command).names(),
+            read_line(alloc, with.as_str())?
+                .expect(&rt, command)
+                .names(),
             "{with}"
         );
-        let without = format!(in alloc; "committees {command}")?;
+        let without = format!(in alloc; "{command}")?;
         assert!(rt;
-            !read(alloc, without.as_str())?.expect(&rt, command).names(),
+            !read_line(alloc, without.as_str())?
+                .expect(&rt, command)
+                .names(),
             "{without}"
         );
     }
     Ok(())
 }
 
-/// Asserts that each line is refused after `clap`, and the line on it.
-fn assert_refused(
-    rt: &impl Abort,
-    alloc: Global,
-    lines: &[&str],
-    wanted: &str,
-) -> Result<(), Fail> {
-    for line in lines {
-        match read(alloc, line)? {
-            Err(fault) => assert!(rt; fault.line() == Some(wanted), "{line}: {fault:?}"),
-            Ok(request) => panic!(rt; "{line}: {request:?}"),
-        }
+/// The words after the program's name, and the line on them; or `usage` and `help` for the texts of `clap`.
+static REFUSALS: &str = "\
+// Of several faults the first is told, in the order of the lists, the ways, and votes beside an input.
+check --property jr --committee 1, | committees: words: BadList --committee
+check --property jr --committee 1, --category 1 --setsize 1 | committees: words: BadList --committee
+check --category 1 --classes 1 --committee 1,,2 --property ejr a.soc | committees: words: BadList --committee
+share --method dhondt --seats 1 --votes 1, | committees: words: BadList --votes
+share --method dhondt --seats 1 --votes 1, --category 1 --setsize 1 | committees: words: BadList --votes
+share --method dhondt --seats 1 --votes 1, a.cat | committees: words: BadList --votes
+share --method dhondt --seats 1 --kind cat --votes x | committees: words: BadList --votes
+share a.cat --votes ,1 --setsize 1 --classes 1 --method dhondt --seats 1 | committees: words: BadList --votes
+check --property jr --committee 1 --category 1 --setsize 1 | committees: words: TwoPicks
+check --property pjr --committee 1 --category 1 --classes 1 a.cat | committees: words: TwoPicks
+share --method dhondt --seats 1 --setsize 1 --classes 1 | committees: words: TwoPicks
+share --method dhondt --seats 1 --votes 1 --category 1 --setsize 1 | committees: words: TwoPicks
+share --method dhondt --seats 1 --votes 1 --category 1 --classes 1 | committees: words: TwoPicks
+share --method dhondt --seats 1 --votes 1 --setsize 1 --classes 1 a.cat | committees: words: TwoPicks
+share --classes 1 --kind cat --votes 1,2 --category 1 --setsize 1 --seats 1 --method dean | committees: words: TwoPicks
+share --method dhondt --seats 1 --votes 1,2 --kind cat | committees: words: VotesAndInput
+share --method dhondt --seats 1 --votes 1,2 a.cat | committees: words: VotesAndInput
+share a --method hamilton --seats 1 --votes 1 | committees: words: VotesAndInput
+share --method saintelague --seats 1 --votes 1 --category 1 | committees: words: VotesAndInput
+share --method huntington --seats 1 --setsize 1000000 --votes 1 | committees: words: VotesAndInput
+share --method adams --seats 1 --votes 1 --classes 2 | committees: words: VotesAndInput
+share --method dean --seats 1 --votes 1 --kind toi --setsize 2 a.toi | committees: words: VotesAndInput
+share --method dean --seats 1 --votes 0,0 --kind soc | committees: words: VotesAndInput
+// Words that clap refuses.
+check | usage
+check --property jr | usage
+check --committee 1 | usage
+check --property JR --committee 1 | usage
+check --property av --committee 1 | usage
+check --property jr --committee | usage
+check --property jr --committee 1 --committee 2 | usage
+check --property jr --committee 1 --size 1 | usage
+check --property jr --committee 1 --votes 1 | usage
+check --property jr --committee 1, --setsize 0 | usage
+check --property jr --committee 1 a b | usage
+share | usage
+share --method dhondt | usage
+share --seats 1 | usage
+share --method d'hondt --seats 1 | usage
+share --method dhondt --seats 0 | usage
+share --method dhondt --seats 10001 | usage
+share --method dhondt --seats 65537 | usage
+share --method dhondt --seats 1 --seats 1 | usage
+share --method dhondt --seats x --votes 1, | usage
+share --method dhondt --seats 1 --votes | usage
+share --method dhondt --seats 1 --votes 1 --votes 1 | usage
+share --method dhondt --seats 1 --committee 1 | usage
+share --method dhondt --seats 1 --votes 1 --kind x | usage
+elect --rule av --size 1 --votes 1 | usage
+elect --rule av --size 1 --committee 1 | usage
+elect --method dhondt --seats 1 | usage
+// Help.
+check --help | help
+share --help | help
+share --votes 1, -h | help
+// Ways.
+elect --rule av --size 1 --kind soi --setsize 1 --classes 1 | committees: words: TwoPicks
+elect --rule av --size 1 --category 1 --setsize 1 | committees: words: TwoPicks
+elect --rule av --size 1 --classes 2 --category 1 | committees: words: TwoPicks
+elect --rule av --size 1 --classes 1 --setsize 2 --category 3 | committees: words: TwoPicks
+elect --rule av --size 1 --kind CAT | usage
+elect --rule av --size 1 --kind tog | usage
+elect --rule av --size 1 --kind | usage
+elect --rule av --size 1 --kind cat --kind cat | usage
+elect --rule av --size 1 --category 0 | usage
+elect --rule av --size 1 --setsize 0 | usage
+elect --rule av --size 1 --classes 0 | usage
+elect --rule av --size 1 --category 1000001 | usage
+elect --rule av --size 1 --setsize 1000001 | usage
+elect --rule av --size 1 --classes 1000001 | usage
+elect --rule av --size 1 --classes 4294967297 | usage
+elect --rule av --size 1 --category x | usage
+elect --rule av --size 1 --category 1 --category 1 | usage
+elect --rule av --size 1 --setsize 1 --classes 0 | usage
+elect --rule av --size 1 --names=true | usage
+elect --rule av --size 1 --category 1 --classes 1 | committees: words: TwoPicks
+elect --setsize 2 --rule av --size 1 --classes 2 a.soc | committees: words: TwoPicks
+elect --rule av --size 1 --category 1 --setsize 1 --classes 1 | committees: words: TwoPicks
+share --method dean --seats 1 --category 1 --setsize 1 | committees: words: TwoPicks
+share --method dean --seats 1 --votes 1 --category 1 --setsize 1 | committees: words: TwoPicks
+share --method dean --seats 1 --votes 1 a.soi | committees: words: VotesAndInput
+share --method dean --seats 1 --votes 1 --kind soi | committees: words: VotesAndInput
+share --method dean --seats 1 --votes 1 --category 1 | committees: words: VotesAndInput
+share --method dean --seats 1 --votes 1 --setsize 1 | committees: words: VotesAndInput
+share --classes 1 --method dean --seats 1 --votes 1 | committees: words: VotesAndInput
+check --property jr --committee 1, --category 1 --classes 1 a.cat | committees: words: BadList --committee
+share --method dean --seats 1 --votes 1, --category 1 --classes 1 a.cat | committees: words: BadList --votes
+share --method dean --seats 1 --after 1, --votes 1, | committees: words: BadList --votes
+elect --rule cc --size 2 --after 1,,2 | committees: words: BadList --after
+elect --rule av --size 1 --after 1, --category 1 --classes 1 | committees: words: BadList --after
+share --method dean --seats 1 --votes 1 --after 1,,2 a.cat | committees: words: BadList --after
+ | usage
+elect --size 1 | usage
+elect --rule av --size 0 | usage
+elect --rule av --size 41 | usage
+elect --rule phragmen --size 1 | usage
+elect --rule av --size 1 --limit 0 | usage
+elect --rule av --size 1 --limit 4294967296 | usage
+elect --rule av --size 1 --limit 1 --limit 1 | usage
+elect --rule av --size 1 --after 1 --after 1 | usage
+elect --rule av --size 1 --names --names | usage
+elect --rule av --size 1 --kind SOC | usage
+elect --rule av --size 1 --kind other | usage
+elect --rule av --size 1 --classes many | usage
+elect --rule av --size 1 --classes 1 --classes 1 | usage
+elect --rule av --size 0 --category 1 --classes 1 | usage
+share --rule av --size 1 | usage
+check --property ejr+ --committee 1 | usage
+share --method dean --seats 0 | usage
+share --method dean --seats 10001 | usage
+share --method jefferson --seats 1 | usage
+check --property jr --committee 1 --after 1 | usage
+check --property jr --committee 1 --limit 1 | usage
+share --method dean --seats 1 --votes 1 --votes 1 | usage
+share --method dean --seats 1 --committee 1 | usage
+--version | usage
+--help | help
+elect -h | help
+check -h | help";
+
+/// Asserts that words make no request, and what is said of them.
+fn assert_refused(rt: &impl Abort, alloc: Global, words: &str, wanted: &str) -> Result<(), Fail> {
+    let told = match read_line(alloc, words)? {
+        Err(LineFault::Help(text)) if text.as_str().contains("Usage: committees") => "help",
+        Err(LineFault::Usage(text)) if text.as_str().starts_with("error: ") => "usage",
+        Err(fault) => fault.line().unwrap_or("another text"),
+        Ok(_) => "a request",
+    };
+    assert!(rt; told == wanted, "{words}: {told}");
+    Ok(())
+}
+
+#[test]
+fn words_that_are_refused(rt: HostRuntime) -> Result<(), Fail> {
+    for row in REFUSALS.split('\n').filter(|row| !row.starts_with("//")) {
+        let (words, wanted) = row.split_once(" | ").ok_or("a bar")?;
+        assert_refused(&rt, rt.alloc(), words, wanted)?;
     }
     Ok(())
 }
 
 #[test]
-fn refuses_two_picks(rt: HostRuntime) -> Result<(), Fail> {
-    let lines = [
-        "committees elect --rule av --size 1 --category 1 --setsize 1",
-        "committees elect --rule av --size 1 --category 1 --classes 1",
-        "committees elect --setsize 2 --rule av --size 1 --classes 2 a.soc",
-        "committees elect --rule av --size 1 --category 1 --setsize 1 --classes 1",
-        "committees check --property jr --committee 1 --category 1 --setsize 1",
-        "committees share --method dean --seats 1 --category 1 --setsize 1",
-        "committees share --method dean --seats 1 --votes 1 --category 1 --setsize 1",
-    ];
-    assert_refused(&rt, rt.alloc(), &lines, "committees: words: TwoPicks")
+fn no_words(rt: HostRuntime) {
+    let read = read_request(rt.alloc(), &[]);
+    assert!(rt; matches!(&read, Err(LineFault::Usage(_))));
 }
 
-#[test]
-fn refuses_lists(rt: HostRuntime) -> Result<(), Fail> {
-    let alloc = rt.alloc();
-    let lists = [
-        "",
-        "1,",
-        ",1",
-        "1,,2",
-        "+1",
-        "-1",
-        "1;2",
-        "a",
-        "18446744073709551616",
-    ];
-    for list in lists {
-        let check = format!(in alloc; "committees check --property jr --committee={list}")?;
-        match read(alloc, check.as_str())? {
-            Err(LineFault::BadList(ListOption::Committee)) => {}
-            other => panic!(rt; "{list}: {other:?}"),
-        }
-        let share = format!(in alloc; "committees share --method dean --seats 1 --votes={list}")?;
-        match read(alloc, share.as_str())? {
-            Err(LineFault::BadList(ListOption::Votes)) => {}
-            other => panic!(rt; "{list}: {other:?}"),
-        }
-        let elect = format!(in alloc; "committees elect --rule av --size 1 --after={list}")?;
-        match read(alloc, elect.as_str())? {
-            Err(LineFault::BadList(ListOption::After)) => {}
-            other => panic!(rt; "{list}: {other:?}"),
-        }
-    }
-    Ok(())
+/// The request of a check of this list.
+fn read_committee(alloc: Global, list: &str) -> Result<Result<Request, LineFault>, Fail> {
+    let option = format!(in alloc; "--committee={list}")?;
+    read_words(alloc, &["check", "--property", "jr", option.as_str()])
 }
 
-#[test]
-fn refuses_lists_before_all_else(rt: HostRuntime) -> Result<(), Fail> {
-    let alloc = rt.alloc();
-    let checks = ["committees check --property jr --committee 1, --category 1 --classes 1 a.cat"];
-    assert_refused(
-        &rt,
+/// The request of shares by this list of votes.
+fn read_votes(alloc: Global, list: &str) -> Result<Result<Request, LineFault>, Fail> {
+    let option = format!(in alloc; "--votes={list}")?;
+    read_words(
         alloc,
-        &checks,
-        "committees: words: BadList --committee",
-    )?;
-    let sharings = [
-        "committees share --method dean --seats 1 --votes 1, --category 1 --classes 1 a.cat",
-        "committees share --method dean --seats 1 --after 1, --votes 1,",
-    ];
-    assert_refused(&rt, alloc, &sharings, "committees: words: BadList --votes")?;
-    let starts = [
-        "committees elect --rule av --size 1 --after 1, --category 1 --classes 1",
-        "committees share --method dean --seats 1 --votes 1 --after 1,,2 a.cat",
-    ];
-    assert_refused(&rt, alloc, &starts, "committees: words: BadList --after")
+        &["share", "--method", "dean", "--seats=7", option.as_str()],
+    )
+}
+
+/// The request of an election after this list.
+fn read_start(alloc: Global, list: &str) -> Result<Result<Request, LineFault>, Fail> {
+    let option = format!(in alloc; "--after={list}")?;
+    read_words(
+        alloc,
+        &["elect", "--rule", "av", "--size=2", option.as_str()],
+    )
+}
+
+/// Words that are no list of numbers, with a bar after each.
+static NO_LISTS: &str =
+    "|,|1,|,1|1,,2|,,| |1 | 1|1, 2|1 ,2|\t1|+1|1,+2|-1|-0|1;2|1.0|0x1|a|1a|1_0|\u{661}|1\u{a0}|18446744073709551616|1,18446744073709551616|36893488147419103233|99999999999999999999999999|";
+
+#[test]
+fn words_that_are_no_lists(rt: HostRuntime) -> Result<(), Fail> {
+    let alloc = rt.alloc();
+    for list in NO_LISTS.split('|') {
+        let committee = read_committee(alloc, list)?;
+        let is_refused = matches!(&committee, Err(LineFault::BadList(ListOption::Committee)));
+        assert!(rt; is_refused, "'{list}' is no committee");
+        let votes = read_votes(alloc, list)?;
+        let is_refused = matches!(&votes, Err(LineFault::BadList(ListOption::Votes)));
+        assert!(rt; is_refused, "'{list}' is no list of votes");
+        let start = read_start(alloc, list)?;
+        let is_refused = matches!(&start, Err(LineFault::BadList(ListOption::After)));
+        assert!(rt; is_refused, "'{list}' is no start");
+    }
+    Ok(())
+}
+
+/// Asserts the numbers of a list, after each option that takes one.
+fn assert_list(rt: &impl Abort, alloc: Global, list: &str, numbers: &[u64]) -> Result<(), Fail> {
+    match read_committee(alloc, list)??.task() {
+        Task::Check(_, committee) => assert_eq!(rt; committee.as_slice(), numbers, "{list}"),
+        other => panic!(rt; "{list}: {other:?}"),
+    }
+    match read_votes(alloc, list)??.task() {
+        Task::Share(_, 7, Some(votes), _) => assert_eq!(rt; votes.as_slice(), numbers, "{list}"),
+        other => panic!(rt; "{list}: {other:?}"),
+    }
+    let request = read_start(alloc, list)??;
+    let after = page_of(&request).and_then(|page| page.after.as_ref());
+    assert!(rt;
+        after.is_some_and(|after| after.as_slice() == numbers),
+        "{list}"
+    );
+    Ok(())
 }
 
 #[test]
-fn refuses_votes_beside_an_input(rt: HostRuntime) -> Result<(), Fail> {
-    let lines = [
-        "committees share --method dean --seats 1 --votes 1 a.soi",
-        "committees share --method dean --seats 1 --votes 1 --kind soi",
-        "committees share --method dean --seats 1 --votes 1 --category 1",
-        "committees share --method dean --seats 1 --votes 1 --setsize 1",
-        "committees share --classes 1 --method dean --seats 1 --votes 1",
+fn lists(rt: HostRuntime) -> Result<(), Fail> {
+    let cases: [(&str, &[u64]); 6] = [
+        ("0", &[0]),
+        ("53,24,23", &[53, 24, 23]),
+        ("3,1,1,0", &[3, 1, 1, 0]),
+        ("007,0000,00000000000000000000000001", &[7, 0, 1]),
+        ("18446744073709551615", &[u64::MAX]),
+        ("1,0018446744073709551615", &[1, u64::MAX]),
     ];
-    assert_refused(&rt, rt.alloc(), &lines, "committees: words: VotesAndInput")
+    for (list, numbers) in cases {
+        assert_list(&rt, rt.alloc(), list, numbers)?;
+    }
+    Ok(())
 }
 
+/// A file with an empty name is a file.
 #[test]
 fn an_empty_file_is_a_file(rt: HostRuntime) -> Result<(), Fail> {
     let alloc = rt.alloc();
-    let mut words = Vec::new(alloc);
-    for word in [
-        "committees",
-        "share",
-        "--method=dean",
-        "--seats=1",
-        "--votes=1",
-        "",
-    ] {
-        words.push(word.to_string(alloc)?)?;
-    }
-    match read_request(alloc, words.as_slice()) {
-        Err(LineFault::VotesAndInput) => Ok(()),
-        other => panic!(rt; "{other:?}"),
-    }
+    let words = ["share", "--method=dean", "--seats=1", "--votes=1", ""];
+    let read = read_words(alloc, &words)?;
+    assert!(rt;
+        matches!(&read, Err(LineFault::VotesAndInput)),
+        "votes and a file"
+    );
+    let words = ["share", "--method=dean", "--seats=1", "--votes=1,", ""];
+    let read = read_words(alloc, &words)?;
+    let is_list = matches!(&read, Err(LineFault::BadList(ListOption::Votes)));
+    assert!(rt; is_list, "no votes and a file");
+    let words = ["share", "--method=dean", "--seats=1", "--kind=cat", ""];
+    let request = read_words(alloc, &words)??;
+    assert!(rt; request.file() == Some(""), "a file");
+    Ok(())
 }
 
 #[test]
 fn answers_with_help(rt: HostRuntime) -> Result<(), Fail> {
     let alloc = rt.alloc();
     let lines = [
-        ("committees --help", "Usage: committees <COMMAND>"),
+        ("--help", "Usage: committees <COMMAND>"),
         (
-            "committees elect -h",
+            "elect -h",
             "Usage: committees elect [OPTIONS] --rule <RULE> --size <SIZE> [FILE]",
         ),
         (
-            "committees check -h",
+            "check -h",
             "Usage: committees check [OPTIONS] --property <PROPERTY> --committee <LIST> [FILE]",
         ),
         (
-            "committees share --help",
+            "share --help",
             "Usage: committees share [OPTIONS] --method <METHOD> --seats <SEATS> [FILE]",
         ),
     ];
     for (line, usage) in lines {
-        match read(alloc, line)? {
+        match read_line(alloc, line)? {
             Err(LineFault::Help(text)) => assert!(rt; text.as_str().contains(usage), "{text}"),
-            other => panic!(rt; "{line}: {other:?}"),
-        }
-    }
-    Ok(())
-}
-
-#[test]
-fn refuses_words(rt: HostRuntime) -> Result<(), Fail> {
-    let alloc = rt.alloc();
-    let lines = [
-        "",
-        "committees",
-        "committees elect --size 1",
-        "committees elect --rule av --size 0",
-        "committees elect --rule av --size 41",
-        "committees elect --rule phragmen --size 1",
-        "committees elect --rule av --size 1 --limit 0",
-        "committees elect --rule av --size 1 --limit 4294967296",
-        "committees elect --rule av --size 1 --limit 1 --limit 1",
-        "committees elect --rule av --size 1 --after 1 --after 1",
-        "committees elect --rule av --size 1 --names=true",
-        "committees elect --rule av --size 1 --names --names",
-        "committees elect --rule av --size 1 --kind SOC",
-        "committees elect --rule av --size 1 --kind other",
-        "committees elect --rule av --size 1 --category 0",
-        "committees elect --rule av --size 1 --setsize 1000001",
-        "committees elect --rule av --size 1 --classes many",
-        "committees elect --rule av --size 1 --classes 1 --classes 1",
-        "committees elect --rule av --size 0 --category 1 --classes 1",
-        "committees share --rule av --size 1",
-        "committees check --committee 1",
-        "committees check --property jr",
-        "committees check --property ejr+ --committee 1",
-        "committees check --property jr --committee 1 --votes 1",
-        "committees share --method dean --seats 0",
-        "committees share --method dean --seats 10001",
-        "committees share --method jefferson --seats 1",
-        "committees check --property jr --committee 1 --after 1",
-        "committees check --property jr --committee 1 --limit 1",
-        "committees share --method dean --seats 1 --votes 1 --votes 1",
-        "committees share --method dean --seats 1 --committee 1",
-        "committees --version",
-    ];
-    for line in lines {
-        match read(alloc, line)? {
-            Err(LineFault::Usage(text)) => assert!(rt;
-                text.as_str().starts_with("error: "),
-                "{text}"
-            ),
             other => panic!(rt; "{line}: {other:?}"),
         }
     }

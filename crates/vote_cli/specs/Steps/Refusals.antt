@@ -9,7 +9,7 @@ use Rattle.vote_cli.specs.declared.answers.Outcome.TheVariants as outcome
 use Rattle.vote_cli.specs.declared.refusal.Refusal.{Refusal}
 use Rattle.vote_cli.specs.declared.refusal.Refusal.TheVariants.{Input, Request, Memory, ReadFailed, WriteFailed}
 use Rattle.vote_cli.specs.declared.printing.WriteFailed.{WriteFailed as Broken}
-use Rattle.vote_cli.specs.Device.{AppendsBeginning}
+use Rattle.vote_cli.specs.Device.{AppendsBeginning, ReaderState}
 use Rattle.vote_cli.specs.Steps.RequestFaults.{request_fault_word}
 use Rattle.vote_cli.specs.Text.{line}
 use Rattle.preflib_text.specs.declared.fault.FaultName.TheVariants as name
@@ -56,9 +56,9 @@ ReadsBallots pick bytes (Err ReadFailed) = Unit {0}
 ReadsBallots pick bytes (Err refusal) = ⊥
 
 -- the bytes could not be read exactly where that is the refusal
-abbrev pub TellsOfReads : {T : Type 0} → Option (List ℕ) → Bool → Bool → Result T Refusal → Type 0
+abbrev pub TellsOfReads : {T : Type 0} → Option (List ℕ) → ReaderState → ReaderState → Result T Refusal → Type 0
 TellsOfReads bytes old new (Err ReadFailed) = FailsToRead bytes old new
-TellsOfReads bytes old new result = new ≡ old
+TellsOfReads bytes old new result = new.has_failed ≡ old.has_failed
 
 -- a call of the writer has failed exactly where that is the refusal
 abbrev pub TellsOfWrites : {T : Type 0} → Bool → Bool → Result T Refusal → Type 0

@@ -1,9 +1,9 @@
 //! Elections of drawn ballots, the same each time.
-use super::support::{assert_leaves, read_line, reader, writer};
+use super::support::{assert_leaves, read_line};
 use std::alloc::{AllocError, Global};
 use std::process::Abort;
 use std::test::Fail;
-use test_devices::run_on;
+use test_devices::{reader, run_on, writer};
 
 /// The next state of a linear congruential generator (Knuth's).
 fn next_state(state: u64) -> u64 {

@@ -1,10 +1,10 @@
 //! Reads and writes that fail.
 use super::long::{all_beside_one, report_of_all};
-use super::support::{ANSWER, THREE, Wanted, assert_ended, ending, read_line, reader, writer};
+use super::support::{ANSWER, THREE, Wanted, assert_ended, ending, read_line};
 use std::alloc::Global;
 use std::process::Abort;
 use std::test::Fail;
-use test_devices::{Fault, Recorder, SliceReader, run_on};
+use test_devices::{Fault, Recorder, SliceReader, reader, run_on, writer};
 use vote_cli::Request;
 
 const READ_FAILED: &[u8] = b"committees: read failed\n";

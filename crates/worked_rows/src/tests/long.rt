@@ -1,8 +1,7 @@
 //! Long lines, long files, and long answers.
-use super::reading::list_of;
 use super::support::{THREE, assert_leaves};
-use ballot_base::KSets;
 use std::alloc::{AllocError, Global};
+use std::fmt::Write;
 use std::test::Fail;
 
 /// A file of two candidates and 349,525 categories with a long line: its front, so many times a part, and its end.
@@ -68,9 +67,12 @@ fn long_lines_and_many(rt: HostRuntime) -> Result<(), Fail> {
 fn a_long_answer(rt: HostRuntime) -> Result<(), Fail> {
     let alloc = rt.alloc();
     let mut answer = String::from_str(alloc, "rule av\nsize 3\nscore 0/1\n")?;
-    for members in KSets::new(64, 3) {
-        answer.push_str(list_of(alloc, members)?.as_str())?;
-        answer.push_str("\n")?;
+    for first in 1..=62u8 {
+        for second in first + 1..=63 {
+            for third in second + 1..=64 {
+                writeln!(answer, "{first},{second},{third}")?;
+            }
+        }
     }
     answer.push_str("end\n")?;
     let words = "elect --rule av --size 3 --kind cat";

@@ -1,10 +1,10 @@
 //! Answers that a failed write cut off, and the second runs that fetch the rest.
 use super::listings::{LISTINGS, Listing, listing_of};
-use super::support::{THREE, Wanted, assert_ended, assert_leaves, read_line, reader, writer};
+use super::support::{THREE, Wanted, assert_ended, assert_leaves, read_line};
 use std::alloc::Global;
 use std::process::Abort;
 use std::test::Fail;
-use test_devices::{Fault, Recorder, run_on};
+use test_devices::{Fault, Recorder, reader, run_on, writer};
 
 /// Asserts that a second run fetches what is missing after this beginning of a text: it starts after the last whole
 /// answer, with what is left of the limit. Where no answer is whole, or only the last line is missing, there is no such run.

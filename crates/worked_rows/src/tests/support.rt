@@ -6,7 +6,7 @@ use std::alloc::{AllocError, Global};
 use std::fmt::Write;
 use std::process::Abort;
 use std::test::Fail;
-use test_devices::{Ended, Fault, Recorder, SliceReader, run_on};
+use test_devices::{Ended, reader, run_on, writer};
 use vote_cli::{Device, LineFault, Request, read_request};
 
 /// Three candidates and two ballots: two voters approve 1 and 2, and one voter approves 3.
@@ -65,16 +65,6 @@ pub(super) fn ending(text: &[u8]) -> Wanted<'_> {
         0
     };
     Wanted { status, out, err }
-}
-
-/// A reader that gives all that is asked for, and never fails.
-pub(super) fn reader(bytes: &[u8]) -> SliceReader<'_> {
-    SliceReader::new(bytes, usize::MAX)
-}
-
-/// A writer that takes all that it is given, and never fails.
-pub(super) fn writer(alloc: Global) -> Recorder {
-    Recorder::new(alloc, usize::MAX, Fault::Sound)
 }
 
 /// Asserts that the run left this, and that a device failed exactly where its status says so. The number tells cases of

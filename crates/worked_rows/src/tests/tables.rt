@@ -7,36 +7,17 @@ mod names;
 mod pages;
 mod refusals;
 mod shares;
-mod words;
 
-use super::support::{assert_ended, ending, read_line, writer, written_out};
+use super::support::{assert_ended, ending, read_line, written_out};
 use std::alloc::Global;
 use std::process::Abort;
 use std::test::Fail;
-use test_devices::{SliceReader, run_on};
-use vote_cli::LineFault;
-
-/// Asserts that words that make no request are refused like this: by a line, or by `help` or `usage` for the texts of
-/// `clap`.
-fn assert_refused(rt: &impl Abort, row: &str, fault: &LineFault, wanted: &str) {
-    let told = match fault {
-        LineFault::Help(_) => "help",
-        LineFault::Usage(_) => "usage",
-        other => other.line().unwrap_or("memory"),
-    };
-    assert!(rt; told == wanted, "{row}: {told}");
-}
+use test_devices::{SliceReader, run_on, writer};
 
 /// Asserts a row of a table over an input, which comes as a whole and in single bytes.
 fn assert_row(rt: &impl Abort, alloc: Global, row: &str, input: &[u8]) -> Result<(), Fail> {
     let (words, wanted) = row.split_once(" | ").ok_or("a bar")?;
-    let request = match read_line(alloc, written_out(alloc, words)?.as_str())? {
-        Ok(request) => request,
-        Err(fault) => {
-            assert_refused(rt, row, &fault, wanted);
-            return Ok(());
-        }
-    };
+    let request = read_line(alloc, written_out(alloc, words)?.as_str())??;
     let mut text = written_out(alloc, wanted)?;
     text.push_str("\n")?;
     for piece in [usize::MAX, 1] {

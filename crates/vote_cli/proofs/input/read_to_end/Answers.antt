@@ -12,6 +12,7 @@ loop-count-preserved g c =
     record {
       read = subst (Consumes (g.R.Source.remaining c.args.reader.now) (g.R.Source.remaining c.read.new.self)) (sym c.feed_piece.ensures.fed)
           (Consumes-trans _ _ _ c.loop-count.lines.fed piece c.loop-count.invariant.read c.in-Ok-read.ensures.bytes.0);
+      given = omega (arith, all, c.in-Ok-read.ensures.bound.1, c.loop-count.invariant.given, c.in-Ok-read.ensures.given);
       unfailed = search rules;
       pick = search rules;
       left = omega (arith, all, c.in-Ok-read.ensures.bound.1, c.loop-count.invariant.left, c.if-count-left.false);
@@ -24,6 +25,7 @@ returns-then-count-left-clause-failed g c =
     let piece = take c.in-Ok-read.count c.read.new.buf in
     inr (
       search rules,
+      omega (arith, length-append fed piece, c.in-Ok-read.ensures.bound.1, c.loop-count.invariant.left, c.if-count-left.true, c.loop-count.invariant.given, c.in-Ok-read.ensures.given),
       too_many _ _ (fed ++ piece)
           (Consumes-trans _ _ _ fed piece c.loop-count.invariant.read c.in-Ok-read.ensures.bytes.0)
           (omega (arith, length-append fed piece, c.in-Ok-read.ensures.bound.1, c.loop-count.invariant.left, c.if-count-left.true)),

@@ -7,16 +7,16 @@ static PAGES: &str = "\
 < # DATA TYPE: cat¶# NUMBER ALTERNATIVES: 3¶# NUMBER CATEGORIES: 2¶2: {1,2},3¶1: 3,{1,2}¶
 elect --rule pav --size 2 --after 1,3 | rule pav¶size 2¶score 6/2¶2,3¶end
 elect --rule pav --size 2 --after 2,3 | rule pav¶size 2¶score 6/2¶end
+elect --rule cc --size 2 --limit 1 | rule cc¶size 2¶score 3/1¶1,3¶more
+elect --rule cc --size 2 --limit 2 | rule cc¶size 2¶score 3/1¶1,3¶2,3¶end
 elect --rule cc --size 2 --limit 1 --after 1,2 | rule cc¶size 2¶score 3/1¶1,3¶more
 elect --rule seqpav --size 2 --after 1,2 --limit 1 | rule seqpav¶size 2¶1,3¶more
 elect --rule revseqpav --size 1 --after 3 | rule revseqpav¶size 1¶end
 elect --rule minimax --size 2 --after=01,002 | rule minimax¶size 2¶distance 2¶1,3¶2,3¶end
-share --method hamilton --seats 1 --votes 1,1,1 --after 0,1,0 | method hamilton¶seats 1¶1,0,0¶end
+share --method hamilton --seats 1 --votes 1,1,1 --limit 2 | method hamilton¶seats 1¶0,0,1¶0,1,0¶more
+share --method hamilton --seats 1 --votes 1,1,1 --limit 3 | method hamilton¶seats 1¶0,0,1¶0,1,0¶1,0,0¶end
 share --method hamilton --seats 1 --votes 1,1,1 --after 0,0,0 --limit 2 | method hamilton¶seats 1¶0,0,1¶0,1,0¶more
 share --method hamilton --seats 1 --votes 1,1,1 --after 0,10000,10000 | method hamilton¶seats 1¶1,0,0¶end
-share --method dhondt --seats 7 --votes 53,24,23 --after 4,2,0 | method dhondt¶seats 7¶4,2,1¶end
-share --method dhondt --seats 7 --votes 53,24,23 --after 5,0,0 | method dhondt¶seats 7¶end
-share --method dhondt --seats 7 --votes 53,24,23 --after 4,2,1 | method dhondt¶seats 7¶end
 // Starts: allocations, and lists that are none.
 share --method dhondt --seats 7 --votes 53,24,23 --after 4,2,0 | method dhondt¶seats 7¶4,2,1¶end
 share --method dhondt --seats 7 --votes 53,24,23 --after 4,2,1 | method dhondt¶seats 7¶end

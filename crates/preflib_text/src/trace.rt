@@ -1,0 +1,33 @@
+//! The bytes that have passed, which proofs alone read.
+ghost use Rattle.std.specs.Prelude.{◌≡◌, ℕ, List, [], ◌++◌};
+ghost use Rattle.std.specs.Borrow.{ftrue};
+
+use std::marker::{Model, PhantomData};
+
+/// All bytes that have passed through a reader. Contracts alone see them: it takes no memory, and its methods do nothing
+/// at run time.
+#[derive(Drop)]
+pub struct Trace {
+    marker: PhantomData<u8>,
+    pub ghost bytes: { List ℕ },
+}
+
+impl Model for Trace {
+    ghost also_owns = { λ _. ftrue };
+}
+
+impl Trace {
+    /// No byte yet.
+    pub fn new() -> Trace
+        ensures { result.bytes ≡ [] }
+    {
+        Trace {
+            marker: PhantomData,
+        }
+    }
+
+    /// Adds a piece at the end.
+    pub fn add(&mut self, _piece: &[u8])
+        ensures { self.new.bytes ≡ self.old.bytes ++ _piece.now }
+    {}
+}

@@ -1,0 +1,121 @@
+//! Files with changes at random, whole and in pieces.
+ghost use Rattle.std.specs.Prelude.{◌<◌};
+
+use super::pieces::FILES;
+use super::support::{by_pieces, outcome, reading_as};
+use preflib_text::read_profile;
+use std::alloc::{AllocError, Global};
+use std::test::Fail;
+
+/// How many changed files are read.
+const MUTANTS: u32 = 100_000;
+
+/// The most changes of one file.
+const MOST_CHANGES: usize = 3;
+
+/// Numbers that a seed decides (Marsaglia, Xorshift RNGs).
+#[derive(Drop)]
+struct Numbers {
+    state: u64,
+}
+
+impl Numbers {
+    /// The next number below this one.
+    fn below(&mut self, end: usize) -> usize
+        requires { 0 < end }
+        ensures { result < end }
+    {
+        self.state ^= self.state << 13;
+        self.state ^= self.state >> 7;
+        self.state ^= self.state << 17;
+        (self.state % end as u64) as usize
+    }
+}
+
+/// The file with a change of its bytes at some place: one bit turned, another byte there, a byte more, a byte less, or
+/// the end cut off.
+fn with_other_bytes(
+    alloc: Global,
+    file: &[u8],
+    numbers: &mut Numbers,
+) -> Result<Vec<u8>, AllocError> {
+    let (before, after) = file.split_at(numbers.below(file.len().max(1)));
+    let byte = numbers.below(256) as u8;
+    let mut changed = Vec::from_slice(alloc, before)?;
+    let Some((first, rest)) = after.split_first() else {
+        changed.push(byte)?;
+        return Ok(changed);
+    };
+    match numbers.below(5) {
+        0 => changed.push(*first ^ 1 << (byte % 8))?,
+        1 => changed.push(byte)?,
+        2 => {
+            changed.push(byte)?;
+            changed.push(*first)?;
+        }
+        3 => {}
+        _ => return Ok(changed),
+    }
+    changed.extend_from_slice(rest)?;
+    Ok(changed)
+}
+
+/// The file with one line twice, or joined to the next one.
+fn with_other_lines(
+    alloc: Global,
+    file: &[u8],
+    numbers: &mut Numbers,
+) -> Result<Vec<u8>, AllocError> {
+    let chosen = numbers.below(10);
+    let is_joined = numbers.below(2) == 0;
+    let mut changed = Vec::new(alloc);
+    for (i, line) in file.split(|byte| *byte == b'\n').enumerate() {
+        changed.extend_from_slice(line)?;
+        if i == chosen && is_joined {
+            continue;
+        }
+        changed.push(b'\n')?;
+        if i == chosen {
+            changed.extend_from_slice(line)?;
+            changed.push(b'\n')?;
+        }
+    }
+    Ok(changed)
+}
+
+/// The file with a few changes.
+fn mutant(alloc: Global, file: &[u8], numbers: &mut Numbers) -> Result<Vec<u8>, AllocError> {
+    let mut changed = Vec::from_slice(alloc, file)?;
+    for _ in 0..numbers.below(MOST_CHANGES) + 1 {
+        changed = if numbers.below(4) == 0 {
+            with_other_lines(alloc, changed.as_slice(), numbers)?
+        } else {
+            with_other_bytes(alloc, changed.as_slice(), numbers)?
+        };
+    }
+    Ok(changed)
+}
+
+/// Each changed file has one outcome, as a whole and in pieces. Some changes leave a profile, and some a fault.
+#[test]
+fn one_outcome_each(rt: HostRuntime) -> Result<(), Fail> {
+    let alloc = rt.alloc();
+    let pick = reading_as(alloc, "")?.pick();
+    let mut numbers = Numbers { state: 20_261_123 };
+    let mut profiles = 0u32;
+    for _ in 0..MUTANTS {
+        let file = FILES[numbers.below(FILES.len())].0;
+        let changed = mutant(alloc, file, &mut numbers)?;
+        let size = numbers.below(20) + 1;
+        let whole = read_profile(alloc, &changed, &pick);
+        profiles = profiles.saturating_add(u32::from(whole.is_ok()));
+        let whole = outcome(alloc, whole)?;
+        let pieces = outcome(alloc, by_pieces(alloc, pick, &changed, size))?;
+        assert!(rt; whole == pieces, "{changed:?}");
+    }
+    assert!(rt;
+        profiles > MUTANTS / 20 && profiles < MUTANTS / 2,
+        "{profiles} profiles"
+    );
+    Ok(())
+}
