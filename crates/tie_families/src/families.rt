@@ -18,8 +18,8 @@ use std::marker::Model;
 use tie_walk::{SeqRule, Tally};
 
 /// The committees of k that some sequence of choices of a sequential rule makes, as families. A family is a pair of
-/// sets, and its committees are those of k that have at least as many of each class of clones as the one, and at most as
-/// many as the other. A committee has the value 1 where a family has it, and 0 where none has. Contracts see the
+/// sets, and its committees are those of k that have at least as many of each class of clones as the one, and at most
+/// as many as the other. A committee has the value 1 where a family has it, and 0 where none has. Contracts see the
 /// election, the rule and k.
 #[derive(Drop)]
 pub struct Families<'a, A: Allocator + Copy = Global> {

@@ -281,6 +281,10 @@ failed_writes : (is_failed_write {E = ℕ} (Ok 0) (1 ∷ []) ≡ true) × (is_fa
     × (is_failed_write {E = ℕ} (Ok 1) (1 ∷ 2 ∷ []) ≡ false) × (is_failed_write {E = ℕ} (Err 1) [] ≡ true)
 failed_writes = (refl, refl, refl, refl)
 
+-- a read of five bytes, and a failed one
+given_by_reads : (bytes_given {E = ℕ} (Ok 5) ≡ 5) × (bytes_given {E = ℕ} (Err 7) ≡ 0)
+given_by_reads = (refl, refl)
+
 -- two bytes of three are taken
 two_of_three : AppendsBeginning (Some (7 ∷ [])) (Some (7 ∷ 1 ∷ 2 ∷ [])) (1 ∷ 2 ∷ 3 ∷ [])
 two_of_three = (1 ∷ 2 ∷ [], 3 ∷ [], refl, refl)

@@ -52,8 +52,8 @@ pub trait Sink: Device {
         ensures failed { Self.has_failed self.new ≡ (Self.has_failed self.old || is_err result) };
 }
 
-/// A reader or a writer of `std` as a device. Contracts see what it holds, whether a call has failed, and how many bytes
-/// its reads have given.
+/// A reader or a writer of `std` as a device. Contracts see what it holds, whether a call has failed, and how many
+/// bytes its reads have given.
 #[derive(Drop)]
 pub struct Told<T> {
     inner: T,

@@ -39,8 +39,8 @@ fn feed_piece<A: Allocator + Copy + Drop>(
     }
 }
 
-/// Feeds the whole input, in pieces. After a fault of the input it is still read to its end. More bytes than a `u64` can
-/// count are a failed read.
+/// Feeds the whole input, in pieces. After a fault of the input it is still read to its end. More bytes than a `u64`
+/// can count are a failed read.
 pub(crate) fn read_to_end<A: Allocator + Copy + Drop, R: Source>(
     alloc: A,
     hashing: BallotHashing,
