@@ -290,13 +290,13 @@ two_of_three : AppendsBeginning (Some (7 ∷ [])) (Some (7 ∷ 1 ∷ 2 ∷ [])) 
 two_of_three = (1 ∷ 2 ∷ [], 3 ∷ [], refl, refl)
 
 -- a reader that was not read yet, and one that gave five bytes and has failed, or not
-unread : ReaderState
+abbrev unread : ReaderState
 unread = reader_state false 0
 
-broken : ReaderState
+abbrev broken : ReaderState
 broken = reader_state true 5
 
-sound : ReaderState
+abbrev sound : ReaderState
 sound = reader_state false 5
 
 failed_input : (TellsOfInput {T = ℕ} None unread broken (Err fault.ReadFailed)) × (TellsOfInput {T = ℕ} None unread sound (Err fault.Memory)) × (TellsOfInput {T = ℕ} None unread sound (Ok 1))
