@@ -3,6 +3,6 @@ mod files;
 mod growths;
 mod mutants;
 mod pieces;
-mod sets;
+mod profiles;
 mod support;
 mod words;

@@ -3,7 +3,7 @@ ghost use Rattle.std.specs.Prelude.{◌≡◌, ◌≤◌, IfOk, length};
 ghost use Rattle.ballot_base.specs.Limits.{most_candidates};
 ghost use Rattle.ballot_base.specs.Lists.{IsIncreasing};
 
-use super::support::ballot_of;
+use super::support::{ballot_of, election_of, finished};
 use ballot_base::{CandSet, Profile, ProfileBuilder};
 use minimax_search::NearTally;
 use std::alloc::Global;
@@ -45,26 +45,9 @@ fn election(alloc: Global, sort: Sort, m: u8, ballots: u8) -> Result<Profile, Fa
             .wrapping_mul(6_364_136_223_846_793_005)
             .wrapping_add(1_442_695_040_888_963_407);
         let set = ballot_of(m, approved(sort, word));
-        builder.add(set, 1 + word % 3).map_err(|_| "memory")?;
+        builder.add(set, 1 + word % 3)?;
     }
-    match builder.finish() {
-        Ok(profile) => Ok(profile),
-        Err(_) => Err("no voters")?,
-    }
-}
-
-/// An election of m candidates with one ballot.
-fn one_ballot(alloc: Global, m: u8, word: u64) -> Result<Profile, Fail>
-    requires some { 1 ≤ m }
-    requires most { m ≤ most_candidates }
-    ensures { IfOk result (λ profile. profile.m ≡ m) }
-{
-    let mut builder = ProfileBuilder::new(alloc, m)?;
-    builder.add(ballot_of(m, word), 2).map_err(|_| "memory")?;
-    match builder.finish() {
-        Ok(profile) => Ok(profile),
-        Err(_) => Err("no voters")?,
-    }
+    finished(builder)
 }
 
 /// Asserts that the search and the walk with plain bounds find the same winners.
@@ -129,7 +112,7 @@ fn the_same_winners(rt: HostRuntime) -> Result<(), Fail> {
 fn one_ballot_of_few_candidates(rt: HostRuntime) -> Result<(), Fail> {
     for m in 1..8 {
         for word in 0..9 {
-            assert_all_sizes(&rt, &one_ballot(rt.alloc(), m, word)?);
+            assert_all_sizes(&rt, &election_of(rt.alloc(), m, &[(word, 2)])?);
         }
     }
     Ok(())

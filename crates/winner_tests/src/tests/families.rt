@@ -3,6 +3,7 @@ ghost use Rattle.std.specs.Prelude.{◌≡◌, ◌≤◌, IfOk};
 ghost use Rattle.ballot_base.specs.Limits.{most_candidates};
 ghost use Rattle.ballot_base.specs.Lists.{IsIncreasing};
 
+use super::support::{ballot_of, election_of, finished};
 use ballot_base::{CandSet, KSets, MOST_CANDIDATES, Profile, ProfileBuilder};
 use std::alloc::Global;
 use std::cmp::Ordering;
@@ -12,7 +13,7 @@ use tie_families::{Families, FamilyWinners};
 use tie_walk::{SeqRule, SeqWinners};
 
 /// Those of the candidates 1 to m whose kind has the bit 1 in the word: candidates of one kind are clones.
-fn ballot_of(m: u8, kinds: u8, word: u64) -> CandSet
+fn kinds_of(m: u8, kinds: u8, word: u64) -> CandSet
     requires most { m ≤ most_candidates }
     requires some { 1 ≤ kinds }
     requires few { kinds ≤ most_candidates }
@@ -41,13 +42,10 @@ fn election(alloc: Global, m: u8, kinds: u8, seed: u64, ballots: u8) -> Result<P
         word = word
             .wrapping_mul(6_364_136_223_846_793_005)
             .wrapping_add(1_442_695_040_888_963_407);
-        let set = ballot_of(m, kinds, word >> 20 & word >> 40);
-        builder.add(set, 1 + word % 2).map_err(|_| "memory")?;
+        let set = kinds_of(m, kinds, word >> 20 & word >> 40);
+        builder.add(set, 1 + word % 2)?;
     }
-    match builder.finish() {
-        Ok(profile) => Ok(profile),
-        Err(_) => Err("no voters")?,
-    }
+    finished(builder)
 }
 
 /// Asserts that both find the same winners, and then nothing.
@@ -100,22 +98,11 @@ fn the_same_winners(rt: HostRuntime) -> Result<(), Fail> {
     Ok(())
 }
 
-/// An election of all candidates and one voter, who approves the first.
-fn one_ballot(alloc: Global) -> Result<Profile, Fail>
-    ensures { IfOk result (λ profile. profile.m ≡ most_candidates) }
-{
-    let mut builder = ProfileBuilder::new(alloc, MOST_CANDIDATES)?;
-    builder.add(CandSet::all(1), 1).map_err(|_| "memory")?;
-    match builder.finish() {
-        Ok(profile) => Ok(profile),
-        Err(_) => Err("no voters")?,
-    }
-}
-
+/// One voter, who approves the first of all candidates.
 #[test]
 fn all_committees_of_one_ballot(rt: HostRuntime) -> Result<(), Fail> {
     let alloc = rt.alloc();
-    let profile = one_ballot(alloc)?;
+    let profile = election_of(alloc, MOST_CANDIDATES, &[(1, 1)])?;
     for rule in SeqRule::ALL {
         let families = Families::new(alloc, &profile, rule, 40)?;
         let mut winners = FamilyWinners::new(&families, None);
@@ -158,13 +145,9 @@ fn voters(alloc: Global, m: u8, words: &str) -> Result<Profile, Fail>
         for digit in word.bytes() {
             approved |= 1 << (digit % 16);
         }
-        let set = ballot_of(m, MOST_CANDIDATES, approved);
-        builder.add(set, 1).map_err(|_| "memory")?;
+        builder.add(ballot_of(m, approved >> 1), 1)?;
     }
-    match builder.finish() {
-        Ok(profile) => Ok(profile),
-        Err(_) => Err("no voters")?,
-    }
+    finished(builder)
 }
 
 /// Asserts that these are the winners, and that those later than each start come after it.
@@ -182,7 +165,7 @@ fn assert_later(
     let families = Families::new(alloc, profile, rule, k)?;
     let m = profile.m();
     for word in 0..1_u64.wrapping_shl(u32::from(m)) {
-        let start = ballot_of(m, MOST_CANDIDATES, word << 1);
+        let start = ballot_of(m, word);
         if start.len() == k {
             let mut found = FamilyWinners::new(&families, Some(start));
             for winner in winners {
@@ -223,13 +206,9 @@ fn a_voter_each(alloc: Global, m: u8) -> Result<Profile, Fail>
 {
     let mut builder = ProfileBuilder::new(alloc, m)?;
     for n in 1..m + 1 {
-        let own = ballot_of(m, MOST_CANDIDATES, 1_u64.wrapping_shl(u32::from(n)));
-        builder.add(own, 1).map_err(|_| "memory")?;
+        builder.add(ballot_of(m, 1 << (n - 1)), 1)?;
     }
-    match builder.finish() {
-        Ok(profile) => Ok(profile),
-        Err(_) => Err("no voters")?,
-    }
+    finished(builder)
 }
 
 /// Where each of 40 candidates has a voter, all committees of 20 win: the first thousand.

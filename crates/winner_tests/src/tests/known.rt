@@ -3,7 +3,7 @@
 ghost use Rattle.std.specs.Prelude.{◌≡◌, ◌≤◌, IfOk};
 ghost use Rattle.ballot_base.specs.Limits.{most_candidates};
 
-use super::support::ballot_of;
+use super::support::{ballot_of, finished};
 use ballot_base::{Profile, ProfileBuilder, ThieleRule};
 use minimax_search::NearTally;
 use std::alloc::Global;
@@ -77,14 +77,9 @@ fn election(alloc: Global, draw: Draw, m: u8) -> Result<Profile, Fail>
         let b = random_word(&mut state);
         let c = random_word(&mut state);
         let set = ballot_of(m, approved(draw, all, a, b, c));
-        builder
-            .add(set, 1)
-            .map_err(|_| "memory, or too many voters")?;
+        builder.add(set, 1)?;
     }
-    match builder.finish() {
-        Ok(profile) => Ok(profile),
-        Err(_) => Err("no voters")?,
-    }
+    finished(builder)
 }
 
 /// Asserts the greatest value under a Thiele rule, times its denominator, and how many committees have it.

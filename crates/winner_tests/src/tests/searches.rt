@@ -1,10 +1,9 @@
 //! Winners by search against a walk with plain ceilings.
-ghost use Rattle.std.specs.Prelude.{◌≡◌, ◌≤◌, IfOk};
-ghost use Rattle.ballot_base.specs.Limits.{most_candidates, most_members};
+ghost use Rattle.std.specs.Prelude.{◌≤◌};
+ghost use Rattle.ballot_base.specs.Limits.{most_members};
 
-use super::support::{ballot_of, election};
-use ballot_base::{CandSet, Profile, ProfileBuilder, ThieleRule};
-use std::alloc::Global;
+use super::support::{election, election_of};
+use ballot_base::{CandSet, Profile, ThieleRule};
 use std::process::Abort;
 use std::test::Fail;
 use tie_search::SearchTally;
@@ -76,27 +75,6 @@ fn the_same_winners_of_very_many_voters(rt: HostRuntime) -> Result<(), Fail> {
         assert_all_same(&rt, &profile);
     }
     Ok(())
-}
-
-/// An election of m candidates and of these ballots, as words with a bit for each candidate, and their voters.
-fn election_of(alloc: Global, m: u8, ballots: &[(u64, u64)]) -> Result<Profile, Fail>
-    requires some { 1 ≤ m }
-    requires most { m ≤ most_candidates }
-    ensures { IfOk result (λ profile. profile.m ≡ m) }
-{
-    let mut builder = ProfileBuilder::new(alloc, m)?;
-    for (word, voters) in ballots {
-        let count = *voters;
-        if count > 0 {
-            builder
-                .add(ballot_of(m, *word), count)
-                .map_err(|_| "memory, or too many voters")?;
-        }
-    }
-    match builder.finish() {
-        Ok(profile) => Ok(profile),
-        Err(_) => Err("no voters")?,
-    }
 }
 
 /// As many voters as stand in columns, and one more.

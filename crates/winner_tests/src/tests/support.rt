@@ -42,10 +42,31 @@ pub(super) fn election(
             .wrapping_mul(6_364_136_223_846_793_005)
             .wrapping_add(1_442_695_040_888_963_407);
         let set = ballot_of(m, word >> 20 & word >> 40);
-        builder
-            .add(set, times * (1 + word % 3))
-            .map_err(|_| "memory, or too many voters")?;
+        builder.add(set, times * (1 + word % 3))?;
     }
+    finished(builder)
+}
+
+/// An election of m candidates and of these ballots, as words with a bit for each candidate, and their voters.
+pub(super) fn election_of(alloc: Global, m: u8, ballots: &[(u64, u64)]) -> Result<Profile, Fail>
+    requires some { 1 ≤ m }
+    requires most { m ≤ most_candidates }
+    ensures { IfOk result (λ profile. profile.m ≡ m) }
+{
+    let mut builder = ProfileBuilder::new(alloc, m)?;
+    for (word, voters) in ballots {
+        let count = *voters;
+        if count > 0 {
+            builder.add(ballot_of(m, *word), count)?;
+        }
+    }
+    finished(builder)
+}
+
+/// The profile of what was added.
+pub(super) fn finished(builder: ProfileBuilder) -> Result<Profile, Fail>
+    ensures { IfOk result (λ profile. profile.m ≡ builder.m) }
+{
     match builder.finish() {
         Ok(profile) => Ok(profile),
         Err(_) => Err("no voters")?,

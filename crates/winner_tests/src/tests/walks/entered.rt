@@ -7,8 +7,8 @@ ghost use Rattle.ballot_base.specs.Increments.{increments};
 ghost use Rattle.tie_walk.specs.Ceilings.{ceiling};
 ghost use Rattle.tie_walk.specs.Values.{thiele_value};
 
-use super::super::support::{ballot_of, election};
-use ballot_base::{CandSet, KSets, MOST_CANDIDATES, ProfileBuilder, ThieleRule};
+use super::super::support::{ballot_of, election, election_of};
+use ballot_base::{CandSet, KSets, MOST_CANDIDATES, ThieleRule};
 use std::cell::Cell;
 use std::process::Abort;
 use std::test::Fail;
@@ -60,13 +60,7 @@ impl<'a> Tally for Counting<'a> {
 /// Of 40 candidates a voter approves the first 20, who win 20 seats: a walk over 41 prefixes, and few calls in all.
 #[test]
 fn twenty_of_forty_in_few_calls(rt: HostRuntime) -> Result<(), Fail> {
-    let mut builder = ProfileBuilder::new(rt.alloc(), 40)?;
-    builder
-        .add(ballot_of(40, (1 << 20) - 1), 1)
-        .map_err(|_| "memory")?;
-    let Ok(profile) = builder.finish() else {
-        panic!(rt; "a ballot was added");
-    };
+    let profile = election_of(rt.alloc(), 40, &[((1 << 20) - 1, 1)])?;
     let counting = Counting {
         tally: ThieleTally::new(&profile, ThieleRule::Av, 20),
         calls: Cell::new(0),
@@ -82,12 +76,7 @@ fn twenty_of_forty_in_few_calls(rt: HostRuntime) -> Result<(), Fail> {
 /// Two voters approve 1 and 2, and one voter 3: nine prefixes are live, and four after 1 and 3.
 #[test]
 fn entered_for_two_seats(rt: HostRuntime) -> Result<(), Fail> {
-    let mut builder = ProfileBuilder::new(rt.alloc(), 3)?;
-    builder.add(ballot_of(3, 0b011), 2).map_err(|_| "memory")?;
-    builder.add(ballot_of(3, 0b100), 1).map_err(|_| "memory")?;
-    let Ok(profile) = builder.finish() else {
-        panic!(rt; "ballots were added");
-    };
+    let profile = election_of(rt.alloc(), 3, &[(0b011, 2), (0b100, 1)])?;
     let tally = ThieleTally::new(&profile, ThieleRule::Pav, 2);
     let mut winners = Winners::new(&tally, 3, 2, None);
     assert!(rt; winners.entered() >= 1, "the empty prefix");
@@ -219,13 +208,7 @@ fn live_prefixes_of_small_elections(rt: HostRuntime) -> Result<(), Fail> {
 /// Of 64 candidates a voter approves all: all committees of 32 tie, and the first come soon.
 #[test]
 fn the_first_of_all_tied_committees(rt: HostRuntime) -> Result<(), Fail> {
-    let mut builder = ProfileBuilder::new(rt.alloc(), MOST_CANDIDATES)?;
-    builder
-        .add(ballot_of(MOST_CANDIDATES, u64::MAX), 1)
-        .map_err(|_| "memory")?;
-    let Ok(profile) = builder.finish() else {
-        panic!(rt; "a ballot was added");
-    };
+    let profile = election_of(rt.alloc(), MOST_CANDIDATES, &[(u64::MAX, 1)])?;
     let tally = SavTally::new(&profile);
     let mut winners = Winners::new(&tally, MOST_CANDIDATES, 32, None);
     for committee in KSets::new(MOST_CANDIDATES, 32).take(100) {

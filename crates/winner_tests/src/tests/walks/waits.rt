@@ -2,8 +2,8 @@
 ghost use Rattle.std.specs.Prelude.{◌≡◌, ◌*◌, ◌≤◌};
 ghost use Rattle.tie_walk.specs.Winners.{IsStart};
 
-use super::super::support::ballot_of;
-use ballot_base::{CandSet, MOST_CANDIDATES, Profile, ProfileBuilder, ThieleRule};
+use super::super::support::{ballot_of, election_of};
+use ballot_base::{CandSet, MOST_CANDIDATES, Profile, ThieleRule};
 use std::process::Abort;
 use std::test::Fail;
 use tie_walk::{SavTally, Tally, ThieleTally, Winners};
@@ -12,12 +12,7 @@ use tie_walk::{SavTally, Tally, ThieleTally, Winners};
 /// to each of 1 and 2, and one that tells that 3 is no winner. Twelve would be few.
 #[test]
 fn bounds_for_one_seat(rt: HostRuntime) -> Result<(), Fail> {
-    let mut builder = ProfileBuilder::new(rt.alloc(), 3)?;
-    builder.add(ballot_of(3, 0b011), 2).map_err(|_| "memory")?;
-    builder.add(ballot_of(3, 0b100), 1).map_err(|_| "memory")?;
-    let Ok(profile) = builder.finish() else {
-        panic!(rt; "ballots were added");
-    };
+    let profile = election_of(rt.alloc(), 3, &[(0b011, 2), (0b100, 1)])?;
     let tally = ThieleTally::new(&profile, ThieleRule::Av, 1);
     let mut winners = Winners::new(&tally, 3, 1, None);
     assert_eq!(rt; winners.ceilings(), 1);
@@ -61,13 +56,7 @@ fn assert_waits(rt: &impl Abort, tally: &SavTally, k: u8, after: Option<CandSet>
 /// Of 64 candidates a voter approves all, so that all committees of 32 tie: the first, and those after 1 to 31 and 64.
 #[test]
 fn waits_for_tied_committees(rt: HostRuntime) -> Result<(), Fail> {
-    let mut builder = ProfileBuilder::new(rt.alloc(), MOST_CANDIDATES)?;
-    builder
-        .add(ballot_of(MOST_CANDIDATES, u64::MAX), 1)
-        .map_err(|_| "memory")?;
-    let Ok(profile) = builder.finish() else {
-        panic!(rt; "a ballot was added");
-    };
+    let profile = election_of(rt.alloc(), MOST_CANDIDATES, &[(u64::MAX, 1)])?;
     assert!(rt;
         bounds_to_the_first(&profile, 32) >= 32,
         "a bound for each of 1 to 32"

@@ -1,5 +1,5 @@
 use Rattle.std.proofs.Common.{◌≡◌}
-use Rattle.winner_tests.proofs.tests.searches.election_of.Given as goal
+use Rattle.winner_tests.proofs.tests.support.election_of.Given as goal
 
 abbrev pub invariant-loop-word : goal.invariant-loop-word
 invariant-loop-word l = l.builder.m ≡ l.m

@@ -1,8 +1,8 @@
 use Rattle.std.proofs.Common.{◌∙◌, sym, subst, arith}
 use Rattle.ballot_base.specs.Lists.{IsIncreasing}
 use Rattle.ballot_base.proofs.Increasing.{IsIncreasing-with_member}
-use Rattle.winner_tests.proofs.tests.families.ballot_of.Goals as goal
-use Rattle.winner_tests.proofs.tests.families.ballot_of.Goals.{then-word-n-eq1, else-word-n-eq1}
+use Rattle.winner_tests.proofs.tests.families.kinds_of.Goals as goal
+use Rattle.winner_tests.proofs.tests.families.kinds_of.Goals.{then-word-n-eq1, else-word-n-eq1}
 
 pub loop-n-preserved : goal.loop-n-preserved
 loop-n-preserved c = elim c.if-word-n-eq1.branch [
