@@ -10,7 +10,7 @@ use Rattle.std.proofs.lemmas.List.Kept.{AllPairs-cons}
 use Rattle.std.proofs.lemmas.List.FromFn.{length-range_with_len}
 use Rattle.ballot_base.specs.Limits.{most_candidates}
 use Rattle.ballot_base.specs.Lists.{IsIncreasing, lists_of, increasing_lists, IsLater, AreInOrder, later_than}
-use Rattle.ballot_base.specs.Steps.Subsets.{lists_from, sets_from, IsPlace, IsLastSet, IsNextSet}
+use Rattle.ballot_base.specs.Steps.Subsets.{lists_from, sets_from, MayComeNext, IsLastSet, IsNextSet}
 use Rattle.ballot_base.proofs.Increasing.{IsIncreasing-lower}
 use Rattle.ballot_base.proofs.Later.{AllByRecursion-weaker, is_later-self, later_than-member}
 use Rattle.ballot_base.proofs.FirstMember.{slice_cmp_same}
@@ -253,7 +253,7 @@ IsIncreasing-grown first m [] last tail rest h i =
     IsIncreasing-lower first (last + 1) m (range_with_len (last + 1) (suc tail)) (omega (arith, i.0)) (IsIncreasing-range (last + 1) (suc tail) m (omega arith))
 IsIncreasing-grown first m (x ∷ front) last tail rest h i = (i.0, i.1, IsIncreasing-grown (x + 1) m front last tail rest h i.2)
 
-pub next_place : (m : ℕ) (set : List ℕ) (next : Option (List ℕ)) → m ≤ most_candidates → IsIncreasing 1 m set → MatchOption next (IsLastSet m set) (IsNextSet m set) → IsPlace m next × (lists_from m 1 set ≡ set ∷ sets_from m next)
+pub next_place : (m : ℕ) (set : List ℕ) (next : Option (List ℕ)) → m ≤ most_candidates → IsIncreasing 1 m set → MatchOption next (IsLastSet m set) (IsNextSet m set) → MayComeNext m next × (lists_from m 1 set ≡ set ∷ sets_from m next)
 next_place m set None h i l =
     let long = length-increasing 1 m set i in
     (h, subst (λ s. lists_from m 1 s ≡ s ∷ []) (sym l) (lists_from-last m 1 (length set) (m + 1 - length set) (omega arith) (omega arith)))
@@ -264,7 +264,7 @@ next_place m set (Some next) h i (front, last, tail, less, e, f) =
       rw (e, f) step,
     )
 
-pub first_place : (m k : ℕ) → m ≤ most_candidates → k ≤ m → IsPlace m (Some (range_with_len 1 k)) × (lists_from m 1 (range_with_len 1 k) ≡ increasing_lists 1 m k)
+pub first_place : (m k : ℕ) → m ≤ most_candidates → k ≤ m → MayComeNext m (Some (range_with_len 1 k)) × (lists_from m 1 (range_with_len 1 k) ≡ increasing_lists 1 m k)
 first_place m k h l =
     let count : m + 1 - 1 ≡ m = omega arith in
     ((h, IsIncreasing-range 1 k m (omega arith)), rw count (lists_from-first m 1 k l))
@@ -301,7 +301,7 @@ lists_of-split (suc count) first last (x ∷ rest) e i =
 
 -- from the next place on come the lists that are later
 pub after_place : (m k : ℕ) (set : List ℕ) (next : Option (List ℕ)) → m ≤ most_candidates → IsIncreasing 1 m set → length set ≡ k
-    → MatchOption next (IsLastSet m set) (IsNextSet m set) → IsPlace m next × (sets_from m next ≡ later_than (Some set) (increasing_lists 1 m k))
+    → MatchOption next (IsLastSet m set) (IsNextSet m set) → MayComeNext m next × (sets_from m next ≡ later_than (Some set) (increasing_lists 1 m k))
 after_place m k set next most increasing size step =
     let place = next_place m set next most increasing step in
     let count : m + 1 - 1 ≡ m = omega arith in

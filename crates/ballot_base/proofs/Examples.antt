@@ -2,13 +2,12 @@
 use Rattle.std.proofs.Common.{◌≡◌, ◌+◌, ◌*◌, ◌^◌, List, [], ◌∷◌, true, false, refl, lit≤, Some, None, replicate, arith, length, codes}
 use Rattle.ballot_base.specs.Lists.{IsIncreasing, lists_of, increasing_lists, is_later, IsLater, AreInOrder, later_than}
 use Rattle.ballot_base.specs.CandSet.{has_member, with_member, without_member, common_members, members_upto}
-use Rattle.ballot_base.specs.Steps.Words.{members_among, members, word_of}
-use Rattle.ballot_base.specs.Steps.Subsets.{lists_from, sets_from, IsPlace, IsLastSet, IsNextSet}
+use Rattle.ballot_base.specs.Steps.Bits.{members_among, members, bits_of}
+use Rattle.ballot_base.specs.Steps.Subsets.{lists_from, sets_from, MayComeNext, IsLastSet, IsNextSet}
 use Rattle.ballot_base.specs.Ballots.{Row, IsElection, election, ballots_of, name_of, hits, voter_count, has_ballot, with_votes}
 use Rattle.ballot_base.specs.CommonMultiple.{least_multiple, common_multiple, AllDivide}
 use Rattle.ballot_base.specs.Increments.{increment, denominator, increments}
-use Rattle.ballot_base.specs.Hashing.{word_of_bytes, start, with_word, upper_half}
-use Rattle.ballot_base.specs.RuleNames.{thiele_name, thiele_named, thiele_rules}
+use Rattle.ballot_base.specs.Hashing.{word_of_bytes, begun, with_word, upper_half}
 use Rattle.ballot_base.specs.declared.increments.ThieleRule.TheVariants.{Av, Pav, Cc, Geom2, Geom3, Geom4}
 use Rattle.ballot_base.proofs.Committees.{increasing_lists-order}
 use Rattle.ballot_base.proofs.LeastMultiples.{common_multiple_divides}
@@ -73,7 +72,7 @@ members_of_13_from_2 : members_among 2 2 13 ≡ 3 ∷ []
 unfolding members_among
 members_of_13_from_2 = refl
 
-word : word_of (1 ∷ 3 ∷ 4 ∷ []) ≡ 13
+word : bits_of (1 ∷ 3 ∷ 4 ∷ []) ≡ 13
 word = refl
 
 is_member : has_member (1 ∷ 3 ∷ []) 3 ≡ true
@@ -112,7 +111,7 @@ sets_from_a_place = refl
 sets_from_the_end : sets_from 3 None ≡ []
 sets_from_the_end = refl
 
-place : IsPlace 3 (Some (1 ∷ 3 ∷ []))
+place : MayComeNext 3 (Some (1 ∷ 3 ∷ []))
 place = (lit≤ tt, (lit≤ tt, lit≤ tt, (lit≤ tt, lit≤ tt, tt)))
 
 last_set : IsLastSet 4 (3 ∷ 4 ∷ [])
@@ -248,24 +247,11 @@ geom4_of_2 : increments Geom4 2 ≡ 4 ∷ 1 ∷ replicate 38 0
 unfolding increments
 geom4_of_2 = refl
 
--- ---- the names of rules
-name_of_pav : thiele_name Pav ≡ codes "pav"
-name_of_pav = refl
-
-six_rules : length thiele_rules ≡ 6
-six_rules = refl
-
-rule_of_a_name : thiele_named (codes "geom3") ≡ Some Geom3
-rule_of_a_name = refl
-
-rule_of_another_text : thiele_named (codes "AV") ≡ None
-rule_of_another_text = refl
-
 -- ---- hashing
 bytes_as_a_word : word_of_bytes 0 (1 ∷ 2 ∷ 3 ∷ []) ≡ 66051
 unfolding word_of_bytes
 bytes_as_a_word = refl
 
-hash_of_a_word : upper_half (with_word (start (record { factor = 3 * 2 ^ 64 + 5; term = 7 * 2 ^ 64 })) (2 ∷ [])) ≡ 13
+hash_of_a_word : upper_half (with_word (begun (record { factor = 3 * 2 ^ 64 + 5; term = 7 * 2 ^ 64 })) (2 ∷ [])) ≡ 13
 unfolding word_of_bytes
 hash_of_a_word = refl

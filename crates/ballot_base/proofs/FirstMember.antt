@@ -15,8 +15,8 @@ use Rattle.std.proofs.lemmas.Nat.Bits.{bit_at-lt, bit_at-zero, bit_at_above, bit
 use Rattle.ballot_base.specs.Limits.{most_candidates}
 use Rattle.ballot_base.specs.Lists.{IsIncreasing}
 use Rattle.ballot_base.specs.CandSet.{has_member, without_member}
-use Rattle.ballot_base.specs.Steps.Words.{members_among, members, word_of}
-use Rattle.ballot_base.specs.Steps.Words.{word_of_members_among, word_of_members}
+use Rattle.ballot_base.specs.Steps.Bits.{members_among, members, bits_of}
+use Rattle.ballot_base.specs.Steps.Bits.{bits_of_members_among, bits_of_members}
 use Rattle.ballot_base.proofs.Increasing.{IsIncreasing-lower, has_member-below, has_member_head}
 use Rattle.ballot_base.proofs.Members.{members_among_yes, members_among_no, members_among_none, IsIncreasing-members_among, IsIncreasing-members, has_member-members, members_none}
 
@@ -52,7 +52,7 @@ length-members bits h = sym (length-members_among bits most_candidates 0 ∙ ap 
 
 -- ---- none
 pub zero_from_none : (bits : ℕ) → bits < 2 ^ most_candidates → members bits ≡ [] → bits ≡ 0
-zero_from_none bits h e = sym (word_of_members bits h) ∙ ap word_of e
+zero_from_none bits h e = sym (bits_of_members bits h) ∙ ap bits_of e
 
 pub none_from_zero : (bits : ℕ) → bits ≡ 0 → members bits ≡ []
 none_from_zero bits e = ap members e ∙ members_none
@@ -148,7 +148,7 @@ zero_from_product zero p h e = refl
 zero_from_product (suc m) p h e = absurd (omega arith)
 
 -- a word in which bit t is 0 has a member above t where it is not 0 from there on
-order_above_is : (b t : ℕ) (set : List ℕ) → b < 2 ^ most_candidates → t < most_candidates → (bit_at b t ≡ 1 → ⊥) → word_of set ≡ (b / 2 ^ (t + 1) % 2 ^ (most_candidates - 1 - t)) * 2 ^ (t + 1) → order_above set ≡ cond (b / 2 ^ t == 0) Greater Less
+order_above_is : (b t : ℕ) (set : List ℕ) → b < 2 ^ most_candidates → t < most_candidates → (bit_at b t ≡ 1 → ⊥) → bits_of set ≡ (b / 2 ^ (t + 1) % 2 ^ (most_candidates - 1 - t)) * 2 ^ (t + 1) → order_above set ≡ cond (b / 2 ^ t == 0) Greater Less
 unfolding order_above
 order_above_is b t [] h u other w =
     let half : b / 2 ^ t / 2 ≡ b / 2 ^ (t + 1) = shr-shr b t 1 in
@@ -164,7 +164,7 @@ order_above_is b t (x ∷ xs) h u other w =
     let some : b / 2 ^ t ≡ 0 → ⊥ = λ z.
     let none : b / 2 ^ (t + 1) ≡ 0 = omega arith in
     let low : b / 2 ^ (t + 1) % 2 ^ (most_candidates - 1 - t) ≡ 0 = ap (λ n. n % 2 ^ (most_candidates - 1 - t)) none ∙ mod-eq_of_lt (pow_pos (most_candidates - 1 - t)) in
-    let left : word_of (x ∷ xs) ≡ 0 = w ∙ (ap (λ n. n * 2 ^ (t + 1)) low ∙ omega arith) in
+    let left : bits_of (x ∷ xs) ≡ 0 = w ∙ (ap (λ n. n * 2 ^ (t + 1)) low ∙ omega arith) in
     omega (arith, left, sum_by-cons (λ m. 2 ^ (m - 1)) x xs, pow_pos (x - 1)) in
     rw (ne_eqb (b / 2 ^ t) 0 some)
 
@@ -174,7 +174,7 @@ unfolding members
 cmp_members a b t h u same one other =
     let back : t + 1 - 1 ≡ t = omega arith in
     cmp_among a b most_candidates 1 (t + 1) (most_candidates - 1 - t) (omega arith) (omega arith) (λ k l m. same (k - 1) (omega arith)) (ap (bit_at a) back ∙ one) (λ e. other (sym (ap (bit_at b) back) ∙ e))
-    ∙ order_above_is b t (members_among (t + 1 + 1) (most_candidates - 1 - t) b) h u other (word_of_members_among b (most_candidates - 1 - t) (t + 1))
+    ∙ order_above_is b t (members_among (t + 1 + 1) (most_candidates - 1 - t) b) h u other (bits_of_members_among b (most_candidates - 1 - t) (t + 1))
 
 -- the least place where the words differ
 pub lowest_difference : (a b : ℕ) → a < 2 ^ most_candidates → b < 2 ^ most_candidates → (bit_xor a b ≡ 0 → ⊥) → (trailing_zeros w64 (bit_xor a b) < most_candidates) × ((bit_at a (trailing_zeros w64 (bit_xor a b)) + bit_at b (trailing_zeros w64 (bit_xor a b))) % 2 ≡ 1) × ((i : ℕ) → i < trailing_zeros w64 (bit_xor a b) → bit_at a i ≡ bit_at b i)

@@ -8,4 +8,5 @@ pub mod Members
 pub mod Names
 pub mod NextSet
 pub mod Rows
+pub mod Turns
 pub mod WeightLemmas

@@ -10,7 +10,7 @@ use Rattle.std.proofs.lemmas.Nat.Bits.{bit_at-lt, bit_at_and, bit_at_set_same, b
 use Rattle.ballot_base.specs.Limits.{most_candidates}
 use Rattle.ballot_base.specs.Lists.{IsIncreasing}
 use Rattle.ballot_base.specs.CandSet.{has_member, with_member, without_member, common_members, other_members}
-use Rattle.ballot_base.specs.Steps.Words.{members_among, members, word_of, word_of_members}
+use Rattle.ballot_base.specs.Steps.Bits.{members_among, members, bits_of, bits_of_members}
 use Rattle.ballot_base.proofs.Increasing.{IsIncreasing-lower, has_member-below, has_member-above, has_member_head, has_member_tail, same_increasing, has_member-filter, IsIncreasing-filter, has_member-with_member, IsIncreasing-with_member}
 
 -- the members from a number on, by its bit
@@ -82,7 +82,7 @@ same_members bits set i same =
 pub eqb-members : (bits other : ℕ) → bits < 2 ^ most_candidates → other < 2 ^ most_candidates → (bits == other) ≡ bytes_eq (members bits) (members other)
 eqb-members bits other fits others =
     same_from_decides {P = members bits ≡ members other} (bits == other) (bytes_eq (members bits) (members other))
-    (λ same. ap members (eqb-true bits other same), λ same. eq-eqb bits other (sym (word_of_members bits fits) ∙ (ap word_of same ∙ word_of_members other others)))
+    (λ same. ap members (eqb-true bits other same), λ same. eq-eqb bits other (sym (bits_of_members bits fits) ∙ (ap bits_of same ∙ bits_of_members other others)))
     (bytes_decides (members bits) (members other))
 
 both_set : (a b : ℕ) → a < 2 → b < 2 → (min a b == 1) ≡ ((b == 1) && (a == 1))

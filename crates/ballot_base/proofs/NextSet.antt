@@ -12,7 +12,7 @@ use Rattle.std.proofs.lemmas.Nat.Bits.{bit_at-lt, bit_at-zero, bit_at_and, bit_a
 use Rattle.ballot_base.specs.Limits.{most_candidates}
 use Rattle.ballot_base.specs.Lists.{IsIncreasing}
 use Rattle.ballot_base.specs.CandSet.{has_member, members_upto}
-use Rattle.ballot_base.specs.Steps.Words.{members_among, members}
+use Rattle.ballot_base.specs.Steps.Bits.{members_among, members}
 use Rattle.ballot_base.specs.Steps.Subsets.{IsLastSet, IsNextSet}
 use Rattle.ballot_base.proofs.Increasing.{has_member-above, has_member-filter, IsIncreasing-filter}
 use Rattle.ballot_base.proofs.Members.{members_among_yes, members_among_no, members_among_none, has_member-members, IsIncreasing-members, same_members}

@@ -31,8 +31,8 @@ word_of_bytes word [] = word
 word_of_bytes word (byte ∷ bytes) = word_of_bytes ((word * 256 % 2 ^ 64 + byte) % 2 ^ 64) bytes
 
 -- a hash before the first byte
-abbrev pub start : BallotHashing → BallotHasher
-start hashing = record { factor = hashing.factor; sum = hashing.term }
+abbrev pub begun : BallotHashing → BallotHasher
+begun hashing = record { factor = hashing.factor; sum = hashing.term }
 
 -- the sum with the factor times the word of these bytes, modulo 2^128
 abbrev pub with_word : BallotHasher → List ℕ → BallotHasher

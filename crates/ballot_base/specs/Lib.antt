@@ -5,5 +5,4 @@ pub mod Ballots
 pub mod CommonMultiple
 pub mod Hashing
 pub mod Increments
-pub mod RuleNames
 pub mod Steps

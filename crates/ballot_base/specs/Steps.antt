@@ -1,3 +1,3 @@
-pub mod Words
+pub mod Bits
 pub mod Subsets
 pub mod Profiles

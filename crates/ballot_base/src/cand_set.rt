@@ -15,7 +15,7 @@ use std::hash::{Hash, Hasher};
 use std::marker::Model;
 
 /// A set of candidates, numbered from 1 to `MOST_CANDIDATES`. Contracts see the increasing list of its members.
-#[tactic(auto, using(crate::specs::Steps::Words::word_of_members))]
+#[tactic(auto, using(crate::specs::Steps::Bits::bits_of_members))]
 #[derive(Clone, Copy, Debug)]
 pub struct CandSet {
     bits: u64,
@@ -24,7 +24,7 @@ pub struct CandSet {
 impl Model for CandSet {
     ghost use Rattle.std.specs.Prelude.{ℕ, ◌^◌, ◌<◌, List};
     ghost use Rattle.ballot_base.specs.Limits.{most_candidates};
-    ghost use Rattle.ballot_base.specs.Steps.Words.{members, word_of, word_of_members};
+    ghost use Rattle.ballot_base.specs.Steps.Bits.{members, bits_of, bits_of_members};
     ghost use Rattle.std.proofs.Common.{ap};
 
     ghost Value = { List ℕ };
@@ -33,9 +33,9 @@ impl Model for CandSet {
 
     ghost invariant = { λ set. set.bits < 2 ^ most_candidates };
 
-    ghost inverse = { λ set. record { bits = word_of set } };
+    ghost inverse = { λ set. record { bits = bits_of set } };
 
-    ghost inverse_ok = { λ set h. ap (λ (n : ℕ). record { bits = n }) (word_of_members set.bits h) };
+    ghost inverse_ok = { λ set h. ap (λ (n : ℕ). record { bits = n }) (bits_of_members set.bits h) };
 }
 
 impl PartialEq for CandSet {
@@ -61,11 +61,11 @@ impl Eq for CandSet {
 impl Hash for CandSet {
     ghost use Rattle.std.specs.Hash.{u64 as word_input};
     ghost use Rattle.std.proofs.Common.{ap};
-    ghost use Rattle.ballot_base.specs.Steps.Words.{word_of, word_of_same};
+    ghost use Rattle.ballot_base.specs.Steps.Bits.{bits_of, bits_of_same};
 
-    ghost hash_input = { λ set. word_input (word_of set) };
+    ghost hash_input = { λ set. word_input (bits_of set) };
 
-    ghost respects_eq = { λ set other same. ap word_input (word_of_same set other same) };
+    ghost respects_eq = { λ set other same. ap word_input (bits_of_same set other same) };
 
     fn hash<H: Hasher>(&self, state: &mut H) {
         self.bits.hash(state);

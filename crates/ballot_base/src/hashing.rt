@@ -1,6 +1,6 @@
 //! How ballots are hashed: by numbers that are known, or by secret ones.
 ghost use Rattle.std.specs.Prelude.{◌≡◌, ◌+◌, ◌*◌, ◌^◌};
-ghost use Rattle.ballot_base.specs.Hashing.{fixed_hashing, hashing_of, word_of_bytes, start, with_word, upper_half};
+ghost use Rattle.ballot_base.specs.Hashing.{fixed_hashing, hashing_of, word_of_bytes, begun, with_word, upper_half};
 
 use std::hash::{BuildHasher, Hasher, RandomState};
 
@@ -53,7 +53,7 @@ fn joined(low: u64, high: u64) -> u128
 impl BuildHasher for BallotHashing {
     type Hasher = BallotHasher;
 
-    ghost build_hasher = { start };
+    ghost build_hasher = { begun };
 
     fn build_hasher(&self) -> BallotHasher {
         BallotHasher {
@@ -80,14 +80,14 @@ impl Hasher for BallotHasher {
     }
 
     fn write(&mut self, bytes: &[u8]) {
-        let product = self.factor.wrapping_mul(u128::from(word_of(bytes)));
+        let product = self.factor.wrapping_mul(u128::from(word_of_bytes(bytes)));
         self.sum = product.wrapping_add(self.sum);
     }
 }
 
 /// The word that these bytes are, the first of them highest.
 #[tactic(auto, unfolding(crate::specs::Hashing::word_of_bytes))]
-fn word_of(bytes: &[u8]) -> u64
+fn word_of_bytes(bytes: &[u8]) -> u64
     ensures { result ≡ word_of_bytes 0 bytes.now }
 {
     let mut word = 0_u64;

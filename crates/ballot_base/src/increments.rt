@@ -2,7 +2,6 @@
 ghost use Rattle.std.specs.Prelude.{◌≡◌, ◌≤◌};
 ghost use Rattle.ballot_base.specs.Limits.{most_members};
 ghost use Rattle.ballot_base.specs.Increments.{increment, denominator, increments};
-ghost use Rattle.ballot_base.specs.RuleNames.{thiele_name, thiele_named};
 
 use crate::limits::MOST_MEMBERS;
 use crate::multiples::common_multiple;
@@ -35,30 +34,6 @@ impl ThieleRule {
         ThieleRule::Geom3,
         ThieleRule::Geom4,
     ];
-
-    /// The name of the rule, in small letters.
-    pub const fn name(self) -> &'static str
-        ensures { result.now ≡ thiele_name self }
-    {
-        match self {
-            ThieleRule::Av => "av",
-            ThieleRule::Pav => "pav",
-            ThieleRule::Cc => "cc",
-            ThieleRule::Geom2 => "geom2",
-            ThieleRule::Geom3 => "geom3",
-            ThieleRule::Geom4 => "geom4",
-        }
-    }
-
-    /// The rule that has this name, if one has; upper and lower case differ.
-    pub fn named(name: &str) -> Option<ThieleRule>
-        ensures { result ≡ thiele_named name.now }
-    {
-        ThieleRule::ALL
-            .iter()
-            .copied()
-            .find(|rule| name == rule.name())
-    }
 }
 
 /// The increments of a rule as whole numbers over one denominator, which is not reduced.

@@ -5,7 +5,6 @@ ghost use Rattle.ballot_base.specs.Limits.{most_candidates, most_members};
 ghost use Rattle.ballot_base.specs.Lists.{IsIncreasing, increasing_lists, AreInOrder, later_than};
 ghost use Rattle.ballot_base.specs.CommonMultiple.{common_multiple, AllDivide};
 ghost use Rattle.ballot_base.specs.Increments.{increment, denominator, increments};
-ghost use Rattle.ballot_base.specs.RuleNames.{thiele_name, thiele_named, thiele_rules};
 
 use crate::increments::ThieleRule;
 
@@ -61,10 +60,4 @@ pub fn small()
     ensures multiples { (n : ℕ) → n ≤ most_candidates → common_multiple n < 2 ^ 90 }
     ensures denominators { (rule : ThieleRule) (k : ℕ) → k ≤ most_members → denominator rule k ≤ 2 ^ 78 }
     ensures increments { (rule : ThieleRule) (k j : ℕ) → 1 ≤ j → increment rule k j ≤ denominator rule k }
-{}
-
-/// `ThieleRule::ALL` has each rule, and no two rules share a name.
-pub fn names()
-    ensures all { ThieleRule.ALL ≡ thiele_rules }
-    ensures back { (rule : ThieleRule) → thiele_named (thiele_name rule) ≡ Some rule }
 {}

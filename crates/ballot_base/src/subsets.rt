@@ -16,13 +16,13 @@ pub struct KSets {
 
 impl Model for KSets {
     ghost use Rattle.std.specs.Prelude.{ℕ, List};
-    ghost use Rattle.ballot_base.specs.Steps.Subsets.{sets_from, IsPlace};
+    ghost use Rattle.ballot_base.specs.Steps.Subsets.{sets_from, MayComeNext};
 
     ghost Value = { List (List ℕ) };
 
     ghost view = { λ walk. sets_from walk.m walk.next };
 
-    ghost invariant = { λ walk. IsPlace walk.m walk.next };
+    ghost invariant = { λ walk. MayComeNext walk.m walk.next };
 }
 
 impl KSets {

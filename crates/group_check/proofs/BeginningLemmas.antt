@@ -21,8 +21,8 @@ use Rattle.group_check.specs.declared.property.Property.TheVariants.{Jr, Pjr, Ej
 use Rattle.group_check.specs.declared.property.Violation.{Violation}
 use Rattle.group_check.specs.contracts.property.Property.{the_type}
 use denote.Enum.Bare.{sameb}
-use Rattle.group_check.specs.Groups.{ballots_of}
-use Rattle.group_check.specs.Report.{includes, violation_of, is_supporter, group_of, supporters, lists_within, lists_shared, pair_breaks, first_violation}
+use Rattle.group_check.specs.Groups.{member_ballots}
+use Rattle.group_check.specs.Report.{includes, violation_of, fits_pair, group_of, pair_group, lists_within, lists_shared, pair_breaks, first_violation}
 use Rattle.group_check.specs.Steps.Checking.{IsChoice, IsFirst, IsSecond, greatest_level, shared_size, may_share, is_possible, first_of, first_of_lists, pairs_of, sublists, completions, is_large, is_below, is_around, is_enough_within, voters_below, voters_around, possible_candidates}
 use Rattle.group_check.proofs.SetLemmas.{passes_at, kept_all, or_second, length-within, length-common_members, IsIncreasing-range}
 use Rattle.group_check.proofs.TestLemmas.{list_all-weaker, list_all-filter, found_passes}
@@ -72,20 +72,20 @@ group_of-same test other (row ∷ rows) same =
     let here : cond (test row.0) row.1 0 ≡ cond (other row.0) row.1 0 = ap (λ b. cond b row.1 0) (same row.0) in
     cc
 
--- a pair breaks a property only where its supporters are enough
+-- a pair breaks a property only where its group is large enough
 pub small_pair : (property : Property) (e : Election) (committee : List ℕ) (level : ℕ) (pair : List ℕ × List ℕ)
-    → is_large e committee level (sum (supporters property e committee level pair)) ≡ false → pair_breaks property e committee level pair ≡ false
+    → is_large e committee level (sum (pair_group property e committee level pair)) ≡ false → pair_breaks property e committee level pair ≡ false
 small_pair Jr e committee level pair few =
-    no_longer (pair_breaks Jr e committee level pair) (is_large e committee level (sum (supporters Jr e committee level pair)))
+    no_longer (pair_breaks Jr e committee level pair) (is_large e committee level (sum (pair_group Jr e committee level pair)))
     (λ h. (and_parts _ _ (and_parts _ _ (and_parts _ _ h).0).1).0) few
 small_pair Pjr e committee level pair few =
-    no_longer (pair_breaks Pjr e committee level pair) (is_large e committee level (sum (supporters Pjr e committee level pair)))
+    no_longer (pair_breaks Pjr e committee level pair) (is_large e committee level (sum (pair_group Pjr e committee level pair)))
     (λ h. (and_parts _ _ (and_parts _ _ h).0).0) few
 small_pair Ejr e committee level pair few =
-    no_longer (pair_breaks Ejr e committee level pair) (is_large e committee level (sum (supporters Ejr e committee level pair)))
+    no_longer (pair_breaks Ejr e committee level pair) (is_large e committee level (sum (pair_group Ejr e committee level pair)))
     (λ h. (and_parts _ _ (and_parts _ _ h).0).0) few
 small_pair EjrPlus e committee level pair few =
-    no_longer (pair_breaks EjrPlus e committee level pair) (is_large e committee level (sum (supporters EjrPlus e committee level pair)))
+    no_longer (pair_breaks EjrPlus e committee level pair) (is_large e committee level (sum (pair_group EjrPlus e committee level pair)))
     (λ h. (and_parts _ _ (and_parts _ _ h).0).0) few
 
 -- ---- beginnings of U
@@ -99,10 +99,10 @@ has_second a b n h k = second (has_member a n) (has_member b n) (sym (list_any-a
 
 -- a voter whose approved members lie in U stays within what can become U
 stays : (m : ℕ) (committee shared within pool : List ℕ) (left level : ℕ) (tail ballot : List ℕ) → IsTail 1 m pool left tail → IsIncreasing 1 m ballot
-    → is_supporter Pjr committee level (shared, within ++ tail) ballot ≡ true → is_around committee shared within pool left ballot ≡ true
-stays m committee shared within pool left level tail ballot is i behind =
+    → fits_pair Pjr committee level (shared, within ++ tail) ballot ≡ true → is_around committee shared within pool left ballot ≡ true
+stays m committee shared within pool left level tail ballot is i fits =
     let approved = common_members ballot committee in
-    let parts = and_parts (includes ballot shared) (includes (within ++ tail) approved) behind in
+    let parts = and_parts (includes ballot shared) (includes (within ++ tail) approved) fits in
     let inside = has_member within in
     let outside = λ (n : ℕ). not (has_member within n) in
     let j : IsIncreasing 1 m approved = IsIncreasing-filter (has_member committee) 1 m ballot i in
@@ -122,9 +122,9 @@ stays m committee shared within pool left level tail ballot is i behind =
     and_from (includes ballot shared) (nat_le (length approved) (length (common_members approved within) + min (length (common_members approved pool)) left)) parts.0
     (le-leb (length approved) (length (common_members approved within) + min (length (common_members approved pool)) left) (omega (arith, few, some, all, is.count)))
 
--- with nothing left to choose these are the supporters of T and U
+-- with nothing left to choose these voters are the group of T and U
 around_whole : (committee shared within pool : List ℕ) (level left : ℕ) (ballot : List ℕ) → left ≡ 0
-    → is_around committee shared within pool left ballot ≡ is_supporter Pjr committee level (shared, within) ballot
+    → is_around committee shared within pool left ballot ≡ fits_pair Pjr committee level (shared, within) ballot
 around_whole committee shared within pool level left ballot none =
     let approved = common_members ballot committee in
     let kept = length (common_members approved within) in
@@ -146,7 +146,7 @@ module _ (e : Election) (committee : List ℕ) (level : ℕ) (shared : List ℕ)
       sym (none_passes (is_enough_within e committee level shared) (completions within pool left)
       (AllByRecursion-map (λ u. is_enough_within e committee level shared u ≡ false) (λ rest. within ++ rest) (sublists pool left)
       (AllByRecursion-weaker (IsTail 1 e.m pool left) (λ rest. is_enough_within e committee level shared (within ++ rest) ≡ false)
-      (λ rest is. too_small e committee level (is_supporter Pjr committee level (shared, within ++ rest)) (is_around committee shared within pool left) valid
+      (λ rest is. too_small e committee level (fits_pair Pjr committee level (shared, within ++ rest)) (is_around committee shared within pool left) valid
       (λ ballot j h. stays e.m committee shared within pool left level rest ballot is j h) few)
       (sublists pool left) (tails 1 e.m pool left (IsIncreasing-rest 1 e.m within pool i)))))
 
@@ -158,7 +158,7 @@ module _ (e : Election) (committee : List ℕ) (level : ℕ) (shared : List ℕ)
       → is_large e committee level (sum (voters_around e committee shared within pool left)) ≡ true
       → Some within ≡ find (is_enough_within e committee level shared) (completions within pool left)
   found_whole within pool left none large =
-      let same = group_of-same (is_around committee shared within pool left) (is_supporter Pjr committee level (shared, within)) e.rows
+      let same = group_of-same (is_around committee shared within pool left) (fits_pair Pjr committee level (shared, within)) e.rows
       (λ ballot. around_whole committee shared within pool level left ballot none) in
       let enough : is_enough_within e committee level shared within ≡ true = ap (λ group. is_large e committee level (sum group)) (sym same) ∙ large in
       ap (λ b. cond b (Some within) None) (sym enough) ∙ ap (find (is_enough_within e committee level shared)) (sym (whole within pool left none))
@@ -178,7 +178,7 @@ includes-front ballot front rest h =
 
 -- a ballot that supports T and U has fewer members than the level
 few_members : (property : Property) (m : ℕ) (committee : List ℕ) (level : ℕ) (pair : List ℕ × List ℕ) (ballot : List ℕ) → 1 ≤ level → IsSecond property m level pair.1 → IsIncreasing 1 m ballot
-    → is_supporter property committee level pair ballot ≡ true → (includes ballot pair.0 ≡ true) × (nat_lt (length (common_members ballot committee)) level ≡ true)
+    → fits_pair property committee level pair ballot ≡ true → (includes ballot pair.0 ≡ true) × (nat_lt (length (common_members ballot committee)) level ≡ true)
 few_members Jr m committee level pair ballot least second i h =
     let parts = and_parts (includes ballot pair.0) (nat_lt (hits ballot committee) level) h in
     (parts.0, ap (λ n. nat_lt n level) (length-common_members ballot committee) ∙ parts.1)
@@ -203,7 +203,7 @@ module _ (property : Property) (e : Election) (committee : List ℕ) (level : �
       → is_large e committee level (sum (voters_below e committee level front)) ≡ false → pair_breaks property e committee level (shared, within) ≡ false
   small_front front shared within valid least second part few =
       small_pair property e committee level (shared, within)
-      (too_small e committee level (is_supporter property committee level (shared, within)) (is_below committee level front) valid
+      (too_small e committee level (fits_pair property committee level (shared, within)) (is_below committee level front) valid
       (λ ballot i h.
       let known = few_members property e.m committee level (shared, within) ballot least second i h in
       and_from (includes ballot front) (nat_lt (length (common_members ballot committee)) level) (part ballot known.0) known.1) few)
@@ -430,15 +430,15 @@ module _ (e : Election) (committee : List ℕ) (level : ℕ) where
       (λ within small. small_pair Pjr e committee level (shared, within) (fewer shared within small)) seconds few))
       (increasing_lists 1 e.m level)))
     where
-      fewer : (shared within : List ℕ) → is_large e committee level (sum (supporters Pjr e committee level ([], within))) ≡ false
-          → is_large e committee level (sum (supporters Pjr e committee level (shared, within))) ≡ false
+      fewer : (shared within : List ℕ) → is_large e committee level (sum (pair_group Pjr e committee level ([], within))) ≡ false
+          → is_large e committee level (sum (pair_group Pjr e committee level (shared, within))) ≡ false
       fewer shared within =
-          let test = is_supporter Pjr committee level (shared, within) in
-          let other = is_supporter Pjr committee level ([], within) in
-          no_longer (is_large e committee level (sum (supporters Pjr e committee level (shared, within)))) (is_large e committee level (sum (supporters Pjr e committee level ([], within))))
-          (large_more e committee level (sum (supporters Pjr e committee level (shared, within))) (sum (supporters Pjr e committee level ([], within)))
+          let test = fits_pair Pjr committee level (shared, within) in
+          let other = fits_pair Pjr committee level ([], within) in
+          no_longer (is_large e committee level (sum (pair_group Pjr e committee level (shared, within)))) (is_large e committee level (sum (pair_group Pjr e committee level ([], within))))
+          (large_more e committee level (sum (pair_group Pjr e committee level (shared, within))) (sum (pair_group Pjr e committee level ([], within)))
           (group-le other e.rows (group_of test e.rows) (group_of-group test e.rows)
-          (list_all-weaker test other (λ b h. (and_parts (includes b shared) (includes within (common_members b committee)) h).1) (ballots_of e.rows (group_of test e.rows)) (group_of-pass test e.rows))))
+          (list_all-weaker test other (λ b h. (and_parts (includes b shared) (includes within (common_members b committee)) h).1) (member_ballots e.rows (group_of test e.rows)) (group_of-pass test e.rows))))
 
   -- the first U with enough voters is that of the first pair
   pairs_beside : (shared : List ℕ) (lists : List (List ℕ)) → AllByRecursion (λ within. pair_breaks Pjr e committee level (shared, within) ≡ is_enough_within e committee level shared within) lists

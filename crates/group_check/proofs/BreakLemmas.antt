@@ -1,4 +1,4 @@
--- Some group breaks a property exactly where all the supporters of some T and U do.
+-- Some group breaks a property exactly where the whole group of some T and U does.
 use Rattle.std.proofs.Common.{◌≡◌, ℕ, ◌-◌, ◌*◌, ◌<◌, ◌≤◌, ◌==◌, ◌&&◌, Bool, true, false, List, [], ◌∷◌, Option, Some, None, refl, sym, ap, subst, ◌∙◌, arith, length, map, sum}
 use Rattle.std.specs.Prelude.{find, is_some, option_map, nat_le, nat_lt}
 use Rattle.std.specs.List.{list_all, list_any}
@@ -11,8 +11,8 @@ use Rattle.ballot_base.proofs.Committees.{increasing_lists-contains}
 use Rattle.group_check.specs.declared.property.Property.{Property}
 use Rattle.group_check.specs.declared.property.Property.TheVariants.{Jr, Pjr, Ejr, EjrPlus}
 use Rattle.group_check.specs.declared.property.Violation.{Violation}
-use Rattle.group_check.specs.Groups.{IsGroup, ballots_of, common_candidates, represented, is_cohesive, is_outside, all_below, Breaks, SomeGroupBreaks}
-use Rattle.group_check.specs.Report.{includes, is_supporter, is_in_group, group_of, supporters, lists_within, lists_shared, pairs_at, pair_breaks, violation_of, first_violation}
+use Rattle.group_check.specs.Groups.{IsGroup, member_ballots, common_candidates, represented, is_cohesive, is_outside, all_below, Breaks, SomeGroupBreaks}
+use Rattle.group_check.specs.Report.{includes, fits_pair, is_in_group, group_of, pair_group, lists_within, lists_shared, pairs_at, pair_breaks, violation_of, first_violation}
 use Rattle.group_check.specs.Steps.Checking.{greatest_level, IsFirst, IsSecond, is_large}
 use Rattle.group_check.proofs.TestLemmas.{list_all-weaker, list_all-both, is_some-find, found_passes, list_any-filter, list_any-contains, list_any-map, list_any-flat_map}
 use Rattle.group_check.proofs.SetLemmas.{all_pass, widened}
@@ -37,18 +37,18 @@ collapse_three true b true false p q r = absurd (never r)
 collapse_two : (b c d : Bool) → c ≡ true → d ≡ true → ((b && c) && d) ≡ b
 collapse_two b c d q r = collapse_three true b c d refl q r
 
--- what is known of the supporters of T and U
-behind : (property : Property) (e : Election) (committee : List ℕ) (level : ℕ) (pair : List ℕ × List ℕ) → List (List ℕ)
-behind property e committee level pair = ballots_of e.rows (supporters property e committee level pair)
+-- what is known of the group of T and U
+pair_ballots : (property : Property) (e : Election) (committee : List ℕ) (level : ℕ) (pair : List ℕ × List ℕ) → List (List ℕ)
+pair_ballots property e committee level pair = member_ballots e.rows (pair_group property e committee level pair)
 
--- all the supporters of T and U break the property where they are enough
+-- the whole group of T and U breaks the property where it is large enough
 pub pair_breaks-is : (property : Property) (e : Election) (committee : List ℕ) (level : ℕ) (shared within : List ℕ)
     → IsIncreasing 1 e.m committee → 1 ≤ level → level ≤ greatest_level property committee → IsFirst property e.m committee level shared → IsSecond property e.m level within
-    → pair_breaks property e committee level (shared, within) ≡ is_large e committee level (sum (supporters property e committee level (shared, within)))
+    → pair_breaks property e committee level (shared, within) ≡ is_large e committee level (sum (pair_group property e committee level (shared, within)))
 pair_breaks-is Jr e committee level shared within i least most choice second =
-    let group = supporters Jr e committee level (shared, within) in
-    let ballots = ballots_of e.rows group in
-    let test = is_supporter Jr committee level (shared, within) in
+    let group = pair_group Jr e committee level (shared, within) in
+    let ballots = member_ballots e.rows group in
+    let test = fits_pair Jr committee level (shared, within) in
     let all : list_all test ballots ≡ true = group_of-pass test e.rows in
     let one : level ≡ 1 = omega (arith, least, most) in
     let agree = le-leb level (length (common_candidates e.m ballots)) (all_agree e.m level ballots shared choice.0
@@ -57,9 +57,9 @@ pair_breaks-is Jr e committee level shared within i least most choice second =
     let below_one : all_below 1 committee ballots ≡ true = ap (λ n. all_below n committee ballots) (sym one) ∙ below in
     collapse_three (level == 1) (is_large e committee level (sum group)) (nat_le level (length (common_candidates e.m ballots))) (all_below 1 committee ballots) (eq-eqb level 1 one) agree below_one
 pair_breaks-is Pjr e committee level shared within i least most choice second =
-    let group = supporters Pjr e committee level (shared, within) in
-    let ballots = ballots_of e.rows group in
-    let test = is_supporter Pjr committee level (shared, within) in
+    let group = pair_group Pjr e committee level (shared, within) in
+    let ballots = member_ballots e.rows group in
+    let test = fits_pair Pjr committee level (shared, within) in
     let all : list_all test ballots ≡ true = group_of-pass test e.rows in
     let agree = le-leb level (length (common_candidates e.m ballots)) (all_agree e.m level ballots shared choice.0
     (list_all-weaker test (λ b. includes b shared) (λ b h. (and_parts (includes b shared) (includes within (common_members b committee)) h).0) ballots all)) in
@@ -69,18 +69,18 @@ pair_breaks-is Pjr e committee level shared within i least most choice second =
     collapse_two (is_large e committee level (sum group)) (nat_le level (length (common_candidates e.m ballots))) (nat_lt (length (represented ballots committee)) level) agree
     (lt-ltb (length (represented ballots committee)) level (omega (arith, few, size, least)))
 pair_breaks-is Ejr e committee level shared within i least most choice second =
-    let group = supporters Ejr e committee level (shared, within) in
-    let ballots = ballots_of e.rows group in
-    let test = is_supporter Ejr committee level (shared, within) in
+    let group = pair_group Ejr e committee level (shared, within) in
+    let ballots = member_ballots e.rows group in
+    let test = fits_pair Ejr committee level (shared, within) in
     let all : list_all test ballots ≡ true = group_of-pass test e.rows in
     let agree = le-leb level (length (common_candidates e.m ballots)) (all_agree e.m level ballots shared choice.0
     (list_all-weaker test (λ b. includes b shared) (λ b h. (and_parts (includes b shared) (nat_lt (hits b committee) level) h).0) ballots all)) in
     let below : all_below level committee ballots ≡ true = list_all-weaker test (λ b. nat_lt (hits b committee) level) (λ b h. (and_parts (includes b shared) (nat_lt (hits b committee) level) h).1) ballots all in
     collapse_two (is_large e committee level (sum group)) (nat_le level (length (common_candidates e.m ballots))) (all_below level committee ballots) agree below
 pair_breaks-is EjrPlus e committee level shared within i least most choice second =
-    let group = supporters EjrPlus e committee level (shared, within) in
-    let ballots = ballots_of e.rows group in
-    let test = is_supporter EjrPlus committee level (shared, within) in
+    let group = pair_group EjrPlus e committee level (shared, within) in
+    let ballots = member_ballots e.rows group in
+    let test = fits_pair EjrPlus committee level (shared, within) in
     let all : list_all test ballots ≡ true = group_of-pass test e.rows in
     let approve = list_all-weaker test (λ b. includes b shared) (λ b h. (and_parts (includes b shared) (nat_lt (hits b committee) level) h).0) ballots all in
     let below : all_below level committee ballots ≡ true = list_all-weaker test (λ b. nat_lt (hits b committee) level) (λ b h. (and_parts (includes b shared) (nat_lt (hits b committee) level) h).1) ballots all in
@@ -97,11 +97,11 @@ large_more e committee level few many more h =
 -- T and U that a group supports which is large enough
 enough : (property : Property) (e : Election) (committee : List ℕ) (level : ℕ) (group shared within : List ℕ)
     → IsIncreasing 1 e.m committee → 1 ≤ level → level ≤ greatest_level property committee → IsFirst property e.m committee level shared → IsSecond property e.m level within
-    → IsGroup e.rows group → is_large e committee level (sum group) ≡ true → list_all (is_supporter property committee level (shared, within)) (ballots_of e.rows group) ≡ true
+    → IsGroup e.rows group → is_large e committee level (sum group) ≡ true → list_all (fits_pair property committee level (shared, within)) (member_ballots e.rows group) ≡ true
     → pair_breaks property e committee level (shared, within) ≡ true
 enough property e committee level group shared within i least most choice second g large all =
     pair_breaks-is property e committee level shared within i least most choice second
-    ∙ large_more e committee level (sum group) (sum (supporters property e committee level (shared, within))) (group-le (is_supporter property committee level (shared, within)) e.rows group g all) large
+    ∙ large_more e committee level (sum group) (sum (pair_group property e committee level (shared, within))) (group-le (fits_pair property committee level (shared, within)) e.rows group g all) large
 
 -- a T that passes is one of the lists of its level
 any_shared : (property : Property) (m : ℕ) (committee : List ℕ) (level : ℕ) (test : List ℕ → Bool) (shared : List ℕ) → IsFirst property m committee level shared → test shared ≡ true
@@ -141,7 +141,7 @@ pub some_pair : (property : Property) (e : Election) (committee : List ℕ) (lev
     → SomeGroupBreaks property e committee level → list_any (pair_breaks property e committee level) (pairs_at property e.m committee level) ≡ true
 some_pair Jr e committee level i least most some =
     let group = some.0 in
-    let ballots = ballots_of e.rows group in
+    let ballots = member_ballots e.rows group in
     let outer = and_middle (level == 1) (is_cohesive e (length committee) level group) (all_below 1 committee ballots) some.2 in
     let one : level ≡ 1 = eqb-true level 1 outer.0 in
     let parts = and_parts (is_large e committee level (sum group)) (nat_le level (length (common_candidates e.m ballots))) outer.1 in
@@ -152,7 +152,7 @@ some_pair Jr e committee level i least most some =
     (or_left (pair_breaks Jr e committee level (shared.0, [])) false (enough Jr e committee level group shared.0 [] i least (omega (arith, one)) (shared.1, any_may shared.0) tt some.1 parts.0 all))
 some_pair Pjr e committee level i least most some =
     let group = some.0 in
-    let ballots = ballots_of e.rows group in
+    let ballots = member_ballots e.rows group in
     let parts = and_middle (is_large e committee level (sum group)) (nat_le level (length (common_candidates e.m ballots))) (nat_lt (length (represented ballots committee)) level) some.2 in
     let shared = shared_of e.m level ballots (leb-true level (length (common_candidates e.m ballots)) parts.1) in
     let few : length (represented ballots committee) < level = ltb-true (length (represented ballots committee)) level parts.2 in
@@ -168,7 +168,7 @@ some_pair Pjr e committee level i least most some =
     (and_from (includes committee wide.0) (pair_breaks Pjr e committee level (shared.0, wide.0)) inside breaking))
 some_pair Ejr e committee level i least most some =
     let group = some.0 in
-    let ballots = ballots_of e.rows group in
+    let ballots = member_ballots e.rows group in
     let parts = and_middle (is_large e committee level (sum group)) (nat_le level (length (common_candidates e.m ballots))) (all_below level committee ballots) some.2 in
     let shared = shared_of e.m level ballots (leb-true level (length (common_candidates e.m ballots)) parts.1) in
     let all = list_all-both (λ b. includes b shared.0) (λ b. nat_lt (hits b committee) level) ballots shared.2 parts.2 in
@@ -176,7 +176,7 @@ some_pair Ejr e committee level i least most some =
     (or_left (pair_breaks Ejr e committee level (shared.0, [])) false (enough Ejr e committee level group shared.0 [] i least most (shared.1, any_may shared.0) tt some.1 parts.0 all))
 some_pair EjrPlus e committee level i least most some =
     let group = some.0 in
-    let ballots = ballots_of e.rows group in
+    let ballots = member_ballots e.rows group in
     let parts = and_middle (is_large e committee level (sum group)) (list_any (is_outside committee) (common_candidates e.m ballots)) (all_below level committee ballots) some.2 in
     let one = outside_of e.m (is_outside committee) ballots parts.1 in
     let shared = one.0 ∷ [] in
@@ -217,13 +217,13 @@ some_group property e committee level report first =
     let test = pair_breaks property e committee level in
     let pairs = pairs_at property e.m committee level in
     let found = find-some (violation_of property e committee level) (find test pairs) report first in
-    (supporters property e committee level found.0, group_of-group (is_supporter property committee level found.0) e.rows, found_passes test pairs found.0 found.1)
+    (pair_group property e committee level found.0, group_of-group (fits_pair property committee level found.0) e.rows, found_passes test pairs found.0 found.1)
 
 -- no group breaks justified representation above level 1
 pub above_greatest : (property : Property) (e : Election) (committee : List ℕ) (level : ℕ) → level ≤ length committee → greatest_level property committee < level → SomeGroupBreaks property e committee level → ⊥
 above_greatest Jr e committee level most more some =
     let group = some.0 in
-    let ballots = ballots_of e.rows group in
+    let ballots = member_ballots e.rows group in
     let outer = and_middle (level == 1) (is_cohesive e (length committee) level group) (all_below 1 committee ballots) some.2 in
     let one : level ≡ 1 = eqb-true level 1 outer.0 in
     omega (arith, one, more)

@@ -9,7 +9,7 @@ use Rattle.ballot_base.specs.Ballots.{Election}
 use Rattle.group_check.specs.declared.property.Property.{Property}
 use Rattle.group_check.specs.declared.property.Property.TheVariants.{Jr, Pjr, Ejr, EjrPlus}
 use Rattle.group_check.specs.declared.property.Violation.{Violation}
-use Rattle.group_check.specs.Report.{supporters, pair_breaks, violation_of}
+use Rattle.group_check.specs.Report.{pair_group, pair_breaks, violation_of}
 use Rattle.group_check.specs.Steps.Checking.{greatest_level, IsFirst, IsSecond, first_of, pairs_of, is_large}
 use Rattle.group_check.proofs.BreakLemmas.{pair_breaks-is}
 
@@ -28,10 +28,10 @@ then_some-find : {X : Type 0} {Y : Type 0} (f : X → Y) (b : Bool) (x : X) → 
 then_some-find f true x = refl
 then_some-find f false x = refl
 
--- all supporters of T and U, counted
+-- the group of T and U, counted
 pub counted_is : (property : Property) (e : Election) (committee : List ℕ) (level : ℕ) (shared within : List ℕ)
     → IsIncreasing 1 e.m committee → 1 ≤ level → level ≤ greatest_level property committee → IsFirst property e.m committee level shared → IsSecond property e.m level within
-    → (voters : ℕ) → voters ≡ sum (supporters property e committee level (shared, within))
+    → (voters : ℕ) → voters ≡ sum (pair_group property e committee level (shared, within))
     → then_some (is_large e committee level voters) (violation_with property committee level shared within voters) ≡ first_of property e committee level ((shared, within) ∷ [])
 counted_is property e committee level shared within i least most choice second voters a =
     let large = pair_breaks-is property e committee level shared within i least most choice second in

@@ -3,8 +3,8 @@ use Rattle.std.proofs.Common.{◌≡◌, zero, suc, [], ◌∷◌, true, false, 
 use Rattle.ballot_base.specs.Lists.{lists_of}
 use Rattle.ballot_base.specs.Ballots.{Election, election}
 use Rattle.group_check.specs.declared.property.Property.TheVariants.{Jr, Pjr, Ejr, EjrPlus}
-use Rattle.group_check.specs.Groups.{IsGroup, ballots_of, common_candidates, represented, is_large_enough, is_outside, is_cohesive, all_below, breaks, Breaks, SomeGroupBreaks, HasProperty}
-use Rattle.group_check.specs.Report.{includes, is_supporter, is_in_group, group_of, supporters, lists_within, lists_shared, pairs_at, pair_breaks, violation_of, first_violation, IsReport}
+use Rattle.group_check.specs.Groups.{IsGroup, member_ballots, common_candidates, represented, is_large_enough, is_outside, is_cohesive, all_below, breaks, Breaks, SomeGroupBreaks, HasProperty}
+use Rattle.group_check.specs.Report.{includes, fits_pair, is_in_group, group_of, pair_group, lists_within, lists_shared, pairs_at, pair_breaks, violation_of, first_violation, IsReport}
 use Rattle.group_check.specs.Steps.Checking.{greatest_level, shared_size, may_share, is_possible, IsChoice, IsFirst, IsSecond, Computes, first_of, first_of_lists, pairs_of, sublists, completions, is_large, is_below, is_around, is_enough_within, voters_below, voters_around, possible_candidates}
 use Rattle.group_check.proofs.BreakLemmas.{no_group, above_greatest}
 
@@ -17,11 +17,11 @@ part : IsGroup divided.rows (2 ∷ 0 ∷ [])
 unfolding divided
 part = (lit≤ tt, (lit≤ tt, tt))
 
-their_ballots : ballots_of divided.rows (2 ∷ 0 ∷ []) ≡ (1 ∷ 2 ∷ []) ∷ []
+their_ballots : member_ballots divided.rows (2 ∷ 0 ∷ []) ≡ (1 ∷ 2 ∷ []) ∷ []
 unfolding divided
 their_ballots = refl
 
-all_ballots : ballots_of divided.rows (1 ∷ 1 ∷ []) ≡ (1 ∷ 2 ∷ []) ∷ (3 ∷ 4 ∷ []) ∷ []
+all_ballots : member_ballots divided.rows (1 ∷ 1 ∷ []) ≡ (1 ∷ 2 ∷ []) ∷ (3 ∷ 4 ∷ []) ∷ []
 unfolding divided
 all_ballots = refl
 
@@ -212,22 +212,22 @@ included = refl
 not_included : includes (1 ∷ 2 ∷ []) (1 ∷ 3 ∷ []) ≡ false
 not_included = refl
 
-behind_one_and_two : is_supporter Pjr (3 ∷ 4 ∷ []) 2 (1 ∷ 2 ∷ [], 3 ∷ []) (1 ∷ 2 ∷ 3 ∷ []) ≡ true
-behind_one_and_two = refl
+one_and_two_fit : fits_pair Pjr (3 ∷ 4 ∷ []) 2 (1 ∷ 2 ∷ [], 3 ∷ []) (1 ∷ 2 ∷ 3 ∷ []) ≡ true
+one_and_two_fit = refl
 
-not_behind_four : is_supporter Pjr (3 ∷ 4 ∷ []) 2 (1 ∷ 2 ∷ [], 4 ∷ []) (1 ∷ 2 ∷ 3 ∷ []) ≡ false
-not_behind_four = refl
+four_does_not_fit : fits_pair Pjr (3 ∷ 4 ∷ []) 2 (1 ∷ 2 ∷ [], 4 ∷ []) (1 ∷ 2 ∷ 3 ∷ []) ≡ false
+four_does_not_fit = refl
 
-behind_by_number : is_supporter Ejr (3 ∷ 4 ∷ []) 2 (1 ∷ 2 ∷ [], []) (1 ∷ 2 ∷ 3 ∷ []) ≡ true
-behind_by_number = refl
+fewer_members_fit : fits_pair Ejr (3 ∷ 4 ∷ []) 2 (1 ∷ 2 ∷ [], []) (1 ∷ 2 ∷ 3 ∷ []) ≡ true
+fewer_members_fit = refl
 
-not_behind_by_number : is_supporter Jr (3 ∷ 4 ∷ []) 1 (1 ∷ [], []) (1 ∷ 2 ∷ 3 ∷ []) ≡ false
-not_behind_by_number = refl
+too_many_members_do_not_fit : fits_pair Jr (3 ∷ 4 ∷ []) 1 (1 ∷ [], []) (1 ∷ 2 ∷ 3 ∷ []) ≡ false
+too_many_members_do_not_fit = refl
 
 large_ballots : group_of (includes (1 ∷ 2 ∷ 3 ∷ [])) ((1 ∷ [], 5) ∷ (4 ∷ [], 6) ∷ []) ≡ 5 ∷ 0 ∷ []
 large_ballots = refl
 
-who_supports : supporters Jr divided (3 ∷ 4 ∷ []) 1 (1 ∷ [], []) ≡ 3 ∷ 0 ∷ []
+who_supports : pair_group Jr divided (3 ∷ 4 ∷ []) 1 (1 ∷ [], []) ≡ 3 ∷ 0 ∷ []
 unfolding divided
 who_supports = refl
 

@@ -1,4 +1,4 @@
--- Some group breaks a property exactly where all the supporters of some T and U do.
+-- Some group breaks a property exactly where the whole group of some T and U does.
 use Rattle.std.proofs.Common.{◌≡◌, ℕ, zero, suc, ◌+◌, ◌<◌, ◌≤◌, ◌==◌, ◌||◌, Bool, true, false, cond, List, [], ◌∷◌, refl, sym, ap, ◌∙◌, arith, inl, inr, length, take, sum}
 use Rattle.std.specs.List.{list_all, list_any, range_with_len}
 use Rattle.std.proofs.lemmas.Bool.{and_from, and_parts, or_left, eqb-true, cases_eq}
@@ -8,7 +8,7 @@ use Rattle.ballot_base.specs.Lists.{IsIncreasing}
 use Rattle.ballot_base.specs.CandSet.{has_member, common_members}
 use Rattle.ballot_base.specs.Ballots.{Row}
 use Rattle.ballot_base.proofs.Increasing.{IsIncreasing-filter, has_member-filter, has_member_head, has_member_tail}
-use Rattle.group_check.specs.Groups.{IsGroup, ballots_of, common_candidates, represented}
+use Rattle.group_check.specs.Groups.{IsGroup, member_ballots, common_candidates, represented}
 use Rattle.group_check.specs.Report.{includes, group_of}
 use Rattle.group_check.specs.Steps.Checking.{IsChoice}
 use Rattle.group_check.proofs.TestLemmas.{list_all-filter, list_all-take, list_all-swap, list_all-weaker, both_at}
@@ -24,24 +24,24 @@ pub group_of-group : (test : List ℕ → Bool) (rows : List Row) → IsGroup ro
 group_of-group test [] = tt
 group_of-group test (row ∷ rows) = (at_most (test row.0) row.1, group_of-group test rows)
 
-pub group_of-pass : (test : List ℕ → Bool) (rows : List Row) → list_all test (ballots_of rows (group_of test rows)) ≡ true
+pub group_of-pass : (test : List ℕ → Bool) (rows : List Row) → list_all test (member_ballots rows (group_of test rows)) ≡ true
 group_of-pass test [] = refl
 group_of-pass test (row ∷ rows) = cases (test row.0) refl row.1 (group_of-pass test rows)
   where
-    cases : (b : Bool) → test row.0 ≡ b → (n : ℕ) → list_all test (ballots_of rows (group_of test rows)) ≡ true → list_all test (ballots_of (row ∷ rows) (cond b n 0 ∷ group_of test rows)) ≡ true
+    cases : (b : Bool) → test row.0 ≡ b → (n : ℕ) → list_all test (member_ballots rows (group_of test rows)) ≡ true → list_all test (member_ballots (row ∷ rows) (cond b n 0 ∷ group_of test rows)) ≡ true
     cases true e zero more = more
-    cases true e (suc n) more = and_from (test row.0) (list_all test (ballots_of rows (group_of test rows))) e more
+    cases true e (suc n) more = and_from (test row.0) (list_all test (member_ballots rows (group_of test rows))) e more
     cases false e n more = more
 
 -- it is the largest group whose ballots pass
-pub group-le : (test : List ℕ → Bool) (rows : List Row) (group : List ℕ) → IsGroup rows group → list_all test (ballots_of rows group) ≡ true → sum group ≤ sum (group_of test rows)
+pub group-le : (test : List ℕ → Bool) (rows : List Row) (group : List ℕ) → IsGroup rows group → list_all test (member_ballots rows group) ≡ true → sum group ≤ sum (group_of test rows)
 group-le test [] [] g h = omega arith
 group-le test [] (n ∷ group) g h = absurd g
 group-le test (row ∷ rows) [] g h = absurd g
 group-le test (row ∷ rows) (zero ∷ group) g h =
     omega (arith, sum_by-cons (λ (x : ℕ). x) 0 group, sum_by-cons (λ (x : ℕ). x) (cond (test row.0) row.1 0) (group_of test rows), group-le test rows group g.1 h)
 group-le test (row ∷ rows) (suc n ∷ group) g h =
-    let parts = and_parts (test row.0) (list_all test (ballots_of rows group)) h in
+    let parts = and_parts (test row.0) (list_all test (member_ballots rows group)) h in
     let more = group-le test rows group g.1 parts.1 in
     let all : cond (test row.0) row.1 0 ≡ row.1 = ap (λ b. cond b row.1 0) parts.0 in
     omega (arith, sum_by-cons (λ (x : ℕ). x) (suc n) group, sum_by-cons (λ (x : ℕ). x) (cond (test row.0) row.1 0) (group_of test rows), more, all, g.0)

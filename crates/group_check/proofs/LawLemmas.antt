@@ -10,14 +10,14 @@ use Rattle.ballot_base.specs.CandSet.{has_member}
 use Rattle.ballot_base.specs.Ballots.{Row, Election, IsElection, hits, voter_count}
 use Rattle.ballot_base.proofs.Increasing.{IsIncreasing-filter, has_member-filter, has_member_head}
 use Rattle.group_check.specs.declared.property.Property.TheVariants.{Jr, Pjr, Ejr, EjrPlus}
-use Rattle.group_check.specs.Groups.{IsGroup, ballots_of, common_candidates, represented, is_cohesive, is_large_enough, is_outside, all_below, HasProperty}
+use Rattle.group_check.specs.Groups.{IsGroup, member_ballots, common_candidates, represented, is_cohesive, is_large_enough, is_outside, all_below, HasProperty}
 use Rattle.group_check.proofs.SetLemmas.{length-within, length-common, IsIncreasing-range}
 use Rattle.group_check.proofs.GroupLemmas.{any_at}
 use Rattle.group_check.proofs.BreakLemmas.{and_middle}
 use Rattle.group_check.proofs.TestLemmas.{both_at}
 
 -- the ballots of a group are those of rows
-ballots-increasing : (m : ℕ) (rows : List Row) (group : List ℕ) → AllByRecursion (λ (row : Row). IsIncreasing 1 m row.0) rows → AllByRecursion (λ ballot. IsIncreasing 1 m ballot) (ballots_of rows group)
+ballots-increasing : (m : ℕ) (rows : List Row) (group : List ℕ) → AllByRecursion (λ (row : Row). IsIncreasing 1 m row.0) rows → AllByRecursion (λ ballot. IsIncreasing 1 m ballot) (member_ballots rows group)
 ballots-increasing m [] group all = tt
 ballots-increasing m (row ∷ rows) [] all = tt
 ballots-increasing m (row ∷ rows) (zero ∷ group) all = ballots-increasing m rows group all.1
@@ -53,7 +53,7 @@ below_from_few m level all (ballot ∷ ballots) committee i inc among few =
 pub ejr-pjr : (e : Election) (committee : List ℕ) → IsElection e → IsIncreasing 1 e.m committee → HasProperty Ejr e committee → HasProperty Pjr e committee
 ejr-pjr e committee valid i has level least most some =
     let group = some.0 in
-    let ballots = ballots_of e.rows group in
+    let ballots = member_ballots e.rows group in
     let cohesive = is_cohesive e (length committee) level group in
     let parts = and_parts cohesive (nat_lt (length (represented ballots committee)) level) some.2 in
     let few = ltb-true (length (represented ballots committee)) level parts.1 in
@@ -90,7 +90,7 @@ nothing_kept p (x ∷ xs) none =
 pub pjr-jr : (e : Election) (committee : List ℕ) → HasProperty Pjr e committee → HasProperty Jr e committee
 pjr-jr e committee has level least most some =
     let group = some.0 in
-    let ballots = ballots_of e.rows group in
+    let ballots = member_ballots e.rows group in
     let cohesive = is_cohesive e (length committee) level group in
     let parts = and_middle (level == 1) cohesive (all_below 1 committee ballots) some.2 in
     let one : level ≡ 1 = eqb-true level 1 parts.0 in
@@ -103,14 +103,14 @@ pjr-jr e committee has level least most some =
 -- ---- EJR+
 
 -- a group without a ballot has no voter
-no_voters : (rows : List Row) (group : List ℕ) → IsGroup rows group → ballots_of rows group ≡ [] → sum group ≡ 0
+no_voters : (rows : List Row) (group : List ℕ) → IsGroup rows group → member_ballots rows group ≡ [] → sum group ≡ 0
 no_voters [] [] g h = refl
 no_voters [] (n ∷ group) g h = absurd g
 no_voters (row ∷ rows) [] g h = absurd g
 no_voters (row ∷ rows) (zero ∷ group) g h = omega (arith, sum_by-cons (λ (x : ℕ). x) 0 group, no_voters rows group g.1 h)
 no_voters (row ∷ rows) (suc n ∷ group) g h = absurd (never h)
   where
-    never : row.0 ∷ ballots_of rows group ≡ [] → ⊥
+    never : row.0 ∷ member_ballots rows group ≡ [] → ⊥
     never e = cc
 
 inside_unless : (a b : Bool) → (not a ≡ true → b ≡ true) → b ≡ false → a ≡ true
@@ -139,7 +139,7 @@ no_ballots m level (ballot ∷ ballots) committee i inc many below none =
 pub ejrplus-ejr : (e : Election) (committee : List ℕ) → IsElection e → 1 ≤ voter_count e.rows → IsIncreasing 1 e.m committee → HasProperty EjrPlus e committee → HasProperty Ejr e committee
 ejrplus-ejr e committee valid voters i has level least most some =
     let group = some.0 in
-    let ballots = ballots_of e.rows group in
+    let ballots = member_ballots e.rows group in
     let commons = common_candidates e.m ballots in
     let large = is_large_enough e (length committee) level group in
     let parts = and_middle large (nat_le level (length commons)) (all_below level committee ballots) some.2 in
@@ -153,8 +153,8 @@ ejrplus-ejr e committee valid voters i has level least most some =
     let one = mul-le 1 1 level (voter_count e.rows) least voters in
     omega (arith, enough, nothing, one))
   where
-    cases : (b : Bool) → list_any (is_outside committee) (common_candidates e.m (ballots_of e.rows some.0)) ≡ b
-        → (list_any (is_outside committee) (common_candidates e.m (ballots_of e.rows some.0)) ≡ true → ⊥)
-        → (list_any (is_outside committee) (common_candidates e.m (ballots_of e.rows some.0)) ≡ false → ⊥) → ⊥
+    cases : (b : Bool) → list_any (is_outside committee) (common_candidates e.m (member_ballots e.rows some.0)) ≡ b
+        → (list_any (is_outside committee) (common_candidates e.m (member_ballots e.rows some.0)) ≡ true → ⊥)
+        → (list_any (is_outside committee) (common_candidates e.m (member_ballots e.rows some.0)) ≡ false → ⊥) → ⊥
     cases true h outside inside = outside h
     cases false h outside inside = inside h

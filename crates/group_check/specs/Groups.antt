@@ -16,11 +16,11 @@ IsGroup (row ∷ rows) [] = ⊥
 IsGroup (row ∷ rows) (n ∷ group) = (n ≤ row.1) × IsGroup rows group
 
 -- the ballots of the group's members, each once
-abbrev pub ballots_of : List Row → List ℕ → List (List ℕ)
-ballots_of [] group = []
-ballots_of (row ∷ rows) [] = []
-ballots_of (row ∷ rows) (zero ∷ group) = ballots_of rows group
-ballots_of (row ∷ rows) (suc n ∷ group) = row.0 ∷ ballots_of rows group
+abbrev pub member_ballots : List Row → List ℕ → List (List ℕ)
+member_ballots [] group = []
+member_ballots (row ∷ rows) [] = []
+member_ballots (row ∷ rows) (zero ∷ group) = member_ballots rows group
+member_ballots (row ∷ rows) (suc n ∷ group) = row.0 ∷ member_ballots rows group
 
 -- the candidates of 1 to m that all these ballots approve
 abbrev pub common_candidates : ℕ → List (List ℕ) → List ℕ
@@ -43,7 +43,7 @@ is_outside committee c = not (has_member committee c)
 abbrev pub is_cohesive : Election → ℕ → ℕ → List ℕ → Bool
 is_cohesive e k level group =
     is_large_enough e k level group
-    && nat_le level (length (common_candidates e.m (ballots_of e.rows group)))
+    && nat_le level (length (common_candidates e.m (member_ballots e.rows group)))
 
 -- whether each of these ballots approves fewer than this many members of the committee
 abbrev pub all_below : ℕ → List ℕ → List (List ℕ) → Bool
@@ -59,16 +59,16 @@ all_below bound committee ballots = list_all (λ ballot. nat_lt (hits ballot com
 -- (Brill and Peters, Robust and Verifiable Proportionality Axioms for Multiwinner Voting)
 abbrev pub breaks : Property → Election → List ℕ → ℕ → List ℕ → Bool
 breaks Jr e committee level group =
-    (level == 1) && is_cohesive e (length committee) level group && all_below 1 committee (ballots_of e.rows group)
+    (level == 1) && is_cohesive e (length committee) level group && all_below 1 committee (member_ballots e.rows group)
 breaks Pjr e committee level group =
     is_cohesive e (length committee) level group
-    && nat_lt (length (represented (ballots_of e.rows group) committee)) level
+    && nat_lt (length (represented (member_ballots e.rows group) committee)) level
 breaks Ejr e committee level group =
-    is_cohesive e (length committee) level group && all_below level committee (ballots_of e.rows group)
+    is_cohesive e (length committee) level group && all_below level committee (member_ballots e.rows group)
 breaks EjrPlus e committee level group =
     is_large_enough e (length committee) level group
-    && list_any (is_outside committee) (common_candidates e.m (ballots_of e.rows group))
-    && all_below level committee (ballots_of e.rows group)
+    && list_any (is_outside committee) (common_candidates e.m (member_ballots e.rows group))
+    && all_below level committee (member_ballots e.rows group)
 
 abbrev pub Breaks : Property → Election → List ℕ → ℕ → List ℕ → Type 0
 Breaks property e committee level group = IsTrue (breaks property e committee level group)

@@ -19,20 +19,20 @@ includes set other = list_all (has_member set) other
 -- whether a ballot belongs to the group of T and U: it approves all of T, and
 -- - for PJR, the members of the committee that it approves lie in U
 -- - for JR, EJR and EJR+, they are fewer than the level
-abbrev pub is_supporter : Property → List ℕ → ℕ → List ℕ × List ℕ → List ℕ → Bool
-is_supporter Jr committee level pair ballot = includes ballot pair.0 && nat_lt (hits ballot committee) level
-is_supporter Pjr committee level pair ballot =
+abbrev pub fits_pair : Property → List ℕ → ℕ → List ℕ × List ℕ → List ℕ → Bool
+fits_pair Jr committee level pair ballot = includes ballot pair.0 && nat_lt (hits ballot committee) level
+fits_pair Pjr committee level pair ballot =
     includes ballot pair.0 && includes pair.1 (common_members ballot committee)
-is_supporter Ejr committee level pair ballot = includes ballot pair.0 && nat_lt (hits ballot committee) level
-is_supporter EjrPlus committee level pair ballot = includes ballot pair.0 && nat_lt (hits ballot committee) level
+fits_pair Ejr committee level pair ballot = includes ballot pair.0 && nat_lt (hits ballot committee) level
+fits_pair EjrPlus committee level pair ballot = includes ballot pair.0 && nat_lt (hits ballot committee) level
 
 -- the group of all voters whose ballots pass the test
 abbrev pub group_of : (List ℕ → Bool) → List Row → List ℕ
 group_of test rows = map (λ row. if test row.0 then row.1 else 0) rows
 
 -- the group of T and U
-abbrev pub supporters : Property → Election → List ℕ → ℕ → List ℕ × List ℕ → List ℕ
-supporters property e committee level pair = group_of (is_supporter property committee level pair) e.rows
+abbrev pub pair_group : Property → Election → List ℕ → ℕ → List ℕ × List ℕ → List ℕ
+pair_group property e committee level pair = group_of (fits_pair property committee level pair) e.rows
 
 -- the lists U that stand beside each T: for PJR those of l - 1 members of the committee, else the empty list alone
 abbrev pub lists_within : Property → ℕ → List ℕ → ℕ → List (List ℕ)
@@ -57,9 +57,9 @@ pairs_at property m committee level =
 -- whether the group of T and U breaks the property
 abbrev pub pair_breaks : Property → Election → List ℕ → ℕ → List ℕ × List ℕ → Bool
 pair_breaks property e committee level pair =
-    breaks property e committee level (supporters property e committee level pair)
+    breaks property e committee level (pair_group property e committee level pair)
 
--- the violation that T and U show: the group of all their supporters
+-- the violation that T and U show: their whole group
 abbrev pub violation_of : Property → Election → List ℕ → ℕ → List ℕ × List ℕ → Violation
 violation_of property e committee level pair = record {
   property = property;
@@ -67,7 +67,7 @@ violation_of property e committee level pair = record {
   level = level;
   shared = pair.0;
   within = pair.1;
-  voters = sum (supporters property e committee level pair);
+  voters = sum (pair_group property e committee level pair);
 }
 
 -- the violation of the first T and U whose group breaks the property at this level
@@ -79,7 +79,7 @@ first_violation property e committee level =
 -- whether a ballot's voters belong to the group of the violation
 abbrev pub is_in_group : Violation → List ℕ → Bool
 is_in_group violation ballot =
-    is_supporter violation.property violation.committee violation.level (violation.shared, violation.within) ballot
+    fits_pair violation.property violation.committee violation.level (violation.shared, violation.within) ballot
 
 -- The report of a committee that lacks the property: its group breaks the property, at the least level at which some
 -- group does, and it is the first violation at that level.

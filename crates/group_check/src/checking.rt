@@ -16,7 +16,7 @@ use std::alloc::Allocator;
 const FEW_LISTS: u64 = 1 << 20;
 
 /// The group that shows that the committee lacks the property, if it lacks it: at the least level at which some group
-/// breaks the property, all supporters of the first candidates that show it. It takes no memory.
+/// breaks the property, the whole group of the first candidates that show it. It takes no memory.
 pub fn find_violation<A: Allocator + Copy>(
     profile: &Profile<A>,
     committee: CandSet,
@@ -274,7 +274,7 @@ fn first_within<A: Allocator + Copy>(
     first_within(profile, committee, level, shared, within, rest, left)
 }
 
-/// The violation with all supporters of these candidates, if they are enough for the level.
+/// The violation with the whole group of these candidates, if it is large enough for the level.
 fn counted<A: Allocator + Copy>(
     profile: &Profile<A>,
     committee: CandSet,
@@ -369,8 +369,7 @@ fn voters_with<A: Allocator + Copy, F: Fn(CandSet) -> bool>(profile: &Profile<A>
     ensures valid { IsElection profile.now }
 {
     let mut voters = 0;
-    for i in 0..profile.rows() {
-        let (ballot, count) = profile.row(i);
+    for (ballot, count) in profile.ballots() {
         if passes(ballot) {
             voters += count;
         }

@@ -12,9 +12,9 @@ use Rattle.tie_walk.specs.Ceilings.{IsAdded, IsBound, IsExactAtBest, closeness_u
 use Rattle.tie_walk.proofs.Closeness.{closeness-bounds}
 use Rattle.tie_walk.proofs.LawLemmas.{IsIncreasing-range, no_greater_value}
 use Rattle.tie_search.specs.Completions.{is_reached}
-use Rattle.tie_search.specs.Steps.Told.{IsReachedTo, IsTold}
+use Rattle.tie_search.specs.Steps.Witness.{IsReachedTo, IsWitnessed}
 use Rattle.tie_search.proofs.ReachLemmas.{any-true, any-found, increasing-append}
-use Rattle.tie_search.proofs.ToldLemmas.{short-some}
+use Rattle.tie_search.proofs.WitnessLemmas.{short-some}
 use Rattle.minimax_search.specs.Bounds.{Minimax, closeness_by, best_closeness, near_bound}
 
 module _ (tally : Minimax) (c : ℕ) (set : List ℕ) (left : ℕ) where
@@ -81,12 +81,12 @@ closeness-most m rows committee = omega arith
 -- so far the bounds reach the best value
 module _ (tally : Minimax) (c : ℕ) (set : List ℕ) (left : ℕ) (within : c ≤ tally.election.m) (up : IsIncreasing 1 c set)
     (fits : left ≤ tally.election.m - c) (whole : length set + left ≡ tally.k) where
-  pub near-reached-to : (best end : ℕ) → best ≡ best_closeness tally → IsTold (closeness_by tally) tally.election.m set left (best_closeness tally) c end
+  pub near-reached-to : (best end : ℕ) → best ≡ best_closeness tally → IsWitnessed (closeness_by tally) tally.election.m set left (best_closeness tally) c end
       → (end ≡ c → reached tally c set left ≡ false) → IsReachedTo (closeness_by tally) (near_bound tally) tally.election.m set left best c end
-  near-reached-to best end is told none = record {
-    low = told.low;
-    high = told.high;
-    reached = λ n low high. subst (λ b. best ≤ b) (sym (near-reached tally n set left whole (told.reached n low high))) (omega (arith, is));
+  near-reached-to best end is witnessed none = record {
+    low = witnessed.low;
+    high = witnessed.high;
+    reached = λ n low high. subst (λ b. best ≤ b) (sym (near-reached tally n set left whole (witnessed.reached n low high))) (omega (arith, is));
     short = λ same.
         let out = none same in
         let some = short-some (closeness_by tally) tally.election.m c set left (best_closeness tally) within fits out in (

@@ -15,7 +15,7 @@ use Rattle.tie_search.specs.Completions.{IsOpen, IsCompletion, IsReaching, IsOut
 use Rattle.tie_search.proofs.CompletionLemmas.{added, added-free, added-increasing, added-size, and-true, completion-few, completion-members, hits-same, open-without, without-is}
 use Rattle.tie_search.proofs.SearchLemmas.{AreLeft, none-left, struck-out}
 use Rattle.minimax_search.specs.Needs.{hits_needed}
-use Rattle.minimax_search.specs.Steps.Near.{IsChoice, IsNarrowed}
+use Rattle.minimax_search.specs.Steps.Near.{AreChoices, IsNarrowed}
 
 -- ---- one ballot
 
@@ -247,7 +247,7 @@ module _ (m : ℕ) (rows : List Row) (most : ℕ) (set free : List ℕ) (left : 
           (omega (arith, all, hits-added committee near whole, added-size m set free left committee open' whole)) n here)
 
   -- one of those on a ballot that needs a hit has to join
-  pub choice-of_ballot : 1 ≤ hits_needed (length row.0) (length set + left) most - hits row.0 set → IsChoice (closeness m rows) m set free left (m - most) (common_members row.0 free)
+  pub choice-of_ballot : 1 ≤ hits_needed (length row.0) (length set + left) most - hits row.0 set → AreChoices (closeness m rows) m set free left (m - most) (common_members row.0 free)
   choice-of_ballot some = record {
     among = λ n h. (and-true (has_member free n) (has_member row.0 n) (sym (has_member-filter (has_member free) row.0 n) ∙ h)).0;
     one = λ committee near.
@@ -278,7 +278,7 @@ module _ (value : List ℕ → ℕ) (m : ℕ) (set free rest : List ℕ) (left l
     kept = λ committee whole reaches. more.kept committee (narrowed.kept committee whole reaches) reaches;
   }
 
-  pub narrowed-choice : (choices : List ℕ) → IsChoice value m set rest left least choices → IsChoice value m set free left least choices
+  pub narrowed-choice : (choices : List ℕ) → AreChoices value m set rest left least choices → AreChoices value m set free left least choices
   narrowed-choice choices choice = record {
     among = λ n h. narrowed.among n (choice.among n h);
     one = λ committee near. choice.one committee record { completes = narrowed.kept committee near.completes near.reaches; reaches = near.reaches };
@@ -296,7 +296,7 @@ module _ (value : List ℕ → ℕ) (m : ℕ) (set free rest : List ℕ) (left l
   narrowed-out none = none-left value m set left least free rest narrowed.kept none
 
 -- one of all has to join, where someone does
-pub choice-of_all : (value : List ℕ → ℕ) (m : ℕ) (set free : List ℕ) (left least : ℕ) → IsOpen m set free → 1 ≤ left → IsChoice value m set free left least free
+pub choice-of_all : (value : List ℕ → ℕ) (m : ℕ) (set free : List ℕ) (left least : ℕ) → IsOpen m set free → 1 ≤ left → AreChoices value m set free left least free
 choice-of_all value m set free left least open' some = record {
   among = λ n h. h;
   one = λ committee near.
@@ -326,7 +326,7 @@ near-more m most k rows set i row ballots up found size none near =
 
 -- ---- a node that was searched
 
-module _ (value : List ℕ → ℕ) (m : ℕ) (set free : List ℕ) (left least : ℕ) (choices rest : List ℕ) (open' : IsOpen m set free) (choice : IsChoice value m set free left least choices) where
+module _ (value : List ℕ → ℕ) (m : ℕ) (set free : List ℕ) (left least : ℕ) (choices rest : List ℕ) (open' : IsOpen m set free) (choice : AreChoices value m set free left least choices) where
   -- each of the choices was tried
   pub all-tried : AreLeft value m set left least free rest → common_members choices rest ≡ [] → IsOutOfReach value m set free left least
   all-tried are none committee whole = elim (cases_lt (value committee) least) [

@@ -3,7 +3,7 @@
 ghost use Rattle.std.specs.Prelude.{◌≡◌, ◌-◌, ◌≤◌, IsTrue, MatchOption};
 ghost use Rattle.tie_walk.specs.Values.{closeness, greatest_distance};
 ghost use Rattle.tie_search.specs.Completions.{IsOpen, IsOutOfReach, IsReaching};
-ghost use Rattle.minimax_search.specs.Steps.Near.{IsChoice, IsNarrowed};
+ghost use Rattle.minimax_search.specs.Steps.Near.{AreChoices, IsNarrowed};
 
 use crate::needs::still_needed;
 use ballot_base::{CandSet, Profile};
@@ -54,7 +54,7 @@ fn choices<A: Allocator + Copy>(
         (λ both. (left ≡ 0 → greatest_distance profile.now.rows set ≤ most)
         × IsNarrowed (closeness profile.now.m profile.now.rows) profile.now.m set free left (profile.now.m - most)
         both.1
-        × (1 ≤ left → IsChoice (closeness profile.now.m profile.now.rows) profile.now.m set free left
+        × (1 ≤ left → AreChoices (closeness profile.now.m profile.now.rows) profile.now.m set free left
         (profile.now.m - most) both.0)) }
 {
     profile.m();
@@ -65,8 +65,7 @@ fn choices<A: Allocator + Copy>(
     let mut choices = free;
     let mut rest = free;
     let mut fewest = u8::MAX;
-    for i in 0..profile.rows() {
-        let (ballot, _) = profile.row(i);
+    for (ballot, _voters) in profile.ballots() {
         let needed = still_needed(ballot, set, k, most);
         let open = ballot.common(rest);
         if needed > left.min(open.len()) {

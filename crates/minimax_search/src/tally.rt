@@ -5,7 +5,7 @@ ghost use Rattle.ballot_base.specs.Lists.{IsIncreasing};
 ghost use Rattle.tie_walk.specs.Values.{closeness};
 ghost use Rattle.tie_walk.specs.Winners.{best_value};
 ghost use Rattle.tie_search.specs.Completions.{IsOutOfReach, IsReaching, is_reached};
-ghost use Rattle.tie_search.specs.Steps.Told.{IsReachedTo, IsTold};
+ghost use Rattle.tie_search.specs.Steps.Witness.{IsReachedTo, IsWitnessed};
 ghost use Rattle.minimax_search.specs.Bounds.{minimax_of, closeness_by, best_closeness, near_bound};
 
 use crate::search::find_near;
@@ -13,7 +13,7 @@ use ballot_base::{CandSet, Profile};
 use std::alloc::{Allocator, Global};
 use std::cell::Cell;
 use std::marker::Model;
-use tie_search::{told_upto, with_last};
+use tie_search::{with_last, witnessed_upto};
 use tie_walk::{MinimaxTally, Tally, those_after};
 
 /// The values under minimax approval voting. Where a set and the number of those to add make a committee of k, the
@@ -81,16 +81,16 @@ impl<'a, A: Allocator + Copy> NearTally<'a, A> {
         requires within { c ≤ self.now.election.m }
         requires candidates { IsIncreasing 1 c set }
         requires fits { left ≤ self.now.election.m - c }
-        ensures told { IsTold (closeness_by self.now) self.now.election.m set left (best_closeness self.now) c result }
+        ensures witnessed { IsWitnessed (closeness_by self.now) self.now.election.m set left (best_closeness self.now) c result }
         ensures none { result ≡ c → is_reached (closeness_by self.now) self.now.election.m c set left
             (best_closeness self.now) ≡ false }
     {
         let m = self.profile.m();
-        let known = self.told(self.found.get(), c, set, left);
+        let known = self.witnessed(self.found.get(), c, set, left);
         if known > c {
             return known;
         }
-        let latest = self.told(with_last(set, left, m), c, set, left);
+        let latest = self.witnessed(with_last(set, left, m), c, set, left);
         if latest > c {
             return latest;
         }
@@ -98,23 +98,23 @@ impl<'a, A: Allocator + Copy> NearTally<'a, A> {
         match find_near(self.profile, set, free, left, self.most) {
             Some(committee) => {
                 self.found.set(committee);
-                told_upto(committee, m, c, set, left)
+                witnessed_upto(committee, m, c, set, left)
             }
             None => c,
         }
     }
 
     /// The same as far as a committee tells; c where it has not the greatest value, or is none of these.
-    fn told(&self, committee: CandSet, c: u8, set: CandSet, left: u8) -> u8
+    fn witnessed(&self, committee: CandSet, c: u8, set: CandSet, left: u8) -> u8
         requires within { c ≤ self.now.election.m }
         requires candidates { IsIncreasing 1 c set }
         requires fits { left ≤ self.now.election.m - c }
-        ensures { IsTold (closeness_by self.now) self.now.election.m set left (best_closeness self.now) c result }
+        ensures { IsWitnessed (closeness_by self.now) self.now.election.m set left (best_closeness self.now) c result }
     {
         let m = self.profile.m();
         committee.valid();
         let known = committee.upto(m);
-        let end = told_upto(known, m, c, set, left);
+        let end = witnessed_upto(known, m, c, set, left);
         if end == c || greatest_distance(self.profile, known) > self.most {
             return c;
         }

@@ -4,7 +4,7 @@ use Rattle.std.specs.Prelude.{nat_lt, nat_le}
 use Rattle.std.proofs.lemmas.List.{append_assoc, append-nil}
 use Rattle.std.proofs.lemmas.Bool.{lt-ltb}
 use Rattle.std.proofs.lemmas.List.FromFn.{take-map-range_with_len}
-use Rattle.ballot_base.specs.Ballots.{Election, Row, election, has_ballot as has_row, with_votes, voter_count}
+use Rattle.ballot_base.specs.Ballots.{Election, Row, election, has_ballot, with_votes, voter_count}
 use Rattle.ballot_base.specs.Limits.{most_candidates, most_voters}
 use Rattle.preflib_text.specs.Limits.{most_line_bytes, most_categories}
 use Rattle.preflib_text.specs.declared.pick.Kind.{Kind}
@@ -13,14 +13,14 @@ use Rattle.preflib_text.specs.declared.fault.FaultName.{FaultName}
 use Rattle.preflib_text.specs.declared.fault.FaultName.TheVariants.{LongLine, BadNumber, TooManyCandidates, NoAlternatives, NoKind, NoVoters, PickMisfit, TooManyVoters}
 use Rattle.preflib_text.specs.declared.notes.Notes.{Notes}
 use Rattle.preflib_text.specs.Lines.{is_ballot_line, lines_of, pieces_of, without_return}
-use Rattle.preflib_text.specs.Metadata.{Told, TypeIs, AlternativesAre, CategoriesAre, NameIs, Nothing, told_of, written_number}
+use Rattle.preflib_text.specs.Metadata.{Fact, TypeIs, AlternativesAre, CategoriesAre, NameIs, Nothing, told_of, written_number}
 use Rattle.preflib_text.specs.Approvals.{approved}
 use Rattle.preflib_text.specs.Steps.Tokens.{ballot_of}
 use Rattle.preflib_text.specs.Reading.{Cast, or_else, fault_if, told_before, kind_or_usual, is_fitting, ballot_fault, alternatives_in, categories_in, casts_in, rows_in, election_in, line_fault, told_fault, first_fault, first_faulty_line, FaultyLine, faulty_line, fault_of_line, end_fault, at_end, is_name, is_growth, takes_memory, kind_in, at_line, cast_fault, kind_fault, ballot_line_fault, number_fault, kind_or, kind_by}
 use Rattle.preflib_text.specs.Steps.Notes.{Effect, NoEffect, Names, Casts, fresh_notes, first_kind, told_error, told_notes, told_effect, cast_error, kind_error, alternatives_error, ballot_error, cast_effect, line_error, line_notes, line_effect, effect_error, with_effect, end_error, is_empty, effect_takes}
-use Rattle.preflib_text.specs.Steps.After.{IsTold, last_name, last_names, rows_of, has_ballot, IsAfter, IsFine}
+use Rattle.preflib_text.specs.Steps.After.{IsTold, last_name, last_names, cast_rows, has_ballot_line, IsAfter, IsFine}
 use Rattle.preflib_text.proofs.ToldSteps.{told-step, told_before-kept, told_before-more}
-use Rattle.preflib_text.proofs.ProfileSteps.{last_names-told, last_names-kept, name_value-other, casts_in-other, casts_in-ballot, casts_in-none, votes_in-ballot, rows_of-push, with_votes-some, length-with_votes, voters-more}
+use Rattle.preflib_text.proofs.ProfileSteps.{last_names-told, last_names-kept, name_value-other, casts_in-other, casts_in-ballot, casts_in-none, votes_in-ballot, cast_rows-push, with_votes-some, length-with_votes, voters-more}
 
 -- ---- before the first line
 
@@ -70,14 +70,14 @@ ballot_error-is pick before line notes e is = by notes.alternatives ∙ ap (ball
     by None = refl
     by (Some m) = kind_error-is pick before line m notes e notes.kind is ∙ ap (kind_fault pick ballot_of before m line) is.told.kind
 
-told_error-is : (pick : Pick) (before : List (List ℕ)) (notes : Notes) (e : Election) (told : Told) → IsAfter pick before notes e → told_error notes told ≡ told_fault before told
+told_error-is : (pick : Pick) (before : List (List ℕ)) (notes : Notes) (e : Election) (told : Fact) → IsAfter pick before notes e → told_error notes told ≡ told_fault before told
 told_error-is pick before notes e (TypeIs value) is = refl
 told_error-is pick before notes e (AlternativesAre value) is = ap (λ o. number_fault (Some TooManyCandidates) most_candidates o (written_number value)) is.told.alternatives
 told_error-is pick before notes e (CategoriesAre value) is = ap (λ o. number_fault (Some BadNumber) most_categories o (written_number value)) is.told.categories
 told_error-is pick before notes e (NameIs n value) is = refl
 told_error-is pick before notes e Nothing is = refl
 
-pub told_effect-fine : (e : Election) (told : Told) → effect_error e (told_effect told) ≡ None
+pub told_effect-fine : (e : Election) (told : Fact) → effect_error e (told_effect told) ≡ None
 told_effect-fine e (TypeIs value) = refl
 told_effect-fine e (AlternativesAre value) = refl
 told_effect-fine e (CategoriesAre value) = refl
@@ -105,30 +105,30 @@ line_error-is pick before line notes e is =
     by false = other notes.has_ballot
 
     by_ballots : cond (is_ballot_line line) (ballot_line_fault pick ballot_of before line (alternatives_in before)) (cond notes.has_ballot None (told_fault before (told_of line)))
-        ≡ cond (is_ballot_line line) (ballot_line_fault pick ballot_of before line (alternatives_in before)) (cond (has_ballot before) None (told_fault before (told_of line)))
+        ≡ cond (is_ballot_line line) (ballot_line_fault pick ballot_of before line (alternatives_in before)) (cond (has_ballot_line before) None (told_fault before (told_of line)))
     by_ballots = ap (λ t. cond (is_ballot_line line) (ballot_line_fault pick ballot_of before line (alternatives_in before)) (cond t None (told_fault before (told_of line)))) is.ballots
 
 -- ---- a line more
 
 -- whether a ballot is among them then
-has_ballot-more : (before : List (List ℕ)) (line : List ℕ) → has_ballot (before ++ line ∷ []) ≡ (has_ballot before || is_ballot_line line)
-has_ballot-more [] line = or_false (is_ballot_line line)
+has_ballot_line-more : (before : List (List ℕ)) (line : List ℕ) → has_ballot_line (before ++ line ∷ []) ≡ (has_ballot_line before || is_ballot_line line)
+has_ballot_line-more [] line = or_false (is_ballot_line line)
   where
     or_false : (t : Bool) → (t || false) ≡ t
     or_false true = refl
     or_false false = refl
-has_ballot-more (first ∷ before) line = ap (λ t. is_ballot_line first || t) (has_ballot-more before line) ∙ by (is_ballot_line first)
+has_ballot_line-more (first ∷ before) line = ap (λ t. is_ballot_line first || t) (has_ballot_line-more before line) ∙ by (is_ballot_line first)
   where
-    by : (t : Bool) → (t || (has_ballot before || is_ballot_line line)) ≡ ((t || has_ballot before) || is_ballot_line line)
+    by : (t : Bool) → (t || (has_ballot_line before || is_ballot_line line)) ≡ ((t || has_ballot_line before) || is_ballot_line line)
     by true = refl
     by false = refl
 
 -- the notes with a ballot are otherwise the same
-told-ballot : (pick : Pick) (tolds : List Told) (notes : Notes) → IsTold pick tolds notes → IsTold pick tolds (record notes { has_ballot = true })
+told-ballot : (pick : Pick) (tolds : List Fact) (notes : Notes) → IsTold pick tolds notes → IsTold pick tolds (record notes { has_ballot = true })
 told-ballot pick tolds notes is = record { alternatives = is.alternatives; categories = is.categories; kind = is.kind; no_alternatives = is.no_alternatives; no_categories = is.no_categories; sound = is.sound }
 
 -- the names that a line before the first ballot leaves
-names_told : (tolds : List Told) (told : Told) → with_effect (election most_candidates (last_names tolds most_candidates) []) (told_effect told) ≡ election most_candidates (last_names (tolds ++ told ∷ []) most_candidates) []
+names_told : (tolds : List Fact) (told : Fact) → with_effect (election most_candidates (last_names tolds most_candidates) []) (told_effect told) ≡ election most_candidates (last_names (tolds ++ told ∷ []) most_candidates) []
 names_told tolds (TypeIs value) = ap (λ l. election most_candidates l []) (last_names-kept tolds (TypeIs value) most_candidates (λ k low high. refl))
 names_told tolds (AlternativesAre value) = ap (λ l. election most_candidates l []) (last_names-kept tolds (AlternativesAre value) most_candidates (λ k low high. refl))
 names_told tolds (CategoriesAre value) = ap (λ l. election most_candidates l []) (last_names-kept tolds (CategoriesAre value) most_candidates (λ k low high. refl))
@@ -140,14 +140,14 @@ names_told tolds (NameIs n value) = by (nat_le 1 n && nat_le n most_candidates) 
     by false e = ap (λ l. election most_candidates l []) (last_names-kept tolds (NameIs n value) most_candidates (λ k low high. name_value-other n k value (λ same. absurd (grind arith))))
 
 -- what is told leaves the ballots
-told_notes-ballots : (pick : Pick) (notes : Notes) (told : Told) → (told_notes pick notes told).has_ballot ≡ notes.has_ballot
+told_notes-ballots : (pick : Pick) (notes : Notes) (told : Fact) → (told_notes pick notes told).has_ballot ≡ notes.has_ballot
 told_notes-ballots pick notes (TypeIs value) = refl
 told_notes-ballots pick notes (AlternativesAre value) = refl
 told_notes-ballots pick notes (CategoriesAre value) = refl
 told_notes-ballots pick notes (NameIs n value) = refl
 told_notes-ballots pick notes Nothing = refl
 
-told_effect-rows : (e : Election) (told : Told) → (with_effect e (told_effect told)).rows ≡ e.rows
+told_effect-rows : (e : Election) (told : Fact) → (with_effect e (told_effect told)).rows ≡ e.rows
 told_effect-rows e (TypeIs value) = refl
 told_effect-rows e (AlternativesAre value) = refl
 told_effect-rows e (CategoriesAre value) = refl
@@ -162,10 +162,10 @@ told_effect-rows e (NameIs n value) = by (nat_le 1 n && nat_le n most_candidates
 after-told : (pick : Pick) (before : List (List ℕ)) (line : List ℕ) (notes : Notes) (e : Election) → IsAfter pick before notes e → notes.has_ballot ≡ false → is_ballot_line line ≡ false
     → told_error notes (told_of line) ≡ None → IsAfter pick (before ++ line ∷ []) (told_notes pick notes (told_of line)) (with_effect e (told_effect (told_of line)))
 after-told pick before line notes e is none other fine =
-    let no_ballot : has_ballot before ≡ false = sym is.ballots ∙ none in
+    let no_ballot : has_ballot_line before ≡ false = sym is.ballots ∙ none in
     let tolds : told_before before ++ told_of line ∷ [] ≡ told_before (before ++ line ∷ []) = sym (told_before-more before line no_ballot other) in
     let still : (told_notes pick notes (told_of line)).has_ballot ≡ false = told_notes-ballots pick notes (told_of line) ∙ none in
-    let none_yet : has_ballot (before ++ line ∷ []) ≡ false = has_ballot-more before line ∙ ap (λ t. t || is_ballot_line line) no_ballot ∙ other in
+    let none_yet : has_ballot_line (before ++ line ∷ []) ≡ false = has_ballot_line-more before line ∙ ap (λ t. t || is_ballot_line line) no_ballot ∙ other in
     record {
       told = subst (λ t. IsTold pick t (told_notes pick notes (told_of line))) tolds (told-step pick (told_before before) notes (told_of line) is.told fine);
       ballots = still ∙ sym none_yet;
@@ -181,20 +181,20 @@ after-told pick before line notes e is none other fine =
 after-skipped : (pick : Pick) (before : List (List ℕ)) (line : List ℕ) (notes : Notes) (e : Election) → IsAfter pick before notes e → notes.has_ballot ≡ true → is_ballot_line line ≡ false
     → IsAfter pick (before ++ line ∷ []) notes e
 after-skipped pick before line notes e is some other =
-    let ballot : has_ballot before ≡ true = sym is.ballots ∙ some in
-    let more : (has_ballot before || is_ballot_line line) ≡ true = ap (λ t. t || is_ballot_line line) ballot in
+    let ballot : has_ballot_line before ≡ true = sym is.ballots ∙ some in
+    let more : (has_ballot_line before || is_ballot_line line) ≡ true = ap (λ t. t || is_ballot_line line) ballot in
     let tolds : told_before before ≡ told_before (before ++ line ∷ []) = sym (told_before-kept before line more) in
     let casts : casts_in pick ballot_of before ≡ casts_in pick ballot_of (before ++ line ∷ []) = sym (casts_in-other pick ballot_of before line other) in
     let (m, alternatives, profile, rows) = is.begun some in
     record {
       told = subst (λ t. IsTold pick t notes) tolds is.told;
-      ballots = some ∙ sym (has_ballot-more before line ∙ more);
+      ballots = some ∙ sym (has_ballot_line-more before line ∙ more);
       opened = λ h. false_true some h;
       begun = λ h. (
         m,
         alternatives,
-        profile ∙ ap (λ t. election m (last_names t m) (rows_of (kind_or_usual notes.kind) pick.way (casts_in pick ballot_of before))) tolds
-            ∙ ap (λ c. election m (last_names (told_before (before ++ line ∷ [])) m) (rows_of (kind_or_usual notes.kind) pick.way c)) casts,
+        profile ∙ ap (λ t. election m (last_names t m) (cast_rows (kind_or_usual notes.kind) pick.way (casts_in pick ballot_of before))) tolds
+            ∙ ap (λ c. election m (last_names (told_before (before ++ line ∷ [])) m) (cast_rows (kind_or_usual notes.kind) pick.way c)) casts,
         rows,
       );
       votes = is.votes ∙ ap (λ c. sum_by (λ (x : Cast). x.count) c) casts;
@@ -231,19 +231,19 @@ cast_effect-is pick line notes cast is = ap (cast_effect pick notes) is
 after-first : (pick : Pick) (before : List (List ℕ)) (line : List ℕ) (notes : Notes) (e : Election) → IsAfter pick before notes e → notes.has_ballot ≡ false → is_ballot_line line ≡ true → IsCast pick before line notes
     → IsAfter pick (before ++ line ∷ []) (record notes { has_ballot = true }) (with_effect e (cast_effect pick notes (ballot_of line)))
 after-first pick before line notes e is none ballot (m, kind, cast, alternatives, known, read, fine) =
-    let no_ballot : has_ballot before ≡ false = sym is.ballots ∙ none in
-    let more : (has_ballot before || is_ballot_line line) ≡ true = ap (λ t. t || is_ballot_line line) no_ballot ∙ ballot in
+    let no_ballot : has_ballot_line before ≡ false = sym is.ballots ∙ none in
+    let more : (has_ballot_line before || is_ballot_line line) ≡ true = ap (λ t. t || is_ballot_line line) no_ballot ∙ ballot in
     let tolds : told_before before ≡ told_before (before ++ line ∷ []) = sym (told_before-kept before line more) in
     let noted = kind_or_usual notes.kind in
     let casts : casts_in pick ballot_of (before ++ line ∷ []) ≡ cast ∷ [] = casts_in-ballot pick ballot_of before line cast ballot read ∙ ap (λ c. c ++ cast ∷ []) (casts_in-none pick ballot_of before no_ballot) in
-    let rows : with_votes [] (approved noted pick.way cast.classes) cast.count ≡ rows_of noted pick.way (casts_in pick ballot_of (before ++ line ∷ [])) = sym (ap (rows_of noted pick.way) casts) in
+    let rows : with_votes [] (approved noted pick.way cast.classes) cast.count ≡ cast_rows noted pick.way (casts_in pick ballot_of (before ++ line ∷ [])) = sym (ap (cast_rows noted pick.way) casts) in
     let effect : with_effect e (cast_effect pick notes (ballot_of line)) ≡ election m (last_names (told_before before) m) (with_votes [] (approved noted pick.way cast.classes) cast.count) =
     ap (with_effect e) (cast_effect-is pick line notes cast read ∙ ap (λ t. Casts (cond t None notes.alternatives) (approved noted pick.way cast.classes) cast.count) none ∙ ap (λ o. Casts o (approved noted pick.way cast.classes) cast.count) alternatives)
     ∙ ap (λ f. election m (take m f.names) (with_votes [] (approved noted pick.way cast.classes) cast.count)) (is.opened none)
     ∙ ap (λ l. election m l (with_votes [] (approved noted pick.way cast.classes) cast.count)) (take-map-range_with_len (last_name (told_before before)) 1 most_candidates m (most m alternatives)) in
     record {
       told = subst (λ t. IsTold pick t (record notes { has_ballot = true })) tolds (told-ballot pick (told_before before) notes is.told);
-      ballots = sym (has_ballot-more before line ∙ more);
+      ballots = sym (has_ballot_line-more before line ∙ more);
       opened = λ h. absurd (cc);
       begun = λ h. (
         m,
@@ -262,23 +262,23 @@ after-ballot : (pick : Pick) (before : List (List ℕ)) (line : List ℕ) (notes
     → IsAfter pick (before ++ line ∷ []) (record notes { has_ballot = true }) (with_effect e (cast_effect pick notes (ballot_of line)))
 after-ballot pick before line notes e is some ballot (m, kind, cast, alternatives, known, read, fine) =
     let (count, number, profile, rows) = is.begun some in
-    let more : (has_ballot before || is_ballot_line line) ≡ true = ap (λ t. t || is_ballot_line line) (sym is.ballots ∙ some) in
+    let more : (has_ballot_line before || is_ballot_line line) ≡ true = ap (λ t. t || is_ballot_line line) (sym is.ballots ∙ some) in
     let tolds : told_before before ≡ told_before (before ++ line ∷ []) = sym (told_before-kept before line more) in
     let noted = kind_or_usual notes.kind in
     let casts : casts_in pick ballot_of (before ++ line ∷ []) ≡ casts_in pick ballot_of before ++ cast ∷ [] = casts_in-ballot pick ballot_of before line cast ballot read in
-    let pushed : with_votes (rows_of noted pick.way (casts_in pick ballot_of before)) (approved noted pick.way cast.classes) cast.count ≡ rows_of noted pick.way (casts_in pick ballot_of (before ++ line ∷ [])) =
-    sym (rows_of-push noted pick.way (casts_in pick ballot_of before) cast) ∙ ap (rows_of noted pick.way) (sym casts) in
+    let pushed : with_votes (cast_rows noted pick.way (casts_in pick ballot_of before)) (approved noted pick.way cast.classes) cast.count ≡ cast_rows noted pick.way (casts_in pick ballot_of (before ++ line ∷ [])) =
+    sym (cast_rows-push noted pick.way (casts_in pick ballot_of before) cast) ∙ ap (cast_rows noted pick.way) (sym casts) in
     let effect : with_effect e (cast_effect pick notes (ballot_of line)) ≡ record e { rows = with_votes e.rows (approved noted pick.way cast.classes) cast.count } =
     ap (with_effect e) (cast_effect-is pick line notes cast read ∙ ap (λ t. Casts (cond t None notes.alternatives) (approved noted pick.way cast.classes) cast.count) some) in
     record {
       told = subst (λ t. IsTold pick t (record notes { has_ballot = true })) tolds (told-ballot pick (told_before before) notes is.told);
-      ballots = sym (has_ballot-more before line ∙ more);
+      ballots = sym (has_ballot_line-more before line ∙ more);
       opened = λ h. absurd (cc);
       begun = λ h. (
         count,
         number,
         effect ∙ ap (λ (f : Election). record f { rows = with_votes f.rows (approved noted pick.way cast.classes) cast.count }) profile
-            ∙ ap (λ t. election count (last_names t count) (with_votes (rows_of noted pick.way (casts_in pick ballot_of before)) (approved noted pick.way cast.classes) cast.count)) tolds
+            ∙ ap (λ t. election count (last_names t count) (with_votes (cast_rows noted pick.way (casts_in pick ballot_of before)) (approved noted pick.way cast.classes) cast.count)) tolds
             ∙ ap (election count (last_names (told_before (before ++ line ∷ [])) count)) pushed,
         λ empty. with_votes-some e.rows (approved noted pick.way cast.classes) cast.count (sym (ap (λ (f : Election). f.rows) effect) ∙ empty),
       );
@@ -301,10 +301,10 @@ rows_are pick before notes e is = by notes.has_ballot refl
     by : (t : Bool) → notes.has_ballot ≡ t → e.rows ≡ rows_in pick ballot_of before
     by true h =
         let (m, number, profile, rows) = is.begun h in
-        ap (λ (f : Election). f.rows) profile ∙ ap (λ k. rows_of (kind_or_usual k) pick.way (casts_in pick ballot_of before)) is.told.kind
+        ap (λ (f : Election). f.rows) profile ∙ ap (λ k. cast_rows (kind_or_usual k) pick.way (casts_in pick ballot_of before)) is.told.kind
     by false h =
         ap (λ (f : Election). f.rows) (is.opened h)
-        ∙ sym (ap (rows_of (kind_or_usual (kind_in pick before)) pick.way) (casts_in-none pick ballot_of before (sym is.ballots ∙ h)))
+        ∙ sym (ap (cast_rows (kind_or_usual (kind_in pick before)) pick.way) (casts_in-none pick ballot_of before (sym is.ballots ∙ h)))
 
 -- a line without a fault
 pub after-line : (pick : Pick) (before : List (List ℕ)) (line : List ℕ) (notes : Notes) (e : Election) → IsAfter pick before notes e → line_error pick notes line ≡ None
@@ -329,7 +329,7 @@ or_first true b h = refl
 or_first false b h = absurd (cc)
 
 -- a name of a candidate
-takes_name : (e : Election) (told : Told) → effect_takes e (told_effect told) ≡ true → is_name told ≡ true
+takes_name : (e : Election) (told : Fact) → effect_takes e (told_effect told) ≡ true → is_name told ≡ true
 takes_name e (TypeIs value) h = absurd (cc)
 takes_name e (AlternativesAre value) h = absurd (cc)
 takes_name e (CategoriesAre value) h = absurd (cc)
@@ -347,7 +347,7 @@ not_true false h = refl
 -- a ballot that makes a new row
 takes_row : (e : Election) (has : Bool) (alternatives : Option ℕ) (m : ℕ) (set : List ℕ) (count : ℕ) → alternatives ≡ Some m → (has ≡ false → e.rows ≡ [])
     → effect_takes e (Casts (cond has None alternatives) set count) ≡ true → length e.rows < length (with_effect e (Casts (cond has None alternatives) set count)).rows
-takes_row e true alternatives m set count is empty h = length-with_votes e.rows set count (not_true (has_row e.rows set) h)
+takes_row e true alternatives m set count is empty h = length-with_votes e.rows set count (not_true (has_ballot e.rows set) h)
 takes_row e false None m set count is empty h = absurd (cc)
 takes_row e false (Some k) m set count is empty h = omega (arith, ap length (empty refl))
 
@@ -358,7 +358,7 @@ is_growth-is pick before line notes e is fine takes =
     by (is_ballot_line line) notes.has_ballot refl refl (or_else-second (fault_if (nat_lt most_line_bytes (length line)) LongLine) _ fine) takes
   where
     name : Bool
-    name = not (has_ballot before) && is_name (told_of line)
+    name = not (has_ballot_line before) && is_name (told_of line)
 
     row : Bool
     row = nat_lt (length (rows_in pick ballot_of before)) (length (rows_in pick ballot_of (before ++ line ∷ [])))
@@ -404,7 +404,7 @@ end_error-is pick lines notes e is =
     some [] h = absurd (h refl)
     some (row ∷ rows) h = refl
 
-    by : (t : Bool) → notes.has_ballot ≡ t → is_empty e.rows ≡ not (has_ballot lines)
+    by : (t : Bool) → notes.has_ballot ≡ t → is_empty e.rows ≡ not (has_ballot_line lines)
     by true h = some e.rows ((is.begun h).3) ∙ sym (ap not (sym is.ballots ∙ h))
     by false h = none e.rows (ap (λ (f : Election). f.rows) (is.opened h)) ∙ sym (ap not (sym is.ballots ∙ h))
 
@@ -415,7 +415,7 @@ election_in-is pick lines notes e is fine = by notes.has_ballot refl
     by : (t : Bool) → notes.has_ballot ≡ t → e ≡ election_in pick ballot_of lines
     by true h =
         let (m, number, profile, rows) = is.begun h in
-        profile ∙ ap (λ k. election m (last_names (told_before lines) m) (rows_of (kind_or_usual k) pick.way (casts_in pick ballot_of lines))) is.told.kind
+        profile ∙ ap (λ k. election m (last_names (told_before lines) m) (cast_rows (kind_or_usual k) pick.way (casts_in pick ballot_of lines))) is.told.kind
         ∙ ap (λ n. election n (last_names (told_before lines) n) (rows_in pick ballot_of lines)) (ap (λ o. unwrap_or o 0) (sym number ∙ is.told.alternatives))
     by false h =
         let empty : e.rows ≡ [] = ap (λ (f : Election). f.rows) (is.opened h) in

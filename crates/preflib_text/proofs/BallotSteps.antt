@@ -15,7 +15,7 @@ use Rattle.preflib_text.specs.declared.ballot.OrderPlace.{OrderPlace}
 use Rattle.preflib_text.specs.declared.ballot.OrderPlace.TheVariants.{Order, Class, Between, Opened, Inner, Listed}
 use Rattle.preflib_text.specs.Lines.{onto_first}
 use Rattle.preflib_text.specs.Reading.{or_else}
-use Rattle.preflib_text.specs.Steps.Tokens.{capped, capped_token, tokens_of, IsFirstToken, IsListed, next_place, is_end, order_at}
+use Rattle.preflib_text.specs.Steps.Tokens.{capped, capped_token, tokens_of, IsFirstToken, IsListedNumber, next_place, is_end, order_at}
 use Rattle.preflib_text.specs.Steps.Marks.{wrong_with, takes, is_past, with_new, with_number, with_end, with_classes, with_read, marks_at, IsReadOn}
 use Rattle.preflib_text.proofs.BallotRead.{some, map_some}
 
@@ -178,7 +178,7 @@ module _ (m : ℕ) (way : Taking) where
   marks_last Listed text marks e = rw e refl
 
   -- a number with a comma right after it
-  pub listed_more : (place next : OrderPlace) (n : ℕ) (text rest : List ℕ) (marks : Marks) → m ≤ most_candidates → IsListed text n rest → option_and_then (λ at. next_place at Comma) (next_place place (Number n)) ≡ Some next → marked (with_read m way place (Number n) marks) (order_at next (tokens_of rest)) ≡ marked marks (order_at place (tokens_of text))
+  pub listed_more : (place next : OrderPlace) (n : ℕ) (text rest : List ℕ) (marks : Marks) → m ≤ most_candidates → IsListedNumber text n rest → option_and_then (λ at. next_place at Comma) (next_place place (Number n)) ≡ Some next → marked (with_read m way place (Number n) marks) (order_at next (tokens_of rest)) ≡ marked marks (order_at place (tokens_of text))
   listed_more Order next n text rest marks h l e = marks_more Between next Comma (44 ∷ rest) rest (with_read m way Order (Number n) marks) h l.1 e ∙ marks_more Order Between (Number n) text (44 ∷ rest) marks h l.0 refl
   listed_more Class next n text rest marks h l e = marks_more Between next Comma (44 ∷ rest) rest (with_read m way Class (Number n) marks) h l.1 e ∙ marks_more Class Between (Number n) text (44 ∷ rest) marks h l.0 refl
   listed_more Opened next n text rest marks h l e = marks_more Listed next Comma (44 ∷ rest) rest (with_read m way Opened (Number n) marks) h l.1 e ∙ marks_more Opened Listed (Number n) text (44 ∷ rest) marks h l.0 refl
@@ -186,7 +186,7 @@ module _ (m : ℕ) (way : Taking) where
   listed_more Between next n text rest marks h l e = absurd (cc)
   listed_more Listed next n text rest marks h l e = absurd (cc)
 
-  pub listed_fail : (place : OrderPlace) (n : ℕ) (text rest : List ℕ) (marks : Marks) → IsListed text n rest → option_and_then (λ at. next_place at Comma) (next_place place (Number n)) ≡ None → marked marks (order_at place (tokens_of text)) ≡ None
+  pub listed_fail : (place : OrderPlace) (n : ℕ) (text rest : List ℕ) (marks : Marks) → IsListedNumber text n rest → option_and_then (λ at. next_place at Comma) (next_place place (Number n)) ≡ None → marked marks (order_at place (tokens_of text)) ≡ None
   listed_fail Between n text rest marks l e = marks_fail Between (Number n) text (44 ∷ rest) marks l.0 refl
   listed_fail Listed n text rest marks l e = marks_fail Listed (Number n) text (44 ∷ rest) marks l.0 refl
   listed_fail Order n text rest marks l e = absurd (cc)
@@ -244,7 +244,7 @@ module _ (m : ℕ) (way : Taking) where
         numbers = omega (arith, more.numbers, ap (λ (x : Marks). x.before + x.numbers) is, first.3);
       }
 
-  pub listed_read : (place next : OrderPlace) (n : ℕ) (text rest : List ℕ) (marks after : Marks) → m ≤ most_candidates → IsListed text n rest → option_and_then (λ at. next_place at Comma) (next_place place (Number n)) ≡ Some next → after ≡ with_read m way place (Number n) marks → IsReadOn m way place text marks next rest after
+  pub listed_read : (place next : OrderPlace) (n : ℕ) (text rest : List ℕ) (marks after : Marks) → m ≤ most_candidates → IsListedNumber text n rest → option_and_then (λ at. next_place at Comma) (next_place place (Number n)) ≡ Some next → after ≡ with_read m way place (Number n) marks → IsReadOn m way place text marks next rest after
   listed_read place next n text rest marks after h listed to is =
       let more = counts_read place (Number n) marks in record {
         same = ap (λ (x : Marks). marks_at m way next rest x) is ∙ listed_more place next n text rest marks h listed to;

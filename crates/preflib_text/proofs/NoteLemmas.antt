@@ -10,7 +10,7 @@ use Rattle.preflib_text.specs.declared.fault.FaultName.TheVariants.{LongLine, Ba
 use Rattle.preflib_text.specs.declared.notes.Notes.{Notes}
 use Rattle.preflib_text.specs.declared.notes.Effect as rust
 use Rattle.preflib_text.specs.Lines.{is_ballot_line, pieces_of, without_return}
-use Rattle.preflib_text.specs.Metadata.{Told, TypeIs, AlternativesAre, CategoriesAre, NameIs, Nothing, told_of}
+use Rattle.preflib_text.specs.Metadata.{Fact, TypeIs, AlternativesAre, CategoriesAre, NameIs, Nothing, told_of}
 use Rattle.preflib_text.specs.Steps.Tokens.{capped}
 use Rattle.preflib_text.specs.Steps.Tells.{capped_told}
 use Rattle.preflib_text.specs.Reading.{Cast, or_else, fault_if, is_fitting, ballot_fault, kind_or_usual}
@@ -24,14 +24,14 @@ use Rattle.preflib_text.specs.Steps.Notes.{Effect, Names, NoEffect, Casts, cast_
 
 -- ---- numbers above 2^32 are all alike
 
-pub told_error-capped : (notes : Notes) (told : Told) → told_error notes (capped_told told) ≡ told_error notes told
+pub told_error-capped : (notes : Notes) (told : Fact) → told_error notes (capped_told told) ≡ told_error notes told
 told_error-capped notes (TypeIs value) = refl
 told_error-capped notes (AlternativesAre value) = refl
 told_error-capped notes (CategoriesAre value) = refl
 told_error-capped notes (NameIs n value) = refl
 told_error-capped notes Nothing = refl
 
-pub told_notes-capped : (pick : Pick) (notes : Notes) (told : Told) → told_notes pick notes (capped_told told) ≡ told_notes pick notes told
+pub told_notes-capped : (pick : Pick) (notes : Notes) (told : Fact) → told_notes pick notes (capped_told told) ≡ told_notes pick notes told
 told_notes-capped pick notes (TypeIs value) = refl
 told_notes-capped pick notes (AlternativesAre value) = refl
 told_notes-capped pick notes (CategoriesAre value) = refl
@@ -48,7 +48,7 @@ capped_name n value same test = ap (λ t. cond t (Names (capped n) value) NoEffe
     by true e = ap (λ k. Names k value) (same (within e))
     by false e = refl
 
-pub told_effect-capped : (told : Told) → told_effect (capped_told told) ≡ told_effect told
+pub told_effect-capped : (told : Fact) → told_effect (capped_told told) ≡ told_effect told
 told_effect-capped (TypeIs value) = refl
 told_effect-capped (AlternativesAre value) = refl
 told_effect-capped (CategoriesAre value) = refl
@@ -57,7 +57,7 @@ told_effect-capped Nothing = refl
 
 -- ---- a metadata line before the first ballot
 
-pub metadata_line : (pick : Pick) (notes after : Notes) (line : List ℕ) (told : Told) (r : Result rust.Effect FaultName)
+pub metadata_line : (pick : Pick) (notes after : Notes) (line : List ℕ) (told : Fact) (r : Result rust.Effect FaultName)
     → told ≡ capped_told (told_of line) → nat_lt most_line_bytes (length line) ≡ false → is_ballot_line line ≡ false → notes.has_ballot ≡ false
     → MatchResult r (λ step. (told_error notes told ≡ None) × (after ≡ told_notes pick notes told) × (effect_of step ≡ told_effect told)) (λ name. told_error notes told ≡ Some name)
     → MatchResult r (λ step. (line_error pick notes line ≡ None) × (after ≡ line_notes pick notes line) × (effect_of step ≡ line_effect pick notes line)) (λ name. line_error pick notes line ≡ Some name)

@@ -12,10 +12,10 @@ use Rattle.preflib_text.specs.declared.pick.Kind.{Kind}
 use Rattle.preflib_text.specs.declared.pick.Pick.{Pick}
 use Rattle.preflib_text.specs.declared.pick.Way.{Way}
 use Rattle.preflib_text.specs.Lines.{is_ballot_line}
-use Rattle.preflib_text.specs.Metadata.{Told, NameIs}
+use Rattle.preflib_text.specs.Metadata.{Fact, NameIs}
 use Rattle.preflib_text.specs.Approvals.{approved}
 use Rattle.preflib_text.specs.Reading.{Cast, last_of, name_value, casts_in, votes_in}
-use Rattle.preflib_text.specs.Steps.After.{last_name, last_names, rows_of}
+use Rattle.preflib_text.specs.Steps.After.{last_name, last_names, cast_rows}
 
 -- ---- names
 
@@ -38,19 +38,19 @@ map-range-set f g first (suc count) (suc at) value within is other =
     ap (λ x. x ∷ slice_set (map f (range_with_len (first + 1) count)) at value) (other first (λ e. absurd (omega arith)))
     ∙ ap (λ l. g first ∷ l) (map-range-set f g (first + 1) count at value (omega arith) (sym (ap g place) ∙ is) (λ k h. other k (λ e. h (e ∙ place))))
 
-last_name-told : (tolds : List Told) (n : ℕ) (value : List ℕ) → last_name (tolds ++ NameIs n value ∷ []) n ≡ value
+last_name-told : (tolds : List Fact) (n : ℕ) (value : List ℕ) → last_name (tolds ++ NameIs n value ∷ []) n ≡ value
 last_name-told tolds n value =
     ap (λ l. unwrap_or (last_of l) []) (filter_map-append (name_value n) tolds (NameIs n value ∷ []) ∙ ap (λ t. filter_map (name_value n) tolds ++ cons_option (cond t (Some value) None) []) (eq-eqb n n refl))
     ∙ ap (λ l. unwrap_or (slice_get l 0) []) (reverse-append (filter_map (name_value n) tolds) (value ∷ []))
 
-last_name-other : (tolds : List Told) (told : Told) (n : ℕ) → name_value n told ≡ None → last_name tolds n ≡ last_name (tolds ++ told ∷ []) n
+last_name-other : (tolds : List Fact) (told : Fact) (n : ℕ) → name_value n told ≡ None → last_name tolds n ≡ last_name (tolds ++ told ∷ []) n
 last_name-other tolds told n none = sym (ap (λ l. unwrap_or (last_of l) []) (filter_map-append (name_value n) tolds (told ∷ []) ∙ ap (λ o. filter_map (name_value n) tolds ++ cons_option o []) none ∙ append-nil (filter_map (name_value n) tolds)))
 
 pub name_value-other : (n k : ℕ) (value : List ℕ) → k ≢ n → name_value k (NameIs n value) ≡ None
 name_value-other n k value other = ap (λ t. cond t (Some value) None) (ne_eqb n k (λ e. other (sym e)))
 
 -- a name is told
-pub last_names-told : (tolds : List Told) (n count : ℕ) (value : List ℕ) → 1 ≤ n → n ≤ count → slice_set (last_names tolds count) (n - 1) value ≡ last_names (tolds ++ NameIs n value ∷ []) count
+pub last_names-told : (tolds : List Fact) (n count : ℕ) (value : List ℕ) → 1 ≤ n → n ≤ count → slice_set (last_names tolds count) (n - 1) value ≡ last_names (tolds ++ NameIs n value ∷ []) count
 last_names-told tolds n count value low high =
     let place : 1 + (n - 1) ≡ n = omega arith in
     map-range-set (last_name tolds) (last_name (tolds ++ NameIs n value ∷ [])) 1 count (n - 1) value (omega arith)
@@ -58,7 +58,7 @@ last_names-told tolds n count value low high =
     (λ k other. last_name-other tolds (NameIs n value) k (name_value-other n k value (λ e. other (e ∙ sym place))))
 
 -- no candidate's name is told
-pub last_names-kept : (tolds : List Told) (told : Told) (count : ℕ) → ((k : ℕ) → 1 ≤ k → k ≤ count → name_value k told ≡ None) → last_names tolds count ≡ last_names (tolds ++ told ∷ []) count
+pub last_names-kept : (tolds : List Fact) (told : Fact) (count : ℕ) → ((k : ℕ) → 1 ≤ k → k ≤ count → name_value k told ≡ None) → last_names tolds count ≡ last_names (tolds ++ told ∷ []) count
 last_names-kept tolds told count none = map-range-same (last_name tolds) (last_name (tolds ++ told ∷ [])) 1 count (λ k low high. last_name-other tolds told k (none k low (omega arith)))
 
 -- ---- ballots
@@ -89,8 +89,8 @@ module _ (pick : Pick) (read : List ℕ → Option Cast) where
       let one : 0 + cast.count ≡ cast.count = omega arith in
       ap (sum_by (λ (c : Cast). c.count)) (casts_in-ballot before line cast is read_is) ∙ sum_by-append (λ (c : Cast). c.count) (casts_in pick read before) (cast ∷ []) ∙ ap (λ n. votes_in pick read before + n) one
 
-pub rows_of-push : (kind : Kind) (way : Way) (casts : List Cast) (cast : Cast) → rows_of kind way (casts ++ cast ∷ []) ≡ with_votes (rows_of kind way casts) (approved kind way cast.classes) cast.count
-rows_of-push kind way casts cast = fold-append (λ rows (c : Cast). with_votes rows (approved kind way c.classes) c.count) [] casts (cast ∷ [])
+pub cast_rows-push : (kind : Kind) (way : Way) (casts : List Cast) (cast : Cast) → cast_rows kind way (casts ++ cast ∷ []) ≡ with_votes (cast_rows kind way casts) (approved kind way cast.classes) cast.count
+cast_rows-push kind way casts cast = fold-append (λ rows (c : Cast). with_votes rows (approved kind way c.classes) c.count) [] casts (cast ∷ [])
 
 pub with_votes-some : (rows : List Row) (ballot : List ℕ) (count : ℕ) → with_votes rows ballot count ≢ []
 with_votes-some [] ballot count none = absurd (cc)

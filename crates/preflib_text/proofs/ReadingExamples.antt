@@ -8,16 +8,16 @@ use Rattle.preflib_text.specs.declared.pick.Way.TheVariants.{Usual, Category, Se
 use Rattle.preflib_text.specs.declared.pick.Pick.{Pick}
 use Rattle.preflib_text.specs.declared.fault.FaultName.TheVariants.{BadNumber, TooManyCandidates, ConflictingKey, NoAlternatives, NoKind, BadKind, BadBallot, NoVoters, TooManyVoters, PickMisfit, Memory, Incomplete, NoSuchCandidate}
 use Rattle.preflib_text.specs.declared.lines.Sort.TheVariants.{Blank, Metadata, Ballot}
-use Rattle.preflib_text.specs.declared.metadata.Told.TheVariants as told
+use Rattle.preflib_text.specs.declared.metadata.Fact.TheVariants as told
 use Rattle.preflib_text.specs.declared.notes.Effect.TheVariants as step
 use Rattle.preflib_text.specs.declared.notes.Notes.{Notes}
 use Rattle.preflib_text.specs.Steps.Tokens.{ballot_of, tokens_after, order_at}
 use Rattle.preflib_text.specs.Lines.{onto_first, pieces_of, without_return, without_mark, lines_of, is_blank, trim_start, is_metadata_line, is_ballot_line}
 use Rattle.preflib_text.specs.Metadata.{trimmed, begins_blank, words_of, key_and_value, same_words, written_number, TypeIs, AlternativesAre, CategoriesAre, NameIs, Nothing, name_told, told_by, told_in, told_of}
-use Rattle.preflib_text.specs.Names.{kind_name, kind_named, way_name, way_named, fault_name, fault_named}
+use Rattle.preflib_text.specs.Names.{kind_name, kind_named, fault_name, fault_named}
 use Rattle.preflib_text.specs.Reading.{told_before, alternatives_value, categories_value, type_value, name_value, last_of, alternatives_in, categories_in, type_in, name_in, number_fault, told_fault, kind_or, kind_by, kind_in, kind_or_usual, is_fitting, outcome_by, at_end, at_line, end_fault, is_name, faulty_line, fault_of_line, first_faulty_line, takes_memory, casts_in, votes_in, cast_fault, kind_fault, ballot_line_fault, line_fault, first_fault, rows_in, election_in, outcome_in, Reads, RunsShort}
 use Rattle.preflib_text.specs.Steps.Tells.{digits_after, words_with, capped_told, meant}
-use Rattle.preflib_text.specs.Steps.Cuts.{Tells}
+use Rattle.preflib_text.specs.Steps.Cuts.{IsSort}
 use Rattle.preflib_text.specs.Steps.Notes.{first_kind, fresh_notes, kind_with, NoEffect, Names, Casts, effect_of, told_error, told_notes, told_effect, cast_error, kind_error, alternatives_error, ballot_error, cast_effect, line_error, line_notes, line_effect, IsSound, effect_error, with_effect, IsProper, MayCome, effect_takes, Refuses, is_empty, end_error}
 use Rattle.preflib_text.proofs.BallotLines.{ballot_of_reads}
 
@@ -70,15 +70,15 @@ ballot : is_ballot_line (codes "1:") ≡ true
 unfolding trim_start
 ballot = refl
 
-blank_line : Tells (codes "  ") Blank
+blank_line : IsSort (codes "  ") Blank
 unfolding trim_start
 blank_line = (refl, refl)
 
-metadata_line : Tells (codes " #") Metadata
+metadata_line : IsSort (codes " #") Metadata
 unfolding trim_start
 metadata_line = (refl, refl)
 
-ballot_line : Tells (codes " x#") Ballot
+ballot_line : IsSort (codes " x#") Ballot
 unfolding trim_start
 ballot_line = (refl, refl)
 
@@ -133,15 +133,6 @@ line_told = refl
 
 a_name_of_a_kind : kind_name Toi ≡ codes "toi"
 a_name_of_a_kind = refl
-
-a_name_of_a_way : way_name (SetSize 3) ≡ Some (codes "setsize")
-a_name_of_a_way = refl
-
-no_name_of_a_way : way_name Usual ≡ None
-no_name_of_a_way = refl
-
-a_way : way_named (codes "category") 2 ≡ Some (Category 2)
-a_way = refl
 
 a_name_of_a_fault : fault_name Incomplete ≡ codes "Incomplete"
 a_name_of_a_fault = refl

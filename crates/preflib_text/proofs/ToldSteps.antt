@@ -12,7 +12,7 @@ use Rattle.preflib_text.specs.declared.fault.FaultName.{FaultName}
 use Rattle.preflib_text.specs.declared.fault.FaultName.TheVariants.{BadNumber, TooManyCandidates, ConflictingKey}
 use Rattle.preflib_text.specs.declared.notes.Notes.{Notes}
 use Rattle.preflib_text.specs.Lines.{is_ballot_line}
-use Rattle.preflib_text.specs.Metadata.{Told, TypeIs, AlternativesAre, CategoriesAre, NameIs, Nothing, told_of, written_number}
+use Rattle.preflib_text.specs.Metadata.{Fact, TypeIs, AlternativesAre, CategoriesAre, NameIs, Nothing, told_of, written_number}
 use Rattle.preflib_text.specs.Reading.{or_else, told_before, alternatives_value, categories_value, type_value, last_of, kind_by, number_fault}
 use Rattle.preflib_text.specs.Steps.Notes.{kind_with, told_error, told_notes}
 use Rattle.preflib_text.specs.Steps.After.{first_number, IsTold}
@@ -56,7 +56,7 @@ told_before-more (first ∷ before) line none other = by (is_ballot_line first) 
 
 -- ---- values when one thing more is told
 
-module _ (h : Told → Option (List ℕ)) (tolds : List Told) (told : Told) where
+module _ (h : Fact → Option (List ℕ)) (tolds : List Fact) (told : Fact) where
   values-kept : h told ≡ None → filter_map h (tolds ++ told ∷ []) ≡ filter_map h tolds
   values-kept none = filter_map-append h tolds (told ∷ []) ∙ ap (λ o. filter_map h tolds ++ cons_option o []) none ∙ append-nil (filter_map h tolds)
 
@@ -82,7 +82,7 @@ number_within name most noted (Some n) fault = by (n == 0) (nat_lt most n) (unwr
     by false false true e f g h = (n, refl, grind arith, grind arith, g)
 
 -- a number is told again, or for the first time
-number-again : (h : Told → Option (List ℕ)) (tolds : List Told) (told : Told) (value : List ℕ) (noted : Option ℕ) (most : ℕ) → h told ≡ Some value
+number-again : (h : Fact → Option (List ℕ)) (tolds : List Fact) (told : Fact) (value : List ℕ) (noted : Option ℕ) (most : ℕ) → h told ≡ Some value
     → noted ≡ first_number h tolds → (noted ≡ None → filter_map h tolds ≡ []) → IsNumberWithin noted most (written_number value) → written_number value ≡ first_number h (tolds ++ told ∷ [])
 number-again h tolds told value noted most is first none (n, is_n, low, high, same) =
     by (filter_map h tolds) refl noted first none same ∙ sym (ap (λ l. option_and_then written_number (slice_get l 0)) (values-more h tolds told value is))
@@ -98,7 +98,7 @@ number-again h tolds told value noted most is first none (n, is_n, low, high, sa
 -- ---- the notes
 
 -- something is told that is neither number nor type
-told-other : (pick : Pick) (tolds : List Told) (notes : Notes) (told : Told) → IsTold pick tolds notes → alternatives_value told ≡ None → categories_value told ≡ None → type_value told ≡ None → IsTold pick (tolds ++ told ∷ []) notes
+told-other : (pick : Pick) (tolds : List Fact) (notes : Notes) (told : Fact) → IsTold pick tolds notes → alternatives_value told ≡ None → categories_value told ≡ None → type_value told ≡ None → IsTold pick (tolds ++ told ∷ []) notes
 told-other pick tolds notes told is a c t = record {
   alternatives = is.alternatives ∙ ap (λ l. option_and_then written_number (slice_get l 0)) (sym (values-kept alternatives_value tolds told a));
   categories = is.categories ∙ ap (λ l. option_and_then written_number (slice_get l 0)) (sym (values-kept categories_value tolds told c));
@@ -117,7 +117,7 @@ some_none : (n : ℕ) (o : Option ℕ) {X : Type 0} → o ≡ Some n → o ≡ N
 some_none n o some none = absurd (cc)
 
 -- notes without a fault hold what is told next
-pub told-step : (pick : Pick) (tolds : List Told) (notes : Notes) (told : Told) → IsTold pick tolds notes → told_error notes told ≡ None → IsTold pick (tolds ++ told ∷ []) (told_notes pick notes told)
+pub told-step : (pick : Pick) (tolds : List Fact) (notes : Notes) (told : Fact) → IsTold pick tolds notes → told_error notes told ≡ None → IsTold pick (tolds ++ told ∷ []) (told_notes pick notes told)
 told-step pick tolds notes (AlternativesAre value) is fine =
     let within = number_within TooManyCandidates most_candidates notes.alternatives (written_number value) fine in
     let told = AlternativesAre value in

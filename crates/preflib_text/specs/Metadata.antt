@@ -50,34 +50,34 @@ written_number bytes =
     if nat_lt 0 (length bytes) && all_ascii_digits bytes then Some (digits_value 10 bytes) else None
 
 -- what a metadata line tells
-pub data Told : Type 0 where
-  TypeIs : List ℕ → Told
-  AlternativesAre : List ℕ → Told
-  CategoriesAre : List ℕ → Told
-  NameIs : ℕ → List ℕ → Told
-  Nothing : Told
+pub data Fact : Type 0 where
+  TypeIs : List ℕ → Fact
+  AlternativesAre : List ℕ → Fact
+  CategoriesAre : List ℕ → Fact
+  NameIs : ℕ → List ℕ → Fact
+  Nothing : Fact
 
 -- the name of a candidate, where the last word of its key is a number
-abbrev pub name_told : List (List ℕ) → List ℕ → Told
+abbrev pub name_told : List (List ℕ) → List ℕ → Fact
 name_told (a ∷ b ∷ n ∷ []) value =
     if same_words (a ∷ b ∷ []) (codes "ALTERNATIVE" ∷ codes "NAME" ∷ []) then told_name (written_number n) value
     else Nothing
   where
-    told_name : Option ℕ → List ℕ → Told
+    told_name : Option ℕ → List ℕ → Fact
     told_name None value = Nothing
     told_name (Some n) value = NameIs n value
 name_told key value = Nothing
 
-abbrev pub told_by : Entry → Told
+abbrev pub told_by : Entry → Fact
 told_by e = if same_words e.key (codes "DATA" ∷ codes "TYPE" ∷ []) then TypeIs e.value
     else (if same_words e.key (codes "NUMBER" ∷ codes "ALTERNATIVES" ∷ []) then AlternativesAre e.value
     else (if same_words e.key (codes "NUMBER" ∷ codes "CATEGORIES" ∷ []) then CategoriesAre e.value
     else name_told e.key e.value))
 
 -- what a line tells
-abbrev pub told_in : Option Entry → Told
+abbrev pub told_in : Option Entry → Fact
 told_in None = Nothing
 told_in (Some e) = told_by e
 
-abbrev pub told_of : List ℕ → Told
+abbrev pub told_of : List ℕ → Fact
 told_of line = told_in (key_and_value line)

@@ -1,10 +1,8 @@
--- The names of types of files, of ways and of faults, as bytes.
-use Rattle.std.specs.Prelude.{ℕ, List, [], ◌∷◌, Option, Some, None, find, codes, if◌then◌else◌}
+-- The names of types of files and of faults, as bytes.
+use Rattle.std.specs.Prelude.{ℕ, List, [], ◌∷◌, Option, find, codes}
 use Rattle.std.specs.Str.{bytes_eq, str_eq_ignore_ascii_case}
 use Rattle.preflib_text.specs.declared.pick.Kind.{Kind}
 use Rattle.preflib_text.specs.declared.pick.Kind.TheVariants.{Cat, Soc, Soi, Toc, Toi}
-use Rattle.preflib_text.specs.declared.pick.Way.{Way}
-use Rattle.preflib_text.specs.declared.pick.Way.TheVariants.{Usual, Category, SetSize, Classes}
 use Rattle.preflib_text.specs.declared.fault.FaultName.{FaultName}
 use Rattle.preflib_text.specs.declared.fault.FaultName.TheVariants.{LongLine, BadNumber, TooManyCandidates, ConflictingKey, NoAlternatives}
 use Rattle.preflib_text.specs.declared.fault.FaultName.TheVariants.{NoKind, BadKind, BadBallot, BadCount, NoSuchCandidate}
@@ -26,19 +24,6 @@ kinds = Cat ∷ Soc ∷ Soi ∷ Toc ∷ Toi ∷ []
 -- the type of a name, in letters of any case
 abbrev pub kind_named : List ℕ → Option Kind
 kind_named text = find (λ kind. str_eq_ignore_ascii_case text (kind_name kind)) kinds
-
--- the name of a way; the usual one has none
-abbrev pub way_name : Way → Option (List ℕ)
-way_name Usual = None
-way_name (Category n) = Some (codes "category")
-way_name (SetSize n) = Some (codes "setsize")
-way_name (Classes n) = Some (codes "classes")
-
--- the way of a name, with this number
-abbrev pub way_named : List ℕ → ℕ → Option Way
-way_named name n = if bytes_eq name (codes "category") then Some (Category n)
-    else (if bytes_eq name (codes "setsize") then Some (SetSize n)
-    else (if bytes_eq name (codes "classes") then Some (Classes n) else None))
 
 -- the name of a fault
 abbrev pub fault_name : FaultName → List ℕ

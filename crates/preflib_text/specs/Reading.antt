@@ -23,7 +23,7 @@ use Rattle.preflib_text.specs.declared.fault.FaultName.TheVariants.{PickMisfit, 
 use Rattle.preflib_text.specs.declared.fault.ReadFault.{ReadFault}
 use Rattle.preflib_text.specs.Limits.{most_line_bytes, most_categories}
 use Rattle.preflib_text.specs.Lines.{lines_of, is_ballot_line}
-use Rattle.preflib_text.specs.Metadata.{Told, TypeIs, AlternativesAre, CategoriesAre, NameIs, told_of}
+use Rattle.preflib_text.specs.Metadata.{Fact, TypeIs, AlternativesAre, CategoriesAre, NameIs, told_of}
 use Rattle.preflib_text.specs.Metadata.{written_number}
 use Rattle.preflib_text.specs.Names.{kind_named}
 use Rattle.preflib_text.specs.Ballot.{IsBallotLine}
@@ -41,27 +41,27 @@ fault_if test name = if test then Some name else None
 -- ---- metadata
 
 -- what the lines before the first ballot tell
-abbrev pub told_before : List (List ℕ) → List Told
+abbrev pub told_before : List (List ℕ) → List Fact
 told_before lines = map told_of (take_while (λ line. not (is_ballot_line line)) lines)
 
-abbrev pub alternatives_value : Told → Option (List ℕ)
+abbrev pub alternatives_value : Fact → Option (List ℕ)
 alternatives_value (AlternativesAre value) = Some value
 alternatives_value _ = None
 
-abbrev pub categories_value : Told → Option (List ℕ)
+abbrev pub categories_value : Fact → Option (List ℕ)
 categories_value (CategoriesAre value) = Some value
 categories_value _ = None
 
-abbrev pub type_value : Told → Option (List ℕ)
+abbrev pub type_value : Fact → Option (List ℕ)
 type_value (TypeIs value) = Some value
 type_value _ = None
 
-abbrev pub name_value : ℕ → Told → Option (List ℕ)
+abbrev pub name_value : ℕ → Fact → Option (List ℕ)
 name_value n (NameIs k value) = if k == n then Some value else None
 name_value n _ = None
 
 -- whether the name of a candidate is told; other numbers have no name
-abbrev pub is_name : Told → Bool
+abbrev pub is_name : Fact → Bool
 is_name (NameIs n value) = nat_le 1 n && nat_le n most_candidates
 is_name _ = false
 
@@ -90,7 +90,7 @@ number_fault too_large most before (Some n) = or_else (fault_if (n == 0) BadNumb
     (or_else (if nat_lt most n then too_large else None) (fault_if (not (unwrap_or before n == n)) ConflictingKey))
 
 -- what is wrong with a metadata line, after these lines
-abbrev pub told_fault : List (List ℕ) → Told → Option FaultName
+abbrev pub told_fault : List (List ℕ) → Fact → Option FaultName
 told_fault before (AlternativesAre value) =
     number_fault (Some TooManyCandidates) most_candidates (alternatives_in before) (written_number value)
 told_fault before (CategoriesAre value) =

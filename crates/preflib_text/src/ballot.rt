@@ -7,7 +7,7 @@ ghost use Rattle.ballot_base.specs.Lists.{IsIncreasing};
 ghost use Rattle.preflib_text.specs.Limits.{word_limit};
 ghost use Rattle.preflib_text.specs.Ballot.{IsBallotLine};
 ghost use Rattle.preflib_text.specs.Approvals.{HasNumber};
-ghost use Rattle.preflib_text.specs.Steps.Tokens.{token_of, tokens_after, tokens_of, capped, IsFirstToken, IsListed};
+ghost use Rattle.preflib_text.specs.Steps.Tokens.{token_of, tokens_after, tokens_of, capped, IsFirstToken, IsListedNumber};
 ghost use Rattle.preflib_text.specs.Steps.Tokens.{next_place, is_end, order_at, ballot_of};
 ghost use Rattle.preflib_text.specs.Steps.Marks.{no_marks, with_classes, with_read, IsReadOn};
 ghost use Rattle.preflib_text.specs.Steps.Answers.{HasMarks, IsGoodBallot, IsBallotFault};
@@ -237,7 +237,7 @@ fn after_comma(text: &[u8]) -> Option<&[u8]>
 /// The number at the front of a text that has one or two digits and a comma right after them, and the text after the
 /// comma. Most numbers of a ballot are such.
 fn listed_number(text: &[u8]) -> Option<(u64, &[u8])>
-    ensures { IfSome result (λ x. IsListed text.now x.0 x.1.now) }
+    ensures { IfSome result (λ x. IsListedNumber text.now x.0 x.1.now) }
 {
     let (first, after) = first_digit(text)?;
     if let Some((second, after)) = first_digit(after) {

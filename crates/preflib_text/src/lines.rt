@@ -2,7 +2,7 @@
 ghost use Rattle.std.specs.Prelude.{◌≡◌, ℕ, ◌<◌, List, ◌∷◌, length};
 ghost use Rattle.preflib_text.specs.Lines.{pieces_of, trim_start, without_mark, without_return};
 ghost use Rattle.preflib_text.specs.Metadata.{trimmed};
-ghost use Rattle.preflib_text.specs.Steps.Cuts.{Tells};
+ghost use Rattle.preflib_text.specs.Steps.Cuts.{IsSort};
 
 use bstr::ByteSlice;
 
@@ -85,7 +85,7 @@ pub(crate) fn trim(bytes: &[u8]) -> &[u8]
 
 /// What kind of line this is.
 pub(crate) fn sort_of(line: &[u8]) -> Sort
-    ensures { Tells line.now result }
+    ensures { IsSort line.now result }
 {
     match trim_start(line) {
         [] => Sort::Blank,

@@ -11,7 +11,7 @@ use bstr::ByteSlice;
 
 /// What a metadata line tells.
 #[derive(Clone, Copy)]
-pub(crate) enum Told<'a> {
+pub(crate) enum Fact<'a> {
     Type(&'a [u8]),
     Alternatives(&'a [u8]),
     Categories(&'a [u8]),
@@ -93,38 +93,38 @@ fn cut_at_colon(text: &[u8]) -> Option<Entry<'_>>
 }
 
 /// What a key of at most two words tells.
-fn told_by_two<'a>(first: &[u8], second: &[u8], value: &'a [u8]) -> Told<'a>
+fn told_by_two<'a>(first: &[u8], second: &[u8], value: &'a [u8]) -> Fact<'a>
     ensures { meant result
         ≡ told_by (record { key = words_with first.now (words_with second.now []); value = value.now }) }
 {
     if first.eq_ignore_ascii_case(b"DATA") && second.eq_ignore_ascii_case(b"TYPE") {
-        return Told::Type(value);
+        return Fact::Type(value);
     }
     if first.eq_ignore_ascii_case(b"NUMBER") && second.eq_ignore_ascii_case(b"ALTERNATIVES") {
-        return Told::Alternatives(value);
+        return Fact::Alternatives(value);
     }
     if first.eq_ignore_ascii_case(b"NUMBER") && second.eq_ignore_ascii_case(b"CATEGORIES") {
-        return Told::Categories(value);
+        return Fact::Categories(value);
     }
-    Told::Nothing
+    Fact::Nothing
 }
 
 /// What a key of three words tells.
-fn told_by_three<'a>(first: &[u8], second: &[u8], third: &[u8], value: &'a [u8]) -> Told<'a>
+fn told_by_three<'a>(first: &[u8], second: &[u8], third: &[u8], value: &'a [u8]) -> Fact<'a>
     ensures { meant result
         ≡ capped_told (told_by (record { key = first.now ∷ second.now ∷ third.now ∷ []; value = value.now })) }
 {
     if !(first.eq_ignore_ascii_case(b"ALTERNATIVE") && second.eq_ignore_ascii_case(b"NAME")) {
-        return Told::Nothing;
+        return Fact::Nothing;
     }
     match written_number(third) {
-        Some(number) => Told::Name(number, value),
-        None => Told::Nothing,
+        Some(number) => Fact::Name(number, value),
+        None => Fact::Nothing,
     }
 }
 
 /// What a key tells.
-fn told_by<'a>(key: &[u8], value: &'a [u8]) -> Told<'a>
+fn told_by<'a>(key: &[u8], value: &'a [u8]) -> Fact<'a>
     ensures { meant result ≡ capped_told (told_by (record { key = words_of key.now; value = value.now })) }
 {
     let first = first_word(key);
@@ -135,19 +135,19 @@ fn told_by<'a>(key: &[u8], value: &'a [u8]) -> Told<'a>
     } else if first_word(third.rest).word.is_empty() {
         told_by_three(first.word, second.word, third.word, value)
     } else {
-        Told::Nothing
+        Fact::Nothing
     }
 }
 
 /// What a metadata line tells.
-pub(crate) fn told_of(line: &[u8]) -> Told<'_>
+pub(crate) fn told_of(line: &[u8]) -> Fact<'_>
     ensures { meant result ≡ capped_told (told_of line.now) }
 {
     let [b'#', text @ ..] = trim_start(line) else {
-        return Told::Nothing;
+        return Fact::Nothing;
     };
     match cut_at_colon(text) {
         Some(entry) => told_by(entry.key, trim(entry.value)),
-        None => Told::Nothing,
+        None => Fact::Nothing,
     }
 }

@@ -15,7 +15,7 @@ use crate::ballot::{Ballot, read_ballot};
 use crate::fault::FaultName;
 use crate::limits::{MOST_CATEGORIES, MOST_LINE_BYTES};
 use crate::lines::{Sort, sort_of};
-use crate::metadata::{Told, told_of, written_number};
+use crate::metadata::{Fact, told_of, written_number};
 use crate::pick::{Kind, Pick, Way};
 use ballot_base::MOST_CANDIDATES;
 
@@ -134,7 +134,7 @@ impl Notes {
     }
 
     /// Notes what a metadata line tells.
-    fn take_told<'a>(&mut self, pick: &Pick, told: Told<'a>) -> Result<Effect<'a>, FaultName>
+    fn take_told<'a>(&mut self, pick: &Pick, told: Fact<'a>) -> Result<Effect<'a>, FaultName>
         requires { self.old.has_ballot ≡ false }
         ensures told { MatchResult result
             (λ effect. (told_error self.old (meant told.entry) ≡ None)
@@ -144,14 +144,14 @@ impl Notes {
         ensures proper { IfOk result (λ effect. IsProper self.old (effect_of effect)) }
     {
         match told {
-            Told::Type(text) => {
+            Fact::Type(text) => {
                 self.take_type(pick, text);
                 Ok(Effect::Nothing)
             }
-            Told::Alternatives(text) => self.take_alternatives(text),
-            Told::Categories(text) => self.take_categories(text),
-            Told::Name(number, name) => Ok(name_effect(number, name)),
-            Told::Nothing => Ok(Effect::Nothing),
+            Fact::Alternatives(text) => self.take_alternatives(text),
+            Fact::Categories(text) => self.take_categories(text),
+            Fact::Name(number, name) => Ok(name_effect(number, name)),
+            Fact::Nothing => Ok(Effect::Nothing),
         }
     }
 

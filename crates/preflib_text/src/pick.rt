@@ -1,6 +1,6 @@
 //! What of a file is taken as approvals.
 ghost use Rattle.std.specs.Prelude.{◌≡◌, option_map};
-ghost use Rattle.preflib_text.specs.Names.{kind_name, kind_named, way_name, way_named};
+ghost use Rattle.preflib_text.specs.Names.{kind_name, kind_named};
 
 /// The type of a ballot file, as PrefLib names it.
 #[derive(Clone, Copy, Debug, PartialEq, Eq)]
@@ -53,38 +53,6 @@ pub enum Way {
     SetSize(u32),
     /// So many first classes of a ranking, or all.
     Classes(u32),
-}
-
-impl Way {
-    /// The names of the ways that have a number.
-    pub const NAMES: [&'static str; 3] = ["category", "setsize", "classes"];
-
-    /// The name, as it is written on the command line. The usual way has none.
-    pub const fn name(self) -> Option<&'static str>
-        ensures { option_map (λ name. name.now) result ≡ way_name self }
-    {
-        match self {
-            Way::Usual => None,
-            Way::Category(_) => Some(Way::NAMES[0]),
-            Way::SetSize(_) => Some(Way::NAMES[1]),
-            Way::Classes(_) => Some(Way::NAMES[2]),
-        }
-    }
-
-    /// The way that has this name, with this number, if one has; upper and lower case differ.
-    pub fn named(name: &str, number: u32) -> Option<Way>
-        ensures { result ≡ way_named name.now number }
-    {
-        if name == Way::NAMES[0] {
-            Some(Way::Category(number))
-        } else if name == Way::NAMES[1] {
-            Some(Way::SetSize(number))
-        } else if name == Way::NAMES[2] {
-            Some(Way::Classes(number))
-        } else {
-            None
-        }
-    }
 }
 
 /// How a file is read.

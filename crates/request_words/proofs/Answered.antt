@@ -17,7 +17,9 @@ use Rattle.request_words.specs.Request.{Asked, Demand, checking, electing, shari
 use Rattle.request_words.specs.NumberList.{list_of}
 use Rattle.request_words.specs.declared.words.ListOption.{ListOption}
 use Rattle.request_words.specs.declared.words.ListOption.TheVariants.{Committee, Votes, After}
-use Rattle.request_words.specs.Words.{GivesAsked, HasValues, IsAfterClap, IsAnswerTo, IsFaultOf, IsProgram, asked_in, asking, check_in, elect_in, has_input, is_given, list_in, listed, page_in}
+use Rattle.request_words.specs.Words.{IsAfterClap, RefusesWords, asked_in, asking, check_in, elect_in, has_input, is_given, list_in, listed, page_in}
+use Rattle.request_words.specs.Steps.Commands.{IsProgram}
+use Rattle.request_words.specs.Steps.Values.{GivesAsked, HasValues, IsFaultOf}
 use Rattle.request_words.specs.Words.{number_of, outcome_of, program, request_of, result_and_then, share_in, way_in, without_both}
 use Rattle.request_words.proofs.GivenRequest.{program_taken, taken_values}
 use Rattle.request_words.proofs.ProgramPlaces.{program_fault, program_free, program_simple, program_sub}
@@ -32,7 +34,7 @@ some_among k (x ∷ xs) among = some_kind x xs
 not_taken : (words : List Text) (k : ErrorKind) → IsAmong k (fault_of program words) → takes program words ≡ false
 not_taken words k among = program_taken words ∙ some_among k (fault_of program words) among
 
-pub answer_is : (words : List Text) (k : ErrorKind) (f : LineFault) → IsFaultOf k f → (k ≡ kind.OutOfMemory) ⊎ IsAmong k (fault_of program words) → IsAnswerTo words f
+pub answer_is : (words : List Text) (k : ErrorKind) (f : LineFault) → IsFaultOf k f → (k ≡ kind.OutOfMemory) ⊎ IsAmong k (fault_of program words) → RefusesWords words f
 answer_is words k (Help text) is (inl memory) = absurd (let bad : kind.DisplayHelp ≡ kind.OutOfMemory = sym is ∙ memory in cc)
 answer_is words k (Help text) is (inr among) = (not_taken words k among, subst (λ x. IsAmong x (fault_of program words)) is among)
 answer_is words k (Usage text) is (inl memory) = absurd (is.1 memory)
@@ -192,11 +194,11 @@ asked_own name rows f = go (bytes_eq name (codes "check")) (bytes_eq name (codes
     go false false is = map_own _ _ f (λ p. then_own _ (page_in rows)
         (λ page. asking_own rows (electing p.0 (number_of p.1) page)) (page_own rows)) is
 
-refused_is : (words : List Text) (sub : Text × List Row) (f : LineFault) → IsFound words sub → (f ≡ Memory) ⊎ (asked_in sub.0 sub.1 ≡ Some (Err f)) → IsAnswerTo words f
-refused_is words sub f found (inl memory) = subst (IsAnswerTo words) (sym memory) tt
+refused_is : (words : List Text) (sub : Text × List Row) (f : LineFault) → IsFound words sub → (f ≡ Memory) ⊎ (asked_in sub.0 sub.1 ≡ Some (Err f)) → RefusesWords words f
+refused_is words sub f found (inl memory) = subst (RefusesWords words) (sym memory) tt
 refused_is words sub f found (inr asked) = go f (asked_own sub.0 sub.1 f asked) (outcome_is words sub found ∙ asked)
   where
-    go : (g : LineFault) → IsAfterClap g → outcome_of words ≡ Some (Err g) → IsAnswerTo words g
+    go : (g : LineFault) → IsAfterClap g → outcome_of words ≡ Some (Err g) → RefusesWords words g
     go (Help text) own is = absurd own
     go (Usage text) own is = absurd own
     go (BadList option) own is = is
@@ -211,7 +213,7 @@ request_there words sub (Ok a) found gives = request_is words sub a found gives
 request_there words sub (Err f) found gives = tt
 
 pub fault_there : (words : List Text) (sub : Text × List Row) (r : Result Asked LineFault) → IsFound words sub → GivesAsked (asked_in sub.0 sub.1) r
-    → IfErr r (IsAnswerTo words)
+    → IfErr r (RefusesWords words)
 fault_there words sub (Ok a) found gives = tt
 fault_there words sub (Err f) found gives = refused_is words sub f found gives
 

@@ -21,9 +21,10 @@ use Rattle.ballot_base.specs.Limits.{most_members}
 use Rattle.group_check.specs.Names.{properties, property_name}
 use Rattle.seat_share.specs.Limits.{most_seats}
 use Rattle.seat_share.specs.Names.{methods, method_name}
-use Rattle.request_words.specs.Limits.{most_limit}
+use Rattle.request_words.specs.Limits.{most_limit, most_way_number}
 use Rattle.request_words.specs.Names.{rules, rule_name}
-use Rattle.request_words.specs.Words.{HasCheckValues, HasElectValues, HasName, HasNumberUpTo, HasShareValues, HasValues, IsCount, IsFlag, listed_names, program, shown}
+use Rattle.request_words.specs.Words.{shown_names, program, shown}
+use Rattle.request_words.specs.Steps.Values.{HasCheckValues, HasElectValues, HasName, HasNumberUpTo, HasShareValues, HasValues, IsCount, IsFlag}
 use Rattle.request_words.proofs.GivenValues.{Each, Good, IsOrdinary, any_value, given_value, level_fit, or_false, walk_stops}
 use Rattle.request_words.proofs.Refusals.{taken_none}
 
@@ -112,11 +113,11 @@ named_there name_of items text passes =
 
 -- a required option has a name of a list
 name_given : {X : Type 0} (c : List Rule) (a : Rule) (name_of : X → Text) (items : List X) (rows : List Row) → Good c rows
-    → arg_by_id c a.id ≡ Some a → a.parser ≡ Some (parser.Names (listed_names (map name_of items))) → a.ignore_case ≡ false
+    → arg_by_id c a.id ≡ Some a → a.parser ≡ Some (parser.Names (shown_names (map name_of items))) → a.ignore_case ≡ false
     → is_given a.id rows ≡ true → HasName a.id (λ name. find (λ item. bytes_eq name (name_of item)) items) rows
 name_given c a name_of items rows good own is case given =
     let v = given_value c a rows good own given in
-    let pass : accepts false (parser_of_value (Some (parser.Names (listed_names (map name_of items))))) v.0 ≡ true =
+    let pass : accepts false (parser_of_value (Some (parser.Names (shown_names (map name_of items))))) v.0 ≡ true =
     subst (λ p. accepts false (parser_of_value p) v.0 ≡ true) is
     (subst (λ b. accepts b (parser_of_value a.parser) v.0 ≡ true) case v.1) in
     record { text = v.0; given = v.2; known = named_there name_of items v.0 pass }
@@ -160,7 +161,7 @@ one : 0 < 1
 one = omega arith
 
 -- a count fits 32 bits
-small_count : 1000000 < 2 ^ 32
+small_count : most_way_number < 2 ^ 32
 small_count = omega arith
 
 small_limit : most_limit < 2 ^ 32
@@ -178,9 +179,9 @@ elect_values words pass =
       number_given elect.rules (at_place elect.rules 1) most_members rows level.0 refl refl given_size,
       count_given elect.rules (at_place elect.rules 3) most_limit rows level.0 refl small_limit refl,
       record {
-        category = count_given elect.rules (at_place elect.rules 5) 1000000 rows level.0 refl small_count refl;
-        set_size = count_given elect.rules (at_place elect.rules 6) 1000000 rows level.0 refl small_count refl;
-        classes = count_given elect.rules (at_place elect.rules 7) 1000000 rows level.0 refl small_count refl;
+        category = count_given elect.rules (at_place elect.rules 5) most_way_number rows level.0 refl small_count refl;
+        set_size = count_given elect.rules (at_place elect.rules 6) most_way_number rows level.0 refl small_count refl;
+        classes = count_given elect.rules (at_place elect.rules 7) most_way_number rows level.0 refl small_count refl;
         names = flag_given elect.rules (at_place elect.rules 8) rows level.0 refl refl;
       },
     )
@@ -196,9 +197,9 @@ check_values words pass =
       name_given check.rules (at_place check.rules 0) property_name properties rows level.0 refl refl refl given.0,
       text_given check.rules (at_place check.rules 1) rows level.0 refl given_list,
       record {
-        category = count_given check.rules (at_place check.rules 3) 1000000 rows level.0 refl small_count refl;
-        set_size = count_given check.rules (at_place check.rules 4) 1000000 rows level.0 refl small_count refl;
-        classes = count_given check.rules (at_place check.rules 5) 1000000 rows level.0 refl small_count refl;
+        category = count_given check.rules (at_place check.rules 3) most_way_number rows level.0 refl small_count refl;
+        set_size = count_given check.rules (at_place check.rules 4) most_way_number rows level.0 refl small_count refl;
+        classes = count_given check.rules (at_place check.rules 5) most_way_number rows level.0 refl small_count refl;
         names = flag_given check.rules (at_place check.rules 6) rows level.0 refl refl;
       },
     )
@@ -215,9 +216,9 @@ share_values words pass =
       number_given share.rules (at_place share.rules 1) most_seats rows level.0 refl refl given_seats,
       count_given share.rules (at_place share.rules 4) most_limit rows level.0 refl small_limit refl,
       record {
-        category = count_given share.rules (at_place share.rules 6) 1000000 rows level.0 refl small_count refl;
-        set_size = count_given share.rules (at_place share.rules 7) 1000000 rows level.0 refl small_count refl;
-        classes = count_given share.rules (at_place share.rules 8) 1000000 rows level.0 refl small_count refl;
+        category = count_given share.rules (at_place share.rules 6) most_way_number rows level.0 refl small_count refl;
+        set_size = count_given share.rules (at_place share.rules 7) most_way_number rows level.0 refl small_count refl;
+        classes = count_given share.rules (at_place share.rules 8) most_way_number rows level.0 refl small_count refl;
         names = flag_given share.rules (at_place share.rules 9) rows level.0 refl refl;
       },
     )

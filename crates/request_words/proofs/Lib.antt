@@ -1,4 +1,5 @@
 pub mod Answered
+pub mod CommandLemmas
 pub mod GivenRequest
 pub mod GivenValues
 pub mod NumberListLemmas

@@ -6,7 +6,8 @@ use Rattle.clap.specs.Words.{Row, Text, takes, without_minus}
 use Rattle.group_check.specs.Names.{property_named}
 use Rattle.seat_share.specs.Names.{method_named}
 use Rattle.request_words.specs.Names.{rule_named}
-use Rattle.request_words.specs.Words.{HasCheckValues, HasElectValues, HasShareValues, HasValues, asked_in, check_in, elect_in, number_of, outcome_of, program, share_in}
+use Rattle.request_words.specs.Words.{asked_in, check_in, elect_in, number_of, outcome_of, program, share_in}
+use Rattle.request_words.specs.Steps.Values.{HasCheckValues, HasElectValues, HasShareValues, HasValues}
 use Rattle.request_words.proofs.GivenRequest.{taken_values}
 use Rattle.request_words.proofs.WordsLemmas.{check_is, elect_is, share_is}
 

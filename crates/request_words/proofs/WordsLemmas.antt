@@ -1,5 +1,5 @@
 -- What the code reads of the rows that clap found.
-use Rattle.std.proofs.Common.{◌≡◌, ◌≢◌, ◌⊎◌, ◌≤◌, ◌<◌, ◌^◌, ◌∙◌, ◌&&◌, ◌||◌, ℕ, Bool, true, false, List, [], Bor, Vec, Global, inl, inr, refl, sym, ap, subst, arith, rules, codes}
+use Rattle.std.proofs.Common.{◌≡◌, ◌≢◌, ◌⊎◌, ◌≤◌, ◌<◌, ◌^◌, ◌∙◌, ◌&&◌, ℕ, Bool, true, false, List, [], Bor, Vec, Global, inl, inr, refl, sym, ap, subst, arith, rules, codes}
 use Rattle.std.specs.Prelude.{IfSome, IfOk, if◌then◌else◌, option_and_then, Option, Some, None, Result, Ok, Err, IsSome, pos, option_map}
 use Rattle.std.specs.Option.{is_some, ok_or, option_map_or, option_transpose}
 use Rattle.std.specs.Str.{bytes_eq}
@@ -25,17 +25,13 @@ use Rattle.request_words.specs.declared.words.LineFault.{LineFault}
 use Rattle.request_words.specs.declared.words.LineFault.TheVariants.{BadList, Memory, VotesAndInput}
 use Rattle.request_words.specs.declared.words.ListOption.{ListOption}
 use Rattle.request_words.specs.declared.words.ListOption.TheVariants.{Committee, Votes, After}
-use Rattle.request_words.specs.Words.{Gives, GivesAsked, HasCheckValues, HasElectValues, HasShareValues, IsCount, IsFlag, asking, check_in, elect_in, elect_over_page}
+use Rattle.request_words.specs.Words.{asking, check_in, elect_in, elect_over_page}
+use Rattle.request_words.specs.Steps.Values.{Gives, GivesAsked, HasCheckValues, HasElectValues, HasShareValues, IsCount, IsFlag}
 use Rattle.group_check.specs.Names.{property_named}
 use Rattle.seat_share.specs.Names.{method_named}
 use Rattle.request_words.specs.Names.{rule_named}
 use Rattle.request_words.specs.Words.{has_input, is_given, list_in, listed, number_at, number_of, page_in, result_and_then, share_in, share_over_votes, wants_names, way_in, without_both}
 use Rattle.request_words.proofs.NumberListLemmas.{list_has_number}
-
--- an argument that is not global leaves the command without one
-pub stays_local : (after before global : Bool) → after ≡ (before || global) → global ≡ false → after ≡ before
-stays_local after true global is none = is
-stays_local after false global is none = is ∙ none
 
 pub text_there : (o : Option (Bor Text)) (t : Text) → option_map (λ s. s.now) o ≡ Some t → IsSome o
 text_there None t e = cc

@@ -4,3 +4,7 @@ use Rattle.std.specs.Prelude.{ℕ}
 -- how many answers a request may ask for at most
 abbrev pub most_limit : ℕ
 most_limit = 4294967295
+
+-- the greatest number of a way
+abbrev pub most_way_number : ℕ
+most_way_number = 1000000

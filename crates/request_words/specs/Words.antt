@@ -1,21 +1,17 @@
 -- What the words of a command line ask for, by clap's published meaning of a command.
-use Rattle.std.specs.Prelude.{◌≡◌, ◌≢◌, ◌<◌, ◌^◌, ◌⊎◌, ◌&&◌, ◌++◌, ⊤, ℕ, Bool, true, false, List, [], ◌∷◌, map, Option, Some, None, Result, Ok, Err}
-use Rattle.std.specs.Prelude.{codes, fold, if◌then◌else◌, option_and_then, option_map, pos}
+use Rattle.std.specs.Prelude.{◌≡◌, ◌≢◌, ◌&&◌, ◌++◌, ⊤, ℕ, Bool, true, false, List, [], ◌∷◌, map, Option, Some, None, Result, Ok, Err}
+use Rattle.std.specs.Prelude.{codes, if◌then◌else◌, option_and_then, option_map, pos}
 use Rattle.std.specs.List.{list_any}
-use Rattle.std.specs.Option.{IsSome, is_some, ok_or, option_map_or, option_transpose, option_zip}
-use Rattle.std.specs.Result.{MatchResult, result_ok}
+use Rattle.std.specs.Option.{is_some, ok_or, option_map_or, option_transpose, option_zip}
+use Rattle.std.specs.Result.{result_ok}
 use Rattle.std.specs.Borrow.{Bor}
 use Rattle.std.specs.Str.{bytes_eq}
 use Rattle.std.specs.Str.Parse.{digits_value, without_leading_plus}
 use Rattle.clap.specs.Simple.{new_shape}
-use Rattle.clap.specs.Walk.{texts}
-use Rattle.clap.specs.Words.{App, IsAmong, IsSignedIn, Row, Shape, Text, all_of, app_of, fault_of, first_of}
-use Rattle.clap.specs.Words.{new_rule, one_of, rule_of, shape_of, subcommand_of, takes}
-use Rattle.clap.specs.Words.{with_rule, with_subcommand, without_minus, Rule as Argument}
+use Rattle.clap.specs.Words.{App, IsAmong, Row, Shape, Text, all_of, fault_of, first_of}
+use Rattle.clap.specs.Words.{new_rule, one_of, subcommand_of, takes}
+use Rattle.clap.specs.Words.{with_subcommand, Rule as Argument}
 use Rattle.clap.specs.declared.builder.action.ArgAction.TheVariants as action
-use Rattle.clap.specs.declared.builder.arg.Arg.{Arg}
-use Rattle.clap.specs.declared.builder.command.Command.{Command}
-use Rattle.clap.specs.declared.builder.command.Command.TheViews.{out-Command as fields_of}
 use Rattle.clap.specs.declared.builder.value_parser.ValueParser.TheVariants as parser
 use Rattle.clap.specs.declared.error.kind.ErrorKind.{ErrorKind}
 use Rattle.clap.specs.declared.error.kind.ErrorKind.TheVariants as kind
@@ -31,7 +27,7 @@ use Rattle.seat_share.specs.declared.method.Method.{Method}
 use Rattle.request_words.specs.Endings.{kind_in_path}
 use Rattle.request_words.specs.Names.{kind_names, method_names, property_names, rule_named, rule_names}
 use Rattle.request_words.specs.NumberList.{list_of}
-use Rattle.request_words.specs.Limits.{most_limit}
+use Rattle.request_words.specs.Limits.{most_limit, most_way_number}
 use Rattle.request_words.specs.Request.{Asked, Demand, Paging, checking, electing, sharing}
 use Rattle.request_words.specs.declared.request.Rule.{Rule}
 use Rattle.request_words.specs.declared.words.LineFault.{LineFault}
@@ -71,8 +67,8 @@ file_word = record (new_rule (codes "file")) { value_names = 1 }
 
 -- what all commands take: how the ballots are read, where they are, and whether names are printed
 abbrev pub input_arguments : Names → List Argument
-input_arguments kinds = name_option (codes "kind") kinds ∷ number_option (codes "category") 1000000
-    ∷ number_option (codes "setsize") 1000000 ∷ number_option (codes "classes") 1000000 ∷ flag_option (codes "names")
+input_arguments kinds = name_option (codes "kind") kinds ∷ number_option (codes "category") most_way_number
+    ∷ number_option (codes "setsize") most_way_number ∷ number_option (codes "classes") most_way_number ∷ flag_option (codes "names")
     ∷ file_word ∷ []
 
 -- what the commands take that print lists of answers: which of them
@@ -112,14 +108,14 @@ abbrev pub shown : {X : Type 0} → X → Bor X
 shown x = record { ref_ptr = (0, 0); now = x }
 
 -- names that lie somewhere
-abbrev pub listed_names : List Text → Names
-listed_names names = shown (map shown names)
+abbrev pub shown_names : List Text → Names
+shown_names names = shown (map shown names)
 
 -- `committees`, with the names of its rules, properties, methods and types
 abbrev pub program : App
-program = program_over (elect_over (listed_names rule_names) (listed_names kind_names))
-    (check_over (listed_names property_names) (listed_names kind_names))
-    (share_over (listed_names method_names) (listed_names kind_names))
+program = program_over (elect_over (shown_names rule_names) (shown_names kind_names))
+    (check_over (shown_names property_names) (shown_names kind_names))
+    (share_over (shown_names method_names) (shown_names kind_names))
 
 -- ---- the request
 
@@ -257,13 +253,13 @@ IsMisused words = (takes program words ≡ false) × ((k : ErrorKind)
     × IsAmong k (fault_of program words) × (k ≢ kind.DisplayHelp) × (k ≢ kind.OutOfMemory))
 
 -- the fault is clap's answer to the words, or the first that they have after clap took them, or out of memory
-abbrev pub IsAnswerTo : List Text → LineFault → Type 0
-IsAnswerTo words (Help text) = AsksForHelp words
-IsAnswerTo words (Usage text) = IsMisused words
-IsAnswerTo words (BadList option) = outcome_of words ≡ Some (Err (BadList option))
-IsAnswerTo words TwoPicks = outcome_of words ≡ Some (Err TwoPicks)
-IsAnswerTo words VotesAndInput = outcome_of words ≡ Some (Err VotesAndInput)
-IsAnswerTo words Memory = ⊤
+abbrev pub RefusesWords : List Text → LineFault → Type 0
+RefusesWords words (Help text) = AsksForHelp words
+RefusesWords words (Usage text) = IsMisused words
+RefusesWords words (BadList option) = outcome_of words ≡ Some (Err (BadList option))
+RefusesWords words TwoPicks = outcome_of words ≡ Some (Err TwoPicks)
+RefusesWords words VotesAndInput = outcome_of words ≡ Some (Err VotesAndInput)
+RefusesWords words Memory = ⊤
 
 -- the fault is none of clap's
 abbrev pub IsAfterClap : LineFault → Type 0
@@ -283,104 +279,3 @@ line_of (BadList option) = Some (codes "committees: words: BadList " ++ option_w
 line_of TwoPicks = Some (codes "committees: words: TwoPicks")
 line_of VotesAndInput = Some (codes "committees: words: VotesAndInput")
 line_of fault = None
-
--- ---- what the steps of the code say
-
--- the argument of clap is this one, and no subcommand has it
-abbrev pub IsArgument : Argument → Arg → Type 0
-IsArgument argument a = (rule_of a ≡ argument) × (a.global ≡ false)
-
--- an option with names, wherever they lie
-abbrev pub IsNameOption : List Text → (Names → Argument) → Arg → Type 0
-IsNameOption values option a =
-    (names : Names) × (texts names.now ≡ values) × IsArgument (option names) a
-
--- the second command is the first with the arguments that all commands have, wherever the names lie
-abbrev pub AddsInput : Command → Command → Type 0
-AddsInput c r = (kinds : Names) × (texts kinds.now ≡ kind_names)
-    × (app_of r ≡ fold with_rule (app_of c) (input_arguments kinds))
-    × ((fields_of r).has_globals ≡ (fields_of c).has_globals)
-
--- the second command is the first with the arguments that tell which answers are asked for
-pub record AddsPage (c r : Command) : Type 0 where
-  pub app : app_of r ≡ fold with_rule (app_of c) page_arguments
-  pub globals : (fields_of r).has_globals ≡ (fields_of c).has_globals
-
--- a command of this shape, wherever the names lie: its own, and those of the types
-abbrev pub IsCommand : List Text → (Names → Names → Shape) → Command → Type 0
-IsCommand values shape c = (names : Names) × (kinds : Names)
-    × (texts names.now ≡ values) × (texts kinds.now ≡ kind_names)
-    × (shape_of c ≡ shape names kinds) × ((fields_of c).has_globals ≡ false)
-
--- `committees`, wherever the names lie
-abbrev pub IsProgram : Command → Type 0
-IsProgram c = (elect : Command) × (check : Command) × (share : Command) × IsCommand rule_names elect_over elect
-    × IsCommand property_names check_over check × IsCommand method_names share_over share
-    × (app_of c ≡ program_over (shape_of elect) (shape_of check) (shape_of share))
-
--- the fault stands for an error of this kind, or is out of memory
-abbrev pub IsFaultOf : ErrorKind → LineFault → Type 0
-IsFaultOf k (Help text) = k ≡ kind.DisplayHelp
-IsFaultOf k (Usage text) = (k ≢ kind.DisplayHelp) × (k ≢ kind.OutOfMemory)
-IsFaultOf k Memory = ⊤
-IsFaultOf k fault = ⊥
-
--- the option is not given, or has a number of 32 bits from 1 on
-abbrev pub IsCount : Option Text → Type 0
-IsCount None = ⊤
-IsCount (Some digits) = (text : Text) × (most : ℕ) × (digits ≡ without_minus text) × (most < 2 ^ 32)
-    × IsSignedIn (pos 1) (pos most) text
-
--- the option without a value has the text of a truth value
-abbrev pub IsFlag : Option Text → Type 0
-IsFlag None = ⊤
-IsFlag (Some text) = (text ≡ codes "true") ⊎ (text ≡ codes "false")
-
--- the counts and the flag passed their parsers
-pub record HasCounts (rows : List Row) : Type 0 where
-  pub category : IsCount (one_of (codes "category") rows)
-  pub set_size : IsCount (one_of (codes "setsize") rows)
-  pub classes : IsCount (one_of (codes "classes") rows)
-  pub names : IsFlag (one_of (codes "names") rows)
-
--- the limit passed its parser
-abbrev pub HasLimit : List Row → Type 0
-HasLimit rows = IsCount (one_of (codes "limit") rows)
-
--- an option has a name of a list
-pub record HasName {X : Type 0} (option : Text) (named : Text → Option X) (rows : List Row) : Type 0 where
-  pub text : Text
-  pub given : first_of option rows ≡ Some text
-  pub known : IsSome (named text)
-
--- an option has a number from 1 to this one
-pub record HasNumberUpTo (option : Text) (most : ℕ) (rows : List Row) : Type 0 where
-  pub text : Text
-  pub given : one_of option rows ≡ Some (without_minus text)
-  pub in_range : IsSignedIn (pos 1) (pos most) text
-
--- what clap found for `elect`, `check` and `share` passed its parsers
-abbrev pub HasElectValues : List Row → Type 0
-HasElectValues rows = HasName (codes "rule") rule_named rows × HasNumberUpTo (codes "size") most_members rows
-    × HasLimit rows × HasCounts rows
-
-abbrev pub HasCheckValues : List Row → Type 0
-HasCheckValues rows = HasName (codes "property") property_named rows × IsSome (first_of (codes "committee") rows)
-    × HasCounts rows
-
-abbrev pub HasShareValues : List Row → Type 0
-HasShareValues rows = HasName (codes "method") method_named rows × HasNumberUpTo (codes "seats") most_seats rows
-    × HasLimit rows × HasCounts rows
-
--- the values of a command passed their parsers
-abbrev pub HasValues : Text → List Row → Type 0
-HasValues command rows = ((command ≡ codes "elect") × HasElectValues rows)
-    ⊎ ((command ≡ codes "check") × HasCheckValues rows) ⊎ ((command ≡ codes "share") × HasShareValues rows)
-
--- the code's value is what is said, or its fault, or memory ran out
-abbrev pub Gives : {A B : Type 0} → (B → A) → Result A LineFault → Result B LineFault → Type 0
-Gives view said result = MatchResult result (λ x. said ≡ Ok (view x)) (λ e. (e ≡ Memory) ⊎ (said ≡ Err e))
-
--- the same of what is asked for
-abbrev pub GivesAsked : Option (Result Asked LineFault) → Result Asked LineFault → Type 0
-GivesAsked said result = MatchResult result (λ x. said ≡ Some (Ok x)) (λ e. (e ≡ Memory) ⊎ (said ≡ Some (Err e)))

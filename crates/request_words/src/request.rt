@@ -37,16 +37,32 @@ impl Rule {
         Rule::Sequential(SeqRule::RevSeqPav),
     ];
 
+    /// Their names, in the same order.
+    pub const NAMES: [&'static str; 11] = [
+        "av",
+        "pav",
+        "cc",
+        "geom2",
+        "geom3",
+        "geom4",
+        "sav",
+        "minimax",
+        "seqpav",
+        "seqcc",
+        "revseqpav",
+    ];
+
     /// The name, as it is written on the command line and in answers.
     pub const fn name(self) -> &'static str
         ensures { result.now ≡ rule_name self }
     {
-        match self {
-            Rule::Scored(ScoredRule::Thiele(rule)) => rule.name(),
-            Rule::Scored(ScoredRule::Satisfaction) => "sav",
-            Rule::Scored(ScoredRule::Minimax) => "minimax",
-            Rule::Sequential(rule) => rule.name(),
-        }
+        let place = match self {
+            Rule::Scored(ScoredRule::Thiele(rule)) => rule as usize,
+            Rule::Scored(ScoredRule::Satisfaction) => 6,
+            Rule::Scored(ScoredRule::Minimax) => 7,
+            Rule::Sequential(rule) => rule as usize + 8,
+        };
+        Rule::NAMES[place]
     }
 
     /// The rule that has this name, if one has; upper and lower case differ.
@@ -74,6 +90,9 @@ pub enum ScoredRule {
 
 /// How many answers a request may ask for at most.
 pub const MOST_LIMIT: u32 = 4_294_967_295;
+
+/// The greatest number of `--category`, `--setsize` and `--classes`.
+pub const MOST_WAY_NUMBER: u32 = 1_000_000;
 
 /// Which of the answers are asked for.
 #[derive(Debug, Drop)]

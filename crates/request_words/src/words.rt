@@ -11,26 +11,26 @@ ghost use Rattle.request_words.specs.Endings.{kind_in_path};
 ghost use Rattle.request_words.specs.Limits.{most_limit};
 ghost use Rattle.request_words.specs.Request.{InRange, IsPage, demand_of, paging_of};
 ghost use Rattle.request_words.specs.declared.words.ListOption.TheVariants.{Votes};
-ghost use Rattle.request_words.specs.Names.{kind_names, method_names, property_names, rule_names};
-ghost use Rattle.request_words.specs.Words.{AddsInput, AddsPage, Gives, GivesAsked, HasCheckValues, HasCounts};
-ghost use Rattle.request_words.specs.Words.{HasElectValues, HasLimit, HasShareValues, HasValues, IsAfterClap};
-ghost use Rattle.request_words.specs.Words.{IsAnswerTo, IsArgument, IsCommand, IsCount, IsFaultOf, IsFlag};
-ghost use Rattle.request_words.specs.Words.{IsNameOption, IsProgram, asked_in, asking, check_in, check_over};
-ghost use Rattle.request_words.specs.Words.{elect_in, elect_over, elect_over_page, file_word, flag_option, has_input, is_given};
-ghost use Rattle.request_words.specs.Words.{line_of, list_in, listed, name_option, number_at, number_option, page_in};
-ghost use Rattle.request_words.specs.Words.{program, request_of, required, result_and_then, share_in, share_over, share_over_votes, text_option};
+ghost use Rattle.request_words.specs.Steps.Values.{Gives, GivesAsked, HasCheckValues, HasCounts};
+ghost use Rattle.request_words.specs.Words.{IsAfterClap};
+ghost use Rattle.request_words.specs.Steps.Values.{HasElectValues, HasLimit, HasShareValues, HasValues};
+ghost use Rattle.request_words.specs.Words.{RefusesWords};
+ghost use Rattle.request_words.specs.Steps.Values.{IsCount, IsFaultOf, IsFlag};
+ghost use Rattle.request_words.specs.Words.{asked_in, asking, check_in};
+ghost use Rattle.request_words.specs.Words.{elect_in, elect_over_page, has_input, is_given};
+ghost use Rattle.request_words.specs.Words.{line_of, list_in, listed, number_at, page_in};
+ghost use Rattle.request_words.specs.Words.{program, request_of, result_and_then, share_in, share_over_votes};
 ghost use Rattle.request_words.specs.Words.{wants_names, way_by, way_in, way_names, without_both};
 
+use crate::commands::program;
 use crate::ending::kind_in_path;
-use crate::help;
 use crate::number_list::list_of;
-use crate::request::{MOST_LIMIT, Page, Request, Rule, Task};
-use ballot_base::MOST_MEMBERS;
+use crate::request::{Page, Request, Rule, Task};
 use clap::error::ErrorKind;
-use clap::{Arg, ArgAction, ArgMatches, Command, Error, value_parser};
+use clap::{ArgMatches, Error};
 use group_check::Property;
 use preflib_text::{Kind, Pick, Way};
-use seat_share::{MOST_SEATS, Method};
+use seat_share::Method;
 use std::alloc::{AllocError, Global};
 
 /// An option whose value is a list of numbers.
@@ -92,26 +92,11 @@ impl From<AllocError> for LineFault {
     }
 }
 
-/// The values of `--rule`.
-static RULES: [&str; 11] = [
-    "av",
-    "pav",
-    "cc",
-    "geom2",
-    "geom3",
-    "geom4",
-    "sav",
-    "minimax",
-    "seqpav",
-    "seqcc",
-    "revseqpav",
-];
-
 /// The request of the words, of which the first is the program's name.
 pub fn read_request(alloc: Global, words: &[String]) -> Result<Request, LineFault>
     ensures request { IfOk result (λ r. request_of (map string_bytes words.now) ≡ Some r) }
     ensures taken { takes program (map string_bytes words.now) ≡ true → IfErr result IsAfterClap }
-    ensures fault { IfErr result (IsAnswerTo (map string_bytes words.now)) }
+    ensures fault { IfErr result (RefusesWords (map string_bytes words.now)) }
 {
     let program = program(alloc)?;
     match program.try_get_matches_from(words) {
@@ -123,231 +108,7 @@ pub fn read_request(alloc: Global, words: &[String]) -> Result<Request, LineFaul
     }
 }
 
-// The program as clap sees it.
-fn program<'a>(alloc: Global) -> Result<Command<'a>, AllocError>
-    ensures { IfOk result IsProgram }
-{
-    Command::new(alloc, "committees")
-        .about(
-            "Elects committees by the approval ballots of PrefLib files, checks them, and shares out seats",
-        )
-        .after_long_help(help::PROGRAM)
-        .subcommand_required(true)
-        .subcommand(elect(alloc)?)?
-        .subcommand(check(alloc)?)?
-        .subcommand(share(alloc)?)
-}
-
-// The command `elect`.
-fn elect<'a>(alloc: Global) -> Result<Command<'a>, AllocError>
-    ensures { IfOk result (IsCommand rule_names elect_over) }
-{
-    let elect = Command::new(alloc, "elect")
-        .about("Prints every committee that wins")
-        .after_long_help(help::ELECT)
-        .arg(rule_option(alloc))?
-        .arg(size_option(alloc))?;
-    with_input(alloc, with_page(alloc, elect)?)
-}
-
-// The command `check`.
-fn check<'a>(alloc: Global) -> Result<Command<'a>, AllocError>
-    ensures { IfOk result (IsCommand property_names check_over) }
-{
-    let check = Command::new(alloc, "check")
-        .about(
-            "Tells whether a committee represents the voters, and prints a group that it leaves out",
-        )
-        .after_long_help(help::CHECK)
-        .arg(property_option(alloc))?
-        .arg(committee_option(alloc))?;
-    with_input(alloc, check)
-}
-
-// The command `share`.
-fn share<'a>(alloc: Global) -> Result<Command<'a>, AllocError>
-    ensures { IfOk result (IsCommand method_names share_over) }
-{
-    let share = Command::new(alloc, "share")
-        .about("Prints every way to share out seats among parties")
-        .after_long_help(help::SHARE)
-        .arg(method_option(alloc))?
-        .arg(seats_option(alloc))?
-        .arg(votes_option(alloc))?;
-    with_input(alloc, with_page(alloc, share)?)
-}
-
-// The command with the options that tell which of its answers are asked for.
-fn with_page<'a>(alloc: Global, command: Command<'a>) -> Result<Command<'a>, AllocError>
-    ensures { IfOk result (AddsPage command.entry) }
-{
-    command.arg(after_option(alloc))?.arg(limit_option(alloc))
-}
-
-// The command with the options that all commands have, and with `FILE`.
-fn with_input<'a>(alloc: Global, command: Command<'a>) -> Result<Command<'a>, AllocError>
-    ensures { IfOk result (AddsInput command.entry) }
-{
-    command
-        .arg(kind_option(alloc))?
-        .arg(category_option(alloc))?
-        .arg(set_size_option(alloc))?
-        .arg(classes_option(alloc))?
-        .arg(names_option(alloc))?
-        .arg(file_word(alloc))
-}
-
-fn rule_option<'a>(alloc: Global) -> Arg<'a>
-    ensures { IsNameOption rule_names (λ names. required (name_option (codes "rule") names)) result }
-{
-    Arg::new(alloc, "rule")
-        .long("rule")
-        .value_name("RULE")
-        .required(true)
-        .value_parser(RULES.as_slice())
-        .help("The rule by which committees win")
-}
-
-fn size_option<'a>(alloc: Global) -> Arg<'a>
-    ensures { IsArgument (required (number_option (codes "size") most_members)) result }
-{
-    Arg::new(alloc, "size")
-        .long("size")
-        .value_name("SIZE")
-        .required(true)
-        .value_parser(value_parser!(u8).range(1..=i64::from(MOST_MEMBERS)))
-        .help("The number of seats to be filled")
-}
-
-fn property_option<'a>(alloc: Global) -> Arg<'a>
-    ensures { IsNameOption property_names (λ names. required (name_option (codes "property") names)) result }
-{
-    Arg::new(alloc, "property")
-        .long("property")
-        .value_name("PROPERTY")
-        .required(true)
-        .value_parser(Property::NAMES.as_slice())
-        .help("The property that the committee is checked for")
-}
-
-fn committee_option<'a>(alloc: Global) -> Arg<'a>
-    ensures { IsArgument (required (text_option (codes "committee"))) result }
-{
-    Arg::new(alloc, "committee")
-        .long("committee")
-        .value_name("LIST")
-        .required(true)
-        .help("The members of the committee, as 2,3,5")
-}
-
-fn method_option<'a>(alloc: Global) -> Arg<'a>
-    ensures { IsNameOption method_names (λ names. required (name_option (codes "method") names)) result }
-{
-    Arg::new(alloc, "method")
-        .long("method")
-        .value_name("METHOD")
-        .required(true)
-        .value_parser(Method::NAMES.as_slice())
-        .help("The method by which seats are shared out")
-}
-
-fn seats_option<'a>(alloc: Global) -> Arg<'a>
-    ensures { IsArgument (required (number_option (codes "seats") most_seats)) result }
-{
-    Arg::new(alloc, "seats")
-        .long("seats")
-        .value_name("SEATS")
-        .required(true)
-        .value_parser(value_parser!(u16).range(1..=i64::from(MOST_SEATS)))
-        .help("The number of seats to share out")
-}
-
-fn votes_option<'a>(alloc: Global) -> Arg<'a>
-    ensures { IsArgument (text_option (codes "votes")) result }
-{
-    Arg::new(alloc, "votes")
-        .long("votes")
-        .value_name("LIST")
-        .help("The votes of each party, as 53,24,23 [default: those of the ballots]")
-}
-
-fn after_option<'a>(alloc: Global) -> Arg<'a>
-    ensures { IsArgument (text_option (codes "after")) result }
-{
-    Arg::new(alloc, "after")
-        .long("after")
-        .value_name("LIST")
-        .help("Prints only the answers that come after this one, as 2,3,5")
-}
-
-fn limit_option<'a>(alloc: Global) -> Arg<'a>
-    ensures { IsArgument (number_option (codes "limit") most_limit) result }
-{
-    Arg::new(alloc, "limit")
-        .long("limit")
-        .value_name("N")
-        .value_parser(value_parser!(u32).range(1..=i64::from(MOST_LIMIT)))
-        .help("Prints N answers at most, and whether there are more [default: all]")
-}
-
-fn names_option<'a>(alloc: Global) -> Arg<'a>
-    ensures { IsArgument (flag_option (codes "names")) result }
-{
-    Arg::new(alloc, "names")
-        .long("names")
-        .action(ArgAction::SetTrue)
-        .help("Prints the names of the candidates beside their numbers")
-}
-
-fn kind_option<'a>(alloc: Global) -> Arg<'a>
-    ensures { IsNameOption kind_names (name_option (codes "kind")) result }
-{
-    Arg::new(alloc, "kind")
-        .long("kind")
-        .value_name("KIND")
-        .value_parser(Kind::NAMES.as_slice())
-        .help("The type of the file [default: its line DATA TYPE, or its ending]")
-}
-
-fn category_option<'a>(alloc: Global) -> Arg<'a>
-    ensures { IsArgument (number_option (codes "category") 1000000) result }
-{
-    Arg::new(alloc, "category")
-        .long("category")
-        .value_name("N")
-        .value_parser(value_parser!(u32).range(1..=1_000_000))
-        .help("Approves category N of a cat file [default: the first]")
-}
-
-fn set_size_option<'a>(alloc: Global) -> Arg<'a>
-    ensures { IsArgument (number_option (codes "setsize") 1000000) result }
-{
-    Arg::new(alloc, "setsize")
-        .long("setsize")
-        .value_name("N")
-        .value_parser(value_parser!(u32).range(1..=1_000_000))
-        .help("Approves the fewest first classes of a ranking that have N candidates")
-}
-
-fn classes_option<'a>(alloc: Global) -> Arg<'a>
-    ensures { IsArgument (number_option (codes "classes") 1000000) result }
-{
-    Arg::new(alloc, "classes")
-        .long("classes")
-        .value_name("N")
-        .value_parser(value_parser!(u32).range(1..=1_000_000))
-        .help("Approves the first N classes of a ranking [default: the first that is not empty]")
-}
-
-fn file_word<'a>(alloc: Global) -> Arg<'a>
-    ensures { IsArgument file_word result }
-{
-    Arg::new(alloc, "file")
-        .value_name("FILE")
-        .help("The ballots, a PrefLib file [default: standard input]")
-}
-
-// The request in what clap found for the command of this name.
+/// The request in what clap found for the command of this name.
 fn asked(alloc: Global, name: &str, command: &ArgMatches<'_>) -> Result<Request, LineFault>
     requires { HasValues name.now (rows_of (found_of command.now)) }
     ensures { GivesAsked (asked_in name.now (rows_of (found_of command.now))) result }
@@ -359,7 +120,7 @@ fn asked(alloc: Global, name: &str, command: &ArgMatches<'_>) -> Result<Request,
     }
 }
 
-// The request in what clap found for `elect`.
+/// The request in what clap found for `elect`.
 fn elect_asked(alloc: Global, elect: &ArgMatches<'_>) -> Result<Request, LineFault>
     requires { HasElectValues (rows_of (found_of elect.now)) }
     ensures { GivesAsked (elect_in (rows_of (found_of elect.now))) result }
@@ -369,7 +130,7 @@ fn elect_asked(alloc: Global, elect: &ArgMatches<'_>) -> Result<Request, LineFau
     request(alloc, elect, Task::Elect(rule, size, page))
 }
 
-// The rule and the number of seats.
+/// The rule and the number of seats.
 fn rule_and_size(elect: &ArgMatches<'_>) -> (Rule, u8)
     requires { HasElectValues (rows_of (found_of elect.now)) }
     ensures asked { let rows = rows_of (found_of elect.now) in
@@ -382,7 +143,7 @@ fn rule_and_size(elect: &ArgMatches<'_>) -> (Rule, u8)
     (rule, size)
 }
 
-// The request in what clap found for `check`.
+/// The request in what clap found for `check`.
 fn check_asked(alloc: Global, check: &ArgMatches<'_>) -> Result<Request, LineFault>
     requires { HasCheckValues (rows_of (found_of check.now)) }
     ensures { GivesAsked (check_in (rows_of (found_of check.now))) result }
@@ -393,7 +154,7 @@ fn check_asked(alloc: Global, check: &ArgMatches<'_>) -> Result<Request, LineFau
     request(alloc, check, Task::Check(property, committee))
 }
 
-// The request in what clap found for `share`.
+/// The request in what clap found for `share`.
 fn share_asked(alloc: Global, share: &ArgMatches<'_>) -> Result<Request, LineFault>
     requires { HasShareValues (rows_of (found_of share.now)) }
     ensures { GivesAsked (share_in (rows_of (found_of share.now))) result }
@@ -408,7 +169,7 @@ fn share_asked(alloc: Global, share: &ArgMatches<'_>) -> Result<Request, LineFau
     Ok(request)
 }
 
-// The method and the number of seats.
+/// The method and the number of seats.
 fn method_and_seats(share: &ArgMatches<'_>) -> (Method, u16)
     requires { HasShareValues (rows_of (found_of share.now)) }
     ensures asked { let rows = rows_of (found_of share.now) in
@@ -422,7 +183,7 @@ fn method_and_seats(share: &ArgMatches<'_>) -> (Method, u16)
     (method, seats)
 }
 
-// Which of the answers are asked for.
+/// Which of the answers are asked for.
 fn page(alloc: Global, command: &ArgMatches<'_>) -> Result<Page, LineFault>
     requires { HasLimit (rows_of (found_of command.now)) }
     ensures given { Gives paging_of (page_in (rows_of (found_of command.now))) result }
@@ -433,7 +194,7 @@ fn page(alloc: Global, command: &ArgMatches<'_>) -> Result<Page, LineFault>
     Ok(Page { after, limit })
 }
 
-// The list of an option, if it is given.
+/// The list of an option, if it is given.
 fn list_given(
     alloc: Global,
     command: &ArgMatches<'_>,
@@ -449,7 +210,7 @@ fn list_given(
     }
 }
 
-// The numbers in the list of an option.
+/// The numbers in the list of an option.
 fn numbers(alloc: Global, option: ListOption, text: &str) -> Result<Vec<u64>, LineFault>
     ensures given { Gives vec_items (listed option text.now) result }
     ensures some { IfOk result (λ v. vec_items v ≢ []) }
@@ -457,28 +218,28 @@ fn numbers(alloc: Global, option: ListOption, text: &str) -> Result<Vec<u64>, Li
     list_of(alloc, text)?.ok_or(LineFault::BadList(option))
 }
 
-// Whether anything is said of an input: a file, or how one is read.
+/// Whether anything is said of an input: a file, or how one is read.
 fn has_input(command: &ArgMatches<'_>) -> bool
     ensures { result ≡ has_input (rows_of (found_of command.now)) }
 {
     is_given(command, "file") || is_given(command, "kind") || has_way(command)
 }
 
-// Whether a way is given.
+/// Whether a way is given.
 fn has_way(command: &ArgMatches<'_>) -> bool
     ensures { result ≡ list_any (is_given (rows_of (found_of command.now))) way_names }
 {
     is_given(command, "category") || is_given(command, "setsize") || is_given(command, "classes")
 }
 
-// Whether an argument is given.
+/// Whether an argument is given.
 fn is_given(command: &ArgMatches<'_>, name: &str) -> bool
     ensures { result ≡ is_given (rows_of (found_of command.now)) name.now }
 {
     command.contains_id(name)
 }
 
-// The request to do this over the input that clap found for a command.
+/// The request to do this over the input that clap found for a command.
 fn request(alloc: Global, command: &ArgMatches<'_>, task: Task) -> Result<Request, LineFault>
     requires counts { HasCounts (rows_of (found_of command.now)) }
     requires range { InRange (demand_of task) }
@@ -492,7 +253,7 @@ fn request(alloc: Global, command: &ArgMatches<'_>, task: Task) -> Result<Reques
     Ok(Request::new(task, pick, file, wants_names(command)))
 }
 
-// Whether names are asked for.
+/// Whether names are asked for.
 fn wants_names(command: &ArgMatches<'_>) -> bool
     requires { IsFlag (one_of (codes "names") (rows_of (found_of command.now))) }
     ensures { result ≡ wants_names (rows_of (found_of command.now)) }
@@ -500,7 +261,7 @@ fn wants_names(command: &ArgMatches<'_>) -> bool
     command.get_flag("names")
 }
 
-// How a file with this path is read.
+/// How a file with this path is read.
 fn pick_of(kind: Option<&str>, path: Option<&str>, way: Way) -> Pick
     ensures { result ≡ record {
       kind = option_and_then kind_named (option_map (λ s. s.now) kind.entry);
@@ -519,7 +280,7 @@ fn pick_of(kind: Option<&str>, path: Option<&str>, way: Way) -> Pick
     Pick { kind, ending, way }
 }
 
-// The way in what clap found for a command, where there are not two.
+/// The way in what clap found for a command, where there are not two.
 fn way_asked(command: &ArgMatches<'_>) -> Option<Way>
     requires { HasCounts (rows_of (found_of command.now)) }
     ensures value { result ≡ way_in (rows_of (found_of command.now)) }
@@ -531,7 +292,7 @@ fn way_asked(command: &ArgMatches<'_>) -> Option<Way>
     one_way(category, set_size, classes)
 }
 
-// The number of an option, where it is given.
+/// The number of an option, where it is given.
 fn number(command: &ArgMatches<'_>, name: &str) -> Option<u32>
     requires { IsCount (one_of name.now (rows_of (found_of command.now))) }
     ensures value { result ≡ number_at name.now (rows_of (found_of command.now)) }
@@ -541,7 +302,7 @@ fn number(command: &ArgMatches<'_>, name: &str) -> Option<u32>
     command.get_one::<u32>(name)
 }
 
-// The way of the numbers that are given, where there are not two.
+/// The way of the numbers that are given, where there are not two.
 fn one_way(category: Option<u32>, set_size: Option<u32>, classes: Option<u32>) -> Option<Way>
     requires category { IfSome category (λ n. 1 ≤ n) }
     requires set_size { IfSome set_size (λ n. 1 ≤ n) }
@@ -558,7 +319,7 @@ fn one_way(category: Option<u32>, set_size: Option<u32>, classes: Option<u32>) -
     }
 }
 
-// A text of its own, where there is one.
+/// A text of its own, where there is one.
 fn owned(alloc: Global, text: Option<&str>) -> Result<Option<String>, AllocError>
     ensures { IfOk result (λ r. option_map string_bytes r ≡ option_map (λ s. s.now) text.entry) }
 {
@@ -568,7 +329,7 @@ fn owned(alloc: Global, text: Option<&str>) -> Result<Option<String>, AllocError
     }
 }
 
-// Clap's answer to words that it does not take.
+/// Clap's answer to words that it does not take.
 fn fault(alloc: Global, error: &Error) -> LineFault
     ensures { IsFaultOf (error_kind_of error.now) result }
 {

@@ -4,7 +4,7 @@ use Rattle.seat_share.specs.declared.method.Method.TheVariants.{Hamilton, Dhondt
 use Rattle.seat_share.specs.declared.method.ShareFault.TheVariants.{NoParties, TooManyParties, NoVotes, TooManyVotes, BadSeats, AfterLength}
 use Rattle.seat_share.specs.Quotients.{quotient, is_at_least}
 use Rattle.seat_share.specs.Allocations.{lists_with_sum, allocations, is_later, later_than}
-use Rattle.seat_share.specs.Faults.{first_fault}
+use Rattle.seat_share.specs.Faults.{share_fault}
 use Rattle.seat_share.specs.Steps.Choices.{choices}
 use Rattle.seat_share.specs.Steps.Claims.{claim, most_dividend, most_divisor}
 use Rattle.seat_share.specs.Names.{method_name, method_named, methods, share_fault_name}
@@ -97,9 +97,9 @@ unfolding lists_with_sum
 between = (refl, refl)
 
 -- ---- faults
-faults : (first_fault [] 0 (Some []) ≡ Some NoParties) × (first_fault (replicate 65 0) 0 None ≡ Some TooManyParties) × (first_fault (0 ∷ 0 ∷ []) 0 None ≡ Some NoVotes)
-    × (first_fault (4294967296 ∷ 1 ∷ []) 1 None ≡ Some TooManyVotes) × (first_fault (1 ∷ []) 0 (Some []) ≡ Some BadSeats) × (first_fault (1 ∷ []) 10001 None ≡ Some BadSeats)
-    × (first_fault (1 ∷ 1 ∷ []) 1 (Some (0 ∷ [])) ≡ Some AfterLength) × (first_fault (1 ∷ 1 ∷ []) 1 (Some (9 ∷ 9 ∷ [])) ≡ None) × (first_fault (replicate 64 1) 10000 None ≡ None)
+faults : (share_fault [] 0 (Some []) ≡ Some NoParties) × (share_fault (replicate 65 0) 0 None ≡ Some TooManyParties) × (share_fault (0 ∷ 0 ∷ []) 0 None ≡ Some NoVotes)
+    × (share_fault (4294967296 ∷ 1 ∷ []) 1 None ≡ Some TooManyVotes) × (share_fault (1 ∷ []) 0 (Some []) ≡ Some BadSeats) × (share_fault (1 ∷ []) 10001 None ≡ Some BadSeats)
+    × (share_fault (1 ∷ 1 ∷ []) 1 (Some (0 ∷ [])) ≡ Some AfterLength) × (share_fault (1 ∷ 1 ∷ []) 1 (Some (9 ∷ 9 ∷ [])) ≡ None) × (share_fault (replicate 64 1) 10000 None ≡ None)
 faults = (refl, refl, refl, refl, refl, refl, refl, refl, refl)
 
 -- ---- names

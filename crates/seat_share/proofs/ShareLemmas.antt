@@ -2,7 +2,7 @@
 use Rattle.std.proofs.Common.{◌≡◌, ℕ, zero, suc, ◌+◌, ◌-◌, ◌<◌, ◌≤◌, Bool, true, false, cond, List, [], ◌∷◌, ◌++◌, refl, sym, ap, ap₂, subst, ◌∙◌, arith, map, sum, length, take, set, get_or, Option, Some, None, is_some, true≢false, ◌==◌}
 use Rattle.std.specs.Prelude.{nat_lt}
 use Rattle.seat_share.specs.declared.method.ShareFault.TheVariants.{NoParties, TooManyParties, NoVotes, TooManyVotes}
-use Rattle.seat_share.specs.Faults.{first_fault}
+use Rattle.seat_share.specs.Faults.{share_fault}
 use Rattle.std.specs.List.{AllByRecursion}
 use Rattle.std.proofs.lemmas.List.Sums.{sum_by-cons}
 use Rattle.std.proofs.lemmas.List.{take_more, length-append}
@@ -137,7 +137,7 @@ not-more : (a b : ℕ) → nat_lt a b ≡ false → b ≤ a
 not-more a b h = grind arith
 
 -- votes, seats and a start without a fault
-pub votes-fit : (votes : List ℕ) (seats : ℕ) (after : Option (List ℕ)) → first_fault votes seats after ≡ None → sum votes ≤ most_votes
+pub votes-fit : (votes : List ℕ) (seats : ℕ) (after : Option (List ℕ)) → share_fault votes seats after ≡ None → sum votes ≤ most_votes
 votes-fit votes seats after h =
     let parties = if-none (length votes == 0) NoParties _ h in
     let few = if-none (nat_lt most_parties (length votes)) TooManyParties _ parties.1 in

@@ -12,8 +12,8 @@ has_other_length count None = false
 has_other_length count (Some start) = not (length start == count)
 
 -- the first fault of these votes, seats and start, if there is one
-abbrev pub first_fault : List ℕ → ℕ → Option (List ℕ) → Option ShareFault
-first_fault votes seats after =
+abbrev pub share_fault : List ℕ → ℕ → Option (List ℕ) → Option ShareFault
+share_fault votes seats after =
     if length votes == 0 then Some NoParties
     else if nat_lt most_parties (length votes) then Some TooManyParties
     else if sum votes == 0 then Some NoVotes

@@ -4,7 +4,7 @@ ghost use Rattle.std.specs.List.{AllByRecursion};
 ghost use Rattle.std.specs.Iterator.{YieldsFirst, item_count};
 ghost use Rattle.std.specs.Option.{option_copied};
 ghost use Rattle.seat_share.specs.Allocations.{allocations, later_than};
-ghost use Rattle.seat_share.specs.Faults.{first_fault};
+ghost use Rattle.seat_share.specs.Faults.{share_fault};
 ghost use Rattle.seat_share.specs.Limits.{most_parties, most_votes};
 ghost use Rattle.seat_share.specs.Steps.Standings.{IsChoosing, allocation, allocations_left, votes_of};
 
@@ -76,11 +76,11 @@ impl Shares {
         after: Option<&[u16]>,
     ) -> Result<Shares, ShareFault>
         ensures ok { let start = option_copied after.entry in IfOk result (λ shares.
-            (first_fault votes.now seats start ≡ None)
+            (share_fault votes.now seats start ≡ None)
             × (shares ≡ later_than start (allocations method votes.now seats))) }
-        ensures err { IfErr result (λ fault. first_fault votes.now seats (option_copied after.entry) ≡ Some fault) }
+        ensures err { IfErr result (λ fault. share_fault votes.now seats (option_copied after.entry) ≡ Some fault) }
     {
-        if let Some(fault) = first_fault(votes, seats, after) {
+        if let Some(fault) = share_fault(votes, seats, after) {
             return Err(fault);
         }
         let contest = Contest {
@@ -117,8 +117,8 @@ impl Iterator for Shares {
 }
 
 /// The first fault of the votes, the seats and the start, if there is one.
-fn first_fault(votes: &[u64], seats: u16, after: Option<&[u16]>) -> Option<ShareFault>
-    ensures { result ≡ first_fault votes.now seats (option_copied after.entry) }
+fn share_fault(votes: &[u64], seats: u16, after: Option<&[u16]>) -> Option<ShareFault>
+    ensures { result ≡ share_fault votes.now seats (option_copied after.entry) }
 {
     if votes.is_empty() {
         return Some(ShareFault::NoParties);

@@ -13,7 +13,7 @@ use Rattle.ballot_base.specs.CandSet.{has_member, with_member, without_member}
 use Rattle.ballot_base.specs.Ballots.{Row}
 use Rattle.ballot_base.proofs.Committees.{length-increasing}
 use Rattle.tie_walk.specs.Sequences.{others}
-use Rattle.tie_walk.specs.Steps.Choices.{is_open, change, is_choice, start}
+use Rattle.tie_walk.specs.Steps.Choices.{may_choose, change, is_choice, start}
 use Rattle.tie_walk.specs.declared.sequential.Step.{Step}
 use Rattle.tie_walk.specs.declared.sequential.Step.TheVariants.{Grow, Shrink}
 use Rattle.tie_walk.proofs.Choices.{Contains-map, Contains-flat_map, Contains-range, reached_none, reached_start, reached_more, reached_last}
@@ -37,11 +37,11 @@ change-increasing : (step : Step) (m : ℕ) (set : List ℕ) (c : ℕ) → IsInc
 change-increasing Grow m set c up low high = with-increasing m set c up low high
 change-increasing Shrink m set c up low high = without-increasing m set c up low high
 
-change-sized : (step : Step) (m size : ℕ) (set : List ℕ) (c : ℕ) → IsIncreasing 1 m set → is_open step set c ≡ true → IsOfSize step m size set → IsOfSize step m (size + 1) (change step set c)
+change-sized : (step : Step) (m size : ℕ) (set : List ℕ) (c : ℕ) → IsIncreasing 1 m set → may_choose step set c ≡ true → IsOfSize step m size set → IsOfSize step m (size + 1) (change step set c)
 change-sized Grow m size set c up free sized = omega (arith, length-with_member set c (not-true (has_member set c) free), sized)
 change-sized Shrink m size set c up free sized = omega (arith, length-without_member 1 m set c up free, sized)
 
-old-sized : (step : Step) (m size : ℕ) (old : List ℕ) (c : ℕ) (made : List ℕ) → IsIncreasing 1 m old → is_open step old c ≡ true → change step old c ≡ made → IsOfSize step m (size + 1) made → IsOfSize step m size old
+old-sized : (step : Step) (m size : ℕ) (old : List ℕ) (c : ℕ) (made : List ℕ) → IsIncreasing 1 m old → may_choose step old c ≡ true → change step old c ≡ made → IsOfSize step m (size + 1) made → IsOfSize step m size old
 old-sized Grow m size old c made up free is sized = omega (arith, length-with_member old c (not-true (has_member old c) free), sized, ap length is)
 old-sized Shrink m size old c made up free is sized = omega (arith, length-without_member 1 m old c up free, sized, ap length is)
 
@@ -88,7 +88,7 @@ below-ahead : (step : Step) (rows : List Row) (x y : List ℕ) → IsBelow rows 
 below-ahead Grow rows x y below above = below
 below-ahead Shrink rows x y below above = above
 
-ahead-change : (step : Step) (m : ℕ) (rows : List Row) (set : List ℕ) (c : ℕ) → IsIncreasing 1 m set → is_open step set c ≡ true → IsAhead step rows set (change step set c)
+ahead-change : (step : Step) (m : ℕ) (rows : List Row) (set : List ℕ) (c : ℕ) → IsIncreasing 1 m set → may_choose step set c ≡ true → IsAhead step rows set (change step set c)
 ahead-change Grow m rows set c up free = λ x. omega (arith, count-with (are_clones rows x) set c (not-true (has_member set c) free))
 ahead-change Shrink m rows set c up free = λ x. omega (arith, count-without (are_clones rows x) 1 m set c up free)
 
@@ -112,7 +112,7 @@ span-made Grow weights m rows size set last made span up up' few sized ahead unt
     let old : List ℕ = without_member made t.0 in
     let less = λ (x : ℕ). count-without (are_clones rows x) 1 m made t.0 up' t.1 in
     let inner : IsIncreasing 1 m old = without-increasing m made t.0 up' bounds.0 bounds.1 in
-    let free : is_open Grow old t.0 ≡ true = not_from_false (has_member old t.0) (without-itself made t.0) in
+    let free : may_choose Grow old t.0 ≡ true = not_from_false (has_member old t.0) (without-itself made t.0) in
     let is : with_member old t.0 ≡ made = with-without m made t.0 up' bounds.0 bounds.1 t.1 in
     let under : IsBelow rows set old = λ x. elim (cases_Bool (are_clones rows x t.0)) [
       | inl same ↦
@@ -137,7 +137,7 @@ span-made Shrink weights m rows size set last made span up up' few sized ahead u
     let old : List ℕ = with_member made t.0 in
     let more = λ (x : ℕ). count-with (are_clones rows x) made t.0 new in
     let inner : IsIncreasing 1 m old = with-increasing m made t.0 up' parts.0.0 parts.0.1 in
-    let free : is_open Shrink old t.0 ≡ true = with-itself made t.0 in
+    let free : may_choose Shrink old t.0 ≡ true = with-itself made t.0 in
     let is : without_member old t.0 ≡ made = without-with m made t.0 up' parts.0.0 parts.0.1 new in
     let under : IsBelow rows old set = λ x. elim (cases_Bool (are_clones rows x t.0)) [
       | inl same ↦

@@ -7,7 +7,7 @@ use Rattle.ballot_base.specs.Lists.{IsIncreasing}
 use Rattle.ballot_base.specs.CandSet.{has_member, other_members, with_member, without_member}
 use Rattle.ballot_base.proofs.Increasing.{IsIncreasing-filter, IsIncreasing-with_member, has_member-filter, has_member-with_member, has_member_head, has_member_tail, same_increasing}
 use Rattle.tie_walk.specs.Sequences.{others}
-use Rattle.tie_walk.specs.Steps.Choices.{is_open, open_candidates}
+use Rattle.tie_walk.specs.Steps.Choices.{may_choose, open_candidates}
 use Rattle.tie_walk.specs.declared.sequential.Step.{Step}
 use Rattle.tie_walk.proofs.LawLemmas.{IsIncreasing-range}
 use Rattle.tie_walk.proofs.LevelLemmas.{in_bounds}
@@ -136,14 +136,14 @@ members-of m set up =
 pub count-others : (p : ℕ → Bool) (m : ℕ) (set : List ℕ) → IsIncreasing 1 m set → count_by p set + count_by p (others m set) ≡ count_by p (range_with_len 1 m)
 count-others p m set up = omega (arith, count-parts p (has_member set) (range_with_len 1 m), ap (count_by p) (members-of m set up))
 
-pub open-is : (step : Step) (m : ℕ) (set : List ℕ) (c : ℕ) → has_member (open_candidates step m set) c ≡ true → ((1 ≤ c) × (c ≤ m)) × (is_open step set c ≡ true)
+pub open-is : (step : Step) (m : ℕ) (set : List ℕ) (c : ℕ) → has_member (open_candidates step m set) c ≡ true → ((1 ≤ c) × (c ≤ m)) × (may_choose step set c ≡ true)
 open-is step m set c inside =
-    let parts = and_parts (is_open step set c) (has_member (range_with_len 1 m) c) (sym (has_member-filter (is_open step set) (range_with_len 1 m) c) ∙ inside) in
+    let parts = and_parts (may_choose step set c) (has_member (range_with_len 1 m) c) (sym (has_member-filter (may_choose step set) (range_with_len 1 m) c) ∙ inside) in
     (in_bounds m (range_with_len 1 m) c (IsIncreasing-range 1 m m (omega arith)) parts.1, parts.0)
 
-pub open-from : (step : Step) (m : ℕ) (set : List ℕ) (c : ℕ) → 1 ≤ c → c ≤ m → is_open step set c ≡ true → has_member (open_candidates step m set) c ≡ true
+pub open-from : (step : Step) (m : ℕ) (set : List ℕ) (c : ℕ) → 1 ≤ c → c ≤ m → may_choose step set c ≡ true → has_member (open_candidates step m set) c ≡ true
 open-from step m set c low high is =
-    has_member-filter (is_open step set) (range_with_len 1 m) c ∙ and_from (is_open step set c) (has_member (range_with_len 1 m) c) is (has_member-range 1 m c low (omega (arith, high)))
+    has_member-filter (may_choose step set) (range_with_len 1 m) c ∙ and_from (may_choose step set c) (has_member (range_with_len 1 m) c) is (has_member-range 1 m c low (omega (arith, high)))
 
 -- the first of the members of a set outside another
 pub free-among : (m : ℕ) (most set : List ℕ) (x : ℕ) (rest : List ℕ) → IsIncreasing 1 m most → other_members most set ≡ x ∷ rest → ((1 ≤ x) × (x ≤ m)) × (has_member set x ≡ false)

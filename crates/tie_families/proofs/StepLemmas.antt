@@ -9,7 +9,7 @@ use Rattle.ballot_base.specs.Ballots.{Row}
 use Rattle.ballot_base.proofs.Increasing.{IsIncreasing-filter, IsIncreasing-lower, has_member-filter, with_member-above}
 use Rattle.tie_walk.proofs.LawLemmas.{IsIncreasing-range}
 use Rattle.tie_walk.specs.Sequences.{gain, others}
-use Rattle.tie_walk.specs.Steps.Choices.{is_open, change, worth, is_no_better, better, worst, open_candidates, is_choice}
+use Rattle.tie_walk.specs.Steps.Choices.{may_choose, change, worth, is_no_better, better, worst, open_candidates, is_choice}
 use Rattle.tie_walk.specs.declared.sequential.Step.{Step}
 use Rattle.tie_walk.specs.declared.sequential.Step.TheVariants.{Grow, Shrink}
 use Rattle.tie_walk.proofs.StepLemmas.{best-is, filter-next, has_member-range}
@@ -51,11 +51,11 @@ and-assoc false b c = refl
 
 module _ (step : Step) (weights : List ℕ) (m : ℕ) (rows : List Row) (set : List ℕ) (w : ℕ → ℕ) (best : ℕ) where
   choice-is : ((c : ℕ) → w c ≡ worth step weights rows set c) → ((c : ℕ) → w c ≤ 2 ^ 128 - 1) → best ≡ fold (better step) (worst step) (map w (open_candidates step m set))
-      → (c : ℕ) → 1 ≤ c → c < 1 + m → (is_open step set c && (w c == best)) ≡ is_choice step weights m rows set c
+      → (c : ℕ) → 1 ≤ c → c < 1 + m → (may_choose step set c && (w c == best)) ≡ is_choice step weights m rows set c
   choice-is are fit is c low high =
       let all = open_candidates step m set in
-      let member : has_member all c ≡ is_open step set c = has_member-filter (is_open step set) (range_with_len 1 m) c ∙ ap (λ b. is_open step set c && b) (has_member-range 1 m c low high) ∙ and-true (is_open step set c) in
-      elim (cases_Bool (is_open step set c)) [
+      let member : has_member all c ≡ may_choose step set c = has_member-filter (may_choose step set) (range_with_len 1 m) c ∙ ap (λ b. may_choose step set c && b) (has_member-range 1 m c low high) ∙ and-true (may_choose step set c) in
+      elim (cases_Bool (may_choose step set c)) [
         | inl free ↦
             let inside : has_member all c ≡ true = member ∙ free in
             let here : (w c == best) ≡ list_all (λ d. is_no_better step (worth step weights rows set d) (worth step weights rows set c)) all =
@@ -64,18 +64,18 @@ module _ (step : Step) (weights : List ℕ) (m : ℕ) (rows : List Row) (set : L
             (λ d. ap (λ n. is_no_better step n (w c)) (are d) ∙ ap (λ n. is_no_better step (worth step weights rows set d) n) (are c)) in
             ap (λ b. b && (w c == best)) (sym member) ∙ ap (λ b. has_member all c && b) here
         | inr shut ↦
-            and_left (is_open step set c) (w c == best) shut
+            and_left (may_choose step set c) (w c == best) shut
             ∙ sym (and_left (has_member all c) (list_all (λ d. is_no_better step (worth step weights rows set d) (worth step weights rows set c)) all) (member ∙ shut))
       ]
 
   -- those whom the code finds are the first of the clones that tie
   pub ties-are : (table : List (List ℕ)) → ((c : ℕ) → w c ≡ worth step weights rows set c) → ((c : ℕ) → w c ≤ 2 ^ 128 - 1) → best ≡ fold (better step) (worst step) (map w (open_candidates step m set))
       → AreClones m rows table
-      → filter (λ c. is_open step set c && (w c == best && is_first_open step (get_or table c []) set c)) (range_with_len 1 m) ≡ ties step weights m rows set
+      → filter (λ c. may_choose step set c && (w c == best && is_first_open step (get_or table c []) set c)) (range_with_len 1 m) ≡ ties step weights m rows set
   ties-are table are fit is clones =
-      same_filter (λ c. is_open step set c && (w c == best && is_first_open step (get_or table c []) set c)) (λ c. is_choice step weights m rows set c && is_first_open step (clones_among m rows c) set c) (range_with_len 1 m)
-      (all_range (λ c. (is_open step set c && (w c == best && is_first_open step (get_or table c []) set c)) ≡ (is_choice step weights m rows set c && is_first_open step (clones_among m rows c) set c)) 1 m
-      (λ c low high. and-assoc (is_open step set c) (w c == best) (is_first_open step (get_or table c []) set c)
+      same_filter (λ c. may_choose step set c && (w c == best && is_first_open step (get_or table c []) set c)) (λ c. is_choice step weights m rows set c && is_first_open step (clones_among m rows c) set c) (range_with_len 1 m)
+      (all_range (λ c. (may_choose step set c && (w c == best && is_first_open step (get_or table c []) set c)) ≡ (is_choice step weights m rows set c && is_first_open step (clones_among m rows c) set c)) 1 m
+      (λ c low high. and-assoc (may_choose step set c) (w c == best) (is_first_open step (get_or table c []) set c)
       ∙ ap (λ b. b && is_first_open step (get_or table c []) set c) (choice-is are fit is c low high)
       ∙ ap (λ s. is_choice step weights m rows set c && is_first_open step s set c) (clones c low (omega (arith, high)))))
 

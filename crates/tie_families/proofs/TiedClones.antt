@@ -8,7 +8,7 @@ use Rattle.ballot_base.specs.CandSet.{has_member, with_member, without_member}
 use Rattle.ballot_base.specs.Ballots.{Row}
 use Rattle.ballot_base.proofs.Increasing.{has_member-filter}
 use Rattle.tie_walk.specs.Sequences.{others}
-use Rattle.tie_walk.specs.Steps.Choices.{is_open, change, worth, is_no_better, open_candidates, is_choice}
+use Rattle.tie_walk.specs.Steps.Choices.{may_choose, change, worth, is_no_better, open_candidates, is_choice}
 use Rattle.tie_walk.specs.declared.sequential.Step.{Step}
 use Rattle.tie_walk.specs.declared.sequential.Step.TheVariants.{Grow, Shrink}
 use Rattle.tie_walk.proofs.LawLemmas.{IsIncreasing-range}
@@ -88,10 +88,10 @@ module _ (m : ℕ) (rows : List Row) (ballots : AreBallots m rows) where
     lower-tied : (set : List ℕ) (c : ℕ) → IsIncreasing 1 m set → is_choice step weights m rows set c ≡ true → is_first_open step (clones_among m rows c) set c ≡ false
         → (d : ℕ) × (d < c) × (is_choice step weights m rows set d ≡ true) × (are_clones rows c d ≡ true)
     lower-tied set c up is later =
-        let some = some-fails (λ d. not (has_member (clones_among m rows c) d && is_open step set d)) (range_with_len 1 (c - 1)) later in
+        let some = some-fails (λ d. not (has_member (clones_among m rows c) d && may_choose step set d)) (range_with_len 1 (c - 1)) later in
         let d : ℕ = some.0 in
         let bounds = in_bounds (c - 1) (range_with_len 1 (c - 1)) d (IsIncreasing-range 1 (c - 1) (c - 1) (omega arith)) some.1 in
-        let parts = and_parts (has_member (clones_among m rows c) d) (is_open step set d) (not-false (has_member (clones_among m rows c) d && is_open step set d) some.2) in
+        let parts = and_parts (has_member (clones_among m rows c) d) (may_choose step set d) (not-false (has_member (clones_among m rows c) d && may_choose step set d) some.2) in
         let among = and_parts (are_clones rows c d) (has_member (range_with_len 1 m) d) (sym (has_member-filter (are_clones rows c) (range_with_len 1 m) d) ∙ parts.0) in
         let within = in_bounds m (range_with_len 1 m) d (IsIncreasing-range 1 m m (omega arith)) among.1 in
         let free = open-from step m set d within.0 within.1 parts.1 in
@@ -132,13 +132,13 @@ module _ (m : ℕ) (rows : List Row) (ballots : AreBallots m rows) where
       )
 
   -- clones that are added to sets, or taken out of them, leave as many of each class
-  pub change-below : (step : Step) (set other : List ℕ) (c d : ℕ) → IsIncreasing 1 m set → IsIncreasing 1 m other → is_open step set c ≡ true → is_open step other d ≡ true → are_clones rows c d ≡ true
+  pub change-below : (step : Step) (set other : List ℕ) (c d : ℕ) → IsIncreasing 1 m set → IsIncreasing 1 m other → may_choose step set c ≡ true → may_choose step other d ≡ true → are_clones rows c d ≡ true
       → IsBelow rows set other → IsBelow rows (change step set c) (change step other d)
   change-below Grow set other c d up up' free free' cd below = grown-below set other c d (not-true (has_member set c) free) (not-true (has_member other d) free') cd below
   change-below Shrink set other c d up up' free free' cd below = shrunk-below set other c d up up' free free' cd below
 
   -- a set with as many of each class as one that a choice has made is made by a clone of the choice
-  pub undone : (step : Step) (set : List ℕ) (c : ℕ) (made : List ℕ) → IsIncreasing 1 m set → IsIncreasing 1 m made → 1 ≤ c → c ≤ m → is_open step set c ≡ true
+  pub undone : (step : Step) (set : List ℕ) (c : ℕ) (made : List ℕ) → IsIncreasing 1 m set → IsIncreasing 1 m made → 1 ≤ c → c ≤ m → may_choose step set c ≡ true
       → IsBelow rows (change step set c) made → IsBelow rows made (change step set c) → IsUndone step m rows set c made
   undone Grow set c made up up' low high free below above =
       let more = λ (x : ℕ). count-with (are_clones rows x) set c (not-true (has_member set c) free) in

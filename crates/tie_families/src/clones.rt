@@ -29,8 +29,7 @@ fn clones_of<A: Allocator + Copy>(profile: &Profile<A>, c: u8) -> CandSet
     ensures { result ≡ clones_among profile.now.m profile.now.rows c }
 {
     let mut clones = CandSet::all(profile.m());
-    for i in 0..profile.rows() {
-        let (ballot, _voters) = profile.row(i);
+    for (ballot, _voters) in profile.ballots() {
         clones = if ballot.has(c) {
             clones.common(ballot)
         } else {

@@ -34,13 +34,13 @@ pub struct Families<'a, A: Allocator + Copy = Global> {
 
 impl<'a, A: Allocator + Copy> Model for Families<'a, A> {
     ghost use Rattle.tie_families.specs.Families.{Sequential, sequential_of};
-    ghost use Rattle.tie_families.specs.Steps.Families.{IsKept};
+    ghost use Rattle.tie_families.specs.Steps.Families.{KeepsFamilies};
 
     ghost Value = { Sequential };
 
     ghost view = { λ f. sequential_of f.profile.now f.rule f.k };
 
-    ghost invariant = { λ f. IsKept f.profile.now f.rule f.m f.k f.clones f.leasts.items f.mosts.items };
+    ghost invariant = { λ f. KeepsFamilies f.profile.now f.rule f.m f.k f.clones f.leasts.items f.mosts.items };
 }
 
 impl<'a, A: Allocator + Copy + Drop> Families<'a, A> {

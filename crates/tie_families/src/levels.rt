@@ -34,7 +34,7 @@ fn is_first_open(step: Step, clones: CandSet, set: CandSet, c: u8) -> bool
     ensures { result ≡ is_first_open step clones set c }
 {
     for d in 1..c {
-        if clones.has(d) && step.is_open(set, d) {
+        if clones.has(d) && step.may_choose(set, d) {
             return false;
         }
     }
@@ -69,7 +69,10 @@ fn ties(
     let mut ties = CandSet::empty();
     for c in 1..m + 1 {
         let at = usize::from(c);
-        if step.is_open(set, c) && worths[at] == best && is_first_open(step, clones[at], set, c) {
+        if step.may_choose(set, c)
+            && worths[at] == best
+            && is_first_open(step, clones[at], set, c)
+        {
             ties = ties.with(c);
         }
     }
@@ -80,8 +83,7 @@ fn ties(
 fn shares_no_voter<A: Allocator + Copy>(profile: &Profile<A>, candidates: CandSet) -> bool
     ensures { result ≡ shares_no_voter profile.now.rows candidates }
 {
-    for i in 0..profile.rows() {
-        let (ballot, _voters) = profile.row(i);
+    for (ballot, _voters) in profile.ballots() {
         if ballot.common(candidates).len() > 1 {
             return false;
         }

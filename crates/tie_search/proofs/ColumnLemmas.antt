@@ -21,7 +21,7 @@ use Rattle.tie_walk.specs.Sequences.{gain, weight, supporters}
 use Rattle.tie_walk.specs.Values.{Thiele}
 use Rattle.tie_search.proofs.PriceLemmas.{hits-turned}
 use Rattle.tie_search.proofs.SearchLemmas.{rest-increasing}
-use Rattle.tie_search.specs.Steps.Columns.{block_voters, total, ballot_of, given, word_before, IsBlock, AreByHits, AreColumns, AreColumnsOf, AreRising, voters_of}
+use Rattle.tie_search.specs.Steps.Columns.{block_voters, total, voter_ballot, given, word_before, IsBlock, AreByHits, AreColumns, AreColumnsOf, AreRising, voters_of}
 
 -- ---- sums over the first numbers
 
@@ -75,7 +75,7 @@ total-add f (suc a) b =
 
 -- the sum over all voters, and over so many places that all have one
 pub total-voters : (f : List ℕ → ℕ) → f [] ≡ 0 → (ballots : List (List ℕ)) (n : ℕ) → length ballots ≤ n
-    → total (λ v. f (ballot_of ballots v)) n ≡ sum_by f ballots
+    → total (λ v. f (voter_ballot ballots v)) n ≡ sum_by f ballots
 unfolding total
 total-voters f none [] n few = total-same (λ v. f []) (λ v. 0) n (λ i low. none) ∙ total-none n
 total-voters f none (ballot ∷ ballots) zero few = absurd (omega (arith, few))
@@ -237,12 +237,12 @@ module _ (ballot_at : ℕ → List ℕ) (block : List ℕ) (holds : IsBlock ball
 
 -- ---- voters one after another
 
-pub ballot-push : (ballots : List (List ℕ)) (ballot : List ℕ) (v : ℕ) → ballot_of (ballots ++ ballot ∷ []) v ≡ cond (v == length ballots) ballot (ballot_of ballots v)
+pub ballot-push : (ballots : List (List ℕ)) (ballot : List ℕ) (v : ℕ) → voter_ballot (ballots ++ ballot ∷ []) v ≡ cond (v == length ballots) ballot (voter_ballot ballots v)
 ballot-push [] ballot zero = refl
 ballot-push [] ballot (suc v) = sym (ap (λ b. cond b ballot []) (ne_eqb (suc v) 0 (λ e. absurd (omega (arith, e)))))
 ballot-push (first ∷ ballots) ballot zero = sym (ap (λ b. cond b ballot first) (ne_eqb 0 (suc (length ballots)) (λ e. absurd (omega (arith, e)))))
 ballot-push (first ∷ ballots) ballot (suc v) =
-    ballot-push ballots ballot v ∙ ap (λ b. cond b ballot (ballot_of ballots v)) (elim (cases_eq v (length ballots)) [
+    ballot-push ballots ballot v ∙ ap (λ b. cond b ballot (voter_ballot ballots v)) (elim (cases_eq v (length ballots)) [
       | inl same ↦ eq-eqb v (length ballots) same ∙ sym (eq-eqb (suc v) (suc (length ballots)) (omega (arith, same)))
       | inr other ↦ ne_eqb v (length ballots) other ∙ sym (ne_eqb (suc v) (suc (length ballots)) (λ e. other (omega (arith, e))))
     ])
@@ -261,20 +261,20 @@ columns-push ballots blocks block ballot b place long low within room before new
             | inl at ↦
                 ap (λ p. cond (p && has_member ballot c) 1 (bit_at (get_or (get_or blocks b []) c 0) i)) (eq-eqb i place at)
                 ∙ ap (λ n. cond (has_member ballot c) 1 n) (before b c i within within' ∙ ap (λ l. cond (has_member l c) 1 0) (past ballots (b * 64 + i) (omega (arith, at, long))))
-                ∙ sym (ap (λ l. cond (has_member l c) 1 0) (ballot-push ballots ballot (b' * 64 + i) ∙ ap (λ p. cond p ballot (ballot_of ballots (b' * 64 + i))) (eq-eqb (b' * 64 + i) (length ballots) (omega (arith, at, long, here)))))
+                ∙ sym (ap (λ l. cond (has_member l c) 1 0) (ballot-push ballots ballot (b' * 64 + i) ∙ ap (λ p. cond p ballot (voter_ballot ballots (b' * 64 + i))) (eq-eqb (b' * 64 + i) (length ballots) (omega (arith, at, long, here)))))
             | inr other ↦
                 ap (λ p. cond (p && has_member ballot c) 1 (bit_at (get_or (get_or blocks b []) c 0) i)) (ne_eqb i place other)
                 ∙ before b c i within within'
-                ∙ ap (λ j. cond (has_member (ballot_of ballots (j * 64 + i)) c) 1 0) (sym here)
-                ∙ sym (ap (λ l. cond (has_member l c) 1 0) (ballot-push ballots ballot (b' * 64 + i) ∙ ap (λ p. cond p ballot (ballot_of ballots (b' * 64 + i))) (ne_eqb (b' * 64 + i) (length ballots) (λ e. other (omega (arith, e, long, here))))))
+                ∙ ap (λ j. cond (has_member (voter_ballot ballots (j * 64 + i)) c) 1 0) (sym here)
+                ∙ sym (ap (λ l. cond (has_member l c) 1 0) (ballot-push ballots ballot (b' * 64 + i) ∙ ap (λ p. cond p ballot (voter_ballot ballots (b' * 64 + i))) (ne_eqb (b' * 64 + i) (length ballots) (λ e. other (omega (arith, e, long, here))))))
           ]
       | inr other ↦
           ap (λ l. bit_at (get_or l c 0) i) (get_or-set_other blocks b b' block [] other)
           ∙ before b' c i low' within'
-          ∙ sym (ap (λ l. cond (has_member l c) 1 0) (ballot-push ballots ballot (b' * 64 + i) ∙ ap (λ p. cond p ballot (ballot_of ballots (b' * 64 + i))) (ne_eqb (b' * 64 + i) (length ballots) (λ e. other (omega (arith, e, long, low, within'))))))
+          ∙ sym (ap (λ l. cond (has_member l c) 1 0) (ballot-push ballots ballot (b' * 64 + i) ∙ ap (λ p. cond p ballot (voter_ballot ballots (b' * 64 + i))) (ne_eqb (b' * 64 + i) (length ballots) (λ e. other (omega (arith, e, long, low, within'))))))
     ]
   where
-    past : (ballots : List (List ℕ)) (v : ℕ) → length ballots ≤ v → ballot_of ballots v ≡ []
+    past : (ballots : List (List ℕ)) (v : ℕ) → length ballots ≤ v → voter_ballot ballots v ≡ []
     past [] v most = refl
     past (ballot ∷ ballots) zero most = absurd (omega (arith, most))
     past (ballot ∷ ballots) (suc v) most = past ballots v (omega (arith, most))
@@ -350,7 +350,7 @@ voters-rising m (row ∷ rows) most all v =
 
 -- the gain of a candidate, summed over all blocks
 pub columns-gain : (tally : Thiele) (blocks : List (List ℕ)) (used levels : ℕ) (weights set : List ℕ) (c : ℕ) → AreColumnsOf tally blocks used weights levels
-    → total (λ v. given weights set c (ballot_of (voters_of tally.election.rows) v)) (used * block_voters) ≡ gain (increments tally.rule tally.k) tally.election.rows set c
+    → total (λ v. given weights set c (voter_ballot (voters_of tally.election.rows) v)) (used * block_voters) ≡ gain (increments tally.rule tally.k) tally.election.rows set c
 columns-gain tally blocks used levels weights set c is =
     total-voters (given weights set c) refl (voters_of tally.election.rows) (used * block_voters) is.all
     ∙ voters-sum (given weights set c) tally.election.rows

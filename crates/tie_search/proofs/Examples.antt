@@ -4,8 +4,8 @@ use Rattle.std.proofs.Common.{◌≡◌, true, false, [], ◌∷◌, refl, sum, 
 use Rattle.ballot_base.specs.Lists.{lists_of}
 use Rattle.tie_search.specs.Completions.{IsOpen, IsCompletion, IsReaching, IsOutOfReach, IsWinnerFrom, is_reached, exact_bound}
 use Rattle.tie_search.specs.Prices.{kept, base, price}
-use Rattle.tie_search.specs.Steps.Told.{IsJoined}
-use Rattle.tie_search.specs.Steps.Columns.{ballot_of, given, total, voters_of}
+use Rattle.tie_search.specs.Steps.Witness.{IsSetAndLater}
+use Rattle.tie_search.specs.Steps.Columns.{voter_ballot, given, total, voters_of}
 
 best-at_root : exact_bound sum 3 2 0 [] 2 ≡ 5
 unfolding lists_of
@@ -47,7 +47,7 @@ wins-from_one = record {
 }
 
 -- it is the empty set and two of the candidates after 1
-joined-at_one : IsJoined 3 1 [] 2 (2 ∷ 3 ∷ [])
+joined-at_one : IsSetAndLater 3 1 [] 2 (2 ∷ 3 ∷ [])
 joined-at_one = (2 ∷ 3 ∷ [], (((lit≤ tt, lit≤ tt, (lit≤ tt, lit≤ tt, tt)), refl), refl))
 
 -- ---- committees that complete a set
@@ -102,6 +102,6 @@ given-second : given (6 ∷ 3 ∷ 2 ∷ []) (2 ∷ []) 1 (1 ∷ 2 ∷ []) ≡ 3
 given-second = refl
 
 -- two voters give it, the third gives nothing, and there is no fourth
-given-by_all : total (λ v. given (6 ∷ 3 ∷ 2 ∷ []) (2 ∷ []) 1 (ballot_of ((1 ∷ 2 ∷ []) ∷ (1 ∷ 2 ∷ []) ∷ (3 ∷ []) ∷ []) v)) 4 ≡ 6
+given-by_all : total (λ v. given (6 ∷ 3 ∷ 2 ∷ []) (2 ∷ []) 1 (voter_ballot ((1 ∷ 2 ∷ []) ∷ (1 ∷ 2 ∷ []) ∷ (3 ∷ []) ∷ []) v)) 4 ≡ 6
 unfolding total
 given-by_all = refl

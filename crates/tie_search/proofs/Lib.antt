@@ -6,5 +6,5 @@ pub mod PriceLemmas
 pub mod PricedLemmas
 pub mod ReachLemmas
 pub mod SearchLemmas
-pub mod ToldLemmas
+pub mod WitnessLemmas
 mod WholeLemmas

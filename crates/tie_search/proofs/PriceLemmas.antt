@@ -11,7 +11,7 @@ use Rattle.ballot_base.specs.Ballots.{Row, hits}
 use Rattle.ballot_base.proofs.Increasing.{IsIncreasing-filter, has_member-filter, same_increasing}
 use Rattle.tie_walk.specs.Values.{thiele_value}
 use Rattle.tie_search.specs.Completions.{IsOpen, IsCompletion}
-use Rattle.tie_search.specs.Prices.{Priced, rows_of, kept, base, price}
+use Rattle.tie_search.specs.Prices.{Priced, priced_rows, kept, base, price}
 use Rattle.tie_search.proofs.CompletionLemmas.{added, added-size, completion-inside, completion-outside}
 use Rattle.tie_search.proofs.SearchLemmas.{sum-threshold, sum-part}
 
@@ -83,8 +83,8 @@ prices-cons p priced (n ∷ committee) =
     )
 
 -- no committee is worth more than its price
-pub price-bounds : (w : List ℕ) (scale m : ℕ) (priced : List Priced) (committee : List ℕ) → AllByRecursion (λ row. IsIncreasing 1 m row.0) (rows_of priced) → IsIncreasing 1 m committee
-    → scale * thiele_value w (rows_of priced) committee ≤ base w scale priced + sum_by (price priced) committee
+pub price-bounds : (w : List ℕ) (scale m : ℕ) (priced : List Priced) (committee : List ℕ) → AllByRecursion (λ row. IsIncreasing 1 m row.0) (priced_rows priced) → IsIncreasing 1 m committee
+    → scale * thiele_value w (priced_rows priced) committee ≤ base w scale priced + sum_by (price priced) committee
 price-bounds w scale m [] committee all up = omega arith
 price-bounds w scale m (p ∷ priced) committee all up =
     let h = hits p.0.0 committee in
@@ -94,7 +94,7 @@ price-bounds w scale m (p ∷ priced) committee all up =
     let turned : p.0.1 * p.1 * h ≡ p.0.1 * p.1 * sum_by (λ n. cond (has_member p.0.0 n) 1 0) committee = ap (λ x. p.0.1 * p.1 * x) (hits-turned m p.0.0 committee all.0 up) in
     let left : (a b c : ℕ) → a * (b * c) ≡ b * (a * c) = λ a b c. omega arith in
     let right : (a b c d : ℕ) → a * (b + c * d) ≡ a * b + a * d * c = λ a b c d. omega arith in
-    let whole : scale * (p.0.1 * sum (take h w) + thiele_value w (rows_of priced) committee) ≡ scale * (p.0.1 * sum (take h w)) + scale * thiele_value w (rows_of priced) committee =
+    let whole : scale * (p.0.1 * sum (take h w) + thiele_value w (priced_rows priced) committee) ≡ scale * (p.0.1 * sum (take h w)) + scale * thiele_value w (priced_rows priced) committee =
     omega arith in
     omega (
       arith,
@@ -103,16 +103,16 @@ price-bounds w scale m (p ∷ priced) committee all up =
       whole,
       left p.0.1 scale (sum (take h w)),
       right p.0.1 k h p.1,
-      ap (λ x. scale * x) (sum_by-cons (λ (r : Row). r.1 * sum (take (hits r.0 committee) w)) p.0 (rows_of priced)),
+      ap (λ x. scale * x) (sum_by-cons (λ (r : Row). r.1 * sum (take (hits r.0 committee) w)) p.0 (priced_rows priced)),
       sum_by-cons (λ (q : Priced). q.0.1 * kept w scale q.1 (length q.0.0)) p priced,
       prices-cons p priced committee,
       price-bounds w scale m priced committee all.1 up,
     )
 
 -- prices bound the committees that complete a set, by any threshold
-pub priced-node : (w : List ℕ) (scale m : ℕ) (priced : List Priced) (set free : List ℕ) (left t : ℕ) (committee : List ℕ) → AllByRecursion (λ row. IsIncreasing 1 m row.0) (rows_of priced)
+pub priced-node : (w : List ℕ) (scale m : ℕ) (priced : List Priced) (set free : List ℕ) (left t : ℕ) (committee : List ℕ) → AllByRecursion (λ row. IsIncreasing 1 m row.0) (priced_rows priced)
     → IsOpen m set free → IsCompletion m set free left committee
-    → scale * thiele_value w (rows_of priced) committee ≤ base w scale priced + sum_by (price priced) set + left * t + sum_by (λ n. price priced n - t) free
+    → scale * thiele_value w (priced_rows priced) committee ≤ base w scale priced + sum_by (price priced) set + left * t + sum_by (λ n. price priced n - t) free
 priced-node w scale m priced set free left t committee all open' whole =
     let f = price priced in
     let more = added m set free left committee open' whole in

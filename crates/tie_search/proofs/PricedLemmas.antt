@@ -13,8 +13,8 @@ use Rattle.ballot_base.specs.Increments.{increments}
 use Rattle.ballot_base.proofs.Increasing.{has_member_head}
 use Rattle.tie_walk.proofs.TableLemmas.{sum-take_more}
 use Rattle.tie_walk.specs.Values.{Thiele, thiele_value}
-use Rattle.tie_search.specs.Prices.{Priced, rows_of, kept, base, price}
-use Rattle.tie_search.specs.Completions.{IsOpen, IsCompletion, value_by}
+use Rattle.tie_search.specs.Prices.{Priced, priced_rows, kept, base, price}
+use Rattle.tie_search.specs.Completions.{IsOpen, IsCompletion, tally_value}
 use Rattle.tie_search.specs.Steps.Priced.{ArePrices, scale, priced_by}
 use Rattle.tie_search.proofs.ColumnLemmas.{voters-part}
 use Rattle.tie_search.proofs.CompletionLemmas.{member-high}
@@ -35,7 +35,7 @@ sum-less f g (x ∷ xs) less =
 
 -- ---- rows and their multipliers
 
-pub rows-priced : (f : ℕ → ℕ) (rows : List Row) → rows_of (priced_by f rows) ≡ rows
+pub rows-priced : (f : ℕ → ℕ) (rows : List Row) → priced_rows (priced_by f rows) ≡ rows
 unfolding priced_by
 rows-priced f [] = refl
 rows-priced f (row ∷ rows) = ap (λ l. row ∷ l) (rows-priced (λ i. f (suc i)) rows)
@@ -135,15 +135,15 @@ price-more f rows i row n at =
 
 pub prices-bound : (tally : Thiele) (all_keep : ℕ) (worths set free : List ℕ) (left t : ℕ) (committee : List ℕ) → ArePrices tally all_keep worths → IsElection tally.election
     → IsOpen tally.election.m set free → IsCompletion tally.election.m set free left committee
-    → scale * value_by tally committee ≤ all_keep + sum_by (λ n. get_or worths n 0 - 0) set + left * t + sum_by (λ n. get_or worths n 0 - t) free
+    → scale * tally_value tally committee ≤ all_keep + sum_by (λ n. get_or worths n 0 - 0) set + left * t + sum_by (λ n. get_or worths n 0 - t) free
 prices-bound tally all_keep worths set free left t committee are valid open' whole =
     let rows = tally.election.rows in
     let m = tally.election.m in
     let priced = priced_by are.multiplier rows in
     let w = increments tally.rule tally.k in
-    let same : rows_of priced ≡ rows = rows-priced are.multiplier rows in
-    let rises : AllByRecursion {X = Row} (λ row. IsIncreasing 1 m row.0) (rows_of priced) = subst (AllByRecursion {X = Row} (λ row. IsIncreasing 1 m row.0)) (sym same) valid.ballots in
-    let node : scale * value_by tally committee ≤ base w scale priced + sum_by (price priced) set + left * t + sum_by (λ n. price priced n - t) free =
+    let same : priced_rows priced ≡ rows = rows-priced are.multiplier rows in
+    let rises : AllByRecursion {X = Row} (λ row. IsIncreasing 1 m row.0) (priced_rows priced) = subst (AllByRecursion {X = Row} (λ row. IsIncreasing 1 m row.0)) (sym same) valid.ballots in
+    let node : scale * tally_value tally committee ≤ base w scale priced + sum_by (price priced) set + left * t + sum_by (λ n. price priced n - t) free =
     subst (λ (l : List Row). scale * thiele_value w l committee ≤ base w scale priced + sum_by (price priced) set + left * t + sum_by (λ n. price priced n - t) free)
     same (priced-node w scale m priced set free left t committee rises open' whole) in
     let worth : (xs : List ℕ) → IsIncreasing 1 m xs → (n : ℕ) → has_member xs n ≡ true → get_or worths n 0 ≡ price priced n =

@@ -14,7 +14,7 @@ use Rattle.tie_walk.specs.Winners.{best_value}
 use Rattle.tie_walk.proofs.LawLemmas.{IsIncreasing-range, no_greater_value, some_winner, winner-is}
 use Rattle.tie_walk.proofs.Submodular.{ceiling-bounds}
 use Rattle.tie_search.specs.Completions.{IsOpen, IsCompletion, IsOutOfReach, is_reached, exact_bound}
-use Rattle.tie_search.specs.Steps.Told.{IsJoined}
+use Rattle.tie_search.specs.Steps.Witness.{IsSetAndLater}
 use Rattle.tie_search.proofs.CompletionLemmas.{added, added-size, completion-members, member-low, member-high}
 
 -- ---- tests of lists
@@ -69,7 +69,7 @@ module _ (value : List ℕ → ℕ) (m c : ℕ) (set free : List ℕ) (left : �
       or-more false q r h is = h is
 
   -- a committee that was found is the set and some of those after c
-  pub joined-completion : (committee : List ℕ) → IsCompletion m set free left committee → IsJoined m c set left committee
+  pub joined-completion : (committee : List ℕ) → IsCompletion m set free left committee → IsSetAndLater m c set left committee
   joined-completion committee whole =
       let more = added m set free left committee open-after whole in
       let rises : IsIncreasing (c + 1) m more = IsIncreasing-filter (has_member committee) (c + 1) m free after in (

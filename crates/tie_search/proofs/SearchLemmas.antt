@@ -16,7 +16,7 @@ use Rattle.tie_walk.specs.Values.{Thiele}
 use Rattle.tie_walk.proofs.Gains.{thiele-gain, thiele-most}
 use Rattle.tie_walk.proofs.TableLemmas.{increments_sum-most, sum-take-le}
 use Rattle.tie_walk.proofs.Submodular.{gains-bound, thiele_rule-submodular}
-use Rattle.tie_search.specs.Completions.{IsOpen, IsCompletion, IsReaching, IsOutOfReach, value_by}
+use Rattle.tie_search.specs.Completions.{IsOpen, IsCompletion, IsReaching, IsOutOfReach, tally_value}
 use Rattle.tie_search.proofs.CompletionLemmas.{added, added-free, added-size, completion-few, completion-members, completion-whole, completion-self, completion-with, completion-without, completion-back, without-is, thiele-same}
 
 -- ---- sums
@@ -56,7 +56,7 @@ rest-increasing last xs rest first is up =
     (at.1, IsIncreasing-lower 1 (first + 1) last rest (omega arith) at.2)
 
 -- no value is too large to add to
-pub value-most : (tally : Thiele) (set : List ℕ) → IsElection tally.election → tally.k ≤ most_members → value_by tally set ≤ 2 ^ 116
+pub value-most : (tally : Thiele) (set : List ℕ) → IsElection tally.election → tally.k ≤ most_members → tally_value tally set ≤ 2 ^ 116
 value-most tally set valid size =
     omega (
       arith,
@@ -102,16 +102,16 @@ module _ (tally : Thiele) (set free : List ℕ) (left least : ℕ) where
   -- no completion reaches the value where too few are free, or the bound is too low
   pub node-none : IsElection tally.election → tally.k ≤ most_members → IsOpen tally.election.m set free
       → (t : ℕ) (gains : List ℕ) → ((n : ℕ) → has_member free n ≡ true → get_or gains n 0 ≡ gain (increments tally.rule tally.k) tally.election.rows set n)
-      → ((left ≤ length free) × (least ≤ value_by tally set + left * t + sum_by (λ n. get_or gains n 0 - t) free) → ⊥)
-      → IsOutOfReach (value_by tally) tally.election.m set free left least
+      → ((left ≤ length free) × (least ≤ tally_value tally set + left * t + sum_by (λ n. get_or gains n 0 - t) free) → ⊥)
+      → IsOutOfReach (tally_value tally) tally.election.m set free left least
   node-none valid size open' t gains are low committee whole =
-      elim (cases_lt (value_by tally committee) least) [
+      elim (cases_lt (tally_value tally committee) least) [
         | inl under ↦ under
         | inr reaches ↦ absurd (low (completion-few tally.election.m set free left committee open' whole, omega (arith, reaches, bound)))
       ]
     where
-      bound : value_by tally committee ≤ value_by tally set + left * t + sum_by (λ n. get_or gains n 0 - t) free
-      bound = node-bounds (value_by tally) (thiele_rule-submodular tally.rule tally.k tally.election.rows size)
+      bound : tally_value tally committee ≤ tally_value tally set + left * t + sum_by (λ n. get_or gains n 0 - t) free
+      bound = node-bounds (tally_value tally) (thiele_rule-submodular tally.rule tally.k tally.election.rows size)
           (thiele-same (increments tally.rule tally.k) tally.election.rows) tally.election.m set free left t (λ n. get_or gains n 0) committee open' whole
           (λ n in_. omega (
             arith,

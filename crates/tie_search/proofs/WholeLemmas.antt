@@ -12,7 +12,7 @@ use Rattle.tie_walk.specs.Values.{Thiele, thiele_value}
 use Rattle.tie_walk.proofs.Gains.{thiele-gain}
 use Rattle.tie_walk.proofs.Submodular.{hits-more}
 use Rattle.tie_walk.proofs.TableLemmas.{sum-take_more}
-use Rattle.tie_search.specs.Completions.{IsOutOfReach, value_by}
+use Rattle.tie_search.specs.Completions.{IsOutOfReach, tally_value}
 use Rattle.tie_search.proofs.CompletionLemmas.{thiele-same}
 
 -- more hits give no less
@@ -61,9 +61,9 @@ whole-none w rows m set free whole least are short left committee completes =
 
 -- a candidate who joins a set adds what the set gains
 pub value-with : (tally : Thiele) (set : List ℕ) (n : ℕ) → IsElection tally.election → has_member set n ≡ false
-    → value_by tally (with_member set n) ≡ value_by tally set + gain (increments tally.rule tally.k) tally.election.rows set n
+    → tally_value tally (with_member set n) ≡ tally_value tally set + gain (increments tally.rule tally.k) tally.election.rows set n
 value-with tally set n valid new =
-    let more : value_by tally set ≤ value_by tally (with_member set n) =
+    let more : tally_value tally set ≤ tally_value tally (with_member set n) =
     thiele-whole (increments tally.rule tally.k) tally.election.rows set (with_member set n) (λ x is. has_member-with_member set n x ∙ or-more (n == x) (has_member set x) is) in
     omega (arith, more, thiele-gain tally.election.m (increments tally.rule tally.k) tally.election.rows set n valid.ballots new)
   where

@@ -9,8 +9,8 @@ use Rattle.tie_walk.specs.Values.{Thiele, thiele_value}
 use Rattle.tie_walk.specs.Winners.{best_value}
 
 -- what a tally of a Thiele rule gives a set
-abbrev pub value_by : Thiele → List ℕ → ℕ
-value_by tally set = thiele_value (increments tally.rule tally.k) tally.election.rows set
+abbrev pub tally_value : Thiele → List ℕ → ℕ
+tally_value tally set = thiele_value (increments tally.rule tally.k) tally.election.rows set
 
 -- a set of the candidates 1 to m, and others of them that are free to join it
 pub record IsOpen (m : ℕ) (set free : List ℕ) : Type 0 where

@@ -11,8 +11,8 @@ abbrev pub Priced : Type 0
 Priced = Row × ℕ
 
 -- the rows without their multipliers
-abbrev pub rows_of : List Priced → List Row
-rows_of priced = map (λ p. p.0) priced
+abbrev pub priced_rows : List Priced → List Row
+priced_rows priced = map (λ p. p.0) priced
 
 -- the most that a voter of a ballot of this size gives, times the scale, beside the multiplier for each hit
 abbrev pub kept : List ℕ → ℕ → ℕ → ℕ → ℕ

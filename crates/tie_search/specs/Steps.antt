@@ -1,4 +1,4 @@
 pub mod Columns
 pub mod Priced
 pub mod Searched
-pub mod Told
+pub mod Witness

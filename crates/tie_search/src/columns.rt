@@ -9,7 +9,7 @@ ghost use Rattle.ballot_base.specs.Lists.{IsIncreasing};
 ghost use Rattle.ballot_base.specs.Ballots.{voter_count};
 ghost use Rattle.ballot_base.specs.CandSet.{has_member};
 ghost use Rattle.tie_walk.specs.Values.{thiele_of};
-ghost use Rattle.tie_search.specs.Steps.Columns.{block_voters, most_blocks, total, given, IsBlock, AreByHits, AreColumns, AreColumnsOf, AreRising, AreWeights, voters_of, ballot_of, word_before};
+ghost use Rattle.tie_search.specs.Steps.Columns.{block_voters, most_blocks, total, given, IsBlock, AreByHits, AreColumns, AreColumnsOf, AreRising, AreWeights, voters_of, voter_ballot, word_before};
 
 use ballot_base::{CandSet, Increments, MOST_MEMBERS, Profile, ThieleRule};
 use std::alloc::Allocator;
@@ -149,8 +149,7 @@ fn blocks_of<A: Allocator + Copy>(profile: &Profile<A>) -> [Block; MOST_BLOCKS]
 {
     let mut blocks = no_voters();
     let mut voters = 0;
-    for i in 0..profile.rows() {
-        let (ballot, count) = profile.row(i);
+    for (ballot, count) in profile.ballots() {
         let count = count as usize;
         add_row(&mut blocks, voters, ballot, count);
         voters += count;
@@ -229,7 +228,7 @@ impl Columns {
         requires weights { AreWeights self.now.weights self.now.levels }
         ensures { (ballots : List (List ℕ)) → AreColumns ballots self.now.blocks → AreRising ballots
             → (c : ℕ) → c ≤ most_candidates → slice_index result c
-            ≡ total (λ v. given self.now.weights set c (ballot_of ballots v)) (self.now.used * block_voters) }
+            ≡ total (λ v. given self.now.weights set c (voter_ballot ballots v)) (self.now.used * block_voters) }
     {
         let mut gains = [0; PLACES];
         for b in 0..self.used {

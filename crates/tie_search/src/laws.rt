@@ -9,7 +9,7 @@ ghost use Rattle.ballot_base.specs.CandSet.{members_upto};
 ghost use Rattle.tie_walk.specs.Ceilings.{Prefix, IsBound, IsExactAtBest, IsLive, IsSubmodular, gain_at, live_count};
 ghost use Rattle.tie_walk.specs.Values.{thiele_value};
 ghost use Rattle.tie_walk.specs.Winners.{best_value, winners};
-ghost use Rattle.tie_search.specs.Prices.{Priced, rows_of, base, price};
+ghost use Rattle.tie_search.specs.Prices.{Priced, priced_rows, base, price};
 ghost use Rattle.tie_search.specs.Completions.{IsOpen, IsCompletion, IsWinnerFrom, exact_bound};
 
 use ballot_base::ThieleRule;
@@ -54,13 +54,13 @@ pub fn thresholds()
 /// keep and the prices of its members, times the scale; and any threshold bounds the committees that complete a set.
 pub fn prices()
     ensures committees { (weights : List ℕ) (scale m : ℕ) (priced : List Priced) (committee : List ℕ)
-        → AllByRecursion (λ row. IsIncreasing 1 m row.0) (rows_of priced) → IsIncreasing 1 m committee
-        → scale * thiele_value weights (rows_of priced) committee
+        → AllByRecursion (λ row. IsIncreasing 1 m row.0) (priced_rows priced) → IsIncreasing 1 m committee
+        → scale * thiele_value weights (priced_rows priced) committee
         ≤ base weights scale priced + sum_by (price priced) committee }
     ensures completions { (weights : List ℕ) (scale m : ℕ) (priced : List Priced) (set free : List ℕ)
-        (left threshold : ℕ) (committee : List ℕ) → AllByRecursion (λ row. IsIncreasing 1 m row.0) (rows_of priced)
+        (left threshold : ℕ) (committee : List ℕ) → AllByRecursion (λ row. IsIncreasing 1 m row.0) (priced_rows priced)
         → IsOpen m set free → IsCompletion m set free left committee
-        → scale * thiele_value weights (rows_of priced) committee
+        → scale * thiele_value weights (priced_rows priced) committee
         ≤ base weights scale priced + sum_by (price priced) set + left * threshold
         + sum_by (λ n. price priced n - threshold) free }
 {}

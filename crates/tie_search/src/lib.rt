@@ -9,7 +9,7 @@ mod order;
 mod prices;
 mod search;
 pub mod tally;
-pub mod told;
+pub mod witness;
 
 pub use tally::SearchTally;
-pub use told::{told_upto, with_last};
+pub use witness::{with_last, witnessed_upto};

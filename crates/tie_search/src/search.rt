@@ -4,9 +4,9 @@ ghost use Rattle.ballot_base.specs.CandSet.{has_member};
 ghost use Rattle.ballot_base.specs.Lists.{IsIncreasing};
 ghost use Rattle.ballot_base.specs.Increments.{increments};
 ghost use Rattle.tie_walk.specs.Sequences.{gain};
-ghost use Rattle.tie_search.specs.Steps.Searched.{IsAided, IsKept};
+ghost use Rattle.tie_search.specs.Steps.Searched.{IsAided, KeepsColumns};
 ghost use Rattle.tie_search.specs.Steps.Priced.{IsPriced};
-ghost use Rattle.tie_search.specs.Completions.{IsOpen, IsOutOfReach, IsReaching, value_by};
+ghost use Rattle.tie_search.specs.Completions.{IsOpen, IsOutOfReach, IsReaching, tally_value};
 
 use crate::columns::Columns;
 use crate::order::Order;
@@ -34,8 +34,8 @@ pub(crate) fn find<A: Allocator + Copy>(
 ) -> Option<CandSet>
     requires aids { IsAided tally.now aids.now }
     requires opened { IsOpen tally.now.election.m set free }
-    ensures { MatchOption result (IsOutOfReach (value_by tally.now) tally.now.election.m set free left least)
-        (IsReaching (value_by tally.now) tally.now.election.m set free left least) }
+    ensures { MatchOption result (IsOutOfReach (tally_value tally.now) tally.now.election.m set free left least)
+        (IsReaching (tally_value tally.now) tally.now.election.m set free left least) }
 {
     if !may_suffice(tally, set, free, least) {
         return None;
@@ -56,9 +56,9 @@ fn descend<A: Allocator + Copy>(
 ) -> Option<CandSet>
     requires aids { IsAided tally.now aids.now }
     requires opened { IsOpen tally.now.election.m set free }
-    requires value { value ≡ value_by tally.now set }
-    ensures { MatchOption result (IsOutOfReach (value_by tally.now) tally.now.election.m set free left least)
-        (IsReaching (value_by tally.now) tally.now.election.m set free left least) }
+    requires value { value ≡ tally_value tally.now set }
+    ensures { MatchOption result (IsOutOfReach (tally_value tally.now) tally.now.election.m set free left least)
+        (IsReaching (tally_value tally.now) tally.now.election.m set free left least) }
 {
     tally.valid();
     if left == 0 {
@@ -102,7 +102,7 @@ fn gains_at<A: Allocator + Copy>(
     set: CandSet,
     free: CandSet,
 ) -> [u128; PLACES]
-    requires columns { IsKept tally.now columns.now }
+    requires columns { KeepsColumns tally.now columns.now }
     ensures gains { (n : ℕ) → has_member free n ≡ true → slice_index result n
         ≡ gain (increments tally.now.rule tally.now.k) tally.now.election.rows set n }
     ensures small { (n : ℕ) → slice_index result n ≤ 2 ^ 116 }
@@ -125,7 +125,7 @@ fn may_suffice<A: Allocator + Copy>(
 ) -> bool
     requires { IsOpen tally.now.election.m set free }
     ensures { result ≡ false
-        → (left : ℕ) → IsOutOfReach (value_by tally.now) tally.now.election.m set free left least }
+        → (left : ℕ) → IsOutOfReach (tally_value tally.now) tally.now.election.m set free left least }
 {
     tally.valid();
     if !matches!(tally.rule(), ThieleRule::Cc) {
@@ -147,7 +147,7 @@ fn may_afford<A: Allocator + Copy>(
 ) -> bool
     requires prices { IsPriced tally.now prices.now }
     requires opened { IsOpen tally.now.election.m set free }
-    ensures { result ≡ false → IsOutOfReach (value_by tally.now) tally.now.election.m set free left least }
+    ensures { result ≡ false → IsOutOfReach (tally_value tally.now) tally.now.election.m set free left least }
 {
     tally.valid();
     let Some(prices) = prices else {

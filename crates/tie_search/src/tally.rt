@@ -5,13 +5,13 @@ ghost use Rattle.ballot_base.specs.Lists.{IsIncreasing};
 ghost use Rattle.tie_walk.specs.Values.{thiele_of};
 ghost use Rattle.tie_walk.specs.Winners.{best_value};
 ghost use Rattle.tie_search.specs.Steps.Searched.{IsAided};
-ghost use Rattle.tie_search.specs.Completions.{IsOpen, IsOutOfReach, IsReaching, is_reached, exact_bound, value_by};
-ghost use Rattle.tie_search.specs.Steps.Told.{IsTold, IsReachedTo};
+ghost use Rattle.tie_search.specs.Completions.{IsOpen, IsOutOfReach, IsReaching, is_reached, exact_bound, tally_value};
+ghost use Rattle.tie_search.specs.Steps.Witness.{IsWitnessed, IsReachedTo};
 
 use crate::columns::Columns;
 use crate::prices::Prices;
 use crate::search::{Aids, find};
-use crate::told::{told_upto, with_last};
+use crate::witness::{with_last, witnessed_upto};
 use ballot_base::{CandSet, Profile, ThieleRule};
 use std::alloc::{Allocator, Global};
 use std::cell::Cell;
@@ -75,7 +75,7 @@ impl<'a, A: Allocator + Copy> SearchTally<'a, A> {
 
     /// The greatest value of a committee of k.
     pub fn best(&self) -> u128
-        ensures { result ≡ best_value (value_by self.now) self.now.election.m self.now.k }
+        ensures { result ≡ best_value (tally_value self.now) self.now.election.m self.now.k }
     {
         self.best
     }
@@ -85,8 +85,8 @@ impl<'a, A: Allocator + Copy> SearchTally<'a, A> {
         requires within { c ≤ self.now.election.m }
         requires candidates { IsIncreasing 1 c set }
         requires fits { left ≤ self.now.election.m - c }
-        ensures { result ≡ is_reached (value_by self.now) self.now.election.m c set left
-            (best_value (value_by self.now) self.now.election.m self.now.k) }
+        ensures { result ≡ is_reached (tally_value self.now) self.now.election.m c set left
+            (best_value (tally_value self.now) self.now.election.m self.now.k) }
     {
         self.reached_upto(c, set, left) > c
     }
@@ -97,17 +97,17 @@ impl<'a, A: Allocator + Copy> SearchTally<'a, A> {
         requires within { c ≤ self.now.election.m }
         requires candidates { IsIncreasing 1 c set }
         requires fits { left ≤ self.now.election.m - c }
-        ensures told { IsTold (value_by self.now) self.now.election.m set left
-            (best_value (value_by self.now) self.now.election.m self.now.k) c result }
-        ensures none { result ≡ c → is_reached (value_by self.now) self.now.election.m c set left
-            (best_value (value_by self.now) self.now.election.m self.now.k) ≡ false }
+        ensures witnessed { IsWitnessed (tally_value self.now) self.now.election.m set left
+            (best_value (tally_value self.now) self.now.election.m self.now.k) c result }
+        ensures none { result ≡ c → is_reached (tally_value self.now) self.now.election.m c set left
+            (best_value (tally_value self.now) self.now.election.m self.now.k) ≡ false }
     {
         self.values.valid();
-        let known = self.told(self.found.get(), c, set, left);
+        let known = self.witnessed(self.found.get(), c, set, left);
         if known > c {
             return known;
         }
-        let latest = self.told(with_last(set, left, self.m), c, set, left);
+        let latest = self.witnessed(with_last(set, left, self.m), c, set, left);
         if latest > c {
             return latest;
         }
@@ -115,24 +115,24 @@ impl<'a, A: Allocator + Copy> SearchTally<'a, A> {
         match find(&self.values, &self.aids, set, free, left, self.best) {
             Some(committee) => {
                 self.found.set(committee);
-                told_upto(committee, self.m, c, set, left)
+                witnessed_upto(committee, self.m, c, set, left)
             }
             None => c,
         }
     }
 
     /// The same as far as a committee tells; c where it has not the greatest value, or is none of these.
-    fn told(&self, committee: CandSet, c: u8, set: CandSet, left: u8) -> u8
+    fn witnessed(&self, committee: CandSet, c: u8, set: CandSet, left: u8) -> u8
         requires within { c ≤ self.now.election.m }
         requires candidates { IsIncreasing 1 c set }
         requires fits { left ≤ self.now.election.m - c }
-        ensures { IsTold (value_by self.now) self.now.election.m set left
-            (best_value (value_by self.now) self.now.election.m self.now.k) c result }
+        ensures { IsWitnessed (tally_value self.now) self.now.election.m set left
+            (best_value (tally_value self.now) self.now.election.m self.now.k) c result }
     {
         self.values.valid();
         committee.valid();
         let known = committee.upto(self.m);
-        let end = told_upto(known, self.m, c, set, left);
+        let end = witnessed_upto(known, self.m, c, set, left);
         if end == c || self.values.value(known) < self.best {
             return c;
         }
@@ -144,7 +144,7 @@ impl<'a, A: Allocator + Copy> SearchTally<'a, A> {
         requires within { c ≤ self.now.election.m }
         requires candidates { IsIncreasing 1 c set }
         requires fits { left ≤ self.now.election.m - c }
-        ensures { IsReachedTo (value_by self.now) (λ c set left. exact_bound (value_by self.now) self.now.election.m
+        ensures { IsReachedTo (tally_value self.now) (λ c set left. exact_bound (tally_value self.now) self.now.election.m
             self.now.k c set left) self.now.election.m set left best c result }
     {
         self.values.valid();
@@ -161,9 +161,9 @@ impl<'a, A: Allocator + Copy> SearchTally<'a, A> {
 impl<'a, A: Allocator + Copy> Tally for SearchTally<'a, A> {
     ghost candidates = { λ tally. tally.election.m };
 
-    ghost value_of = { λ tally set. value_by tally set };
+    ghost value_of = { λ tally set. tally_value tally set };
 
-    ghost bound_of = { λ tally c set left. exact_bound (value_by tally) tally.election.m tally.k c set left };
+    ghost bound_of = { λ tally c set left. exact_bound (tally_value tally) tally.election.m tally.k c set left };
 
     fn m(&self) -> u8 {
         self.values.m()
@@ -220,7 +220,7 @@ fn best_committee<A: Allocator + Copy>(
     requires fits { k ≤ m }
     ensures candidates { IsIncreasing 1 m result }
     ensures size { length result ≡ k }
-    ensures best { value_by values.now result ≡ best_value (value_by values.now) m k }
+    ensures best { tally_value values.now result ≡ best_value (tally_value values.now) m k }
 {
     values.valid();
     let all = those_after(0, m);
@@ -260,8 +260,8 @@ fn better_than<A: Allocator + Copy>(
     requires all { IsIncreasing 1 values.now.election.m all }
     requires candidates { IsIncreasing 1 values.now.election.m committee }
     ensures { MatchOption result
-        (IsOutOfReach (value_by values.now) values.now.election.m [] all k (value_by values.now committee + 1))
-        (IsReaching (value_by values.now) values.now.election.m [] all k (value_by values.now committee + 1)) }
+        (IsOutOfReach (tally_value values.now) values.now.election.m [] all k (tally_value values.now committee + 1))
+        (IsReaching (tally_value values.now) values.now.election.m [] all k (tally_value values.now committee + 1)) }
 {
     values.valid();
     let least = values.value(committee) + 1;

@@ -10,7 +10,7 @@ use Rattle.ballot_base.specs.Lists.{IsIncreasing}
 use Rattle.ballot_base.specs.CandSet.{has_member}
 use Rattle.ballot_base.specs.Ballots.{Row}
 use Rattle.ballot_base.proofs.Increasing.{IsIncreasing-filter, IsIncreasing-with_member, has_member-below, has_member-above, has_member-filter}
-use Rattle.tie_walk.specs.Steps.Choices.{is_open, change, open_candidates, is_choice, changes, IsNextLevel, start, follows, IsReached, IsLevel}
+use Rattle.tie_walk.specs.Steps.Choices.{may_choose, change, open_candidates, is_choice, changes, IsNextLevel, start, follows, IsReached, IsLevel}
 use Rattle.tie_walk.specs.declared.sequential.Step.{Step}
 use Rattle.tie_walk.specs.declared.sequential.Step.TheVariants.{Grow, Shrink}
 use Rattle.tie_walk.proofs.LawLemmas.{passes-from_filter, Contains-filter, IsIncreasing-range}
@@ -59,11 +59,11 @@ in_bounds m set c up inside =
     (low, high)
 
 module _ (step : Step) (weights : List ℕ) (m : ℕ) (rows : List Row) where
-  pub choice-parts : (set : List ℕ) (c : ℕ) → is_choice step weights m rows set c ≡ true → ((1 ≤ c) × (c ≤ m)) × (is_open step set c ≡ true)
+  pub choice-parts : (set : List ℕ) (c : ℕ) → is_choice step weights m rows set c ≡ true → ((1 ≤ c) × (c ≤ m)) × (may_choose step set c ≡ true)
   choice-parts set c is =
       let all = open_candidates step m set in
       let inside = (and_parts (has_member all c) _ is).0 in
-      let parts = and_parts (is_open step set c) (has_member (range_with_len 1 m) c) (sym (has_member-filter (is_open step set) (range_with_len 1 m) c) ∙ inside) in
+      let parts = and_parts (may_choose step set c) (has_member (range_with_len 1 m) c) (sym (has_member-filter (may_choose step set) (range_with_len 1 m) c) ∙ inside) in
       (in_bounds m (range_with_len 1 m) c (IsIncreasing-range 1 m m (omega arith)) parts.1, parts.0)
 
   pub followed-candidates : (set list : List ℕ) → follows (is_choice step weights m rows) (change step) set list ≡ true → AreCandidates m list

@@ -1,7 +1,6 @@
 -- How far the bounds of a set reach the best value.
 use Rattle.std.proofs.Common.{◌≡◌, ℕ, zero, suc, ◌+◌, ◌-◌, ◌<◌, ◌≤◌, ◌∙◌, true, false, List, [], ◌∷◌, Option, None, Some, sym, ap, subst, arith, inl, inr, length, get_or}
 use Rattle.std.specs.Prelude.{MatchOption, nat_le}
-use Rattle.std.specs.List.{AllByRecursion}
 use Rattle.std.proofs.lemmas.Bool.{cases_lt, le-leb, leb-true}
 use Rattle.tie_walk.specs.Ceilings.{IsBound, IsShort, IsReach, greatest_sum}
 use Rattle.tie_walk.specs.Steps.Tables.{IsLastReaching}

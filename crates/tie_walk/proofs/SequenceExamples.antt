@@ -1,10 +1,9 @@
 -- Each definition, computed on a small example.
-use Rattle.std.proofs.Common.{◌≡◌, [], ◌∷◌, true, false, refl, Some, None, map, codes}
+use Rattle.std.proofs.Common.{◌≡◌, [], ◌∷◌, true, false, refl}
 use Rattle.ballot_base.specs.Lists.{lists_of}
 use Rattle.ballot_base.specs.Ballots.{Election, election}
 use Rattle.ballot_base.specs.CommonMultiple.{common_multiple}
 use Rattle.tie_walk.specs.Sequences.{hit_weight, hit_weights, weight, supporters, gain, loss, others, is_grown, is_shrunk, sequences, sequential_winners}
-use Rattle.tie_walk.specs.RuleNames.{seq_name, seq_named, seq_rules}
 use Rattle.tie_walk.specs.Steps.Choices.{step_of, choices_of, is_no_better, open_candidates, change, start, better, worst, worth, hits_of, is_choice, changes, follows}
 use Rattle.tie_walk.specs.declared.sequential.Step.TheVariants.{Grow, Shrink}
 use Rattle.tie_walk.specs.declared.sequential.SeqRule.TheVariants.{SeqPav, SeqCc, RevSeqPav}
@@ -142,10 +141,3 @@ changes_of_one = refl
 -- any choice may be made here, and each adds a candidate
 followed : follows (λ set c. true) (change Grow) [] (2 ∷ 1 ∷ []) ≡ true
 followed = refl
-
--- ---- names
-named : (seq_named (codes "seqpav") ≡ Some SeqPav) × (seq_named (codes "revseqpav") ≡ Some RevSeqPav) × (seq_named (codes "pav") ≡ None)
-named = (refl, refl, refl)
-
-names : map seq_name seq_rules ≡ codes "seqpav" ∷ codes "seqcc" ∷ codes "revseqpav" ∷ []
-names = refl

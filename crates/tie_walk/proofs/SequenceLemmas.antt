@@ -19,7 +19,7 @@ use Rattle.ballot_base.proofs.Committees.{increasing_lists-contains, increasing_
 use Rattle.ballot_base.proofs.FirstMember.{without_member_head}
 use Rattle.ballot_base.proofs.Increasing.{IsIncreasing-filter, has_member-filter, has_member_head, has_member_tail, same_increasing, with_member-lt, with_member-gt}
 use Rattle.tie_walk.specs.Sequences.{hit_weights, sequential_winners, loss, has_greatest_gain, has_least_loss, is_grown, is_shrunk, is_grown_set, is_left_set, sequences}
-use Rattle.tie_walk.specs.Steps.Choices.{step_of, choices_of, is_open, change, open_candidates, is_choice, start, follows, IsReached, IsLevel}
+use Rattle.tie_walk.specs.Steps.Choices.{step_of, choices_of, may_choose, change, open_candidates, is_choice, start, follows, IsReached, IsLevel}
 use Rattle.tie_walk.specs.declared.sequential.SeqRule.{SeqRule}
 use Rattle.tie_walk.specs.declared.sequential.SeqRule.TheVariants.{SeqPav, SeqCc, RevSeqPav}
 use Rattle.tie_walk.specs.declared.sequential.Step.{Step}
@@ -69,7 +69,7 @@ sized-start : (step : Step) (m : ℕ) → IsSized step m 0 (start step m)
 sized-start Grow m = refl
 sized-start Shrink m = omega (arith, length-range 1 m)
 
-sized-change : (step : Step) (m size : ℕ) (set : List ℕ) (c : ℕ) → IsIncreasing 1 m set → is_open step set c ≡ true → IsSized step m size set → IsSized step m (suc size) (change step set c)
+sized-change : (step : Step) (m size : ℕ) (set : List ℕ) (c : ℕ) → IsIncreasing 1 m set → may_choose step set c ≡ true → IsSized step m size set → IsSized step m (suc size) (change step set c)
 sized-change Grow m size set c up open' sized = omega (arith, length-with_member set c (not_true (has_member set c) open'), sized)
 sized-change Shrink m size set c up open' sized = omega (arith, length-without_member 1 m set c up open', sized)
 

@@ -8,7 +8,7 @@ use Rattle.std.proofs.lemmas.List.Sums.{fold-append}
 use Rattle.ballot_base.specs.CandSet.{has_member}
 use Rattle.ballot_base.specs.Ballots.{Row}
 use Rattle.ballot_base.proofs.Increasing.{has_member-filter}
-use Rattle.tie_walk.specs.Steps.Choices.{is_open, change, worth, is_no_better, better, worst, open_candidates, is_choice, changes}
+use Rattle.tie_walk.specs.Steps.Choices.{may_choose, change, worth, is_no_better, better, worst, open_candidates, is_choice, changes}
 use Rattle.tie_walk.specs.declared.sequential.Step.{Step}
 use Rattle.tie_walk.specs.declared.sequential.Step.TheVariants.{Grow, Shrink}
 use Rattle.tie_walk.proofs.WinnersLemmas.{greatest, values-greatest, bounds-greatest, same_filter, at_least_is_equal, least}
@@ -131,11 +131,11 @@ list_all-same p q (x ∷ xs) same = ap (λ b. b && list_all p xs) (same x) ∙ a
 
 module _ (step : Step) (weights : List ℕ) (m : ℕ) (rows : List Row) (set : List ℕ) (w : ℕ → ℕ) (best : ℕ) where
   choice-is : ((c : ℕ) → w c ≡ worth step weights rows set c) → ((c : ℕ) → w c ≤ 2 ^ 128 - 1) → best ≡ fold (better step) (worst step) (map w (open_candidates step m set))
-      → (c : ℕ) → 1 ≤ c → c < 1 + m → (is_open step set c && (w c == best)) ≡ is_choice step weights m rows set c
+      → (c : ℕ) → 1 ≤ c → c < 1 + m → (may_choose step set c && (w c == best)) ≡ is_choice step weights m rows set c
   choice-is are fit is c low high =
       let all = open_candidates step m set in
-      let member : has_member all c ≡ is_open step set c = has_member-filter (is_open step set) (range_with_len 1 m) c ∙ ap (λ b. is_open step set c && b) (has_member-range 1 m c low high) ∙ and-true (is_open step set c) in
-      elim (cases_Bool (is_open step set c)) [
+      let member : has_member all c ≡ may_choose step set c = has_member-filter (may_choose step set) (range_with_len 1 m) c ∙ ap (λ b. may_choose step set c && b) (has_member-range 1 m c low high) ∙ and-true (may_choose step set c) in
+      elim (cases_Bool (may_choose step set c)) [
         | inl open' ↦
             let inside : has_member all c ≡ true = member ∙ open' in
             let here : (w c == best) ≡ list_all (λ d. is_no_better step (worth step weights rows set d) (worth step weights rows set c)) all =
@@ -144,7 +144,7 @@ module _ (step : Step) (weights : List ℕ) (m : ℕ) (rows : List Row) (set : L
             (λ d. ap (λ n. is_no_better step n (w c)) (are d) ∙ ap (λ n. is_no_better step (worth step weights rows set d) n) (are c)) in
             ap (λ b. b && (w c == best)) (sym member) ∙ ap (λ b. has_member all c && b) here
         | inr shut ↦
-            and_left (is_open step set c) (w c == best) shut
+            and_left (may_choose step set c) (w c == best) shut
             ∙ sym (and_left (has_member all c) (list_all (λ d. is_no_better step (worth step weights rows set d) (worth step weights rows set c)) all) (member ∙ shut))
       ]
     where
@@ -154,9 +154,9 @@ module _ (step : Step) (weights : List ℕ) (m : ℕ) (rows : List Row) (set : L
 
   -- the candidates with the best worth are the choices
   pub changes-made : ((c : ℕ) → w c ≡ worth step weights rows set c) → ((c : ℕ) → w c ≤ 2 ^ 128 - 1) → best ≡ fold (better step) (worst step) (map w (open_candidates step m set))
-      → map (change step set) (filter (λ c. is_open step set c && w c == best) (range_with_len 1 m)) ≡ changes step weights m rows set
+      → map (change step set) (filter (λ c. may_choose step set c && w c == best) (range_with_len 1 m)) ≡ changes step weights m rows set
   unfolding changes
   changes-made are fit is =
       ap (map (change step set))
-      (same_filter (λ c. is_open step set c && w c == best) (is_choice step weights m rows set) (range_with_len 1 m)
-      (all_range (λ c. (is_open step set c && (w c == best)) ≡ is_choice step weights m rows set c) 1 m (choice-is are fit is)))
+      (same_filter (λ c. may_choose step set c && w c == best) (is_choice step weights m rows set) (range_with_len 1 m)
+      (all_range (λ c. (may_choose step set c && (w c == best)) ≡ is_choice step weights m rows set c) 1 m (choice-is are fit is)))

@@ -6,7 +6,6 @@ ghost use Rattle.ballot_base.specs.Increments.{increments};
 ghost use Rattle.ballot_base.specs.Ballots.{Row, Election, IsElection};
 ghost use Rattle.ballot_base.specs.Lists.{IsIncreasing, increasing_lists, AreInOrder, later_than};
 ghost use Rattle.ballot_base.specs.CandSet.{with_member, without_member, members_upto};
-ghost use Rattle.tie_walk.specs.RuleNames.{seq_name, seq_named, seq_rules};
 ghost use Rattle.tie_walk.specs.Sequences.{hit_weights, has_greatest_gain, has_least_loss, IsGrown, IsShrunk, sequential_winners};
 ghost use Rattle.tie_walk.specs.Ceilings.{Prefix, IsLive, IsSubmodular, IsBound, IsTight, IsExactAtBest};
 ghost use Rattle.tie_walk.specs.Ceilings.{ceiling, closeness_upto, live_below};
@@ -74,13 +73,6 @@ pub fn live_prefixes()
 pub fn tight_bounds()
     ensures { (value : List ℕ → ℕ) (bound : ℕ → List ℕ → ℕ → ℕ) (m k best : ℕ) → IsTight value bound m k
         → IsExactAtBest value bound m k best }
-{}
-
-/// `SeqRule::ALL` has each rule, and no two rules share a name.
-pub fn names()
-    ensures all { SeqRule.ALL ≡ seq_rules }
-    ensures texts { map (λ name. name.now) SeqRule.NAMES ≡ map seq_name seq_rules }
-    ensures back { (rule : SeqRule) → seq_named (seq_name rule) ≡ Some rule }
 {}
 
 /// No ballot is farther from a committee than there are candidates: the value under minimax and the distance add up to

@@ -71,8 +71,7 @@ fn farthest<A: Allocator + Copy>(profile: &Profile<A>, committee: CandSet) -> u8
     ensures most { result ≤ profile.now.m }
 {
     let mut greatest = 0;
-    for i in 0..profile.rows() {
-        let (ballot, _) = profile.row(i);
+    for (ballot, _voters) in profile.ballots() {
         greatest = greatest.max(distance(ballot, committee));
     }
     greatest
@@ -86,8 +85,7 @@ fn farthest_upto<A: Allocator + Copy>(profile: &Profile<A>, c: u8, set: CandSet)
     ensures most { result ≤ profile.now.m }
 {
     let mut greatest = 0;
-    for i in 0..profile.rows() {
-        let (ballot, _) = profile.row(i);
+    for (ballot, _voters) in profile.ballots() {
         greatest = greatest.max(distance(ballot.upto(c), set));
     }
     greatest
@@ -109,8 +107,7 @@ fn last_near<A: Allocator + Copy>(
         (IsLastNear profile.now.rows set most c end) }
 {
     let mut last = end;
-    for i in 0..profile.rows() {
-        let (ballot, _) = profile.row(i);
+    for (ballot, _voters) in profile.ballots() {
         let Some(close) = last_close(ballot, set, most, c, last) else {
             return None;
         };

@@ -105,8 +105,7 @@ fn scores<A: Allocator + Copy>(profile: &Profile<A>, shares: &[u128; PLACES]) ->
     ensures { (c : ℕ) → slice_index result c ≡ score shares.now profile.now.rows c }
 {
     let mut totals = [0; PLACES];
-    for i in 0..profile.rows() {
-        let (ballot, voters) = profile.row(i);
+    for (ballot, voters) in profile.ballots() {
         let share = shares[usize::from(ballot.len())];
         add_to_members(&mut totals, ballot, u128::from(voters) * share);
     }
@@ -132,8 +131,7 @@ fn hits_by_size<A: Allocator + Copy>(profile: &Profile<A>, set: CandSet) -> [u64
         ≡ sum_by (λ row. row.1 * hits row.0 set) (filter (λ row. length row.0 == n) profile.now.rows) }
 {
     let mut counts = [0; PLACES];
-    for i in 0..profile.rows() {
-        let (ballot, voters) = profile.row(i);
+    for (ballot, voters) in profile.ballots() {
         let hits = u64::from(ballot.common(set).len());
         counts[usize::from(ballot.len())] += voters * hits;
     }

@@ -196,8 +196,7 @@ fn voters_by_hits<A: Allocator + Copy>(profile: &Profile<A>, set: CandSet) -> [u
         ≡ voter_count (filter (λ row. hits row.0 set == j) profile.now.rows) }
 {
     let mut counts = [0; PLACES];
-    for i in 0..profile.rows() {
-        let (ballot, voters) = profile.row(i);
+    for (ballot, voters) in profile.ballots() {
         counts[usize::from(ballot.common(set).len())] += voters;
     }
     counts
@@ -232,8 +231,7 @@ fn hits_and_gains<A: Allocator + Copy>(
 {
     let mut counts = [0; PLACES];
     let mut gains = [0; PLACES];
-    for i in 0..profile.rows() {
-        let (ballot, voters) = profile.row(i);
+    for (ballot, voters) in profile.ballots() {
         let hits = ballot.common(set).len();
         counts[usize::from(hits)] += voters;
         let weight = Step::Grow.weight(weights, hits) as u64;

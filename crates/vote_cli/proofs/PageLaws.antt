@@ -14,7 +14,7 @@ use Rattle.preflib_text.specs.declared.fault.ReadFault.{ReadFault}
 use Rattle.preflib_text.specs.declared.pick.Pick.{Pick}
 use Rattle.preflib_text.proofs.ReadLemmas.{outcome_is_one}
 use Rattle.request_words.specs.Request.{Asked, Demand, Paging, electing, checking, sharing, whole}
-use Rattle.seat_share.specs.Faults.{first_fault}
+use Rattle.seat_share.specs.Faults.{share_fault}
 use Rattle.seat_share.specs.declared.method.Method.{Method}
 use Rattle.seat_share.specs.declared.method.ShareFault.{ShareFault}
 use Rattle.vote_cli.specs.FaultText.{fault_text}
@@ -137,7 +137,7 @@ module _ (IsOf : Listed → Type 0) (listed : Listed) (is : IsOf listed) (after 
 cut_votes : (IsOf : Listed → Type 0) (method : Method) (seats : ℕ) (after : Option (List ℕ)) (n : ℕ) (names : Naming) (votes : List ℕ) → IsOf (share_listed names method seats votes)
     → Related IsOf (CutOf after n) (share_answer method seats (unlimited after) names votes) (share_answer method seats (up_to after n) names votes)
 cut_votes IsOf method seats after n names votes is =
-    cut_shared IsOf (share_listed names method seats votes) is after n (first_fault votes seats None) (may_start (share_listed names method seats votes).may_follow after)
+    cut_shared IsOf (share_listed names method seats votes) is after n (share_fault votes seats None) (may_start (share_listed names method seats votes).may_follow after)
 
 cut_to : (with_names : Bool) (demand : Demand) (pick : Pick) (bytes : List ℕ) (after : Option (List ℕ)) (n : ℕ) (all cut : Answer) → is_listing demand ≡ true
     → IsAnswerTo with_names (with_page (unlimited after) demand) pick bytes all → IsAnswerTo with_names (with_page (up_to after n) demand) pick bytes cut
@@ -194,7 +194,7 @@ module _ (IsOf : Listed → Type 0) (listed : Listed) (is : IsOf listed) (page :
 part_votes : (IsOf : Listed → Type 0) (page : Paging) (method : Method) (seats : ℕ) (names : Naming) (votes : List ℕ) → IsOf (share_listed names method seats votes)
     → Related IsOf (PartOf page) (share_answer method seats whole names votes) (share_answer method seats page names votes)
 part_votes IsOf page method seats names votes is =
-    part_shared IsOf (share_listed names method seats votes) is page (first_fault votes seats None) (may_start (share_listed names method seats votes).may_follow page.after) refl
+    part_shared IsOf (share_listed names method seats votes) is page (share_fault votes seats None) (may_start (share_listed names method seats votes).may_follow page.after) refl
 
 part_to : (with_names : Bool) (demand : Demand) (pick : Pick) (bytes : List ℕ) (page : Paging) (all part : Answer) → is_listing demand ≡ true
     → IsAnswerTo with_names (with_page whole demand) pick bytes all → IsAnswerTo with_names (with_page page demand) pick bytes part

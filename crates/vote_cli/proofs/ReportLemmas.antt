@@ -1,10 +1,8 @@
 -- The text of a report, in the parts that are printed one after the other.
-use Rattle.std.proofs.Common.{◌≡◌, ◌⊎◌, inl, inr, ℕ, ◌+◌, Bool, true, false, cond, List, [], ◌∷◌, ◌++◌, Some, sym, ap, ◌∙◌, append_assoc, append-nil, drop, slice_get}
+use Rattle.std.proofs.Common.{◌≡◌, ◌⊎◌, inl, inr, ℕ, Bool, true, false, cond, List, [], ◌∷◌, ◌++◌, sym, ap, ◌∙◌, append_assoc, append-nil}
 use Rattle.std.specs.Prelude.{codes, decimal, flat_map, filter}
 use Rattle.std.proofs.lemmas.Grind.{flat_map-append}
-use Rattle.std.proofs.lemmas.List.{at_drop_more}
 use Rattle.std.proofs.lemmas.List.Elements.{filter-append}
-use Rattle.std.proofs.lemmas.Option.{get_or_from_slice_get, slice_get_within}
 use Rattle.ballot_base.specs.Ballots.{Row, Election, voter_count}
 use Rattle.group_check.specs.declared.property.Violation.{Violation}
 use Rattle.group_check.specs.declared.property.Property.{Property}
@@ -42,12 +40,8 @@ module _ (names : Naming) (violation : Violation) where
       ap (flat_map (row_text names)) (filter-append test rows more) ∙ flat_map-append (row_text names) (filter test rows) (filter test more)
 
   -- the rows from one on are that row and those after it
-  pub group_text-drop : (rows : List Row) (i : ℕ) (row : Row) → slice_get rows i ≡ Some row
-      → group_text names violation (drop i rows) ≡ group_text names violation (row ∷ []) ++ group_text names violation (drop (i + 1) rows)
-  group_text-drop rows i row found =
-      at_drop_more (group_text names violation) rows i row (slice_get_within rows i row found)
-      ∙ ap (λ r. group_text names violation (r ∷ drop (i + 1) rows)) (get_or_from_slice_get rows i row row found)
-      ∙ group_text-append (row ∷ []) (drop (i + 1) rows)
+  pub group_text-next : (left : List Row) (row : Row) (rest : List Row) → left ≡ row ∷ rest → group_text names violation left ≡ group_text names violation (row ∷ []) ++ group_text names violation rest
+  group_text-next left row rest is = ap (group_text names violation) is ∙ group_text-append (row ∷ []) rest
 
   -- ---- the whole report
 

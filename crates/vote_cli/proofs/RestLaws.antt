@@ -19,7 +19,7 @@ use Rattle.tie_walk.proofs.LawLemmas.{Contains-from_filter, winner-is, winners-o
 use Rattle.tie_walk.proofs.SequenceLaws.{sequential-later}
 use Rattle.tie_walk.proofs.StartLemmas.{later_than-at}
 use Rattle.seat_share.specs.Allocations.{allocations}
-use Rattle.seat_share.specs.Faults.{first_fault}
+use Rattle.seat_share.specs.Faults.{share_fault}
 use Rattle.seat_share.specs.Limits.{most_seats}
 use Rattle.seat_share.specs.declared.method.Method.{Method}
 use Rattle.seat_share.specs.declared.method.ShareFault.{ShareFault}
@@ -197,7 +197,7 @@ rest_votes names method seats votes listed page j last all rest most same some f
     subst (λ (l : Listed). slice_get (later_of l page) (j - 1) ≡ Some last → IsRest l page j all rest) (sym same)
     (λ at.
     rest_shared (share_listed names method seats votes) page j last few (allocations-rise method votes seats) (λ x c. share_fits method votes seats x most c) some at
-    (first_fault votes seats None) (may_start (has_seats_for (length votes)) page.after) all rest left whole right)
+    (share_fault votes seats None) (may_start (has_seats_for (length votes)) page.after) all rest left whole right)
     is
 
 rest_to : (with_names : Bool) (demand : Demand) (pick : Pick) (bytes : List ℕ) (listed : Listed) (page : Paging) (j : ℕ) (last : List ℕ) (all rest : Answer) → is_listing demand ≡ true

@@ -29,7 +29,7 @@ use Rattle.seat_share.specs.Allocations.{lists_with_sum}
 use Rattle.std.specs.Borrow.{MutBor}
 use Rattle.vote_cli.specs.declared.printing.Printer.{Printer}
 use Rattle.vote_cli.specs.Steps.Printing.{Prints, Sends}
-use Rattle.vote_cli.specs.Answer.{Answer, answered, violated, refused, request_refused, election_answer, IsCheckAnswer, IsCommittee, share_answer, share_answer_by, ballots_answer, IsAnswer, IsTooLong, FailsToRead, has_votes, input_for, Reports, ReadsAll, Ends, TellsOf, memory_line, read_failed_line, write_failed_line}
+use Rattle.vote_cli.specs.Answer.{Answer, answered, violated, refused, request_refused, election_answer, IsCheckAnswer, IsCommittee, share_answer, share_answer_by, ballots_answer, IsAnswer, IsTooLong, FailsToRead, has_votes, input_for, Reports, ReadsAll, Ends, TellsOfDevices, memory_line, read_failed_line, write_failed_line}
 use Rattle.vote_cli.specs.Steps.Refusals.{IsRefusal, status_of, error_of, ReadsBallots, TellsOfReads, TellsOfWrites, ReadsOn, WritesRight, IsWritten, outcome_status}
 use Rattle.vote_cli.specs.Steps.RequestFaults.{request_fault_word}
 use Rattle.ballot_base.specs.Lists.{IsIncreasing}
@@ -396,7 +396,7 @@ ends_in_part = inr (
 )
 
 -- only the writer failed, and nothing failed after an earlier failure of the writer
-devices_told : (TellsOf None DeviceFailed unread sound false true (λ said. said ≡ write_failed_line)) × (TellsOf None Answered unread sound true true (λ said. ⊥))
+devices_told : (TellsOfDevices None DeviceFailed unread sound false true (λ said. said ≡ write_failed_line)) × (TellsOfDevices None Answered unread sound true true (λ said. ⊥))
 devices_told = (inr ((refl, refl), refl), (refl, refl))
 
 all_read : (ReadsAll Answered (Some (1 ∷ [])) (Some [])) × (ReadsOn {T = ℕ} (Some (1 ∷ [])) (Some []) (Err refusal.WriteFailed))

@@ -30,7 +30,7 @@ use Rattle.vote_cli.specs.FaultText.{fault_text}
 use Rattle.vote_cli.specs.Device.{ReaderState}
 use Rattle.vote_cli.specs.Names.{Naming, naming}
 use Rattle.vote_cli.specs.Steps.RequestFaults.{request_fault_word}
-use Rattle.vote_cli.specs.Answer.{Answer, Ends, IsAnswer, IsAnswerOver, IsAnswerTo, IsAllRead, IsCheckAnswer, IsCommittee, IsTooLong, ReadsAll, Reports, TellsOf, ballots_answer, has_votes, input_for, share_answer, answered, request_refused, refused, violated}
+use Rattle.vote_cli.specs.Answer.{Answer, Ends, IsAnswer, IsAnswerOver, IsAnswerTo, IsAllRead, IsCheckAnswer, IsCommittee, IsTooLong, ReadsAll, Reports, TellsOfDevices, ballots_answer, has_votes, input_for, share_answer, answered, request_refused, refused, violated}
 use Rattle.vote_cli.specs.Steps.Printing.{Outlet, Passes}
 use Rattle.vote_cli.proofs.PrintingLemmas.{alone}
 use Rattle.vote_cli.specs.Steps.Refusals.{WritesRight, IsRefusal, IsWritten, ReadsBallots, ReadsOn, TellsOfReads, TellsOfWrites, error_of, status_of, outcome_status}
@@ -221,16 +221,16 @@ module _ (known : Option (List ℕ)) (asked : Asked) (old new err : Option (List
 module _ (known : Option (List ℕ)) (read_old read_new : ReaderState) (wrote_old wrote_new : Bool) (Says : List ℕ → Type 0) where
   -- devices do not fail where an answer is written
   pub tells_whole : (ended : Outcome) (status : Status) → status ≡ outcome_status ended
-      → read_new.has_failed ≡ read_old.has_failed → wrote_new ≡ wrote_old → TellsOf known status read_old read_new wrote_old wrote_new Says
+      → read_new.has_failed ≡ read_old.has_failed → wrote_new ≡ wrote_old → TellsOfDevices known status read_old read_new wrote_old wrote_new Says
   tells_whole outcome.Answered status is reads writes =
-      subst (λ s. TellsOf known s read_old read_new wrote_old wrote_new Says) (sym is) (reads, writes)
+      subst (λ s. TellsOfDevices known s read_old read_new wrote_old wrote_new Says) (sym is) (reads, writes)
   tells_whole outcome.Violated status is reads writes =
-      subst (λ s. TellsOf known s read_old read_new wrote_old wrote_new Says) (sym is) (reads, writes)
+      subst (λ s. TellsOfDevices known s read_old read_new wrote_old wrote_new Says) (sym is) (reads, writes)
 
   -- one that has failed is blamed
   tells_refused : (refusal : Refusal) → TellsOfReads {T = Outcome} known read_old read_new (Err refusal)
       → TellsOfWrites {T = Outcome} wrote_old wrote_new (Err refusal) → Says (error_of refusal)
-      → TellsOf known (status_of refusal) read_old read_new wrote_old wrote_new Says
+      → TellsOfDevices known (status_of refusal) read_old read_new wrote_old wrote_new Says
   tells_refused (Input fault) reads writes says = (reads, writes)
   tells_refused (Request fault) reads writes says = (reads, writes)
   tells_refused Memory reads writes says = (reads, writes)
@@ -239,9 +239,9 @@ module _ (known : Option (List ℕ)) (read_old read_new : ReaderState) (wrote_ol
 
   pub tells_by_refusal : (refusal : Refusal) (ended : Status) → ended ≡ status_of refusal
       → TellsOfReads {T = Outcome} known read_old read_new (Err refusal) → TellsOfWrites {T = Outcome} wrote_old wrote_new (Err refusal)
-      → Says (error_of refusal) → TellsOf known ended read_old read_new wrote_old wrote_new Says
+      → Says (error_of refusal) → TellsOfDevices known ended read_old read_new wrote_old wrote_new Says
   tells_by_refusal refusal ended is reads writes says =
-      subst (λ s. TellsOf known s read_old read_new wrote_old wrote_new Says) (sym is) (tells_refused refusal reads writes says)
+      subst (λ s. TellsOfDevices known s read_old read_new wrote_old wrote_new Says) (sym is) (tells_refused refusal reads writes says)
 
 pub whole_has_memory : (ended : Outcome) (code : Status) → code ≡ outcome_status ended → code ≢ status.NoMemory
 whole_has_memory outcome.Answered code is none = let h : status.Answered ≡ status.NoMemory = sym is ∙ none in cc

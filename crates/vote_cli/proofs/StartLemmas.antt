@@ -6,7 +6,7 @@ use Rattle.std.proofs.lemmas.Bool.{and_from, and_left, and_right, and_parts, le-
 use Rattle.std.proofs.lemmas.List.Folds.{list_all_at}
 use Rattle.ballot_base.specs.Lists.{IsIncreasing}
 use Rattle.ballot_base.specs.Limits.{most_members}
-use Rattle.seat_share.specs.Faults.{first_fault}
+use Rattle.seat_share.specs.Faults.{share_fault}
 use Rattle.seat_share.specs.Limits.{most_parties, most_seats}
 use Rattle.seat_share.specs.declared.method.ShareFault.{ShareFault}
 use Rattle.vote_cli.specs.Answer.{Answer, IsCommittee, request_refused, share_answer_by}
@@ -87,4 +87,4 @@ refused_through votes seats starts fault r (Ok u) was passed said = tt
 refused_through votes seats starts fault r (Err f) was passed said =
     let told : IsShareRefusal seats true votes (request_fault_word fault) = subst (λ s. IfErr s (λ f. IsShareRefusal seats true votes (request_fault_word f))) was said in
     subst (λ g. IsShareRefusal seats starts votes (request_fault_word g)) (sym passed.1)
-    (refused_anyway (first_fault votes seats None) (request_fault_word fault) told starts)
+    (refused_anyway (share_fault votes seats None) (request_fault_word fault) told starts)

@@ -13,7 +13,7 @@ use Rattle.preflib_text.specs.declared.fault.ReadFault.{ReadFault}
 use Rattle.preflib_text.specs.declared.pick.Pick.{Pick}
 use Rattle.preflib_text.specs.Limits.{word_limit}
 use Rattle.preflib_text.specs.Reading.{Reads}
-use Rattle.seat_share.specs.Faults.{first_fault}
+use Rattle.seat_share.specs.Faults.{share_fault}
 use Rattle.seat_share.specs.Names.{share_fault_name}
 use Rattle.seat_share.specs.declared.method.Method.{Method}
 use Rattle.seat_share.specs.declared.method.ShareFault.{ShareFault}
@@ -83,7 +83,7 @@ share_answer_by None true text = answered text
 
 abbrev pub share_answer : Method → ℕ → Paging → Naming → List ℕ → Answer
 share_answer method seats page names votes =
-    share_answer_by (first_fault votes seats None) (may_start (has_seats_for (length votes)) page.after)
+    share_answer_by (share_fault votes seats None) (may_start (has_seats_for (length votes)) page.after)
     (share_text method seats page names votes)
 
 -- the same, where a voter counts for the one party that the ballot approves
@@ -192,11 +192,11 @@ module _ (asked : Asked) (bytes : List ℕ) (out_old out_new err_old err_new : O
 
 -- What the devices tell after a run that ended with this status, whether or not they tell their bytes: which of them
 -- failed, where one did, and the line on it.
-abbrev pub TellsOf : Option (List ℕ) → Status → ReaderState → ReaderState → Bool → Bool → (List ℕ → Type 0) → Type 0
-TellsOf bytes DeviceFailed read_old read_new out_old out_new Says =
+abbrev pub TellsOfDevices : Option (List ℕ) → Status → ReaderState → ReaderState → Bool → Bool → (List ℕ → Type 0) → Type 0
+TellsOfDevices bytes DeviceFailed read_old read_new out_old out_new Says =
     (BlamesReader bytes read_old read_new out_old out_new × Says read_failed_line)
     ⊎ (BlamesWriter read_old read_new out_old out_new × Says write_failed_line)
-TellsOf bytes status read_old read_new out_old out_new Says = BlamesNobody read_old read_new out_old out_new
+TellsOfDevices bytes status read_old read_new out_old out_new Says = BlamesNobody read_old read_new out_old out_new
 
 -- a reader that told its bytes before has none left
 abbrev pub IsAllRead : Option (List ℕ) → Option (List ℕ) → Type 0

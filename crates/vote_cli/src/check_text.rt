@@ -151,8 +151,7 @@ fn print_group<W: Sink, A: Allocator + Copy>(
     ensures { Prints W.contents W.has_failed printer.old printer.new (is_ok result)
         (group_text names.now violation.now profile.now.rows) }
 {
-    for i in 0..profile.rows() {
-        let (ballot, count) = profile.row(i);
+    for (ballot, count) in profile.ballots() {
         print_if_in_group(printer, names, violation, ballot, count)?;
     }
     Ok(())

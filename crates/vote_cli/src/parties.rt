@@ -41,8 +41,7 @@ pub(crate) fn votes_of<A: Allocator + Copy>(profile: &Profile<A>) -> Option<Part
         (has_many_approved profile.now ≡ false) × (votes ≡ party_votes profile.now)) }
 {
     let mut votes = [0; MOST_CANDIDATES as usize];
-    for i in 0..profile.rows() {
-        let (ballot, voters) = profile.row(i);
+    for (ballot, voters) in profile.ballots() {
         if ballot.len() > 1 {
             return None;
         }

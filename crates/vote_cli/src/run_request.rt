@@ -1,7 +1,7 @@
 //! A whole run, from the bytes of the input to the bytes of the answer.
 ghost use Rattle.std.specs.Prelude.{◌≡◌, ◌≢◌, Err, IfSome, true, false};
 ghost use Rattle.preflib_text.specs.Approvals.{HasNumber};
-ghost use Rattle.vote_cli.specs.Answer.{Ends, IsAnswer, ReadsAll, Reports, TellsOf, has_votes, input_for};
+ghost use Rattle.vote_cli.specs.Answer.{Ends, IsAnswer, ReadsAll, Reports, TellsOfDevices, has_votes, input_for};
 ghost use Rattle.vote_cli.specs.Device.{reader_state};
 ghost use Rattle.vote_cli.specs.Steps.Refusals.{WritesRight, ReadsBallots, ReadsOn};
 ghost use Rattle.vote_cli.specs.Steps.Refusals.{TellsOfReads, TellsOfWrites, error_of, status_of};
@@ -125,7 +125,7 @@ pub fn run<A: Allocator + Copy + Drop, R: Source, W: Sink, E: Sink>(
         (W.has_failed out.old) (W.has_failed out.new) result) }
     // A device is blamed exactly where it has failed, by its own line, whether or not the devices tell their bytes; and
     // so is the reader where it gave more than 2^64 - 1 bytes.
-    ensures devices { TellsOf (input_for request.now.demand (R.remaining reader.old)) result
+    ensures devices { TellsOfDevices (input_for request.now.demand (R.remaining reader.old)) result
         (reader_state (R.has_failed reader.old) (R.given reader.old))
         (reader_state (R.has_failed reader.new) (R.given reader.new))
         (W.has_failed out.old) (W.has_failed out.new)
@@ -157,7 +157,7 @@ pub fn run_with_hashing<A: Allocator + Copy + Drop, R: Source, W: Sink, E: Sink>
         (W.has_failed out.old) (W.has_failed out.new) result) }
     // A device is blamed exactly where it has failed, by its own line, whether or not the devices tell their bytes; and
     // so is the reader where it gave more than 2^64 - 1 bytes.
-    ensures devices { TellsOf (input_for request.now.demand (R.remaining reader.old)) result
+    ensures devices { TellsOfDevices (input_for request.now.demand (R.remaining reader.old)) result
         (reader_state (R.has_failed reader.old) (R.given reader.old))
         (reader_state (R.has_failed reader.new) (R.given reader.new))
         (W.has_failed out.old) (W.has_failed out.new)

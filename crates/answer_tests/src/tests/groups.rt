@@ -1,8 +1,8 @@
-//! Violations, compared with what a plain search of all lists or of all groups finds.
+//! Violations, compared with what is found by trying all lists and all groups.
 use ballot_base::{CandSet, KSets, MOST_CANDIDATES, MOST_MEMBERS, Profile, ProfileBuilder};
 use group_check::{Property, Violation, find_violation};
 use std::alloc::Global;
-use std::test::Fail;
+use std::process::Abort;
 
 /// The committees and ballots of the small elections have these candidates alone.
 const FEW: u8 = 5;
@@ -19,8 +19,8 @@ fn chosen(bits: u64) -> CandSet {
 }
 
 /// A small election of so many ballots, with 1 to `most` voters each, the same for the same seed.
-fn small_election(alloc: Global, seed: u64, ballots: u64, most: u64) -> Result<Profile, Fail> {
-    let mut builder = ProfileBuilder::new(alloc, MOST_CANDIDATES)?;
+fn small_election(rt: &impl Abort, alloc: Global, seed: u64, ballots: u64, most: u64) -> Profile {
+    let mut builder = ProfileBuilder::new(alloc, MOST_CANDIDATES).expect(rt, "memory");
     let mut state = seed;
     for _round in 0..ballots {
         state = state
@@ -28,105 +28,11 @@ fn small_election(alloc: Global, seed: u64, ballots: u64, most: u64) -> Result<P
             .wrapping_add(1_442_695_040_888_963_407);
         let ballot = chosen(state >> 32);
         ballot.valid();
-        builder.add(ballot, (state >> 60) % most.max(1) + 1)?;
+        builder
+            .add(ballot, (state >> 60) % most.max(1) + 1)
+            .expect(rt, "a ballot");
     }
-    Ok(builder.finish().ok().ok_or("a profile")?)
-}
-
-/// How many voters the violation's group has.
-fn members_of(profile: &Profile, violation: &Violation) -> u64 {
-    let mut voters = 0u64;
-    for (ballot, count) in profile.ballots() {
-        if violation.contains(ballot) {
-            voters = voters.saturating_add(count);
-        }
-    }
-    voters
-}
-
-/// The first violation at a level, found by trying each T and each U of the first candidates.
-fn slow_at(
-    profile: &Profile,
-    committee: CandSet,
-    property: Property,
-    level: u8,
-) -> Option<Violation> {
-    let places = if property == Property::Pjr {
-        level.saturating_sub(1)
-    } else {
-        0
-    };
-    let size = if property == Property::EjrPlus {
-        1
-    } else {
-        level
-    };
-    for shared in KSets::new(FEW, size.min(FEW)) {
-        if property == Property::EjrPlus && !shared.common(committee).is_empty() {
-            continue;
-        }
-        for within in KSets::new(FEW, places.min(FEW)) {
-            let mut violation = Violation {
-                property,
-                committee,
-                level,
-                shared,
-                within,
-                voters: 0,
-            };
-            violation.voters = members_of(profile, &violation);
-            let due = profile.voters().saturating_mul(u64::from(level));
-            let has = violation.voters.saturating_mul(u64::from(committee.len()));
-            if within.common(committee) == within && has >= due {
-                return Some(violation);
-            }
-        }
-    }
-    None
-}
-
-/// The first violation, found by trying all.
-fn slow(profile: &Profile, committee: CandSet, property: Property) -> Option<Violation> {
-    let levels = if property == Property::Jr {
-        1
-    } else {
-        committee.len()
-    };
-    for level in 1..=levels {
-        let found = slow_at(profile, committee, property, level);
-        if found.is_some() {
-            return found;
-        }
-    }
-    None
-}
-
-/// How many of the small elections' committees lack a property, each compared with the violation that is found by
-/// trying all.
-#[test]
-fn small_elections(rt: HostRuntime) -> Result<(), Fail> {
-    let mut violated = 0u64;
-    for seed in 0..100 {
-        let profile = small_election(rt.alloc(), seed, 6, 3)?;
-        for bits in 1..32 {
-            let committee = chosen(bits << 1);
-            committee.valid();
-            if committee.is_empty()
-                || committee.len() > MOST_MEMBERS
-                || profile.m() != MOST_CANDIDATES
-            {
-                return Err(Fail::from("no committee that is checked"));
-            }
-            for property in Property::ALL.iter().copied() {
-                let found = find_violation(&profile, committee, property);
-                let wanted = slow(&profile, committee, property);
-                assert!(rt; found == wanted, "{seed} {bits} {}", property.name());
-                violated = violated.saturating_add(u64::from(found.is_some()));
-            }
-        }
-    }
-    assert!(rt; violated > 100, "{violated} violations");
-    Ok(())
+    builder.finish().ok().expect(rt, "a profile")
 }
 
 /// A group of voters, which may have any part of those of a row.
@@ -142,68 +48,67 @@ struct Group {
 }
 
 impl Group {
-    fn new(committee: CandSet) -> Group {
-        Group {
-            voters: 0,
-            common: CandSet::all(FEW),
-            missed: committee,
-            most_hits: 0,
-        }
-    }
-
-    /// The group with so many voters more.
-    fn join(&mut self, committee: CandSet, ballot: CandSet, voters: u64) {
-        if voters == 0 {
-            return;
-        }
-        self.voters = self.voters.saturating_add(voters);
-        self.common = self.common.common(ballot);
-        self.most_hits = self.most_hits.max(ballot.common(committee).len());
-        for candidate in 1..=FEW {
-            if ballot.has(candidate) {
-                self.missed = self.missed.without(candidate);
-            }
-        }
-    }
-
     /// Whether the group breaks the property at this level, of `all` voters, by its definition.
     fn breaks(&self, committee: CandSet, all: u64, property: Property, level: u8) -> bool {
         let size = u64::from(committee.len());
         let is_large = self.voters.saturating_mul(size) >= all.saturating_mul(u64::from(level));
         let is_cohesive = is_large && self.common.len() >= level;
         let represented = committee.len().saturating_sub(self.missed.len());
-        let others = self.common.len() > self.common.common(committee).len();
         match property {
             Property::Jr => level == 1 && is_cohesive && self.most_hits < 1,
             Property::Pjr => is_cohesive && represented < level,
             Property::Ejr => is_cohesive && self.most_hits < level,
-            Property::EjrPlus => is_large && others && self.most_hits < level,
+            Property::EjrPlus => {
+                is_large && !self.common.minus(committee).is_empty() && self.most_hits < level
+            }
         }
     }
 }
 
-/// How many voters there are in the elections whose groups are all tried.
-const FEW_VOTERS: u64 = 5;
+/// Which voters make a group.
+#[derive(Clone, Copy)]
+enum Members<'a> {
+    /// All voters of the ballots that a report names.
+    Reported(&'a Violation),
+    /// As many voters of each row as a digit of this number says, in the base of one more than the row has.
+    Numbered(u64),
+}
 
-/// The group with this number, of which a digit for each row says how many of its voters are in the group: in the base
-/// of one more than the row has.
-fn group_of(profile: &Profile, committee: CandSet, number: u64) -> Group {
-    let mut group = Group::new(committee);
-    let mut rest = number;
+/// The group of these voters.
+fn group_of(profile: &Profile, committee: CandSet, members: Members<'_>) -> Group {
+    let mut group = Group {
+        voters: 0,
+        common: CandSet::all(FEW),
+        missed: committee,
+        most_hits: 0,
+    };
+    let mut divisor = 1u64;
     for (ballot, count) in profile.ballots() {
-        let base = count.saturating_add(1).max(1);
-        group.join(committee, ballot, rest % base);
-        rest /= base;
+        let base = count.saturating_add(1);
+        let voters = match members {
+            Members::Reported(report) => if report.contains(ballot) { count } else { 0 },
+            Members::Numbered(number) => number / divisor.max(1) % base,
+        };
+        divisor = divisor.saturating_mul(base);
+        if voters > 0 {
+            group.voters = group.voters.saturating_add(voters);
+            group.common = group.common.common(ballot);
+            group.missed = group.missed.minus(ballot);
+            group.most_hits = group.most_hits.max(ballot.common(committee).len());
+        }
     }
     group
 }
+
+/// How many voters there are in the elections whose groups are all tried.
+const FEW_VOTERS: u64 = 5;
 
 /// The least level at which some group breaks the property, found by trying every group: there are 2 to the power of
 /// the voters at most.
 fn least_level(profile: &Profile, committee: CandSet, property: Property) -> Option<u8> {
     for level in 1..=committee.len() {
         for number in 0..1 << FEW_VOTERS {
-            let group = group_of(profile, committee, number);
+            let group = group_of(profile, committee, Members::Numbered(number));
             if group.breaks(committee, profile.voters(), property, level) {
                 return Some(level);
             }
@@ -212,104 +117,163 @@ fn least_level(profile: &Profile, committee: CandSet, property: Property) -> Opt
     None
 }
 
-/// The group of the ballots that a report names.
-fn reported(profile: &Profile, violation: &Violation) -> Group {
-    let mut group = Group::new(violation.committee);
-    for (ballot, count) in profile.ballots() {
-        if violation.contains(ballot) {
-            group.join(violation.committee, ballot, count);
+/// The first violation at a level, found by trying each T and each U of the first candidates.
+fn first_at(
+    profile: &Profile,
+    committee: CandSet,
+    property: Property,
+    level: u8,
+) -> Option<Violation> {
+    let (size, places) = match property {
+        Property::Jr | Property::Ejr => (level, 0),
+        Property::Pjr => (level, level.saturating_sub(1)),
+        Property::EjrPlus => (1, 0),
+    };
+    for shared in KSets::new(FEW, size.min(FEW)) {
+        let may_share = property != Property::EjrPlus || shared.common(committee).is_empty();
+        for within in KSets::new(FEW, places.min(FEW)) {
+            let mut violation = Violation {
+                property,
+                committee,
+                level,
+                shared,
+                within,
+                voters: 0,
+            };
+            violation.voters = group_of(profile, committee, Members::Reported(&violation)).voters;
+            let due = profile.voters().saturating_mul(u64::from(level));
+            let has = violation.voters.saturating_mul(u64::from(committee.len()));
+            if may_share && within.minus(committee).is_empty() && has >= due {
+                return Some(violation);
+            }
         }
     }
-    group
+    None
+}
+
+/// The first violation of all, if there is one.
+fn first_of_all(profile: &Profile, committee: CandSet, property: Property) -> Option<Violation> {
+    let levels = if property == Property::Jr {
+        1
+    } else {
+        committee.len()
+    };
+    for level in 1..=levels {
+        let found = first_at(profile, committee, property, level);
+        if found.is_some() {
+            return found;
+        }
+    }
+    None
 }
 
 /// Whether a report's own ballots are a group of its size that breaks the property at its level.
-fn shows_itself(group: Group, violation: &Violation, all: u64) -> bool {
+fn shows_itself(profile: &Profile, violation: &Violation) -> bool {
+    let committee = violation.committee;
+    let group = group_of(profile, committee, Members::Reported(violation));
     group.voters == violation.voters
         && group.common.common(violation.shared) == violation.shared
         && group.breaks(
-            violation.committee,
-            all,
+            committee,
+            profile.voters(),
             violation.property,
             violation.level,
         )
 }
 
-/// All committees of tiny elections: a violation is found exactly where some group breaks the property, at the least
-/// level at which one does, and its ballots alone show it.
-#[test]
-fn all_groups(rt: HostRuntime) -> Result<(), Fail> {
-    let mut violated = 0u64;
-    for seed in 0..50 {
-        let profile = small_election(rt.alloc(), seed, FEW_VOTERS, 1)?;
-        for bits in 1..32 {
-            let committee = chosen(bits << 1);
-            committee.valid();
-            if committee.is_empty()
-                || committee.len() > MOST_MEMBERS
-                || profile.m() != MOST_CANDIDATES
-            {
-                return Err(Fail::from("no committee that is checked"));
-            }
-            for property in Property::ALL.iter().copied() {
-                let found = find_violation(&profile, committee, property);
-                let wanted = least_level(&profile, committee, property);
-                let level = found.as_ref().map(|violation| violation.level);
-                assert!(rt; level == wanted, "{seed} {bits} {}", property.name());
-                if let Some(violation) = &found {
-                    assert!(rt;
-                        shows_itself(reported(&profile, violation), violation, profile.voters()),
-                        "{seed} {bits} {}",
-                        property.name()
-                    );
-                    violated = violated.saturating_add(1);
-                }
-            }
-        }
-    }
-    assert!(rt; violated > 100, "{violated} violations");
-    Ok(())
+/// Whether this is the first violation of all, and its own ballots show it. Where there are few voters, its level is the
+/// least at which some group breaks the property.
+fn is_right(
+    profile: &Profile,
+    committee: CandSet,
+    property: Property,
+    found: Option<Violation>,
+) -> bool {
+    let (level, is_shown) = match &found {
+        Some(violation) => (Some(violation.level), shows_itself(profile, violation)),
+        None => (None, true),
+    };
+    let is_least = profile.voters() > FEW_VOTERS
+        || least_level(profile, committee, property) == level;
+    is_shown && is_least && found == first_of_all(profile, committee, property)
 }
 
-/// Twenty voters who approve 21 to 40 and one more each, or forty who approve one candidate each.
-fn large_election(alloc: Global, voters: u8, alike: CandSet) -> Result<Profile, Fail> {
-    let mut builder = ProfileBuilder::new(alloc, MOST_CANDIDATES)?;
+/// What is found of a committee, which has to be one that may be checked.
+fn violation(
+    rt: &impl Abort,
+    profile: &Profile,
+    committee: CandSet,
+    property: Property,
+) -> Option<Violation> {
+    committee.valid();
+    assert!(rt;
+        !committee.is_empty() && committee.len() <= MOST_MEMBERS && profile.m() == MOST_CANDIDATES
+    );
+    find_violation(profile, committee, property)
+}
+
+/// How many committees of an election lack a property, each compared with what is found by trying all.
+fn count_violated(rt: &impl Abort, profile: &Profile, seed: u64) -> u64 {
+    let mut violated = 0u64;
+    for bits in 1..32 {
+        let committee = chosen(bits << 1);
+        for property in Property::ALL.iter().copied() {
+            let found = violation(rt, profile, committee, property);
+            violated = violated.saturating_add(u64::from(found.is_some()));
+            assert!(rt;
+                is_right(profile, committee, property, found),
+                "{seed} {bits} {}",
+                property.name()
+            );
+        }
+    }
+    violated
+}
+
+/// All committees of small elections: of six ballots with 1 to 3 voters each, and of five voters.
+#[test]
+fn small_elections(rt: HostRuntime) {
+    for (seeds, ballots, most) in [(100, 6, 3), (50, FEW_VOTERS, 1)] {
+        let mut violated = 0u64;
+        for seed in 0..seeds {
+            let profile = small_election(&rt, rt.alloc(), seed, ballots, most);
+            violated = violated.saturating_add(count_violated(&rt, &profile, seed));
+        }
+        assert!(rt; violated > 100, "{violated} among {ballots} ballots");
+    }
+}
+
+/// So many voters who approve a candidate of their own each, and these candidates.
+fn large_election(rt: &impl Abort, alloc: Global, voters: u8, alike: CandSet) -> Profile {
+    let mut builder = ProfileBuilder::new(alloc, MOST_CANDIDATES).expect(rt, "memory");
     for candidate in 1..=voters.min(MOST_CANDIDATES) {
         let ballot = alike.with(candidate);
         ballot.valid();
-        builder.add(ballot, 1)?;
+        builder.add(ballot, 1).expect(rt, "a ballot");
     }
-    Ok(builder.finish().ok().ok_or("a profile")?)
+    builder.finish().ok().expect(rt, "a profile")
+}
+
+/// Asserts that the committee of the candidates 1 to 20 lacks EJR and EJR+ where it is violated, and nothing else.
+fn assert_lacks(rt: &impl Abort, profile: &Profile, is_violated: bool) {
+    for property in Property::ALL.iter().copied() {
+        let found = violation(rt, profile, CandSet::all(20), property);
+        let is_due = is_violated && matches!(property, Property::Ejr | Property::EjrPlus);
+        assert!(rt;
+            found.is_some() == is_due,
+            "{is_violated} {}",
+            property.name()
+        );
+    }
 }
 
 /// Elections with so many lists that no search that tries all ends: twenty voters who share twenty candidates and
 /// approve one member each, and forty who approve one candidate each.
 #[test]
-fn many_lists(rt: HostRuntime) -> Result<(), Fail> {
-    let committee = CandSet::all(20);
-    committee.valid();
-    let mut shared = CandSet::empty();
-    for candidate in 21..=40 {
-        shared = shared.with(candidate);
+fn many_lists(rt: HostRuntime) {
+    let others = CandSet::all(40).minus(CandSet::all(20));
+    for (voters, alike, is_violated) in [(20, others, true), (40, CandSet::empty(), false)] {
+        let profile = large_election(&rt, rt.alloc(), voters, alike);
+        assert_lacks(&rt, &profile, is_violated);
     }
-    let alike = large_election(rt.alloc(), 20, shared)?;
-    let apart = large_election(rt.alloc(), 40, CandSet::empty())?;
-    if committee.is_empty()
-        || committee.len() > MOST_MEMBERS
-        || alike.m() != MOST_CANDIDATES
-        || apart.m() != MOST_CANDIDATES
-    {
-        return Err(Fail::from("no committee that is checked"));
-    }
-    for property in Property::ALL.iter().copied() {
-        let found = find_violation(&apart, committee, property);
-        assert!(rt; found.is_none(), "apart {}", property.name());
-        let found = find_violation(&alike, committee, property);
-        assert!(rt;
-            found.is_some() == (property == Property::Ejr || property == Property::EjrPlus),
-            "alike {}",
-            property.name()
-        );
-    }
-    Ok(())
 }

@@ -20,9 +20,9 @@ sets_from m None = []
 sets_from m (Some set) = lists_from m 1 set
 
 -- a place is a set of the candidates 1 to m, or the end
-abbrev pub IsPlace : ℕ → Option (List ℕ) → Type 0
-IsPlace m None = m ≤ most_candidates
-IsPlace m (Some set) = (m ≤ most_candidates) × IsIncreasing 1 m set
+abbrev pub MayComeNext : ℕ → Option (List ℕ) → Type 0
+MayComeNext m None = m ≤ most_candidates
+MayComeNext m (Some set) = (m ≤ most_candidates) × IsIncreasing 1 m set
 
 -- the set is the last of its size: it has the greatest of the numbers 1 to m
 abbrev pub IsLastSet : ℕ → List ℕ → Type 0

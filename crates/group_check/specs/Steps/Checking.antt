@@ -8,7 +8,7 @@ use Rattle.group_check.specs.declared.property.Property.{Property}
 use Rattle.group_check.specs.declared.property.Property.TheVariants.{Jr, Pjr, Ejr, EjrPlus}
 use Rattle.group_check.specs.declared.property.Violation.{Violation}
 use Rattle.group_check.specs.Groups.{is_outside}
-use Rattle.group_check.specs.Report.{includes, group_of, supporters, lists_within, pair_breaks, violation_of}
+use Rattle.group_check.specs.Report.{includes, group_of, pair_group, lists_within, pair_breaks, violation_of}
 
 -- the greatest level at which a group can break the property
 abbrev pub greatest_level : Property → List ℕ → ℕ
@@ -107,10 +107,10 @@ is_around committee shared within pool left ballot =
 abbrev pub voters_around : Election → List ℕ → List ℕ → List ℕ → List ℕ → ℕ → List ℕ
 voters_around e committee shared within pool left = group_of (is_around committee shared within pool left) e.rows
 
--- whether the supporters of T and U are enough for a level of PJR
+-- whether the group of T and U is large enough for a level of PJR
 abbrev pub is_enough_within : Election → List ℕ → ℕ → List ℕ → List ℕ → Bool
 is_enough_within e committee level shared within =
-    is_large e committee level (sum (supporters Pjr e committee level (shared, within)))
+    is_large e committee level (sum (pair_group Pjr e committee level (shared, within)))
 
 -- each answer about a ballot is the test's
 abbrev pub Computes : (List ℕ → Bool → Type 0) → (List ℕ → Bool) → Type 0

@@ -8,7 +8,7 @@ use Rattle.tie_walk.specs.Winners.{best_value}
 use Rattle.tie_search.specs.Completions.{IsOpen, IsCompletion, IsReaching}
 
 -- free candidates of whom each committee has one that completes the set and reaches the value
-pub record IsChoice (value : List ℕ → ℕ) (m : ℕ) (set free : List ℕ) (left least : ℕ) (choices : List ℕ) : Type 0
+pub record AreChoices (value : List ℕ → ℕ) (m : ℕ) (set free : List ℕ) (left least : ℕ) (choices : List ℕ) : Type 0
   where
     pub among : (n : ℕ) → has_member choices n ≡ true → has_member free n ≡ true
     pub one : (committee : List ℕ) → IsReaching value m set free left least committee

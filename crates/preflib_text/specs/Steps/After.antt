@@ -9,7 +9,7 @@ use Rattle.preflib_text.specs.declared.pick.Way.{Way}
 use Rattle.preflib_text.specs.declared.pick.Pick.{Pick}
 use Rattle.preflib_text.specs.declared.notes.Notes.{Notes}
 use Rattle.preflib_text.specs.Lines.{is_ballot_line}
-use Rattle.preflib_text.specs.Metadata.{Told, written_number}
+use Rattle.preflib_text.specs.Metadata.{Fact, written_number}
 use Rattle.preflib_text.specs.Approvals.{approved}
 use Rattle.preflib_text.specs.Reading.{Cast, told_before, alternatives_value, categories_value, type_value, name_value}
 use Rattle.preflib_text.specs.Reading.{last_of, kind_by, kind_or_usual, casts_in, votes_in, first_faulty_line}
@@ -17,11 +17,11 @@ use Rattle.preflib_text.specs.Steps.Tokens.{ballot_of}
 use Rattle.preflib_text.specs.Steps.Notes.{IsSound}
 
 -- the number that is told first
-abbrev pub first_number : (Told → Option (List ℕ)) → List Told → Option ℕ
+abbrev pub first_number : (Fact → Option (List ℕ)) → List Fact → Option ℕ
 first_number h tolds = option_and_then written_number (slice_get (filter_map h tolds) 0)
 
 -- the notes hold what was told
-pub record IsTold (pick : Pick) (tolds : List Told) (notes : Notes) : Type 0 where
+pub record IsTold (pick : Pick) (tolds : List Fact) (notes : Notes) : Type 0 where
   pub alternatives : notes.alternatives ≡ first_number alternatives_value tolds
   pub categories : notes.categories ≡ first_number categories_value tolds
   pub kind : notes.kind ≡ kind_by pick.kind (last_of (filter_map type_value tolds)) pick.ending
@@ -30,33 +30,33 @@ pub record IsTold (pick : Pick) (tolds : List Told) (notes : Notes) : Type 0 whe
   pub sound : IsSound notes
 
 -- the name that is told last, or none
-abbrev pub last_name : List Told → ℕ → List ℕ
+abbrev pub last_name : List Fact → ℕ → List ℕ
 last_name tolds n = unwrap_or (last_of (filter_map (name_value n) tolds)) []
 
-abbrev pub last_names : List Told → ℕ → List (List ℕ)
+abbrev pub last_names : List Fact → ℕ → List (List ℕ)
 last_names tolds count = map (last_name tolds) (range_with_len 1 count)
 
 -- the rows of ballots
-abbrev pub rows_of : Kind → Way → List Cast → List Row
-rows_of kind way casts = fold (λ rows cast. with_votes rows (approved kind way cast.classes) cast.count) [] casts
+abbrev pub cast_rows : Kind → Way → List Cast → List Row
+cast_rows kind way casts = fold (λ rows cast. with_votes rows (approved kind way cast.classes) cast.count) [] casts
 
 -- whether a ballot is among the lines
-abbrev pub has_ballot : List (List ℕ) → Bool
-has_ballot lines = list_any is_ballot_line lines
+abbrev pub has_ballot_line : List (List ℕ) → Bool
+has_ballot_line lines = list_any is_ballot_line lines
 
 -- the profile where a ballot was read
-abbrev pub IsBegun : Pick → List (List ℕ) → Notes → Election → Type 0
-IsBegun pick before notes e = (m : ℕ) × (notes.alternatives ≡ Some m)
+abbrev pub HoldsBallots : Pick → List (List ℕ) → Notes → Election → Type 0
+HoldsBallots pick before notes e = (m : ℕ) × (notes.alternatives ≡ Some m)
     × (e ≡ election m (last_names (told_before before) m)
-    (rows_of (kind_or_usual notes.kind) pick.way (casts_in pick ballot_of before))) × (e.rows ≢ [])
+    (cast_rows (kind_or_usual notes.kind) pick.way (casts_in pick ballot_of before))) × (e.rows ≢ [])
 
 -- what the notes and the profile are after these lines
 pub record IsAfter (pick : Pick) (before : List (List ℕ)) (notes : Notes) (e : Election) : Type 0 where
   pub told : IsTold pick (told_before before) notes
-  pub ballots : notes.has_ballot ≡ has_ballot before
+  pub ballots : notes.has_ballot ≡ has_ballot_line before
   pub opened : notes.has_ballot ≡ false
       → e ≡ election most_candidates (last_names (told_before before) most_candidates) []
-  pub begun : notes.has_ballot ≡ true → IsBegun pick before notes e
+  pub begun : notes.has_ballot ≡ true → HoldsBallots pick before notes e
   pub votes : voter_count e.rows ≡ votes_in pick ballot_of before
 
 -- lines without a fault before others

@@ -5,7 +5,7 @@ use Rattle.preflib_text.specs.declared.lines.Sort.TheVariants.{Blank, Metadata, 
 use Rattle.preflib_text.specs.Lines.{is_ballot_line, is_metadata_line}
 
 -- the line is of this kind
-abbrev pub Tells : List ℕ → Sort → Type 0
-Tells line Blank = (is_ballot_line line ≡ false) × (is_metadata_line line ≡ false)
-Tells line Metadata = (is_ballot_line line ≡ false) × (is_metadata_line line ≡ true)
-Tells line Ballot = (is_ballot_line line ≡ true) × (is_metadata_line line ≡ false)
+abbrev pub IsSort : List ℕ → Sort → Type 0
+IsSort line Blank = (is_ballot_line line ≡ false) × (is_metadata_line line ≡ false)
+IsSort line Metadata = (is_ballot_line line ≡ false) × (is_metadata_line line ≡ true)
+IsSort line Ballot = (is_ballot_line line ≡ true) × (is_metadata_line line ≡ false)

@@ -16,7 +16,7 @@ use Rattle.preflib_text.specs.declared.notes.Effect as rust
 use Rattle.preflib_text.specs.declared.notes.Effect.TheVariants as step
 use Rattle.preflib_text.specs.Limits.{most_line_bytes, most_categories}
 use Rattle.preflib_text.specs.Lines.{is_ballot_line}
-use Rattle.preflib_text.specs.Metadata.{Told, TypeIs, AlternativesAre, CategoriesAre, NameIs, told_of}
+use Rattle.preflib_text.specs.Metadata.{Fact, TypeIs, AlternativesAre, CategoriesAre, NameIs, told_of}
 use Rattle.preflib_text.specs.Metadata.{written_number}
 use Rattle.preflib_text.specs.Names.{kind_named}
 use Rattle.preflib_text.specs.Approvals.{approved}
@@ -56,20 +56,20 @@ effect_of (step.Ballot vote) = Casts vote.first vote.ballot.approved vote.ballot
 
 -- ---- metadata
 
-abbrev pub told_error : Notes → Told → Option FaultName
+abbrev pub told_error : Notes → Fact → Option FaultName
 told_error notes (AlternativesAre value) =
     number_fault (Some TooManyCandidates) most_candidates notes.alternatives (written_number value)
 told_error notes (CategoriesAre value) =
     number_fault (Some BadNumber) most_categories notes.categories (written_number value)
 told_error notes _ = None
 
-abbrev pub told_notes : Pick → Notes → Told → Notes
+abbrev pub told_notes : Pick → Notes → Fact → Notes
 told_notes pick notes (TypeIs value) = record notes { kind = kind_with pick.kind notes.kind value }
 told_notes pick notes (AlternativesAre value) = record notes { alternatives = written_number value }
 told_notes pick notes (CategoriesAre value) = record notes { categories = written_number value }
 told_notes pick notes _ = notes
 
-abbrev pub told_effect : Told → Effect
+abbrev pub told_effect : Fact → Effect
 told_effect (NameIs n name) = if nat_le 1 n && nat_le n most_candidates then Names n name else NoEffect
 told_effect _ = NoEffect
 

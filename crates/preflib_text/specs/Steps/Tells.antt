@@ -1,10 +1,10 @@
 -- What the reader keeps of a metadata line.
 use Rattle.std.specs.Prelude.{ℕ, ◌+◌, ◌-◌, ◌*◌, List, [], ◌∷◌, Option, Some, None, if◌then◌else◌}
 use Rattle.std.specs.Char.{is_ascii_digit}
-use Rattle.preflib_text.specs.declared.metadata.Told as rust
-use Rattle.preflib_text.specs.declared.metadata.Told.TheVariants as told
+use Rattle.preflib_text.specs.declared.metadata.Fact as rust
+use Rattle.preflib_text.specs.declared.metadata.Fact.TheVariants as told
 use Rattle.preflib_text.specs.Steps.Tokens.{capped}
-use Rattle.preflib_text.specs.Metadata.{Told, TypeIs, AlternativesAre, CategoriesAre, NameIs, Nothing}
+use Rattle.preflib_text.specs.Metadata.{Fact, TypeIs, AlternativesAre, CategoriesAre, NameIs, Nothing}
 
 -- the number of digits after others
 unfoldable pub digits_after : ℕ → List ℕ → Option ℕ
@@ -17,12 +17,12 @@ words_with [] words = words
 words_with (b ∷ bytes) words = (b ∷ bytes) ∷ words
 
 -- what is told, with numbers capped
-abbrev pub capped_told : Told → Told
+abbrev pub capped_told : Fact → Fact
 capped_told (NameIs n value) = NameIs (capped n) value
 capped_told told = told
 
 -- what the reader means
-abbrev pub meant : rust.Told → Told
+abbrev pub meant : rust.Fact → Fact
 meant (told.Type value) = TypeIs value.now
 meant (told.Alternatives value) = AlternativesAre value.now
 meant (told.Categories value) = CategoriesAre value.now

@@ -52,8 +52,8 @@ IsFirstToken text read rest = (token : Token) × (read ≡ capped_token token)
     × (tokens_of text ≡ token ∷ tokens_of rest) × (length rest < length text)
 
 -- the text's first tokens are this number and a comma, and the rest of the text has the others
-abbrev pub IsListed : List ℕ → ℕ → List ℕ → Type 0
-IsListed text n rest = IsFirstToken text (Number n) (44 ∷ rest) × IsFirstToken (44 ∷ rest) Comma rest
+abbrev pub IsListedNumber : List ℕ → ℕ → List ℕ → Type 0
+IsListedNumber text n rest = IsFirstToken text (Number n) (44 ∷ rest) × IsFirstToken (44 ∷ rest) Comma rest
 
 -- where a token leads, if it may come
 abbrev pub next_place : OrderPlace → Token → Option OrderPlace

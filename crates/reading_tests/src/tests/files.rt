@@ -1,8 +1,7 @@
 //! Files, and what they hold.
 use super::support::{assert_holds, reading_as};
-use std::alloc::{AllocError, Global};
+use std::alloc::Global;
 use std::process::Abort;
-use std::test::Fail;
 
 /// The words that say how a file is read, the file, and what it holds: the number of candidates, their names and the
 /// ballots, or the fault and its line. `¶` ends a line.
@@ -262,30 +261,18 @@ a.toi | # NUMBER ALTERNATIVES: 2¶# DATA TYPE: toy¶1: {},1,2¶ | line 3: BadKin
  | \r¶# DATA TYPE: x\r¶# NUMBER ALTERNATIVES: 03\r¶#DATA TYPE:toc\r¶02:{1,3},2\r¶# y\r¶1: 2,1,3\r¶ | 3¶2: 1,3¶1: 2
  | \u{feff}# DATA TYPE: toi¶# NUMBER ALTERNATIVES: 3¶2: {1,3}\r¶1: 2¶\r¶3: 2,1\r | 3¶2: 1,3¶4: 2";
 
-/// The text that a part of a row stands for.
-fn with_lines(alloc: Global, part: &str) -> Result<String, AllocError> {
-    let mut text = String::new(alloc);
-    for (i, line) in part.split('¶').enumerate() {
-        text.push_str(if i > 0 { "\n" } else { "" })?;
-        text.push_str(line)?;
-    }
-    Ok(text)
-}
-
 /// Asserts what the file of a row holds, as a whole and in pieces.
-fn assert_row(rt: &impl Abort, alloc: Global, row: &str) -> Result<(), Fail> {
-    let (words, rest) = row.split_once(" | ").ok_or("a file")?;
-    let (file, wanted) = rest.split_once(" | ").ok_or("what it holds")?;
-    let pick = reading_as(alloc, words)?.pick();
-    let file = with_lines(alloc, file)?;
-    let wanted = with_lines(alloc, wanted)?;
-    assert_holds(rt, alloc, pick, file.as_bytes(), wanted.as_bytes())
+fn assert_row(rt: &impl Abort, alloc: Global, row: &str) {
+    let text = row.replace(alloc, '¶', "\n").expect(rt, row);
+    let (words, rest) = text.as_str().split_once(" | ").expect(rt, row);
+    let (file, wanted) = rest.split_once(" | ").expect(rt, row);
+    let pick = reading_as(rt, alloc, words);
+    assert_holds(rt, alloc, pick, file.as_bytes(), wanted);
 }
 
 #[test]
-fn profiles_and_faults(rt: HostRuntime) -> Result<(), Fail> {
-    for row in FILES.split('\n') {
-        assert_row(&rt, rt.alloc(), row)?;
+fn profiles_and_faults(rt: HostRuntime) {
+    for row in FILES.lines() {
+        assert_row(&rt, rt.alloc(), row);
     }
-    Ok(())
 }

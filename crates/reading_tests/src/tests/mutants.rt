@@ -2,10 +2,9 @@
 ghost use Rattle.std.specs.Prelude.{◌<◌};
 
 use super::pieces::FILES;
-use super::support::{by_pieces, outcome, reading_as};
+use super::support::{assert_outcome, in_pieces, outcome, reading_as};
 use preflib_text::read_profile;
 use std::alloc::{AllocError, Global};
-use std::test::Fail;
 
 /// How many changed files are read.
 const MUTANTS: u32 = 100_000;
@@ -41,23 +40,16 @@ fn with_other_bytes(
 ) -> Result<Vec<u8>, AllocError> {
     let (before, after) = file.split_at(numbers.below(file.len().max(1)));
     let byte = numbers.below(256) as u8;
-    let mut changed = Vec::from_slice(alloc, before)?;
     let Some((first, rest)) = after.split_first() else {
-        changed.push(byte)?;
-        return Ok(changed);
+        return [before, &[byte]].concat(alloc);
     };
     match numbers.below(5) {
-        0 => changed.push(*first ^ 1 << (byte % 8))?,
-        1 => changed.push(byte)?,
-        2 => {
-            changed.push(byte)?;
-            changed.push(*first)?;
-        }
-        3 => {}
-        _ => return Ok(changed),
+        0 => [before, &[*first ^ 1 << (byte % 8)], rest].concat(alloc),
+        1 => [before, &[byte], rest].concat(alloc),
+        2 => [before, &[byte, *first], rest].concat(alloc),
+        3 => [before, rest].concat(alloc),
+        _ => Vec::from_slice(alloc, before),
     }
-    changed.extend_from_slice(rest)?;
-    Ok(changed)
 }
 
 /// The file with one line twice, or joined to the next one.
@@ -98,24 +90,23 @@ fn mutant(alloc: Global, file: &[u8], numbers: &mut Numbers) -> Result<Vec<u8>, 
 
 /// Each changed file has one outcome, as a whole and in pieces. Some changes leave a profile, and some a fault.
 #[test]
-fn one_outcome_each(rt: HostRuntime) -> Result<(), Fail> {
+fn one_outcome_each(rt: HostRuntime) {
     let alloc = rt.alloc();
-    let pick = reading_as(alloc, "")?.pick();
+    let pick = reading_as(&rt, alloc, "");
     let mut numbers = Numbers { state: 20_261_123 };
     let mut profiles = 0u32;
     for _ in 0..MUTANTS {
         let file = FILES[numbers.below(FILES.len())].0;
-        let changed = mutant(alloc, file, &mut numbers)?;
+        let changed = mutant(alloc, file, &mut numbers).expect(&rt, "a changed file");
         let size = numbers.below(20) + 1;
         let whole = read_profile(alloc, &changed, &pick);
         profiles = profiles.saturating_add(u32::from(whole.is_ok()));
-        let whole = outcome(alloc, whole)?;
-        let pieces = outcome(alloc, by_pieces(alloc, pick, &changed, size))?;
-        assert!(rt; whole == pieces, "{changed:?}");
+        let whole = outcome(&rt, alloc, whole);
+        let pieces = in_pieces(alloc, pick, &changed, size, size, size);
+        assert_outcome(&rt, alloc, pieces, whole.as_str(), &changed, size as u64);
     }
     assert!(rt;
         profiles > MUTANTS / 20 && profiles < MUTANTS / 2,
         "{profiles} profiles"
     );
-    Ok(())
 }

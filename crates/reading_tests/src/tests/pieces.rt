@@ -3,181 +3,201 @@ ghost use Rattle.std.specs.Prelude.{◌≡◌, ◌+◌, ◌++◌, ◌<◌, lengt
 ghost use Rattle.preflib_text.specs.Approvals.{HasNumber};
 ghost use Rattle.preflib_text.specs.Limits.{word_limit};
 
-use super::support::{assert_holds, fault_text, in_three, outcome, reading_as};
+use super::support::{
+    FaultText, MANY, assert_holds, assert_outcome, in_pieces, outcome, reading_as,
+};
 use preflib_text::{LineReader, Pick};
-use std::alloc::{AllocError, Allocator, Global};
-use std::test::Fail;
+use refusing_heap::Refusing;
+use std::alloc::Global;
+use std::process::Abort;
 
 /// A file of each type, with names, blank lines and ends of all kinds, and what it holds.
-pub(super) static FILES: [(&[u8], &[u8]); 5] = [
+pub(super) static FILES: [(&[u8], &str); 5] = [
     (
         b"\xEF\xBB\xBF# DATA TYPE: cat\r\n# NUMBER ALTERNATIVES: 3\n# NUMBER CATEGORIES: 2\r\n2: {1,2},3\n1: 3\r",
-        b"3\n2: 1,2\n1: 3",
+        "3\n2: 1,2\n1: 3",
     ),
     (
         b"# DATA TYPE: soc\n# ALTERNATIVE NAME 2: B\r\n# NUMBER ALTERNATIVES: 2\n\r\n3: 2,1\r\n4: 1,2\r\n",
-        b"2\n2 B\n3: 2\n4: 1",
+        "2\n2 B\n3: 2\n4: 1",
     ),
     (
         b"\xEF\xBB\xBF\n# NUMBER ALTERNATIVES: 3\n \t\n# DATA TYPE: soi\n1: 3\n5:\n6: 3 , 1",
-        b"3\n7: 3\n5: ",
+        "3\n7: 3\n5: ",
     ),
     (
         b"\r\n# DATA TYPE: x\r\n# NUMBER ALTERNATIVES: 03\r\n#DATA TYPE:toc\r\n02:{1,3},2\r\n# y\r\n1: 2,1,3\r\n",
-        b"3\n2: 1,3\n1: 2",
+        "3\n2: 1,3\n1: 2",
     ),
     (
         b"\xEF\xBB\xBF# DATA TYPE: toi\n# NUMBER ALTERNATIVES: 3\n2: {1,3}\r\n1: 2\n\r\n3: 2,1\r",
-        b"3\n2: 1,3\n4: 2",
+        "3\n2: 1,3\n4: 2",
     ),
 ];
 
 #[test]
-fn three_pieces(rt: HostRuntime) -> Result<(), Fail> {
-    let alloc = rt.alloc();
-    let pick = reading_as(alloc, "")?.pick();
+fn three_pieces(rt: HostRuntime) {
+    let pick = reading_as(&rt, rt.alloc(), "");
     for (file, held) in &FILES {
-        for second in 0..=file.len() {
+        let length = file.len();
+        for second in 0..=length {
             for first in 0..=second {
-                let read = outcome(alloc, in_three(alloc, pick, file, first, second))?;
-                assert!(rt; read.as_slice() == *held, "{first}, {second}");
+                let read = in_pieces(rt.alloc(), pick, file, first, second - first, length);
+                assert_outcome(&rt, rt.alloc(), read, held, file, first as u64);
             }
         }
     }
-    Ok(())
 }
 
 /// Feeds a piece, and tells how many bytes are held of an unfinished line then, or the fault.
-fn feed<A: Allocator + Copy + Drop>(
-    global: Global,
-    reader: &mut LineReader<A>,
-    piece: &[u8],
-) -> Result<String, AllocError>
+fn feed(rt: &impl Abort, text: &mut String, reader: &mut LineReader<&Refusing>, piece: &[u8])
     requires { length reader.old.fed + length piece.now < word_limit }
     ensures { reader.new.fed ≡ reader.old.fed ++ piece.now }
 {
     match reader.feed(piece) {
-        Ok(()) => format!(in global; "{}; ", reader.held()),
-        Err(fault) => {
-            let fault = fault_text(global, fault)?;
-            format!(in global; "{fault}; ")
-        }
+        Ok(()) => write!(text, "{}; ", reader.held()).expect(rt, "memory"),
+        Err(fault) => write!(text, "{}; ", FaultText(fault)).expect(rt, "memory"),
     }
 }
 
 /// What comes of the pieces of a file that is cut before the bytes of these numbers, and of the file.
-pub(super) fn told_of<A: Allocator + Copy + Drop>(
-    global: Global,
-    alloc: A,
+fn told_of(
+    rt: &impl Abort,
+    alloc: Global,
+    heap: &Refusing,
     pick: Pick,
     file: &[u8],
     first: usize,
     second: usize,
-) -> Result<Vec<u8>, Fail>
+) -> String
     requires { HasNumber pick.way }
 {
-    let (front, last) = file.split_at(second.min(file.len()));
-    let (begin, middle) = front.split_at(first.min(front.len()));
-    let mut reader = LineReader::new(alloc, pick)?;
-    let mut text = Vec::new(global);
-    text.extend_from_slice(feed(global, &mut reader, begin)?.as_bytes())?;
-    text.extend_from_slice(feed(global, &mut reader, middle)?.as_bytes())?;
-    text.extend_from_slice(feed(global, &mut reader, last)?.as_bytes())?;
-    text.extend_from_slice(&outcome(global, reader.finish())?)?;
-    Ok(text)
+    let mut reader = LineReader::new(heap, pick).expect(rt, "a reader");
+    let mut text = String::new(alloc);
+    let mut rest = file;
+    for size in [first, second.saturating_sub(first), file.len()] {
+        let (piece, after) = rest.split_at(rest.len().min(size));
+        feed(rt, &mut text, &mut reader, piece);
+        rest = after;
+    }
+    let read = outcome(rt, alloc, reader.finish());
+    text.push_str(read.as_str()).expect(rt, "memory");
+    text
 }
 
-/// A front, so many bytes `#`, and a back; how many bytes of it come after the first and after the second cut; and what
-/// comes of it.
-type Cut<'a> = (&'a [u8], usize, &'a [u8], usize, usize, &'a [u8]);
+/// A front, so many bytes `#`, and a back; how many bytes of it come after the first and after the second cut; the
+/// number of the growth that is refused; and what comes of it.
+type Cut<'a> = (&'a str, usize, &'a str, usize, usize, u64, &'a str);
 
-static CUTS: [Cut<'static>; 6] = [
+static CUTS: [Cut<'static>; 7] = [
     // A CR at the end of a piece, before LF and before another byte.
     (
-        b"# NUMBER ALTERNATIVES: 3\n1: 1\r\n",
+        "# NUMBER ALTERNATIVES: 3\n1: 1\r\n",
         0,
-        b"",
+        "",
         1,
         0,
-        b"5; 0; 0; 3\n1: 1",
+        MANY,
+        "5; 0; 0; 3\n1: 1",
     ),
     (
-        b"# NUMBER ALTERNATIVES: 3\n1: 1\r2\n1: 1\n",
+        "# NUMBER ALTERNATIVES: 3\n1: 1\r2\n1: 1\n",
         0,
-        b"",
+        "",
         7,
         5,
-        b"5; line 2: BadBallot; line 2: BadBallot; line 2: BadBallot",
+        MANY,
+        "5; line 2: BadBallot; line 2: BadBallot; line 2: BadBallot",
     ),
     // A mark in pieces.
     (
-        b"",
+        "",
         0,
-        b"\xEF\xBB\xBF# NUMBER ALTERNATIVES: 3\n1: 1",
+        "\u{feff}# NUMBER ALTERNATIVES: 3\n1: 1",
         30,
         29,
-        b"2; 0; 4; 3\n1: 1",
+        MANY,
+        "2; 0; 4; 3\n1: 1",
     ),
     // The longest line and a CR, and a byte after it.
     (
-        b"\n \n",
+        "\n \n",
         1_048_576,
-        b"\r\n",
+        "\r\n",
         2,
         1,
-        b"1048576; 1048577; 0; NoAlternatives",
+        MANY,
+        "1048576; 1048577; 0; NoAlternatives",
     ),
     (
-        b"\n \n",
+        "\n \n",
         1_048_576,
-        b"\rx",
+        "\rx",
         2,
         1,
-        b"1048576; 1048577; line 3: LongLine; line 3: LongLine",
+        MANY,
+        "1048576; 1048577; line 3: LongLine; line 3: LongLine",
     ),
     (
-        b"\n \n",
+        "\n \n",
         1_048_577,
-        b"\n1: 1\n",
+        "\n1: 1\n",
         6,
         5,
-        b"line 3: LongLine; line 3: LongLine; line 3: LongLine; line 3: LongLine",
+        MANY,
+        "line 3: LongLine; line 3: LongLine; line 3: LongLine; line 3: LongLine",
+    ),
+    // A reader whose memory ran out answers so from each later call. It begins with two growths, for the names and for
+    // a line; the third is that of the first ballot.
+    (
+        "# NUMBER ALTERNATIVES: 3\n1: 1\n1: x\n",
+        0,
+        "",
+        10,
+        5,
+        3,
+        "0; line 2: Memory; line 2: Memory; line 2: Memory",
+    ),
+];
+
+/// Asserts what is held after each piece of a file, and what comes of it.
+fn assert_cut(rt: &impl Abort, alloc: Global, pick: Pick, cut: &Cut<'_>)
+    requires { HasNumber pick.way }
+{
+    let (front, marks, back, first, second, refused, wanted) = *cut;
+    let marks = "#".repeat(alloc, marks).expect(rt, wanted);
+    let file = format!(in alloc; "{front}{marks}{back}").expect(rt, wanted);
+    let first = file.len().saturating_sub(first);
+    let second = file.len().saturating_sub(second);
+    let heap = Refusing::new(alloc, refused.max(1));
+    let told = told_of(rt, alloc, &heap, pick, file.as_bytes(), first, second);
+    assert!(rt; told.as_str() == wanted, "{front:?}, {back:?}: {told}");
+}
+
+#[test]
+fn what_is_held_after_each_piece(rt: HostRuntime) {
+    let pick = reading_as(&rt, rt.alloc(), "--kind toi");
+    for cut in &CUTS {
+        assert_cut(&rt, rt.alloc(), pick, cut);
+    }
+}
+
+/// Files whose bytes are no text, two bytes of a mark and names, and what they hold.
+static NO_TEXTS: [(&[u8], &str); 2] = [
+    (
+        b"\xEF\xBB# NUMBER ALTERNATIVES: 3\n1: 1\n",
+        "NoAlternatives",
+    ),
+    (
+        b"# NUMBER ALTERNATIVES: 3\n# ALTERNATIVE NAME 2: \xFF\0\xC3 \r#\x0B\r\r\n1: 1\n",
+        "3\n2 [255, 0, 195, 32, 13, 35, 11, 13]\n1: 1",
     ),
 ];
 
 #[test]
-fn what_is_held_after_each_piece(rt: HostRuntime) -> Result<(), Fail> {
-    let alloc = rt.alloc();
-    let pick = reading_as(alloc, "--kind toi")?.pick();
-    for (front, marks, back, first, second, wanted) in &CUTS {
-        let mut file = Vec::from_slice(alloc, front)?;
-        file.extend_from_slice(&vec![in alloc; b'#'; *marks]?)?;
-        file.extend_from_slice(back)?;
-        let first = file.len().saturating_sub(*first);
-        let second = file.len().saturating_sub(*second);
-        let told = told_of(alloc, alloc, pick, &file, first, second)?;
-        assert!(rt; told.as_slice() == *wanted, "{front:?}, {back:?}: {told:?}");
+fn bytes_that_are_no_text(rt: HostRuntime) {
+    let pick = reading_as(&rt, rt.alloc(), "--kind toi");
+    for (file, wanted) in &NO_TEXTS {
+        assert_holds(&rt, rt.alloc(), pick, file, wanted);
     }
-    Ok(())
-}
-
-/// Files whose bytes are no text: two bytes of a mark, and names.
-#[test]
-fn bytes_that_are_no_text(rt: HostRuntime) -> Result<(), Fail> {
-    let alloc = rt.alloc();
-    let pick = reading_as(alloc, "--kind toi")?.pick();
-    let files: [(&[u8], &[u8]); 2] = [
-        (
-            b"\xEF\xBB# NUMBER ALTERNATIVES: 3\n1: 1\n",
-            b"NoAlternatives",
-        ),
-        (
-            b"# NUMBER ALTERNATIVES: 3\n# ALTERNATIVE NAME 2: \xFF\0\xC3 \r#\x0B\r\r\n1: 1\n",
-            b"3\n2 \xFF\0\xC3 \r#\x0B\r\n1: 1",
-        ),
-    ];
-    for (file, wanted) in files {
-        assert_holds(&rt, alloc, pick, file, wanted)?;
-    }
-    Ok(())
 }

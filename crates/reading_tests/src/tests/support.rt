@@ -2,107 +2,156 @@
 ghost use Rattle.std.specs.Prelude.{◌<◌};
 ghost use Rattle.preflib_text.specs.Approvals.{HasNumber};
 
-use ballot_base::{CandSet, Profile};
+use ballot_base::{CandSet, MOST_CANDIDATES, Profile};
 use preflib_text::{LineReader, Pick, ReadFault, read_profile};
+use refusing_heap::Refusing;
 use request_words::{LineFault, Request, read_request};
-use std::alloc::{AllocError, Allocator, Global};
+use std::alloc::{Allocator, Global};
+use std::fmt;
 use std::process::Abort;
-use std::test::Fail;
 
-/// The words of a line, after the program's name, read as a request.
-pub(super) fn read_line(alloc: Global, line: &str) -> Result<Result<Request, LineFault>, Fail> {
+/// More growths than any test asks for.
+pub(super) const MANY: u64 = 100;
+
+/// Whether the growth was asked for, and refused.
+pub(super) fn has_refused(heap: &Refusing) -> bool {
+    heap.left.get() == 0
+}
+
+/// The words of a line, after the program's name, read as a request. `·` in a word is a blank, and `''` is a word of
+/// no bytes.
+pub(super) fn read_line(rt: &impl Abort, alloc: Global, line: &str) -> Result<Request, LineFault> {
     let mut words = Vec::new(alloc);
-    words.push("committees".to_string(alloc)?)?;
-    for word in line.split_whitespace() {
-        words.push(word.to_string(alloc)?)?;
-    }
-    Ok(read_request(alloc, words.as_slice()))
-}
-
-/// These words after the program's name, blanks and all, read as a request.
-pub(super) fn read_words(
-    alloc: Global,
-    words: &[&str],
-) -> Result<Result<Request, LineFault>, Fail> {
-    let mut list = Vec::new(alloc);
-    list.push("committees".to_string(alloc)?)?;
-    for word in words {
-        list.push(word.to_string(alloc)?)?;
-    }
-    Ok(read_request(alloc, list.as_slice()))
-}
-
-/// A request of which only these words matter, which say how the file is read.
-pub(super) fn reading_as(alloc: Global, words: &str) -> Result<Request, Fail> {
-    let line = format!(in alloc; "elect --rule av --size 1 {words}")?;
-    Ok(read_line(alloc, line.as_str())??)
-}
-
-/// The members of a set, with commas between them.
-fn list_of(alloc: Global, members: CandSet) -> Result<String, AllocError> {
-    let mut list = String::new(alloc);
-    for n in 1..=64 {
-        if members.has(n) {
-            let comma = if list.is_empty() { "" } else { "," };
-            list.push_str(format!(in alloc; "{comma}{n}")?.as_str())?;
+    words
+        .push(String::from_str(alloc, "committees").expect(rt, line))
+        .expect(rt, line);
+    for word in line.split(' ') {
+        if word.is_empty() {
+            continue;
         }
+        let word = if word == "''" { "" } else { word };
+        words
+            .push(word.replace(alloc, '·', " ").expect(rt, line))
+            .expect(rt, line);
     }
-    Ok(list)
+    read_request(alloc, words.as_slice())
 }
 
-/// A profile as a text: the number of candidates, a line for each name, and one for each ballot.
-pub(super) fn profile_text<A: Allocator + Copy>(
-    alloc: Global,
-    profile: &Profile<A>,
-) -> Result<Vec<u8>, AllocError> {
-    let mut text = Vec::new(alloc);
-    text.extend_from_slice(format!(in alloc; "{}", profile.m())?.as_bytes())?;
-    for n in 1..=profile.m() {
-        if let Some(name) = profile.name(n) {
-            text.extend_from_slice(format!(in alloc; "\n{n} ")?.as_bytes())?;
-            text.extend_from_slice(name)?;
+/// How a file is read by these words of a request.
+pub(super) fn reading_as(rt: &impl Abort, alloc: Global, words: &str) -> Pick
+    ensures { HasNumber result.way }
+{
+    let line = format!(in alloc; "elect --rule av --size 1 {words}").expect(rt, words);
+    read_line(rt, alloc, line.as_str()).expect(rt, words).pick()
+}
+
+/// A set as a text: its members, with commas between them.
+#[derive(Clone, Copy)]
+struct Members(CandSet);
+
+impl fmt::Display for Members {
+    fn fmt<W: fmt::Write>(&self, f: &mut fmt::Formatter<W>) -> fmt::Result {
+        let mut comma = "";
+        for n in 1..=MOST_CANDIDATES {
+            if self.0.has(n) {
+                write!(f, "{comma}{n}")?;
+                comma = ",";
+            }
         }
+        Ok(())
     }
-    for (ballot, voters) in profile.ballots() {
-        let list = list_of(alloc, ballot)?;
-        text.extend_from_slice(format!(in alloc; "\n{voters}: {list}")?.as_bytes())?;
-    }
-    Ok(text)
 }
 
 /// A fault as a text: its line where it has one, and its name.
-pub(super) fn fault_text(alloc: Global, fault: ReadFault) -> Result<String, AllocError> {
-    let name = fault.name.name();
-    match fault.line {
-        Some(line) => format!(in alloc; "line {line}: {name}"),
-        None => String::from_str(alloc, name),
+#[derive(Clone, Copy)]
+pub(super) struct FaultText(pub(super) ReadFault);
+
+impl fmt::Display for FaultText {
+    fn fmt<W: fmt::Write>(&self, f: &mut fmt::Formatter<W>) -> fmt::Result {
+        if let Some(line) = self.0.line {
+            write!(f, "line {line}: ")?;
+        }
+        f.write_str(self.0.name.name())
+    }
+}
+
+/// A name, or the list of its bytes where they are no text.
+#[derive(Clone, Copy)]
+struct NameText<'a>(&'a [u8]);
+
+impl fmt::Display for NameText<'_> {
+    fn fmt<W: fmt::Write>(&self, f: &mut fmt::Formatter<W>) -> fmt::Result {
+        match str::from_utf8(self.0) {
+            Ok(name) => f.write_str(name),
+            Err(_) => write!(f, "{:?}", self.0),
+        }
+    }
+}
+
+/// A profile as a text: the number of candidates, a line for each name, and one for each ballot.
+#[derive(Drop)]
+struct ProfileText<'a, A: Allocator + Copy>(&'a Profile<A>);
+
+impl<A: Allocator + Copy> fmt::Display for ProfileText<'_, A> {
+    fn fmt<W: fmt::Write>(&self, f: &mut fmt::Formatter<W>) -> fmt::Result {
+        let profile = self.0;
+        write!(f, "{}", profile.m())?;
+        for n in 1..=profile.m() {
+            if let Some(name) = profile.name(n) {
+                write!(f, "\n{n} {}", NameText(name))?;
+            }
+        }
+        for (ballot, voters) in profile.ballots() {
+            write!(f, "\n{voters}: {}", Members(ballot))?;
+        }
+        Ok(())
     }
 }
 
 /// What comes of reading, as a text: the profile, or the fault.
 pub(super) fn outcome<A: Allocator + Copy + Drop>(
+    rt: &impl Abort,
     alloc: Global,
     read: Result<Profile<A>, ReadFault>,
-) -> Result<Vec<u8>, AllocError> {
-    match read {
-        Ok(profile) => profile_text(alloc, &profile),
-        Err(fault) => Vec::from_slice(alloc, fault_text(alloc, fault)?.as_bytes()),
+) -> String {
+    match &read {
+        Ok(profile) => format!(in alloc; "{}", ProfileText(profile)).expect(rt, "a profile"),
+        Err(fault) => format!(in alloc; "{}", FaultText(*fault)).expect(rt, "a fault"),
     }
 }
 
-/// What a file holds that is fed in pieces of so many bytes.
-pub(super) fn by_pieces(
+/// Asserts what comes of reading a file, or of other steps. The number tells it from what else comes of the file.
+pub(super) fn assert_outcome<A: Allocator + Copy + Drop>(
+    rt: &impl Abort,
+    alloc: Global,
+    read: Result<Profile<A>, ReadFault>,
+    wanted: &str,
+    file: &[u8],
+    number: u64,
+) {
+    let text = outcome(rt, alloc, read);
+    assert!(rt; text.as_str() == wanted, "{number}, {file:?}: {text}");
+}
+
+/// What a file holds that is fed in pieces of so many bytes: the first, the second, and each later one.
+pub(super) fn in_pieces(
     alloc: Global,
     pick: Pick,
     file: &[u8],
-    size: usize,
+    first: usize,
+    second: usize,
+    later: usize,
 ) -> Result<Profile, ReadFault>
-    requires way { HasNumber pick.way }
-    requires some { 0 < size }
+    requires { HasNumber pick.way }
 {
+    let sizes = [first, second, later];
     let mut reader = LineReader::new(alloc, pick)?;
     let mut rest = file;
-    while !rest.is_empty() {
+    for i in 0..file.len().saturating_add(2) {
+        if i > 2 && rest.is_empty() {
+            break;
+        }
+        let size = sizes[i.min(2)];
         let (piece, after) = rest.split_at(rest.len().min(size));
         reader.feed(piece)?;
         rest = after;
@@ -110,42 +159,18 @@ pub(super) fn by_pieces(
     reader.finish()
 }
 
-/// What a file holds that is cut in three, before the bytes of these numbers.
-pub(super) fn in_three(
-    alloc: Global,
-    pick: Pick,
-    file: &[u8],
-    first: usize,
-    second: usize,
-) -> Result<Profile, ReadFault>
+/// Asserts what a file holds as a whole, in single bytes, and cut in two at each place. The readings are told apart by
+/// that place, by 0 for the whole, and by the length of the file for single bytes.
+pub(super) fn assert_holds(rt: &impl Abort, alloc: Global, pick: Pick, file: &[u8], wanted: &str)
     requires { HasNumber pick.way }
 {
-    let (front, last) = file.split_at(second.min(file.len()));
-    let (begin, middle) = front.split_at(first.min(front.len()));
-    let mut reader = LineReader::new(alloc, pick)?;
-    reader.feed(begin)?;
-    reader.feed(middle)?;
-    reader.feed(last)?;
-    reader.finish()
-}
-
-/// Asserts what a file holds as a whole, in single bytes, and cut in two at each place.
-pub(super) fn assert_holds(
-    rt: &impl Abort,
-    alloc: Global,
-    pick: Pick,
-    file: &[u8],
-    wanted: &[u8],
-) -> Result<(), Fail>
-    requires { HasNumber pick.way }
-{
-    let whole = outcome(alloc, read_profile(alloc, file, &pick))?;
-    assert_eq!(rt; whole.as_slice(), wanted, "{file:?}");
-    let bytes = outcome(alloc, by_pieces(alloc, pick, file, 1))?;
-    assert_eq!(rt; bytes.as_slice(), wanted, "in bytes, {file:?}");
-    for at in 0..file.len() {
-        let cut = outcome(alloc, in_three(alloc, pick, file, at, file.len()))?;
-        assert_eq!(rt; cut.as_slice(), wanted, "cut before {at}, {file:?}");
+    let length = file.len();
+    let whole = read_profile(alloc, file, &pick);
+    assert_outcome(rt, alloc, whole, wanted, file, 0);
+    let bytes = in_pieces(alloc, pick, file, 1, 1, 1);
+    assert_outcome(rt, alloc, bytes, wanted, file, length as u64);
+    for at in 0..length {
+        let cut = in_pieces(alloc, pick, file, at, length, length);
+        assert_outcome(rt, alloc, cut, wanted, file, at as u64);
     }
-    Ok(())
 }

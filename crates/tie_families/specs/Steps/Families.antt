@@ -18,7 +18,7 @@ may_be_in m rows c set left family =
     && nat_le (length set + left) (length full)
 
 -- what the families of the committees of k keep
-pub record IsKept (e : Election) (rule : SeqRule) (m k : ℕ) (clones leasts mosts : List (List ℕ)) : Type 0 where
+pub record KeepsFamilies (e : Election) (rule : SeqRule) (m k : ℕ) (clones leasts mosts : List (List ℕ)) : Type 0 where
   pub m_is : m ≡ e.m
   pub some : 1 ≤ k
   pub most : m ≤ most_candidates

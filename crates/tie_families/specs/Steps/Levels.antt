@@ -8,7 +8,7 @@ use Rattle.ballot_base.specs.Lists.{IsIncreasing}
 use Rattle.ballot_base.specs.CandSet.{has_member}
 use Rattle.ballot_base.specs.Ballots.{Row, Election, hits}
 use Rattle.tie_walk.specs.Sequences.{weight, gain, others, is_sequential_winner}
-use Rattle.tie_walk.specs.Steps.Choices.{is_open, change, worth, better, worst, open_candidates, is_choice, start, IsReached, IsInOrder}
+use Rattle.tie_walk.specs.Steps.Choices.{may_choose, change, worth, better, worst, open_candidates, is_choice, start, IsReached, IsInOrder}
 use Rattle.tie_walk.specs.declared.sequential.SeqRule.{SeqRule}
 use Rattle.tie_walk.specs.declared.sequential.Step.{Step}
 use Rattle.tie_walk.specs.declared.sequential.Step.TheVariants.{Grow, Shrink}
@@ -17,7 +17,7 @@ use Rattle.tie_families.specs.Clones.{clones_among, clone_count, has_as_many, is
 -- whether none of the candidates below c may be chosen whom the set of clones has
 abbrev pub is_first_open : Step → List ℕ → List ℕ → ℕ → Bool
 is_first_open step clones set c =
-    list_all (λ d. not (has_member clones d && is_open step set d)) (range_with_len 1 (c - 1))
+    list_all (λ d. not (has_member clones d && may_choose step set d)) (range_with_len 1 (c - 1))
 
 -- whether the set grows, and gains nothing by anybody
 abbrev pub is_settled : Step → List ℕ → ℕ → List Row → List ℕ → Bool

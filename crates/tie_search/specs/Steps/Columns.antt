@@ -21,10 +21,10 @@ voters_of [] = []
 voters_of (row ∷ rows) = replicate row.1 row.0 ++ voters_of rows
 
 -- the ballot of a voter, none after the last
-abbrev pub ballot_of : List (List ℕ) → ℕ → List ℕ
-ballot_of [] v = []
-ballot_of (ballot ∷ ballots) zero = ballot
-ballot_of (ballot ∷ ballots) (suc v) = ballot_of ballots v
+abbrev pub voter_ballot : List (List ℕ) → ℕ → List ℕ
+voter_ballot [] v = []
+voter_ballot (ballot ∷ ballots) zero = ballot
+voter_ballot (ballot ∷ ballots) (suc v) = voter_ballot ballots v
 
 -- the sum of what f gives the numbers below n
 unfoldable pub total : (ℕ → ℕ) → ℕ → ℕ
@@ -45,7 +45,7 @@ pub record IsBlock (ballot_at : ℕ → List ℕ) (block : List ℕ) : Type 0 wh
 abbrev pub AreColumns : List (List ℕ) → List (List ℕ) → Type 0
 AreColumns ballots blocks = (b c i : ℕ) → b < most_blocks → i < block_voters
     → bit_at (slice_index (get_or blocks b []) c) i
-    ≡ (if has_member (ballot_of ballots (b * block_voters + i)) c then 1 else 0)
+    ≡ (if has_member (voter_ballot ballots (b * block_voters + i)) c then 1 else 0)
 
 -- the words hold who of a block has each number of hits, of the first `levels`
 abbrev pub AreByHits : (ℕ → List ℕ) → List ℕ → ℕ → List ℕ → Type 0
@@ -65,7 +65,7 @@ pub record AreWeights (weights : List ℕ) (levels : ℕ) : Type 0 where
 
 -- each ballot is an increasing list of candidates
 abbrev pub AreRising : List (List ℕ) → Type 0
-AreRising ballots = (v : ℕ) → IsIncreasing 1 most_candidates (ballot_of ballots v)
+AreRising ballots = (v : ℕ) → IsIncreasing 1 most_candidates (voter_ballot ballots v)
 
 -- what is kept of an election: all its voters in blocks, and what each hit gives
 pub record AreColumnsOf (tally : Thiele) (blocks : List (List ℕ)) (used : ℕ) (weights : List ℕ) (levels : ℕ) : Type 0

@@ -7,15 +7,15 @@ use Rattle.tie_search.specs.declared.columns.Columns.{Columns}
 use Rattle.tie_search.specs.declared.search.Aids.{Aids}
 use Rattle.tie_search.specs.Steps.Columns.{AreColumnsOf}
 use Rattle.tie_search.specs.Steps.Priced.{IsPriced}
-use Rattle.tie_search.specs.Completions.{value_by}
+use Rattle.tie_search.specs.Completions.{tally_value}
 
 -- the columns are those of the election, where they are kept
-abbrev pub IsKept : Thiele → Option Columns → Type 0
-IsKept tally columns = MatchOption columns ⊤ (λ kept. AreColumnsOf tally kept.blocks kept.used kept.weights kept.levels)
+abbrev pub KeepsColumns : Thiele → Option Columns → Type 0
+KeepsColumns tally columns = MatchOption columns ⊤ (λ kept. AreColumnsOf tally kept.blocks kept.used kept.weights kept.levels)
 
 -- what a search is helped by is of the election
 pub record IsAided (tally : Thiele) (aids : Aids) : Type 0 where
-  pub columns : IsKept tally aids.columns
+  pub columns : KeepsColumns tally aids.columns
   pub prices : IsPriced tally aids.prices
 
 -- what is true of each tally by search: its committee has the greatest value
@@ -24,6 +24,6 @@ pub record IsSearched (values : Thiele) (aids : Aids) (m k best : ℕ) (committe
   pub m_is : m ≡ values.election.m
   pub k_is : k ≡ values.k
   pub fits : k ≤ m
-  pub best_is : best ≡ best_value (value_by values) m k
+  pub best_is : best ≡ best_value (tally_value values) m k
   pub candidates : IsIncreasing 1 m committee
   pub size : length committee ≡ k

@@ -1,15 +1,15 @@
 //! Winners by search against a walk with plain bounds.
-ghost use Rattle.std.specs.Prelude.{◌≡◌, ◌≤◌, IfOk, length};
+ghost use Rattle.std.specs.Prelude.{◌≡◌, ◌≤◌, IfOk};
 ghost use Rattle.ballot_base.specs.Limits.{most_candidates};
-ghost use Rattle.ballot_base.specs.Lists.{IsIncreasing};
+ghost use Rattle.tie_walk.specs.Winners.{IsStart};
 
-use super::support::{ballot_of, election_of, finished};
+use super::support::{assert_same_winners, ballot_of, election_of, finished, first_committee};
 use ballot_base::{CandSet, Profile, ProfileBuilder};
 use minimax_search::NearTally;
 use std::alloc::Global;
 use std::process::Abort;
 use std::test::Fail;
-use tie_walk::{MinimaxTally, Tally, Winners};
+use tie_walk::{MinimaxTally, Tally};
 
 /// How voters approve candidates: few of them, many, neighbours, or almost the same.
 #[derive(Clone, Copy)]
@@ -50,48 +50,24 @@ fn election(alloc: Global, sort: Sort, m: u8, ballots: u8) -> Result<Profile, Fa
     finished(builder)
 }
 
-/// Asserts that the search and the walk with plain bounds find the same winners.
-fn assert_same(rt: &impl Abort, profile: &Profile, k: u8)
+/// Asserts that the search and the walk with plain bounds find the same winners, and that the search begins with one.
+fn assert_same(rt: &impl Abort, profile: &Profile, k: u8, start: Option<CandSet>)
     requires some { 1 ≤ k }
     requires fits { k ≤ profile.now.m }
+    requires start { IsStart profile.now.m k start }
 {
-    let m = profile.m();
-    let plain = MinimaxTally::new(profile);
     let searched = NearTally::new(profile, k);
-    let Some(good) = searched.good_committee(k) else {
-        panic!(rt; "a good committee of {k}");
-    };
-    assert_eq!(rt; searched.value(good), searched.best());
-    let mut winners = Winners::new(&plain, m, k, None);
-    assert_eq!(rt; winners.best(), searched.best());
-    for found in Winners::new(&searched, m, k, None) {
-        assert!(rt; winners.next() == Some(found), "{k} of {m}: {found:?}");
-    }
-    assert!(rt; winners.next().is_none(), "{k} of {m}");
-}
-
-/// Asserts that they find the same winners after a start.
-fn assert_after(rt: &impl Abort, profile: &Profile, k: u8, start: CandSet)
-    requires some { 1 ≤ k }
-    requires fits { k ≤ profile.now.m }
-    requires candidates { IsIncreasing 1 profile.now.m start }
-    requires size { length start ≡ k }
-{
-    let m = profile.m();
-    let plain = MinimaxTally::new(profile);
-    let searched = NearTally::new(profile, k);
-    let mut winners = Winners::new(&plain, m, k, Some(start));
-    for found in Winners::new(&searched, m, k, Some(start)) {
-        assert!(rt; winners.next() == Some(found), "{k} of {m}: {found:?}");
-    }
-    assert!(rt; winners.next().is_none(), "{k} of {m}");
+    let good = searched.good_committee(k).map(|good| searched.value(good));
+    assert!(rt; good == Some(searched.best()), "a good committee of {k}");
+    assert_same_winners(rt, &MinimaxTally::new(profile), &searched, k, start);
 }
 
 /// Asserts that they find the same winners of each size, all and those after the first committee.
 fn assert_all_sizes(rt: &impl Abort, profile: &Profile) {
-    for k in 1..profile.m() + 1 {
-        assert_same(rt, profile, k);
-        assert_after(rt, profile, k, CandSet::all(k));
+    let m = profile.m();
+    for k in 1..m + 1 {
+        assert_same(rt, profile, k, None);
+        assert_same(rt, profile, k, Some(first_committee(m, k)));
     }
 }
 

@@ -2,11 +2,11 @@
 ghost use Rattle.std.specs.Prelude.{◌≡◌, ◌≤◌, IfOk};
 ghost use Rattle.ballot_base.specs.Limits.{most_candidates};
 ghost use Rattle.ballot_base.specs.Lists.{IsIncreasing};
+ghost use Rattle.tie_walk.specs.Winners.{IsStart};
 
 use super::support::{ballot_of, election_of, finished};
 use ballot_base::{CandSet, KSets, MOST_CANDIDATES, Profile, ProfileBuilder};
 use std::alloc::Global;
-use std::cmp::Ordering;
 use std::process::Abort;
 use std::test::Fail;
 use tie_families::{Families, FamilyWinners};
@@ -48,28 +48,23 @@ fn election(alloc: Global, m: u8, kinds: u8, seed: u64, ballots: u8) -> Result<P
     finished(builder)
 }
 
-/// Asserts that both find the same winners, and then nothing.
+/// Asserts that both find the same winners, those later than the start or all of them.
 fn assert_same(
     rt: &impl Abort,
     alloc: Global,
     profile: &Profile,
     rule: SeqRule,
     k: u8,
+    start: Option<CandSet>,
 ) -> Result<(), Fail>
     requires some { 1 ≤ k }
     requires fits { k ≤ profile.now.m }
+    requires start { IsStart profile.now.m k start }
 {
     let families = Families::new(alloc, profile, rule, k)?;
-    let mut found = FamilyWinners::new(&families, None);
-    for committee in SeqWinners::new(alloc, profile, rule, k, None)? {
-        assert!(rt;
-            found.next() == Some(committee),
-            "{rule:?} {k}: {committee:?}"
-        );
-    }
-    for _again in 0..2 {
-        assert!(rt; found.next().is_none(), "{rule:?} {k}: one more");
-    }
+    let wanted = SeqWinners::new(alloc, profile, rule, k, start)?;
+    let found = FamilyWinners::new(&families, start);
+    assert!(rt; found.eq(wanted), "{rule:?}: {k} after {start:?}");
     Ok(())
 }
 
@@ -78,7 +73,7 @@ fn assert_all(rt: &impl Abort, alloc: Global, profile: &Profile) -> Result<(), F
     let m = profile.m();
     for rule in SeqRule::ALL {
         for k in 1..m + 1 {
-            assert_same(rt, alloc, profile, rule, k)?;
+            assert_same(rt, alloc, profile, rule, k, None)?;
         }
     }
     Ok(())
@@ -138,6 +133,7 @@ static TIES: [&str; 12] = [
 fn voters(alloc: Global, m: u8, words: &str) -> Result<Profile, Fail>
     requires some { 1 ≤ m }
     requires most { m ≤ most_candidates }
+    ensures { IfOk result (λ profile. profile.m ≡ m) }
 {
     let mut builder = ProfileBuilder::new(alloc, m)?;
     for word in words.split(' ') {
@@ -150,50 +146,21 @@ fn voters(alloc: Global, m: u8, words: &str) -> Result<Profile, Fail>
     finished(builder)
 }
 
-/// Asserts that these are the winners, and that those later than each start come after it.
-fn assert_later(
-    rt: &impl Abort,
-    alloc: Global,
-    profile: &Profile,
-    rule: SeqRule,
-    k: u8,
-    winners: &[CandSet],
-) -> Result<(), Fail>
-    requires some { 1 ≤ k }
-    requires fits { k ≤ profile.now.m }
-{
-    let families = Families::new(alloc, profile, rule, k)?;
-    let m = profile.m();
-    for word in 0..1_u64.wrapping_shl(u32::from(m)) {
-        let start = ballot_of(m, word);
-        if start.len() == k {
-            let mut found = FamilyWinners::new(&families, Some(start));
-            for winner in winners {
-                if winner.cmp_lex(start) == Ordering::Greater {
-                    assert!(rt; found.next() == Some(*winner), "{winner:?} after {start:?}");
-                }
-            }
-            assert!(rt; found.next().is_none(), "one more after {start:?}");
-        }
-    }
-    Ok(())
-}
-
 #[test]
 fn ties_after_each_start(rt: HostRuntime) -> Result<(), Fail> {
     let alloc = rt.alloc();
     for words in TIES {
         let profile = voters(alloc, 9, words)?;
-        for rule in SeqRule::ALL {
-            for k in 1..profile.m() + 1 {
-                let mut winners = Vec::new(alloc);
-                for winner in SeqWinners::new(alloc, &profile, rule, k, None)? {
-                    winners.push(winner)?;
+        assert_all(&rt, alloc, &profile)?;
+        for word in 1..1 << 9 {
+            let start = ballot_of(9, word);
+            let k = start.len();
+            if (1..=9).contains(&k) {
+                for rule in SeqRule::ALL {
+                    assert_same(&rt, alloc, &profile, rule, k, Some(start))?;
                 }
-                assert_later(&rt, alloc, &profile, rule, k, &winners)?;
             }
         }
-        assert_all(&rt, alloc, &profile)?;
     }
     Ok(())
 }

@@ -2,39 +2,27 @@
 ghost use Rattle.std.specs.Prelude.{◌≤◌};
 ghost use Rattle.ballot_base.specs.Limits.{most_members};
 
-use super::support::{election, election_of};
-use ballot_base::{CandSet, Profile, ThieleRule};
+use super::support::{assert_same_winners, election, election_of, first_committee};
+use ballot_base::{Profile, ThieleRule};
 use std::process::Abort;
 use std::test::Fail;
 use tie_search::SearchTally;
-use tie_walk::{Tally, ThieleTally, Winners};
+use tie_walk::{Tally, ThieleTally};
 
 /// Asserts that the search and the walk with ceilings find the same winners, all of them and those later than the
-/// first.
+/// first, and that the search begins with one.
 fn assert_same(rt: &impl Abort, profile: &Profile, rule: ThieleRule, k: u8)
     requires some { 1 ≤ k }
     requires size { k ≤ most_members }
     requires fits { k ≤ profile.now.m }
 {
-    let m = profile.m();
     let plain = ThieleTally::new(profile, rule, k);
     let searched = SearchTally::new(profile, rule, k);
-    let Some(good) = searched.good_committee(k) else {
-        panic!(rt; "a good committee of {k}");
-    };
-    assert_eq!(rt; searched.value(good), searched.best());
-    let mut winners = Winners::new(&plain, m, k, None);
-    assert_eq!(rt; winners.best(), searched.best());
-    for found in Winners::new(&searched, m, k, None) {
-        assert!(rt; winners.next() == Some(found), "{k} of {m}: {found:?}");
+    let good = searched.good_committee(k).map(|good| searched.value(good));
+    assert!(rt; good == Some(searched.best()), "a good committee of {k}");
+    for start in [None, Some(first_committee(profile.m(), k))] {
+        assert_same_winners(rt, &plain, &searched, k, start);
     }
-    assert!(rt; winners.next().is_none(), "{k} of {m}");
-    let start = CandSet::all(k);
-    let mut later = Winners::new(&plain, m, k, Some(start));
-    for found in Winners::new(&searched, m, k, Some(start)) {
-        assert!(rt; later.next() == Some(found), "{k} of {m}, later: {found:?}");
-    }
-    assert!(rt; later.next().is_none(), "{k} of {m}, later");
 }
 
 /// Asserts the same of each rule and size.

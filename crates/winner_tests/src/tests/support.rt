@@ -1,11 +1,14 @@
 //! Ballots and elections of more than one file of tests.
-ghost use Rattle.std.specs.Prelude.{◌≡◌, ◌^◌, ◌<◌, ◌≤◌, IfOk};
+ghost use Rattle.std.specs.Prelude.{Some, ◌≡◌, ◌^◌, ◌<◌, ◌≤◌, IfOk};
 ghost use Rattle.ballot_base.specs.Limits.{most_candidates};
 ghost use Rattle.ballot_base.specs.Lists.{IsIncreasing};
+ghost use Rattle.tie_walk.specs.Winners.{IsStart};
 
 use ballot_base::{CandSet, Profile, ProfileBuilder};
 use std::alloc::Global;
+use std::process::Abort;
 use std::test::Fail;
+use tie_walk::{Tally, Winners};
 
 /// The candidates 1 to m whose bit of the word is 1.
 pub(super) fn ballot_of(m: u8, word: u64) -> CandSet
@@ -71,4 +74,33 @@ pub(super) fn finished(builder: ProfileBuilder) -> Result<Profile, Fail>
         Ok(profile) => Ok(profile),
         Err(_) => Err("no voters")?,
     }
+}
+
+/// The first committee of k of the candidates 1 to m.
+pub(super) fn first_committee(m: u8, k: u8) -> CandSet
+    requires most { m ≤ most_candidates }
+    requires fits { k ≤ m }
+    ensures { IsStart m k (Some result) }
+{
+    CandSet::all(k)
+}
+
+/// Asserts that two tallies have the same winners, those later than the start or all of them.
+pub(super) fn assert_same_winners<P: Tally, S: Tally>(
+    rt: &impl Abort,
+    plain: &P,
+    searched: &S,
+    k: u8,
+    start: Option<CandSet>,
+)
+    requires candidates { P.candidates plain.now ≡ S.candidates searched.now }
+    requires some { 1 ≤ k }
+    requires fits { k ≤ P.candidates plain.now }
+    requires start { IsStart (P.candidates plain.now) k start }
+{
+    let m = plain.m();
+    let wanted = Winners::new(plain, m, k, start);
+    let found = Winners::new(searched, m, k, start);
+    assert_eq!(rt; found.best(), wanted.best());
+    assert!(rt; found.eq(wanted), "{k} of {m} after {start:?}");
 }

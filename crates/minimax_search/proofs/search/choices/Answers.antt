@@ -1,21 +1,23 @@
-use Rattle.std.proofs.Common.{◌≡◌, ◌-◌, ◌+◌, arith, ap, sym, subst, ◌∙◌, length}
+use Rattle.std.proofs.Common.{◌≡◌, ◌-◌, ◌+◌, ◌≤◌, arith, ap, sym, subst, ◌∙◌, length, take}
 use Rattle.ballot_base.specs.CandSet.{common_members}
-use Rattle.ballot_base.specs.Ballots.{hits}
-use Rattle.tie_walk.specs.Values.{closeness}
+use Rattle.std.proofs.lemmas.List.{length_push}
+use Rattle.ballot_base.specs.Ballots.{Row, hits}
+use Rattle.tie_walk.specs.Values.{closeness, greatest_distance}
 use Rattle.tie_walk.proofs.RowSums.{length-common}
+use Rattle.ballot_base.proofs.Turns.{row_of_turn, all_passed}
 use Rattle.minimax_search.specs.Needs.{hits_needed}
-use Rattle.minimax_search.specs.Steps.Near.{IsChoice, IsNarrowed}
+use Rattle.minimax_search.specs.Steps.Near.{AreChoices, IsNarrowed}
 use Rattle.minimax_search.proofs.NeedLemmas.{choice-of_all, choice-of_ballot, hopeless, narrowed-choice, narrowed-more, narrowed-none, narrowed-out, narrowed-to_ballot, near-more, too-few}
 use Rattle.minimax_search.proofs.search.choices.Goals as goal
-use Rattle.minimax_search.proofs.search.choices.Goals.{then-is_tighter, else-is_tighter, then-needed-left, else-needed-left}
+use Rattle.minimax_search.proofs.search.choices.Goals.{then-needed-left, else-needed-left}
 
 pub returns-then-len-left : goal.returns-then-len-left
 returns-then-len-left g c =
     let e = c.args.profile.now in
     too-few (closeness e.m e.rows) e.m c.args.set c.args.free c.args.left (e.m - c.args.most) c.requires (omega (arith, c.len.ensures.count, c.if-len-left.true))
 
-pub loop-i-init : goal.loop-i-init
-loop-i-init g c =
+pub loop-ballot-init : goal.loop-ballot-init
+loop-ballot-init g c =
     let e = c.args.profile.now in
     record {
       whole = λ none. omega arith;
@@ -27,42 +29,74 @@ pub returns-then-needed-min : goal.returns-then-needed-min
 returns-then-needed-min g c =
     let e = c.args.profile.now in
     let V = closeness e.m e.rows in
-    let row = c.row-ballot.result in
-    let rest = c.loop-i.rest in
+    let row : Row = (c.in-Some.ballot, c.in-Some._voters) in
+    let at = row_of_turn c.args.profile.now.rows (c.into_iter-ballot-iterator.ensures.into_iter_gives ∙ c.ballots-ballot-items.ensures.rows) c.loop-ballot.yielded c.loop-ballot.yielded_by row c.in-Some.ensures.steps in
+    let rest = c.loop-ballot.rest in
     let needed : c.still_needed-needed.result ≡ hits_needed (length row.0) (length c.args.set + c.args.left) c.args.most - hits row.0 c.args.set =
     c.still_needed-needed.ensures ∙ ap (λ n. hits_needed (length row.0) (n + c.args.left) c.args.most - hits row.0 c.args.set) c.len-2.ensures.count in
-    narrowed-out V e.m c.args.set c.args.free rest c.args.left (e.m - c.args.most) c.loop-i.invariant.narrowed
-    (hopeless e.m e.rows c.args.most c.args.set rest c.args.left c.m.ensures.valid.ballots c.loop-i.invariant.narrowed.opened c.loop-i.i row c.row-ballot.ensures
-    (omega (arith, needed, c.if-needed-min.true, c.min.ensures, c.len-in-loop-i.ensures.count, ap length c.common-open.ensures, length-common row.0 rest)))
+    narrowed-out V e.m c.args.set c.args.free rest c.args.left (e.m - c.args.most) c.loop-ballot.invariant.narrowed
+    (hopeless e.m e.rows c.args.most c.args.set rest c.args.left c.m.ensures.valid.ballots c.loop-ballot.invariant.narrowed.opened (length c.loop-ballot.yielded) row at
+    (omega (arith, needed, c.if-needed-min.true, c.min.ensures, c.len-in-loop-ballot.ensures.count, ap length c.common-open.ensures, length-common row.0 rest)))
 
-pub loop-i-preserved : goal.loop-i-preserved
-loop-i-preserved g c =
+pub loop-ballot-preserved-then-is_tighter : goal.loop-ballot-preserved-then-is_tighter
+loop-ballot-preserved-then-is_tighter g c =
     let e = c.args.profile.now in
     let V = closeness e.m e.rows in
-    let row = c.row-ballot.result in
-    let rest = c.loop-i.rest in
-    let inv = c.loop-i.invariant in
+    let row : Row = (c.in-Some.ballot, c.in-Some._voters) in
+    let at = row_of_turn c.args.profile.now.rows (c.into_iter-ballot-iterator.ensures.into_iter_gives ∙ c.ballots-ballot-items.ensures.rows) c.loop-ballot.yielded c.loop-ballot.yielded_by row c.in-Some.ensures.steps in
+    let next = sym (length_push c.loop-ballot.yielded row) in
+    let rest = c.loop-ballot.rest in
+    let inv = c.loop-ballot.invariant in
     let needed : c.still_needed-needed.result ≡ hits_needed (length row.0) (length c.args.set + c.args.left) c.args.most - hits row.0 c.args.set =
     c.still_needed-needed.ensures ∙ ap (λ n. hits_needed (length row.0) (n + c.args.left) c.args.most - hits row.0 c.args.set) c.len-2.ensures.count in
     record {
       whole = λ none.
-          near-more e.m c.args.most (length c.args.set + c.args.left) e.rows c.args.set c.loop-i.i row c.m.ensures.valid.ballots c.requires.set_within c.row-ballot.ensures
-          (omega (arith, none)) (omega (arith, needed, none, c.if-needed-min.false, c.min.ensures)) (inv.whole none);
+          subst (λ n. greatest_distance (take n e.rows) c.args.set ≤ c.args.most) next (near-more e.m c.args.most (length c.args.set + c.args.left) e.rows c.args.set (length c.loop-ballot.yielded) row c.m.ensures.valid.ballots c.requires.set_within at
+          (omega (arith, none)) (omega (arith, needed, none, c.if-needed-min.false, c.min.ensures)) (inv.whole none));
       narrowed = elim c.if-needed-left.branch [
         | then-needed-left w ↦
             subst (λ s. IsNarrowed V e.m c.args.set c.args.free c.args.left (e.m - c.args.most) s) (sym (w.rest-is ∙ c.common-open.ensures))
             (narrowed-more V e.m c.args.set c.args.free rest c.args.left (e.m - c.args.most) inv.narrowed (common_members row.0 rest)
-            (narrowed-to_ballot e.m e.rows c.args.most c.args.set rest c.args.left c.m.ensures.valid.ballots inv.narrowed.opened c.loop-i.i row c.row-ballot.ensures
+            (narrowed-to_ballot e.m e.rows c.args.most c.args.set rest c.args.left c.m.ensures.valid.ballots inv.narrowed.opened (length c.loop-ballot.yielded) row at
             (omega (arith, needed, w.if-needed-left.true))))
         | else-needed-left w ↦ subst (λ s. IsNarrowed V e.m c.args.set c.args.free c.args.left (e.m - c.args.most) s) (sym w.rest-is) inv.narrowed
       ];
-      choice = λ some. elim c.if-is_tighter.branch [
-        | then-is_tighter w ↦
-            subst (λ s. IsChoice V e.m c.args.set c.args.free c.args.left (e.m - c.args.most) s) (sym (w.choices-is ∙ c.common-open.ensures))
-            (narrowed-choice V e.m c.args.set c.args.free rest c.args.left (e.m - c.args.most) inv.narrowed (common_members row.0 rest)
-            (choice-of_ballot e.m e.rows c.args.most c.args.set rest c.args.left c.m.ensures.valid.ballots inv.narrowed.opened c.loop-i.i row c.row-ballot.ensures
-            (omega (arith, needed, c.is_tighter.ensures w.if-is_tighter.true))))
-        | else-is_tighter w ↦
-            subst (λ s. IsChoice V e.m c.args.set c.args.free c.args.left (e.m - c.args.most) s) (sym w.choices-is) (inv.choice some)
-      ];
+      choice = λ some.
+          subst (λ s. AreChoices V e.m c.args.set c.args.free c.args.left (e.m - c.args.most) s) (sym c.common-open.ensures)
+          (narrowed-choice V e.m c.args.set c.args.free rest c.args.left (e.m - c.args.most) inv.narrowed (common_members row.0 rest)
+          (choice-of_ballot e.m e.rows c.args.most c.args.set rest c.args.left c.m.ensures.valid.ballots inv.narrowed.opened (length c.loop-ballot.yielded) row at
+          (omega (arith, needed, c.is_tighter.ensures c.if-is_tighter.true))));
     }
+
+pub loop-ballot-preserved : goal.loop-ballot-preserved
+loop-ballot-preserved g c =
+    let e = c.args.profile.now in
+    let V = closeness e.m e.rows in
+    let row : Row = (c.in-Some.ballot, c.in-Some._voters) in
+    let at = row_of_turn c.args.profile.now.rows (c.into_iter-ballot-iterator.ensures.into_iter_gives ∙ c.ballots-ballot-items.ensures.rows) c.loop-ballot.yielded c.loop-ballot.yielded_by row c.in-Some.ensures.steps in
+    let next = sym (length_push c.loop-ballot.yielded row) in
+    let rest = c.loop-ballot.rest in
+    let inv = c.loop-ballot.invariant in
+    let needed : c.still_needed-needed.result ≡ hits_needed (length row.0) (length c.args.set + c.args.left) c.args.most - hits row.0 c.args.set =
+    c.still_needed-needed.ensures ∙ ap (λ n. hits_needed (length row.0) (n + c.args.left) c.args.most - hits row.0 c.args.set) c.len-2.ensures.count in
+    record {
+      whole = λ none.
+          subst (λ n. greatest_distance (take n e.rows) c.args.set ≤ c.args.most) next (near-more e.m c.args.most (length c.args.set + c.args.left) e.rows c.args.set (length c.loop-ballot.yielded) row c.m.ensures.valid.ballots c.requires.set_within at
+          (omega (arith, none)) (omega (arith, needed, none, c.if-needed-min.false, c.min.ensures)) (inv.whole none));
+      narrowed = elim c.if-needed-left.branch [
+        | then-needed-left w ↦
+            subst (λ s. IsNarrowed V e.m c.args.set c.args.free c.args.left (e.m - c.args.most) s) (sym (w.rest-is ∙ c.common-open.ensures))
+            (narrowed-more V e.m c.args.set c.args.free rest c.args.left (e.m - c.args.most) inv.narrowed (common_members row.0 rest)
+            (narrowed-to_ballot e.m e.rows c.args.most c.args.set rest c.args.left c.m.ensures.valid.ballots inv.narrowed.opened (length c.loop-ballot.yielded) row at
+            (omega (arith, needed, w.if-needed-left.true))))
+        | else-needed-left w ↦ subst (λ s. IsNarrowed V e.m c.args.set c.args.free c.args.left (e.m - c.args.most) s) (sym w.rest-is) inv.narrowed
+      ];
+      choice = inv.choice;
+    }
+
+pub returns : goal.returns
+returns g c =
+    let e = c.args.profile.now in
+    let inv = c.loop-ballot.invariant in
+    let all = all_passed e.rows (c.into_iter-ballot-iterator.ensures.into_iter_gives ∙ c.ballots-ballot-items.ensures.rows) c.loop-ballot.yielded c.loop-ballot.yielded_by c.in-None.ensures.steps.0 in
+    (λ none. subst (λ rows. greatest_distance rows c.args.set ≤ c.args.most) all (inv.whole none), inv.narrowed, inv.choice)

@@ -4,7 +4,8 @@ use Rattle.clap.proofs.WalkLemmas.{first_value-rows}
 use Rattle.std.specs.Prelude.{option_map}
 use Rattle.std.specs.Vec.{vec_items}
 use Rattle.request_words.specs.Request.{checking}
-use Rattle.request_words.specs.Words.{GivesAsked, asking, check_in, listed}
+use Rattle.request_words.specs.Words.{asking, check_in, listed}
+use Rattle.request_words.specs.Steps.Values.{GivesAsked}
 use Rattle.request_words.specs.declared.words.ListOption.TheVariants.{Committee}
 use Rattle.request_words.proofs.WordsLemmas.{check_given, check_is, failed, passed_on, some_there, text_is, text_there}
 use Rattle.request_words.proofs.words.check_asked.Goals as goal

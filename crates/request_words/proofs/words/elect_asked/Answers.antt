@@ -2,7 +2,8 @@ use Rattle.std.proofs.Common.{◌∙◌, ap}
 use Rattle.std.specs.Prelude.{Some}
 use Rattle.clap.specs.Words.{found_of, rows_of}
 use Rattle.request_words.specs.Request.{paging_of}
-use Rattle.request_words.specs.Words.{GivesAsked, elect_in, elect_over_page, page_in, result_and_then}
+use Rattle.request_words.specs.Words.{elect_in, elect_over_page, page_in, result_and_then}
+use Rattle.request_words.specs.Steps.Values.{GivesAsked}
 use Rattle.request_words.proofs.WordsLemmas.{failed, gives_asked, passed_on}
 use Rattle.request_words.proofs.words.elect_asked.Goals as goal
 

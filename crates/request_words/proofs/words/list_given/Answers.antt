@@ -3,7 +3,8 @@ use Rattle.std.specs.Prelude.{option_map}
 use Rattle.std.specs.Vec.{vec_items}
 use Rattle.clap.specs.Words.{found_of, rows_of}
 use Rattle.clap.proofs.WalkLemmas.{first_value-rows}
-use Rattle.request_words.specs.Words.{Gives, list_in}
+use Rattle.request_words.specs.Words.{list_in}
+use Rattle.request_words.specs.Steps.Values.{Gives}
 use Rattle.request_words.proofs.WordsLemmas.{list_failed, list_read, no_list, passed_on}
 use Rattle.request_words.proofs.words.list_given.Goals as goal
 

@@ -2,7 +2,8 @@ use Rattle.std.specs.Prelude.{option_map}
 use Rattle.std.specs.Vec.{vec_items}
 use Rattle.clap.specs.Words.{found_of, rows_of}
 use Rattle.request_words.specs.Request.{paging_of}
-use Rattle.request_words.specs.Words.{Gives, page_in}
+use Rattle.request_words.specs.Words.{page_in}
+use Rattle.request_words.specs.Steps.Values.{Gives}
 use Rattle.request_words.proofs.WordsLemmas.{page_failed, page_read, passed_on, some_items}
 use Rattle.request_words.proofs.words.page.Goals as goal
 

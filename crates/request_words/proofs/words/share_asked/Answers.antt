@@ -4,7 +4,8 @@ use Rattle.std.specs.Prelude.{option_map}
 use Rattle.std.specs.Vec.{vec_items}
 use Rattle.request_words.specs.Request.{paging_of}
 use Rattle.request_words.specs.declared.words.ListOption.TheVariants.{Votes}
-use Rattle.request_words.specs.Words.{GivesAsked, has_input, is_given, list_in, page_in, share_in, share_over_page, share_over_votes, without_both}
+use Rattle.request_words.specs.Words.{has_input, is_given, list_in, page_in, share_in, share_over_page, share_over_votes, without_both}
+use Rattle.request_words.specs.Steps.Values.{GivesAsked}
 use Rattle.request_words.proofs.WordsLemmas.{both_true, broken, failed, first_false, passed_on, second_false, shared, some_items, then_read}
 use Rattle.request_words.proofs.words.share_asked.Goals as goal
 use Rattle.request_words.proofs.words.share_asked.Goals.{else-is_given-via-then-is_given+else-has_input, else-is_given-via-else-is_given}

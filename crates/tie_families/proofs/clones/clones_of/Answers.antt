@@ -1,32 +1,41 @@
-use Rattle.std.proofs.Common.{◌∙◌, sym, ap, arith}
+use Rattle.std.proofs.Common.{◌∙◌, sym, ap, filter, length, take}
 use Rattle.std.specs.List.{range_with_len}
-use Rattle.std.proofs.lemmas.List.{take_all}
+use Rattle.std.proofs.lemmas.List.{length_push}
+use Rattle.ballot_base.specs.Ballots.{Row}
 use Rattle.ballot_base.specs.CandSet.{common_members, other_members}
-use Rattle.tie_families.specs.Clones.{clones_among}
+use Rattle.ballot_base.proofs.Turns.{row_of_turn, all_passed}
+use Rattle.tie_families.specs.Clones.{are_clones, clones_among}
 use Rattle.tie_families.proofs.TableLemmas.{clones-none, clones-approved, clones-other}
 use Rattle.tie_families.proofs.clones.clones_of.Goals as goal
-use Rattle.tie_families.proofs.clones.clones_of.Goals.{then-has, else-has}
 
-pub loop-i-init : goal.loop-i-init
-loop-i-init g c =
+pub loop-ballot-init : goal.loop-ballot-init
+loop-ballot-init g c =
     let e = c.args.profile.now in
     c.all-clones.ensures ∙ ap (range_with_len 1) c.m.ensures.value ∙ clones-none e.m c.args.c
 
-pub loop-i-preserved : goal.loop-i-preserved
-loop-i-preserved g c =
+pub loop-ballot-preserved-then-has : goal.loop-ballot-preserved-then-has
+loop-ballot-preserved-then-has g c =
     let e = c.args.profile.now in
-    let row = c.row-ballot.result in
-    let i = c.loop-i.i in
-    elim c.if-has.branch [
-      | then-has w ↦
-          w.clones-is ∙ w.common-clones.ensures ∙ ap (λ s. common_members s row.0) c.loop-i.invariant
-          ∙ sym (clones-approved e.m e.rows i row c.args.c c.row-ballot.ensures (sym c.has.ensures ∙ w.if-has.true))
-      | else-has w ↦
-          w.clones-is ∙ w.minus-clones.ensures ∙ ap (λ s. other_members s row.0) c.loop-i.invariant
-          ∙ sym (clones-other e.m e.rows i row c.args.c c.row-ballot.ensures (sym c.has.ensures ∙ w.if-has.false))
-    ]
+    let row : Row = (c.in-Some.ballot, c.in-Some._voters) in
+    let at = row_of_turn c.args.profile.now.rows (c.into_iter-ballot-iterator.ensures.into_iter_gives ∙ c.ballots-ballot-items.ensures.rows) c.loop-ballot.yielded c.loop-ballot.yielded_by row c.in-Some.ensures.steps in
+    let i = length c.loop-ballot.yielded in
+    let next = sym (length_push c.loop-ballot.yielded row) in
+    let later = ap (λ n. filter (are_clones (take n e.rows) c.args.c) (range_with_len 1 e.m)) next in
+    c.common-clones.ensures ∙ ap (λ s. common_members s row.0) c.loop-ballot.invariant
+    ∙ sym (clones-approved e.m e.rows i row c.args.c at (sym c.has.ensures ∙ c.if-has.true)) ∙ later
+
+pub loop-ballot-preserved : goal.loop-ballot-preserved
+loop-ballot-preserved g c =
+    let e = c.args.profile.now in
+    let row : Row = (c.in-Some.ballot, c.in-Some._voters) in
+    let at = row_of_turn c.args.profile.now.rows (c.into_iter-ballot-iterator.ensures.into_iter_gives ∙ c.ballots-ballot-items.ensures.rows) c.loop-ballot.yielded c.loop-ballot.yielded_by row c.in-Some.ensures.steps in
+    let i = length c.loop-ballot.yielded in
+    let next = sym (length_push c.loop-ballot.yielded row) in
+    let later = ap (λ n. filter (are_clones (take n e.rows) c.args.c) (range_with_len 1 e.m)) next in
+    c.minus-clones.ensures ∙ ap (λ s. other_members s row.0) c.loop-ballot.invariant
+    ∙ sym (clones-other e.m e.rows i row c.args.c at (sym c.has.ensures ∙ c.if-has.false)) ∙ later
 
 pub returns : goal.returns
 returns g c =
     let e = c.args.profile.now in
-    c.loop-i.invariant ∙ ap (λ rows. clones_among e.m rows c.args.c) (take_all c.loop-i.i e.rows (omega (arith, c.rows-i-end.ensures.value)))
+    c.loop-ballot.invariant ∙ ap (λ rows. clones_among e.m rows c.args.c) (all_passed e.rows (c.into_iter-ballot-iterator.ensures.into_iter_gives ∙ c.ballots-ballot-items.ensures.rows) c.loop-ballot.yielded c.loop-ballot.yielded_by c.in-None.ensures.steps.0)

@@ -2,12 +2,12 @@ use Rattle.std.proofs.Common.{◌≡◌, ℕ, ◌-◌, ◌<◌, ◌==◌, ◌&&�
 use Rattle.std.specs.List.{range_with_len}
 use Rattle.std.proofs.lemmas.Bool.{and_from, and_left, and_right, eq-eqb, ne_eqb}
 use Rattle.std.proofs.lemmas.List.{get_or_default}
-use Rattle.tie_walk.specs.Steps.Choices.{is_open}
+use Rattle.tie_walk.specs.Steps.Choices.{may_choose}
 use Rattle.tie_walk.proofs.StepLemmas.{filter-left}
 use Rattle.tie_families.specs.Steps.Levels.{is_first_open}
 use Rattle.tie_families.proofs.StepLemmas.{ties-are, passes-more}
 use Rattle.tie_families.proofs.levels.ties.Goals as goal
-use Rattle.tie_families.proofs.levels.ties.Goals.{then-is_open+then-worths-at+then-is_first_open, else-is_open, else-is_open-via-then-is_open+then-worths-at+else-is_first_open, else-is_open-via-then-is_open+else-worths-at, else-is_open-via-else-is_open}
+use Rattle.tie_families.proofs.levels.ties.Goals.{then-may_choose+then-worths-at+then-is_first_open, else-may_choose, else-may_choose-via-then-may_choose+then-worths-at+else-is_first_open, else-may_choose-via-then-may_choose+else-worths-at, else-may_choose-via-else-may_choose}
 
 pub loop-c-preserved : goal.loop-c-preserved
 loop-c-preserved c =
@@ -19,31 +19,31 @@ loop-c-preserved c =
     let worths = c.args.worths.now in
     let table = c.args.clones.now in
     let inside : k < length table = omega (arith, c.told-clones, c.requires) in
-    let test : ℕ → Bool = λ (d : ℕ). is_open step set d && (get_or worths d 0 == best && is_first_open step (get_or table d []) set d) in
-    elim c.if-is_open.branch [
-      | then-is_open+then-worths-at+then-is_first_open w ↦
-          let free : is_open step set k ≡ true = sym c.is_open.ensures ∙ w.if-is_open.true in
+    let test : ℕ → Bool = λ (d : ℕ). may_choose step set d && (get_or worths d 0 == best && is_first_open step (get_or table d []) set d) in
+    elim c.if-may_choose.branch [
+      | then-may_choose+then-worths-at+then-is_first_open w ↦
+          let free : may_choose step set k ≡ true = sym c.may_choose.ensures ∙ w.if-may_choose.true in
           let worth : (get_or worths k 0 == best) ≡ true = eq-eqb (get_or worths k 0) best (ap (λ d. get_or worths d 0) (sym at) ∙ w.if-worths-at.true) in
           let own : get_or table c.from-at.result w.index-clones-at.result ≡ get_or table k [] =
           ap (λ d. get_or table d w.index-clones-at.result) at ∙ get_or_default table k w.index-clones-at.result [] inside in
           let first : is_first_open step (get_or table k []) set k ≡ true = ap (λ s. is_first_open step s set k) (sym own) ∙ sym w.is_first_open.ensures ∙ w.if-is_first_open.true in
-          let is : test k ≡ true = and_from (is_open step set k) (get_or worths k 0 == best && is_first_open step (get_or table k []) set k) free
+          let is : test k ≡ true = and_from (may_choose step set k) (get_or worths k 0 == best && is_first_open step (get_or table k []) set k) free
           (and_from (get_or worths k 0 == best) (is_first_open step (get_or table k []) set k) worth first) in
-          passes-more test k c.loop-c.ties c.if-is_open.ties c.loop-c.auto.c is c.loop-c.invariant (w.ties-is ∙ w.with-ties.ensures)
-      | else-is_open w ↦
-          let is : test k ≡ false = elim w.else-is_open.branch [
-            | else-is_open-via-then-is_open+then-worths-at+else-is_first_open u ↦
+          passes-more test k c.loop-c.ties c.if-may_choose.ties c.loop-c.auto.c is c.loop-c.invariant (w.ties-is ∙ w.with-ties.ensures)
+      | else-may_choose w ↦
+          let is : test k ≡ false = elim w.else-may_choose.branch [
+            | else-may_choose-via-then-may_choose+then-worths-at+else-is_first_open u ↦
                 let own : get_or table c.from-at.result u.index-clones-at.result ≡ get_or table k [] =
                 ap (λ d. get_or table d u.index-clones-at.result) at ∙ get_or_default table k u.index-clones-at.result [] inside in
                 let later : is_first_open step (get_or table k []) set k ≡ false = ap (λ s. is_first_open step s set k) (sym own) ∙ sym u.is_first_open.ensures ∙ u.if-is_first_open.false in
-                and_right (is_open step set k) (get_or worths k 0 == best && is_first_open step (get_or table k []) set k)
+                and_right (may_choose step set k) (get_or worths k 0 == best && is_first_open step (get_or table k []) set k)
                 (and_right (get_or worths k 0 == best) (is_first_open step (get_or table k []) set k) later)
-            | else-is_open-via-then-is_open+else-worths-at u ↦
+            | else-may_choose-via-then-may_choose+else-worths-at u ↦
                 let less : get_or worths k 0 ≡ best → ⊥ = λ e. u.if-worths-at.false (ap (λ d. get_or worths d 0) at ∙ e) in
-                and_right (is_open step set k) (get_or worths k 0 == best && is_first_open step (get_or table k []) set k)
+                and_right (may_choose step set k) (get_or worths k 0 == best && is_first_open step (get_or table k []) set k)
                 (and_left (get_or worths k 0 == best) (is_first_open step (get_or table k []) set k) (ne_eqb (get_or worths k 0) best less))
-            | else-is_open-via-else-is_open u ↦
-                and_left (is_open step set k) (get_or worths k 0 == best && is_first_open step (get_or table k []) set k) (sym c.is_open.ensures ∙ u.if-is_open.false)
+            | else-may_choose-via-else-may_choose u ↦
+                and_left (may_choose step set k) (get_or worths k 0 == best && is_first_open step (get_or table k []) set k) (sym c.may_choose.ensures ∙ u.if-may_choose.false)
           ] in
           w.ties-is ∙ c.loop-c.invariant ∙ sym (filter-left test k c.loop-c.auto.c is)
     ]
@@ -55,6 +55,6 @@ returns c weights rows are clones best =
     let worths = c.args.worths.now in
     let table = c.args.clones.now in
     let all : c.loop-c.c - 1 ≡ c.args.m = omega arith in
-    let test : ℕ → Bool = λ (d : ℕ). is_open step set d && (get_or worths d 0 == c.args.best && is_first_open step (get_or table d []) set d) in
+    let test : ℕ → Bool = λ (d : ℕ). may_choose step set d && (get_or worths d 0 == c.args.best && is_first_open step (get_or table d []) set d) in
     c.loop-c.invariant ∙ ap (λ n. filter test (range_with_len 1 n)) all
     ∙ ties-are step weights c.args.m rows set (λ d. get_or worths d 0) c.args.best table are (λ d. omega (arith, c.fits-worths d)) best clones

@@ -3,8 +3,8 @@ use Rattle.tie_search.specs.Steps.Columns.{AreColumns, voters_of}
 use Rattle.tie_search.proofs.columns.blocks_of.Given as goal
 
 -- the voters of the rows so far are there
-abbrev pub invariant-loop-i : goal.invariant-loop-i
-invariant-loop-i g l = record {
-  many : length (voters_of (take l.i l.profile.rows)) ≡ l.voters;
-  held : AreColumns (voters_of (take l.i l.profile.rows)) l.blocks;
+abbrev pub invariant-loop-ballot : goal.invariant-loop-ballot
+invariant-loop-ballot g l = record {
+  many : length (voters_of (take (length l.yielded) l.profile.rows)) ≡ l.voters;
+  held : AreColumns (voters_of (take (length l.yielded) l.profile.rows)) l.blocks;
 }

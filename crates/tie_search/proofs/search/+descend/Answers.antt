@@ -3,14 +3,14 @@ use Rattle.ballot_base.specs.Increments.{increments}
 use Rattle.ballot_base.specs.CandSet.{has_member, with_member, without_member}
 use Rattle.tie_walk.specs.Sequences.{gain}
 use Rattle.tie_search.proofs.WholeLemmas.{value-with}
-use Rattle.tie_search.specs.Completions.{IsOpen, value_by}
+use Rattle.tie_search.specs.Completions.{IsOpen, tally_value}
 use Rattle.tie_search.proofs.CompletionLemmas.{member-low, member-high, open-with, open-without, without-is, without-shorter}
 use Rattle.tie_search.proofs.SearchLemmas.{AreLeft, found-below, node-none, none-left, not-true, set-short, struck-out, value-most}
 use Rattle.tie_search.proofs.search.+descend.Goals as goal
 
 pub returns-then-value-least : goal.returns-then-value-least
 returns-then-value-least g t c =
-    set-short (value_by c.args.tally.now) c.args.tally.now.election.m c.args.set c.args.left c.args.least c.args.free
+    set-short (tally_value c.args.tally.now) c.args.tally.now.election.m c.args.set c.args.left c.args.least c.args.free
     c.if-left-eq0.true c.requires.opened (omega (arith, c.if-value-least.true, c.requires.value))
 
 pub loop-set-init : goal.loop-set-init
@@ -61,11 +61,11 @@ descend-found-requires g t c κs within =
     let opened : IsOpen c.args.tally.now.election.m (with_member c.args.set next) (without_member rest next) =
     open-with c.args.tally.now.election.m c.args.set rest next c.loop-set.invariant.opened c.in_ok-next.ensures in
     let free : has_member c.args.free next ≡ true = c.loop-set.invariant.among next c.in_ok-next.ensures in
-    let gained : value_by c.args.tally.now (with_member c.args.set next) ≡ value_by c.args.tally.now c.args.set + gain (increments c.args.tally.now.rule c.args.tally.now.k) c.args.tally.now.election.rows c.args.set next =
+    let gained : tally_value c.args.tally.now (with_member c.args.set next) ≡ tally_value c.args.tally.now c.args.set + gain (increments c.args.tally.now.rule c.args.tally.now.k) c.args.tally.now.election.rows c.args.set next =
     value-with c.args.tally.now c.args.set next c.valid.ensures.election (c.requires.opened.apart next free) in
     let same : get_or c.gains_at-gains.result c.from.result 0 ≡ gain (increments c.args.tally.now.rule c.args.tally.now.k) c.args.tally.now.election.rows c.args.set next =
     ap (λ n. get_or c.gains_at-gains.result n 0) c.from.ensures ∙ c.gains_at-gains.ensures.gains next free in
-    let value : c.args.value + get_or c.gains_at-gains.result c.from.result 0 ≡ value_by c.args.tally.now (with_member c.args.set next) =
+    let value : c.args.value + get_or c.gains_at-gains.result c.from.result 0 ≡ tally_value c.args.tally.now (with_member c.args.set next) =
     omega (arith, gained, same, c.requires.value) in
     (omega (arith, c.if-left-eq0.false, c.decreases), (within, (c.requires.aids, (rw (c.with.ensures, c.without-rest.ensures) opened, rw c.with.ensures value))))
 
@@ -77,11 +77,11 @@ pub returns-then-not-may_suffice : goal.returns-then-not-may_suffice
 returns-then-not-may_suffice g t c =
     let rest = c.loop-set.rest in
     let next = c.in_ok-next.next in
-    let left_out : AreLeft (value_by c.args.tally.now) c.args.tally.now.election.m c.args.set c.args.left c.args.least c.args.free (without_member rest next) =
-    struck-out (value_by c.args.tally.now) c.args.tally.now.election.m c.args.set c.args.left c.args.least c.args.free rest next
+    let left_out : AreLeft (tally_value c.args.tally.now) c.args.tally.now.election.m c.args.set c.args.left c.args.least c.args.free (without_member rest next) =
+    struck-out (tally_value c.args.tally.now) c.args.tally.now.election.m c.args.set c.args.left c.args.least c.args.free rest next
     (omega (arith, c.if-left-eq0.false)) c.loop-set.invariant.opened c.in_ok-next.ensures c.loop-set.invariant.kept
     (rw (c.with.ensures, c.without-rest.ensures) at c.in_default.ensures) in
-    none-left (value_by c.args.tally.now) c.args.tally.now.election.m c.args.set c.args.left c.args.least c.args.free (without_member rest next) left_out
+    none-left (tally_value c.args.tally.now) c.args.tally.now.election.m c.args.set c.args.left c.args.least c.args.free (without_member rest next) left_out
     (rw c.without-rest.ensures at (c.may_suffice.ensures c.if-not-may_suffice.true c.args.left))
 
 pub may_afford-requires-in-loop-set-clause-opened : goal.may_afford-requires-in-loop-set-clause-opened
@@ -92,16 +92,16 @@ pub returns-then-not-may_afford-2 : goal.returns-then-not-may_afford-2
 returns-then-not-may_afford-2 g t c =
     let rest = c.loop-set.rest in
     let next = c.in_ok-next.next in
-    let left_out : AreLeft (value_by c.args.tally.now) c.args.tally.now.election.m c.args.set c.args.left c.args.least c.args.free (without_member rest next) =
-    struck-out (value_by c.args.tally.now) c.args.tally.now.election.m c.args.set c.args.left c.args.least c.args.free rest next
+    let left_out : AreLeft (tally_value c.args.tally.now) c.args.tally.now.election.m c.args.set c.args.left c.args.least c.args.free (without_member rest next) =
+    struck-out (tally_value c.args.tally.now) c.args.tally.now.election.m c.args.set c.args.left c.args.least c.args.free rest next
     (omega (arith, c.if-left-eq0.false)) c.loop-set.invariant.opened c.in_ok-next.ensures c.loop-set.invariant.kept
     (rw (c.with.ensures, c.without-rest.ensures) at c.in_default.ensures) in
-    none-left (value_by c.args.tally.now) c.args.tally.now.election.m c.args.set c.args.left c.args.least c.args.free (without_member rest next) left_out
+    none-left (tally_value c.args.tally.now) c.args.tally.now.election.m c.args.set c.args.left c.args.least c.args.free (without_member rest next) left_out
     (rw c.without-rest.ensures at (c.may_afford-in-loop-set.ensures c.if-not-may_afford-2.true))
 
 pub returns-in-Some : goal.returns-in-Some
 returns-in-Some g t c =
-    found-below (value_by c.args.tally.now) c.args.tally.now.election.m c.args.set c.args.left c.args.least c.args.free c.loop-set.rest c.in-Some.committee c.in_ok-next.next
+    found-below (tally_value c.args.tally.now) c.args.tally.now.election.m c.args.set c.args.left c.args.least c.args.free c.loop-set.rest c.in-Some.committee c.in_ok-next.next
     (omega (arith, c.if-left-eq0.false)) c.requires.opened (c.loop-set.invariant.among c.in_ok-next.next c.in_ok-next.ensures) c.loop-set.invariant.among
     (rw (c.with.ensures, c.without-rest.ensures) at c.in-Some.ensures)
 
@@ -112,8 +112,8 @@ pub loop-set-preserved : goal.loop-set-preserved
 loop-set-preserved g t c =
     let rest = c.loop-set.rest in
     let next = c.in_ok-next.next in
-    let left_out : AreLeft (value_by c.args.tally.now) c.args.tally.now.election.m c.args.set c.args.left c.args.least c.args.free (without_member rest next) =
-    struck-out (value_by c.args.tally.now) c.args.tally.now.election.m c.args.set c.args.left c.args.least c.args.free rest next
+    let left_out : AreLeft (tally_value c.args.tally.now) c.args.tally.now.election.m c.args.set c.args.left c.args.least c.args.free (without_member rest next) =
+    struck-out (tally_value c.args.tally.now) c.args.tally.now.election.m c.args.set c.args.left c.args.least c.args.free rest next
     (omega (arith, c.if-left-eq0.false)) c.loop-set.invariant.opened c.in_ok-next.ensures c.loop-set.invariant.kept
     (rw (c.with.ensures, c.without-rest.ensures) at c.in_default.ensures) in
     rw c.without-rest.ensures record {
@@ -124,7 +124,7 @@ loop-set-preserved g t c =
 
 pub returns : goal.returns
 returns g t c =
-    none-left (value_by c.args.tally.now) c.args.tally.now.election.m c.args.set c.args.left c.args.least c.args.free c.loop-set.rest c.loop-set.invariant.kept
+    none-left (tally_value c.args.tally.now) c.args.tally.now.election.m c.args.set c.args.left c.args.least c.args.free c.loop-set.rest c.loop-set.invariant.kept
     (node-none c.args.tally.now c.args.set c.loop-set.rest c.args.left c.args.least c.valid.ensures.election c.valid.ensures.size c.loop-set.invariant.opened
     c.threshold.result c.gains_at-gains.result (λ n h. c.gains_at-gains.ensures.gains n (c.loop-set.invariant.among n h))
     (λ both. not-true c.may_reach.result c.loop-set-test.false (c.may_reach.ensures.1 (

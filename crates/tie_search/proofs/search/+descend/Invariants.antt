@@ -1,6 +1,6 @@
 use Rattle.std.proofs.Common.{◌≡◌, ℕ, true, length}
 use Rattle.ballot_base.specs.CandSet.{has_member}
-use Rattle.tie_search.specs.Completions.{IsOpen, value_by}
+use Rattle.tie_search.specs.Completions.{IsOpen, tally_value}
 use Rattle.tie_search.proofs.SearchLemmas.{AreLeft}
 use Rattle.tie_search.proofs.search.+descend.Given as goal
 
@@ -12,7 +12,7 @@ abbrev pub invariant-loop-set : goal.invariant-loop-set
 invariant-loop-set g l = record {
   opened : IsOpen l.tally.election.m l.set l.rest;
   among : (n : ℕ) → has_member l.rest n ≡ true → has_member l.fn.free n ≡ true;
-  kept : AreLeft (value_by l.tally) l.tally.election.m l.set l.left l.least l.fn.free l.rest;
+  kept : AreLeft (tally_value l.tally) l.tally.election.m l.set l.left l.least l.fn.free l.rest;
 }
 
 abbrev pub decreases-loop-set : goal.decreases-loop-set

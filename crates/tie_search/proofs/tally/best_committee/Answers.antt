@@ -1,5 +1,5 @@
 use Rattle.std.proofs.Common.{◌+◌, [], arith, refl}
-use Rattle.tie_search.specs.Completions.{IsReaching, IsOutOfReach, value_by}
+use Rattle.tie_search.specs.Completions.{IsReaching, IsOutOfReach, tally_value}
 use Rattle.tie_search.proofs.ReachLemmas.{best-found}
 use Rattle.tie_search.proofs.SearchLemmas.{value-most}
 use Rattle.tie_search.proofs.tally.best_committee.Goals as goal
@@ -15,12 +15,12 @@ better_than-requires-clause-candidates g c = rw (← c.requires.candidates) c.lo
 
 pub loop-better-smaller : goal.loop-better-smaller
 loop-better-smaller g c =
-    let found : IsReaching (value_by c.args.values.now) c.args.values.now.election.m [] c.those_after-all.result c.args.k (value_by c.args.values.now c.loop-better.best + 1) c.in-Some.better = c.in-Some.ensures in
+    let found : IsReaching (tally_value c.args.values.now) c.args.values.now.election.m [] c.those_after-all.result c.args.k (tally_value c.args.values.now c.loop-better.best + 1) c.in-Some.better = c.in-Some.ensures in
     omega (arith, found.reaches, value-most c.args.values.now c.in-Some.better c.valid.ensures.election c.valid.ensures.size)
 
 pub loop-better-preserved : goal.loop-better-preserved
 loop-better-preserved g c =
-    let found : IsReaching (value_by c.args.values.now) c.args.values.now.election.m [] c.those_after-all.result c.args.k (value_by c.args.values.now c.loop-better.best + 1) c.in-Some.better = c.in-Some.ensures in
+    let found : IsReaching (tally_value c.args.values.now) c.args.values.now.election.m [] c.those_after-all.result c.args.k (tally_value c.args.values.now c.loop-better.best + 1) c.in-Some.better = c.in-Some.ensures in
     record {
       candidates = rw c.requires.candidates found.completes.candidates;
       size = omega (arith, found.completes.size);
@@ -34,6 +34,6 @@ returns-clause-size g c = c.loop-better.invariant.size
 
 pub returns-clause-best : goal.returns-clause-best
 returns-clause-best g c =
-    let none : IsOutOfReach (value_by c.args.values.now) c.args.m [] c.those_after-all.result c.args.k (value_by c.args.values.now c.loop-better.best + 1) = rw c.requires.candidates c.in_default.ensures in
-    best-found (value_by c.args.values.now) c.args.m c.args.k (value_by c.args.values.now c.loop-better.best + 1) c.loop-better.best c.those_after-all.result
+    let none : IsOutOfReach (tally_value c.args.values.now) c.args.m [] c.those_after-all.result c.args.k (tally_value c.args.values.now c.loop-better.best + 1) = rw c.requires.candidates c.in_default.ensures in
+    best-found (tally_value c.args.values.now) c.args.m c.args.k (tally_value c.args.values.now c.loop-better.best + 1) c.loop-better.best c.those_after-all.result
     c.requires.fits c.loop-better.invariant.candidates c.loop-better.invariant.size c.those_after-all.ensures.within (λ n low high. c.those_after-all.ensures.all n (omega arith) high) refl none

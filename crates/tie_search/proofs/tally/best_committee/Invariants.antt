@@ -1,6 +1,6 @@
 use Rattle.std.proofs.Common.{◌≡◌, ◌-◌, ◌^◌, length}
 use Rattle.ballot_base.specs.Lists.{IsIncreasing}
-use Rattle.tie_search.specs.Completions.{value_by}
+use Rattle.tie_search.specs.Completions.{tally_value}
 use Rattle.tie_search.proofs.tally.best_committee.Given as goal
 
 abbrev pub invariant-loop-better : goal.invariant-loop-better
@@ -10,4 +10,4 @@ invariant-loop-better g l = record {
 }
 
 abbrev pub decreases-loop-better : goal.decreases-loop-better
-decreases-loop-better g l = 2 ^ 117 - value_by l.values l.best
+decreases-loop-better g l = 2 ^ 117 - tally_value l.values l.best

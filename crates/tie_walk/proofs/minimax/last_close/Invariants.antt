@@ -1,4 +1,4 @@
-use Rattle.std.proofs.Common.{ℕ, ◌+◌, ◌<◌, ◌≤◌}
+use Rattle.std.proofs.Common.{◌+◌, ◌<◌, ◌≤◌}
 use Rattle.ballot_base.specs.CandSet.{members_upto}
 use Rattle.tie_walk.specs.Values.{distance}
 use Rattle.tie_walk.proofs.minimax.last_close.Given as goal

@@ -1,8 +1,8 @@
-use Rattle.std.proofs.Common.{◌≡◌, ℕ, ◌*◌, take, get_or, sum_by}
+use Rattle.std.proofs.Common.{◌≡◌, ℕ, ◌*◌, take, length, get_or, sum_by}
 use Rattle.ballot_base.specs.Ballots.{Row}
 use Rattle.tie_walk.proofs.Gains.{given}
 use Rattle.tie_walk.proofs.satisfaction.scores.Given as goal
 
 -- the scores over the rows so far
-abbrev pub invariant-loop-i : goal.invariant-loop-i
-invariant-loop-i g l = (c : ℕ) → get_or l.totals c 0 ≡ sum_by (λ (row : Row). row.1 * given l.shares c row) (take l.i l.profile.rows)
+abbrev pub invariant-loop-ballot : goal.invariant-loop-ballot
+invariant-loop-ballot g l = (c : ℕ) → get_or l.totals c 0 ≡ sum_by (λ (row : Row). row.1 * given l.shares c row) (take (length l.yielded) l.profile.rows)

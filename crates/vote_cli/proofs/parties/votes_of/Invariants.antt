@@ -6,8 +6,8 @@ use Rattle.vote_cli.proofs.PartyLemmas.{tallies}
 use Rattle.vote_cli.proofs.parties.votes_of.Given as goal
 
 -- the ballots so far approve one candidate at most, and their voters are counted
-abbrev pub invariant-loop-i : goal.invariant-loop-i
-invariant-loop-i g l = record {
-  single : list_any (λ (row : Row). nat_lt 1 (length row.0)) (take l.i l.profile.rows) ≡ false;
-  votes : l.votes ≡ tallies (take l.i l.profile.rows);
+abbrev pub invariant-loop-ballot : goal.invariant-loop-ballot
+invariant-loop-ballot g l = record {
+  single : list_any (λ (row : Row). nat_lt 1 (length row.0)) (take (length l.yielded) l.profile.rows) ≡ false;
+  votes : l.votes ≡ tallies (take (length l.yielded) l.profile.rows);
 }

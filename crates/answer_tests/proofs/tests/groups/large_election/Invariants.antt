@@ -4,4 +4,4 @@ use Rattle.answer_tests.proofs.tests.groups.large_election.Given as goal
 
 -- the builder keeps its candidates
 abbrev pub invariant-loop-candidate : goal.invariant-loop-candidate
-invariant-loop-candidate l = l.builder.m ≡ most_candidates
+invariant-loop-candidate g l = l.builder.m ≡ most_candidates

@@ -4,4 +4,4 @@ use Rattle.answer_tests.proofs.tests.groups.small_election.Given as goal
 
 -- the builder keeps its candidates
 abbrev pub invariant-loop-round : goal.invariant-loop-round
-invariant-loop-round l = l.builder.m ≡ most_candidates
+invariant-loop-round g l = l.builder.m ≡ most_candidates

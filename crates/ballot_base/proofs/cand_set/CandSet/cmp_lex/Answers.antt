@@ -1,7 +1,7 @@
 use Rattle.std.proofs.Common.{◌∙◌, ◌/◌, ◌^◌, ◌==◌, sym, arith, Less, Greater, bit_xor, w64}
 use Rattle.std.specs.Int.{trailing_zeros}
 use Rattle.std.proofs.lemmas.Bool.{eq-eqb, ne_eqb, cond-true, cond-false}
-use Rattle.ballot_base.specs.Steps.Words.{members}
+use Rattle.ballot_base.specs.Steps.Bits.{members}
 use Rattle.ballot_base.proofs.FirstMember.{cmp_same, same_from_xor, lowest_difference, cmp_self_first, cmp_other_first}
 use Rattle.ballot_base.proofs.cand_set.CandSet.cmp_lex.Goals as goal
 

@@ -1,7 +1,7 @@
 use Rattle.std.proofs.Common.{◌<◌, ◌+◌, ◌-◌, ◌^◌, sym, subst, arith}
 use Rattle.std.proofs.lemmas.Nat.{pow_below, and_le_l}
 use Rattle.ballot_base.specs.Limits.{most_candidates}
-use Rattle.ballot_base.specs.Steps.Words.{members}
+use Rattle.ballot_base.specs.Steps.Bits.{members}
 use Rattle.ballot_base.specs.Steps.Subsets.{IsNextSet}
 use Rattle.ballot_base.proofs.NextSet.{free_of, growing_of, last_if_all, last_if_none_below, grown_is, bound_of_grown, IsNextSet-grown, bound_of_up_to}
 use Rattle.ballot_base.proofs.cand_set.CandSet.next_of_size.Goals as goal

@@ -1,12 +1,12 @@
 use Rattle.std.proofs.Common.{◌≡◌, ℕ, ◌+◌, ◌*◌, ◌<◌, ◌∙◌, List, [], sym, ap, arith, get_or, replicate}
 use Rattle.tie_walk.proofs.WorthLemmas.{no_total}
-use Rattle.tie_search.specs.Steps.Columns.{block_voters, most_blocks, total, given, ballot_of, AreColumns, AreRising, IsBlock}
+use Rattle.tie_search.specs.Steps.Columns.{block_voters, most_blocks, total, given, voter_ballot, AreColumns, AreRising, IsBlock}
 use Rattle.tie_search.proofs.ColumnLemmas.{total-add, total-zero}
 use Rattle.tie_search.proofs.columns.Columns.gains.Goals as goal
 
 -- one block of all
 block-at : (ballots blocks : List (List ℕ)) (b : ℕ) → b < most_blocks → AreColumns ballots blocks → AreRising ballots
-    → IsBlock (λ i. ballot_of ballots (b * block_voters + i)) (get_or blocks b [])
+    → IsBlock (λ i. voter_ballot ballots (b * block_voters + i)) (get_or blocks b [])
 block-at ballots blocks b low held up = record {
   rises = λ i. up (b * block_voters + i);
   approves = λ c i within. held b c i low within;
@@ -14,7 +14,7 @@ block-at ballots blocks b low held up = record {
 
 pub loop-b-init : goal.loop-b-init
 loop-b-init c = record {
-  summed = λ ballots held up n low. no_total 65 n ∙ sym (total-zero (λ v. given c.args.self.now.weights c.args.set n (ballot_of ballots v)));
+  summed = λ ballots held up n low. no_total 65 n ∙ sym (total-zero (λ v. given c.args.self.now.weights c.args.set n (voter_ballot ballots v)));
   most = λ n. let e : get_or {A = ℕ} (replicate 65 0) n 0 ≡ 0 = no_total 65 n in omega (arith, e);
 }
 
@@ -24,11 +24,11 @@ add_block-requires-clause-fits c n = omega (arith, c.loop-b.invariant.most n, c.
 pub loop-b-preserved : goal.loop-b-preserved
 loop-b-preserved c = record {
   summed = λ ballots held up n low.
-      let f : ℕ → ℕ = λ v. given c.args.self.now.weights c.args.set n (ballot_of ballots v) in
+      let f : ℕ → ℕ = λ v. given c.args.self.now.weights c.args.set n (voter_ballot ballots v) in
       let b = c.loop-b.b in
       let more : total f ((b + 1) * block_voters) ≡ total f (b * block_voters) + total (λ i. f (b * block_voters + i)) block_voters =
       ap (total f) (let e : (b + 1) * 64 ≡ b * 64 + 64 = omega arith in e) ∙ total-add f (b * block_voters) block_voters in
-      c.add_block.ensures.sum (λ i. ballot_of ballots (b * block_voters + i)) (block-at ballots c.args.self.now.blocks b (omega (arith, c.requires.used, c.loop-b-test.true)) held up) n low
+      c.add_block.ensures.sum (λ i. voter_ballot ballots (b * block_voters + i)) (block-at ballots c.args.self.now.blocks b (omega (arith, c.requires.used, c.loop-b-test.true)) held up) n low
       ∙ ap (λ x. x + total (λ i. f (b * block_voters + i)) block_voters) (c.loop-b.invariant.summed ballots held up n low)
       ∙ sym more;
   most = λ n. omega (arith, c.add_block.ensures.most n, c.loop-b.invariant.most n, c.requires.weights.few);
@@ -37,4 +37,4 @@ loop-b-preserved c = record {
 pub returns : goal.returns
 returns c ballots held up n low =
     c.loop-b.invariant.summed ballots held up n low
-    ∙ ap (λ b. total (λ v. given c.args.self.now.weights c.args.set n (ballot_of ballots v)) (b * block_voters)) (let e : c.loop-b.b ≡ c.args.self.now.used = omega (arith, c.loop-b-test.false, c.loop-b.auto.b-end) in e)
+    ∙ ap (λ b. total (λ v. given c.args.self.now.weights c.args.set n (voter_ballot ballots v)) (b * block_voters)) (let e : c.loop-b.b ≡ c.args.self.now.used = omega (arith, c.loop-b-test.false, c.loop-b.auto.b-end) in e)

@@ -1,7 +1,7 @@
-use Rattle.std.proofs.Common.{◌≡◌, ◌+◌, ◌-◌, ◌<◌, ◌≤◌, refl, sym, subst, arith, inl, inr}
+use Rattle.std.proofs.Common.{◌≡◌, ◌<◌, ◌≤◌, refl, subst, arith, inl, inr}
 use Rattle.std.proofs.lemmas.Bool.{cases_lt}
 use Rattle.ballot_base.proofs.Increasing.{IsIncreasing-higher}
-use Rattle.tie_walk.specs.Ceilings.{IsBound, IsShort}
+use Rattle.tie_walk.specs.Ceilings.{IsBound}
 use Rattle.tie_walk.proofs.Reaches.{reach-stopped, reach-whole}
 use Rattle.tie_walk.proofs.tally.Tally.reach.Goals as goal
 

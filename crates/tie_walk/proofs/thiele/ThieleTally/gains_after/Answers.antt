@@ -1,5 +1,5 @@
-use Rattle.std.proofs.Common.{◌≡◌, ℕ, ◌≤◌, ap, arith}
-use Rattle.tie_walk.specs.Values.{Thiele, thiele_of}
+use Rattle.std.proofs.Common.{◌≡◌, ap, arith}
+use Rattle.tie_walk.specs.Values.{Thiele}
 use Rattle.tie_walk.proofs.thiele.ThieleTally.gains_after.Goals as goal
 
 pub returns-clause-gains : goal.returns-clause-gains

@@ -1,4 +1,4 @@
-use Rattle.std.proofs.Common.{◌≡◌, ℕ, ◌+◌, ◌^◌, ◌≤◌, ◌<◌, ◌∙◌, Bool, true, false, cond, ap, sym, arith, get_or}
+use Rattle.std.proofs.Common.{◌≡◌, ℕ, ◌^◌, ◌≤◌, ◌∙◌, Bool, true, false, cond, ap, arith, get_or}
 use Rattle.ballot_base.specs.CandSet.{has_member}
 use Rattle.ballot_base.specs.Ballots.{Election}
 use Rattle.ballot_base.specs.Increments.{increments}

@@ -7,7 +7,7 @@ use Rattle.tie_walk.specs.Ceilings.{IsBound, ceiling, greatest_sum}
 use Rattle.tie_walk.specs.Sequences.{gain}
 use Rattle.tie_walk.specs.Values.{thiele_value, Thiele, thiele_of}
 use Rattle.tie_walk.proofs.GreatestSums.{ceiling-whole, whole-bounds}
-use Rattle.tie_walk.proofs.Gains.{gain-most, thiele-ceiling, thiele-fits, weights-small}
+use Rattle.tie_walk.proofs.Gains.{thiele-ceiling, thiele-fits}
 use Rattle.tie_walk.proofs.Submodular.{ceiling-bounds, thiele_rule-submodular}
 use Rattle.tie_walk.proofs.thiele.ThieleTallyTally.bound.Goals as goal
 

@@ -6,7 +6,7 @@ use Rattle.ballot_base.specs.Increments.{increments}
 use Rattle.ballot_base.proofs.Increasing.{IsIncreasing-higher}
 use Rattle.tie_walk.specs.Ceilings.{IsBound, ceiling, greatest_sum}
 use Rattle.tie_walk.specs.Steps.Tables.{IsLastReaching}
-use Rattle.tie_walk.specs.Values.{thiele_value, Thiele, thiele_of}
+use Rattle.tie_walk.specs.Values.{thiele_value, Thiele}
 use Rattle.tie_walk.proofs.Gains.{thiele-ceiling}
 use Rattle.tie_walk.proofs.GreatestSums.{ceiling-whole}
 use Rattle.tie_walk.proofs.Reaches.{reach-sums, reach-all, reach-none}

@@ -1,0 +1,121 @@
+//! Builders of profiles: what comes of each step, and growths that are refused.
+ghost use Rattle.std.specs.Prelude.{◌≡◌, ◌≤◌};
+ghost use Rattle.ballot_base.specs.Limits.{most_candidates};
+
+use super::support::{MANY, assert_outcome, has_refused};
+use ballot_base::{AddFault, CandSet, FinishFault, MOST_CANDIDATES, Profile, ProfileBuilder};
+use refusing_heap::Refusing;
+use std::alloc::{Allocator, Global};
+use std::process::Abort;
+
+/// A step of a builder for as many candidates as there may be.
+#[derive(Clone, Copy)]
+enum Step {
+    /// A candidate's name.
+    Name(u8, &'static [u8]),
+    /// A ballot of at least one voter. A list that is no set is the empty ballot.
+    Ballot(&'static [u8], u64),
+    /// A ballot of more voters than there may be with those before.
+    TooMany(&'static [u8], u64),
+}
+
+/// Steps with ballots of one set, of no candidates, and of as many voters as there may be.
+static BALLOTS: [Step; 6] = [
+    Step::Ballot(&[1, 2], 2),
+    Step::Ballot(&[3], 1),
+    Step::Ballot(&[1, 2], 3),
+    Step::Ballot(&[], 4),
+    Step::TooMany(&[3], 4_294_967_287),
+    Step::Ballot(&[3], 4_294_967_286),
+];
+
+/// Steps with names, and ballots of few voters.
+static NAMES: [Step; 5] = [
+    Step::Name(64, b"Red"),
+    Step::Ballot(&[7], 1),
+    Step::Ballot(&[64], 1),
+    Step::Name(7, b"Blue"),
+    Step::Ballot(&[7], 1),
+];
+
+/// Adds a ballot.
+fn add<A: Allocator + Copy + Drop>(
+    builder: &mut ProfileBuilder<A>,
+    list: &[u8],
+    voters: u64,
+) -> Result<(), AddFault>
+    requires { builder.old.m ≡ most_candidates }
+    ensures { builder.new.m ≡ most_candidates }
+{
+    let ballot = CandSet::of_list(list).unwrap_or(CandSet::empty());
+    ballot.valid();
+    builder.add(ballot, voters.max(1))
+}
+
+/// Takes a step, and says whether it is done, or not done for too many voters where these are.
+fn take<A: Allocator + Copy + Drop>(builder: &mut ProfileBuilder<A>, step: Step) -> bool
+    requires { builder.old.m ≡ most_candidates }
+    ensures { builder.new.m ≡ most_candidates }
+{
+    match step {
+        Step::Name(n, name) => builder.set_name(n.clamp(1, MOST_CANDIDATES), name).is_ok(),
+        Step::Ballot(list, voters) => add(builder, list, voters).is_ok(),
+        Step::TooMany(list, voters) => add(builder, list, voters) == Err(AddFault::TooManyVoters),
+    }
+}
+
+/// The profile that comes of these steps, each of which is taken once more where a growth was refused.
+fn built<'a>(rt: &impl Abort, heap: &'a Refusing, steps: &[Step]) -> Profile<&'a Refusing> {
+    let builder = ProfileBuilder::new(heap, MOST_CANDIDATES).expect(rt, "a builder");
+    let (fault, mut builder) = builder.finish().err().expect(rt, "no ballot was added");
+    assert!(rt; fault == FinishFault::NoVoters);
+    for (i, step) in steps.iter().enumerate() {
+        let is_done = take(&mut builder, *step) || has_refused(heap) && take(&mut builder, *step);
+        assert!(rt; is_done, "step {i}");
+    }
+    builder.finish().ok().expect(rt, "ballots were added")
+}
+
+/// Whether the numbers of rows and of voters, and each row, are those of the ballots.
+fn agrees_with_ballots(profile: &Profile<&Refusing>) -> bool {
+    let mut rows = 0usize;
+    let mut voters = 0u64;
+    for (ballot, count) in profile.ballots() {
+        if rows >= profile.rows() || profile.row(rows) != (ballot, count) {
+            return false;
+        }
+        rows = rows.saturating_add(1);
+        voters = voters.saturating_add(count);
+    }
+    rows == profile.rows() && voters == profile.voters()
+}
+
+/// Asserts which profile comes of these steps where the growth of this number is refused, and says whether it was.
+fn assert_built(rt: &impl Abort, alloc: Global, refused: u64, steps: &[Step], wanted: &str) -> bool
+    requires { 1 ≤ refused }
+{
+    let heap = Refusing::new(alloc, refused);
+    let profile = built(rt, &heap, steps);
+    assert!(rt; agrees_with_ballots(&profile), "growth {refused}");
+    assert_outcome(rt, alloc, Ok(profile), wanted, b"", refused);
+    has_refused(&heap)
+}
+
+#[test]
+fn profiles(rt: HostRuntime) {
+    let wanted = "64\n5: 1,2\n4294967287: 3\n4: ";
+    assert!(rt; !assert_built(&rt, rt.alloc(), MANY, &BALLOTS, wanted));
+}
+
+/// After a refused growth a builder is as it was, and the same step succeeds with memory.
+#[test]
+fn each_growth_of_a_builder(rt: HostRuntime) {
+    let wanted = "64\n7 Blue\n64 Red\n2: 7\n1: 64";
+    let mut growths = 0;
+    for n in 2..=MANY {
+        if assert_built(&rt, rt.alloc(), n, &NAMES, wanted) {
+            growths = n;
+        }
+    }
+    assert!(rt; growths > 3 && growths < MANY, "{growths} growths");
+}

@@ -1,0 +1,140 @@
+//! The program and its commands, as clap sees them.
+ghost use Rattle.std.specs.Prelude.{◌≡◌, IfOk, List, codes};
+ghost use Rattle.clap.specs.Words.{Rule as Argument};
+ghost use Rattle.request_words.specs.Names.{method_names, property_names, rule_names};
+ghost use Rattle.request_words.specs.Limits.{most_limit};
+ghost use Rattle.request_words.specs.Words.{check_over, elect_over, number_option, share_over, text_option};
+ghost use Rattle.request_words.specs.Steps.Commands.{AreArguments, AreShared, HasArguments, IsArgument, IsCommand, IsProgram};
+
+use crate::help;
+use crate::options::{file_word, flag_option, list_option, name_option, number_option};
+use crate::request::{MOST_LIMIT, MOST_WAY_NUMBER, Rule};
+use ballot_base::MOST_MEMBERS;
+use clap::{Arg, Command};
+use group_check::Property;
+use preflib_text::Kind;
+use seat_share::{MOST_SEATS, Method};
+use std::alloc::{AllocError, Global};
+
+/// The program with its commands.
+pub(crate) fn program<'a>(alloc: Global) -> Result<Command<'a>, AllocError>
+    ensures { IfOk result IsProgram }
+{
+    let commands = vec![in alloc; elect(alloc)?, check(alloc)?, share(alloc)?]?;
+    Command::new(alloc, "committees")
+        .about(
+            "Elects committees by the approval ballots of PrefLib files, checks them, and shares out seats",
+        )
+        .after_long_help(help::PROGRAM)
+        .subcommand_required(true)
+        .subcommands(commands)
+}
+
+/// The command `elect`.
+fn elect<'a>(alloc: Global) -> Result<Command<'a>, AllocError>
+    ensures { IfOk result (IsCommand rule_names elect_over) }
+{
+    let about = "Prints every committee that wins";
+    let rules = Rule::NAMES.as_slice();
+    let rule = "The rule by which committees win";
+    let most = u32::from(MOST_MEMBERS);
+    let size = "The number of seats to be filled";
+    let own = vec![in alloc;
+        name_option(alloc, "rule", "RULE", rules, rule).required(true),
+        number_option(alloc, "size", "SIZE", most, size).required(true),
+        after_option(alloc),
+        limit_option(alloc),
+    ]?;
+    command(alloc, "elect", about, help::ELECT, own)
+}
+
+/// The command `check`.
+fn check<'a>(alloc: Global) -> Result<Command<'a>, AllocError>
+    ensures { IfOk result (IsCommand property_names check_over) }
+{
+    let about =
+        "Tells whether a committee represents the voters, and prints a group that it leaves out";
+    let properties = Property::NAMES.as_slice();
+    let property = "The property that the committee is checked for";
+    let committee = "The members of the committee, as 2,3,5";
+    let own = vec![in alloc;
+        name_option(alloc, "property", "PROPERTY", properties, property).required(true),
+        list_option(alloc, "committee", committee).required(true),
+    ]?;
+    command(alloc, "check", about, help::CHECK, own)
+}
+
+/// The command `share`.
+fn share<'a>(alloc: Global) -> Result<Command<'a>, AllocError>
+    ensures { IfOk result (IsCommand method_names share_over) }
+{
+    let about = "Prints every way to share out seats among parties";
+    let methods = Method::NAMES.as_slice();
+    let method = "The method by which seats are shared out";
+    let most = u32::from(MOST_SEATS);
+    let seats = "The number of seats to share out";
+    let votes = "The votes of each party, as 53,24,23 [default: those of the ballots]";
+    let own = vec![in alloc;
+        name_option(alloc, "method", "METHOD", methods, method).required(true),
+        number_option(alloc, "seats", "SEATS", most, seats).required(true),
+        list_option(alloc, "votes", votes),
+        after_option(alloc),
+        limit_option(alloc),
+    ]?;
+    command(alloc, "share", about, help::SHARE, own)
+}
+
+/// A command with its own arguments, and after them those that all commands have.
+fn command<'a>(
+    alloc: Global,
+    name: &'a str,
+    about: &'a str,
+    help: &'a str,
+    own: Vec<Arg<'a>>,
+) -> Result<Command<'a>, AllocError>
+    ensures { (arguments : List Argument) → AreArguments arguments own.entry.items
+        → IfOk result (HasArguments name.now arguments) }
+{
+    Command::new(alloc, name)
+        .about(about)
+        .after_long_help(help)
+        .args(own)?
+        .args(shared_arguments(alloc)?)
+}
+
+/// The arguments that all commands have: how the ballots are read, whether names are printed, and `FILE`.
+fn shared_arguments<'a>(alloc: Global) -> Result<Vec<Arg<'a>>, AllocError>
+    ensures { IfOk result (λ arguments. AreShared arguments.items) }
+{
+    let kinds = Kind::NAMES.as_slice();
+    let kind = "The type of the file [default: its line DATA TYPE, or its ending]";
+    let category = "Approves category N of a cat file [default: the first]";
+    let set_size = "Approves the fewest first classes of a ranking that have N candidates";
+    let classes =
+        "Approves the first N classes of a ranking [default: the first that is not empty]";
+    let names = "Prints the names of the candidates beside their numbers";
+    Ok(vec![in alloc;
+        name_option(alloc, "kind", "KIND", kinds, kind),
+        number_option(alloc, "category", "N", MOST_WAY_NUMBER, category),
+        number_option(alloc, "setsize", "N", MOST_WAY_NUMBER, set_size),
+        number_option(alloc, "classes", "N", MOST_WAY_NUMBER, classes),
+        flag_option(alloc, "names", names),
+        file_word(alloc),
+    ]?)
+}
+
+/// The option that tells after which answer the others start.
+fn after_option<'a>(alloc: Global) -> Arg<'a>
+    ensures { IsArgument (text_option (codes "after")) result }
+{
+    let help = "Prints only the answers that come after this one, as 2,3,5";
+    list_option(alloc, "after", help)
+}
+
+/// The option that tells how many answers are printed at most.
+fn limit_option<'a>(alloc: Global) -> Arg<'a>
+    ensures { IsArgument (number_option (codes "limit") most_limit) result }
+{
+    let help = "Prints N answers at most, and whether there are more [default: all]";
+    number_option(alloc, "limit", "N", MOST_LIMIT, help)
+}

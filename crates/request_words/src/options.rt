@@ -1,0 +1,69 @@
+//! The arguments of the commands, as clap sees them.
+ghost use Rattle.request_words.specs.Steps.Commands.{IsArgument};
+ghost use Rattle.request_words.specs.Words.{file_word, flag_option, name_option, number_option, text_option};
+
+use clap::{Arg, ArgAction, value_parser};
+use std::alloc::Global;
+
+/// An option that takes a list of numbers.
+pub(crate) fn list_option<'a>(alloc: Global, name: &'a str, help: &'a str) -> Arg<'a>
+    ensures { IsArgument (text_option name.now) result }
+{
+    Arg::new(alloc, name)
+        .long(name)
+        .value_name("LIST")
+        .help(help)
+}
+
+/// An option that takes a number from 1 to `most`.
+pub(crate) fn number_option<'a>(
+    alloc: Global,
+    name: &'a str,
+    value: &'a str,
+    most: u32,
+    help: &'a str,
+) -> Arg<'a>
+    ensures { IsArgument (number_option name.now most) result }
+{
+    Arg::new(alloc, name)
+        .long(name)
+        .value_name(value)
+        .value_parser(value_parser!(u32).range(1..=i64::from(most)))
+        .help(help)
+}
+
+/// An option that takes one of these names.
+pub(crate) fn name_option<'a>(
+    alloc: Global,
+    name: &'a str,
+    value: &'a str,
+    names: &'a [&'a str],
+    help: &'a str,
+) -> Arg<'a>
+    ensures { IsArgument (name_option name.now names.entry) result }
+{
+    Arg::new(alloc, name)
+        .long(name)
+        .value_name(value)
+        .value_parser(names)
+        .help(help)
+}
+
+/// An option without a value.
+pub(crate) fn flag_option<'a>(alloc: Global, name: &'a str, help: &'a str) -> Arg<'a>
+    ensures { IsArgument (flag_option name.now) result }
+{
+    Arg::new(alloc, name)
+        .long(name)
+        .action(ArgAction::SetTrue)
+        .help(help)
+}
+
+/// The word `FILE`.
+pub(crate) fn file_word<'a>(alloc: Global) -> Arg<'a>
+    ensures { IsArgument file_word result }
+{
+    Arg::new(alloc, "file")
+        .value_name("FILE")
+        .help("The ballots, a PrefLib file [default: standard input]")
+}
