@@ -37,10 +37,6 @@ collapse_three true b true false p q r = absurd (never r)
 collapse_two : (b c d : Bool) → c ≡ true → d ≡ true → ((b && c) && d) ≡ b
 collapse_two b c d q r = collapse_three true b c d refl q r
 
--- what is known of the group of T and U
-pair_ballots : (property : Property) (e : Election) (committee : List ℕ) (level : ℕ) (pair : List ℕ × List ℕ) → List (List ℕ)
-pair_ballots property e committee level pair = member_ballots e.rows (pair_group property e committee level pair)
-
 -- the whole group of T and U breaks the property where it is large enough
 pub pair_breaks-is : (property : Property) (e : Election) (committee : List ℕ) (level : ℕ) (shared within : List ℕ)
     → IsIncreasing 1 e.m committee → 1 ≤ level → level ≤ greatest_level property committee → IsFirst property e.m committee level shared → IsSecond property e.m level within

@@ -1,6 +1,6 @@
 -- The first violation of several pairs, and of one.
-use Rattle.std.proofs.Common.{◌≡◌, ℕ, ◌≤◌, ◌++◌, Bool, true, false, cond, List, [], ◌∷◌, Option, Some, None, refl, sym, ap, ◌∙◌, arith, length, sum}
-use Rattle.std.specs.Prelude.{find, is_some, option_map, flat_map}
+use Rattle.std.proofs.Common.{◌≡◌, ℕ, ◌≤◌, ◌++◌, Bool, true, false, cond, List, [], ◌∷◌, Option, Some, None, refl, ap, ◌∙◌, arith, length, sum}
+use Rattle.std.specs.Prelude.{find, is_some, option_map}
 use Rattle.std.specs.Bool.{then_some}
 use Rattle.std.specs.Option.{option_or}
 use Rattle.std.proofs.lemmas.List.Folds.{find-append}
@@ -10,7 +10,7 @@ use Rattle.group_check.specs.declared.property.Property.{Property}
 use Rattle.group_check.specs.declared.property.Property.TheVariants.{Jr, Pjr, Ejr, EjrPlus}
 use Rattle.group_check.specs.declared.property.Violation.{Violation}
 use Rattle.group_check.specs.Report.{pair_group, pair_breaks, violation_of}
-use Rattle.group_check.specs.Steps.Checking.{greatest_level, IsFirst, IsSecond, first_of, pairs_of, is_large}
+use Rattle.group_check.specs.Steps.Checking.{greatest_level, IsFirst, IsSecond, first_of, is_large}
 use Rattle.group_check.proofs.BreakLemmas.{pair_breaks-is}
 
 -- the violation of these voters
@@ -71,10 +71,3 @@ greatest_level-le Jr (x ∷ xs) some = omega arith
 greatest_level-le Pjr committee some = omega arith
 greatest_level-le Ejr committee some = omega arith
 greatest_level-le EjrPlus committee some = omega arith
-
--- the pairs of the first T come first
-pub first_of-step : (property : Property) (e : Election) (committee : List ℕ) (level : ℕ) (lists sets : List (List ℕ)) (shared : List ℕ) (rest : List (List ℕ)) → sets ≡ shared ∷ rest
-    → option_or (first_of property e committee level (pairs_of shared lists)) (first_of property e committee level (flat_map (λ first. pairs_of first lists) rest))
-    ≡ first_of property e committee level (flat_map (λ first. pairs_of first lists) sets)
-first_of-step property e committee level lists sets shared rest steps =
-    rw steps (sym (first_of-append property e committee level (pairs_of shared lists) (flat_map (λ first. pairs_of first lists) rest)))

@@ -81,7 +81,8 @@ impl<'a, A: Allocator + Copy> NearTally<'a, A> {
         requires within { c ≤ self.now.election.m }
         requires candidates { IsIncreasing 1 c set }
         requires fits { left ≤ self.now.election.m - c }
-        ensures witnessed { IsWitnessed (closeness_by self.now) self.now.election.m set left (best_closeness self.now) c result }
+        ensures witnessed { IsWitnessed (closeness_by self.now) self.now.election.m set left
+            (best_closeness self.now) c result }
         ensures none { result ≡ c → is_reached (closeness_by self.now) self.now.election.m c set left
             (best_closeness self.now) ≡ false }
     {

@@ -543,9 +543,6 @@ line_after before number TooManyVoters h = omega (arith, h)
 line_after before number PickMisfit h = omega (arith, h)
 line_after before number Memory h = omega (arith, h)
 
-pub late_fault : (before number : ℕ) (name : FaultName) (fault : ReadFault) → before ≤ number → fault ≡ at_line (number + 1) name → IfSome fault.line (λ n. before < n)
-late_fault before number name fault h is = subst (λ (f : ReadFault). IfSome f.line (λ n. before < n)) (sym is) (line_after before number name h)
-
 -- the bytes before the first LF, and those after it
 pub cut_at_end : (rest : List ℕ) (at : ℕ) → at < length rest → (get_or rest at 0 == 10) ≡ true → take at rest ++ 10 ∷ take (length rest - (at + 1)) (drop (at + 1) rest) ≡ rest
 cut_at_end rest at within is =
@@ -585,9 +582,6 @@ module _ (pick : Pick) (all pre rest : List ℕ) (notes : Notes) (e : Election) 
 
     pub loop_long : (fault : ReadFault) → is_too_long (unmarked number (held ++ rest)) ≡ true → fault ≡ at_line (number + 1) LongLine → IsTrue (feeding pick all (Some fault))
     loop_long fault long fault_is = subst (λ l. IsTrue (feeding pick l (Some fault))) joined (long_refused pick pre notes e number held fed rest fault content long fault_is)
-
-  pub loop_done : (length rest == 0) ≡ true → IsFed pick all notes e number held
-  loop_done empty = subst (λ l. IsFed pick l notes e number held) (sym (append-nil pre) ∙ ap (λ l. pre ++ l) (sym (none_left rest empty)) ∙ joined) fed
 
 -- ---- the end of the input
 

@@ -68,8 +68,8 @@ file_word = record (new_rule (codes "file")) { value_names = 1 }
 -- what all commands take: how the ballots are read, where they are, and whether names are printed
 abbrev pub input_arguments : Names → List Argument
 input_arguments kinds = name_option (codes "kind") kinds ∷ number_option (codes "category") most_way_number
-    ∷ number_option (codes "setsize") most_way_number ∷ number_option (codes "classes") most_way_number ∷ flag_option (codes "names")
-    ∷ file_word ∷ []
+    ∷ number_option (codes "setsize") most_way_number ∷ number_option (codes "classes") most_way_number
+    ∷ flag_option (codes "names") ∷ file_word ∷ []
 
 -- what the commands take that print lists of answers: which of them
 abbrev pub page_arguments : List Argument

@@ -209,15 +209,6 @@ pub record HasGiven (claims : ℕ → ℕ → Quotient) (most : ℕ) (old : List
   pub seats : seats_of cs ≡ given
 
 module _ (claims : ℕ → ℕ → Quotient) (most : ℕ) (falls : (v s : ℕ) → 0 < v → s < most → is_at_least (claims v (s + 1)) (claims v s) ≡ false) where
-  pub seat-fits : (cs : List Contender) (first : Claimant) (d : Contender) (given : ℕ) → seats_of cs ≡ given → IsGreatest claims cs (Some first) → (get_or cs first.place d).seats ≤ given
-  seat-fits cs first d given seats (before, c, after, split, count, votes, own, all) =
-      let here : get_or cs first.place d ≡ c = ap (λ l. get_or l first.place d) split ∙ ap (λ n. get_or (before ++ c ∷ after) n d) (sym count) ∙ get-middle before after c d in
-      let same : seats_of (before ++ c ∷ after) ≡ given = ap seats_of (sym split) ∙ seats in
-      omega (arith, ap (λ (e : Contender). e.seats) here, same, member-seats before after c)
-
-  pub place-fits : (cs : List Contender) (first : Claimant) → IsGreatest claims cs (Some first) → first.place < length cs
-  place-fits cs first (before, c, after, split, count, votes, own, all) = omega (arith, count, ap length split, length-middle before after c)
-
   pub given-more : (old : List ℕ) (low : Quotient) (cs : List Contender) (given : ℕ) (first : Claimant) (d : Contender) → HasGiven claims most old low cs given → given < most → IsGreatest claims cs (Some first)
       → HasGiven claims most old first.quotient (set cs first.place (raised claims most falls (get_or cs first.place d))) (given + 1)
   given-more old low cs given first d has room (before, c, after, split, count, votes, own, all) =

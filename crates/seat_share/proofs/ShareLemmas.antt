@@ -29,11 +29,6 @@ module _ {X : Type 0} where
   all-set P (x ∷ xs) zero y all h = (h, all.1)
   all-set P (x ∷ xs) (suc i) y all h = (all.0, all-set P xs i y all.1 h)
 
-  pub all-take : (P : X → Type 0) (xs : List X) (n : ℕ) → AllByRecursion P xs → AllByRecursion P (take n xs)
-  all-take P xs zero all = tt
-  all-take P [] (suc n) all = tt
-  all-take P (x ∷ xs) (suc n) all = (all.0, all-take P xs n all.1)
-
   take-set : (xs : List X) (i : ℕ) (y : X) → i < length xs → take (suc i) (set xs i y) ≡ take i xs ++ y ∷ []
   take-set [] i y less = impossible (omega (arith, less))
   take-set (x ∷ xs) zero y less = refl

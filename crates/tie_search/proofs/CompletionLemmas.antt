@@ -44,9 +44,6 @@ without-is set n x h = (and-true (not (x == n)) (has_member set x) (sym (member-
 pub without-not : (set : List ℕ) (n x : ℕ) → has_member (without_member set n) x ≡ true → x ≡ n → ⊥
 without-not set n x h = without-other n x (and-true (not (x == n)) (has_member set x) (sym (member-without set n x) ∙ h)).0
 
-pub without-stays : (set : List ℕ) (n x : ℕ) → has_member set x ≡ true → (x ≡ n → ⊥) → has_member (without_member set n) x ≡ true
-without-stays set n x here other = member-without set n x ∙ ap (λ b. not b && has_member set x) (ne_eqb x n other) ∙ here
-
 with-stays : (set : List ℕ) (n x : ℕ) → (x ≡ n → ⊥) → has_member (with_member set n) x ≡ has_member set x
 with-stays set n x other = has_member-with_member set n x ∙ ap (λ b. b || has_member set x) (ne_eqb n x (λ e. other (sym e)))
 

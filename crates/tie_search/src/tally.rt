@@ -144,8 +144,9 @@ impl<'a, A: Allocator + Copy> SearchTally<'a, A> {
         requires within { c ≤ self.now.election.m }
         requires candidates { IsIncreasing 1 c set }
         requires fits { left ≤ self.now.election.m - c }
-        ensures { IsReachedTo (tally_value self.now) (λ c set left. exact_bound (tally_value self.now) self.now.election.m
-            self.now.k c set left) self.now.election.m set left best c result }
+        ensures { IsReachedTo (tally_value self.now) (λ c set left.
+            exact_bound (tally_value self.now) self.now.election.m self.now.k c set left)
+            self.now.election.m set left best c result }
     {
         self.values.valid();
         if set.len() + left == self.k && best == self.best {

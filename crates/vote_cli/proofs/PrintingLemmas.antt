@@ -4,7 +4,7 @@ use Rattle.std.specs.Prelude.{◌==◌, is_ok, IsErr, flat_map}
 use Rattle.std.specs.Io.KnownBytes.{Appends, Keeps}
 use Rattle.std.proofs.KnownBytes.{Appends-nil, Appends-trans}
 use Rattle.std.proofs.Math.Seq.{take-add, drop-cons}
-use Rattle.std.proofs.lemmas.List.{take_rest, take_all}
+use Rattle.std.proofs.lemmas.List.{take_rest}
 use Rattle.vote_cli.specs.Steps.Printing.{Outlet, Passes, Prints, Sends}
 use Rattle.vote_cli.specs.declared.printing.Printer.{Printer}
 
@@ -119,21 +119,6 @@ module _ {W : Type 0} {contents : W → Option (List ℕ)} {has_failed : W → B
       → Prints contents has_failed b c ok y → Prints contents has_failed a c ok z
   Prints-last same first second = Prints-as (sym same) (Prints-then first second)
 
-  -- what waited was sent
-  pub Prints-sent : {a b : Printer W} {ok : Bool} → b.out.ghost_name ≡ a.out.ghost_name → (ok ≡ true → b.pending ≡ [])
-      → Sends contents has_failed a.out.now b.out.now ok a.pending → Prints contents has_failed a b ok []
-  Prints-sent {a} {b} {ok} same none h = record {
-    same_writer = same;
-    passed = record {
-      sent = h.sent;
-      rest = h.rest;
-      order = h.order ∙ sym (append-nil a.pending);
-      took = h.took;
-      whole = λ e. ((h.whole e).0 ∙ sym (none e), (h.whole e).1);
-      broken = h.broken;
-    };
-  }
-
   -- nothing waits, and a text was sent
   pub Prints-straight : {a b : Printer W} {x : List ℕ} {ok : Bool} → b.out.ghost_name ≡ a.out.ghost_name → a.pending ≡ [] → b.pending ≡ a.pending
       → Sends contents has_failed a.out.now b.out.now ok x → Prints contents has_failed a b ok x
@@ -218,15 +203,4 @@ Passes-part a b c xs s before after first second failed = record {
   took = subst (Appends a c) (append-nil (take s xs)) (Appends-trans a b c _ _ first second);
   whole = λ e. absurd (true≢false (sym e));
   broken = λ e. failed;
-}
-
--- and here it came to the end
-pub Passes-whole : (a b : Option (List ℕ)) (xs : List ℕ) (s : ℕ) (before after : Bool) → length xs ≤ s → Appends a b (take s xs) → after ≡ before → Passes (alone a before) (alone b after) true xs
-Passes-whole a b xs s before after end first same = record {
-  sent = xs;
-  rest = [];
-  order = append-nil xs;
-  took = subst (Appends a b) (take_all s xs end) first;
-  whole = λ e. (refl, same);
-  broken = λ e. absurd (true≢false e);
 }

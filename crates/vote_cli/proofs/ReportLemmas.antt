@@ -1,5 +1,5 @@
 -- The text of a report, in the parts that are printed one after the other.
-use Rattle.std.proofs.Common.{◌≡◌, ◌⊎◌, inl, inr, ℕ, Bool, true, false, cond, List, [], ◌∷◌, ◌++◌, sym, ap, ◌∙◌, append_assoc, append-nil}
+use Rattle.std.proofs.Common.{◌≡◌, ◌⊎◌, inl, inr, ℕ, Bool, false, cond, List, [], ◌∷◌, ◌++◌, sym, ap, ◌∙◌, append_assoc, append-nil}
 use Rattle.std.specs.Prelude.{codes, decimal, flat_map, filter}
 use Rattle.std.proofs.lemmas.Grind.{flat_map-append}
 use Rattle.std.proofs.lemmas.List.Elements.{filter-append}
@@ -26,10 +26,6 @@ row_parts names ballot count =
 
 module _ (names : Naming) (violation : Violation) where
   -- ---- the ballots of a group
-
-  -- a ballot in the group, and one outside
-  pub group_text-in : (row : Row) → is_in_group violation row.0 ≡ true → group_text names violation (row ∷ []) ≡ row_text names row
-  group_text-in row inside = ap (λ b. flat_map (row_text names) (cond b (row ∷ []) [])) inside ∙ append-nil (row_text names row)
 
   pub group_text-out : (row : Row) → is_in_group violation row.0 ≡ false → group_text names violation (row ∷ []) ≡ []
   group_text-out row outside = ap (λ b. flat_map (row_text names) (cond b (row ∷ []) [])) outside

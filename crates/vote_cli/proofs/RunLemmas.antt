@@ -25,13 +25,13 @@ use Rattle.vote_cli.specs.declared.refusal.Refusal.{Refusal}
 use Rattle.vote_cli.specs.declared.refusal.Refusal.TheVariants.{Input, Request, Memory, ReadFailed, WriteFailed}
 use Rattle.vote_cli.specs.declared.status.Status.{Status}
 use Rattle.vote_cli.specs.declared.status.Status.TheVariants as status
-use Rattle.request_words.specs.Request.{Asked, Demand, Paging}
+use Rattle.request_words.specs.Request.{Asked, Demand, Paging, checking, electing, sharing}
 use Rattle.vote_cli.specs.FaultText.{fault_text}
 use Rattle.vote_cli.specs.Device.{ReaderState}
 use Rattle.vote_cli.specs.Names.{Naming, naming}
 use Rattle.vote_cli.specs.Steps.RequestFaults.{request_fault_word}
-use Rattle.vote_cli.specs.Answer.{Answer, Ends, IsAnswer, IsAnswerOver, IsAnswerTo, IsAllRead, IsCheckAnswer, IsCommittee, IsTooLong, ReadsAll, Reports, TellsOfDevices, ballots_answer, has_votes, input_for, share_answer, answered, request_refused, refused, violated}
-use Rattle.vote_cli.specs.Steps.Printing.{Outlet, Passes}
+use Rattle.vote_cli.specs.Answer.{Answer, Ends, IsAnswer, IsAnswerAbout, IsAnswerOver, IsAnswerTo, IsCheckAnswer, IsCommittee, IsTooLong, ReadsAll, Reports, TellsOfDevices, ballots_answer, has_votes, input_for, share_answer, answered, request_refused, refused, violated}
+use Rattle.vote_cli.specs.Steps.Printing.{Passes}
 use Rattle.vote_cli.proofs.PrintingLemmas.{alone}
 use Rattle.vote_cli.specs.Steps.Refusals.{WritesRight, IsRefusal, IsWritten, ReadsBallots, ReadsOn, TellsOfReads, TellsOfWrites, error_of, status_of, outcome_status}
 
@@ -42,10 +42,6 @@ Reports-nothing taken has_failed = record { beginning = ([], [], refl, Appends-n
 -- a text that was printed with nothing left waiting
 Passes-all : {old new : Option (List ℕ)} {had_failed has_failed : Bool} {text : List ℕ} → Passes (alone old had_failed) (alone new has_failed) true text → Appends old new text
 Passes-all {old} {new} h = subst (Appends old new) (sym (append-nil h.sent) ∙ ap (λ rest. h.sent ++ rest) (sym (h.whole refl).0) ∙ h.order) h.took
-
--- the same text in other words
-pub printed_as : {a b : Outlet} {ok : Bool} {x y : List ℕ} → x ≡ y → Passes a b ok x → Passes a b ok y
-printed_as {a} {b} {ok} {x} {y} same h = subst (Passes a b ok) same h
 
 module _ (IsRight : Answer → Type 0) {old new : Option (List ℕ)} {had_failed has_failed : Bool} where
   -- the text of a right answer was printed
@@ -90,9 +86,13 @@ writes_wider P Q old new (Err WriteFailed) wider h = (h.0, wider h.0 h.1, h.2)
 is_answer : (asked : Asked) (demand : Demand) → demand ≡ asked.demand → (bytes : List ℕ) (answer : Answer) → IsAnswerTo asked.names demand asked.pick bytes answer → IsAnswer asked bytes answer
 is_answer asked demand same bytes answer h = subst (λ d. IsAnswerTo asked.names d asked.pick bytes answer) same h
 
--- the demands that are answered over ballots: each answer that is right of the election is the demand's
-abbrev IsOver : Bool → Demand → (Election → Answer → Type 0) → Type 0
-IsOver with_names demand IsRight = (pick : Pick) (bytes : List ℕ) (answer : Answer) → IsAnswerOver IsRight pick bytes answer → IsAnswerTo with_names demand pick bytes answer
+-- the answer about the ballots that were read is the answer to a demand without votes
+answers_over : (with_names : Bool) (demand : Demand) (pick : Pick) (bytes : List ℕ) (answer : Answer) → has_votes demand ≡ false
+    → IsAnswerOver (IsAnswerAbout with_names demand) pick bytes answer → IsAnswerTo with_names demand pick bytes answer
+answers_over with_names (electing rule size page) pick bytes answer free h = h
+answers_over with_names (checking property list) pick bytes answer free h = h
+answers_over with_names (sharing method seats None page) pick bytes answer free h = h
+answers_over with_names (sharing method seats (Some votes) page) pick bytes answer free h = absurd (true≢false free)
 
 -- the answer about the votes of ballots that approve one candidate at most
 pub writes_ballots : (method : Method) (seats : ℕ) (page : Paging) (with_names : Bool) (e : Election) (names : Naming) (votes : List ℕ) (old new : Option (List ℕ)) (result : Result Outcome Refusal)
@@ -123,10 +123,15 @@ needs_input asked demand remaining P free demanded h =
     subst (λ known. IfSome known P)
     (ap (λ b. if b then Some [] else remaining) (sym free) ∙ ap (λ d. input_for d remaining) demanded) h
 
-module _ (known : Option (List ℕ)) (asked : Asked) (demand : Demand) (IsRight : Election → Answer → Type 0) (pick : Pick)
-    (free : has_votes demand ≡ false) (over : IsOver asked.names demand IsRight) (demanded : demand ≡ asked.demand) (picked : pick ≡ asked.pick) (old new : Option (List ℕ)) where
+module _ (known : Option (List ℕ)) (asked : Asked) (demand : Demand) (demanded : demand ≡ asked.demand) (free : has_votes demand ≡ false)
+    (pick : Pick) (picked : pick ≡ asked.pick) (with_names : Bool) (named : with_names ≡ asked.names) (old new : Option (List ℕ)) where
+  abbrev IsRight : Election → Answer → Type 0
+  IsRight = IsAnswerAbout with_names demand
+
   right : (bytes : List ℕ) (answer : Answer) → IsAnswerOver IsRight pick bytes answer → IsAnswer asked bytes answer
-  right bytes answer h = is_answer asked demand demanded bytes answer (subst (λ p. IsAnswerTo asked.names demand p bytes answer) picked (over pick bytes answer h))
+  right bytes answer h = is_answer asked demand demanded bytes answer
+      (subst (λ n. IsAnswerTo n demand asked.pick bytes answer) named
+      (subst (λ p. IsAnswerTo with_names demand p bytes answer) picked (answers_over with_names demand pick bytes answer free h)))
 
   -- an answer that is right of the election that was read
   pub writes_over : (e : Election) (read : Result Election Refusal) (result : Result Outcome Refusal) → read ≡ Ok e
@@ -156,14 +161,6 @@ module _ (known : Option (List ℕ)) (asked : Asked) (demand : Demand) (IsRight 
       go (Some bytes) Memory h = kept
       go (Some bytes) ReadFailed h = kept
       go (Some bytes) WriteFailed h = elim h [ ]
-
--- an answer that needs no input
-pub writes_alone : (known : Option (List ℕ)) (asked : Asked) (demand : Demand) (P : Answer → Type 0) (old new : Option (List ℕ)) (result : Result Outcome Refusal)
-    → ((pick : Pick) (bytes : List ℕ) (answer : Answer) → P answer → IsAnswerTo asked.names demand pick bytes answer) → demand ≡ asked.demand
-    → WritesRight P old new result → IfSome known (λ bytes. WritesRight (IsAnswer asked bytes) old new result)
-writes_alone None asked demand P old new result is same h = tt
-writes_alone (Some bytes) asked demand P old new result is same h =
-    writes_wider P (IsAnswer asked bytes) old new result (λ answer it. is_answer asked demand same bytes answer (is asked.pick bytes answer it)) h
 
 -- bytes of which so many were read are too many
 pub too_many : (before after : Option (List ℕ)) (read : List ℕ) → Consumes before after read → word_limit ≤ length read → IfSome before IsTooLong
@@ -248,34 +245,7 @@ whole_has_memory outcome.Answered code is none = let h : status.Answered ≡ sta
 whole_has_memory outcome.Violated code is none = let h : status.Violated ≡ status.NoMemory = sym is ∙ none in cc
 
 module _ (before after : Option (List ℕ)) where
-  -- what was read to its end stays so, whatever comes after
-  pub reads_on : (result : Result Outcome Refusal) → IsAllRead before after → ReadsOn before after result
-  reads_on (Ok ended) all = all
-  reads_on (Err (Input fault)) all = all
-  reads_on (Err (Request fault)) all = all
-  reads_on (Err Memory) all = tt
-  reads_on (Err ReadFailed) all = tt
-  reads_on (Err WriteFailed) all = all
-
-  -- the same of ballots that were read
-  pub reads_through : (e : Election) (read : Result Election Refusal) (result : Result Outcome Refusal) → read ≡ Ok e
-      → ReadsOn before after read → ReadsOn before after result
-  reads_through e read result was h = reads_on result (subst (ReadsOn before after) was h)
-
-  -- and of those that were not
-  pub reads_passed : (refusal : Refusal) (read : Result Election Refusal) (result : Result Outcome Refusal) → read ≡ Err refusal
-      → IsErr result × IsErrAnd result (λ f. f ≡ refusal) → ReadsOn before after read → ReadsOn before after result
-  reads_passed refusal read (Ok outcome) was is h = absurd (true≢false (sym is.0))
-  reads_passed refusal read (Err passed) was is h = go passed (subst (ReadsOn before after) (was ∙ ap Err (sym is.1)) h)
-    where
-      go : (r : Refusal) → ReadsOn {T = Election} before after (Err r) → ReadsOn {T = Outcome} before after (Err r)
-      go (Input fault) h = h
-      go (Request fault) h = h
-      go Memory h = h
-      go ReadFailed h = h
-      go WriteFailed h = h
-
-  -- a run that ended with a outcome, or with a refusal
+  -- a run that ended with an outcome, or with a refusal
   pub reads_all_whole : (ended : Outcome) (status : Status) → status ≡ outcome_status ended
       → ReadsOn {T = Outcome} before after (Ok ended) → ReadsAll status before after
   reads_all_whole outcome.Answered status is h = subst (λ s. ReadsAll s before after) (sym is) h

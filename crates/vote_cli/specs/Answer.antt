@@ -97,15 +97,23 @@ abbrev pub IsAnswerOver : (Election → Answer → Type 0) → Pick → List ℕ
 IsAnswerOver IsRight pick bytes answer = (read : Result Election ReadFault) × Reads bytes pick read
     × MatchResult read (λ election. IsRight election answer) (λ fault. answer ≡ refused InputRefused (fault_text fault))
 
--- the answer to a demand, with names or not; with votes in the words, the bytes do not matter, and no party has a name
+-- the answer to a demand about an election, with names or not; with votes in the words, the election does not matter,
+-- and no party has a name
+abbrev pub IsAnswerAbout : Bool → Demand → Election → Answer → Type 0
+IsAnswerAbout with_names (electing rule size page) election answer =
+    answer ≡ election_answer rule size page with_names election
+IsAnswerAbout with_names (checking property list) election answer =
+    IsCheckAnswer property list with_names election answer
+IsAnswerAbout with_names (sharing method seats None page) election answer =
+    answer ≡ ballots_answer method seats page with_names election
+IsAnswerAbout with_names (sharing method seats (Some votes) page) election answer =
+    answer ≡ share_answer method seats page (naming with_names []) votes
+
+-- the answer to a demand and the bytes of an input; with votes in the words, the bytes do not matter
 abbrev pub IsAnswerTo : Bool → Demand → Pick → List ℕ → Answer → Type 0
-IsAnswerTo with_names (electing rule size page) =
-    IsAnswerOver (λ election answer. answer ≡ election_answer rule size page with_names election)
-IsAnswerTo with_names (checking property list) = IsAnswerOver (IsCheckAnswer property list with_names)
-IsAnswerTo with_names (sharing method seats None page) =
-    IsAnswerOver (λ election answer. answer ≡ ballots_answer method seats page with_names election)
-IsAnswerTo with_names (sharing method seats (Some votes) page) =
-    λ pick bytes answer. answer ≡ share_answer method seats page (naming with_names []) votes
+IsAnswerTo with_names (sharing method seats (Some votes) page) pick bytes answer =
+    answer ≡ share_answer method seats page (naming with_names []) votes
+IsAnswerTo with_names demand pick bytes answer = IsAnswerOver (IsAnswerAbout with_names demand) pick bytes answer
 
 -- the answer to a request and the bytes of an input
 abbrev pub IsAnswer : Asked → List ℕ → Answer → Type 0
@@ -192,7 +200,8 @@ module _ (asked : Asked) (bytes : List ℕ) (out_old out_new err_old err_new : O
 
 -- What the devices tell after a run that ended with this status, whether or not they tell their bytes: which of them
 -- failed, where one did, and the line on it.
-abbrev pub TellsOfDevices : Option (List ℕ) → Status → ReaderState → ReaderState → Bool → Bool → (List ℕ → Type 0) → Type 0
+abbrev pub TellsOfDevices : Option (List ℕ) → Status → ReaderState → ReaderState → Bool → Bool → (List ℕ → Type 0)
+    → Type 0
 TellsOfDevices bytes DeviceFailed read_old read_new out_old out_new Says =
     (BlamesReader bytes read_old read_new out_old out_new × Says read_failed_line)
     ⊎ (BlamesWriter read_old read_new out_old out_new × Says write_failed_line)

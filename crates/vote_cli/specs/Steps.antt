@@ -1,4 +1,5 @@
 pub mod Input
+pub mod Limits
 pub mod Names
 pub mod Numbers
 pub mod Printing

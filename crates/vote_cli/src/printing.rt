@@ -6,7 +6,7 @@ use crate::device::Sink;
 use std::marker::Model;
 
 /// How many bytes wait at most.
-const ROOM: usize = 32768;
+const MOST_PENDING: usize = 32768;
 
 /// A call of the writer failed.
 #[derive(Clone, Copy, Debug, PartialEq, Eq)]
@@ -15,18 +15,19 @@ pub(crate) struct WriteFailed;
 /// Bytes that wait until there are enough of them for a write.
 #[derive(Drop)]
 pub(crate) struct Pending {
-    bytes: [u8; ROOM],
+    bytes: [u8; MOST_PENDING],
     len: usize,
 }
 
 impl Model for Pending {
     ghost use Rattle.std.specs.Prelude.{ℕ, ◌≤◌, List, take};
+    ghost use Rattle.vote_cli.specs.Steps.Limits.{most_pending};
 
     ghost Value = { List ℕ };
 
     ghost view = { λ waiting. take waiting.len waiting.bytes };
 
-    ghost invariant = { λ waiting. waiting.len ≤ 32768 };
+    ghost invariant = { λ waiting. waiting.len ≤ most_pending };
 }
 
 impl Pending {
@@ -35,14 +36,14 @@ impl Pending {
         ensures { result ≡ [] }
     {
         Pending {
-            bytes: [0; ROOM],
+            bytes: [0; MOST_PENDING],
             len: 0,
         }
     }
 
     fn len(&self) -> usize
         ensures count { result ≡ length self.now }
-        ensures room { result ≤ ROOM }
+        ensures room { result ≤ MOST_PENDING }
     {
         self.len
     }
@@ -60,7 +61,7 @@ impl Pending {
     }
 
     fn push(&mut self, bytes: &[u8])
-        requires { length self.old + length bytes.now ≤ ROOM }
+        requires { length self.old + length bytes.now ≤ MOST_PENDING }
         ensures { self.new ≡ self.old ++ bytes.now }
     {
         let end = self.len + bytes.len();
@@ -102,10 +103,10 @@ impl<'a, W: Sink> Printer<'a, W> {
     /// Sends what waits where `count` bytes more do not fit after it.
     fn make_room(&mut self, count: usize) -> Result<(), WriteFailed>
         ensures printed { Prints W.contents W.has_failed self.old self.new (is_ok result) [] }
-        ensures room { is_ok result ≡ true → count ≤ ROOM → length self.new.pending + count ≤ ROOM }
-        ensures nothing { is_ok result ≡ true → ROOM < count → self.new.pending ≡ [] }
+        ensures room { is_ok result ≡ true → count ≤ MOST_PENDING → length self.new.pending + count ≤ MOST_PENDING }
+        ensures nothing { is_ok result ≡ true → MOST_PENDING < count → self.new.pending ≡ [] }
     {
-        if count <= ROOM - self.pending.len() {
+        if count <= MOST_PENDING - self.pending.len() {
             return Ok(());
         }
         self.send()
@@ -116,7 +117,7 @@ impl<'a, W: Sink> Printer<'a, W> {
         ensures { Prints W.contents W.has_failed self.old self.new (is_ok result) bytes.now }
     {
         self.make_room(bytes.len())?;
-        if bytes.len() > ROOM {
+        if bytes.len() > MOST_PENDING {
             return write_whole(self.out, bytes);
         }
         self.pending.push(bytes);

@@ -1,14 +1,13 @@
 //! A whole run, from the bytes of the input to the bytes of the answer.
-ghost use Rattle.std.specs.Prelude.{◌≡◌, ◌≢◌, Err, IfSome, true, false};
+ghost use Rattle.std.specs.Prelude.{◌≡◌, ◌≢◌, Err, IfSome, None, Some, true, false};
 ghost use Rattle.preflib_text.specs.Approvals.{HasNumber};
+ghost use Rattle.request_words.specs.Request.{demand_of, paging_of, sharing};
 ghost use Rattle.vote_cli.specs.Answer.{Ends, IsAnswer, ReadsAll, Reports, TellsOfDevices, has_votes, input_for};
 ghost use Rattle.vote_cli.specs.Device.{reader_state};
 ghost use Rattle.vote_cli.specs.Steps.Refusals.{WritesRight, ReadsBallots, ReadsOn};
 ghost use Rattle.vote_cli.specs.Steps.Refusals.{TellsOfReads, TellsOfWrites, error_of, status_of};
 
-use crate::answers::{
-    Outcome, answer_check, answer_election, answer_share, answer_share_of_ballots,
-};
+use crate::answers::{Outcome, answer_about_ballots, answer_share};
 use crate::device::{Sink, Source};
 use crate::input::{InputFault, read_to_end};
 use crate::names::Names;
@@ -16,7 +15,8 @@ use crate::refusal::{Refusal, refusal_of};
 use crate::status::Status;
 use ballot_base::{BallotHashing, Profile};
 use preflib_text::{LineReader, Pick};
-use request_words::{Request, Task};
+use request_words::{Page, Request, Task};
+use seat_share::Method;
 use std::alloc::Allocator;
 
 /// The ballots of what was fed, or why there are none.
@@ -54,6 +54,20 @@ fn read_ballots<A: Allocator + Copy + Drop, R: Source>(
     ballots_of(lines)
 }
 
+/// What is asked of the votes in a request, where they stand there: the method, the seats, the votes, and the page.
+fn given_votes(task: &Task) -> Option<(Method, u16, &[u64], &Page)>
+    ensures some { IfSome result (λ given.
+        demand_of task.now ≡ sharing given.0 given.1 (Some given.2.now) (paging_of given.3.now)) }
+    ensures none { result ≡ None → has_votes (demand_of task.now) ≡ false }
+{
+    match task {
+        Task::Share(method, seats, Some(votes), page) => {
+            Some((*method, *seats, votes.as_slice(), page))
+        }
+        _ => None,
+    }
+}
+
 /// Writes the answer where there is one. The input is read only where its ballots are asked about.
 fn answer<A: Allocator + Copy + Drop, R: Source, W: Sink>(
     alloc: A,
@@ -72,27 +86,13 @@ fn answer<A: Allocator + Copy + Drop, R: Source, W: Sink>(
         ReadsOn (R.remaining reader.old) (R.remaining reader.new) result }
     ensures votes { has_votes request.now.demand ≡ true → (reader.new ≡ reader.old) × (result ≢ Err Refusal.Memory) }
 {
-    let with_names = request.names();
-    match request.task() {
-        Task::Elect(rule, size, page) => {
-            let profile = read_ballots(alloc, hashing, &request.pick(), reader)?;
-            answer_election(alloc, out, &profile, *rule, *size, page, with_names)
-        }
-        Task::Check(property, committee) => {
-            let profile = read_ballots(alloc, hashing, &request.pick(), reader)?;
-            answer_check(out, &profile, *property, committee.as_slice(), with_names)
-        }
-        Task::Share(method, seats, votes, page) => match votes {
-            Some(votes) => {
-                let names = Names::<A>::numbers(with_names);
-                answer_share(out, votes.as_slice(), *method, *seats, page, &names)
-            }
-            None => {
-                let profile = read_ballots(alloc, hashing, &request.pick(), reader)?;
-                answer_share_of_ballots(out, &profile, *method, *seats, page, with_names)
-            }
-        },
+    let task = request.task();
+    if let Some((method, seats, votes, page)) = given_votes(task) {
+        let names = Names::<A>::numbers(request.names());
+        return answer_share(out, votes, method, seats, page, &names);
     }
+    let profile = read_ballots(alloc, hashing, &request.pick(), reader)?;
+    answer_about_ballots(alloc, out, &profile, task, request.names())
 }
 
 /// Ends a run that was refused, with a line on the errors.

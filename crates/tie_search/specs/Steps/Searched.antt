@@ -11,7 +11,8 @@ use Rattle.tie_search.specs.Completions.{tally_value}
 
 -- the columns are those of the election, where they are kept
 abbrev pub KeepsColumns : Thiele → Option Columns → Type 0
-KeepsColumns tally columns = MatchOption columns ⊤ (λ kept. AreColumnsOf tally kept.blocks kept.used kept.weights kept.levels)
+KeepsColumns tally columns = MatchOption columns ⊤ (λ kept.
+    AreColumnsOf tally kept.blocks kept.used kept.weights kept.levels)
 
 -- what a search is helped by is of the election
 pub record IsAided (tally : Thiele) (aids : Aids) : Type 0 where
