@@ -1,25 +1,22 @@
 //! Greatest values, and how many committees have them, among 40 and 64 candidates: each was found by a plain walk with
 //! ceilings too.
-ghost use Rattle.std.specs.Prelude.{◌≡◌, ◌≤◌, IfOk};
-ghost use Rattle.ballot_base.specs.Limits.{most_candidates};
+ghost use Rattle.std.specs.Prelude.{◌≤◌};
 
-use super::support::{ballot_of, finished};
-use ballot_base::{Profile, ProfileBuilder, ThieleRule};
+use super::support::election_of;
+use ballot_base::{Profile, ThieleRule};
 use minimax_search::NearTally;
-use std::alloc::Global;
 use std::process::Abort;
-use std::test::Fail;
 use tie_search::SearchTally;
-use tie_walk::Winners;
+use tie_walk::{Tally, Winners};
 
 /// The size of the committees.
 const SIZE: u8 = 6;
 
 /// So many winners are counted at most.
-const MOST_COUNTED: u32 = 1000;
+const MOST_COUNTED: usize = 1000;
 
 /// How many voters there are.
-const VOTERS: u8 = 60;
+const VOTERS: usize = 60;
 
 /// How ballots are drawn: each candidate with the same chance, ballots that differ little from one, candidates of whom
 /// some are popular, and those near a place in a square.
@@ -63,53 +60,27 @@ fn approved(draw: Draw, all: u64, a: u64, b: u64, c: u64) -> u64 {
     }
 }
 
-/// An election of m candidates.
-fn election(alloc: Global, draw: Draw, m: u8) -> Result<Profile, Fail>
-    requires some { 1 ≤ m }
-    requires most { m ≤ most_candidates }
-    ensures { IfOk result (λ profile. profile.m ≡ m) }
-{
-    let mut builder = ProfileBuilder::new(alloc, m)?;
+/// The ballots, each of one voter.
+fn drawn(draw: Draw) -> [(u64, u64); VOTERS] {
     let mut state = 7;
     let all = random_word(&mut state) & random_word(&mut state);
-    for _voter in 0..VOTERS {
+    let mut ballots = [(0, 1); VOTERS];
+    for i in 0..VOTERS {
         let a = random_word(&mut state);
         let b = random_word(&mut state);
         let c = random_word(&mut state);
-        let set = ballot_of(m, approved(draw, all, a, b, c));
-        builder.add(set, 1)?;
+        ballots[i] = (approved(draw, all, a, b, c), 1);
     }
-    finished(builder)
+    ballots
 }
 
-/// Asserts the greatest value under a Thiele rule, times its denominator, and how many committees have it.
-fn assert_thiele(rt: &impl Abort, profile: &Profile, rule: ThieleRule, best: u128, winners: u32)
-    requires { 6 ≤ profile.now.m }
+/// Asserts the greatest value, and how many committees have it.
+fn assert_known<T: Tally>(rt: &impl Abort, tally: &T, best: u128, winners: usize)
+    requires { SIZE ≤ T.candidates tally.now }
 {
-    let m = profile.m();
-    let tally = SearchTally::new(profile, rule, SIZE);
-    assert_eq!(rt; tally.best(), best);
-    let mut found = Winners::new(&tally, m, SIZE, None);
-    let mut count = 0;
-    while count < MOST_COUNTED && found.next().is_some() {
-        count += 1;
-    }
-    assert_eq!(rt; count, winners);
-}
-
-/// Asserts the least greatest distance, and how many committees have it.
-fn assert_minimax(rt: &impl Abort, profile: &Profile, distance: u8, winners: u32)
-    requires { 6 ≤ profile.now.m }
-{
-    let m = profile.m();
-    let tally = NearTally::new(profile, SIZE);
-    assert_eq!(rt; tally.best() + u128::from(distance), u128::from(m));
-    let mut found = Winners::new(&tally, m, SIZE, None);
-    let mut count = 0;
-    while count < MOST_COUNTED && found.next().is_some() {
-        count += 1;
-    }
-    assert_eq!(rt; count, winners);
+    let found = Winners::new(tally, tally.m(), SIZE, None);
+    assert_eq!(rt; found.best(), best);
+    assert_eq!(rt; found.take(MOST_COUNTED).count(), winners);
 }
 
 const RULES: [ThieleRule; 5] = [
@@ -120,18 +91,23 @@ const RULES: [ThieleRule; 5] = [
     ThieleRule::Geom4,
 ];
 
-/// Asserts the greatest values and the numbers of winners under these rules.
-fn assert_all_thiele(rt: &impl Abort, profile: &Profile, known: [(u128, u32); 5])
-    requires { 6 ≤ profile.now.m }
+/// Asserts the greatest values times their denominators, and the numbers of winners, under these rules.
+fn assert_thiele(rt: &impl Abort, profile: &Profile, known: [(u128, usize); 5])
+    requires { SIZE ≤ profile.now.m }
 {
     for i in 0..RULES.len() {
         let (best, winners) = known[i];
-        assert_thiele(rt, profile, RULES[i], best, winners);
+        assert_known(
+            rt,
+            &SearchTally::new(profile, RULES[i], SIZE),
+            best,
+            winners,
+        );
     }
 }
 
 #[test]
-fn thiele_rules(rt: HostRuntime) -> Result<(), Fail> {
+fn thiele_rules(rt: HostRuntime) {
     let cases = [
         (
             Draw::Independent,
@@ -175,15 +151,15 @@ fn thiele_rules(rt: HostRuntime) -> Result<(), Fail> {
         ),
     ];
     for (draw, m, known) in cases {
-        let profile = election(rt.alloc(), draw, m)?;
-        assert_all_thiele(&rt, &profile, known);
+        let profile = election_of(&rt, rt.alloc(), m, &drawn(draw));
+        assert_thiele(&rt, &profile, known);
     }
-    Ok(())
 }
 
 #[test]
-fn minimax(rt: HostRuntime) -> Result<(), Fail> {
-    let cases = [
+fn minimax(rt: HostRuntime) {
+    // The draw, the candidates, the least greatest distance, and how many committees have it.
+    let cases: [(Draw, u8, u8, usize); 8] = [
         (Draw::Independent, 40, 16, 2),
         (Draw::Independent, 64, 23, 1),
         (Draw::Resampled, 40, 13, 34),
@@ -194,8 +170,12 @@ fn minimax(rt: HostRuntime) -> Result<(), Fail> {
         (Draw::Square, 64, 16, 1000),
     ];
     for (draw, m, distance, winners) in cases {
-        let profile = election(rt.alloc(), draw, m)?;
-        assert_minimax(&rt, &profile, distance, winners);
+        let profile = election_of(&rt, rt.alloc(), m, &drawn(draw));
+        assert_known(
+            &rt,
+            &NearTally::new(&profile, SIZE),
+            u128::from(m - distance),
+            winners,
+        );
     }
-    Ok(())
 }

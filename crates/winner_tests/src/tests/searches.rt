@@ -2,12 +2,14 @@
 ghost use Rattle.std.specs.Prelude.{◌≤◌};
 ghost use Rattle.ballot_base.specs.Limits.{most_members};
 
-use super::support::{assert_same_winners, election, election_of, first_committee};
+use super::support::{
+    Draw, assert_begins_with_a_winner, assert_same_winners, election_of, first_committee,
+    random_ballots,
+};
 use ballot_base::{Profile, ThieleRule};
 use std::process::Abort;
-use std::test::Fail;
 use tie_search::SearchTally;
-use tie_walk::{Tally, ThieleTally};
+use tie_walk::ThieleTally;
 
 /// Asserts that the search and the walk with ceilings find the same winners, all of them and those later than the
 /// first, and that the search begins with one.
@@ -18,8 +20,7 @@ fn assert_same(rt: &impl Abort, profile: &Profile, rule: ThieleRule, k: u8)
 {
     let plain = ThieleTally::new(profile, rule, k);
     let searched = SearchTally::new(profile, rule, k);
-    let good = searched.good_committee(k).map(|good| searched.value(good));
-    assert!(rt; good == Some(searched.best()), "a good committee of {k}");
+    assert_begins_with_a_winner(rt, &searched, k, searched.best());
     for start in [None, Some(first_committee(profile.m(), k))] {
         assert_same_winners(rt, &plain, &searched, k, start);
     }
@@ -38,59 +39,50 @@ fn assert_all_same(rt: &impl Abort, profile: &Profile)
 }
 
 #[test]
-fn the_same_winners(rt: HostRuntime) -> Result<(), Fail> {
-    for seed in 1..4 {
-        for (m, ballots) in [(1, 3), (5, 1), (5, 150), (8, 9)] {
-            let profile = election(rt.alloc(), m, seed, ballots, 1)?;
-            assert_all_same(&rt, &profile);
+fn the_same_winners(rt: HostRuntime) {
+    // Candidates, seeds, ballots, and by how much their voters are multiplied: for the last there are so many voters, 4
+    // billion of them, that none stands in columns.
+    let cases = [
+        (1, 3, 3, 1),
+        (5, 3, 1, 1),
+        (5, 3, 150, 1),
+        (8, 3, 9, 1),
+        (10, 1, 80, 1),
+        (7, 2, 9, 150_000_000),
+    ];
+    for (m, seeds, count, times) in cases {
+        for seed in 0..seeds {
+            let ballots = random_ballots(Draw::Few, seed + 1, count, times);
+            assert_all_same(&rt, &election_of(&rt, rt.alloc(), m, &ballots));
         }
     }
-    Ok(())
 }
 
-#[test]
-fn the_same_winners_among_more_candidates(rt: HostRuntime) -> Result<(), Fail> {
-    let profile = election(rt.alloc(), 10, 1, 80, 1)?;
-    assert_all_same(&rt, &profile);
-    Ok(())
-}
+/// Candidates and ballots, with their voters.
+static GIVEN: [(u8, &[(u64, u64)]); 3] = [
+    // As many voters as stand in columns, and one more.
+    (6, &[(0b00_0111, 4096), (0b01_1100, 4000), (0b11_0001, 96)]),
+    (6, &[(0b00_0111, 4096), (0b01_1100, 4000), (0b11_0001, 97)]),
+    // Each candidate has one voter of its own.
+    (
+        9,
+        &[
+            (1, 1),
+            (2, 1),
+            (4, 1),
+            (8, 1),
+            (16, 1),
+            (32, 1),
+            (64, 1),
+            (128, 1),
+            (256, 1),
+        ],
+    ),
+];
 
-/// So many voters, 4 billion of them, that none stands in columns.
 #[test]
-fn the_same_winners_of_very_many_voters(rt: HostRuntime) -> Result<(), Fail> {
-    for seed in 1..3 {
-        let profile = election(rt.alloc(), 7, seed, 9, 150_000_000)?;
-        assert_all_same(&rt, &profile);
+fn the_same_winners_of_given_ballots(rt: HostRuntime) {
+    for (m, ballots) in GIVEN {
+        assert_all_same(&rt, &election_of(&rt, rt.alloc(), m, ballots));
     }
-    Ok(())
-}
-
-/// As many voters as stand in columns, and one more.
-#[test]
-fn the_same_winners_of_as_many_voters_as_columns_hold(rt: HostRuntime) -> Result<(), Fail> {
-    for last in [96, 97] {
-        let ballots = [(0b00_0111, 4096), (0b01_1100, 4000), (0b11_0001, last)];
-        let profile = election_of(rt.alloc(), 6, &ballots)?;
-        assert_all_same(&rt, &profile);
-    }
-    Ok(())
-}
-
-/// Each candidate has one voter of its own.
-#[test]
-fn all_candidates_tie(rt: HostRuntime) -> Result<(), Fail> {
-    let ballots = [
-        (1, 1),
-        (2, 1),
-        (4, 1),
-        (8, 1),
-        (16, 1),
-        (32, 1),
-        (64, 1),
-        (128, 1),
-        (256, 1),
-    ];
-    let profile = election_of(rt.alloc(), 9, &ballots)?;
-    assert_all_same(&rt, &profile);
-    Ok(())
 }

@@ -1,5 +1,5 @@
-//! Ballots and elections of more than one file of tests.
-ghost use Rattle.std.specs.Prelude.{Some, ◌≡◌, ◌^◌, ◌<◌, ◌≤◌, IfOk};
+//! Ballots, elections and a comparison of more than one file of tests.
+ghost use Rattle.std.specs.Prelude.{Some, ◌≡◌, ◌≤◌};
 ghost use Rattle.ballot_base.specs.Limits.{most_candidates};
 ghost use Rattle.ballot_base.specs.Lists.{IsIncreasing};
 ghost use Rattle.tie_walk.specs.Winners.{IsStart};
@@ -7,7 +7,6 @@ ghost use Rattle.tie_walk.specs.Winners.{IsStart};
 use ballot_base::{CandSet, Profile, ProfileBuilder};
 use std::alloc::Global;
 use std::process::Abort;
-use std::test::Fail;
 use tie_walk::{Tally, Winners};
 
 /// The candidates 1 to m whose bit of the word is 1.
@@ -24,56 +23,70 @@ pub(super) fn ballot_of(m: u8, word: u64) -> CandSet
     set
 }
 
-/// An election of m candidates and of some ballots that the seed decides, each of up to three times so many voters.
-pub(super) fn election(
-    alloc: Global,
-    m: u8,
-    seed: u64,
-    ballots: u8,
-    times: u64,
-) -> Result<Profile, Fail>
+/// An election of m candidates and of these ballots, as words with a bit for each candidate, and their voters. A ballot
+/// without voters is left out.
+pub(super) fn election_of(rt: &impl Abort, alloc: Global, m: u8, ballots: &[(u64, u64)]) -> Profile
     requires some { 1 ≤ m }
     requires most { m ≤ most_candidates }
-    requires voters { 1 ≤ times }
-    requires fits { times < 2 ^ 32 }
-    ensures { IfOk result (λ profile. profile.m ≡ m) }
+    ensures { result.m ≡ m }
 {
-    let mut builder = ProfileBuilder::new(alloc, m)?;
-    let mut word = seed;
-    for _ballot in 0..ballots {
-        word = word
-            .wrapping_mul(6_364_136_223_846_793_005)
-            .wrapping_add(1_442_695_040_888_963_407);
-        let set = ballot_of(m, word >> 20 & word >> 40);
-        builder.add(set, times * (1 + word % 3))?;
-    }
-    finished(builder)
-}
-
-/// An election of m candidates and of these ballots, as words with a bit for each candidate, and their voters.
-pub(super) fn election_of(alloc: Global, m: u8, ballots: &[(u64, u64)]) -> Result<Profile, Fail>
-    requires some { 1 ≤ m }
-    requires most { m ≤ most_candidates }
-    ensures { IfOk result (λ profile. profile.m ≡ m) }
-{
-    let mut builder = ProfileBuilder::new(alloc, m)?;
+    let mut builder = ProfileBuilder::new(alloc, m).expect(rt, "a builder");
     for (word, voters) in ballots {
         let count = *voters;
         if count > 0 {
-            builder.add(ballot_of(m, *word), count)?;
+            builder
+                .add(ballot_of(m, *word), count)
+                .expect(rt, "a ballot");
         }
     }
-    finished(builder)
+    match builder.finish() {
+        Ok(profile) => profile,
+        Err(_) => panic!(rt; "no voters"),
+    }
 }
 
-/// The profile of what was added.
-pub(super) fn finished(builder: ProfileBuilder) -> Result<Profile, Fail>
-    ensures { IfOk result (λ profile. profile.m ≡ builder.m) }
-{
-    match builder.finish() {
-        Ok(profile) => Ok(profile),
-        Err(_) => Err("no voters")?,
+/// How voters approve candidates: few of them, many, neighbours, or almost the same.
+#[derive(Clone, Copy)]
+pub(super) enum Draw {
+    Few,
+    Many,
+    Neighbours,
+    Alike,
+}
+
+/// Whom a voter approves, as the bits of a word, of a random word.
+fn approved(draw: Draw, word: u64) -> u64 {
+    match draw {
+        Draw::Few => word >> 20 & word >> 40,
+        Draw::Many => word >> 20 | word >> 40,
+        Draw::Neighbours => 7 << (word >> 40) % 6,
+        Draw::Alike => 11 ^ word >> 20 & word >> 30 & word >> 40,
     }
+}
+
+/// The random word after a word.
+pub(super) fn next_word(word: u64) -> u64 {
+    word.wrapping_mul(6_364_136_223_846_793_005)
+        .wrapping_add(1_442_695_040_888_963_407)
+}
+
+/// How many ballots are drawn at most.
+const MOST_DRAWN: usize = 150;
+
+/// So many ballots that the seed decides, 150 at most, each of up to three times so many voters.
+pub(super) fn random_ballots(
+    draw: Draw,
+    seed: u64,
+    count: usize,
+    times: u64,
+) -> [(u64, u64); MOST_DRAWN] {
+    let mut ballots = [(0, 0); MOST_DRAWN];
+    let mut word = seed;
+    for i in 0..count.min(MOST_DRAWN) {
+        word = next_word(word);
+        ballots[i] = (approved(draw, word), times.wrapping_mul(1 + word % 3));
+    }
+    ballots
 }
 
 /// The first committee of k of the candidates 1 to m.
@@ -103,4 +116,20 @@ pub(super) fn assert_same_winners<P: Tally, S: Tally>(
     let found = Winners::new(searched, m, k, start);
     assert_eq!(rt; found.best(), wanted.best());
     assert!(rt; found.eq(wanted), "{k} of {m} after {start:?}");
+}
+
+/// Asserts that the committee that the search for the greatest value begins with has it.
+pub(super) fn assert_begins_with_a_winner<S: Tally>(
+    rt: &impl Abort,
+    searched: &S,
+    k: u8,
+    best: u128,
+)
+    requires some { 1 ≤ k }
+    requires fits { k ≤ S.candidates searched.now }
+{
+    match searched.good_committee(k) {
+        Some(good) => assert_eq!(rt; searched.value(good), best, "{good:?}"),
+        None => panic!(rt; "no good committee of {k}"),
+    }
 }

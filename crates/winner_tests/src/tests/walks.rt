@@ -10,7 +10,6 @@ use super::support::election_of;
 use ballot_base::{CandSet, MOST_CANDIDATES, Profile, ThieleRule};
 use std::alloc::Global;
 use std::process::Abort;
-use std::test::Fail;
 use tie_walk::{SeqRule, SeqWinners, ThieleTally, Winners};
 
 /// Of 64 candidates, three voters approve 1 and 2, and one voter 63 and 64.
@@ -18,61 +17,56 @@ const TWO_PAIRS: [(u64, u64); 2] = [(3, 3), (3 << 62, 1)];
 
 /// Asserts that only these pairs come after the start under Chamberlin-Courant, where each of four voters approves a
 /// member of a winner.
-fn assert_after(
-    rt: &impl Abort,
-    alloc: Global,
-    profile: &Profile,
-    start: &[u8],
-    lists: &[&[u8]],
-) -> Result<(), Fail>
+fn assert_after(rt: &impl Abort, alloc: Global, profile: &Profile, start: &[u8], lists: &[&[u8]])
     requires { profile.now.m ≡ most_candidates }
 {
-    let start = CandSet::of_list(start).ok_or("a start")?;
+    let start = CandSet::of_list(start).expect(rt, "a start");
     start.valid();
     if start.len() != 2 {
-        return Err(Fail::from("a start is a pair"));
+        panic!(rt; "a start is a pair");
     }
     let tally = ThieleTally::new(profile, ThieleRule::Cc, 2);
     let mut winners = Winners::new(&tally, MOST_CANDIDATES, 2, Some(start));
     assert_eq!(rt; winners.best(), 4);
-    let mut sequential = SeqWinners::new(alloc, profile, SeqRule::SeqCc, 2, Some(start))?;
+    let mut sequential = SeqWinners::new(alloc, profile, SeqRule::SeqCc, 2, Some(start)).expect(
+        rt, "levels",
+    );
     for list in lists {
         assert!(rt; winners.next() == CandSet::of_list(list), "{list:?}");
         assert!(rt; sequential.next() == CandSet::of_list(list), "{list:?}");
     }
     assert!(rt; winners.next().is_none(), "after the winners");
     assert!(rt; sequential.next().is_none(), "after the sequential winners");
-    Ok(())
 }
 
-#[test]
-fn winners_after_a_start(rt: HostRuntime) -> Result<(), Fail> {
-    let alloc = rt.alloc();
-    let profile = election_of(alloc, MOST_CANDIDATES, &TWO_PAIRS)?;
-    let all: [&[u8]; 4] = [&[1, 63], &[1, 64], &[2, 63], &[2, 64]];
+/// A start, and the winners after it.
+static STARTS: [(&[u8], &[&[u8]]); 5] = [
     // No winner, a winner, no winner between two, the last winner, and the last pair.
-    assert_after(&rt, alloc, &profile, &[1, 2], &all)?;
-    assert_after(&rt, alloc, &profile, &[1, 64], &all[2..])?;
-    assert_after(&rt, alloc, &profile, &[2, 62], &all[2..])?;
-    assert_after(&rt, alloc, &profile, &[2, 64], &[])?;
-    assert_after(&rt, alloc, &profile, &[63, 64], &[])?;
-    Ok(())
+    (&[1, 2], &[&[1, 63], &[1, 64], &[2, 63], &[2, 64]]),
+    (&[1, 64], &[&[2, 63], &[2, 64]]),
+    (&[2, 62], &[&[2, 63], &[2, 64]]),
+    (&[2, 64], &[]),
+    (&[63, 64], &[]),
+];
+
+#[test]
+fn winners_after_a_start(rt: HostRuntime) {
+    let profile = election_of(&rt, rt.alloc(), MOST_CANDIDATES, &TWO_PAIRS);
+    for (start, lists) in STARTS {
+        assert_after(&rt, rt.alloc(), &profile, start, lists);
+    }
 }
 
 /// Of 64 candidates, one voter approves all, and one all but the last: the last hit of each counts.
 #[test]
-fn the_last_of_64_hits(rt: HostRuntime) -> Result<(), Fail> {
+fn the_last_of_64_hits(rt: HostRuntime) {
     let alloc = rt.alloc();
     let ballots = [(u64::MAX, 1), (u64::MAX >> 1, 1)];
-    let profile = election_of(alloc, MOST_CANDIDATES, &ballots)?;
-    let mut left = SeqWinners::new(
-        alloc,
-        &profile,
-        SeqRule::RevSeqPav,
-        MOST_CANDIDATES - 1,
-        None,
-    )?;
-    assert_eq!(rt; left.next(), Some(CandSet::all(MOST_CANDIDATES - 1)));
+    let profile = election_of(&rt, alloc, MOST_CANDIDATES, &ballots);
+    let size = MOST_CANDIDATES - 1;
+    let mut left = SeqWinners::new(alloc, &profile, SeqRule::RevSeqPav, size, None).expect(
+        &rt, "levels",
+    );
+    assert_eq!(rt; left.next(), Some(CandSet::all(size)));
     assert!(rt; left.next().is_none(), "after the only winner");
-    Ok(())
 }

@@ -7,11 +7,10 @@ ghost use Rattle.ballot_base.specs.Increments.{increments};
 ghost use Rattle.tie_walk.specs.Ceilings.{ceiling};
 ghost use Rattle.tie_walk.specs.Values.{thiele_value};
 
-use super::super::support::{ballot_of, election, election_of};
+use super::super::support::{Draw, ballot_of, election_of, random_ballots};
 use ballot_base::{CandSet, KSets, MOST_CANDIDATES, ThieleRule};
 use std::cell::Cell;
 use std::process::Abort;
-use std::test::Fail;
 use tie_walk::{MinimaxTally, SavTally, Tally, ThieleTally, Winners};
 
 /// A Thiele tally that counts the calls of its values and bounds, and of how far they reach.
@@ -59,8 +58,8 @@ impl<'a> Tally for Counting<'a> {
 
 /// Of 40 candidates a voter approves the first 20, who win 20 seats: a walk over 41 prefixes, and few calls in all.
 #[test]
-fn twenty_of_forty_in_few_calls(rt: HostRuntime) -> Result<(), Fail> {
-    let profile = election_of(rt.alloc(), 40, &[((1 << 20) - 1, 1)])?;
+fn twenty_of_forty_in_few_calls(rt: HostRuntime) {
+    let profile = election_of(&rt, rt.alloc(), 40, &[((1 << 20) - 1, 1)]);
     let counting = Counting {
         tally: ThieleTally::new(&profile, ThieleRule::Av, 20),
         calls: Cell::new(0),
@@ -70,13 +69,12 @@ fn twenty_of_forty_in_few_calls(rt: HostRuntime) -> Result<(), Fail> {
     assert!(rt; winners.next().is_none(), "after the winner");
     assert_eq!(rt; winners.entered(), 41);
     assert!(rt; counting.calls.get() <= 10_000, "too many calls");
-    Ok(())
 }
 
 /// Two voters approve 1 and 2, and one voter 3: nine prefixes are live, and four after 1 and 3.
 #[test]
-fn entered_for_two_seats(rt: HostRuntime) -> Result<(), Fail> {
-    let profile = election_of(rt.alloc(), 3, &[(0b011, 2), (0b100, 1)])?;
+fn entered_for_two_seats(rt: HostRuntime) {
+    let profile = election_of(&rt, rt.alloc(), 3, &[(0b011, 2), (0b100, 1)]);
     let tally = ThieleTally::new(&profile, ThieleRule::Pav, 2);
     let mut winners = Winners::new(&tally, 3, 2, None);
     assert!(rt; winners.entered() >= 1, "the empty prefix");
@@ -87,7 +85,7 @@ fn entered_for_two_seats(rt: HostRuntime) -> Result<(), Fail> {
     assert_eq!(rt; winners.entered(), 9);
     let start = ballot_of(3, 0b101);
     if start.len() != 2 {
-        return Err(Fail::from("a start is a pair"));
+        panic!(rt; "a start is a pair");
     }
     let mut later = Winners::new(&tally, 3, 2, Some(start));
     for _ in 0..3 {
@@ -95,7 +93,6 @@ fn entered_for_two_seats(rt: HostRuntime) -> Result<(), Fail> {
         let _winner = later.next();
     }
     assert!(rt; later.entered() >= 4, "the live prefixes after 1 and 3");
-    Ok(())
 }
 
 /// Whether all beginnings of a prefix are open, whose members are the candidates 1 to c whose bit of the word is 1.
@@ -191,28 +188,26 @@ fn assert_live<T: Tally>(rt: &impl Abort, tally: &T, m: u8, k: u8)
 }
 
 #[test]
-fn live_prefixes_of_small_elections(rt: HostRuntime) -> Result<(), Fail> {
+fn live_prefixes_of_small_elections(rt: HostRuntime) {
     let alloc = rt.alloc();
     for seed in 0..8 {
         let m = 3 + (seed % 3) as u8;
-        let profile = election(alloc, m, seed, 5, 1)?;
+        let profile = election_of(&rt, alloc, m, &random_ballots(Draw::Few, seed, 5, 1));
         for k in 1..m + 1 {
             assert_live(&rt, &ThieleTally::new(&profile, ThieleRule::Pav, k), m, k);
             assert_live(&rt, &SavTally::new(&profile), m, k);
             assert_live(&rt, &MinimaxTally::new(&profile), m, k);
         }
     }
-    Ok(())
 }
 
 /// Of 64 candidates a voter approves all: all committees of 32 tie, and the first come soon.
 #[test]
-fn the_first_of_all_tied_committees(rt: HostRuntime) -> Result<(), Fail> {
-    let profile = election_of(rt.alloc(), MOST_CANDIDATES, &[(u64::MAX, 1)])?;
+fn the_first_of_all_tied_committees(rt: HostRuntime) {
+    let profile = election_of(&rt, rt.alloc(), MOST_CANDIDATES, &[(u64::MAX, 1)]);
     let tally = SavTally::new(&profile);
     let mut winners = Winners::new(&tally, MOST_CANDIDATES, 32, None);
     for committee in KSets::new(MOST_CANDIDATES, 32).take(100) {
         assert!(rt; winners.next() == Some(committee), "{committee:?}");
     }
-    Ok(())
 }

@@ -3,10 +3,9 @@ ghost use Rattle.std.specs.Prelude.{◌≡◌, ◌≤◌, length};
 ghost use Rattle.ballot_base.specs.Limits.{most_candidates, most_members};
 ghost use Rattle.ballot_base.specs.Lists.{IsIncreasing};
 
-use super::super::support::election;
+use super::super::support::{Draw, election_of, random_ballots};
 use ballot_base::{CandSet, KSets, Profile, ThieleRule};
 use std::process::Abort;
-use std::test::Fail;
 use tie_walk::{MinimaxTally, SavTally, Tally, ThieleTally, Winners};
 
 /// The greatest value, by a pass over all committees.
@@ -87,14 +86,13 @@ fn assert_rules(rt: &impl Abort, profile: &Profile, m: u8, k: u8)
 }
 
 #[test]
-fn walks_over_small_elections(rt: HostRuntime) -> Result<(), Fail> {
+fn walks_over_small_elections(rt: HostRuntime) {
     let alloc = rt.alloc();
     for seed in 0..20 {
         let m = 3 + (seed % 4) as u8;
-        let profile = election(alloc, m, seed, 5, 1)?;
+        let profile = election_of(&rt, alloc, m, &random_ballots(Draw::Few, seed, 5, 1));
         for k in 1..m + 1 {
             assert_rules(&rt, &profile, m, k);
         }
     }
-    Ok(())
 }
