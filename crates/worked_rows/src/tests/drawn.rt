@@ -1,8 +1,8 @@
 //! Elections of drawn ballots, the same each time.
-use super::support::{assert_leaves, read_line};
-use std::alloc::{AllocError, Global};
+use super::support::{assert_leaves, request};
+use std::alloc::Global;
+use std::fmt::Write;
 use std::process::Abort;
-use std::test::Fail;
 use test_devices::{reader, run_on, writer};
 
 /// The next state of a linear congruential generator (Knuth's).
@@ -39,46 +39,52 @@ fn chosen(sort: Sort, a: u64, b: u64, c: u64) -> u64 {
     }
 }
 
-/// A ballot of the candidates from 1 on whose bit is 1.
-fn ballot_of(alloc: Global, m: u8, bits: u64) -> Result<String, AllocError> {
-    let mut list = String::new(alloc);
+/// Adds a line of a ballot of the candidates from 1 to m whose bit is 1.
+fn push_ballot(rt: &impl Abort, text: &mut String, m: u8, bits: u64) {
+    let mut front = "1: {";
     for n in 1..=m {
         if bits.wrapping_shr(u32::from(n).wrapping_sub(1)) & 1 == 1 {
-            let comma = if list.is_empty() { "" } else { "," };
-            list.push_str(format!(in alloc; "{comma}{n}")?.as_str())?;
+            write!(text, "{front}{n}").expect(rt, "memory");
+            front = ",";
         }
     }
-    format!(in alloc; "1: {{{list}}}\n")
+    let end = if front == "," { "}\n" } else { "1: {}\n" };
+    text.push_str(end).expect(rt, "memory");
+}
+
+/// The beginning of a file of approvals of m candidates.
+fn approvals_of(rt: &impl Abort, alloc: Global, m: u8) -> String {
+    format!(in alloc; "# DATA TYPE: cat\n# NUMBER ALTERNATIVES: {m}\n").expect(rt, "memory")
 }
 
 /// The ballots of a thousand voters among 40 candidates.
-fn thousand(alloc: Global, sort: Sort) -> Result<String, AllocError> {
-    let mut text = String::from_str(alloc, "# DATA TYPE: cat\n# NUMBER ALTERNATIVES: 40\n")?;
+fn thousand(rt: &impl Abort, alloc: Global, sort: Sort) -> String {
+    let mut text = approvals_of(rt, alloc, 40);
     let mut state = 1u64;
     for _voter in 0..1000 {
         let a = next_state(state);
         let b = next_state(a);
         state = next_state(b);
         let bits = chosen(sort, a >> 24, b >> 24, state >> 24);
-        text.push_str(ballot_of(alloc, 40, bits)?.as_str())?;
+        push_ballot(rt, &mut text, 40, bits);
     }
-    Ok(text)
+    text
 }
 
 /// Asserts that a committee has every property.
-fn assert_stable(rt: &impl Abort, alloc: Global, file: &str, committee: &str) -> Result<(), Fail> {
+fn assert_stable(rt: &impl Abort, alloc: Global, file: &str, committee: &str) {
     for property in ["jr", "pjr", "ejr", "ejrplus"] {
-        let words = format!(in alloc; "check --property {property} --committee {committee}")?;
-        assert_leaves(rt, alloc, words.as_str(), file.as_bytes(), b"holds\n")?;
+        let words = format!(in alloc; "check --property {property} --committee {committee}");
+        let words = words.expect(rt, committee);
+        assert_leaves(rt, alloc, words.as_str(), file.as_bytes(), b"holds\n");
     }
-    Ok(())
 }
 
 /// Committees of twenty whose value under `pav` no exchange of one member for one other candidate raises, found apart
 /// from the program. They have every property (Aziz and others, The Complexity of Extended and Proportional Justified
 /// Representation; Brill and Peters).
 #[test]
-fn stable_committees(rt: HostRuntime) -> Result<(), Fail> {
+fn stable_committees(rt: HostRuntime) {
     let cases = [
         (
             Sort::Independent,
@@ -94,21 +100,14 @@ fn stable_committees(rt: HostRuntime) -> Result<(), Fail> {
         ),
     ];
     for (sort, committee) in cases {
-        let file = thousand(rt.alloc(), sort)?;
-        assert_stable(&rt, rt.alloc(), file.as_str(), committee)?;
+        let file = thousand(&rt, rt.alloc(), sort);
+        assert_stable(&rt, rt.alloc(), file.as_str(), committee);
     }
-    Ok(())
 }
 
 /// A file of ballots on which each candidate stands where so many of the first bits of the next state are 0.
-fn by_chance(
-    alloc: Global,
-    m: u8,
-    ballots: u32,
-    bits: u32,
-    seed: u64,
-) -> Result<String, AllocError> {
-    let mut text = format!(in alloc; "# DATA TYPE: cat\n# NUMBER ALTERNATIVES: {m}\n")?;
+fn by_chance(rt: &impl Abort, alloc: Global, m: u8, ballots: u32, bits: u32, seed: u64) -> String {
+    let mut text = approvals_of(rt, alloc, m);
     let mut state = seed;
     for _ballot in 0..ballots {
         let mut word = 0u64;
@@ -117,35 +116,35 @@ fn by_chance(
             let is_chosen = state.leading_zeros() >= bits;
             word |= u64::from(is_chosen).wrapping_shl(u32::from(n));
         }
-        text.push_str(ballot_of(alloc, m, word)?.as_str())?;
+        push_ballot(rt, &mut text, m, word);
     }
-    Ok(text)
+    text
 }
 
 /// What elections of three by proportional approval voting leave over a file.
-fn pav_of_three(alloc: Global, file: &str) -> Result<String, Fail> {
-    let request = read_line(alloc, "elect --rule pav --size 3")??;
+fn pav_of_three(rt: &impl Abort, alloc: Global, file: &str) -> String {
+    let request = request(rt, alloc, "elect --rule pav --size 3");
     let source = reader(file.as_bytes());
     let ended = run_on(alloc, &request, source, writer(alloc), writer(alloc));
-    Ok(String::from_str(alloc, str::from_utf8(ended.out.taken())?)?)
+    let text = str::from_utf8(ended.out.taken()).expect(rt, "a text");
+    String::from_str(alloc, text).expect(rt, "memory")
 }
 
 /// Committees that win by proportional approval voting have EJR+ (Brill and Peters), and with it all four properties.
 #[test]
-fn winners_of_pav_have_every_property(rt: HostRuntime) -> Result<(), Fail> {
+fn winners_of_pav_have_every_property(rt: HostRuntime) {
     let alloc = rt.alloc();
     for seed in 1..=4u64 {
-        let file = by_chance(alloc, 64, 16, 3, seed)?;
-        let answer = pav_of_three(alloc, file.as_str())?;
+        let file = by_chance(&rt, alloc, 64, 16, 3, seed);
+        let answer = pav_of_three(&rt, alloc, file.as_str());
         // After the lines of the rule, the size and the score, and before the last.
         assert!(rt; answer.as_str().lines().count() > 4, "some committee wins");
         for line in answer.as_str().lines().skip(3) {
             if line != "end" {
-                assert_stable(&rt, alloc, file.as_str(), line)?;
+                assert_stable(&rt, alloc, file.as_str(), line);
             }
         }
     }
-    Ok(())
 }
 
 /// The committee of sequential and of reverse sequential proportional approval voting.
@@ -183,24 +182,23 @@ const COVERING: &str = "\
 /// Sequential rules over 5,000 different ballots. The committees were computed apart from the program, by a script that
 /// takes the same ballots and follows each tied choice in exact arithmetic.
 #[test]
-fn sequences_over_many_ballots(rt: HostRuntime) -> Result<(), Fail> {
+fn sequences_over_many_ballots(rt: HostRuntime) {
     let alloc = rt.alloc();
-    let ballots = by_chance(alloc, 40, 5000, 2, 1)?;
+    let ballots = by_chance(&rt, alloc, 40, 5000, 2, 1);
     let cases = [
         ("seqpav", PROPORTIONAL),
         ("seqcc", COVERING),
         ("revseqpav", PROPORTIONAL),
     ];
     for (rule, committees) in cases {
-        let words = format!(in alloc; "elect --rule {rule} --size 20")?;
-        let answer = format!(in alloc; "rule {rule}\nsize 20\n{committees}end\n")?;
+        let words = format!(in alloc; "elect --rule {rule} --size 20").expect(&rt, rule);
+        let answer = format!(in alloc; "rule {rule}\nsize 20\n{committees}end\n").expect(&rt, rule);
         assert_leaves(
             &rt,
             alloc,
             words.as_str(),
             ballots.as_bytes(),
             answer.as_bytes(),
-        )?;
+        );
     }
-    Ok(())
 }

@@ -1,9 +1,8 @@
 //! Reads and writes that fail.
 use super::long::{all_beside_one, report_of_all};
-use super::support::{ANSWER, THREE, Wanted, assert_ended, ending, read_line};
+use super::support::{ANSWER, THREE, Wanted, assert_ended, ending, request};
 use std::alloc::Global;
 use std::process::Abort;
-use std::test::Fail;
 use test_devices::{Fault, Recorder, SliceReader, reader, run_on, writer};
 use vote_cli::Request;
 
@@ -50,9 +49,9 @@ static CASES: [Case<'static>; 7] = [
 
 /// Asserts that a run ends with a failed read exactly where one of its reads fails, and that its flush comes once. The
 /// bytes come in pieces of 16, and a last read finds the end.
-fn assert_reads(rt: &impl Abort, alloc: Global, case: Case<'_>) -> Result<(), Fail> {
+fn assert_reads(rt: &impl Abort, alloc: Global, case: Case<'_>) {
     let (words, bytes, text) = case;
-    let request = read_line(alloc, words)??;
+    let request = request(rt, alloc, words);
     let reads = bytes.len().div_ceil(16) + 1;
     for call in 1..=reads + 1 {
         let source = SliceReader::failing(bytes, 16, call as u64);
@@ -62,15 +61,13 @@ fn assert_reads(rt: &impl Abort, alloc: Global, case: Case<'_>) -> Result<(), Fa
         let is_answer = call > reads && !text.starts_with(b"committees: ");
         assert_eq!(rt; ended.out.flushes(), u64::from(is_answer), "{words} {call}");
     }
-    Ok(())
 }
 
 #[test]
-fn each_read_fails_in_turn(rt: HostRuntime) -> Result<(), Fail> {
+fn each_read_fails_in_turn(rt: HostRuntime) {
     for case in &CASES {
-        assert_reads(&rt, rt.alloc(), *case)?;
+        assert_reads(&rt, rt.alloc(), *case);
     }
-    Ok(())
 }
 
 /// Asserts that the output has a beginning of the text after a write of it has failed at this byte, or its flush.
@@ -106,39 +103,37 @@ fn assert_beginning(
 }
 
 #[test]
-fn each_byte_of_the_output_is_not_taken(rt: HostRuntime) -> Result<(), Fail> {
+fn each_byte_of_the_output_is_not_taken(rt: HostRuntime) {
     let alloc = rt.alloc();
     for (words, bytes, text) in &CASES {
         if text.starts_with(b"committees: ") {
             continue;
         }
-        let request = read_line(alloc, words)??;
+        let request = request(&rt, alloc, words);
         for taken in 0..=text.len() {
             assert_beginning(&rt, alloc, &request, bytes, text, taken);
         }
     }
-    Ok(())
 }
 
 /// A report is written in several pieces, and a write of any of them may fail.
 #[test]
-fn a_long_report_is_not_taken(rt: HostRuntime) -> Result<(), Fail> {
+fn a_long_report_is_not_taken(rt: HostRuntime) {
     let alloc = rt.alloc();
-    let file = all_beside_one(alloc, "{", "}")?;
-    let report = report_of_all(alloc)?;
-    let request = read_line(alloc, "check --property jr --committee 40 --kind cat")??;
+    let file = all_beside_one(&rt, alloc, "{", "}");
+    let report = report_of_all(&rt, alloc);
+    let request = request(&rt, alloc, "check --property jr --committee 40 --kind cat");
     for taken in (0..=report.len()).step_by(997) {
         let text = report.as_bytes();
         assert_beginning(&rt, alloc, &request, file.as_bytes(), text, taken);
     }
-    Ok(())
 }
 
 /// Asserts that the status and the output stay, and that a beginning of the line is taken, wherever a write of the
 /// errors fails.
-fn assert_errors(rt: &impl Abort, alloc: Global, case: Case<'_>) -> Result<(), Fail> {
+fn assert_errors(rt: &impl Abort, alloc: Global, case: Case<'_>) {
     let (words, bytes, line) = case;
-    let request = read_line(alloc, words)??;
+    let request = request(rt, alloc, words);
     for taken in 0..=line.len() {
         for (piece, fault) in [
             (usize::MAX, Fault::ErrorAfter(taken)),
@@ -157,15 +152,13 @@ fn assert_errors(rt: &impl Abort, alloc: Global, case: Case<'_>) -> Result<(), F
             assert_ended(rt, words, taken, &ended, wanted);
         }
     }
-    Ok(())
 }
 
 #[test]
-fn each_byte_of_the_errors_is_not_taken(rt: HostRuntime) -> Result<(), Fail> {
+fn each_byte_of_the_errors_is_not_taken(rt: HostRuntime) {
     for case in &CASES {
         if case.2.starts_with(b"committees: ") {
-            assert_errors(&rt, rt.alloc(), *case)?;
+            assert_errors(&rt, rt.alloc(), *case);
         }
     }
-    Ok(())
 }

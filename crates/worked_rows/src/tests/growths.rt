@@ -1,9 +1,8 @@
 //! Growths that are refused, one after the other.
-use super::support::{ANSWER, THREE, assert_ended, ending, read_line};
+use super::support::{ANSWER, THREE, assert_ended, ending, request};
 use refusing_heap::Refusing;
 use std::alloc::Global;
 use std::process::Abort;
-use std::test::Fail;
 use test_devices::{reader, run_on, writer};
 
 /// More growths than any of the calls below asks for.
@@ -17,14 +16,8 @@ fn has_refused(heap: &Refusing) -> bool {
 }
 
 /// Asserts that a run ends so exactly where no growth is refused, and answers how many growths it asks for.
-fn growths_of_run(
-    rt: &impl Abort,
-    alloc: Global,
-    words: &str,
-    bytes: &[u8],
-    text: &[u8],
-) -> Result<u64, Fail> {
-    let request = read_line(alloc, words)??;
+fn growths_of_run(rt: &impl Abort, alloc: Global, words: &str, bytes: &[u8], text: &[u8]) -> u64 {
+    let request = request(rt, alloc, words);
     for n in 1..=MANY {
         let heap = Refusing::new(alloc, n);
         let ended = run_on(&heap, &request, reader(bytes), writer(alloc), writer(alloc));
@@ -32,7 +25,7 @@ fn growths_of_run(
         let wanted = ending(if is_refused { MEMORY } else { text });
         assert_ended(rt, words, n as usize, &ended, wanted);
         if !is_refused {
-            return Ok(n - 1);
+            return n - 1;
         }
     }
     panic!(rt; "each run of {words} has a refused growth")
@@ -106,27 +99,25 @@ static RUNS: [Run<'static>; 11] = [
 ];
 
 #[test]
-fn each_growth_of_a_run(rt: HostRuntime) -> Result<(), Fail> {
+fn each_growth_of_a_run(rt: HostRuntime) {
     for (words, bytes, text, least) in &RUNS {
-        let growths = growths_of_run(&rt, rt.alloc(), words, bytes, text)?;
+        let growths = growths_of_run(&rt, rt.alloc(), words, bytes, text);
         let is_right = growths >= *least && (*least > 0 || growths == 0);
         assert!(rt; is_right, "{words} asks for {growths} growths");
     }
-    Ok(())
 }
 
 /// Comments take no memory: 2,100,000 bytes of them before a file make no growth more.
 #[test]
-fn comments_take_no_memory(rt: HostRuntime) -> Result<(), Fail> {
+fn comments_take_no_memory(rt: HostRuntime) {
     let alloc = rt.alloc();
     let mut long = Vec::new(alloc);
     for _ in 0..300_000u32 {
-        long.extend_from_slice(b"# X: y\n")?;
+        long.extend_from_slice(b"# X: y\n").expect(&rt, "memory");
     }
-    long.extend_from_slice(THREE)?;
+    long.extend_from_slice(THREE).expect(&rt, "memory");
     let words = "elect --rule av --size 1";
-    let few = growths_of_run(&rt, alloc, words, THREE, ANSWER)?;
-    let many = growths_of_run(&rt, alloc, words, &long, ANSWER)?;
+    let few = growths_of_run(&rt, alloc, words, THREE, ANSWER);
+    let many = growths_of_run(&rt, alloc, words, &long, ANSWER);
     assert_eq!(rt; many, few);
-    Ok(())
 }

@@ -1,8 +1,8 @@
 //! Lists of answers, from each start on and up to each limit. The answers are worked by hand.
 use super::support::{THREE, assert_leaves, written_out};
 use std::alloc::Global;
+use std::fmt::Write;
 use std::process::Abort;
-use std::test::Fail;
 
 /// The words, the lines before the answers, and the answers: over `THREE`, and over the votes in the words.
 pub(super) static LISTINGS: &str = "\
@@ -33,14 +33,14 @@ pub(super) struct Listing<'a> {
 }
 
 /// The listing of a row.
-pub(super) fn listing_of(row: &str) -> Option<Listing<'_>> {
-    let (words, rest) = row.split_once(" | ")?;
-    let (header, answers) = rest.split_once(" | ")?;
-    Some(Listing {
+pub(super) fn listing_of<'a>(rt: &impl Abort, row: &'a str) -> Listing<'a> {
+    let (words, rest) = row.split_once(" | ").expect(rt, row);
+    let (header, answers) = rest.split_once(" | ").expect(rt, row);
+    Listing {
         words,
         header,
         answers,
-    })
+    }
 }
 
 impl<'a> Listing<'a> {
@@ -55,45 +55,43 @@ impl<'a> Listing<'a> {
     }
 
     /// The words that ask for the answers after so many, up to a limit.
-    pub(super) fn words(self, alloc: Global, from: usize, limit: usize) -> Result<String, Fail> {
+    pub(super) fn words(self, rt: &impl Abort, alloc: Global, from: usize, limit: usize) -> String {
         let words = self.words;
         match self.answers.split('¶').take(from).last() {
-            Some(start) => Ok(format!(in alloc; "{words} --limit {limit} --after {start}")?),
-            None => Ok(format!(in alloc; "{words} --limit {limit}")?),
+            Some(start) => format!(in alloc; "{words} --limit {limit} --after {start}"),
+            None => format!(in alloc; "{words} --limit {limit}"),
         }
+        .expect(rt, words)
     }
 
     /// The text of the answers after so many, up to a limit.
-    pub(super) fn text(self, alloc: Global, from: usize, limit: usize) -> Result<String, Fail> {
-        let mut text = written_out(alloc, self.header)?;
-        text.push_str("\n")?;
+    pub(super) fn text(self, rt: &impl Abort, alloc: Global, from: usize, limit: usize) -> String {
+        let mut text = written_out(rt, alloc, self.header);
         for answer in self.answers.split('¶').skip(from).take(limit) {
-            text.push_str(answer)?;
-            text.push_str("\n")?;
+            write!(text, "\n{answer}").expect(rt, answer);
         }
         let is_cut = self.count() > from.saturating_add(limit);
-        text.push_str(if is_cut { "more\n" } else { "end\n" })?;
-        Ok(text)
+        let last = if is_cut { "\nmore\n" } else { "\nend\n" };
+        text.push_str(last).expect(rt, last);
+        text
     }
 }
 
 /// Asserts the answers after each answer and from the first on, one at a time, two at a time, and all of them.
-fn assert_pages(rt: &impl Abort, alloc: Global, listing: Listing<'_>) -> Result<(), Fail> {
+fn assert_pages(rt: &impl Abort, alloc: Global, listing: Listing<'_>) {
     let count = listing.count();
     for from in 0..=count {
         for limit in [1, 2, count, 4_294_967_295] {
-            let words = listing.words(alloc, from, limit)?;
-            let text = listing.text(alloc, from, limit)?;
-            assert_leaves(rt, alloc, words.as_str(), THREE, text.as_bytes())?;
+            let words = listing.words(rt, alloc, from, limit);
+            let text = listing.text(rt, alloc, from, limit);
+            assert_leaves(rt, alloc, words.as_str(), THREE, text.as_bytes());
         }
     }
-    Ok(())
 }
 
 #[test]
-fn pages_of_each_listing(rt: HostRuntime) -> Result<(), Fail> {
+fn pages_of_each_listing(rt: HostRuntime) {
     for row in LISTINGS.lines() {
-        assert_pages(&rt, rt.alloc(), listing_of(row).ok_or("a listing")?)?;
+        assert_pages(&rt, rt.alloc(), listing_of(&rt, row));
     }
-    Ok(())
 }

@@ -1,8 +1,8 @@
 //! Long lines, long files, and long answers.
 use super::support::{THREE, assert_leaves};
-use std::alloc::{AllocError, Global};
+use std::alloc::Global;
 use std::fmt::Write;
-use std::test::Fail;
+use std::process::Abort;
 
 /// A file of two candidates and 349,525 categories with a long line: its front, so many times a part, and its end.
 static FILES: [(&str, &str, u32, &str); 20] = [
@@ -42,98 +42,115 @@ fn wanted(number: usize) -> &'static [u8] {
     }
 }
 
+/// The bytes of a file with a long line.
+fn long_file(
+    rt: &impl Abort,
+    alloc: Global,
+    front: &str,
+    part: &str,
+    times: u32,
+    end: &str,
+) -> String {
+    let head = "# DATA TYPE: cat\n# NUMBER ALTERNATIVES: 2\n# NUMBER CATEGORIES: 349525\n";
+    let mut file = format!(in alloc; "{head}{front}").expect(rt, part);
+    for _ in 0..times {
+        file.push_str(part).expect(rt, part);
+    }
+    file.push_str(end).expect(rt, part);
+    file
+}
+
 #[test]
-fn long_lines_and_many(rt: HostRuntime) -> Result<(), Fail> {
+fn long_lines_and_many(rt: HostRuntime) {
     let alloc = rt.alloc();
     for (number, (front, part, times, end)) in FILES.iter().enumerate() {
-        let mut file = String::from_str(
-            alloc,
-            "# DATA TYPE: cat\n# NUMBER ALTERNATIVES: 2\n# NUMBER CATEGORIES: 349525\n",
-        )?;
-        file.push_str(front)?;
-        for _ in 0..*times {
-            file.push_str(part)?;
-        }
-        file.push_str(end)?;
+        let file = long_file(&rt, alloc, front, part, *times, end);
         let words = "elect --rule av --size 1";
-        assert_leaves(&rt, alloc, words, file.as_bytes(), wanted(number))?;
+        assert_leaves(&rt, alloc, words, file.as_bytes(), wanted(number));
     }
-    Ok(())
 }
 
 /// All 41,664 committees of three of 64 candidates, of whom nobody is approved: many times what is put together before
 /// it is written.
 #[test]
-fn a_long_answer(rt: HostRuntime) -> Result<(), Fail> {
+fn a_long_answer(rt: HostRuntime) {
     let alloc = rt.alloc();
-    let mut answer = String::from_str(alloc, "rule av\nsize 3\nscore 0/1\n")?;
+    let mut answer = String::new(alloc);
+    answer
+        .push_str("rule av\nsize 3\nscore 0/1\n")
+        .expect(&rt, "memory");
     for first in 1..=62u8 {
         for second in first + 1..=63 {
             for third in second + 1..=64 {
-                writeln!(answer, "{first},{second},{third}")?;
+                writeln!(answer, "{first},{second},{third}").expect(&rt, "memory");
             }
         }
     }
-    answer.push_str("end\n")?;
+    answer.push_str("end\n").expect(&rt, "memory");
     let words = "elect --rule av --size 3 --kind cat";
     let file = b"# NUMBER ALTERNATIVES: 64\n1: {}\n".as_slice();
-    assert_leaves(&rt, alloc, words, file, answer.as_bytes())
+    assert_leaves(&rt, alloc, words, file, answer.as_bytes());
 }
 
 /// Of 40 candidates, one voter for each two of 2 to 39, who approves 1 beside them: the lines of the ballots, after a
 /// header, or as a report has them.
-pub(super) fn all_beside_one(alloc: Global, open: &str, close: &str) -> Result<String, AllocError> {
+pub(super) fn all_beside_one(rt: &impl Abort, alloc: Global, open: &str, close: &str) -> String {
     let mut text = String::new(alloc);
     if !open.is_empty() {
-        text.push_str("# NUMBER ALTERNATIVES: 40\n")?;
+        text.push_str("# NUMBER ALTERNATIVES: 40\n")
+            .expect(rt, "memory");
     }
     for first in 2..39u8 {
         for second in first + 1..=39 {
-            let line = format!(in alloc; "1: {open}1,{first},{second}{close}\n")?;
-            text.push_str(line.as_str())?;
+            writeln!(text, "1: {open}1,{first},{second}{close}").expect(rt, "memory");
         }
     }
-    Ok(text)
+    text
 }
 
 /// The report on the committee that nobody of those 703 voters approves.
-pub(super) fn report_of_all(alloc: Global) -> Result<String, Fail> {
-    let rows = all_beside_one(alloc, "", "")?;
-    Ok(format!(in alloc; "violated jr\nlevel 1\ncandidates 1\nvoters 703 of 703\n{rows}")?)
+pub(super) fn report_of_all(rt: &impl Abort, alloc: Global) -> String {
+    let rows = all_beside_one(rt, alloc, "", "");
+    format!(in alloc; "violated jr\nlevel 1\ncandidates 1\nvoters 703 of 703\n{rows}").expect(
+        rt, "memory",
+    )
 }
 
 #[test]
-fn a_long_report(rt: HostRuntime) -> Result<(), Fail> {
+fn a_long_report(rt: HostRuntime) {
     let alloc = rt.alloc();
-    let file = all_beside_one(alloc, "{", "}")?;
-    let report = report_of_all(alloc)?;
+    let file = all_beside_one(&rt, alloc, "{", "}");
+    let report = report_of_all(&rt, alloc);
     // 51 bytes, and 7 on each of 703 lines beside the digits: 37 lines have each of 8 + 30 candidates.
     assert_eq!(rt; report.len(), 51 + 703 * 7 + 37 * (8 + 30 * 2));
     let words = "check --property jr --committee 40 --kind cat";
-    assert_leaves(&rt, alloc, words, file.as_bytes(), report.as_bytes())
+    assert_leaves(&rt, alloc, words, file.as_bytes(), report.as_bytes());
 }
 
 /// A name of a thousand bytes, one of bytes that are no text, and one that was taken away.
 #[test]
-fn names_of_any_bytes(rt: HostRuntime) -> Result<(), Fail> {
+fn names_of_any_bytes(rt: HostRuntime) {
     let alloc = rt.alloc();
-    let mut file = Vec::from_slice(alloc, b"# NUMBER ALTERNATIVES: 3\n# ALTERNATIVE NAME 1: ")?;
-    let mut answer = Vec::from_slice(alloc, b"rule av\nsize 3\nscore 1/1\n1,2,3\t")?;
-    for _byte in 0..1000 {
-        file.push(b'x')?;
-        answer.push(b'x')?;
-    }
-    file.extend_from_slice(
+    let long = "x".repeat(alloc, 1000).expect(&rt, "memory");
+    let file = [
+        b"# NUMBER ALTERNATIVES: 3\n# ALTERNATIVE NAME 1: ".as_slice(),
+        long.as_bytes(),
         b"\n# ALTERNATIVE NAME 2:\xFF\x00\x0B\n# ALTERNATIVE NAME 3: Blue\n# ALTERNATIVE NAME 3:\n1: 1\n",
-    )?;
-    answer.extend_from_slice(b"; \xFF\x00\x0B; 3\nend\n")?;
+    ];
+    let answer = [
+        b"rule av\nsize 3\nscore 1/1\n1,2,3\t".as_slice(),
+        long.as_bytes(),
+        b"; \xFF\x00\x0B; 3\nend\n",
+    ];
+    let file = file.concat(alloc).expect(&rt, "memory");
+    let answer = answer.concat(alloc).expect(&rt, "memory");
     let words = "elect --rule av --size 3 --kind soi --names";
-    assert_leaves(&rt, alloc, words, &file, &answer)
+    assert_leaves(&rt, alloc, words, &file, &answer);
 }
 
 /// Each beginning of `THREE`.
 #[test]
-fn beginnings_of_a_file(rt: HostRuntime) -> Result<(), Fail> {
+fn beginnings_of_a_file(rt: HostRuntime) {
     assert_eq!(rt; THREE.len(), 87);
     for n in 0..=THREE.len() {
         let left: &[u8] = match n {
@@ -155,7 +172,6 @@ fn beginnings_of_a_file(rt: HostRuntime) -> Result<(), Fail> {
             "elect --rule av --size 1",
             &THREE[..n],
             left,
-        )?;
+        );
     }
-    Ok(())
 }

@@ -1,18 +1,13 @@
 //! Runs over the streams of the standard library, with hashes by fixed and by secret numbers.
-use super::support::{ANSWER, THREE, one_seat};
+use super::support::{ANSWER, THREE, request};
 use std::alloc::Global;
 use std::hash::RandomState;
 use std::process::Abort;
-use std::test::Fail;
 use vote_cli::{BallotHashing, Device, Status, Told, run, run_with_hashing};
 
 /// Asserts that a run over `THREE` answers, with these numbers of the hash where there are some.
-fn assert_answers(
-    rt: &impl Abort,
-    alloc: Global,
-    hashing: Option<BallotHashing>,
-) -> Result<(), Fail> {
-    let request = one_seat(alloc, "a.cat")?;
+fn assert_answers(rt: &impl Abort, alloc: Global, hashing: Option<BallotHashing>) {
+    let request = request(rt, alloc, "elect --rule av --size 1 a.cat");
     assert!(rt; request.file() == Some("a.cat"));
     let mut reader = Told::new(THREE);
     let mut out = Told::new(Vec::new(alloc));
@@ -25,27 +20,25 @@ fn assert_answers(
     };
     assert_eq!(rt; status, Status::Answered);
     assert!(rt; !reader.failed() && !out.failed() && !err.failed());
-    Ok(())
 }
 
 #[test]
-fn streams_of_std(rt: HostRuntime) -> Result<(), Fail> {
-    assert_answers(&rt, rt.alloc(), None)?;
-    let secret = BallotHashing::secret(&RandomState::new(&rt)?);
-    assert_answers(&rt, rt.alloc(), Some(secret))
+fn streams_of_std(rt: HostRuntime) {
+    assert_answers(&rt, rt.alloc(), None);
+    let state = RandomState::new(&rt).expect(&rt, "random numbers");
+    assert_answers(&rt, rt.alloc(), Some(BallotHashing::secret(&state)));
 }
 
 /// What a run writes to a vector.
 #[test]
-fn bytes_of_an_answer(rt: HostRuntime) -> Result<(), Fail> {
+fn bytes_of_an_answer(rt: HostRuntime) {
     let alloc = rt.alloc();
-    let request = one_seat(alloc, "")?;
+    let request = request(&rt, alloc, "elect --rule av --size 1");
     let mut written = Vec::new(alloc);
     let mut out = Told::new(&mut written);
     let mut err = Told::new(Vec::new(alloc));
     run(alloc, &request, &mut Told::new(THREE), &mut out, &mut err);
     assert_eq!(rt; written.as_slice(), ANSWER);
-    Ok(())
 }
 
 #[test]

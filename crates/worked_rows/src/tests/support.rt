@@ -2,12 +2,11 @@
 ghost use Rattle.std.specs.Prelude.{◌≡◌, ◌==◌, ◌||◌};
 ghost use Rattle.vote_cli.specs.Status.{code_of};
 
-use std::alloc::{AllocError, Global};
+use std::alloc::Global;
 use std::fmt::Write;
 use std::process::Abort;
-use std::test::Fail;
 use test_devices::{Ended, reader, run_on, writer};
-use vote_cli::{Device, LineFault, Request, read_request};
+use vote_cli::{Device, Request, read_request};
 
 /// Three candidates and two ballots: two voters approve 1 and 2, and one voter approves 3.
 pub(super) const THREE: &[u8] =
@@ -16,23 +15,18 @@ pub(super) const THREE: &[u8] =
 /// The answer to it by approval voting, for one seat.
 pub(super) const ANSWER: &[u8] = b"rule av\nsize 1\nscore 2/1\n1\n2\nend\n";
 
-/// The words of a line, after the program's name, read as a request.
-pub(super) fn read_line(
-    alloc: Global,
-    line: &str,
-) -> Result<Result<Request, LineFault>, AllocError> {
+/// The request of the words of a line, after the program's name.
+pub(super) fn request(rt: &impl Abort, alloc: Global, line: &str) -> Request {
     let mut words = Vec::new(alloc);
-    words.push(String::from_str(alloc, "committees")?)?;
+    words
+        .push(String::from_str(alloc, "committees").expect(rt, line))
+        .expect(rt, line);
     for word in line.split_whitespace() {
-        words.push(String::from_str(alloc, word)?)?;
+        words
+            .push(String::from_str(alloc, word).expect(rt, line))
+            .expect(rt, line);
     }
-    Ok(read_request(alloc, words.as_slice()))
-}
-
-/// The request of approval voting for one seat. More words may follow.
-pub(super) fn one_seat(alloc: Global, words: &str) -> Result<Request, Fail> {
-    let line = format!(in alloc; "elect --rule av --size 1 {words}")?;
-    Ok(read_line(alloc, line.as_str())??)
+    read_request(alloc, words.as_slice()).expect(rt, line)
 }
 
 /// What a run has to leave: its exit status, and the bytes on its two writers.
@@ -110,53 +104,48 @@ pub(super) fn assert_leaves(
     words: &str,
     bytes: &[u8],
     text: &[u8],
-) -> Result<(), Fail> {
-    let request = read_line(alloc, words)??;
+) {
+    let request = request(rt, alloc, words);
     let ended = run_on(alloc, &request, reader(bytes), writer(alloc), writer(alloc));
     assert_ended(rt, words, 0, &ended, ending(text));
-    Ok(())
 }
 
 /// Adds the numbers from the first to the last, up or down, with commas between them.
-fn push_range(text: &mut String, first: u8, last: u8) -> Result<(), Fail> {
-    write!(text, "{first}")?;
+fn push_range(rt: &impl Abort, text: &mut String, first: u8, last: u8) {
+    write!(text, "{first}").expect(rt, "memory");
     for step in 1..=first.abs_diff(last) {
         let n = if first < last {
             first.saturating_add(step)
         } else {
             first.saturating_sub(step)
         };
-        write!(text, ",{n}")?;
+        write!(text, ",{n}").expect(rt, "memory");
     }
-    Ok(())
 }
 
 /// Adds a list in brackets: `1..4` is `1,2,3,4`, and `0*3` is `0,0,0`.
-fn push_list(text: &mut String, list: &str) -> Result<(), Fail> {
+fn push_list(rt: &impl Abort, text: &mut String, list: &str) {
     if let Some((first, last)) = list.split_once("..") {
-        return push_range(text, first.parse()?, last.parse()?);
+        let first = first.parse().expect(rt, list);
+        return push_range(rt, text, first, last.parse().expect(rt, list));
     }
-    let (number, count) = list.split_once('*').ok_or("a list in brackets")?;
-    let count: u8 = count.parse()?;
+    let (number, count) = list.split_once('*').expect(rt, list);
+    let count: u8 = count.parse().expect(rt, list);
     for i in 0..count {
-        text.push_str(if i > 0 { "," } else { "" })?;
-        text.push_str(number)?;
+        let comma = if i > 0 { "," } else { "" };
+        write!(text, "{comma}{number}").expect(rt, list);
     }
-    Ok(())
 }
 
 /// The text that a part of a table stands for: `¶` ends a line, and lists may stand in brackets.
-pub(super) fn written_out(alloc: Global, part: &str) -> Result<String, Fail> {
-    let mut text = String::with_capacity(alloc, part.len())?;
-    for (i, line) in part.split('¶').enumerate() {
-        text.push_str(if i > 0 { "\n" } else { "" })?;
-        let mut pieces = line.split('[');
-        text.push_str(pieces.next().unwrap_or(""))?;
-        for piece in pieces {
-            let (list, rest) = piece.split_once(']').ok_or("a bracket")?;
-            push_list(&mut text, list)?;
-            text.push_str(rest)?;
-        }
+pub(super) fn written_out(rt: &impl Abort, alloc: Global, part: &str) -> String {
+    let text = part.replace(alloc, '¶', "\n").expect(rt, part);
+    let mut pieces = text.as_str().split('[');
+    let mut whole = String::from_str(alloc, pieces.next().unwrap_or("")).expect(rt, part);
+    for piece in pieces {
+        let (list, rest) = piece.split_once(']').expect(rt, part);
+        push_list(rt, &mut whole, list);
+        whole.push_str(rest).expect(rt, part);
     }
-    Ok(text)
+    whole
 }

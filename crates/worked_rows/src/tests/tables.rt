@@ -8,36 +8,36 @@ mod pages;
 mod refusals;
 mod shares;
 
-use super::support::{assert_ended, ending, read_line, written_out};
+use super::support::{assert_ended, ending, request, written_out};
 use std::alloc::Global;
 use std::process::Abort;
-use std::test::Fail;
 use test_devices::{SliceReader, run_on, writer};
 
 /// Asserts a row of a table over an input, which comes as a whole and in single bytes.
-fn assert_row(rt: &impl Abort, alloc: Global, row: &str, input: &[u8]) -> Result<(), Fail> {
-    let (words, wanted) = row.split_once(" | ").ok_or("a bar")?;
-    let request = read_line(alloc, written_out(alloc, words)?.as_str())??;
-    let mut text = written_out(alloc, wanted)?;
-    text.push_str("\n")?;
+fn assert_row(rt: &impl Abort, alloc: Global, row: &str, input: &[u8]) {
+    let (words, wanted) = row.split_once(" | ").expect(rt, row);
+    let request = request(rt, alloc, written_out(rt, alloc, words).as_str());
+    let mut text = written_out(rt, alloc, wanted);
+    text.push_str("\n").expect(rt, row);
     for piece in [usize::MAX, 1] {
         let reader = SliceReader::new(input, piece);
         let ended = run_on(alloc, &request, reader, writer(alloc), writer(alloc));
         assert_ended(rt, row, piece, &ended, ending(text.as_bytes()));
     }
-    Ok(())
 }
 
 /// Asserts each row of a table. A row has the words after the program's name, a bar, and what the run leaves, without
 /// the end of its last line. A row that begins with `<` is the input of the rows after it, and one that begins with `//`
 /// says what they are.
-fn assert_table(rt: &impl Abort, alloc: Global, table: &str) -> Result<(), Fail> {
+fn assert_table(rt: &impl Abort, alloc: Global, table: &str) {
     let mut input = String::new(alloc);
-    for row in table.split('\n').filter(|row| !row.starts_with("//")) {
+    for row in table.split('\n') {
+        if row.starts_with("//") {
+            continue;
+        }
         match row.strip_prefix('<') {
-            Some(file) => input = written_out(alloc, file.strip_prefix(' ').unwrap_or(""))?,
-            None => assert_row(rt, alloc, row, input.as_bytes())?,
+            Some(file) => input = written_out(rt, alloc, file.strip_prefix(' ').unwrap_or("")),
+            None => assert_row(rt, alloc, row, input.as_bytes()),
         }
     }
-    Ok(())
 }

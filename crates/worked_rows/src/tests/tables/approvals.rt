@@ -1,5 +1,4 @@
 //! Whom the voters approve, by the type of the file and the way in the words.
-use std::test::Fail;
 
 /// One ballot each, and who wins one seat by it.
 static APPROVALS: &str = "\
@@ -102,6 +101,6 @@ elect --rule av --size 1 /a.b/.toi | rule av¶size 1¶score 1/1¶1¶2¶end
 elect --rule av --size 1 --kind toi votes.soc | rule av¶size 1¶score 1/1¶1¶2¶end";
 
 #[test]
-fn ways_and_types(rt: HostRuntime) -> Result<(), Fail> {
-    super::assert_table(&rt, rt.alloc(), APPROVALS)
+fn ways_and_types(rt: HostRuntime) {
+    super::assert_table(&rt, rt.alloc(), APPROVALS);
 }

@@ -1,5 +1,4 @@
 //! Elections by every rule.
-use std::test::Fail;
 
 /// Winners and their scores.
 static ELECTIONS: &str = "\
@@ -97,6 +96,6 @@ elect --rule av --size 4 --limit 1 --after 1,2,3,64 | rule av¶size 4¶score 4/1
 elect --rule av --size 20 | rule av¶size 20¶score 20/1¶[1..20]¶end";
 
 #[test]
-fn winners_and_scores(rt: HostRuntime) -> Result<(), Fail> {
-    super::assert_table(&rt, rt.alloc(), ELECTIONS)
+fn winners_and_scores(rt: HostRuntime) {
+    super::assert_table(&rt, rt.alloc(), ELECTIONS);
 }

@@ -1,5 +1,4 @@
 //! Inputs at the edges of the format.
-use std::test::Fail;
 
 /// Files that are read.
 static INPUTS: &str = "\
@@ -125,6 +124,6 @@ elect --rule av --size 1 a.soc | rule av¶size 1¶score 1/1¶1¶2¶end
 elect --rule av --size 1 | rule av¶size 1¶score 2/1¶1¶2¶end";
 
 #[test]
-fn files_that_are_read(rt: HostRuntime) -> Result<(), Fail> {
-    super::assert_table(&rt, rt.alloc(), INPUTS)
+fn files_that_are_read(rt: HostRuntime) {
+    super::assert_table(&rt, rt.alloc(), INPUTS);
 }

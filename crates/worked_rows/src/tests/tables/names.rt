@@ -1,5 +1,4 @@
 //! Names beside numbers.
-use std::test::Fail;
 
 /// Names in answers and reports, and which names a file gives.
 static NAMES: &str = "\
@@ -55,6 +54,6 @@ elect --rule av --size 3 --kind cat --names | rule av¶size 3¶score 1/1¶1,2,3\
 elect --rule av --size 3 --kind cat --names | rule av¶size 3¶score 2/1¶1,2,3\ta; 2; 3¶end";
 
 #[test]
-fn names_of_candidates(rt: HostRuntime) -> Result<(), Fail> {
-    super::assert_table(&rt, rt.alloc(), NAMES)
+fn names_of_candidates(rt: HostRuntime) {
+    super::assert_table(&rt, rt.alloc(), NAMES);
 }

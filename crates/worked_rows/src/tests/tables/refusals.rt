@@ -1,5 +1,4 @@
 //! Inputs that are refused, each with the line and the name of its fault.
-use std::test::Fail;
 
 /// Files with a fault.
 static REFUSALS: &str = "\
@@ -285,6 +284,6 @@ elect --rule av --size 1 | committees: input: NoAlternatives
 elect --rule av --size 4 | committees: request: SizeTooLarge";
 
 #[test]
-fn files_with_a_fault(rt: HostRuntime) -> Result<(), Fail> {
-    super::assert_table(&rt, rt.alloc(), REFUSALS)
+fn files_with_a_fault(rt: HostRuntime) {
+    super::assert_table(&rt, rt.alloc(), REFUSALS);
 }

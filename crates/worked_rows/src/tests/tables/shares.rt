@@ -1,5 +1,4 @@
 //! Seats shared out among parties, by remainders for `hamilton`, and by the quotients of the votes for the others.
-use std::test::Fail;
 
 /// Allocations, and votes that there are none of.
 static SHARES: &str = "\
@@ -184,21 +183,21 @@ share --method hamilton --seats 10 --votes 6,6,2 | method hamilton¶seats 10¶4,
 share --method hamilton --seats 11 --votes 6,6,2 | method hamilton¶seats 11¶5,5,1¶end";
 
 #[test]
-fn allocations(rt: HostRuntime) -> Result<(), Fail> {
-    super::assert_table(&rt, rt.alloc(), SHARES)
+fn allocations(rt: HostRuntime) {
+    super::assert_table(&rt, rt.alloc(), SHARES);
 }
 
 #[test]
-fn six_states(rt: HostRuntime) -> Result<(), Fail> {
-    super::assert_table(&rt, rt.alloc(), SIX_STATES)
+fn six_states(rt: HostRuntime) {
+    super::assert_table(&rt, rt.alloc(), SIX_STATES);
 }
 
 #[test]
-fn the_first_census(rt: HostRuntime) -> Result<(), Fail> {
-    super::assert_table(&rt, rt.alloc(), CENSUS)
+fn the_first_census(rt: HostRuntime) {
+    super::assert_table(&rt, rt.alloc(), CENSUS);
 }
 
 #[test]
-fn a_seat_more(rt: HostRuntime) -> Result<(), Fail> {
-    super::assert_table(&rt, rt.alloc(), PARADOX)
+fn a_seat_more(rt: HostRuntime) {
+    super::assert_table(&rt, rt.alloc(), PARADOX);
 }
