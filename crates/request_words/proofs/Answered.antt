@@ -13,7 +13,7 @@ use Rattle.clap.specs.declared.parser.matches.ArgMatches.{ArgMatches}
 use Rattle.clap.specs.declared.parser.matches.ArgMatches.{out-ArgMatches}
 use Rattle.request_words.specs.declared.words.LineFault.{LineFault}
 use Rattle.request_words.specs.declared.words.LineFault.TheVariants.{Help, Usage, BadList, TwoPicks, VotesAndInput, Memory}
-use Rattle.request_words.specs.Request.{Asked, Demand, checking, electing, sharing}
+use Rattle.request_words.specs.Request.{Asked, Demand, checking, electing, of_ballots, sharing_by}
 use Rattle.request_words.specs.NumberList.{list_of}
 use Rattle.request_words.specs.declared.words.ListOption.{ListOption}
 use Rattle.request_words.specs.declared.words.ListOption.TheVariants.{Committee, Votes, After}
@@ -186,13 +186,13 @@ asked_own : (name : Text) (rows : List Row) (f : LineFault) → asked_in name ro
 asked_own name rows f = go (bytes_eq name (codes "check")) (bytes_eq name (codes "share"))
   where
     go : (is_check is_share : Bool) → (if is_check then check_in rows else (if is_share then share_in rows else elect_in rows)) ≡ Some (Err f) → IsAfterClap f
-    go true is_share is = map_own _ _ f (λ p. then_own _ (listed Committee p.1) (λ committee. asking_own rows (checking p.0 committee))
+    go true is_share is = map_own _ _ f (λ p. then_own _ (listed Committee p.1) (λ committee. asking_own rows (of_ballots (checking p.0 committee)))
         (ok_or_own (list_of p.1) (BadList Committee) tt)) is
     go false true is = map_own _ _ f (λ p. then_own (without_both rows) _ (without_both_own rows)
         (then_own _ (list_in Votes (codes "votes") rows) (λ votes. then_own _ (page_in rows)
-        (λ page. asking_own rows (sharing p.0 (number_of p.1) votes page)) (page_own rows)) (list_own Votes (codes "votes") rows))) is
+        (λ page. asking_own rows (sharing_by votes p.0 (number_of p.1) page)) (page_own rows)) (list_own Votes (codes "votes") rows))) is
     go false false is = map_own _ _ f (λ p. then_own _ (page_in rows)
-        (λ page. asking_own rows (electing p.0 (number_of p.1) page)) (page_own rows)) is
+        (λ page. asking_own rows (of_ballots (electing p.0 (number_of p.1) page))) (page_own rows)) is
 
 refused_is : (words : List Text) (sub : Text × List Row) (f : LineFault) → IsFound words sub → (f ≡ Memory) ⊎ (asked_in sub.0 sub.1 ≡ Some (Err f)) → RefusesWords words f
 refused_is words sub f found (inl memory) = subst (RefusesWords words) (sym memory) tt

@@ -16,10 +16,11 @@ use Rattle.preflib_text.specs.declared.pick.Pick.{Pick}
 use Rattle.preflib_text.specs.declared.pick.Way.{Way}
 use Rattle.preflib_text.specs.Names.{kind_named}
 use Rattle.request_words.specs.Endings.{kind_in_path}
+use Rattle.seat_share.specs.Limits.{most_seats}
 use Rattle.seat_share.specs.declared.method.Method.{Method}
 use Rattle.request_words.specs.NumberList.{list_of}
 use Rattle.request_words.specs.Limits.{most_limit}
-use Rattle.request_words.specs.Request.{Asked, Demand, checking}
+use Rattle.request_words.specs.Request.{Asked, Demand, InRange, IsPage, Paging, checking, of_ballots, sharing_by}
 use Rattle.request_words.specs.declared.request.Rule.{Rule}
 use Rattle.request_words.specs.declared.words.LineFault.{LineFault}
 use Rattle.request_words.specs.declared.words.LineFault.TheVariants.{BadList, Memory, VotesAndInput}
@@ -150,7 +151,7 @@ elect_is rows h name rule m named is size =
 -- what `check` asks for
 pub check_is : (rows : List Row) (h : HasCheckValues rows) (name text : Text) (property : Property) → name ≡ h.0.text → property_named name ≡ Some property
     → first_of (codes "committee") rows ≡ Some text
-    → check_in rows ≡ Some (result_and_then (λ committee. asking rows (checking property committee)) (listed Committee text))
+    → check_in rows ≡ Some (result_and_then (λ committee. asking rows (of_ballots (checking property committee))) (listed Committee text))
 check_is rows h name text property named is given =
     let known : property_named h.0.text ≡ Some property = ap property_named (sym named) ∙ is in
     rw (h.0.given, given, known) refl
@@ -234,6 +235,12 @@ second_false false b r is r_false = refl
 pub some_items : (o : Option (Vec ℕ Global)) → IfSome o (λ v. vec_items v ≢ []) → IfSome (option_map vec_items o) (λ list. list ≢ [])
 some_items None some = some
 some_items (Some v) some = some
+
+-- the numbers of a sharing lie in their ranges
+pub sharing_in_range : (votes : Option (List ℕ)) (method : Method) (seats : ℕ) (page : Paging) → 1 ≤ seats → seats ≤ most_seats → IfSome votes (λ list. list ≢ [])
+    → IsPage page → InRange (sharing_by votes method seats page)
+sharing_in_range None method seats page least most some is = (least, most, is)
+sharing_in_range (Some votes) method seats page least most some is = (least, most, some, is)
 
 -- a sharing is refused where votes and an input are given, and else as it is
 pub shared : (rows : List Row) (said : Option (Result Asked LineFault)) (step : Result Asked LineFault) (asked : Asked) (both : Bool)

@@ -1,5 +1,5 @@
 -- What a request asks for, as contracts see it.
-use Rattle.std.specs.Prelude.{◌≢◌, ◌≤◌, [], ℕ, Bool, List, Option, None, IfSome, option_map}
+use Rattle.std.specs.Prelude.{◌≢◌, ◌≤◌, [], ℕ, Bool, List, Option, None, Some, IfSome, option_map}
 use Rattle.std.specs.Vec.{vec_items}
 use Rattle.ballot_base.specs.Limits.{most_members}
 use Rattle.group_check.specs.declared.property.Property.{Property}
@@ -8,9 +8,11 @@ use Rattle.seat_share.specs.Limits.{most_seats}
 use Rattle.seat_share.specs.declared.method.Method.{Method}
 use Rattle.request_words.specs.Limits.{most_limit}
 use Rattle.request_words.specs.declared.request.Page.{Page}
+use Rattle.request_words.specs.declared.request.Question.{Question as Asking}
+use Rattle.request_words.specs.declared.request.Question.TheVariants.{Elect, Check, Share}
 use Rattle.request_words.specs.declared.request.Rule.{Rule}
 use Rattle.request_words.specs.declared.request.Task.{Task}
-use Rattle.request_words.specs.declared.request.Task.TheVariants.{Elect, Check, Share}
+use Rattle.request_words.specs.declared.request.Task.TheVariants.{OfBallots, OfVotes}
 
 -- which of the answers are asked for: those later than a list, and the first so many of them
 pub record Paging : Type 0 where
@@ -21,24 +23,39 @@ pub record Paging : Type 0 where
 abbrev pub whole : Paging
 whole = record { after = None; limit = None }
 
--- what a request asks for
+-- what is asked about ballots
 -- - an election of committees of a size, by a rule
 -- - a check of a property of the committee in a list
--- - a sharing of seats by a method, among parties with the votes in a list, or else with those of a file
+-- - a sharing of seats by a method, in which each voter counts for the one party that the ballot approves
+pub data Question : Type 0 where
+  electing : Rule → ℕ → Paging → Question
+  checking : Property → List ℕ → Question
+  sharing : Method → ℕ → Paging → Question
+
+-- what a request asks for: something about the ballots of an input, or a sharing of seats by a method among parties
+-- with the votes in a list
 pub data Demand : Type 0 where
-  electing : Rule → ℕ → Paging → Demand
-  checking : Property → List ℕ → Demand
-  sharing : Method → ℕ → Option (List ℕ) → Paging → Demand
+  of_ballots : Question → Demand
+  of_votes : List ℕ → Method → ℕ → Paging → Demand
+
+-- a sharing of seats by a method, by votes that are given, or else by those of ballots
+abbrev pub sharing_by : Option (List ℕ) → Method → ℕ → Paging → Demand
+sharing_by None method seats page = of_ballots (sharing method seats page)
+sharing_by (Some votes) method seats page = of_votes votes method seats page
 
 -- which answers are asked for, with a list in the place of a vector
 abbrev pub paging_of : Page → Paging
 paging_of page = record { after = option_map vec_items page.after; limit = page.limit }
 
 -- what is asked for, with lists in the place of vectors
+abbrev pub question_of : Asking → Question
+question_of (Elect rule size page) = electing rule size (paging_of page)
+question_of (Check property committee) = checking property (vec_items committee)
+question_of (Share method seats page) = sharing method seats (paging_of page)
+
 abbrev pub demand_of : Task → Demand
-demand_of (Elect rule size page) = electing rule size (paging_of page)
-demand_of (Check property committee) = checking property (vec_items committee)
-demand_of (Share method seats votes page) = sharing method seats (option_map vec_items votes) (paging_of page)
+demand_of (OfBallots question) = of_ballots (question_of question)
+demand_of (OfVotes votes method seats page) = of_votes (vec_items votes) method seats (paging_of page)
 
 -- a start has a number, and a limit lies from 1 to `most_limit`
 pub record IsPage (page : Paging) : Type 0 where
@@ -47,11 +64,14 @@ pub record IsPage (page : Paging) : Type 0 where
   pub most : IfSome page.limit (λ n. n ≤ most_limit)
 
 -- the numbers lie in their ranges, a size and seats from 1 on; and each list has a number
+abbrev pub IsInRange : Question → Type 0
+IsInRange (electing rule size page) = (1 ≤ size) × (size ≤ most_members) × IsPage page
+IsInRange (checking property committee) = committee ≢ []
+IsInRange (sharing method seats page) = (1 ≤ seats) × (seats ≤ most_seats) × IsPage page
+
 abbrev pub InRange : Demand → Type 0
-InRange (electing rule size page) = (1 ≤ size) × (size ≤ most_members) × IsPage page
-InRange (checking property committee) = committee ≢ []
-InRange (sharing method seats votes page) =
-    (1 ≤ seats) × (seats ≤ most_seats) × IfSome votes (λ list. list ≢ []) × IsPage page
+InRange (of_ballots question) = IsInRange question
+InRange (of_votes votes method seats page) = (1 ≤ seats) × (seats ≤ most_seats) × (votes ≢ []) × IsPage page
 
 -- what is asked for, how the file is read, the bytes of the file's path where a file is named, and whether the names of
 -- candidates are wanted

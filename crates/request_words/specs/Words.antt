@@ -28,7 +28,7 @@ use Rattle.request_words.specs.Endings.{kind_in_path}
 use Rattle.request_words.specs.Names.{kind_names, method_names, property_names, rule_named, rule_names}
 use Rattle.request_words.specs.NumberList.{list_of}
 use Rattle.request_words.specs.Limits.{most_limit, most_way_number}
-use Rattle.request_words.specs.Request.{Asked, Demand, Paging, checking, electing, sharing}
+use Rattle.request_words.specs.Request.{Asked, Demand, Paging, checking, electing, of_ballots, sharing_by}
 use Rattle.request_words.specs.declared.request.Rule.{Rule}
 use Rattle.request_words.specs.declared.words.LineFault.{LineFault}
 use Rattle.request_words.specs.declared.words.LineFault.TheVariants.{Help, Usage, BadList, TwoPicks, VotesAndInput, Memory}
@@ -183,7 +183,7 @@ asking rows demand = ok_or (option_map (λ way. record {
 
 -- an election by a rule, of so many seats
 abbrev pub elect_over_page : List Row → Rule → ℕ → Paging → Result Asked LineFault
-elect_over_page rows rule size page = asking rows (electing rule size page)
+elect_over_page rows rule size page = asking rows (of_ballots (electing rule size page))
 
 -- what `elect` asks for
 abbrev pub elect_in : List Row → Option (Result Asked LineFault)
@@ -193,7 +193,7 @@ elect_in rows = option_map (λ p. result_and_then (elect_over_page rows p.0 (num
 -- what `check` asks for
 abbrev pub check_in : List Row → Option (Result Asked LineFault)
 check_in rows =
-    option_map (λ p. result_and_then (λ committee. asking rows (checking p.0 committee)) (listed Committee p.1))
+    option_map (λ p. result_and_then (λ committee. asking rows (of_ballots (checking p.0 committee))) (listed Committee p.1))
     (option_zip (option_and_then property_named (first_of (codes "property") rows)) (first_of (codes "committee") rows))
 
 -- whether an argument is given
@@ -212,9 +212,9 @@ has_input rows = list_any (is_given rows) (codes "file" ∷ codes "kind" ∷ way
 abbrev pub without_both : List Row → Asked → Result Asked LineFault
 without_both rows asked = if is_given rows (codes "votes") && has_input rows then Err VotesAndInput else Ok asked
 
--- a sharing by a method, of so many seats, over these votes
+-- a sharing by a method, of so many seats, over these votes, or those of ballots
 abbrev pub share_over_page : List Row → Method → ℕ → Option (List ℕ) → Paging → Result Asked LineFault
-share_over_page rows method seats votes page = asking rows (sharing method seats votes page)
+share_over_page rows method seats votes page = asking rows (sharing_by votes method seats page)
 
 abbrev pub share_over_votes : List Row → Method → ℕ → Option (List ℕ) → Result Asked LineFault
 share_over_votes rows method seats votes = result_and_then (share_over_page rows method seats votes) (page_in rows)

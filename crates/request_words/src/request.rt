@@ -104,17 +104,27 @@ pub struct Page {
     pub limit: Option<u32>,
 }
 
-/// What a request asks for. Each list has at least one number.
+/// What is asked about the ballots of an input. Each list has at least one number.
 #[derive(Debug, Drop)]
-pub enum Task {
-    /// To elect committees by a rule, with so many seats, from 1 to `MOST_MEMBERS`.
+pub enum Question {
+    /// To elect committees by a rule, with this number of seats, from 1 to `MOST_MEMBERS`.
     Elect(Rule, u8, Page),
     /// To check whether a committee has a property. The members are as they were given: any numbers,
     /// in any order.
     Check(Property, Vec<u64>),
-    /// To share out seats by a method, from 1 to `MOST_SEATS`, among parties with these votes. Without votes, they
-    /// are those of the ballots.
-    Share(Method, u16, Option<Vec<u64>>, Page),
+    /// To share out seats by a method, from 1 to `MOST_SEATS`. Each voter counts for the one party that the ballot
+    /// approves.
+    Share(Method, u16, Page),
+}
+
+/// What a request asks for.
+#[derive(Debug, Drop)]
+pub enum Task {
+    /// Something about the ballots of an input.
+    OfBallots(Question),
+    /// To share out seats by a method, from 1 to `MOST_SEATS`, among parties with these votes, of which there is at
+    /// least one.
+    OfVotes(Vec<u64>, Method, u16, Page),
 }
 
 /// A request: its task, how the file is read, the file to read, where one is named, and whether answers have names.

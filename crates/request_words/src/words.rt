@@ -9,7 +9,7 @@ ghost use Rattle.preflib_text.specs.Approvals.{HasNumber};
 ghost use Rattle.preflib_text.specs.Names.{kind_named};
 ghost use Rattle.request_words.specs.Endings.{kind_in_path};
 ghost use Rattle.request_words.specs.Limits.{most_limit};
-ghost use Rattle.request_words.specs.Request.{InRange, IsPage, demand_of, paging_of};
+ghost use Rattle.request_words.specs.Request.{InRange, IsPage, demand_of, paging_of, sharing_by};
 ghost use Rattle.request_words.specs.declared.words.ListOption.TheVariants.{Votes};
 ghost use Rattle.request_words.specs.Steps.Values.{Gives, GivesAsked, HasCheckValues, HasCounts};
 ghost use Rattle.request_words.specs.Words.{IsAfterClap};
@@ -25,7 +25,7 @@ ghost use Rattle.request_words.specs.Words.{wants_names, way_by, way_in, way_nam
 use crate::commands::program;
 use crate::ending::kind_in_path;
 use crate::number_list::list_of;
-use crate::request::{Page, Request, Rule, Task};
+use crate::request::{Page, Question, Request, Rule, Task};
 use clap::error::ErrorKind;
 use clap::{ArgMatches, Error};
 use group_check::Property;
@@ -127,7 +127,8 @@ fn elect_asked(alloc: Global, elect: &ArgMatches<'_>) -> Result<Request, LineFau
 {
     let (rule, size) = rule_and_size(elect);
     let page = page(alloc, elect)?;
-    request(alloc, elect, Task::Elect(rule, size, page))
+    let question = Question::Elect(rule, size, page);
+    request(alloc, elect, Task::OfBallots(question))
 }
 
 /// The rule and the number of seats.
@@ -151,7 +152,8 @@ fn check_asked(alloc: Global, check: &ArgMatches<'_>) -> Result<Request, LineFau
     let property = Property::named(check.get_str("property").unwrap()).unwrap();
     let committee = check.get_str("committee").unwrap();
     let committee = numbers(alloc, ListOption::Committee, committee)?;
-    request(alloc, check, Task::Check(property, committee))
+    let question = Question::Check(property, committee);
+    request(alloc, check, Task::OfBallots(question))
 }
 
 /// The request in what clap found for `share`.
@@ -162,11 +164,21 @@ fn share_asked(alloc: Global, share: &ArgMatches<'_>) -> Result<Request, LineFau
     let (method, seats) = method_and_seats(share);
     let votes = list_given(alloc, share, ListOption::Votes, "votes")?;
     let page = page(alloc, share)?;
-    let request = request(alloc, share, Task::Share(method, seats, votes, page))?;
+    let request = request(alloc, share, sharing(votes, method, seats, page))?;
     if is_given(share, "votes") && has_input(share) {
         return Err(LineFault::VotesAndInput);
     }
     Ok(request)
+}
+
+/// A sharing of seats by votes that are given, or else by those of ballots.
+fn sharing(votes: Option<Vec<u64>>, method: Method, seats: u16, page: Page) -> Task
+    ensures { demand_of result ≡ sharing_by (option_map vec_items votes) method seats (paging_of page) }
+{
+    match votes {
+        Some(votes) => Task::OfVotes(votes, method, seats, page),
+        None => Task::OfBallots(Question::Share(method, seats, page)),
+    }
 }
 
 /// The method and the number of seats.

@@ -3,7 +3,7 @@ use Rattle.clap.specs.Words.{found_of, rows_of}
 use Rattle.clap.proofs.WalkLemmas.{first_value-rows}
 use Rattle.std.specs.Prelude.{option_map}
 use Rattle.std.specs.Vec.{vec_items}
-use Rattle.request_words.specs.Request.{checking}
+use Rattle.request_words.specs.Request.{checking, of_ballots}
 use Rattle.request_words.specs.Words.{asking, check_in, listed}
 use Rattle.request_words.specs.Steps.Values.{GivesAsked}
 use Rattle.request_words.specs.declared.words.ListOption.TheVariants.{Committee}
@@ -32,7 +32,7 @@ returns-in_err-committee c =
     (sym c.named.ensures ∙ c.unwrap-property.ensures)
     (sym (c.get_str-2.ensures ∙ first_value-rows (found_of c.args.check.now) (codes "committee")) ∙ ap (option_map (λ s. s.now)) c.unwrap-committee.ensures) in
     passed_on (GivesAsked (check_in rows)) c.from_residual.result c.in_err-committee.field-0.0 c.from_residual.ensures.1
-    (failed (check_in rows) (λ committee. asking rows (checking c.unwrap-property.result committee)) (listed Committee c.unwrap-committee.result.now)
+    (failed (check_in rows) (λ committee. asking rows (of_ballots (checking c.unwrap-property.result committee))) (listed Committee c.unwrap-committee.result.now)
     c.in_err-committee.field-0.0 said c.in_err-committee.ensures.given)
 
 pub returns : goal.returns
@@ -43,5 +43,5 @@ returns c =
     let said = check_is rows c.requires c.unwrap.result.now c.unwrap-committee.result.now c.unwrap-property.result named
     (sym c.named.ensures ∙ c.unwrap-property.ensures)
     (sym (c.get_str-2.ensures ∙ first_value-rows (found_of c.args.check.now) (codes "committee")) ∙ ap (option_map (λ s. s.now)) c.unwrap-committee.ensures) in
-    check_given (check_in rows) (λ committee. asking rows (checking c.unwrap-property.result committee)) (vec_items c.in_ok-committee.committee)
+    check_given (check_in rows) (λ committee. asking rows (of_ballots (checking c.unwrap-property.result committee))) (vec_items c.in_ok-committee.committee)
     (listed Committee c.unwrap-committee.result.now) c.request.result said c.in_ok-committee.ensures.given c.request.ensures
