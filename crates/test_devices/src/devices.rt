@@ -1,5 +1,5 @@
 //! Devices that give and take few bytes at a time, and fail where they are told to.
-ghost use Rattle.std.specs.Prelude.{◌≡◌, ◌≢◌, ◌↔◌, ◌≤◌, ◌+◌, ◌-◌, ◌^◌, ◌==◌, ◌||◌, [], Some, true, false, IsErr, is_err, length, min};
+ghost use Rattle.std.specs.Prelude.{◌≡◌, ◌≢◌, ◌↔◌, ◌≤◌, ◌+◌, ◌-◌, ◌^◌, ◌==◌, ◌||◌, [], Some, true, false, IsErr, is_err, length, min, if◌then◌else◌};
 ghost use Rattle.std.specs.Io.{ReadsAtMost, WritesAtMost};
 ghost use Rattle.std.specs.Io.KnownBytes.{ReadConsumes, WriteAppends};
 ghost use Rattle.vote_cli.specs.Device.{bytes_given, is_failed_write};
@@ -186,14 +186,18 @@ impl Sink for Recorder {
         ensures bytes { WriteAppends (Some self.old.0) (Some self.new.0) result buf.now }
         ensures failed { self.new.2 ≡ (self.old.2 || is_failed_write result buf.now) }
         ensures count { self.new.1 ≡ self.old.1 }
-        ensures due { IsDue self.old.3 (length self.old.0) → buf.now ≢ [] → is_failed_write result buf.now ≡ true }
+            ensures due { IsDue self.old.3 (length self.old.0) → buf.now ≢ [] → is_failed_write result buf.now ≡ true }
+        ensures fault { self.new.3 ≡ (if is_failed_write result buf.now then Fault.Sound else self.old.3) }
     {
+        if buf.is_empty() {
+            return Ok(0);
+        }
         let count = buf.len().min(self.piece).min(self.room());
         if count > 0 && self.taken.extend_from_slice(&buf[..count]).is_ok() {
             return Ok(count);
         }
-        let takes_none = buf.is_empty() || matches!(self.fault, Fault::ZeroAfter(_));
-        self.has_failed = self.has_failed || !buf.is_empty();
+        let takes_none = matches!(self.fault, Fault::ZeroAfter(_));
+        self.has_failed = true;
         self.fault = Fault::Sound;
         if takes_none {
             return Ok(0);

@@ -1,7 +1,7 @@
 //! Runs over the devices.
-ghost use Rattle.std.specs.Prelude.{◌≡◌, [], Some, true, false};
-ghost use Rattle.vote_cli.specs.Answer.{Ends, ReadsAll, has_votes};
-ghost use Rattle.vote_cli.specs.Device.{reader_state};
+ghost use Rattle.std.specs.Prelude.{◌≡◌, [], true, false};
+ghost use Rattle.test_devices.specs.States.{told_reader, told_writer};
+ghost use Rattle.vote_cli.specs.Runs.{Ends, has_votes};
 
 use crate::devices::{Fault, Recorder, SliceReader};
 use std::alloc::{Allocator, Global};
@@ -38,12 +38,8 @@ pub fn run_on<'a, A: Allocator + Copy + Drop>(
     mut out: Recorder,
     mut err: Recorder,
 ) -> Ended<'a>
-    ensures ends { Ends request.now reader.entry.0 (Some out.0) (Some result.out.0)
-        (Some err.0) (Some result.err.0) result.err.2
-        (reader_state reader.entry.1 reader.entry.3) (reader_state result.reader.1 result.reader.3)
-        out.2 result.out.2 result.status }
-    ensures input { has_votes request.now.demand ≡ false →
-        ReadsAll result.status (Some reader.entry.0) (Some result.reader.0) }
+    ensures ends { Ends request.now (told_reader reader.entry) (told_reader result.reader)
+        (told_writer out) (told_writer result.out) (told_writer err) (told_writer result.err) result.status }
     ensures votes { has_votes request.now.demand ≡ true → result.reader ≡ reader.entry }
 {
     let status = run(alloc, request, &mut reader, &mut out, &mut err);

@@ -16,7 +16,7 @@ use Rattle.preflib_text.specs.Reading.{Reads}
 use Rattle.preflib_text.specs.declared.fault.ReadFault.{ReadFault}
 use Rattle.preflib_text.specs.declared.pick.Pick.{Pick}
 use Rattle.preflib_text.proofs.ReadLemmas.{outcome_is_one, some_outcome_is}
-use Rattle.request_words.specs.Request.{Asked, Demand, electing, checking, sharing}
+use Rattle.request_words.specs.Request.{Asked, Demand, electing, checking, sharing, of_ballots, of_votes}
 use Rattle.vote_cli.specs.FaultText.{fault_text}
 use Rattle.vote_cli.specs.Names.{naming}
 use Rattle.vote_cli.specs.CheckText.{holds_text, violation_text}
@@ -107,13 +107,13 @@ module _ (IsRight : Election → Answer → Type 0) (one : (e : Election) (a b :
       (outcome_is_one bytes pick y.0 x.0 y.1 x.1) y.2)
 
 one_answer_to : (with_names : Bool) (demand : Demand) (pick : Pick) (bytes : List ℕ) (a b : Answer) → IsAnswerTo with_names demand pick bytes a → IsAnswerTo with_names demand pick bytes b → a ≡ b
-one_answer_to with_names (electing rule size page) pick bytes a b x y =
+one_answer_to with_names (of_ballots (electing rule size page)) pick bytes a b x y =
     one_over (λ e answer. answer ≡ election_answer rule size page with_names e) (λ e a b x y. x ∙ sym y) pick bytes a b x y
-one_answer_to with_names (checking property list) pick bytes a b x y =
+one_answer_to with_names (of_ballots (checking property list)) pick bytes a b x y =
     one_over (IsCheckAnswer property list with_names) (one_check_answer property list with_names) pick bytes a b x y
-one_answer_to with_names (sharing method seats None page) pick bytes a b x y =
+one_answer_to with_names (of_ballots (sharing method seats page)) pick bytes a b x y =
     one_over (λ e answer. answer ≡ ballots_answer method seats page with_names e) (λ e a b x y. x ∙ sym y) pick bytes a b x y
-one_answer_to with_names (sharing method seats (Some votes) page) pick bytes a b x y = x ∙ sym y
+one_answer_to with_names (of_votes votes method seats page) pick bytes a b x y = x ∙ sym y
 
 pub one_answer : (asked : Asked) (bytes : List ℕ) (a b : Answer) → IsAnswer asked bytes a → IsAnswer asked bytes b → a ≡ b
 one_answer asked bytes a b x y = one_answer_to asked.names asked.demand asked.pick bytes a b x y
@@ -140,13 +140,13 @@ module _ (IsRight : Election → Answer → Type 0) (some : (e : Election) → (
       by (Err fault, reads) = (refused InputRefused (fault_text fault), (Err fault, reads, refl))
 
 some_answer_to : (with_names : Bool) (demand : Demand) (pick : Pick) (bytes : List ℕ) → (answer : Answer) × IsAnswerTo with_names demand pick bytes answer
-some_answer_to with_names (electing rule size page) pick bytes =
+some_answer_to with_names (of_ballots (electing rule size page)) pick bytes =
     some_over (λ e answer. answer ≡ election_answer rule size page with_names e) (λ e. (election_answer rule size page with_names e, refl)) pick bytes
-some_answer_to with_names (checking property list) pick bytes =
+some_answer_to with_names (of_ballots (checking property list)) pick bytes =
     some_over (IsCheckAnswer property list with_names) (some_check_answer property list with_names) pick bytes
-some_answer_to with_names (sharing method seats None page) pick bytes =
+some_answer_to with_names (of_ballots (sharing method seats page)) pick bytes =
     some_over (λ e answer. answer ≡ ballots_answer method seats page with_names e) (λ e. (ballots_answer method seats page with_names e, refl)) pick bytes
-some_answer_to with_names (sharing method seats (Some votes) page) pick bytes = (share_answer method seats page (naming with_names []) votes, refl)
+some_answer_to with_names (of_votes votes method seats page) pick bytes = (share_answer method seats page (naming with_names []) votes, refl)
 
 pub some_answer : (asked : Asked) (bytes : List ℕ) → (answer : Answer) × IsAnswer asked bytes answer
 some_answer asked bytes = some_answer_to asked.names asked.demand asked.pick bytes

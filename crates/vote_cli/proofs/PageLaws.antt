@@ -13,7 +13,7 @@ use Rattle.preflib_text.specs.Reading.{Reads}
 use Rattle.preflib_text.specs.declared.fault.ReadFault.{ReadFault}
 use Rattle.preflib_text.specs.declared.pick.Pick.{Pick}
 use Rattle.preflib_text.proofs.ReadLemmas.{outcome_is_one}
-use Rattle.request_words.specs.Request.{Asked, Demand, Paging, electing, checking, sharing, whole}
+use Rattle.request_words.specs.Request.{Asked, Demand, Paging, electing, checking, sharing, whole, of_ballots, of_votes}
 use Rattle.seat_share.specs.Faults.{share_fault}
 use Rattle.seat_share.specs.declared.method.Method.{Method}
 use Rattle.seat_share.specs.declared.method.ShareFault.{ShareFault}
@@ -142,25 +142,25 @@ cut_votes IsOf method seats after n names votes is =
 cut_to : (with_names : Bool) (demand : Demand) (pick : Pick) (bytes : List ℕ) (after : Option (List ℕ)) (n : ℕ) (all cut : Answer) → is_listing demand ≡ true
     → IsAnswerTo with_names (with_page (unlimited after) demand) pick bytes all → IsAnswerTo with_names (with_page (up_to after n) demand) pick bytes cut
     → Related (IsListedBy with_names demand pick bytes) (CutOf after n) all cut
-cut_to with_names (electing rule size page) pick bytes after n all cut lists x y =
-    let IsOf = IsListedBy with_names (electing rule size page) pick bytes in
+cut_to with_names (of_ballots (electing rule size page)) pick bytes after n all cut lists x y =
+    let IsOf = IsListedBy with_names (of_ballots (electing rule size page)) pick bytes in
     let refusals = related_refusals IsOf (CutOf after n) in
     related_over (Related IsOf (CutOf after n)) refusals
     (λ e answer. answer ≡ election_answer rule size (unlimited after) with_names e) (λ e answer. answer ≡ election_answer rule size (up_to after n) with_names e) pick bytes
     (λ e a b reads left right. related (Related IsOf (CutOf after n)) refusals a b _ _ left right
     (cut_elected IsOf (elect_listed with_names rule size e) (e, reads, refl) after n (nat_lt e.m size) (may_start (elect_listed with_names rule size e).may_follow after)))
     all cut x y
-cut_to with_names (checking property list) pick bytes after n all cut lists x y = let h : false ≡ true = lists in cc
-cut_to with_names (sharing method seats None page) pick bytes after n all cut lists x y =
-    let IsOf = IsListedBy with_names (sharing method seats None page) pick bytes in
+cut_to with_names (of_ballots (checking property list)) pick bytes after n all cut lists x y = let h : false ≡ true = lists in cc
+cut_to with_names (of_ballots (sharing method seats page)) pick bytes after n all cut lists x y =
+    let IsOf = IsListedBy with_names (of_ballots (sharing method seats page)) pick bytes in
     let refusals = related_refusals IsOf (CutOf after n) in
     related_over (Related IsOf (CutOf after n)) refusals
     (λ e answer. answer ≡ ballots_answer method seats (unlimited after) with_names e) (λ e answer. answer ≡ ballots_answer method seats (up_to after n) with_names e) pick bytes
     (λ e a b reads left right. related (Related IsOf (CutOf after n)) refusals a b _ _ left right
     (counted (Related IsOf (CutOf after n)) refusals (has_many_approved e) _ _ (cut_votes IsOf method seats after n (naming with_names e.names) (party_votes e) (e, reads, refl))))
     all cut x y
-cut_to with_names (sharing method seats (Some votes) page) pick bytes after n all cut lists x y =
-    let IsOf = IsListedBy with_names (sharing method seats (Some votes) page) pick bytes in
+cut_to with_names (of_votes votes method seats page) pick bytes after n all cut lists x y =
+    let IsOf = IsListedBy with_names (of_votes votes method seats page) pick bytes in
     related (Related IsOf (CutOf after n)) (related_refusals IsOf (CutOf after n)) all cut _ _ x y (cut_votes IsOf method seats after n (naming with_names []) votes refl)
 
 pub limited : (asked : Asked) (bytes : List ℕ) (after : Option (List ℕ)) (n : ℕ) (all cut : Answer) → is_listing asked.demand ≡ true
@@ -199,23 +199,23 @@ part_votes IsOf page method seats names votes is =
 part_to : (with_names : Bool) (demand : Demand) (pick : Pick) (bytes : List ℕ) (page : Paging) (all part : Answer) → is_listing demand ≡ true
     → IsAnswerTo with_names (with_page whole demand) pick bytes all → IsAnswerTo with_names (with_page page demand) pick bytes part
     → Related (IsListedBy with_names demand pick bytes) (PartOf page) all part
-part_to with_names (electing rule size old) pick bytes page all part lists x y =
-    let IsOf = IsListedBy with_names (electing rule size old) pick bytes in
+part_to with_names (of_ballots (electing rule size old)) pick bytes page all part lists x y =
+    let IsOf = IsListedBy with_names (of_ballots (electing rule size old)) pick bytes in
     let refusals = related_refusals IsOf (PartOf page) in
     related_over (Related IsOf (PartOf page)) refusals (λ e answer. answer ≡ election_answer rule size whole with_names e) (λ e answer. answer ≡ election_answer rule size page with_names e) pick bytes
     (λ e a b reads left right. related (Related IsOf (PartOf page)) refusals a b _ _ left right
     (part_elected IsOf (elect_listed with_names rule size e) (e, reads, refl) page (nat_lt e.m size) (may_start (elect_listed with_names rule size e).may_follow page.after) refl))
     all part x y
-part_to with_names (checking property list) pick bytes page all part lists x y = let h : false ≡ true = lists in cc
-part_to with_names (sharing method seats None old) pick bytes page all part lists x y =
-    let IsOf = IsListedBy with_names (sharing method seats None old) pick bytes in
+part_to with_names (of_ballots (checking property list)) pick bytes page all part lists x y = let h : false ≡ true = lists in cc
+part_to with_names (of_ballots (sharing method seats old)) pick bytes page all part lists x y =
+    let IsOf = IsListedBy with_names (of_ballots (sharing method seats old)) pick bytes in
     let refusals = related_refusals IsOf (PartOf page) in
     related_over (Related IsOf (PartOf page)) refusals (λ e answer. answer ≡ ballots_answer method seats whole with_names e) (λ e answer. answer ≡ ballots_answer method seats page with_names e) pick bytes
     (λ e a b reads left right. related (Related IsOf (PartOf page)) refusals a b _ _ left right
     (counted (Related IsOf (PartOf page)) refusals (has_many_approved e) _ _ (part_votes IsOf page method seats (naming with_names e.names) (party_votes e) (e, reads, refl))))
     all part x y
-part_to with_names (sharing method seats (Some votes) old) pick bytes page all part lists x y =
-    let IsOf = IsListedBy with_names (sharing method seats (Some votes) old) pick bytes in
+part_to with_names (of_votes votes method seats old) pick bytes page all part lists x y =
+    let IsOf = IsListedBy with_names (of_votes votes method seats old) pick bytes in
     related (Related IsOf (PartOf page)) (related_refusals IsOf (PartOf page)) all part _ _ x y (part_votes IsOf page method seats (naming with_names []) votes refl)
 
 pub paged : (asked : Asked) (bytes : List ℕ) (page : Paging) (all part : Answer) → is_listing asked.demand ≡ true

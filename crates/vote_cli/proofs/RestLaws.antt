@@ -28,7 +28,7 @@ use Rattle.seat_share.proofs.LawLemmas.{facts}
 use Rattle.preflib_text.specs.Reading.{Reads}
 use Rattle.preflib_text.specs.declared.pick.Pick.{Pick}
 use Rattle.preflib_text.proofs.ReadLemmas.{outcome_is_one}
-use Rattle.request_words.specs.Request.{Asked, Demand, InRange, Paging, electing, checking, sharing}
+use Rattle.request_words.specs.Request.{Asked, Demand, InRange, Paging, electing, checking, sharing, of_ballots, of_votes}
 use Rattle.request_words.specs.declared.request.Rule.{Rule}
 use Rattle.request_words.specs.declared.request.Rule.TheVariants.{Scored, Sequential}
 use Rattle.vote_cli.specs.Answer.{Answer, IsAnswer, IsAnswerOver, IsAnswerTo, answered, ballots_answer, election_answer, refused, share_answer, share_answer_by}
@@ -204,7 +204,7 @@ rest_to : (with_names : Bool) (demand : Demand) (pick : Pick) (bytes : List ℕ)
     → InRange demand → IsListedBy with_names demand pick bytes listed → 1 ≤ j → IfSome page.limit (λ n. j < n) → slice_get (later_of listed page) (j - 1) ≡ Some last
     → IsAnswerTo with_names (with_page page demand) pick bytes all → all.status ≡ Answered → IsAnswerTo with_names (with_page (page_from page j last) demand) pick bytes rest
     → IsRest listed page j all rest
-rest_to with_names (electing rule size old) pick bytes listed page j last all rest lists range (e, reads, same) some few is x whole y =
+rest_to with_names (of_ballots (electing rule size old)) pick bytes listed page j last all rest lists range (e, reads, same) some few is x whole y =
     let left = over_election (λ e answer. answer ≡ election_answer rule size page with_names e) pick bytes e all reads x in
     let right = over_election (λ e answer. answer ≡ election_answer rule size (page_from page j last) with_names e) pick bytes e rest reads y in
     subst (λ (l : Listed). slice_get (later_of l page) (j - 1) ≡ Some last → IsRest l page j all rest) (sym same)
@@ -212,8 +212,8 @@ rest_to with_names (electing rule size old) pick bytes listed page j last all re
     rest_elected (elect_listed with_names rule size e) page j last few (elect_order rule size e) (elect_fits rule size e) some at
     (nat_lt e.m size) (may_start (is_committee e.m size) page.after) all rest left whole right)
     is
-rest_to with_names (checking property list) pick bytes listed page j last all rest lists range none some few is x whole y = let h : false ≡ true = lists in cc
-rest_to with_names (sharing method seats None old) pick bytes listed page j last all rest lists range (e, reads, same) some few is x whole y =
+rest_to with_names (of_ballots (checking property list)) pick bytes listed page j last all rest lists range none some few is x whole y = let h : false ≡ true = lists in cc
+rest_to with_names (of_ballots (sharing method seats old)) pick bytes listed page j last all rest lists range (e, reads, same) some few is x whole y =
     let names = naming with_names e.names in
     let votes = party_votes e in
     let left = counted_whole (has_many_approved e) (share_answer method seats page names votes) all
@@ -222,7 +222,7 @@ rest_to with_names (sharing method seats None old) pick bytes listed page j last
     over_election (λ e answer. answer ≡ ballots_answer method seats (page_from page j last) with_names e) pick bytes e rest reads y in
     rest_votes names method seats votes listed page j last all rest range.1 same some few is left.1 whole
     (right ∙ ap (λ many. counted_by many (share_answer method seats (page_from page j last) names votes)) left.0)
-rest_to with_names (sharing method seats (Some votes) old) pick bytes listed page j last all rest lists range same some few is x whole y =
+rest_to with_names (of_votes votes method seats old) pick bytes listed page j last all rest lists range same some few is x whole y =
     rest_votes (naming with_names []) method seats votes listed page j last all rest range.1 same some few is x whole y
 
 pub rest_fetched : (asked : Asked) (bytes : List ℕ) (listed : Listed) (page : Paging) (j : ℕ) (last : List ℕ) (all rest : Answer) → is_listing asked.demand ≡ true

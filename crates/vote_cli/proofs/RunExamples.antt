@@ -10,13 +10,11 @@ use Rattle.ballot_base.specs.declared.increments.ThieleRule.TheVariants.{Av}
 use Rattle.request_words.specs.declared.request.Rule.TheVariants.{Scored}
 use Rattle.request_words.specs.declared.request.ScoredRule.TheVariants.{Thiele}
 use Rattle.vote_cli.specs.declared.status.Status.TheVariants.{Answered, Violated, InputRefused, RequestRefused, NoMemory, DeviceFailed}
-use Rattle.vote_cli.specs.declared.input.InputFault.TheVariants as fault
 use Rattle.vote_cli.specs.declared.answers.Outcome.TheVariants as outcome
 use Rattle.vote_cli.specs.declared.refusal.RequestFault.TheVariants as request_fault
 use Rattle.vote_cli.specs.declared.refusal.Refusal.TheVariants as refusal
-use Rattle.request_words.specs.Request.{Asked, Demand, IsPage, Paging, electing, checking, sharing, whole, InRange}
-use Rattle.vote_cli.specs.Device.{is_failed_write, bytes_given, AppendsBeginning, ReaderState, reader_state}
-use Rattle.vote_cli.specs.Steps.Input.{TellsOfInput}
+use Rattle.request_words.specs.Request.{Asked, Demand, IsPage, Paging, electing, checking, of_ballots, of_votes, sharing, whole, InRange}
+use Rattle.vote_cli.specs.Device.{is_failed_write, bytes_given, AppendsBeginning, ReaderState, WriterState, reader_state, writer_state}
 use Rattle.vote_cli.specs.Laws.{IsCut, IsListed, IsPart, IsRest, IsSameRefusal, Listed, asked_for, elect_listed, front, is_listing, later_of, line_for, page_from, share_listed, text_after, with_page}
 use Rattle.vote_cli.specs.Listing.{allocation_line, committee_line}
 use Rattle.vote_cli.specs.Starts.{has_seats_for, is_committee}
@@ -29,8 +27,9 @@ use Rattle.seat_share.specs.Allocations.{lists_with_sum}
 use Rattle.std.specs.Borrow.{MutBor}
 use Rattle.vote_cli.specs.declared.printing.Printer.{Printer}
 use Rattle.vote_cli.specs.Steps.Printing.{Prints, Sends}
-use Rattle.vote_cli.specs.Answer.{Answer, answered, violated, refused, request_refused, election_answer, IsCheckAnswer, IsCommittee, share_answer, share_answer_by, ballots_answer, IsAnswer, IsTooLong, FailsToRead, has_votes, input_for, Reports, ReadsAll, Ends, TellsOfDevices, memory_line, read_failed_line, write_failed_line}
-use Rattle.vote_cli.specs.Steps.Refusals.{IsRefusal, status_of, error_of, ReadsBallots, TellsOfReads, TellsOfWrites, ReadsOn, WritesRight, IsWritten, outcome_status}
+use Rattle.vote_cli.specs.Answer.{Answer, answered, violated, refused, request_refused, election_answer, IsCheckAnswer, IsCommittee, share_answer, share_answer_by, ballots_answer, IsAnswer}
+use Rattle.vote_cli.specs.Runs.{Ends, FailsToRead, IsAllRead, IsRight, IsTooLong, ReadsInput, ReadsSoundly, Reports, has_votes, input_for, memory_line, read_failed_line, write_failed_line}
+use Rattle.vote_cli.specs.Steps.Refusals.{IsRefusal, IsUnread, status_of, error_of, ReadsBallots, TellsOfReads, TellsOfWrites, ReadsOn, WritesRight, IsWritten, outcome_status}
 use Rattle.vote_cli.specs.Steps.RequestFaults.{request_fault_word}
 use Rattle.ballot_base.specs.Lists.{IsIncreasing}
 use Rattle.group_check.specs.declared.property.Property.TheVariants.{Jr}
@@ -65,7 +64,7 @@ asking demand = record { demand = demand; pick = usual; file = None; names = fal
 
 -- so many seats by approval voting
 abbrev seats : ℕ → Asked
-seats size = asking (electing (Scored (Thiele Av)) size whole)
+seats size = asking (of_ballots (electing (Scored (Thiele Av)) size whole))
 
 -- the first answer alone
 abbrev first_one : Paging
@@ -160,20 +159,20 @@ unfolding lists_with_sum
 sharing_out = ((refl, refl), (λ text. refl), (λ text. refl))
 
 -- ---- pages
-other_pages : (is_listing (checking Jr (1 ∷ [])) ≡ false) × (is_listing (electing (Scored (Thiele Av)) 1 whole) ≡ true)
-    × (with_page first_one (electing (Scored (Thiele Av)) 1 whole) ≡ electing (Scored (Thiele Av)) 1 first_one) × (asked_for first_one (seats 1) ≡ asking (electing (Scored (Thiele Av)) 1 first_one))
+other_pages : (is_listing (of_ballots (checking Jr (1 ∷ []))) ≡ false) × (is_listing (of_ballots (electing (Scored (Thiele Av)) 1 whole)) ≡ true)
+    × (with_page first_one (of_votes (1 ∷ []) Dhondt 2 whole) ≡ of_votes (1 ∷ []) Dhondt 2 first_one) × (asked_for first_one (seats 1) ≡ asking (of_ballots (electing (Scored (Thiele Av)) 1 first_one)))
 other_pages = (refl, refl, refl, refl)
 
 same_refusals : IsSameRefusal (request_refused (codes "SizeTooLarge")) (request_refused (codes "SizeTooLarge"))
 same_refusals = (refl, refl)
 
-votes_in_words : (has_votes (sharing Dhondt 2 (Some (1 ∷ [])) whole) ≡ true) × (has_votes (sharing Dhondt 2 None whole) ≡ false)
+votes_in_words : (has_votes (of_votes (1 ∷ []) Dhondt 2 whole) ≡ true) × (has_votes (of_ballots (sharing Dhondt 2 whole)) ≡ false)
 votes_in_words = (refl, refl)
 
-in_range : InRange (electing (Scored (Thiele Av)) 40 whole) × InRange (checking Jr (9 ∷ [])) × InRange (sharing Dhondt 10000 None whole)
+in_range : InRange (of_ballots (electing (Scored (Thiele Av)) 40 whole)) × InRange (of_ballots (checking Jr (9 ∷ []))) × InRange (of_ballots (sharing Dhondt 10000 whole))
 in_range =
     let all : IsPage whole = record { after = tt; least = tt; most = tt } in
-    ((lit≤ tt, lit≤ tt, all), (λ none. let h : 9 ∷ [] ≡ [] = none in cc), (lit≤ tt, lit≤ tt, tt, all))
+    ((lit≤ tt, lit≤ tt, all), (λ none. let h : 9 ∷ [] ≡ [] = none in cc), (lit≤ tt, lit≤ tt, all))
 
 no_refusal : answered (codes "a") ≡ record { text = codes "a"; status = Answered; error = [] }
 no_refusal = refl
@@ -206,7 +205,7 @@ right_answer : IsAnswer (seats 4) example_text (request_refused (codes "SizeTooL
 right_answer = (Ok three, reads_three, refl)
 
 -- with votes in the words the bytes do not matter
-right_share : IsAnswer (asking (sharing Dhondt 2 (Some (0 ∷ 0 ∷ [])) whole)) example_text (request_refused (codes "NoVotes"))
+right_share : IsAnswer (asking (of_votes (0 ∷ 0 ∷ []) Dhondt 2 whole)) example_text (request_refused (codes "NoVotes"))
 right_share = refl
 
 -- ---- what is listed
@@ -234,7 +233,7 @@ listed = (refl, refl)
 listed_of_bytes : IsListed (seats 1) example_text (elect_listed false (Scored (Thiele Av)) 1 three)
 listed_of_bytes = (three, reads_three, refl)
 
-listed_of_votes : IsListed (asking (sharing Dhondt 1 (Some (1 ∷ 1 ∷ [])) whole)) [] (share_listed None Dhondt 1 (1 ∷ 1 ∷ []))
+listed_of_votes : IsListed (asking (of_votes (1 ∷ 1 ∷ []) Dhondt 1 whole)) [] (share_listed None Dhondt 1 (1 ∷ 1 ∷ []))
 listed_of_votes = refl
 
 a_front : (front one_seat one_seat.answers 1 ≡ one_seat.header ++ line (codes "1")) × (line_for [] ≡ line (codes "end")) × (line_for one_seat.answers ≡ line (codes "more"))
@@ -289,24 +288,45 @@ given_by_reads = (refl, refl)
 two_of_three : AppendsBeginning (Some (7 ∷ [])) (Some (7 ∷ 1 ∷ 2 ∷ [])) (1 ∷ 2 ∷ 3 ∷ [])
 two_of_three = (1 ∷ 2 ∷ [], 3 ∷ [], refl, refl)
 
--- a reader that was not read yet, and one that gave five bytes and has failed, or not
+-- a reader of these bytes that was not read yet, and one that gave five bytes and has failed, or not
+abbrev read_of : List ℕ → Bool → ℕ → ReaderState
+read_of bytes has_failed given = record { remaining = Some bytes; has_failed = has_failed; given = given }
+
+abbrev silent : Bool → ℕ → ReaderState
+silent has_failed given = record { remaining = None; has_failed = has_failed; given = given }
+
 abbrev unread : ReaderState
-unread = reader_state false 0
+unread = silent false 0
 
 abbrev broken : ReaderState
-broken = reader_state true 5
+broken = silent true 5
 
 abbrev sound : ReaderState
-sound = reader_state false 5
+sound = silent false 5
 
-failed_input : (TellsOfInput {T = ℕ} None unread broken (Err fault.ReadFailed)) × (TellsOfInput {T = ℕ} None unread sound (Err fault.Memory)) × (TellsOfInput {T = ℕ} None unread sound (Ok 1))
-failed_input = (inl refl, refl, refl)
+abbrev wrote : List ℕ → Bool → WriterState
+wrote bytes has_failed = record { contents = Some bytes; has_failed = has_failed }
+
+-- what is told of a device that is a pair or a triple
+states : (reader_state (λ (r : Option (List ℕ) × Bool × ℕ). r.0) (λ r. r.1) (λ r. r.2) (None, true, 5) ≡ broken)
+    × (writer_state (λ (w : List ℕ × Bool). Some w.0) (λ w. w.1) (1 ∷ [], true) ≡ wrote (1 ∷ []) true)
+states = (refl, refl)
+
+sound_reads : ReadsSoundly unread sound
+sound_reads = record { unfailed = refl; few = omega arith }
+
+-- 2^64 bytes are too many for a sound run
+long_reads : ReadsSoundly unread (silent false (2 ^ 64)) → ⊥
+long_reads reads = omega (arith, reads.few)
+
+failed_input : (ReadsOn {T = ℕ} unread broken (Err refusal.ReadFailed)) × (ReadsOn {T = ℕ} unread sound (Err refusal.Memory)) × (ReadsOn {T = ℕ} unread sound (Ok 1)) × IsUnread refusal.Memory
+failed_input = (inl refl, sound_reads, (sound_reads, tt), tt)
 
 -- a whole line, and a beginning of one
-reported : Reports (Some []) (Some (line (codes "a"))) false (line (codes "a"))
+reported : Reports (wrote [] false) (wrote (line (codes "a")) false) (line (codes "a"))
 reported = record { beginning = (line (codes "a"), [], refl, refl); whole = λ unfailed. refl }
 
-reported_in_part : Reports (Some []) (Some (codes "a")) true (line (codes "a"))
+reported_in_part : Reports (wrote [] false) (wrote (codes "a") true) (line (codes "a"))
 reported_in_part = record { beginning = (codes "a", 10 ∷ [], refl, refl); whole = λ unfailed. absurd (both_ways true unfailed refl) }
 
 -- a writer as the bytes that it took, and whether a call on it has failed
@@ -364,70 +384,96 @@ right_of_one : IsAnswer (seats 1) example_text (answered text)
 unfolding digits lists_of increments
 right_of_one = (Ok three, reads_three, refl)
 
-ends_answered : Ends (seats 1) example_text (Some []) (Some text) (Some []) (Some []) false unread sound false false Answered
-ends_answered = record { answer = answered text; right = right_of_one; status_is = refl; text = refl; error = record { beginning = ([], [], refl, refl); whole = λ unfailed. refl } }
+-- the whole input was read
+input_read : ReadsInput (read_of example_text false 0) (read_of [] false 90) (of_ballots (electing (Scored (Thiele Av)) 1 whole))
+input_read = record { sound = record { unfailed = refl; few = omega arith }; whole = λ free. refl }
 
-ends_refused : Ends (seats 1) [] (Some []) (Some []) (Some []) (Some (line (codes "committees: input: NoAlternatives"))) false unread sound false false InputRefused
+-- nothing on the errors
+abbrev quiet : WriterState
+quiet = wrote [] false
+
+nothing_reported : Reports quiet quiet []
+nothing_reported = record { beginning = ([], [], refl, refl); whole = λ unfailed. refl }
+
+-- the answer was written
+ends_answered : Ends (seats 1) (read_of example_text false 0) (read_of [] false 90) quiet (wrote text false) quiet quiet Answered
+ends_answered = record { answer = answered text; right = right_of_one; status_is = refl; input = input_read; wrote = refl; text = refl; error = nothing_reported }
+
+ends_refused : Ends (seats 1) (read_of [] false 0) (read_of [] false 0) quiet quiet quiet (wrote (line (codes "committees: input: NoAlternatives")) false) InputRefused
 ends_refused = record {
   answer = refused InputRefused (codes "committees: input: NoAlternatives");
   right = (Err (at_end name.NoAlternatives), reads_nothing, refl);
   status_is = refl;
+  input = record { sound = record { unfailed = refl; few = omega arith }; whole = λ free. refl };
+  wrote = refl;
   text = refl;
   error = record { beginning = (line (codes "committees: input: NoAlternatives"), [], refl, refl); whole = λ unfailed. refl };
 }
 
-ends_without_memory : Ends (seats 1) [] (Some []) (Some []) (Some []) (Some memory_line) false unread sound false false NoMemory
-ends_without_memory = record { nothing = refl; error = record { beginning = (memory_line, [], refl, refl); whole = λ unfailed. refl } }
+ends_without_memory : Ends (seats 1) unread sound quiet quiet quiet (wrote memory_line false) NoMemory
+ends_without_memory = record { over_input = refl; read = sound_reads; unfailed = refl; text = refl; error = record { beginning = (memory_line, [], refl, refl); whole = λ unfailed. refl } }
 
 -- a read failed, and the line on it was not taken whole
-ends_unread : Ends (seats 1) [] (Some []) (Some []) (Some []) (Some (codes "committees")) true unread broken false false DeviceFailed
-ends_unread = inl ((inl refl, refl), record { nothing = refl; error = record { beginning = (codes "committees", codes ": read failed" ++ 10 ∷ [], refl, refl); whole = λ unfailed. absurd (both_ways true unfailed refl) } })
+ends_unread : Ends (seats 1) unread broken quiet quiet quiet (wrote (codes "committees") true) DeviceFailed
+ends_unread = inl (record {
+  over_input = refl;
+  unread = inl refl;
+  unfailed = refl;
+  text = refl;
+  error = record { beginning = (codes "committees", codes ": read failed" ++ 10 ∷ [], refl, refl); whole = λ unfailed. absurd (both_ways true unfailed refl) };
+})
 
 -- a write failed after the first line
-ends_in_part : Ends (seats 1) example_text (Some []) (Some (line (codes "rule av"))) (Some []) (Some write_failed_line) false unread sound false true DeviceFailed
-ends_in_part = inr (
-  (refl, refl),
-  record {
-    answer = answered text;
-    right = right_of_one;
-    text = (line (codes "rule av"), line (codes "size 1") ++ line (codes "score 2/1") ++ line (codes "1") ++ line (codes "2") ++ line (codes "end"), refl, refl);
-    error = record { beginning = (write_failed_line, [], refl, refl); whole = λ unfailed. refl };
-  },
-)
+ends_in_part : Ends (seats 1) (read_of example_text false 0) (read_of [] false 90) quiet (wrote (line (codes "rule av")) true) quiet (wrote write_failed_line false) DeviceFailed
+ends_in_part = inr (record {
+  answer = answered text;
+  right = right_of_one;
+  input = input_read;
+  failed = refl;
+  text = (line (codes "rule av"), line (codes "size 1") ++ line (codes "score 2/1") ++ line (codes "1") ++ line (codes "2") ++ line (codes "end"), refl, refl);
+  error = record { beginning = (write_failed_line, [], refl, refl); whole = λ unfailed. refl };
+})
 
--- only the writer failed, and nothing failed after an earlier failure of the writer
-devices_told : (TellsOfDevices None DeviceFailed unread sound false true (λ said. said ≡ write_failed_line)) × (TellsOfDevices None Answered unread sound true true (λ said. ⊥))
-devices_told = (inr ((refl, refl), refl), (refl, refl))
+-- with votes in the words no run ends without memory, nor does one blame a reader that had failed before
+abbrev of_two : Asked
+of_two = asking (of_votes (1 ∷ []) Dhondt 2 whole)
 
-all_read : (ReadsAll Answered (Some (1 ∷ [])) (Some [])) × (ReadsOn {T = ℕ} (Some (1 ∷ [])) (Some []) (Err refusal.WriteFailed))
-all_read = (refl, refl)
+never_without_memory : Ends of_two broken broken quiet quiet quiet (wrote memory_line false) NoMemory → ⊥
+never_without_memory ends = absurd (true≢false ends.over_input)
 
-input_of_demands : (input_for (sharing Dhondt 2 (Some (1 ∷ [])) whole) None ≡ Some []) × (input_for (sharing Dhondt 2 None whole) (Some (1 ∷ [])) ≡ Some (1 ∷ []))
+never_unread : Ends of_two broken broken quiet quiet quiet (wrote read_failed_line false) DeviceFailed → ⊥
+never_unread (inl ends) = absurd (true≢false ends.over_input)
+never_unread (inr ends) = absurd (true≢false (sym ends.failed))
+
+input_of_demands : (input_for (of_votes (1 ∷ []) Dhondt 2 whole) None ≡ Some []) × (input_for (of_ballots (sharing Dhondt 2 whole)) (Some (1 ∷ [])) ≡ Some (1 ∷ []))
 input_of_demands = (refl, refl)
 
-refusals_told : (TellsOfReads {T = ℕ} None unread broken (Err refusal.ReadFailed)) × (TellsOfReads {T = ℕ} None unread sound (Err refusal.Memory)) × (TellsOfWrites {T = ℕ} false true (Err refusal.WriteFailed)) × (TellsOfWrites {T = ℕ} false false (Ok 1))
-refusals_told = (inl refl, refl, refl, refl)
+all_read : (IsAllRead (read_of (1 ∷ []) false 0) (read_of [] false 1)) × (ReadsOn {T = ℕ} (read_of (1 ∷ []) false 0) (read_of [] false 1) (Err refusal.WriteFailed))
+all_read = (refl, (record { unfailed = refl; few = omega arith }, refl))
+
+refusals_told : (TellsOfReads {T = ℕ} (of_ballots (checking Jr [])) unread broken (Err refusal.ReadFailed)) × (TellsOfReads {T = ℕ} (of_ballots (checking Jr [])) unread sound (Err refusal.Memory)) × (TellsOfWrites {T = ℕ} false true (Err refusal.WriteFailed)) × (TellsOfWrites {T = ℕ} false false (Ok 1))
+refusals_told = ((refl, inl refl), (refl, sound_reads), refl, refl)
 
 -- three bytes are not too many, nor are five that a reader gave that does not tell them; 2^64 are, and those before do
 -- not count
 few_bytes : IsTooLong (1 ∷ 2 ∷ 3 ∷ []) → ⊥
 few_bytes long = omega (arith, long)
 
-few_given : FailsToRead None unread sound → ⊥
+few_given : FailsToRead unread sound → ⊥
 few_given (inl failed) = absurd (true≢false (sym failed))
 few_given (inr long) = omega (arith, long.1)
 
-many_given : (FailsToRead None sound (reader_state false (5 + 2 ^ 64))) × (FailsToRead None sound (reader_state false (4 + 2 ^ 64)) → ⊥)
+many_given : (FailsToRead sound (silent false (5 + 2 ^ 64))) × (FailsToRead sound (silent false (4 + 2 ^ 64)) → ⊥)
 many_given = (inr (refl, omega arith, tt), none)
   where
-    none : FailsToRead None sound (reader_state false (4 + 2 ^ 64)) → ⊥
+    none : FailsToRead sound (silent false (4 + 2 ^ 64)) → ⊥
     none (inl failed) = absurd (true≢false (sym failed))
     none (inr long) = omega (arith, long.1)
 
 prepared : (ReadsBallots usual example_text (Ok three)) × (ReadsBallots usual [] (Err (refusal.Input (at_end name.NoAlternatives)))) × (ReadsBallots usual [] (Err refusal.Memory))
 prepared = (reads_three, reads_nothing, tt)
 
-concluded : WritesRight (IsAnswer (seats 4) example_text) (Some []) (Some []) (Err (refusal.Request request_fault.SizeTooLarge))
+concluded : WritesRight (IsRight (seats 4) (read_of example_text false 0)) (Some []) (Some []) (Err (refusal.Request request_fault.SizeTooLarge))
 concluded = (right_answer, refl)
 
 concluded_whole : WritesRight (λ answer. answer ≡ answered (codes "a")) (Some []) (Some (codes "a")) (Ok outcome.Answered)

@@ -25,19 +25,20 @@ use Rattle.vote_cli.specs.declared.refusal.Refusal.{Refusal}
 use Rattle.vote_cli.specs.declared.refusal.Refusal.TheVariants.{Input, Request, Memory, ReadFailed, WriteFailed}
 use Rattle.vote_cli.specs.declared.status.Status.{Status}
 use Rattle.vote_cli.specs.declared.status.Status.TheVariants as status
-use Rattle.request_words.specs.Request.{Asked, Demand, Paging, checking, electing, sharing}
+use Rattle.request_words.specs.Request.{Asked, Demand, Paging, Question, of_ballots, of_votes}
 use Rattle.vote_cli.specs.FaultText.{fault_text}
-use Rattle.vote_cli.specs.Device.{ReaderState}
+use Rattle.vote_cli.specs.Device.{ReaderState, WriterState}
 use Rattle.vote_cli.specs.Names.{Naming, naming}
 use Rattle.vote_cli.specs.Steps.RequestFaults.{request_fault_word}
-use Rattle.vote_cli.specs.Answer.{Answer, Ends, IsAnswer, IsAnswerAbout, IsAnswerOver, IsAnswerTo, IsCheckAnswer, IsCommittee, IsTooLong, ReadsAll, Reports, TellsOfDevices, ballots_answer, has_votes, input_for, share_answer, answered, request_refused, refused, violated}
+use Rattle.vote_cli.specs.Answer.{Answer, IsAnswer, IsAnswerAbout, IsAnswerOver, IsAnswerTo, IsCheckAnswer, IsCommittee, ballots_answer, share_answer, answered, request_refused, refused, violated}
+use Rattle.vote_cli.specs.Runs.{Ends, FailsToRead, IsAllRead, IsRight, IsTooLong, ReadsInput, ReadsSoundly, Reports, has_votes, input_for}
 use Rattle.vote_cli.specs.Steps.Printing.{Passes}
 use Rattle.vote_cli.proofs.PrintingLemmas.{alone}
-use Rattle.vote_cli.specs.Steps.Refusals.{WritesRight, IsRefusal, IsWritten, ReadsBallots, ReadsOn, TellsOfReads, TellsOfWrites, error_of, status_of, outcome_status}
+use Rattle.vote_cli.specs.Steps.Refusals.{WritesRight, IsRefusal, IsUnread, IsWritten, ReadsBallots, ReadsOn, TellsOfReads, TellsOfWrites, error_of, status_of, outcome_status}
 
 -- a writer of errors that was not called
-Reports-nothing : (taken : Option (List ℕ)) (has_failed : Bool) → Reports taken taken has_failed []
-Reports-nothing taken has_failed = record { beginning = ([], [], refl, Appends-nil taken); whole = λ e. Appends-nil taken }
+Reports-nothing : (err : WriterState) → Reports err err []
+Reports-nothing err = record { beginning = ([], [], refl, Appends-nil err.contents); whole = λ e. Appends-nil err.contents }
 
 -- a text that was printed with nothing left waiting
 Passes-all : {old new : Option (List ℕ)} {had_failed has_failed : Bool} {text : List ℕ} → Passes (alone old had_failed) (alone new has_failed) true text → Appends old new text
@@ -82,18 +83,6 @@ writes_wider P Q old new (Err Memory) wider h = h
 writes_wider P Q old new (Err ReadFailed) wider h = h
 writes_wider P Q old new (Err WriteFailed) wider h = (h.0, wider h.0 h.1, h.2)
 
--- the answer to a demand is the answer to the request that makes it
-is_answer : (asked : Asked) (demand : Demand) → demand ≡ asked.demand → (bytes : List ℕ) (answer : Answer) → IsAnswerTo asked.names demand asked.pick bytes answer → IsAnswer asked bytes answer
-is_answer asked demand same bytes answer h = subst (λ d. IsAnswerTo asked.names d asked.pick bytes answer) same h
-
--- the answer about the ballots that were read is the answer to a demand without votes
-answers_over : (with_names : Bool) (demand : Demand) (pick : Pick) (bytes : List ℕ) (answer : Answer) → has_votes demand ≡ false
-    → IsAnswerOver (IsAnswerAbout with_names demand) pick bytes answer → IsAnswerTo with_names demand pick bytes answer
-answers_over with_names (electing rule size page) pick bytes answer free h = h
-answers_over with_names (checking property list) pick bytes answer free h = h
-answers_over with_names (sharing method seats None page) pick bytes answer free h = h
-answers_over with_names (sharing method seats (Some votes) page) pick bytes answer free h = absurd (true≢false free)
-
 -- the answer about the votes of ballots that approve one candidate at most
 pub writes_ballots : (method : Method) (seats : ℕ) (page : Paging) (with_names : Bool) (e : Election) (names : Naming) (votes : List ℕ) (old new : Option (List ℕ)) (result : Result Outcome Refusal)
     → has_many_approved e ≡ false → names ≡ naming with_names e.names → votes ≡ party_votes e → WritesRight (λ answer. answer ≡ share_answer method seats page names votes) old new result
@@ -116,51 +105,54 @@ ballots_refused pick bytes fault Memory told is = (tt, λ e. cc, λ e. cc)
 ballots_refused pick bytes fault ReadFailed told is = elim is [ ]
 ballots_refused pick bytes fault WriteFailed told is = elim is [ ]
 
--- an answer over the input of a demand that has no votes
-needs_input : (asked demand : Demand) (remaining : Option (List ℕ)) (P : List ℕ → Type 0) → has_votes demand ≡ false → demand ≡ asked
-    → IfSome remaining P → IfSome (input_for asked remaining) P
-needs_input asked demand remaining P free demanded h =
-    subst (λ known. IfSome known P)
-    (ap (λ b. if b then Some [] else remaining) (sym free) ∙ ap (λ d. input_for d remaining) demanded) h
+-- ---- what is right of the ballots that were read
 
-module _ (known : Option (List ℕ)) (asked : Asked) (demand : Demand) (demanded : demand ≡ asked.demand) (free : has_votes demand ≡ false)
-    (pick : Pick) (picked : pick ≡ asked.pick) (with_names : Bool) (named : with_names ≡ asked.names) (old new : Option (List ℕ)) where
-  abbrev IsRight : Election → Answer → Type 0
-  IsRight = IsAnswerAbout with_names demand
+module _ (asked : Asked) (question : Question) (demanded : of_ballots question ≡ asked.demand) (pick : Pick) (picked : pick ≡ asked.pick)
+    (with_names : Bool) (named : with_names ≡ asked.names) (reader : ReaderState) where
+  is_answer : (bytes : List ℕ) (answer : Answer) → IsAnswerOver (IsAnswerAbout with_names question) pick bytes answer → IsAnswer asked bytes answer
+  is_answer bytes answer h = subst (λ d. IsAnswerTo asked.names d asked.pick bytes answer) demanded
+      (subst (λ n. IsAnswerTo n (of_ballots question) asked.pick bytes answer) named
+      (subst (λ p. IsAnswerTo with_names (of_ballots question) p bytes answer) picked h))
 
-  right : (bytes : List ℕ) (answer : Answer) → IsAnswerOver IsRight pick bytes answer → IsAnswer asked bytes answer
-  right bytes answer h = is_answer asked demand demanded bytes answer
-      (subst (λ n. IsAnswerTo n demand asked.pick bytes answer) named
-      (subst (λ p. IsAnswerTo with_names demand p bytes answer) picked (answers_over with_names demand pick bytes answer free h)))
-
-  -- an answer that is right of the election that was read
-  pub writes_over : (e : Election) (read : Result Election Refusal) (result : Result Outcome Refusal) → read ≡ Ok e
-      → IfSome known (λ bytes. ReadsBallots pick bytes read) → WritesRight (IsRight e) old new result
-      → IfSome (input_for asked.demand known) (λ bytes. WritesRight (IsAnswer asked bytes) old new result)
-  writes_over e read result was reads h =
-      needs_input asked.demand demand known (λ bytes. WritesRight (IsAnswer asked bytes) old new result) free demanded
-      (go known (subst (λ r. IfSome known (λ bytes. ReadsBallots pick bytes r)) was reads))
+  -- the bytes of the input are what the answer is about
+  is_right : (answer : Answer) → IfSome reader.remaining (λ bytes. IsAnswerOver (IsAnswerAbout with_names question) pick bytes answer) → IsRight asked reader answer
+  is_right answer h = subst (λ d. IfSome (input_for d reader.remaining) (λ bytes. IsAnswer asked bytes answer)) demanded (go reader.remaining h)
     where
-      go : (k : Option (List ℕ)) → IfSome k (λ bytes. ReadsBallots pick bytes (Ok e)) → IfSome k (λ bytes. WritesRight (IsAnswer asked bytes) old new result)
-      go None r = tt
-      go (Some bytes) r = writes_wider (IsRight e) (IsAnswer asked bytes) old new result (λ answer it. right bytes answer (Ok e, r, it)) h
+      go : (known : Option (List ℕ)) → IfSome known (λ bytes. IsAnswerOver (IsAnswerAbout with_names question) pick bytes answer) → IfSome known (λ bytes. IsAnswer asked bytes answer)
+      go None h = tt
+      go (Some bytes) h = is_answer bytes answer h
 
-  -- ballots that could not be read
-  pub writes_unread : (refusal : Refusal) (read : Result Election Refusal) (result : Result Outcome Refusal) → read ≡ Err refusal → IsErr result × IsErrAnd result (λ f. f ≡ refusal)
-      → IfSome known (λ bytes. ReadsBallots pick bytes read) → Appends old new []
-      → IfSome (input_for asked.demand known) (λ bytes. WritesRight (IsAnswer asked bytes) old new result)
-  writes_unread refusal read (Ok outcome) was is reads kept = absurd (true≢false (sym is.0))
-  writes_unread refusal read (Err passed) was is reads kept =
-      needs_input asked.demand demand known (λ bytes. WritesRight (IsAnswer asked bytes) old new (Err passed)) free demanded
-      (go known passed (subst (λ r. IfSome known (λ bytes. ReadsBallots pick bytes r)) (was ∙ ap Err (sym is.1)) reads))
-    where
-      go : (k : Option (List ℕ)) (r : Refusal) → IfSome k (λ bytes. ReadsBallots pick bytes (Err r)) → IfSome k (λ bytes. WritesRight (IsAnswer asked bytes) old new (Err r))
-      go None r h = tt
-      go (Some bytes) (Input fault) h = (right bytes (refused status.InputRefused (fault_text fault)) (Err fault, h, refl), kept)
-      go (Some bytes) (Request fault) h = elim h [ ]
-      go (Some bytes) Memory h = kept
-      go (Some bytes) ReadFailed h = kept
-      go (Some bytes) WriteFailed h = elim h [ ]
+  module _ (old new : Option (List ℕ)) (read : Result Election Refusal) (result : Result Outcome Refusal) (reads : IfSome reader.remaining (λ bytes. ReadsBallots pick bytes read)) where
+    -- an answer that is right of the election that was read
+    pub writes_over : (e : Election) → read ≡ Ok e → WritesRight (IsAnswerAbout with_names question e) old new result → WritesRight (IsRight asked reader) old new result
+    writes_over e was h =
+        writes_wider (IsAnswerAbout with_names question e) (IsRight asked reader) old new result
+        (λ answer it. is_right answer (go answer it reader.remaining (subst (λ r. IfSome reader.remaining (λ bytes. ReadsBallots pick bytes r)) was reads))) h
+      where
+        go : (answer : Answer) → IsAnswerAbout with_names question e answer → (known : Option (List ℕ)) → IfSome known (λ bytes. ReadsBallots pick bytes (Ok e))
+            → IfSome known (λ bytes. IsAnswerOver (IsAnswerAbout with_names question) pick bytes answer)
+        go answer it None r = tt
+        go answer it (Some bytes) r = (Ok e, r, it)
+
+    -- ballots that could not be read
+    pub writes_unread : (refusal : Refusal) → read ≡ Err refusal → IsErr result × IsErrAnd result (λ f. f ≡ refusal) → Appends old new [] → WritesRight (IsRight asked reader) old new result
+    writes_unread refusal was is kept = by result is.0 is.1
+      where
+        any : (known : Option (List ℕ)) (r : Refusal) (P : List ℕ → Type 0) → IfSome known (λ bytes. ReadsBallots pick bytes (Err r))
+            → ((bytes : List ℕ) → ReadsBallots pick bytes (Err r) → P bytes) → IfSome known P
+        any None r P h step = tt
+        any (Some bytes) r P h step = step bytes h
+
+        of : (r : Refusal) → IfSome reader.remaining (λ bytes. ReadsBallots pick bytes (Err r)) → WritesRight (IsRight asked reader) old new (Err r)
+        of (Input fault) h = (is_right (refused status.InputRefused (fault_text fault)) (any reader.remaining (Input fault) _ h (λ bytes it. (Err fault, it, refl))), kept)
+        of (Request fault) h = (is_right (request_refused (request_fault_word fault)) (any reader.remaining (Request fault) _ h (λ bytes it. absurd it)), kept)
+        of Memory h = kept
+        of ReadFailed h = kept
+        of WriteFailed h = (answered [], is_right (answered []) (any reader.remaining WriteFailed _ h (λ bytes it. absurd it)), ([], [], refl, kept))
+
+        by : (r : Result Outcome Refusal) → IsErr r → IsErrAnd r (λ f. f ≡ refusal) → WritesRight (IsRight asked reader) old new r
+        by (Ok outcome) is_err same = absurd (true≢false (sym is_err))
+        by (Err passed) is_err same = of passed (subst (λ r. IfSome reader.remaining (λ bytes. ReadsBallots pick bytes r)) (was ∙ ap Err (sym same)) reads)
 
 -- bytes of which so many were read are too many
 pub too_many : (before after : Option (List ℕ)) (read : List ℕ) → Consumes before after read → word_limit ≤ length read → IfSome before IsTooLong
@@ -171,93 +163,32 @@ too_many (Some bytes) (Some rest) read consumed long =
 
 -- ---- what a run leaves
 
-module _ (known : Option (List ℕ)) (asked : Asked) (old new err : Option (List ℕ)) (err_failed : Bool)
-    (read_old read_new : ReaderState) (wrote_old wrote_new : Bool) where
+module _ (asked : Asked) (read_old read_new : ReaderState) (out_old out_new err_old err_new : WriterState) where
   -- an answer that was written whole
-  ends_whole : (k : Option (List ℕ)) (ended : Outcome) → IfSome k (λ bytes. WritesRight (IsAnswer asked bytes) old new (Ok ended))
-      → IfSome k (λ bytes. Ends asked bytes old new err err err_failed read_old read_new wrote_old wrote_new (outcome_status ended))
-  ends_whole None ended h = tt
-  ends_whole (Some bytes) outcome.Answered h =
-      record { answer = answered h.0; right = h.1; status_is = refl; text = h.2; error = Reports-nothing err err_failed }
-  ends_whole (Some bytes) outcome.Violated h =
-      record { answer = violated h.0; right = h.1; status_is = refl; text = h.2; error = Reports-nothing err err_failed }
+  pub ends_answered : (ended : Outcome) (ends : Status) → ends ≡ outcome_status ended → err_new ≡ err_old
+      → WritesRight (IsRight asked read_old) out_old.contents out_new.contents (Ok ended) → TellsOfReads {T = Outcome} asked.demand read_old read_new (Ok ended)
+      → TellsOfWrites {T = Outcome} out_old.has_failed out_new.has_failed (Ok ended) → Ends asked read_old read_new out_old out_new err_old err_new ends
+  ends_answered ended ends is silent h reads writes = subst (Ends asked read_old read_new out_old out_new err_old err_new) (sym is) (go ended h)
+    where
+      nothing : Reports err_old err_new []
+      nothing = subst (λ e. Reports err_old e []) (sym silent) (Reports-nothing err_old)
 
-  -- the same, with the status that was answered
-  pub ends_answered : (ended : Outcome) (status : Status) → status ≡ outcome_status ended
-      → IfSome known (λ bytes. WritesRight (IsAnswer asked bytes) old new (Ok ended))
-      → IfSome known (λ bytes. Ends asked bytes old new err err err_failed read_old read_new wrote_old wrote_new status)
-  ends_answered ended status is h =
-      subst (λ s. IfSome known (λ bytes. Ends asked bytes old new err err err_failed read_old read_new wrote_old wrote_new s))
-      (sym is) (ends_whole known ended h)
+      go : (o : Outcome) → WritesRight (IsRight asked read_old) out_old.contents out_new.contents (Ok o) → Ends asked read_old read_new out_old out_new err_old err_new (outcome_status o)
+      go outcome.Answered h = record { answer = answered h.0; right = h.1; status_is = refl; input = reads; wrote = writes; text = h.2; error = nothing }
+      go outcome.Violated h = record { answer = violated h.0; right = h.1; status_is = refl; input = reads; wrote = writes; text = h.2; error = nothing }
 
-  module _ (err' : Option (List ℕ)) where
-    -- a refusal, with its line
-    ends_refused : (k : Option (List ℕ)) (refusal : Refusal)
-        → IfSome k (λ bytes. WritesRight (IsAnswer asked bytes) old new (Err refusal)) → Reports err err' err_failed (error_of refusal)
-        → TellsOfReads {T = Outcome} k read_old read_new (Err refusal) → TellsOfWrites {T = Outcome} wrote_old wrote_new (Err refusal)
-        → IfSome k (λ bytes. Ends asked bytes old new err err' err_failed read_old read_new wrote_old wrote_new (status_of refusal))
-    ends_refused None refusal h error reads writes = tt
-    ends_refused (Some bytes) (Input fault) h error reads writes =
-        record { answer = refused status.InputRefused (fault_text fault); right = h.0; status_is = refl; text = h.1; error = error }
-    ends_refused (Some bytes) (Request fault) h error reads writes =
-        record { answer = request_refused (request_fault_word fault); right = h.0; status_is = refl; text = h.1; error = error }
-    ends_refused (Some bytes) Memory h error reads writes = record { nothing = h; error = error }
-    ends_refused (Some bytes) ReadFailed h error reads writes = inl ((reads, writes), record { nothing = h; error = error })
-    ends_refused (Some bytes) WriteFailed h error reads writes =
-        inr ((reads, writes), record { answer = h.0; right = h.1; text = h.2; error = error })
-
-    -- the same, with the status that was answered
-    pub ends_by_refusal : (refusal : Refusal) (ended : Status) → ended ≡ status_of refusal
-        → IfSome known (λ bytes. WritesRight (IsAnswer asked bytes) old new (Err refusal)) → Reports err err' err_failed (error_of refusal)
-        → TellsOfReads {T = Outcome} known read_old read_new (Err refusal) → TellsOfWrites {T = Outcome} wrote_old wrote_new (Err refusal)
-        → IfSome known (λ bytes. Ends asked bytes old new err err' err_failed read_old read_new wrote_old wrote_new ended)
-    ends_by_refusal refusal ended is h error reads writes =
-        subst (λ s. IfSome known (λ bytes. Ends asked bytes old new err err' err_failed read_old read_new wrote_old wrote_new s))
-        (sym is) (ends_refused known refusal h error reads writes)
-
-module _ (known : Option (List ℕ)) (read_old read_new : ReaderState) (wrote_old wrote_new : Bool) (Says : List ℕ → Type 0) where
-  -- devices do not fail where an answer is written
-  pub tells_whole : (ended : Outcome) (status : Status) → status ≡ outcome_status ended
-      → read_new.has_failed ≡ read_old.has_failed → wrote_new ≡ wrote_old → TellsOfDevices known status read_old read_new wrote_old wrote_new Says
-  tells_whole outcome.Answered status is reads writes =
-      subst (λ s. TellsOfDevices known s read_old read_new wrote_old wrote_new Says) (sym is) (reads, writes)
-  tells_whole outcome.Violated status is reads writes =
-      subst (λ s. TellsOfDevices known s read_old read_new wrote_old wrote_new Says) (sym is) (reads, writes)
-
-  -- one that has failed is blamed
-  tells_refused : (refusal : Refusal) → TellsOfReads {T = Outcome} known read_old read_new (Err refusal)
-      → TellsOfWrites {T = Outcome} wrote_old wrote_new (Err refusal) → Says (error_of refusal)
-      → TellsOfDevices known (status_of refusal) read_old read_new wrote_old wrote_new Says
-  tells_refused (Input fault) reads writes says = (reads, writes)
-  tells_refused (Request fault) reads writes says = (reads, writes)
-  tells_refused Memory reads writes says = (reads, writes)
-  tells_refused ReadFailed reads writes says = inl ((reads, writes), says)
-  tells_refused WriteFailed reads writes says = inr ((reads, writes), says)
-
-  pub tells_by_refusal : (refusal : Refusal) (ended : Status) → ended ≡ status_of refusal
-      → TellsOfReads {T = Outcome} known read_old read_new (Err refusal) → TellsOfWrites {T = Outcome} wrote_old wrote_new (Err refusal)
-      → Says (error_of refusal) → TellsOfDevices known ended read_old read_new wrote_old wrote_new Says
-  tells_by_refusal refusal ended is reads writes says =
-      subst (λ s. TellsOfDevices known s read_old read_new wrote_old wrote_new Says) (sym is) (tells_refused refusal reads writes says)
-
-pub whole_has_memory : (ended : Outcome) (code : Status) → code ≡ outcome_status ended → code ≢ status.NoMemory
-whole_has_memory outcome.Answered code is none = let h : status.Answered ≡ status.NoMemory = sym is ∙ none in cc
-whole_has_memory outcome.Violated code is none = let h : status.Violated ≡ status.NoMemory = sym is ∙ none in cc
-
-module _ (before after : Option (List ℕ)) where
-  -- a run that ended with an outcome, or with a refusal
-  pub reads_all_whole : (ended : Outcome) (status : Status) → status ≡ outcome_status ended
-      → ReadsOn {T = Outcome} before after (Ok ended) → ReadsAll status before after
-  reads_all_whole outcome.Answered status is h = subst (λ s. ReadsAll s before after) (sym is) h
-  reads_all_whole outcome.Violated status is h = subst (λ s. ReadsAll s before after) (sym is) h
-
-  reads_all_refused : (refusal : Refusal) → ReadsOn {T = Outcome} before after (Err refusal) → ReadsAll (status_of refusal) before after
-  reads_all_refused (Input fault) h = h
-  reads_all_refused (Request fault) h = h
-  reads_all_refused Memory h = tt
-  reads_all_refused ReadFailed h = tt
-  reads_all_refused WriteFailed h = tt
-
-  pub reads_all_by_refusal : (refusal : Refusal) (ended : Status) → ended ≡ status_of refusal
-      → ReadsOn {T = Outcome} before after (Err refusal) → ReadsAll ended before after
-  reads_all_by_refusal refusal ended is h = subst (λ s. ReadsAll s before after) (sym is) (reads_all_refused refusal h)
+  -- a refusal, with its line
+  pub ends_refused : (refusal : Refusal) (ends : Status) → ends ≡ status_of refusal → Reports err_old err_new (error_of refusal)
+      → WritesRight (IsRight asked read_old) out_old.contents out_new.contents (Err refusal) → TellsOfReads {T = Outcome} asked.demand read_old read_new (Err refusal)
+      → TellsOfWrites {T = Outcome} out_old.has_failed out_new.has_failed (Err refusal) → Ends asked read_old read_new out_old out_new err_old err_new ends
+  ends_refused refusal ends is error h reads writes = subst (Ends asked read_old read_new out_old out_new err_old err_new) (sym is) (go refusal error h reads writes)
+    where
+      go : (r : Refusal) → Reports err_old err_new (error_of r) → WritesRight (IsRight asked read_old) out_old.contents out_new.contents (Err r) → TellsOfReads {T = Outcome} asked.demand read_old read_new (Err r)
+          → TellsOfWrites {T = Outcome} out_old.has_failed out_new.has_failed (Err r) → Ends asked read_old read_new out_old out_new err_old err_new (status_of r)
+      go (Input fault) error h reads writes =
+          record { answer = refused status.InputRefused (fault_text fault); right = h.0; status_is = refl; input = reads; wrote = writes; text = h.1; error = error }
+      go (Request fault) error h reads writes =
+          record { answer = request_refused (request_fault_word fault); right = h.0; status_is = refl; input = reads; wrote = writes; text = h.1; error = error }
+      go Memory error h reads writes = record { over_input = reads.0; read = reads.1; unfailed = writes; text = h; error = error }
+      go ReadFailed error h reads writes = inl (record { over_input = reads.0; unread = reads.1; unfailed = writes; text = h; error = error })
+      go WriteFailed error h reads writes = inr (record { answer = h.0; right = h.1; input = reads; failed = writes; text = h.2; error = error })

@@ -12,13 +12,25 @@ abbrev pub bytes_given : {E : Type 0} → Result ℕ E → ℕ
 bytes_given (Ok n) = n
 bytes_given (Err e) = 0
 
--- what is told of a reader: whether a call has failed, and how many bytes its reads have given so far
+-- what is told of a reader: the bytes that it has still to give, if they are known, whether a call has failed, and how
+-- many bytes its reads have given so far
 pub record ReaderState : Type 0 where
+  pub remaining : Option (List ℕ)
   pub has_failed : Bool
   pub given : ℕ
 
-abbrev pub reader_state : Bool → ℕ → ReaderState
-reader_state has_failed given = record { has_failed = has_failed; given = given }
+-- what is told of a writer: the bytes that it took, if they are known, and whether a call has failed
+pub record WriterState : Type 0 where
+  pub contents : Option (List ℕ)
+  pub has_failed : Bool
+
+-- the same of a device, by what its trait tells of it
+abbrev pub reader_state : {R : Type 0} → (R → Option (List ℕ)) → (R → Bool) → (R → ℕ) → R → ReaderState
+reader_state remaining has_failed given reader =
+    record { remaining = remaining reader; has_failed = has_failed reader; given = given reader }
+
+abbrev pub writer_state : {W : Type 0} → (W → Option (List ℕ)) → (W → Bool) → W → WriterState
+writer_state contents has_failed writer = record { contents = contents writer; has_failed = has_failed writer }
 
 -- known bytes grow by a beginning of the text
 abbrev pub AppendsBeginning : Option (List ℕ) → Option (List ℕ) → List ℕ → Type 0

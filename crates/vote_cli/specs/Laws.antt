@@ -6,6 +6,7 @@ use Rattle.ballot_base.specs.Lists.{later_than}
 use Rattle.preflib_text.specs.Reading.{Reads}
 use Rattle.preflib_text.specs.declared.pick.Pick.{Pick}
 use Rattle.request_words.specs.Request.{Asked, Demand, Paging, electing, checking, sharing, whole}
+use Rattle.request_words.specs.Request.{of_ballots, of_votes}
 use Rattle.request_words.specs.declared.request.Rule.{Rule}
 use Rattle.seat_share.specs.Allocations.{allocations}
 use Rattle.seat_share.specs.declared.method.Method.{Method}
@@ -20,15 +21,17 @@ use Rattle.vote_cli.specs.Text.{line}
 
 -- whether the answer to a demand is a list of answers
 abbrev pub is_listing : Demand → Bool
-is_listing (electing rule size page) = true
-is_listing (checking property list) = false
-is_listing (sharing method seats votes page) = true
+is_listing (of_ballots (electing rule size page)) = true
+is_listing (of_ballots (checking property list)) = false
+is_listing (of_ballots (sharing method seats page)) = true
+is_listing (of_votes votes method seats page) = true
 
 -- a demand for others of its answers
 abbrev pub with_page : Paging → Demand → Demand
-with_page page (electing rule size old) = electing rule size page
-with_page page (checking property list) = checking property list
-with_page page (sharing method seats votes old) = sharing method seats votes page
+with_page page (of_ballots (electing rule size old)) = of_ballots (electing rule size page)
+with_page page (of_ballots (checking property list)) = of_ballots (checking property list)
+with_page page (of_ballots (sharing method seats old)) = of_ballots (sharing method seats page)
+with_page page (of_votes votes method seats old) = of_votes votes method seats page
 
 -- a request for others of its answers
 abbrev pub asked_for : Paging → Asked → Asked
@@ -67,11 +70,11 @@ IsListedOver listed_of pick bytes listed =
 
 -- what is listed by a demand, with names or not; a check lists nothing
 abbrev pub IsListedBy : Bool → Demand → Pick → List ℕ → Listed → Type 0
-IsListedBy with_names (electing rule size page) = IsListedOver (elect_listed with_names rule size)
-IsListedBy with_names (checking property list) = λ pick bytes listed. ⊥
-IsListedBy with_names (sharing method seats None page) = IsListedOver (λ election.
+IsListedBy with_names (of_ballots (electing rule size page)) = IsListedOver (elect_listed with_names rule size)
+IsListedBy with_names (of_ballots (checking property list)) = λ pick bytes listed. ⊥
+IsListedBy with_names (of_ballots (sharing method seats page)) = IsListedOver (λ election.
     share_listed (naming with_names election.names) method seats (party_votes election))
-IsListedBy with_names (sharing method seats (Some votes) page) =
+IsListedBy with_names (of_votes votes method seats page) =
     λ pick bytes listed. listed ≡ share_listed (naming with_names []) method seats votes
 
 -- what is listed by a request over the bytes of an input

@@ -8,6 +8,7 @@ pub mod Listing
 pub mod Names
 pub mod Parties
 pub mod RuleValues
+pub mod Runs
 pub mod ShareText
 pub mod Starts
 pub mod Status

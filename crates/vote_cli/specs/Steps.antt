@@ -1,4 +1,3 @@
-pub mod Input
 pub mod Limits
 pub mod Names
 pub mod Numbers

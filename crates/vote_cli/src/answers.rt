@@ -2,7 +2,7 @@
 ghost use Rattle.std.specs.Prelude.{◌≡◌, ◌≢◌, ◌≤◌, [], Err, IfErr, IfOk, false, length, not, true};
 ghost use Rattle.ballot_base.specs.Limits.{most_members};
 ghost use Rattle.std.specs.Option.{option_copied};
-ghost use Rattle.request_words.specs.Request.{InRange, demand_of, paging_of};
+ghost use Rattle.request_words.specs.Request.{IsInRange, paging_of, question_of};
 ghost use Rattle.seat_share.specs.Faults.{has_other_length};
 ghost use Rattle.vote_cli.specs.Answer.{IsAnswerAbout, IsCheckAnswer, ballots_answer, election_answer, share_answer};
 ghost use Rattle.vote_cli.specs.Starts.{has_seats_for, may_start};
@@ -23,7 +23,7 @@ use crate::starts::{committee_start, seats_start};
 use crate::status::Status;
 use ballot_base::Profile;
 use group_check::{Property, find_violation};
-use request_words::{Page, Rule, Task};
+use request_words::{Page, Question, Rule};
 use seat_share::{Method, ShareFault, Shares};
 use std::alloc::Allocator;
 use tie_families::{Families, FamilyWinners};
@@ -209,34 +209,30 @@ fn answer_share_of_ballots<A: Allocator + Copy, W: Sink>(
     }
 }
 
-/// Writes the answer to what is asked about these ballots. With votes in the request, it is about those alone.
+/// Writes the answer to what is asked about these ballots.
 pub(crate) fn answer_about_ballots<A: Allocator + Copy + Drop, W: Sink>(
     alloc: A,
     out: &mut W,
     profile: &Profile<A>,
-    task: &Task,
+    question: &Question,
     with_names: bool,
 ) -> Result<Outcome, Refusal>
-    requires asked { InRange (demand_of task.now) }
-    ensures answer { WritesRight (IsAnswerAbout with_names (demand_of task.now) profile.now)
+    requires asked { IsInRange (question_of question.now) }
+    ensures answer { WritesRight (IsAnswerAbout with_names (question_of question.now) profile.now)
         (W.contents out.old) (W.contents out.new) result }
     ensures writes { TellsOfWrites (W.has_failed out.old) (W.has_failed out.new) result }
     ensures unread { result ≢ Err Refusal.ReadFailed }
 {
-    match task {
-        Task::Elect(rule, size, page) => {
+    match question {
+        Question::Elect(rule, size, page) => {
             answer_election(alloc, out, profile, *rule, *size, page, with_names)
         }
-        Task::Check(property, committee) => {
+        Question::Check(property, committee) => {
             answer_check(out, profile, *property, committee.as_slice(), with_names)
         }
-        Task::Share(method, seats, votes, page) => match votes {
-            Some(votes) => {
-                let names = Names::<A>::numbers(with_names);
-                answer_share(out, votes.as_slice(), *method, *seats, page, &names)
-            }
-            None => answer_share_of_ballots(out, profile, *method, *seats, page, with_names),
-        },
+        Question::Share(method, seats, page) => {
+            answer_share_of_ballots(out, profile, *method, *seats, page, with_names)
+        }
     }
 }
 

@@ -23,7 +23,7 @@ pub mod status;
 pub use ballot_base::BallotHashing;
 pub use device::{Device, Sink, Source, Told};
 pub use request_words::{
-    LineFault, ListOption, Page, Request, Rule, ScoredRule, Task, read_request,
+    LineFault, ListOption, Page, Question, Request, Rule, ScoredRule, Task, read_request,
 };
 pub use run_request::{run, run_with_hashing};
 pub use status::Status;

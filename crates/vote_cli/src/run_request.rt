@@ -1,22 +1,20 @@
 //! A whole run, from the bytes of the input to the bytes of the answer.
-ghost use Rattle.std.specs.Prelude.{◌≡◌, ◌≢◌, Err, IfSome, None, Some, true, false};
+ghost use Rattle.std.specs.Prelude.{◌≡◌, ◌≢◌, Err, IfSome, true};
 ghost use Rattle.preflib_text.specs.Approvals.{HasNumber};
-ghost use Rattle.request_words.specs.Request.{demand_of, paging_of, sharing};
-ghost use Rattle.vote_cli.specs.Answer.{Ends, IsAnswer, ReadsAll, Reports, TellsOfDevices, has_votes, input_for};
-ghost use Rattle.vote_cli.specs.Device.{reader_state};
+ghost use Rattle.vote_cli.specs.Device.{reader_state, writer_state};
+ghost use Rattle.vote_cli.specs.Runs.{Ends, IsRight, Reports, has_votes};
 ghost use Rattle.vote_cli.specs.Steps.Refusals.{WritesRight, ReadsBallots, ReadsOn};
 ghost use Rattle.vote_cli.specs.Steps.Refusals.{TellsOfReads, TellsOfWrites, error_of, status_of};
 
 use crate::answers::{Outcome, answer_about_ballots, answer_share};
 use crate::device::{Sink, Source};
-use crate::input::{InputFault, read_to_end};
+use crate::input::read_to_end;
 use crate::names::Names;
 use crate::refusal::{Refusal, refusal_of};
 use crate::status::Status;
 use ballot_base::{BallotHashing, Profile};
 use preflib_text::{LineReader, Pick};
-use request_words::{Page, Request, Task};
-use seat_share::Method;
+use request_words::{Request, Task};
 use std::alloc::Allocator;
 
 /// The ballots of what was fed, or why there are none.
@@ -40,35 +38,15 @@ fn read_ballots<A: Allocator + Copy + Drop, R: Source>(
 ) -> Result<Profile<A>, Refusal>
     requires way { HasNumber pick.now.way }
     ensures input { IfSome (R.remaining reader.old) (λ bytes. ReadsBallots pick.now bytes result) }
-    ensures reads { TellsOfReads (R.remaining reader.old)
-        (reader_state (R.has_failed reader.old) (R.given reader.old))
-        (reader_state (R.has_failed reader.new) (R.given reader.new)) result }
-    ensures end { ReadsOn (R.remaining reader.old) (R.remaining reader.new) result }
+    ensures reads { ReadsOn (reader_state R.remaining R.has_failed R.given reader.old)
+        (reader_state R.remaining R.has_failed R.given reader.new) result }
     ensures unwritten { result ≢ Err Refusal.WriteFailed }
 {
-    let lines = match read_to_end(alloc, hashing, pick, reader) {
-        Ok(lines) => lines,
-        Err(InputFault::Memory) => return Err(Refusal::Memory),
-        Err(InputFault::ReadFailed) => return Err(Refusal::ReadFailed),
-    };
+    let lines = read_to_end(alloc, hashing, pick, reader)?;
     ballots_of(lines)
 }
 
-/// What is asked of the votes in a request, where they stand there: the method, the seats, the votes, and the page.
-fn given_votes(task: &Task) -> Option<(Method, u16, &[u64], &Page)>
-    ensures some { IfSome result (λ given.
-        demand_of task.now ≡ sharing given.0 given.1 (Some given.2.now) (paging_of given.3.now)) }
-    ensures none { result ≡ None → has_votes (demand_of task.now) ≡ false }
-{
-    match task {
-        Task::Share(method, seats, Some(votes), page) => {
-            Some((*method, *seats, votes.as_slice(), page))
-        }
-        _ => None,
-    }
-}
-
-/// Writes the answer where there is one. The input is read only where its ballots are asked about.
+/// Writes the answer if there is one. The input is read only if its ballots are asked about.
 fn answer<A: Allocator + Copy + Drop, R: Source, W: Sink>(
     alloc: A,
     hashing: BallotHashing,
@@ -76,29 +54,30 @@ fn answer<A: Allocator + Copy + Drop, R: Source, W: Sink>(
     reader: &mut R,
     out: &mut W,
 ) -> Result<Outcome, Refusal>
-    ensures answer { IfSome (input_for request.now.demand (R.remaining reader.old)) (λ bytes.
-        WritesRight (IsAnswer request.now bytes) (W.contents out.old) (W.contents out.new) result) }
-    ensures reads { TellsOfReads (input_for request.now.demand (R.remaining reader.old))
-        (reader_state (R.has_failed reader.old) (R.given reader.old))
-        (reader_state (R.has_failed reader.new) (R.given reader.new)) result }
+    ensures answer { WritesRight (IsRight request.now (reader_state R.remaining R.has_failed R.given reader.old))
+        (W.contents out.old) (W.contents out.new) result }
+    ensures reads { TellsOfReads request.now.demand (reader_state R.remaining R.has_failed R.given reader.old)
+        (reader_state R.remaining R.has_failed R.given reader.new) result }
     ensures writes { TellsOfWrites (W.has_failed out.old) (W.has_failed out.new) result }
-    ensures end { has_votes request.now.demand ≡ false →
-        ReadsOn (R.remaining reader.old) (R.remaining reader.new) result }
-    ensures votes { has_votes request.now.demand ≡ true → (reader.new ≡ reader.old) × (result ≢ Err Refusal.Memory) }
+    ensures votes { has_votes request.now.demand ≡ true → reader.new ≡ reader.old }
 {
-    let task = request.task();
-    if let Some((method, seats, votes, page)) = given_votes(task) {
-        let names = Names::<A>::numbers(request.names());
-        return answer_share(out, votes, method, seats, page, &names);
+    match request.task() {
+        Task::OfVotes(votes, method, seats, page) => {
+            let names = Names::<A>::numbers(request.names());
+            answer_share(out, votes.as_slice(), *method, *seats, page, &names)
+        }
+        Task::OfBallots(question) => {
+            let profile = read_ballots(alloc, hashing, &request.pick(), reader)?;
+            answer_about_ballots(alloc, out, &profile, question, request.names())
+        }
     }
-    let profile = read_ballots(alloc, hashing, &request.pick(), reader)?;
-    answer_about_ballots(alloc, out, &profile, task, request.names())
 }
 
 /// Ends a run that was refused, with a line on the errors.
 fn refuse<E: Sink>(err: &mut E, refusal: Refusal) -> Status
     ensures status { result ≡ status_of refusal }
-    ensures error { Reports (E.contents err.old) (E.contents err.new) (E.has_failed err.new) (error_of refusal) }
+    ensures error { Reports (writer_state E.contents E.has_failed err.old)
+        (writer_state E.contents E.has_failed err.new) (error_of refusal) }
 {
     let _ = refusal.write(err);
     refusal.status()
@@ -116,25 +95,13 @@ pub fn run<A: Allocator + Copy + Drop, R: Source, W: Sink, E: Sink>(
     out: &mut W,
     err: &mut E,
 ) -> Status
-    // What was written is the answer of the request and the bytes, or what the status says of it.
-    ensures ends { IfSome (input_for request.now.demand (R.remaining reader.old)) (λ bytes.
-        Ends request.now bytes (W.contents out.old) (W.contents out.new)
-        (E.contents err.old) (E.contents err.new) (E.has_failed err.new)
-        (reader_state (R.has_failed reader.old) (R.given reader.old))
-        (reader_state (R.has_failed reader.new) (R.given reader.new))
-        (W.has_failed out.old) (W.has_failed out.new) result) }
-    // A device is blamed exactly where it has failed, by its own line, whether or not the devices tell their bytes; and
-    // so is the reader where it gave more than 2^64 - 1 bytes.
-    ensures devices { TellsOfDevices (input_for request.now.demand (R.remaining reader.old)) result
-        (reader_state (R.has_failed reader.old) (R.given reader.old))
-        (reader_state (R.has_failed reader.new) (R.given reader.new))
-        (W.has_failed out.old) (W.has_failed out.new)
-        (Reports (E.contents err.old) (E.contents err.new) (E.has_failed err.new)) }
-    // The input is read to its end, whatever stands in it.
-    ensures input { has_votes request.now.demand ≡ false →
-        ReadsAll result (R.remaining reader.old) (R.remaining reader.new) }
-    // With votes in the request the reader is left alone, and no memory is taken.
-    ensures votes { has_votes request.now.demand ≡ true → (reader.new ≡ reader.old) × (result ≢ Status.NoMemory) }
+    // With the answer of the request and the bytes, or with what stopped it: the status says which.
+    ensures ends { Ends request.now (reader_state R.remaining R.has_failed R.given reader.old)
+        (reader_state R.remaining R.has_failed R.given reader.new)
+        (writer_state W.contents W.has_failed out.old) (writer_state W.contents W.has_failed out.new)
+        (writer_state E.contents E.has_failed err.old) (writer_state E.contents E.has_failed err.new) result }
+    // With votes in the request the reader is left alone.
+    ensures votes { has_votes request.now.demand ≡ true → reader.new ≡ reader.old }
 {
     run_with_hashing(alloc, BallotHashing::fixed(), request, reader, out, err)
 }
@@ -148,25 +115,13 @@ pub fn run_with_hashing<A: Allocator + Copy + Drop, R: Source, W: Sink, E: Sink>
     out: &mut W,
     err: &mut E,
 ) -> Status
-    // What was written is the answer of the request and the bytes, or what the status says of it.
-    ensures ends { IfSome (input_for request.now.demand (R.remaining reader.old)) (λ bytes.
-        Ends request.now bytes (W.contents out.old) (W.contents out.new)
-        (E.contents err.old) (E.contents err.new) (E.has_failed err.new)
-        (reader_state (R.has_failed reader.old) (R.given reader.old))
-        (reader_state (R.has_failed reader.new) (R.given reader.new))
-        (W.has_failed out.old) (W.has_failed out.new) result) }
-    // A device is blamed exactly where it has failed, by its own line, whether or not the devices tell their bytes; and
-    // so is the reader where it gave more than 2^64 - 1 bytes.
-    ensures devices { TellsOfDevices (input_for request.now.demand (R.remaining reader.old)) result
-        (reader_state (R.has_failed reader.old) (R.given reader.old))
-        (reader_state (R.has_failed reader.new) (R.given reader.new))
-        (W.has_failed out.old) (W.has_failed out.new)
-        (Reports (E.contents err.old) (E.contents err.new) (E.has_failed err.new)) }
-    // The input is read to its end, whatever stands in it.
-    ensures input { has_votes request.now.demand ≡ false →
-        ReadsAll result (R.remaining reader.old) (R.remaining reader.new) }
-    // With votes in the request the reader is left alone, and no memory is taken.
-    ensures votes { has_votes request.now.demand ≡ true → (reader.new ≡ reader.old) × (result ≢ Status.NoMemory) }
+    // With the answer of the request and the bytes, or with what stopped it: the status says which.
+    ensures ends { Ends request.now (reader_state R.remaining R.has_failed R.given reader.old)
+        (reader_state R.remaining R.has_failed R.given reader.new)
+        (writer_state W.contents W.has_failed out.old) (writer_state W.contents W.has_failed out.new)
+        (writer_state E.contents E.has_failed err.old) (writer_state E.contents E.has_failed err.new) result }
+    // With votes in the request the reader is left alone.
+    ensures votes { has_votes request.now.demand ≡ true → reader.new ≡ reader.old }
 {
     match answer(alloc, hashing, request, reader, out) {
         Ok(outcome) => outcome.status(),

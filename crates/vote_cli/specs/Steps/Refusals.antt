@@ -1,5 +1,5 @@
 -- Why a run ends with no answer, or with a part of one, and what is true then.
-use Rattle.std.specs.Prelude.{◌≡◌, ◌≢◌, ◌++◌, ℕ, Bool, true, List, [], Option, Result, Ok, Err, codes}
+use Rattle.std.specs.Prelude.{◌≡◌, ◌≢◌, ◌++◌, ℕ, Bool, true, false, List, [], Option, Result, Ok, Err, codes}
 use Rattle.std.specs.Io.KnownBytes.{Appends}
 use Rattle.ballot_base.specs.Ballots.{Election}
 use Rattle.vote_cli.specs.declared.status.Status.{Status}
@@ -10,6 +10,8 @@ use Rattle.vote_cli.specs.declared.refusal.Refusal.{Refusal}
 use Rattle.vote_cli.specs.declared.refusal.Refusal.TheVariants.{Input, Request, Memory, ReadFailed, WriteFailed}
 use Rattle.vote_cli.specs.declared.printing.WriteFailed.{WriteFailed as Broken}
 use Rattle.vote_cli.specs.Device.{AppendsBeginning, ReaderState}
+use Rattle.vote_cli.specs.Runs.{FailsToRead, IsAllRead, ReadsInput, ReadsSoundly, has_votes}
+use Rattle.vote_cli.specs.Runs.{memory_line, read_failed_line, write_failed_line}
 use Rattle.vote_cli.specs.Steps.RequestFaults.{request_fault_word}
 use Rattle.vote_cli.specs.Text.{line}
 use Rattle.preflib_text.specs.declared.fault.FaultName.TheVariants as name
@@ -17,9 +19,8 @@ use Rattle.preflib_text.specs.declared.fault.ReadFault.{ReadFault}
 use Rattle.preflib_text.specs.declared.pick.Pick.{Pick}
 use Rattle.preflib_text.specs.Reading.{Reads}
 use Rattle.vote_cli.specs.FaultText.{fault_text}
-use Rattle.vote_cli.specs.Answer.{Answer, answered, violated, refused}
-use Rattle.vote_cli.specs.Answer.{request_refused, IsAllRead, FailsToRead}
-use Rattle.vote_cli.specs.Answer.{memory_line, read_failed_line, write_failed_line}
+use Rattle.vote_cli.specs.Answer.{Answer, answered, violated, refused, request_refused}
+use Rattle.request_words.specs.Request.{Demand}
 
 -- the statuses of outcomes and refusals
 abbrev pub outcome_status : Outcome → Status
@@ -55,21 +56,29 @@ ReadsBallots pick bytes (Err Memory) = Unit {0}
 ReadsBallots pick bytes (Err ReadFailed) = Unit {0}
 ReadsBallots pick bytes (Err refusal) = ⊥
 
--- the bytes could not be read exactly where that is the refusal
-abbrev pub TellsOfReads : {T : Type 0} → Option (List ℕ) → ReaderState → ReaderState → Result T Refusal → Type 0
-TellsOfReads bytes old new (Err ReadFailed) = FailsToRead bytes old new
-TellsOfReads bytes old new result = new.has_failed ≡ old.has_failed
+-- how an input was read, by what came of it: it could not be read exactly if that is the refusal; it was read to its end
+-- unless memory ran out
+abbrev pub ReadsOn : {T : Type 0} → ReaderState → ReaderState → Result T Refusal → Type 0
+ReadsOn old new (Err ReadFailed) = FailsToRead old new
+ReadsOn old new (Err Memory) = ReadsSoundly old new
+ReadsOn old new result = ReadsSoundly old new × IsAllRead old new
+
+-- the same of a run, which leaves its reader alone if the votes stand in the words
+abbrev pub TellsOfReads : {T : Type 0} → Demand → ReaderState → ReaderState → Result T Refusal → Type 0
+TellsOfReads demand old new (Err ReadFailed) = (has_votes demand ≡ false) × FailsToRead old new
+TellsOfReads demand old new (Err Memory) = (has_votes demand ≡ false) × ReadsSoundly old new
+TellsOfReads demand old new result = ReadsInput old new demand
+
+-- the input itself could not be read: a refusal before anything is known of its ballots
+abbrev pub IsUnread : Refusal → Type 0
+IsUnread Memory = Unit {0}
+IsUnread ReadFailed = Unit {0}
+IsUnread refusal = ⊥
 
 -- a call of the writer has failed exactly where that is the refusal
 abbrev pub TellsOfWrites : {T : Type 0} → Bool → Bool → Result T Refusal → Type 0
 TellsOfWrites old new (Err WriteFailed) = new ≡ true
 TellsOfWrites old new result = new ≡ old
-
--- the input was read to its end before this was known, but where memory ran out or a read failed
-abbrev pub ReadsOn : {T : Type 0} → Option (List ℕ) → Option (List ℕ) → Result T Refusal → Type 0
-ReadsOn before after (Err Memory) = Unit {0}
-ReadsOn before after (Err ReadFailed) = Unit {0}
-ReadsOn before after result = IsAllRead before after
 
 -- What was written, and what it ends with, where this says which answers are right: one of them whole, a beginning of
 -- one where a write failed, and else nothing. A refusal for the input or the request is then a right answer.

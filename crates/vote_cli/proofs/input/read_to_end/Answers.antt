@@ -19,8 +19,8 @@ loop-count-preserved g c =
     }
 
 -- more bytes than may be fed
-pub returns-then-count-left-clause-failed : goal.returns-then-count-left-clause-failed
-returns-then-count-left-clause-failed g c =
+pub returns-then-count-left-clause-reads : goal.returns-then-count-left-clause-reads
+returns-then-count-left-clause-reads g c =
     let fed = c.loop-count.lines.fed in
     let piece = take c.in-Ok-read.count c.read.new.buf in
     inr (

@@ -1,15 +1,20 @@
-use Rattle.std.proofs.Common.{refl}
+use Rattle.std.proofs.Common.{◌∙◌, ap, refl, sym}
 use Rattle.std.proofs.KnownBytes.{Appends-nil}
-use Rattle.request_words.specs.Request.{demand_of}
+use Rattle.request_words.specs.Request.{demand_of, question_of}
+use Rattle.vote_cli.specs.Device.{reader_state}
 use Rattle.vote_cli.proofs.RunLemmas.{writes_over, writes_unread}
 use Rattle.vote_cli.proofs.run_request.answer.Goals as goal
 
-pub returns-in_err-profile-clause-answer : goal.returns-in_err-profile-clause-answer
-returns-in_err-profile-clause-answer g c =
-    writes_unread _ c.args.request.now (demand_of c.task-task.result.now) c.task-task.ensures.value (c.in_default.ensures.none refl) c.pick.result c.pick.ensures.value c.args.request.now.names refl _ _
-    c.in_err-profile.field-0.0 c.read_ballots.result c.from_residual.result c.in_err-profile.was c.from_residual.ensures c.read_ballots.ensures.input (Appends-nil _)
+pub returns-in_err-profile-in-OfBallots-clause-answer :
+    goal.returns-in_err-profile-in-OfBallots-clause-answer
+returns-in_err-profile-in-OfBallots-clause-answer g c =
+    writes_unread c.args.request.now (question_of c.in-OfBallots.question) (ap demand_of (sym c.in-OfBallots.is) ∙ c.task.ensures.value) c.pick.result c.pick.ensures.value
+    c.args.request.now.names refl (reader_state g.R.Source.remaining g.R.Device.has_failed g.R.Source.given c.args.reader.now) _ _ c.read_ballots.result c.from_residual.result c.read_ballots.ensures.input
+    c.in_err-profile-in-OfBallots.field-0.0 c.in_err-profile-in-OfBallots.was c.from_residual.ensures (Appends-nil _)
 
-pub returns-clause-answer : goal.returns-clause-answer
-returns-clause-answer g c =
-    writes_over _ c.args.request.now (demand_of c.task-task.result.now) c.task-task.ensures.value (c.in_default.ensures.none refl) c.pick.result c.pick.ensures.value c.names-2.result c.names-2.ensures _ _
-    c.in_ok-profile.profile c.read_ballots.result c.answer_about_ballots.result c.in_ok-profile.was c.read_ballots.ensures.input c.answer_about_ballots.ensures.answer
+pub returns-in_ok-profile-in-OfBallots-clause-answer :
+    goal.returns-in_ok-profile-in-OfBallots-clause-answer
+returns-in_ok-profile-in-OfBallots-clause-answer g c =
+    writes_over c.args.request.now (question_of c.in-OfBallots.question) (ap demand_of (sym c.in-OfBallots.is) ∙ c.task.ensures.value) c.pick.result c.pick.ensures.value
+    c.names-in-OfBallots.result c.names-in-OfBallots.ensures (reader_state g.R.Source.remaining g.R.Device.has_failed g.R.Source.given c.args.reader.now) _ _ c.read_ballots.result c.answer_about_ballots.result c.read_ballots.ensures.input
+    c.in_ok-profile-in-OfBallots.profile c.in_ok-profile-in-OfBallots.was c.answer_about_ballots.ensures.answer

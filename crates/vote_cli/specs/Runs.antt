@@ -1,0 +1,113 @@
+-- What a run leaves: on its devices, and with which status it ends.
+use Rattle.std.specs.Prelude.{◌≡◌, ◌⊎◌, ◌≤◌, ◌<◌, ◌+◌, ◌++◌, ℕ, length, Bool, true, false, List}
+use Rattle.std.specs.Prelude.{[], Option, Some, IfSome, codes, if◌then◌else◌}
+use Rattle.std.specs.Io.KnownBytes.{Appends}
+use Rattle.preflib_text.specs.Limits.{word_limit}
+use Rattle.request_words.specs.Request.{Asked, Demand, of_ballots, of_votes}
+use Rattle.vote_cli.specs.Answer.{Answer, IsAnswer}
+use Rattle.vote_cli.specs.Device.{AppendsBeginning, ReaderState, WriterState}
+use Rattle.vote_cli.specs.Text.{line}
+use Rattle.vote_cli.specs.declared.status.Status.{Status}
+use Rattle.vote_cli.specs.declared.status.Status.TheVariants.{NoMemory, DeviceFailed}
+
+-- whether the votes stand in the words
+abbrev pub has_votes : Demand → Bool
+has_votes (of_ballots question) = false
+has_votes (of_votes votes method seats page) = true
+
+-- the bytes that an answer is about, if they are known: none if the votes stand in the words
+abbrev pub input_for : Demand → Option (List ℕ) → Option (List ℕ)
+input_for demand remaining = if has_votes demand then Some [] else remaining
+
+-- ---- the reader
+
+-- more bytes than a run can count, which are a failed read though no call has failed
+abbrev pub IsTooLong : List ℕ → Type 0
+IsTooLong bytes = word_limit ≤ length bytes
+
+module _ (old new : ReaderState) where
+  -- no call of the reader has failed in this run, and its reads gave no more bytes than a run can count
+  pub record ReadsSoundly : Type 0 where
+    pub unfailed : new.has_failed ≡ old.has_failed
+    pub few : new.given < old.given + word_limit
+
+  -- a call of the reader has failed; or none has in this run, and its reads gave more bytes than a run can count: so
+  -- many there are, if they are known
+  abbrev pub FailsToRead : Type 0
+  FailsToRead = (new.has_failed ≡ true)
+      ⊎ ((new.has_failed ≡ old.has_failed) × (old.given + word_limit ≤ new.given) × IfSome old.remaining IsTooLong)
+
+  -- a reader that told its bytes before has none left
+  abbrev pub IsAllRead : Type 0
+  IsAllRead = IfSome old.remaining (λ bytes. new.remaining ≡ Some [])
+
+  -- the input was read as a run reads it: to its end, or not at all if the votes stand in the words
+  pub record ReadsInput (demand : Demand) : Type 0 where
+    pub sound : ReadsSoundly
+    pub whole : has_votes demand ≡ false → IsAllRead
+
+-- ---- the errors
+
+-- the lines for out of memory and for failed devices
+abbrev pub memory_line : List ℕ
+memory_line = line (codes "committees: memory")
+
+abbrev pub read_failed_line : List ℕ
+read_failed_line = line (codes "committees: read failed")
+
+abbrev pub write_failed_line : List ℕ
+write_failed_line = line (codes "committees: write failed")
+
+-- what a writer of errors took of a line: a beginning, and all of it if no call failed
+pub record Reports (old new : WriterState) (error : List ℕ) : Type 0 where
+  pub beginning : AppendsBeginning old.contents new.contents error
+  pub whole : new.has_failed ≡ false → Appends old.contents new.contents error
+
+-- ---- how a run may end
+
+-- an answer to the request and the bytes of the input, if these are known
+abbrev pub IsRight : Asked → ReaderState → Answer → Type 0
+IsRight asked reader answer = IfSome (input_for asked.demand reader.remaining) (λ bytes. IsAnswer asked bytes answer)
+
+-- a request, and the reader, the writer and the writer of errors before the run and after it
+module _ (asked : Asked) (read_old read_new : ReaderState) (out_old out_new err_old err_new : WriterState) where
+  -- with a right answer that was written whole
+  pub record EndsAnswered (status : Status) : Type 0 where
+    pub answer : Answer
+    pub right : IsRight asked read_old answer
+    pub status_is : answer.status ≡ status
+    pub input : ReadsInput read_old read_new asked.demand
+    pub wrote : out_new.has_failed ≡ out_old.has_failed
+    pub text : Appends out_old.contents out_new.contents answer.text
+    pub error : Reports err_old err_new answer.error
+
+  -- out of memory, with nothing written; never if the votes stand in the words
+  pub record EndsWithoutMemory : Type 0 where
+    pub over_input : has_votes asked.demand ≡ false
+    pub read : ReadsSoundly read_old read_new
+    pub unfailed : out_new.has_failed ≡ out_old.has_failed
+    pub text : Appends out_old.contents out_new.contents []
+    pub error : Reports err_old err_new memory_line
+
+  -- with a failed read, and nothing written; never if the votes stand in the words
+  pub record EndsUnread : Type 0 where
+    pub over_input : has_votes asked.demand ≡ false
+    pub unread : FailsToRead read_old read_new
+    pub unfailed : out_new.has_failed ≡ out_old.has_failed
+    pub text : Appends out_old.contents out_new.contents []
+    pub error : Reports err_old err_new read_failed_line
+
+  -- with a failed write, after a beginning of a right answer
+  pub record EndsUnwritten : Type 0 where
+    pub answer : Answer
+    pub right : IsRight asked read_old answer
+    pub input : ReadsInput read_old read_new asked.demand
+    pub failed : out_new.has_failed ≡ true
+    pub text : AppendsBeginning out_old.contents out_new.contents answer.text
+    pub error : Reports err_old err_new write_failed_line
+
+  -- by the status
+  abbrev pub Ends : Status → Type 0
+  Ends NoMemory = EndsWithoutMemory
+  Ends DeviceFailed = EndsUnread ⊎ EndsUnwritten
+  Ends status = EndsAnswered status
