@@ -1,6 +1,7 @@
 //! Laws of the answers. Each function does nothing, and its contract is the law.
-ghost use Rattle.std.specs.Prelude.{◌≡◌, ◌⊎◌, ℕ, ◌-◌, ◌<◌, ◌≤◌, List, None, Option, Some, IfSome, slice_get, true};
-ghost use Rattle.ballot_base.specs.Lists.{later_than};
+ghost use Rattle.std.specs.Prelude.{◌≡◌, ◌⊎◌, ◌↔◌, ℕ, ◌-◌, ◌<◌, ◌≤◌, List, None, Option, Some, IfSome, slice_get, true};
+ghost use Rattle.ballot_base.specs.Lists.{IsLater, later_than};
+ghost use Rattle.seat_share.specs.Allocations.{IsLater as IsLaterAllocation, later_than as later_allocations};
 ghost use Rattle.request_words.specs.Request.{Asked, InRange, Paging, whole};
 ghost use Rattle.vote_cli.specs.Answer.{Answer, IsAnswer};
 ghost use Rattle.vote_cli.specs.Laws.{IsCut, IsListed, IsPart, IsRest, IsSameRefusal, Listed, asked_for, is_listing};
@@ -47,4 +48,12 @@ pub fn rest()
         → 1 ≤ j → IfSome page.limit (λ n. j < n) → slice_get (later_of listed page) (j - 1) ≡ Some last
         → IsAnswer (asked_for page asked) bytes all → all.status ≡ Status.Answered
         → IsAnswer (asked_for (page_from page j last) asked) bytes rest → IsRest listed page j all rest }
+{}
+
+/// Allocations come in the same order as committees: `seat_share`, which stands on no other crate, has its own definition of
+/// what is later than a start.
+pub fn orders()
+    ensures later { (list other : List ℕ) → IsLaterAllocation list other ↔ IsLater list other }
+    ensures starts { (start : Option (List ℕ)) (lists : List (List ℕ))
+        → later_allocations start lists ≡ later_than start lists }
 {}

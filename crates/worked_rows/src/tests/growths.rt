@@ -3,12 +3,15 @@ use super::support::{ANSWER, THREE, assert_ended, ending, request};
 use refusing_heap::Refusing;
 use std::alloc::Global;
 use std::process::Abort;
-use test_devices::{reader, run_on, writer};
+use test_devices::{Fault, Recorder, SliceReader, reader, run_on, writer};
+use vote_cli::Request;
 
 /// More growths than any of the calls below asks for.
 const MANY: u64 = 100;
 
 const MEMORY: &[u8] = b"committees: memory\n";
+
+const READ_FAILED: &[u8] = b"committees: read failed\n";
 
 /// Whether the growth was asked for, and refused.
 fn has_refused(heap: &Refusing) -> bool {
@@ -104,6 +107,70 @@ fn each_growth_of_a_run(rt: HostRuntime) {
         let growths = growths_of_run(&rt, rt.alloc(), words, bytes, text);
         let is_right = growths >= *least && (*least > 0 || growths == 0);
         assert!(rt; is_right, "{words} asks for {growths} growths");
+    }
+}
+
+/// How many growths a run asks for before its read of this number, which fails. The bytes come in pieces of 16.
+fn growths_before(alloc: Global, request: &Request, bytes: &[u8], call: u64) -> u64 {
+    let heap = Refusing::new(alloc, MANY);
+    let source = SliceReader::failing(bytes, 16, call);
+    run_on(&heap, request, source, writer(alloc), writer(alloc));
+    MANY.saturating_sub(heap.left.get())
+}
+
+/// Asserts that a run in which a growth is refused and a read fails ends by what comes first, with nothing written.
+fn assert_first_decides(rt: &impl Abort, alloc: Global, run: Run<'_>, growths: u64) {
+    let (words, bytes, _text, _least) = run;
+    let request = request(rt, alloc, words);
+    for call in 1..=bytes.len().div_ceil(16) as u64 + 1 {
+        let before = growths_before(alloc, &request, bytes, call);
+        for growth in 1..=growths {
+            let heap = Refusing::new(alloc, growth);
+            let source = SliceReader::failing(bytes, 16, call);
+            let ended = run_on(&heap, &request, source, writer(alloc), writer(alloc));
+            let left = if growth <= before { MEMORY } else { READ_FAILED };
+            assert_ended(rt, words, growth as usize, &ended, ending(left));
+        }
+    }
+}
+
+#[test]
+fn a_growth_and_a_read(rt: HostRuntime) {
+    for run in &RUNS {
+        let (words, bytes, text, _least) = *run;
+        let growths = growths_of_run(&rt, rt.alloc(), words, bytes, text);
+        assert_first_decides(&rt, rt.alloc(), *run, growths);
+    }
+}
+
+/// Asserts that a run whose growth of this number is refused ends out of memory, with nothing written, whichever writer
+/// fails later.
+fn assert_growth_decides(rt: &impl Abort, alloc: Global, run: Run<'_>, growth: u64) {
+    let (words, bytes, _text, _least) = run;
+    let request = request(rt, alloc, words);
+    for fault in [Fault::ErrorAfter(0), Fault::ZeroAfter(0), Fault::AtFlush] {
+        let heap = Refusing::new(alloc, growth);
+        let out = Recorder::new(alloc, usize::MAX, fault);
+        let ended = run_on(&heap, &request, reader(bytes), out, writer(alloc));
+        assert_ended(rt, words, growth as usize, &ended, ending(MEMORY));
+        let heap = Refusing::new(alloc, growth);
+        let err = Recorder::new(alloc, usize::MAX, fault);
+        let ended = run_on(&heap, &request, reader(bytes), writer(alloc), err);
+        let mut wanted = ending(MEMORY);
+        if fault != Fault::AtFlush {
+            wanted.err = b"";
+        }
+        assert_ended(rt, words, growth as usize, &ended, wanted);
+    }
+}
+
+#[test]
+fn a_growth_and_a_writer(rt: HostRuntime) {
+    for run in &RUNS {
+        let (words, bytes, text, _least) = *run;
+        for growth in 1..=growths_of_run(&rt, rt.alloc(), words, bytes, text) {
+            assert_growth_decides(&rt, rt.alloc(), *run, growth);
+        }
     }
 }
 

@@ -54,18 +54,33 @@ impl<'a> Listing<'a> {
         self.header.split('¶').count()
     }
 
-    /// The words that ask for the answers after so many, up to a limit.
-    pub(super) fn words(self, rt: &impl Abort, alloc: Global, from: usize, limit: usize) -> String {
-        let words = self.words;
-        match self.answers.split('¶').take(from).last() {
-            Some(start) => format!(in alloc; "{words} --limit {limit} --after {start}"),
-            None => format!(in alloc; "{words} --limit {limit}"),
+    /// The words that ask for the answers after the first `from`, up to a limit if there is one.
+    pub(super) fn words(
+        self,
+        rt: &impl Abort,
+        alloc: Global,
+        from: usize,
+        limit: Option<usize>,
+    ) -> String {
+        let mut words = String::from_str(alloc, self.words).expect(rt, self.words);
+        if let Some(limit) = limit {
+            write!(words, " --limit {limit}").expect(rt, self.words);
         }
-        .expect(rt, words)
+        if let Some(start) = self.answers.split('¶').take(from).last() {
+            write!(words, " --after {start}").expect(rt, self.words);
+        }
+        words
     }
 
-    /// The text of the answers after so many, up to a limit.
-    pub(super) fn text(self, rt: &impl Abort, alloc: Global, from: usize, limit: usize) -> String {
+    /// The text of the answers after the first `from`, up to a limit if there is one.
+    pub(super) fn text(
+        self,
+        rt: &impl Abort,
+        alloc: Global,
+        from: usize,
+        limit: Option<usize>,
+    ) -> String {
+        let limit = limit.unwrap_or(usize::MAX);
         let mut text = written_out(rt, alloc, self.header);
         for answer in self.answers.split('¶').skip(from).take(limit) {
             write!(text, "\n{answer}").expect(rt, answer);
@@ -81,7 +96,7 @@ impl<'a> Listing<'a> {
 fn assert_pages(rt: &impl Abort, alloc: Global, listing: Listing<'_>) {
     let count = listing.count();
     for from in 0..=count {
-        for limit in [1, 2, count, 4_294_967_295] {
+        for limit in [Some(1), Some(2), Some(count), Some(4_294_967_295), None] {
             let words = listing.words(rt, alloc, from, limit);
             let text = listing.text(rt, alloc, from, limit);
             assert_leaves(rt, alloc, words.as_str(), THREE, text.as_bytes());

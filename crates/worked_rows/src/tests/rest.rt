@@ -6,12 +6,19 @@ use std::process::Abort;
 use test_devices::{Fault, Recorder, reader, run_on, writer};
 
 /// Asserts that a second run fetches what is missing after this beginning of a text: it starts after the last whole
-/// answer, with what is left of the limit. Where no answer is whole, or only the last line is missing, there is no such run.
-fn assert_fetched(rt: &impl Abort, alloc: Global, listing: Listing<'_>, limit: usize, taken: &str) {
+/// answer, with what is left of the limit. If no answer is whole, or if the limit leaves only the last line missing, there
+/// is no such run.
+fn assert_fetched(
+    rt: &impl Abort,
+    alloc: Global,
+    listing: Listing<'_>,
+    limit: Option<usize>,
+    taken: &str,
+) {
     let lines = taken.split('\n').count().saturating_sub(1);
     let answers = lines.saturating_sub(listing.header_lines());
-    let left = limit.saturating_sub(answers);
-    if answers == 0 || left == 0 {
+    let left = limit.map(|limit| limit.saturating_sub(answers));
+    if answers == 0 || left == Some(0) {
         return;
     }
     let words = listing.words(rt, alloc, answers, left);
@@ -19,21 +26,27 @@ fn assert_fetched(rt: &impl Abort, alloc: Global, listing: Listing<'_>, limit: u
     assert_leaves(rt, alloc, words.as_str(), THREE, text.as_bytes());
 }
 
+/// Asserts that a run with this fault of its output ends with a failed write, and leaves these bytes there.
+fn assert_cut_off(rt: &impl Abort, alloc: Global, words: &str, fault: Fault, taken: &str) {
+    let request = request(rt, alloc, words);
+    let out = Recorder::new(alloc, usize::MAX, fault);
+    let ended = run_on(alloc, &request, reader(THREE), out, writer(alloc));
+    let wanted = Wanted {
+        status: 6,
+        out: taken.as_bytes(),
+        err: b"committees: write failed\n",
+    };
+    assert_ended(rt, words, taken.len(), &ended, wanted);
+}
+
 /// Cuts the text of a listing off after each of its bytes, and fetches the rest.
-fn assert_cuts(rt: &impl Abort, alloc: Global, listing: Listing<'_>, limit: usize) {
+fn assert_cuts(rt: &impl Abort, alloc: Global, listing: Listing<'_>, limit: Option<usize>) {
     let words = listing.words(rt, alloc, 0, limit);
     let text = listing.text(rt, alloc, 0, limit);
-    let request = request(rt, alloc, words.as_str());
     for (place, _byte) in text.as_str().char_indices() {
         let taken = &text.as_str()[..place];
-        let out = Recorder::new(alloc, usize::MAX, Fault::ErrorAfter(place));
-        let ended = run_on(alloc, &request, reader(THREE), out, writer(alloc));
-        let wanted = Wanted {
-            status: 6,
-            out: taken.as_bytes(),
-            err: b"committees: write failed\n",
-        };
-        assert_ended(rt, words.as_str(), place, &ended, wanted);
+        let fault = Fault::ErrorAfter(place);
+        assert_cut_off(rt, alloc, words.as_str(), fault, taken);
         assert_fetched(rt, alloc, listing, limit, taken);
     }
 }
@@ -42,8 +55,37 @@ fn assert_cuts(rt: &impl Abort, alloc: Global, listing: Listing<'_>, limit: usiz
 fn each_cut_of_each_listing(rt: HostRuntime) {
     for row in LISTINGS.lines() {
         let listing = listing_of(&rt, row);
-        for limit in [1, 2, 3, 9] {
+        for limit in [Some(1), Some(2), Some(3), Some(9), None] {
             assert_cuts(&rt, rt.alloc(), listing, limit);
         }
     }
+}
+
+/// The three winners of `THREE` for two seats, in 42 bytes.
+const TIES: &str = "rule pav\nsize 2\nscore 6/2\n1,2\n1,3\n2,3\nend\n";
+
+/// How many bytes of the ties are taken at least and at most, where the second run starts, and what it prints after the
+/// lines before the answers.
+static CUTS: [(usize, usize, &str, &str); 4] = [
+    (0, 29, "", "1,2\n1,3\n2,3\nend\n"),
+    (30, 33, " --after 1,2", "1,3\n2,3\nend\n"),
+    (34, 37, " --after 1,3", "2,3\nend\n"),
+    (38, 41, " --after 2,3", "end\n"),
+];
+
+/// The output fails after each of the bytes, or at the flush after them all, and the rest is fetched.
+#[test]
+fn ties_that_are_cut_off(rt: HostRuntime) {
+    let alloc = rt.alloc();
+    let words = "elect --rule pav --size 2";
+    for (first, last, start, rest) in &CUTS {
+        for taken in *first..=*last {
+            let fault = Fault::ErrorAfter(taken);
+            assert_cut_off(&rt, alloc, words, fault, &TIES[..taken]);
+        }
+        let words = format!(in alloc; "{words}{start}").expect(&rt, start);
+        let text = format!(in alloc; "{}{rest}", &TIES[..26]).expect(&rt, start);
+        assert_leaves(&rt, alloc, words.as_str(), THREE, text.as_bytes());
+    }
+    assert_cut_off(&rt, alloc, words, Fault::AtFlush, TIES);
 }
