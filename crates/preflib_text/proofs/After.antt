@@ -16,8 +16,8 @@ use Rattle.preflib_text.specs.Lines.{is_ballot_line, lines_of, pieces_of, withou
 use Rattle.preflib_text.specs.Metadata.{Fact, TypeIs, AlternativesAre, CategoriesAre, NameIs, Nothing, told_of, written_number}
 use Rattle.preflib_text.specs.Approvals.{approved}
 use Rattle.preflib_text.specs.Steps.Tokens.{ballot_of}
-use Rattle.preflib_text.specs.Reading.{Cast, or_else, fault_if, told_before, kind_or_usual, is_fitting, ballot_fault, alternatives_in, categories_in, casts_in, rows_in, election_in, line_fault, told_fault, first_fault, first_faulty_line, FaultyLine, faulty_line, fault_of_line, end_fault, at_end, is_name, is_growth, takes_memory, kind_in, at_line, cast_fault, kind_fault, ballot_line_fault, number_fault, kind_or, kind_by}
-use Rattle.preflib_text.specs.Steps.Notes.{Effect, NoEffect, Names, Casts, fresh_notes, first_kind, told_error, told_notes, told_effect, cast_error, kind_error, alternatives_error, ballot_error, cast_effect, line_error, line_notes, line_effect, effect_error, with_effect, end_error, is_empty, effect_takes}
+use Rattle.preflib_text.specs.Reading.{Cast, or_else, fault_if, told_before, kind_or_usual, is_fitting, ballot_fault, alternatives_in, categories_in, casts_in, rows_in, election_in, line_fault, told_fault, first_fault, first_faulty_line, FaultyLine, faulty_line, fault_of_line, end_fault, at_end, is_empty, is_name, is_growth, takes_memory, kind_in, at_line, cast_fault, kind_fault, ballot_line_fault, number_fault, kind_or, kind_by}
+use Rattle.preflib_text.specs.Steps.Notes.{Effect, NoEffect, Names, Casts, fresh_notes, first_kind, told_error, told_notes, told_effect, cast_error, kind_error, alternatives_error, ballot_error, cast_effect, line_error, line_notes, line_effect, effect_error, with_effect, end_error, effect_takes}
 use Rattle.preflib_text.specs.Steps.After.{IsTold, last_name, last_names, cast_rows, has_ballot_line, IsAfter, IsFine}
 use Rattle.preflib_text.proofs.ToldSteps.{told-step, told_before-kept, told_before-more}
 use Rattle.preflib_text.proofs.ProfileSteps.{last_names-told, last_names-kept, name_value-other, casts_in-other, casts_in-ballot, casts_in-none, votes_in-ballot, cast_rows-push, with_votes-some, length-with_votes, voters-more}
@@ -328,7 +328,7 @@ or_first : (a b : Bool) → a ≡ true → (a || b) ≡ true
 or_first true b h = refl
 or_first false b h = absurd (cc)
 
--- a name of a candidate
+-- a name of a candidate, which has bytes
 takes_name : (e : Election) (told : Fact) → effect_takes e (told_effect told) ≡ true → is_name told ≡ true
 takes_name e (TypeIs value) h = absurd (cc)
 takes_name e (AlternativesAre value) h = absurd (cc)
@@ -336,8 +336,8 @@ takes_name e (CategoriesAre value) h = absurd (cc)
 takes_name e Nothing h = absurd (cc)
 takes_name e (NameIs n value) h = by (nat_le 1 n && nat_le n most_candidates) h
   where
-    by : (t : Bool) → effect_takes e (cond t (Names n value) NoEffect) ≡ true → t ≡ true
-    by true g = refl
+    by : (t : Bool) → effect_takes e (cond t (Names n value) NoEffect) ≡ true → (t && not (is_empty value)) ≡ true
+    by true g = g
     by false g = absurd (cc)
 
 not_true : (t : Bool) → not t ≡ true → t ≡ false

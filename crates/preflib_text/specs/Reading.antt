@@ -60,9 +60,13 @@ abbrev pub name_value : ℕ → Fact → Option (List ℕ)
 name_value n (NameIs k value) = if k == n then Some value else None
 name_value n _ = None
 
--- whether the name of a candidate is told; other numbers have no name
+abbrev pub is_empty : {X : Type 0} → List X → Bool
+is_empty [] = true
+is_empty (x ∷ xs) = false
+
+-- whether a name to keep is told: one that has bytes, of a number that may be a candidate's
 abbrev pub is_name : Fact → Bool
-is_name (NameIs n value) = nat_le 1 n && nat_le n most_candidates
+is_name (NameIs n value) = nat_le 1 n && nat_le n most_candidates && not (is_empty value)
 is_name _ = false
 
 -- the last of the values

@@ -1,5 +1,5 @@
 -- What is kept of the lines so far, and what the next line does to the profile.
-use Rattle.std.specs.Prelude.{◌≡◌, ◌⊎◌, ℕ, ◌+◌, ◌-◌, ◌≤◌, ◌&&◌, Bool, true, false, not, List, [], ◌∷◌, length, take}
+use Rattle.std.specs.Prelude.{◌≡◌, ◌⊎◌, ℕ, ◌+◌, ◌-◌, ◌≤◌, ◌&&◌, Bool, true, false, not, List, [], length, take}
 use Rattle.std.specs.Prelude.{slice_set, Option, Some, None, IfSome, is_some, ⊤, Result, Ok, Err, MatchResult}
 use Rattle.std.specs.Prelude.{nat_lt, nat_le, if◌then◌else◌}
 use Rattle.ballot_base.specs.Limits.{most_candidates, most_voters}
@@ -21,7 +21,7 @@ use Rattle.preflib_text.specs.Metadata.{written_number}
 use Rattle.preflib_text.specs.Names.{kind_named}
 use Rattle.preflib_text.specs.Approvals.{approved}
 use Rattle.preflib_text.specs.Reading.{Cast, or_else, fault_if, number_fault, is_fitting, ballot_fault, kind_or}
-use Rattle.preflib_text.specs.Reading.{kind_or_usual}
+use Rattle.preflib_text.specs.Reading.{is_empty, kind_or_usual}
 use Rattle.preflib_text.specs.Steps.Tokens.{ballot_of}
 
 -- the first of two types
@@ -147,10 +147,10 @@ MayCome e (Names n name) = (1 ≤ n) × (n ≤ e.m)
 MayCome e (Casts None set count) = IsIncreasing 1 e.m set × (1 ≤ count)
 MayCome e (Casts (Some m) set count) = (1 ≤ m) × (m ≤ e.m) × (e.rows ≡ []) × IsIncreasing 1 m set × (1 ≤ count)
 
--- whether an effect takes memory: a name does, and a ballot that makes a new row
+-- whether an effect takes memory: a name that has bytes does, and a ballot that makes a new row
 abbrev pub effect_takes : Election → Effect → Bool
 effect_takes e NoEffect = false
-effect_takes e (Names n name) = true
+effect_takes e (Names n name) = not (is_empty name)
 effect_takes e (Casts first set count) = not (has_ballot e.rows set)
 
 -- a refusal is of this fault, or is out of memory where there is none and memory is taken
@@ -162,10 +162,6 @@ abbrev pub DoneOrRefused : Result ⊤ FaultName → Election → Election → Ef
 DoneOrRefused result e next effect = MatchResult result
     (λ _. (effect_error e effect ≡ None) × (next ≡ with_effect e effect))
     (λ name. Refuses (effect_error e effect) (effect_takes e effect) name)
-
-abbrev pub is_empty : {X : Type 0} → List X → Bool
-is_empty [] = true
-is_empty (x ∷ xs) = false
 
 -- what is wrong at the end
 abbrev pub end_error : Notes → Election → Option FaultName
