@@ -1,15 +1,17 @@
 -- Increasing lists of one length: which they are, their order, and what comes after one of them.
-use Rattle.std.proofs.Common.{◌≡◌, ℕ, zero, suc, ◌+◌, ◌-◌, ◌<◌, ◌≤◌, ◌==◌, List, [], ◌∷◌, ◌++◌, refl, sym, ap, ◌∙◌, subst, arith, inl, inr, length, map, All, Contains, AllPairs, length-append, append_assoc, Greater, Option, Some, None, MatchOption, get_or}
+use Rattle.std.proofs.Common.{◌≡◌, ℕ, zero, suc, ◌+◌, ◌-◌, ◌<◌, ◌≤◌, ◌==◌, true, false, List, [], ◌∷◌, ◌++◌, refl, sym, ap, ◌∙◌, subst, arith, inl, inr, length, map, All, Contains, AllPairs, length-append, append_assoc, Greater, Option, Some, None, MatchOption, get_or}
 use Rattle.std.specs.List.{range_with_len, AllByRecursion}
-use Rattle.std.proofs.lemmas.Bool.{eq-eqb, ne_eqb, cases_eq, cases_lt, le-ltb, and_from, false≢true}
+use Rattle.std.proofs.lemmas.Bool.{eq-eqb, ne_eqb, cases_eq, cases_lt, le-ltb, and_from, false≢true, false_from_ne_true}
 use Rattle.std.specs.Ordering.{nat_cmp, is_gt}
-use Rattle.std.specs.Cmp.Lexicographic.{slice_cmp}
+use Rattle.std.specs.Str.{bytes_eq}
+use Rattle.std.specs.Cmp.Lexicographic.{slice_cmp, bytes_decides}
 use Rattle.std.proofs.lemmas.List.{get_or-map, length-map, map-append}
 use Rattle.std.proofs.lemmas.List.Elements.{All-from_recursion, All-contains, Contains-append_left, Contains-append_right}
 use Rattle.std.proofs.lemmas.List.Kept.{AllPairs-cons}
+use Rattle.std.proofs.lemmas.List.Folds.{list_any_at, Any-from_list_any}
 use Rattle.std.proofs.lemmas.List.FromFn.{length-range_with_len}
 use Rattle.ballot_base.specs.Limits.{most_candidates}
-use Rattle.ballot_base.specs.Lists.{IsIncreasing, lists_of, increasing_lists, IsLater, AreInOrder, later_than}
+use Rattle.ballot_base.specs.Lists.{IsIncreasing, lists_of, increasing_lists, is_committee, IsLater, AreInOrder, later_than}
 use Rattle.ballot_base.specs.Steps.Subsets.{lists_from, sets_from, MayComeNext, IsLastSet, IsNextSet}
 use Rattle.ballot_base.proofs.Increasing.{IsIncreasing-lower}
 use Rattle.ballot_base.proofs.Later.{AllByRecursion-weaker, is_later-self, later_than-member}
@@ -238,6 +240,20 @@ pub increasing_lists-once : (first last size : ℕ) → AllPairs (λ x y. x ≡ 
 increasing_lists-once first last size = λ i j d l h e.
     let xs : List (List ℕ) = increasing_lists first last size in
     false≢true (sym (is_later-self (get_or xs j d)) ∙ subst (λ x. IsLater (get_or xs j d) x) e (increasing_lists-order first last size i j d l h))
+
+-- ---- the test for a committee
+pub is_committee-true : (m k : ℕ) (list : List ℕ) → IsIncreasing 1 m list → length list ≡ k → is_committee m k list ≡ true
+is_committee-true m k list increasing size =
+    let (at, within, is) = increasing_lists-contains 1 m k list (increasing, size) in
+    list_any_at (bytes_eq list) (increasing_lists 1 m k) at list within (ap (bytes_eq list) is ∙ (bytes_decides list list).1 refl)
+
+pub is_committee-is : (m k : ℕ) (list : List ℕ) → is_committee m k list ≡ true → IsIncreasing 1 m list × (length list ≡ k)
+is_committee-is m k list passes =
+    let (at, other, within, is, same) = Any-from_list_any (bytes_eq list) (increasing_lists 1 m k) passes in
+    chosen-from_contains 1 m k list (subst (λ set. Contains (increasing_lists 1 m k) set) (sym ((bytes_decides list other).0 same)) (at, within, is))
+
+pub is_committee-false : (m k : ℕ) (list : List ℕ) → ((IsIncreasing 1 m list × (length list ≡ k)) → ⊥) → is_committee m k list ≡ false
+is_committee-false m k list none = false_from_ne_true (is_committee m k list) (λ passes. none (is_committee-is m k list passes))
 
 -- ---- a place and the next one
 IsIncreasing-range : (from run last : ℕ) → from + run ≤ last + 1 → IsIncreasing from last (range_with_len from run)

@@ -1,10 +1,10 @@
 -- Each definition, computed on a small example.
-use Rattle.std.proofs.Common.{◌≡◌, ◌+◌, ◌*◌, ◌^◌, List, [], ◌∷◌, true, false, refl, lit≤, Some, None, replicate, arith, length, codes}
-use Rattle.ballot_base.specs.Lists.{IsIncreasing, lists_of, increasing_lists, is_later, IsLater, AreInOrder, later_than}
+use Rattle.std.proofs.Common.{◌≡◌, ◌+◌, ◌*◌, ◌^◌, List, [], ◌∷◌, true, false, refl, lit≤, Some, None, replicate, arith}
+use Rattle.ballot_base.specs.Lists.{IsIncreasing, lists_of, increasing_lists, is_committee, is_later, IsLater, AreInOrder, later_than}
 use Rattle.ballot_base.specs.CandSet.{has_member, with_member, without_member, common_members, members_upto}
 use Rattle.ballot_base.specs.Steps.Bits.{members_among, members, bits_of}
 use Rattle.ballot_base.specs.Steps.Subsets.{lists_from, sets_from, MayComeNext, IsLastSet, IsNextSet}
-use Rattle.ballot_base.specs.Ballots.{Row, IsElection, election, ballots_of, name_of, hits, voter_count, has_ballot, with_votes}
+use Rattle.ballot_base.specs.Ballots.{Row, IsElection, election, ballots_of, name_of, some_name, hits, voter_count, has_ballot, with_votes}
 use Rattle.ballot_base.specs.CommonMultiple.{least_multiple, common_multiple, AllDivide}
 use Rattle.ballot_base.specs.Increments.{increment, denominator, increments}
 use Rattle.ballot_base.specs.Hashing.{word_of_bytes, begun, with_word, upper_half}
@@ -28,6 +28,22 @@ pairs_of_four = refl
 no_pair_of_one : increasing_lists 4 4 2 ≡ []
 unfolding lists_of
 no_pair_of_one = refl
+
+pair_of_three : is_committee 3 2 (1 ∷ 3 ∷ []) ≡ true
+unfolding lists_of
+pair_of_three = refl
+
+unordered_pair : is_committee 3 2 (3 ∷ 1 ∷ []) ≡ false
+unfolding lists_of
+unordered_pair = refl
+
+pair_with_a_stranger : is_committee 3 2 (1 ∷ 4 ∷ []) ≡ false
+unfolding lists_of
+pair_with_a_stranger = refl
+
+too_few_members : is_committee 3 2 (1 ∷ []) ≡ false
+unfolding lists_of
+too_few_members = refl
 
 later : is_later (1 ∷ 3 ∷ []) (1 ∷ 2 ∷ []) ≡ true
 later = refl
@@ -162,6 +178,15 @@ first_name = refl
 
 second_name : name_of (election 2 ((82 ∷ []) ∷ [] ∷ []) rows) 2 ≡ None
 second_name = refl
+
+name_of_zero : name_of (election 2 ((82 ∷ []) ∷ [] ∷ []) rows) 0 ≡ None
+name_of_zero = refl
+
+name_above_m : name_of (election 2 ((82 ∷ []) ∷ (83 ∷ []) ∷ []) rows) 3 ≡ None
+name_above_m = refl
+
+no_name : some_name [] ≡ None
+no_name = refl
 
 is_election : IsElection (election 3 ([] ∷ [] ∷ [] ∷ []) rows)
 unfolding rows

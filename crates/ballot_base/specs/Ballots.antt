@@ -1,5 +1,5 @@
 -- Approval ballots and profiles of them.
-use Rattle.std.specs.Prelude.{ℕ, ◌+◌, ◌<◌, ◌≤◌, ◌≡◌, ◌≢◌, ◌-◌, Bool, List, [], ◌∷◌, length, map, sum_by, count_by, Option, Some, None, slice_get, unwrap_or, AllPairs, if◌then◌else◌}
+use Rattle.std.specs.Prelude.{ℕ, zero, suc, ◌+◌, ◌<◌, ◌≤◌, ◌≡◌, ◌≢◌, Bool, List, [], ◌∷◌, length, map, sum_by, count_by, Option, Some, None, slice_get, unwrap_or, AllPairs, if◌then◌else◌}
 use Rattle.std.specs.List.{AllByRecursion, list_any}
 use Rattle.std.specs.Str.{bytes_eq}
 use Rattle.ballot_base.specs.Limits.{most_candidates, most_voters}
@@ -21,13 +21,15 @@ pub record Election : Type 0 where
 abbrev pub election : ℕ → List (List ℕ) → List Row → Election
 election m names rows = record { m = m; names = names; rows = rows }
 
--- the name of a candidate, if there is one
+-- a name, if it has bytes
+abbrev pub some_name : List ℕ → Option (List ℕ)
+some_name [] = None
+some_name (b ∷ bytes) = Some (b ∷ bytes)
+
+-- the name of a candidate, if there is one; 0 and the numbers above m have none
 abbrev pub name_of : Election → ℕ → Option (List ℕ)
-name_of e n = some_name (unwrap_or (slice_get e.names (n - 1)) [])
-  where
-    some_name : List ℕ → Option (List ℕ)
-    some_name [] = None
-    some_name (b ∷ bytes) = Some (b ∷ bytes)
+name_of e zero = None
+name_of e (suc i) = some_name (unwrap_or (slice_get e.names i) [])
 
 -- how many candidates stand on the ballot and in the committee
 -- (Lackner and Skowron, Multi-Winner Voting with Approval Preferences)

@@ -8,7 +8,7 @@ use Rattle.std.specs.declared.random_state.RandomState.{RandomState}
 use Rattle.ballot_base.specs.declared.hashing.BallotHashing.{BallotHashing}
 use Rattle.ballot_base.specs.declared.hashing.BallotHasher.{BallotHasher}
 
--- the first 128 bits of the golden ratio and of pi after the point
+-- the first 128 bits after the point: of the golden ratio with the last bit set, which makes the factor odd, and of pi
 abbrev pub fixed_hashing : BallotHashing
 fixed_hashing = record {
   factor = 0x9e37_79b9_7f4a_7c15_f39c_c060_5ced_c835;

@@ -1,6 +1,8 @@
 -- Increasing lists of whole numbers, and their order. Candidates are numbered from 1, and a set of them is
 -- written as its members in increasing order.
 use Rattle.std.specs.Prelude.{ℕ, zero, suc, ◌+◌, ◌-◌, ◌≤◌, ◌==◌, ◌&&◌, Bool, List, [], ◌∷◌, ◌++◌, length, map, filter, AllPairs, Option, None, Some, ⊤, IsTrue}
+use Rattle.std.specs.List.{list_any}
+use Rattle.std.specs.Str.{bytes_eq}
 use Rattle.std.specs.Cmp.Lexicographic.{slice_cmp}
 use Rattle.std.specs.Ordering.{nat_cmp, is_gt}
 
@@ -20,6 +22,10 @@ lists_of (suc count) first (suc size) =
 -- all increasing lists of `size` whole numbers from first to last, in lexicographic order
 abbrev pub increasing_lists : ℕ → ℕ → ℕ → List (List ℕ)
 increasing_lists first last size = lists_of (last + 1 - first) first size
+
+-- whether the list is one of the committees of k of the candidates 1 to m
+abbrev pub is_committee : ℕ → ℕ → List ℕ → Bool
+is_committee m k list = list_any (bytes_eq list) (increasing_lists 1 m k)
 
 -- whether x is later than y: as long as y, and greater at the first place where they differ
 abbrev pub is_later : List ℕ → List ℕ → Bool

@@ -11,12 +11,13 @@ ghost use Rattle.ballot_base.specs.Steps.Subsets.{IsLastSet, IsNextSet};
 
 use crate::limits::MOST_CANDIDATES;
 use std::cmp::Ordering;
+use std::fmt;
 use std::hash::{Hash, Hasher};
 use std::marker::Model;
 
 /// A set of candidates, numbered from 1 to `MOST_CANDIDATES`. Contracts see the increasing list of its members.
 #[tactic(auto, using(crate::specs::Steps::Bits::bits_of_members))]
-#[derive(Clone, Copy, Debug)]
+#[derive(Clone, Copy)]
 pub struct CandSet {
     bits: u64,
 }
@@ -69,6 +70,18 @@ impl Hash for CandSet {
 
     fn hash<H: Hasher>(&self, state: &mut H) {
         self.bits.hash(state);
+    }
+}
+
+impl fmt::Debug for CandSet {
+    fn fmt<W: fmt::Write>(&self, f: &mut fmt::Formatter<W>) -> fmt::Result {
+        let mut members = f.debug_set();
+        for n in 1..=MOST_CANDIDATES {
+            if self.has(n) {
+                members.entry(&n);
+            }
+        }
+        members.finish()
     }
 }
 

@@ -1,17 +1,20 @@
 //! Laws of the definitions. Each function does nothing, and its contract is the law.
-ghost use Rattle.std.specs.Prelude.{◌≡◌, ◌≢◌, ℕ, ◌+◌, ◌-◌, ◌*◌, ◌^◌, ◌<◌, ◌≤◌, ◌↔◌, List, ◌∷◌, ◌++◌, Some, length, slice_index, All, AllPairs, Contains};
+ghost use Rattle.std.specs.Prelude.{◌≡◌, ◌≢◌, ℕ, ◌+◌, ◌-◌, ◌*◌, ◌^◌, ◌<◌, ◌≤◌, ◌↔◌, true, List, ◌∷◌, ◌++◌, Some, length, slice_index, All, AllPairs, Contains};
 ghost use Rattle.std.specs.Int.{◌∣◌};
 ghost use Rattle.ballot_base.specs.Limits.{most_candidates, most_members};
-ghost use Rattle.ballot_base.specs.Lists.{IsIncreasing, increasing_lists, AreInOrder, later_than};
+ghost use Rattle.ballot_base.specs.Lists.{IsIncreasing, increasing_lists, is_committee, AreInOrder, later_than};
 ghost use Rattle.ballot_base.specs.CommonMultiple.{common_multiple, AllDivide};
 ghost use Rattle.ballot_base.specs.Increments.{increment, denominator, increments};
 
 use crate::increments::ThieleRule;
 
-/// Which lists `increasing_lists` has: exactly the increasing ones of this length.
+/// Which lists `increasing_lists` has: exactly the increasing ones of this length. They are those that pass the test for
+/// a committee.
 pub fn committees()
     ensures members { (first last size : ℕ) (set : List ℕ) → Contains (increasing_lists first last size) set
         ↔ (IsIncreasing first last set × (length set ≡ size)) }
+    ensures test { (m k : ℕ) (list : List ℕ) → (is_committee m k list ≡ true)
+        ↔ (IsIncreasing 1 m list × (length list ≡ k)) }
     ensures sizes { (first last size : ℕ) → All (λ set. length set ≡ size) (increasing_lists first last size) }
 {}
 

@@ -1,5 +1,5 @@
 //! Profiles of approval ballots.
-ghost use Rattle.std.specs.Prelude.{◌≡◌, ◌+◌, ◌-◌, ◌<◌, ◌≤◌, ◌↔◌, List, [], false, length, replicate, take, slice_get, slice_set, option_map};
+ghost use Rattle.std.specs.Prelude.{◌≡◌, ◌≢◌, ◌+◌, ◌-◌, ◌<◌, ◌≤◌, ◌↔◌, List, [], false, length, replicate, take, slice_get, slice_set, option_map};
 ghost use Rattle.std.specs.Prelude.{Some, Err, IsErr, IfOk, IfErr, OnOk, OnErr};
 ghost use Rattle.std.specs.Iterator.{YieldsFirst, item_count};
 ghost use Rattle.ballot_base.specs.Limits.{most_candidates, most_voters};
@@ -86,17 +86,18 @@ impl<A: Allocator + Copy + Drop> ProfileBuilder<A> {
         })
     }
 
-    /// Gives a candidate a name, in place of the one before; an empty name is none. After a refusal, which is `Memory`,
-    /// the builder is as it was.
+    /// Gives a candidate a name, in place of the one before. An empty name takes the one before away, and needs no
+    /// memory. After a refusal, which is `Memory`, the builder is as it was.
     pub fn set_name(&mut self, n: u8, name: &[u8]) -> Result<(), AddFault>
         requires low { 1 ≤ n }
         requires high { n ≤ self.old.m }
         ensures ok { OnOk result (self.new ≡ record self.old { names = slice_set self.old.names (n - 1) name.now }) }
         ensures err { IfErr result (λ fault. (fault ≡ AddFault.Memory) × (self.new ≡ self.old)) }
+        ensures memory { result ≡ Err AddFault.Memory → name.now ≢ [] }
         ensures valid { IsElection self.new }
     {
         let alloc = *self.names.allocator();
-        let Ok(name) = Vec::from_slice(alloc, name) else {
+        let Ok(name) = copy_of(alloc, name) else {
             return Err(AddFault::Memory);
         };
         self.names[usize::from(n) - 1] = name;
@@ -162,6 +163,17 @@ impl<A: Allocator + Copy + Drop> ProfileBuilder<A> {
     }
 }
 
+/// These bytes in a vector of their own. Without any it takes no memory.
+fn copy_of<A: Allocator + Copy + Drop>(alloc: A, bytes: &[u8]) -> Result<Vec<u8, A>, AllocError>
+    ensures ok { IfOk result (λ copy. copy.items ≡ bytes.now) }
+    ensures memory { OnErr result (bytes.now ≢ []) }
+{
+    if bytes.is_empty() {
+        return Ok(Vec::new(alloc));
+    }
+    Vec::from_slice(alloc, bytes)
+}
+
 /// m empty names.
 fn no_names<A: Allocator + Copy + Drop>(alloc: A, m: u8) -> Result<Names<A>, AllocError>
     ensures { IfOk result (λ names. texts names.items ≡ replicate m []) }
@@ -225,13 +237,15 @@ impl<A: Allocator + Copy> Profile<A> {
         self.m
     }
 
-    /// The name of a candidate, where it has one: bytes that may be no text.
+    /// The name of a candidate, if it has one: bytes that need not be text. Any number may be asked for; 0 and the
+    /// numbers above m have no name.
     pub fn name(&self, n: u8) -> Option<&[u8]>
-        requires low { 1 ≤ n }
-        requires high { n ≤ self.now.m }
         ensures { option_map (λ name. name.now) result ≡ name_of self.now n }
     {
-        let name = &self.names[usize::from(n) - 1];
+        if n == 0 || n > self.m {
+            return None;
+        }
+        let name = self.names[usize::from(n) - 1].as_slice();
         if name.is_empty() { None } else { Some(name) }
     }
 

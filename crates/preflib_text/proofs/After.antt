@@ -1,7 +1,7 @@
 -- The notes and the profile after some lines, and after one more.
-use Rattle.std.proofs.Common.{◌==◌, ◌<◌, ◌≡◌, ◌≢◌, ℕ, ◌+◌, ◌≤◌, ◌&&◌, ◌||◌, Bool, true, false, not, cond, List, [], ◌∷◌, ◌++◌, refl, sym, ap, subst, ◌∙◌, arith, length, map, take, sum_by, Option, Some, None, option_map, unwrap_or, is_some, Result, Ok, Err, IfSome, replicate}
-use Rattle.std.specs.Prelude.{nat_lt, nat_le}
-use Rattle.std.proofs.lemmas.List.{append_assoc, append-nil}
+use Rattle.std.proofs.Common.{◌==◌, ◌<◌, ◌≡◌, ◌≢◌, ℕ, zero, suc, ◌+◌, ◌-◌, ◌≤◌, ◌&&◌, ◌||◌, Bool, true, false, not, cond, List, [], ◌∷◌, ◌++◌, refl, sym, ap, subst, ◌∙◌, arith, length, map, take, sum_by, Option, Some, None, option_map, unwrap_or, is_some, Result, Ok, Err, replicate}
+use Rattle.std.specs.Prelude.{nat_lt, slice_set}
+use Rattle.std.proofs.lemmas.List.{append_assoc, append-nil, take-take}
 use Rattle.std.proofs.lemmas.Bool.{lt-ltb}
 use Rattle.std.proofs.lemmas.List.FromFn.{take-map-range_with_len}
 use Rattle.ballot_base.specs.Ballots.{Election, Row, election, has_ballot, with_votes, voter_count}
@@ -16,10 +16,10 @@ use Rattle.preflib_text.specs.Lines.{is_ballot_line, lines_of, pieces_of, withou
 use Rattle.preflib_text.specs.Metadata.{Fact, TypeIs, AlternativesAre, CategoriesAre, NameIs, Nothing, told_of, written_number}
 use Rattle.preflib_text.specs.Approvals.{approved}
 use Rattle.preflib_text.specs.Steps.Tokens.{ballot_of}
-use Rattle.preflib_text.specs.Reading.{Cast, or_else, fault_if, told_before, kind_or_usual, is_fitting, ballot_fault, alternatives_in, categories_in, casts_in, rows_in, election_in, line_fault, told_fault, first_fault, first_faulty_line, FaultyLine, faulty_line, fault_of_line, end_fault, at_end, is_name, is_growth, takes_memory, kind_in, at_line, cast_fault, kind_fault, ballot_line_fault, number_fault, kind_or, kind_by}
-use Rattle.preflib_text.specs.Steps.Notes.{Effect, NoEffect, Names, Casts, fresh_notes, first_kind, told_error, told_notes, told_effect, cast_error, kind_error, alternatives_error, ballot_error, cast_effect, line_error, line_notes, line_effect, effect_error, with_effect, end_error, is_empty, effect_takes}
-use Rattle.preflib_text.specs.Steps.After.{IsTold, last_name, last_names, cast_rows, has_ballot_line, IsAfter, IsFine}
-use Rattle.preflib_text.proofs.ToldSteps.{told-step, told_before-kept, told_before-more}
+use Rattle.preflib_text.specs.Reading.{Cast, or_else, fault_if, told_before, kind_or_usual, is_fitting, ballot_fault, alternatives_in, categories_in, casts_in, rows_in, election_in, line_fault, told_fault, first_fault, first_faulty_line, FaultyLine, faulty_line, fault_of_line, end_fault, at_end, is_empty, may_be_candidate, is_name, is_growth, takes_memory, kind_in, at_line, cast_fault, kind_fault, ballot_line_fault, number_fault, kind_or, kind_by}
+use Rattle.preflib_text.specs.Steps.Notes.{Effect, NoEffect, Names, Casts, fresh_notes, first_kind, told_error, told_notes, told_effect, cast_error, kind_error, alternatives_error, ballot_error, cast_effect, line_error, line_notes, line_effect, effect_error, with_effect, end_error, effect_takes, IsSound}
+use Rattle.preflib_text.specs.Steps.After.{IsTold, last_name, last_names, cast_rows, has_ballot_line, HoldsNames, IsAfter, IsFine}
+use Rattle.preflib_text.proofs.ToldSteps.{number_within, told-step, told_before-kept, told_before-more}
 use Rattle.preflib_text.proofs.ProfileSteps.{last_names-told, last_names-kept, name_value-other, casts_in-other, casts_in-ballot, casts_in-none, votes_in-ballot, cast_rows-push, with_votes-some, length-with_votes, voters-more}
 
 -- ---- before the first line
@@ -28,7 +28,7 @@ pub is_after-none : (pick : Pick) → IsAfter pick [] (fresh_notes pick) (electi
 is_after-none pick = record {
   told = record { alternatives = refl; categories = refl; kind = by pick.kind pick.ending; no_alternatives = λ h. refl; no_categories = λ h. refl; sound = tt };
   ballots = refl;
-  opened = λ h. refl;
+  opened = λ h. (refl, refl, refl);
   begun = λ h. absurd (cc);
   votes = refl;
 }
@@ -77,16 +77,16 @@ told_error-is pick before notes e (CategoriesAre value) is = ap (λ o. number_fa
 told_error-is pick before notes e (NameIs n value) is = refl
 told_error-is pick before notes e Nothing is = refl
 
-pub told_effect-fine : (e : Election) (told : Fact) → effect_error e (told_effect told) ≡ None
-told_effect-fine e (TypeIs value) = refl
-told_effect-fine e (AlternativesAre value) = refl
-told_effect-fine e (CategoriesAre value) = refl
-told_effect-fine e (NameIs n value) = by (nat_le 1 n && nat_le n most_candidates)
+pub told_effect-fine : (e : Election) (notes : Notes) (told : Fact) → effect_error e (told_effect notes told) ≡ None
+told_effect-fine e notes (TypeIs value) = refl
+told_effect-fine e notes (AlternativesAre value) = refl
+told_effect-fine e notes (CategoriesAre value) = refl
+told_effect-fine e notes (NameIs n value) = by (may_be_candidate notes.alternatives n)
   where
     by : (t : Bool) → effect_error e (cond t (Names n value) NoEffect) ≡ None
     by true = refl
     by false = refl
-told_effect-fine e Nothing = refl
+told_effect-fine e notes Nothing = refl
 
 -- the refusals are the faults
 pub line_error-is : (pick : Pick) (before : List (List ℕ)) (line : List ℕ) (notes : Notes) (e : Election) → IsAfter pick before notes e
@@ -95,11 +95,11 @@ line_error-is pick before line notes e is =
     or_else-assoc (fault_if (nat_lt most_line_bytes (length line)) LongLine) _ (effect_error e (line_effect pick notes line))
     ∙ ap (or_else (fault_if (nat_lt most_line_bytes (length line)) LongLine)) (by (is_ballot_line line) ∙ by_ballots)
   where
-    other : (t : Bool) → or_else (cond t None (told_error notes (told_of line))) (effect_error e (cond t NoEffect (told_effect (told_of line)))) ≡ cond t None (told_fault before (told_of line))
+    other : (t : Bool) → or_else (cond t None (told_error notes (told_of line))) (effect_error e (cond t NoEffect (told_effect notes (told_of line)))) ≡ cond t None (told_fault before (told_of line))
     other true = refl
-    other false = ap (or_else (told_error notes (told_of line))) (told_effect-fine e (told_of line)) ∙ or_else-none (told_error notes (told_of line)) ∙ told_error-is pick before notes e (told_of line) is
+    other false = ap (or_else (told_error notes (told_of line))) (told_effect-fine e notes (told_of line)) ∙ or_else-none (told_error notes (told_of line)) ∙ told_error-is pick before notes e (told_of line) is
 
-    by : (t : Bool) → or_else (cond t (ballot_error pick notes (ballot_of line)) (cond notes.has_ballot None (told_error notes (told_of line)))) (effect_error e (cond t (cast_effect pick notes (ballot_of line)) (cond notes.has_ballot NoEffect (told_effect (told_of line)))))
+    by : (t : Bool) → or_else (cond t (ballot_error pick notes (ballot_of line)) (cond notes.has_ballot None (told_error notes (told_of line)))) (effect_error e (cond t (cast_effect pick notes (ballot_of line)) (cond notes.has_ballot NoEffect (told_effect notes (told_of line)))))
         ≡ cond t (ballot_line_fault pick ballot_of before line (alternatives_in before)) (cond notes.has_ballot None (told_fault before (told_of line)))
     by true = ballot_error-is pick before line notes e is
     by false = other notes.has_ballot
@@ -127,17 +127,44 @@ has_ballot_line-more (first ∷ before) line = ap (λ t. is_ballot_line first ||
 told-ballot : (pick : Pick) (tolds : List Fact) (notes : Notes) → IsTold pick tolds notes → IsTold pick tolds (record notes { has_ballot = true })
 told-ballot pick tolds notes is = record { alternatives = is.alternatives; categories = is.categories; kind = is.kind; no_alternatives = is.no_alternatives; no_categories = is.no_categories; sound = is.sound }
 
+take-set : (most at : ℕ) (names : List (List ℕ)) (value : List ℕ) → take most (slice_set names at value) ≡ slice_set (take most names) at value
+take-set zero at names value = refl
+take-set (suc most) at [] value = refl
+take-set (suc most) zero (x ∷ names) value = refl
+take-set (suc most) (suc at) (x ∷ names) value = ap (λ l. x ∷ l) (take-set most at names value)
+
+fewer_names : (tolds : List Fact) (names : List (List ℕ)) (most fewer : ℕ) → fewer ≤ most → take most names ≡ last_names tolds most → take fewer names ≡ last_names tolds fewer
+fewer_names tolds names most fewer h is =
+    sym (take-take fewer most names h) ∙ ap (take fewer) is ∙ take-map-range_with_len (last_name tolds) 1 most fewer h
+
+-- a number that is told again is the same
+told_again : (noted : Option ℕ) (n : ℕ) → n ≤ most_candidates → (unwrap_or noted n == n) ≡ true → n ≤ unwrap_or noted most_candidates
+told_again None n most same = most
+told_again (Some k) n most same = let equal : k ≡ n = grind arith in omega arith
+
 -- the names that a line before the first ballot leaves
-names_told : (tolds : List Fact) (told : Fact) → with_effect (election most_candidates (last_names tolds most_candidates) []) (told_effect told) ≡ election most_candidates (last_names (tolds ++ told ∷ []) most_candidates) []
-names_told tolds (TypeIs value) = ap (λ l. election most_candidates l []) (last_names-kept tolds (TypeIs value) most_candidates (λ k low high. refl))
-names_told tolds (AlternativesAre value) = ap (λ l. election most_candidates l []) (last_names-kept tolds (AlternativesAre value) most_candidates (λ k low high. refl))
-names_told tolds (CategoriesAre value) = ap (λ l. election most_candidates l []) (last_names-kept tolds (CategoriesAre value) most_candidates (λ k low high. refl))
-names_told tolds Nothing = ap (λ l. election most_candidates l []) (last_names-kept tolds Nothing most_candidates (λ k low high. refl))
-names_told tolds (NameIs n value) = by (nat_le 1 n && nat_le n most_candidates) refl
+names_told : (pick : Pick) (tolds : List Fact) (notes : Notes) (told : Fact) (e : Election) → IsSound notes → told_error notes told ≡ None → HoldsNames tolds notes e
+    → HoldsNames (tolds ++ told ∷ []) (told_notes pick notes told) (with_effect e (told_effect notes told))
+names_told pick tolds notes (TypeIs value) e sound fine (m_is, empty, names) =
+    (m_is, empty, names ∙ last_names-kept tolds (TypeIs value) (unwrap_or notes.alternatives most_candidates) (λ k low high. refl))
+names_told pick tolds notes (CategoriesAre value) e sound fine (m_is, empty, names) =
+    (m_is, empty, names ∙ last_names-kept tolds (CategoriesAre value) (unwrap_or notes.alternatives most_candidates) (λ k low high. refl))
+names_told pick tolds notes Nothing e sound fine (m_is, empty, names) =
+    (m_is, empty, names ∙ last_names-kept tolds Nothing (unwrap_or notes.alternatives most_candidates) (λ k low high. refl))
+names_told pick tolds notes (AlternativesAre value) e sound fine (m_is, empty, names) =
+    let (n, is, low, high, same) = number_within TooManyCandidates most_candidates notes.alternatives (written_number value) fine in
+    let kept : take n e.names ≡ last_names (tolds ++ AlternativesAre value ∷ []) n =
+    fewer_names tolds e.names (unwrap_or notes.alternatives most_candidates) n (told_again notes.alternatives n high same) names
+    ∙ last_names-kept tolds (AlternativesAre value) n (λ k low high. refl) in
+    (m_is, empty, subst (λ o. take (unwrap_or o most_candidates) e.names ≡ last_names (tolds ++ AlternativesAre value ∷ []) (unwrap_or o most_candidates)) (sym is) kept)
+names_told pick tolds notes (NameIs n value) e sound fine (m_is, empty, names) = by (may_be_candidate notes.alternatives n) refl
   where
-    by : (t : Bool) → (nat_le 1 n && nat_le n most_candidates) ≡ t → with_effect (election most_candidates (last_names tolds most_candidates) []) (cond t (Names n value) NoEffect) ≡ election most_candidates (last_names (tolds ++ NameIs n value ∷ []) most_candidates) []
-    by true e = ap (λ l. election most_candidates l []) (last_names-told tolds n most_candidates value (grind arith) (grind arith))
-    by false e = ap (λ l. election most_candidates l []) (last_names-kept tolds (NameIs n value) most_candidates (λ k low high. name_value-other n k value (λ same. absurd (grind arith))))
+    most : ℕ
+    most = unwrap_or notes.alternatives most_candidates
+
+    by : (t : Bool) → may_be_candidate notes.alternatives n ≡ t → HoldsNames (tolds ++ NameIs n value ∷ []) notes (with_effect e (cond t (Names n value) NoEffect))
+    by true within = (m_is, empty, take-set most (n - 1) e.names value ∙ ap (λ l. slice_set l (n - 1) value) names ∙ last_names-told tolds n most value (grind arith) (grind arith))
+    by false outside = (m_is, empty, names ∙ last_names-kept tolds (NameIs n value) most (λ k low high. name_value-other n k value (λ same. absurd (grind arith))))
 
 -- what is told leaves the ballots
 told_notes-ballots : (pick : Pick) (notes : Notes) (told : Fact) → (told_notes pick notes told).has_ballot ≡ notes.has_ballot
@@ -147,12 +174,12 @@ told_notes-ballots pick notes (CategoriesAre value) = refl
 told_notes-ballots pick notes (NameIs n value) = refl
 told_notes-ballots pick notes Nothing = refl
 
-told_effect-rows : (e : Election) (told : Fact) → (with_effect e (told_effect told)).rows ≡ e.rows
-told_effect-rows e (TypeIs value) = refl
-told_effect-rows e (AlternativesAre value) = refl
-told_effect-rows e (CategoriesAre value) = refl
-told_effect-rows e Nothing = refl
-told_effect-rows e (NameIs n value) = by (nat_le 1 n && nat_le n most_candidates)
+told_effect-rows : (e : Election) (notes : Notes) (told : Fact) → (with_effect e (told_effect notes told)).rows ≡ e.rows
+told_effect-rows e notes (TypeIs value) = refl
+told_effect-rows e notes (AlternativesAre value) = refl
+told_effect-rows e notes (CategoriesAre value) = refl
+told_effect-rows e notes Nothing = refl
+told_effect-rows e notes (NameIs n value) = by (may_be_candidate notes.alternatives n)
   where
     by : (t : Bool) → (with_effect e (cond t (Names n value) NoEffect)).rows ≡ e.rows
     by true = refl
@@ -160,7 +187,7 @@ told_effect-rows e (NameIs n value) = by (nat_le 1 n && nat_le n most_candidates
 
 -- no ballot, before the first ballot
 after-told : (pick : Pick) (before : List (List ℕ)) (line : List ℕ) (notes : Notes) (e : Election) → IsAfter pick before notes e → notes.has_ballot ≡ false → is_ballot_line line ≡ false
-    → told_error notes (told_of line) ≡ None → IsAfter pick (before ++ line ∷ []) (told_notes pick notes (told_of line)) (with_effect e (told_effect (told_of line)))
+    → told_error notes (told_of line) ≡ None → IsAfter pick (before ++ line ∷ []) (told_notes pick notes (told_of line)) (with_effect e (told_effect notes (told_of line)))
 after-told pick before line notes e is none other fine =
     let no_ballot : has_ballot_line before ≡ false = sym is.ballots ∙ none in
     let tolds : told_before before ++ told_of line ∷ [] ≡ told_before (before ++ line ∷ []) = sym (told_before-more before line no_ballot other) in
@@ -169,9 +196,9 @@ after-told pick before line notes e is none other fine =
     record {
       told = subst (λ t. IsTold pick t (told_notes pick notes (told_of line))) tolds (told-step pick (told_before before) notes (told_of line) is.told fine);
       ballots = still ∙ sym none_yet;
-      opened = λ h. ap (λ f. with_effect f (told_effect (told_of line))) (is.opened none) ∙ names_told (told_before before) (told_of line) ∙ ap (λ t. election most_candidates (last_names t most_candidates) []) tolds;
+      opened = λ h. subst (λ t. HoldsNames t (told_notes pick notes (told_of line)) (with_effect e (told_effect notes (told_of line)))) tolds (names_told pick (told_before before) notes (told_of line) e is.told.sound fine (is.opened none));
       begun = λ h. false_true still h;
-      votes = ap voter_count (told_effect-rows e (told_of line)) ∙ is.votes ∙ sym (ap (λ c. sum_by (λ (x : Cast). x.count) c) (casts_in-other pick ballot_of before line other));
+      votes = ap voter_count (told_effect-rows e notes (told_of line)) ∙ is.votes ∙ sym (ap (λ c. sum_by (λ (x : Cast). x.count) c) (casts_in-other pick ballot_of before line other));
     }
   where
     false_true : {t : Bool} {X : Type 0} → t ≡ false → t ≡ true → X
@@ -239,8 +266,7 @@ after-first pick before line notes e is none ballot (m, kind, cast, alternatives
     let rows : with_votes [] (approved noted pick.way cast.classes) cast.count ≡ cast_rows noted pick.way (casts_in pick ballot_of (before ++ line ∷ [])) = sym (ap (cast_rows noted pick.way) casts) in
     let effect : with_effect e (cast_effect pick notes (ballot_of line)) ≡ election m (last_names (told_before before) m) (with_votes [] (approved noted pick.way cast.classes) cast.count) =
     ap (with_effect e) (cast_effect-is pick line notes cast read ∙ ap (λ t. Casts (cond t None notes.alternatives) (approved noted pick.way cast.classes) cast.count) none ∙ ap (λ o. Casts o (approved noted pick.way cast.classes) cast.count) alternatives)
-    ∙ ap (λ f. election m (take m f.names) (with_votes [] (approved noted pick.way cast.classes) cast.count)) (is.opened none)
-    ∙ ap (λ l. election m l (with_votes [] (approved noted pick.way cast.classes) cast.count)) (take-map-range_with_len (last_name (told_before before)) 1 most_candidates m (most m alternatives)) in
+    ∙ ap (λ l. election m l (with_votes [] (approved noted pick.way cast.classes) cast.count)) (subst (λ o. take (unwrap_or o most_candidates) e.names ≡ last_names (told_before before) (unwrap_or o most_candidates)) alternatives (is.opened none).2) in
     record {
       told = subst (λ t. IsTold pick t (record notes { has_ballot = true })) tolds (told-ballot pick (told_before before) notes is.told);
       ballots = sym (has_ballot_line-more before line ∙ more);
@@ -253,9 +279,6 @@ after-first pick before line notes e is none ballot (m, kind, cast, alternatives
       );
       votes = ap (λ (f : Election). voter_count f.rows) effect ∙ sym (ap (λ c. sum_by (λ (x : Cast). x.count) c) casts);
     }
-  where
-    most : (m : ℕ) → notes.alternatives ≡ Some m → m ≤ most_candidates
-    most m a = (subst (λ o. IfSome o (λ n. (1 ≤ n) × (n ≤ most_candidates))) a is.told.sound).1
 
 -- a ballot after others
 after-ballot : (pick : Pick) (before : List (List ℕ)) (line : List ℕ) (notes : Notes) (e : Election) → IsAfter pick before notes e → notes.has_ballot ≡ true → is_ballot_line line ≡ true → IsCast pick before line notes
@@ -303,7 +326,7 @@ rows_are pick before notes e is = by notes.has_ballot refl
         let (m, number, profile, rows) = is.begun h in
         ap (λ (f : Election). f.rows) profile ∙ ap (λ k. cast_rows (kind_or_usual k) pick.way (casts_in pick ballot_of before)) is.told.kind
     by false h =
-        ap (λ (f : Election). f.rows) (is.opened h)
+        (is.opened h).1
         ∙ sym (ap (cast_rows (kind_or_usual (kind_in pick before)) pick.way) (casts_in-none pick ballot_of before (sym is.ballots ∙ h)))
 
 -- a line without a fault
@@ -312,7 +335,7 @@ pub after-line : (pick : Pick) (before : List (List ℕ)) (line : List ℕ) (not
 after-line pick before line notes e is fine = by (is_ballot_line line) notes.has_ballot refl refl (or_else-second (fault_if (nat_lt most_line_bytes (length line)) LongLine) _ fine)
   where
     by : (b s : Bool) → is_ballot_line line ≡ b → notes.has_ballot ≡ s → cond b (ballot_error pick notes (ballot_of line)) (cond s None (told_error notes (told_of line))) ≡ None
-        → IsAfter pick (before ++ line ∷ []) (cond b (record notes { has_ballot = true }) (cond s notes (told_notes pick notes (told_of line)))) (with_effect e (cond b (cast_effect pick notes (ballot_of line)) (cond s NoEffect (told_effect (told_of line)))))
+        → IsAfter pick (before ++ line ∷ []) (cond b (record notes { has_ballot = true }) (cond s notes (told_notes pick notes (told_of line)))) (with_effect e (cond b (cast_effect pick notes (ballot_of line)) (cond s NoEffect (told_effect notes (told_of line)))))
     by true false f g h = after-first pick before line notes e is g f (is_cast pick before line notes h)
     by true true f g h = after-ballot pick before line notes e is g f (is_cast pick before line notes h)
     by false true f g h = after-skipped pick before line notes e is g f
@@ -328,16 +351,16 @@ or_first : (a b : Bool) → a ≡ true → (a || b) ≡ true
 or_first true b h = refl
 or_first false b h = absurd (cc)
 
--- a name of a candidate
-takes_name : (e : Election) (told : Fact) → effect_takes e (told_effect told) ≡ true → is_name told ≡ true
-takes_name e (TypeIs value) h = absurd (cc)
-takes_name e (AlternativesAre value) h = absurd (cc)
-takes_name e (CategoriesAre value) h = absurd (cc)
-takes_name e Nothing h = absurd (cc)
-takes_name e (NameIs n value) h = by (nat_le 1 n && nat_le n most_candidates) h
+-- a name of a candidate, which has bytes
+takes_name : (before : List (List ℕ)) (notes : Notes) (e : Election) (told : Fact) → notes.alternatives ≡ alternatives_in before → effect_takes e (told_effect notes told) ≡ true → is_name before told ≡ true
+takes_name before notes e (TypeIs value) is h = absurd (cc)
+takes_name before notes e (AlternativesAre value) is h = absurd (cc)
+takes_name before notes e (CategoriesAre value) is h = absurd (cc)
+takes_name before notes e Nothing is h = absurd (cc)
+takes_name before notes e (NameIs n value) is h = ap (λ o. may_be_candidate o n && not (is_empty value)) (sym is) ∙ by (may_be_candidate notes.alternatives n) h
   where
-    by : (t : Bool) → effect_takes e (cond t (Names n value) NoEffect) ≡ true → t ≡ true
-    by true g = refl
+    by : (t : Bool) → effect_takes e (cond t (Names n value) NoEffect) ≡ true → (t && not (is_empty value)) ≡ true
+    by true g = g
     by false g = absurd (cc)
 
 not_true : (t : Bool) → not t ≡ true → t ≡ false
@@ -358,7 +381,7 @@ is_growth-is pick before line notes e is fine takes =
     by (is_ballot_line line) notes.has_ballot refl refl (or_else-second (fault_if (nat_lt most_line_bytes (length line)) LongLine) _ fine) takes
   where
     name : Bool
-    name = not (has_ballot_line before) && is_name (told_of line)
+    name = not (has_ballot_line before) && is_name before (told_of line)
 
     row : Bool
     row = nat_lt (length (rows_in pick ballot_of before)) (length (rows_in pick ballot_of (before ++ line ∷ [])))
@@ -375,15 +398,15 @@ is_growth-is pick before line notes e is fine takes =
     of_ballot : is_ballot_line line ≡ true → IsCast pick before line notes → effect_takes e (cast_effect pick notes (ballot_of line)) ≡ true → row ≡ true
     of_ballot f (m, kind, cast, alternatives, known, read, good) h =
         let effect = cast_effect-is pick line notes cast read in
-        let line_is : line_effect pick notes line ≡ cast_effect pick notes (Some cast) = ap (λ t. cond t (cast_effect pick notes (ballot_of line)) (cond notes.has_ballot NoEffect (told_effect (told_of line)))) f ∙ effect in
+        let line_is : line_effect pick notes line ≡ cast_effect pick notes (Some cast) = ap (λ t. cond t (cast_effect pick notes (ballot_of line)) (cond notes.has_ballot NoEffect (told_effect notes (told_of line)))) f ∙ effect in
         grown (cast_effect pick notes (Some cast)) line_is
-        (takes_row e notes.has_ballot notes.alternatives m (approved (kind_or_usual notes.kind) pick.way cast.classes) cast.count alternatives (λ none. ap (λ (g : Election). g.rows) (is.opened none)) (sym (ap (effect_takes e) effect) ∙ h))
+        (takes_row e notes.has_ballot notes.alternatives m (approved (kind_or_usual notes.kind) pick.way cast.classes) cast.count alternatives (λ none. (is.opened none).1) (sym (ap (effect_takes e) effect) ∙ h))
 
     by : (b s : Bool) → is_ballot_line line ≡ b → notes.has_ballot ≡ s → cond b (ballot_error pick notes (ballot_of line)) (cond s None (told_error notes (told_of line))) ≡ None
-        → effect_takes e (cond b (cast_effect pick notes (ballot_of line)) (cond s NoEffect (told_effect (told_of line)))) ≡ true → (name || row) ≡ true
+        → effect_takes e (cond b (cast_effect pick notes (ballot_of line)) (cond s NoEffect (told_effect notes (told_of line)))) ≡ true → (name || row) ≡ true
     by true s f g h t = or_second name row (of_ballot f (is_cast pick before line notes h) t)
     by false true f g h t = absurd (cc)
-    by false false f g h t = or_first name row (ap (λ b. not b && is_name (told_of line)) (sym is.ballots ∙ g) ∙ takes_name e (told_of line) t)
+    by false false f g h t = or_first name row (ap (λ b. not b && is_name before (told_of line)) (sym is.ballots ∙ g) ∙ takes_name before notes e (told_of line) is.told.alternatives t)
 
 pub takes_memory-is : (pick : Pick) (before : List (List ℕ)) (line : List ℕ) (notes : Notes) (e : Election) → IsAfter pick before notes e → line_error pick notes line ≡ None
     → effect_takes e (line_effect pick notes line) ≡ true → takes_memory pick ballot_of before line ≡ true
@@ -406,7 +429,7 @@ end_error-is pick lines notes e is =
 
     by : (t : Bool) → notes.has_ballot ≡ t → is_empty e.rows ≡ not (has_ballot_line lines)
     by true h = some e.rows ((is.begun h).3) ∙ sym (ap not (sym is.ballots ∙ h))
-    by false h = none e.rows (ap (λ (f : Election). f.rows) (is.opened h)) ∙ sym (ap not (sym is.ballots ∙ h))
+    by false h = none e.rows (is.opened h).1 ∙ sym (ap not (sym is.ballots ∙ h))
 
 -- where a ballot was read the profile is that of the lines
 pub election_in-is : (pick : Pick) (lines : List (List ℕ)) (notes : Notes) (e : Election) → IsAfter pick lines notes e → end_error notes e ≡ None → e ≡ election_in pick ballot_of lines
@@ -418,7 +441,7 @@ election_in-is pick lines notes e is fine = by notes.has_ballot refl
         profile ∙ ap (λ k. election m (last_names (told_before lines) m) (cast_rows (kind_or_usual k) pick.way (casts_in pick ballot_of lines))) is.told.kind
         ∙ ap (λ n. election n (last_names (told_before lines) n) (rows_in pick ballot_of lines)) (ap (λ o. unwrap_or o 0) (sym number ∙ is.told.alternatives))
     by false h =
-        let empty : e.rows ≡ [] = ap (λ (f : Election). f.rows) (is.opened h) in
+        let empty : e.rows ≡ [] = (is.opened h).1 in
         absurd (no_voters e.rows empty (or_else-second (fault_if (not (is_some notes.alternatives)) NoAlternatives) (fault_if (is_empty e.rows) NoVoters) fine))
       where
         no_voters : (rows : List Row) → rows ≡ [] → fault_if (is_empty rows) NoVoters ≡ None → ⊥

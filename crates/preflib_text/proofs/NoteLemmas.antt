@@ -1,5 +1,5 @@
 -- What a metadata line does to the notes.
-use Rattle.std.proofs.Common.{◌≡◌, ℕ, ◌≤◌, ◌&&◌, Bool, true, false, cond, List, [], ◌∷◌, map, ◌==◌, refl, sym, ap, subst, ◌∙◌, arith, length, Option, Some, None, IfSome, MatchOption, MatchResult, Result, Ok, Err, not}
+use Rattle.std.proofs.Common.{◌≡◌, ℕ, ◌≤◌, ◌&&◌, Bool, true, false, cond, List, [], ◌∷◌, map, ◌==◌, refl, sym, ap, subst, ◌∙◌, arith, length, Option, Some, None, IfSome, unwrap_or, MatchOption, MatchResult, Result, Ok, Err, not}
 use Rattle.std.specs.Prelude.{nat_lt, nat_le}
 use Rattle.ballot_base.specs.Limits.{most_candidates}
 use Rattle.preflib_text.specs.Limits.{most_line_bytes}
@@ -38,30 +38,45 @@ told_notes-capped pick notes (CategoriesAre value) = refl
 told_notes-capped pick notes (NameIs n value) = refl
 told_notes-capped pick notes Nothing = refl
 
-capped_name : (n : ℕ) (value : List ℕ) → (n ≤ most_candidates → capped n ≡ n) → (nat_le 1 (capped n) && nat_le (capped n) most_candidates) ≡ (nat_le 1 n && nat_le n most_candidates) → told_effect (NameIs (capped n) value) ≡ told_effect (NameIs n value)
-capped_name n value same test = ap (λ t. cond t (Names (capped n) value) NoEffect) test ∙ by (nat_le 1 n && nat_le n most_candidates) refl
+-- the numbers that a candidate may have are few
+few : (alternatives : Option ℕ) → IfSome alternatives (λ m. (1 ≤ m) × (m ≤ most_candidates)) → unwrap_or alternatives most_candidates ≤ most_candidates
+few None sound = omega arith
+few (Some m) sound = sound.1
+
+pub within_most : (notes : Notes) (n : ℕ) → IsSound notes → n ≤ unwrap_or notes.alternatives most_candidates → n ≤ most_candidates
+within_most notes n sound within = omega (arith, within, few notes.alternatives sound)
+
+capped_name : (most n : ℕ) (value : List ℕ) → most ≤ most_candidates
+    → cond (nat_le 1 (capped n) && nat_le (capped n) most) (Names (capped n) value) NoEffect ≡ cond (nat_le 1 n && nat_le n most) (Names n value) NoEffect
+capped_name most n value small = ap (λ t. cond t (Names (capped n) value) NoEffect) test ∙ by (nat_le 1 n && nat_le n most) refl
   where
-    within : (nat_le 1 n && nat_le n most_candidates) ≡ true → n ≤ most_candidates
+    test : (nat_le 1 (capped n) && nat_le (capped n) most) ≡ (nat_le 1 n && nat_le n most)
+    test = grind arith
+
+    same : n ≤ most → capped n ≡ n
+    same h = omega (arith, small)
+
+    within : (nat_le 1 n && nat_le n most) ≡ true → n ≤ most
     within h = grind arith
 
-    by : (t : Bool) → (nat_le 1 n && nat_le n most_candidates) ≡ t → cond t (Names (capped n) value) NoEffect ≡ cond t (Names n value) NoEffect
+    by : (t : Bool) → (nat_le 1 n && nat_le n most) ≡ t → cond t (Names (capped n) value) NoEffect ≡ cond t (Names n value) NoEffect
     by true e = ap (λ k. Names k value) (same (within e))
     by false e = refl
 
-pub told_effect-capped : (told : Fact) → told_effect (capped_told told) ≡ told_effect told
-told_effect-capped (TypeIs value) = refl
-told_effect-capped (AlternativesAre value) = refl
-told_effect-capped (CategoriesAre value) = refl
-told_effect-capped (NameIs n value) = capped_name n value (λ h. omega arith) (grind arith)
-told_effect-capped Nothing = refl
+pub told_effect-capped : (notes : Notes) (told : Fact) → IsSound notes → told_effect notes (capped_told told) ≡ told_effect notes told
+told_effect-capped notes (TypeIs value) sound = refl
+told_effect-capped notes (AlternativesAre value) sound = refl
+told_effect-capped notes (CategoriesAre value) sound = refl
+told_effect-capped notes (NameIs n value) sound = capped_name (unwrap_or notes.alternatives most_candidates) n value (few notes.alternatives sound)
+told_effect-capped notes Nothing sound = refl
 
 -- ---- a metadata line before the first ballot
 
 pub metadata_line : (pick : Pick) (notes after : Notes) (line : List ℕ) (told : Fact) (r : Result rust.Effect FaultName)
-    → told ≡ capped_told (told_of line) → nat_lt most_line_bytes (length line) ≡ false → is_ballot_line line ≡ false → notes.has_ballot ≡ false
-    → MatchResult r (λ step. (told_error notes told ≡ None) × (after ≡ told_notes pick notes told) × (effect_of step ≡ told_effect told)) (λ name. told_error notes told ≡ Some name)
+    → told ≡ capped_told (told_of line) → nat_lt most_line_bytes (length line) ≡ false → is_ballot_line line ≡ false → notes.has_ballot ≡ false → IsSound notes
+    → MatchResult r (λ step. (told_error notes told ≡ None) × (after ≡ told_notes pick notes told) × (effect_of step ≡ told_effect notes told)) (λ name. told_error notes told ≡ Some name)
     → MatchResult r (λ step. (line_error pick notes line ≡ None) × (after ≡ line_notes pick notes line) × (effect_of step ≡ line_effect pick notes line)) (λ name. line_error pick notes line ≡ Some name)
-metadata_line pick notes after line told r is short other none taken = by r taken
+metadata_line pick notes after line told r is short other none sound taken = by r taken
   where
     of_told : told_error notes told ≡ line_error pick notes line
     of_told = ap (told_error notes) is ∙ told_error-capped notes (told_of line)
@@ -74,13 +89,13 @@ metadata_line pick notes after line told r is short other none taken = by r take
         ∙ sym (ap (λ t. cond t (record notes { has_ballot = true }) (cond notes.has_ballot notes (told_notes pick notes (told_of line)))) other
         ∙ ap (λ t. cond t notes (told_notes pick notes (told_of line))) none)
 
-    of_effect : told_effect told ≡ line_effect pick notes line
-    of_effect = ap told_effect is ∙ told_effect-capped (told_of line)
-        ∙ sym (ap (λ t. cond t (cast_effect pick notes (ballot_of line)) (cond notes.has_ballot NoEffect (told_effect (told_of line)))) other
-        ∙ ap (λ t. cond t NoEffect (told_effect (told_of line))) none)
+    of_effect : told_effect notes told ≡ line_effect pick notes line
+    of_effect = ap (told_effect notes) is ∙ told_effect-capped notes (told_of line) sound
+        ∙ sym (ap (λ t. cond t (cast_effect pick notes (ballot_of line)) (cond notes.has_ballot NoEffect (told_effect notes (told_of line)))) other
+        ∙ ap (λ t. cond t NoEffect (told_effect notes (told_of line))) none)
 
     by : (q : Result rust.Effect FaultName)
-        → MatchResult q (λ step. (told_error notes told ≡ None) × (after ≡ told_notes pick notes told) × (effect_of step ≡ told_effect told)) (λ name. told_error notes told ≡ Some name)
+        → MatchResult q (λ step. (told_error notes told ≡ None) × (after ≡ told_notes pick notes told) × (effect_of step ≡ told_effect notes told)) (λ name. told_error notes told ≡ Some name)
         → MatchResult q (λ step. (line_error pick notes line ≡ None) × (after ≡ line_notes pick notes line) × (effect_of step ≡ line_effect pick notes line)) (λ name. line_error pick notes line ≡ Some name)
     by (Ok step) (e, n, f) = (sym of_told ∙ e, n ∙ of_notes, f ∙ of_effect)
     by (Err name) e = sym of_told ∙ e
@@ -120,7 +135,7 @@ ballot-taken pick notes m kind line count set alternatives known fits good =
 pub may_come : (notes : Notes) (e : Election) (effect : Effect) → IsSound notes → (notes.has_ballot ≡ false → (e.m ≡ most_candidates) × (e.rows ≡ [])) → (notes.has_ballot ≡ true → notes.alternatives ≡ Some e.m)
     → IsProper notes effect → MayCome e effect
 may_come notes e NoEffect sound opened begun proper = tt
-may_come notes e (Names n name) sound opened begun (none, low, high) = (low, subst (λ m. n ≤ m) (sym (opened none).0) high)
+may_come notes e (Names n name) sound opened begun (none, low, high) = (low, subst (λ m. n ≤ m) (sym (opened none).0) (within_most notes n sound high))
 may_come notes e (Casts None set count) sound opened begun (some, within, voters) = (subst (λ o. IfSome o (λ m. IsIncreasing 1 m set)) (begun some) within, voters)
 may_come notes e (Casts (Some m) set count) sound opened begun (none, is, within, voters) =
     let (low, high) = subst (λ o. IfSome o (λ k. (1 ≤ k) × (k ≤ most_candidates))) is sound in

@@ -80,6 +80,10 @@ no_growth : is_growth list_pick ballot_of [] (codes "# X: y") ≡ false
 unfolding list_pick trim_start words_of
 no_growth = refl
 
+no_growth_by_an_empty_name : is_growth list_pick ballot_of (codes "# ALTERNATIVE NAME 2: B" ∷ []) (codes "# ALTERNATIVE NAME 2:") ≡ false
+unfolding list_pick trim_start words_of
+no_growth_by_an_empty_name = refl
+
 lacks_memory : LacksMemory (codes "#" ∷ codes "# ALTERNATIVE NAME 2: B" ∷ []) list_pick (at_line 2 Memory)
 unfolding list_pick trim_start words_of
 lacks_memory = (codes "#" ∷ [], codes "# ALTERNATIVE NAME 2: B", [], refl, refl, ballot_of, ballot_of_reads, refl, refl)

@@ -437,7 +437,7 @@ module _ (pick : Pick) (bytes : List ℕ) (notes : Notes) (e : Election) (number
   sound = is.after.told.sound
 
   pub opened : notes.has_ballot ≡ false → (e.m ≡ most_candidates) × (e.rows ≡ [])
-  opened none = (ap (λ (f : Election). f.m) (is.after.opened none), ap (λ (f : Election). f.rows) (is.after.opened none))
+  opened none = ((is.after.opened none).0, (is.after.opened none).1)
 
   pub begun : notes.has_ballot ≡ true → notes.alternatives ≡ Some e.m
   begun some = let (m, number_is, profile, rows) = is.after.begun some in number_is ∙ ap (λ (f : Election). Some f.m) (sym profile)

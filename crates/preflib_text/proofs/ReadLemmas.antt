@@ -155,9 +155,9 @@ module _ (pick : Pick) (bytes rest : List ℕ) (notes : Notes) (e : Election) (n
 no_effect-fresh : (pick : Pick) (line : List ℕ) (e : Election) → line_error pick (fresh_notes pick) line ≡ None → effect_error e (line_effect pick (fresh_notes pick) line) ≡ None
 no_effect-fresh pick line e fine = by (is_ballot_line line) (or_else-second (fault_if (nat_lt most_line_bytes (length line)) LongLine) _ fine)
   where
-    by : (t : Bool) → cond t (ballot_error pick (fresh_notes pick) (ballot_of line)) (told_error (fresh_notes pick) (told_of line)) ≡ None → effect_error e (cond t (cast_effect pick (fresh_notes pick) (ballot_of line)) (told_effect (told_of line))) ≡ None
+    by : (t : Bool) → cond t (ballot_error pick (fresh_notes pick) (ballot_of line)) (told_error (fresh_notes pick) (told_of line)) ≡ None → effect_error e (cond t (cast_effect pick (fresh_notes pick) (ballot_of line)) (told_effect (fresh_notes pick) (told_of line))) ≡ None
     by true h = absurd (cc)
-    by false h = told_effect-fine e (told_of line)
+    by false h = told_effect-fine e (fresh_notes pick) (told_of line)
 
 some_line : (b : ℕ) (bytes : List ℕ) → (piece : List ℕ) × (pieces : List (List ℕ)) × (pieces_of (b ∷ bytes) ≡ piece ∷ pieces)
 unfolding pieces_of

@@ -15,10 +15,10 @@ use Rattle.preflib_text.specs.Steps.Tokens.{ballot_of, tokens_after, order_at}
 use Rattle.preflib_text.specs.Lines.{onto_first, pieces_of, without_return, without_mark, lines_of, is_blank, trim_start, is_metadata_line, is_ballot_line}
 use Rattle.preflib_text.specs.Metadata.{trimmed, begins_blank, words_of, key_and_value, same_words, written_number, TypeIs, AlternativesAre, CategoriesAre, NameIs, Nothing, name_told, told_by, told_in, told_of}
 use Rattle.preflib_text.specs.Names.{kind_name, kind_named, fault_name, fault_named}
-use Rattle.preflib_text.specs.Reading.{told_before, alternatives_value, categories_value, type_value, name_value, last_of, alternatives_in, categories_in, type_in, name_in, number_fault, told_fault, kind_or, kind_by, kind_in, kind_or_usual, is_fitting, outcome_by, at_end, at_line, end_fault, is_name, faulty_line, fault_of_line, first_faulty_line, takes_memory, casts_in, votes_in, cast_fault, kind_fault, ballot_line_fault, line_fault, first_fault, rows_in, election_in, outcome_in, Reads, RunsShort}
+use Rattle.preflib_text.specs.Reading.{told_before, alternatives_value, categories_value, type_value, name_value, last_of, alternatives_in, categories_in, type_in, name_in, number_fault, told_fault, kind_or, kind_by, kind_in, kind_or_usual, is_fitting, outcome_by, at_end, at_line, end_fault, is_empty, may_be_candidate, is_name, faulty_line, fault_of_line, first_faulty_line, takes_memory, casts_in, votes_in, cast_fault, kind_fault, ballot_line_fault, line_fault, first_fault, rows_in, election_in, outcome_in, Reads, RunsShort}
 use Rattle.preflib_text.specs.Steps.Tells.{digits_after, words_with, capped_told, meant}
 use Rattle.preflib_text.specs.Steps.Cuts.{IsSort}
-use Rattle.preflib_text.specs.Steps.Notes.{first_kind, fresh_notes, kind_with, NoEffect, Names, Casts, effect_of, told_error, told_notes, told_effect, cast_error, kind_error, alternatives_error, ballot_error, cast_effect, line_error, line_notes, line_effect, IsSound, effect_error, with_effect, IsProper, MayCome, effect_takes, Refuses, is_empty, end_error}
+use Rattle.preflib_text.specs.Steps.Notes.{first_kind, fresh_notes, kind_with, NoEffect, Names, Casts, effect_of, told_error, told_notes, told_effect, cast_error, kind_error, alternatives_error, ballot_error, cast_effect, line_error, line_notes, line_effect, IsSound, effect_error, with_effect, IsProper, MayCome, effect_takes, Refuses, end_error}
 use Rattle.preflib_text.proofs.BallotLines.{ballot_of_reads}
 
 -- ---- lines
@@ -345,8 +345,22 @@ reads_nothing : Reads (codes "") file_pick (Err (at_end NoAlternatives))
 unfolding pieces_of without_return
 reads_nothing = (ballot_of, ballot_of_reads, refl)
 
-a_name : is_name (NameIs 64 (codes "A")) ≡ true
+few_numbers : may_be_candidate (Some 3) 4 ≡ false
+few_numbers = refl
+
+a_name : is_name [] (NameIs 64 (codes "A")) ≡ true
 a_name = refl
+
+no_candidate : is_name (codes "# NUMBER ALTERNATIVES: 2" ∷ []) (NameIs 3 (codes "A")) ≡ false
+unfolding trim_start words_of
+no_candidate = refl
+
+an_empty_name : is_name [] (NameIs 2 []) ≡ false
+an_empty_name = refl
+
+empty_name_takes_none : takes_memory file_pick ballot_of (codes "#" ∷ []) (codes "# ALTERNATIVE NAME 2:") ≡ false
+unfolding file_pick trim_start words_of tokens_after order_at
+empty_name_takes_none = refl
 
 takes_name : takes_memory file_pick ballot_of (codes "#" ∷ []) (codes "# ALTERNATIVE NAME 2: B") ≡ true
 unfolding file_pick trim_start words_of tokens_after order_at
@@ -394,10 +408,12 @@ notes_told : told_notes file_pick file_notes (CategoriesAre (codes "7")) ≡ rec
 unfolding file_notes
 notes_told = refl
 
-effect_told : told_effect (NameIs 64 (codes "A")) ≡ Names 64 (codes "A")
+effect_told : told_effect file_notes (NameIs 2 (codes "A")) ≡ Names 2 (codes "A")
+unfolding file_notes
 effect_told = refl
 
-no_effect_told : told_effect (NameIs 65 (codes "A")) ≡ NoEffect
+no_effect_told : told_effect file_notes (NameIs 3 (codes "A")) ≡ NoEffect
+unfolding file_notes
 no_effect_told = refl
 
 error_of_cast : cast_error Toi 2 None None ≡ Some BadBallot
@@ -444,7 +460,7 @@ with_name = refl
 with_first_ballot : with_effect (election 3 ([] ∷ codes "B" ∷ codes "C" ∷ []) []) (Casts (Some 2) (1 ∷ []) 4) ≡ election 2 ([] ∷ codes "B" ∷ []) ((1 ∷ [], 4) ∷ [])
 with_first_ballot = refl
 
-proper_name : IsProper file_notes (Names 64 (codes "A"))
+proper_name : IsProper file_notes (Names 2 (codes "A"))
 unfolding file_notes
 proper_name = (refl, lit≤ tt, lit≤ tt)
 
@@ -453,6 +469,9 @@ name_may_come = (lit≤ tt, lit≤ tt)
 
 takes_new_ballot : effect_takes (election 2 ([] ∷ [] ∷ []) ((1 ∷ [], 4) ∷ [])) (Casts None (2 ∷ []) 1) ≡ true
 takes_new_ballot = refl
+
+takes_empty_name : effect_takes (election 2 ([] ∷ codes "B" ∷ []) []) (Names 2 []) ≡ false
+takes_empty_name = refl
 
 refused : Refuses None true Memory
 refused = inr (refl, refl, refl)

@@ -67,10 +67,10 @@ last_of-push : (values : List (List ℕ)) (value : List ℕ) → last_of (values
 last_of-push values value = ap (λ l. slice_get l 0) (reverse-append values (value ∷ []))
 
 -- a number without a fault
-abbrev IsNumberWithin : Option ℕ → ℕ → Option ℕ → Type 0
+abbrev pub IsNumberWithin : Option ℕ → ℕ → Option ℕ → Type 0
 IsNumberWithin noted most number = (n : ℕ) × (number ≡ Some n) × (1 ≤ n) × (n ≤ most) × ((unwrap_or noted n == n) ≡ true)
 
-number_within : (name : FaultName) (most : ℕ) (noted number : Option ℕ) → number_fault (Some name) most noted number ≡ None → IsNumberWithin noted most number
+pub number_within : (name : FaultName) (most : ℕ) (noted number : Option ℕ) → number_fault (Some name) most noted number ≡ None → IsNumberWithin noted most number
 number_within name most noted None fault = absurd (cc)
 number_within name most noted (Some n) fault = by (n == 0) (nat_lt most n) (unwrap_or noted n == n) refl refl refl fault
   where

@@ -60,10 +60,9 @@ abbrev pub name_value : ℕ → Fact → Option (List ℕ)
 name_value n (NameIs k value) = if k == n then Some value else None
 name_value n _ = None
 
--- whether the name of a candidate is told; other numbers have no name
-abbrev pub is_name : Fact → Bool
-is_name (NameIs n value) = nat_le 1 n && nat_le n most_candidates
-is_name _ = false
+abbrev pub is_empty : {X : Type 0} → List X → Bool
+is_empty [] = true
+is_empty (x ∷ xs) = false
 
 -- the last of the values
 abbrev pub last_of : List (List ℕ) → Option (List ℕ)
@@ -75,6 +74,16 @@ alternatives_in lines = option_and_then written_number (slice_get (filter_map al
 
 abbrev pub categories_in : List (List ℕ) → Option ℕ
 categories_in lines = option_and_then written_number (slice_get (filter_map categories_value (told_before lines)) 0)
+
+-- whether a candidate may have this number: one up to the number of alternatives, or up to the most that there may be
+-- if that number is not known
+abbrev pub may_be_candidate : Option ℕ → ℕ → Bool
+may_be_candidate alternatives n = nat_le 1 n && nat_le n (unwrap_or alternatives most_candidates)
+
+-- whether a name to keep is told, after these lines: one that has bytes, of a number that a candidate may have
+abbrev pub is_name : List (List ℕ) → Fact → Bool
+is_name before (NameIs n value) = may_be_candidate (alternatives_in before) n && not (is_empty value)
+is_name before _ = false
 
 -- the type and the name of a candidate, as the lines tell them last; a name may be empty, and is none then
 abbrev pub type_in : List (List ℕ) → Option (List ℕ)
@@ -258,10 +267,10 @@ module _ (pick : Pick) (read : List ℕ → Option Cast) where
   abbrev pub outcome_in : List (List ℕ) → Result Election ReadFault
   outcome_in lines = outcome_by (election_in lines) (first_fault lines)
 
-  -- whether a line makes the profile grow, after these lines: the name of a candidate before the first ballot, and a
-  -- ballot that makes a new row
+  -- whether a line makes the profile grow, after these lines: a name to keep before the first ballot, and a ballot that
+  -- makes a new row
   abbrev pub is_growth : List (List ℕ) → List ℕ → Bool
-  is_growth before line = (not (list_any is_ballot_line before) && is_name (told_of line))
+  is_growth before line = (not (list_any is_ballot_line before) && is_name before (told_of line))
       || nat_lt (length (rows_in before)) (length (rows_in (before ++ line ∷ [])))
 
   -- whether a line takes memory: the first, where the room of names and rows is taken, and one that makes them grow

@@ -133,13 +133,27 @@ impl Notes {
         Ok(Effect::Nothing)
     }
 
+    /// What a name does. That of a number which no candidate can have does nothing.
+    fn name_effect<'a>(&self, number: u64, name: &'a [u8]) -> Effect<'a>
+        requires { IsSound self.now }
+        ensures { effect_of result ≡ told_effect self.now (NameIs number name.now) }
+    {
+        let most = self.alternatives.unwrap_or(u64::from(MOST_CANDIDATES));
+        if (1..=most).contains(&number) {
+            Effect::Name(number as u8, name)
+        } else {
+            Effect::Nothing
+        }
+    }
+
     /// Notes what a metadata line tells.
     fn take_told<'a>(&mut self, pick: &Pick, told: Fact<'a>) -> Result<Effect<'a>, FaultName>
-        requires { self.old.has_ballot ≡ false }
+        requires notes { IsSound self.old }
+        requires before { self.old.has_ballot ≡ false }
         ensures told { MatchResult result
             (λ effect. (told_error self.old (meant told.entry) ≡ None)
             × (self.new ≡ told_notes pick.now self.old (meant told.entry))
-            × (effect_of effect ≡ told_effect (meant told.entry)))
+            × (effect_of effect ≡ told_effect self.old (meant told.entry)))
             (λ name. told_error self.old (meant told.entry) ≡ Some name) }
         ensures proper { IfOk result (λ effect. IsProper self.old (effect_of effect)) }
     {
@@ -150,7 +164,7 @@ impl Notes {
             }
             Fact::Alternatives(text) => self.take_alternatives(text),
             Fact::Categories(text) => self.take_categories(text),
-            Fact::Name(number, name) => Ok(name_effect(number, name)),
+            Fact::Name(number, name) => Ok(self.name_effect(number, name)),
             Fact::Nothing => Ok(Effect::Nothing),
         }
     }
@@ -214,16 +228,5 @@ impl Notes {
             Sort::Metadata if !self.has_ballot => self.take_told(pick, told_of(line)),
             Sort::Metadata | Sort::Blank => Ok(Effect::Nothing),
         }
-    }
-}
-
-/// What the name of a candidate does. The name of one whom no profile has does nothing.
-fn name_effect(number: u64, name: &[u8]) -> Effect<'_>
-    ensures { effect_of result ≡ told_effect (NameIs number name.now) }
-{
-    if (1..=u64::from(MOST_CANDIDATES)).contains(&number) {
-        Effect::Name(number as u8, name)
-    } else {
-        Effect::Nothing
     }
 }

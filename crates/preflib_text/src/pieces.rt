@@ -333,7 +333,7 @@ impl<A: Allocator + Copy + Drop> LineReader<A> {
 
     /// Reads the next bytes. The first fault of a line comes as soon as its line has ended, and that a line is too long
     /// as soon as it can no longer come within the limit; it is the first fault of every input that begins with the
-    /// bytes so far, and each later call answers it again. Memory is taken for names and new ballots alone.
+    /// bytes so far, and each later call answers it again. Memory is taken only for names and new ballots.
     pub fn feed(&mut self, bytes: &[u8]) -> Result<(), ReadFault>
         requires { length self.old.fed + length bytes.now < word_limit }
         ensures fed { self.new ≡ feeding self.old.pick (self.old.fed ++ bytes.now) self.new.fault }
@@ -358,9 +358,10 @@ impl<A: Allocator + Copy + Drop> LineReader<A> {
     }
 
     /// How many bytes are kept of the line that has not ended, at most `MOST_LINE_BYTES` and a CR. A CR that may belong
-    /// to the end of the line counts, a mark at the start of the input does not.
+    /// to the end of the line counts, a mark at the start of the input does not. After a fault the answer is 0.
     pub fn held(&self) -> usize
         ensures held { self.now.fault ≡ None → result ≡ length (unfinished_line self.now.fed) }
+        ensures after { IfSome self.now.fault (λ _. result ≡ 0) }
         ensures most { result ≤ most_line_bytes + 1 }
     {
         if self.fault.is_some() {

@@ -1,6 +1,6 @@
 -- What the notes and the profile are after some lines.
-use Rattle.std.specs.Prelude.{◌≡◌, ◌≢◌, ℕ, true, false, Bool, List, [], ◌++◌, map, filter_map, fold, slice_get, Option}
-use Rattle.std.specs.Prelude.{Some, None, option_and_then, unwrap_or}
+use Rattle.std.specs.Prelude.{◌≡◌, ◌≢◌, ℕ, true, false, Bool, List, [], ◌++◌, map, filter_map, fold, slice_get, take}
+use Rattle.std.specs.Prelude.{Option, Some, None, option_and_then, unwrap_or}
 use Rattle.std.specs.List.{list_any, range_with_len}
 use Rattle.ballot_base.specs.Limits.{most_candidates}
 use Rattle.ballot_base.specs.Ballots.{Election, Row, election, with_votes, voter_count}
@@ -44,6 +44,12 @@ cast_rows kind way casts = fold (λ rows cast. with_votes rows (approved kind wa
 abbrev pub has_ballot_line : List (List ℕ) → Bool
 has_ballot_line lines = list_any is_ballot_line lines
 
+-- the profile before the first ballot, with the names of the numbers that a candidate may have
+abbrev pub HoldsNames : List Fact → Notes → Election → Type 0
+HoldsNames tolds notes e =
+    let most = unwrap_or notes.alternatives most_candidates in
+    (e.m ≡ most_candidates) × (e.rows ≡ []) × (take most e.names ≡ last_names tolds most)
+
 -- the profile where a ballot was read
 abbrev pub HoldsBallots : Pick → List (List ℕ) → Notes → Election → Type 0
 HoldsBallots pick before notes e = (m : ℕ) × (notes.alternatives ≡ Some m)
@@ -54,8 +60,7 @@ HoldsBallots pick before notes e = (m : ℕ) × (notes.alternatives ≡ Some m)
 pub record IsAfter (pick : Pick) (before : List (List ℕ)) (notes : Notes) (e : Election) : Type 0 where
   pub told : IsTold pick (told_before before) notes
   pub ballots : notes.has_ballot ≡ has_ballot_line before
-  pub opened : notes.has_ballot ≡ false
-      → e ≡ election most_candidates (last_names (told_before before) most_candidates) []
+  pub opened : notes.has_ballot ≡ false → HoldsNames (told_before before) notes e
   pub begun : notes.has_ballot ≡ true → HoldsBallots pick before notes e
   pub votes : voter_count e.rows ≡ votes_in pick ballot_of before
 

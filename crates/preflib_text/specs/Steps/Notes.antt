@@ -1,7 +1,7 @@
 -- What is kept of the lines so far, and what the next line does to the profile.
-use Rattle.std.specs.Prelude.{◌≡◌, ◌⊎◌, ℕ, ◌+◌, ◌-◌, ◌≤◌, ◌&&◌, Bool, true, false, not, List, [], ◌∷◌, length, take}
+use Rattle.std.specs.Prelude.{◌≡◌, ◌⊎◌, ℕ, ◌+◌, ◌-◌, ◌≤◌, Bool, true, false, not, List, [], length, take}
 use Rattle.std.specs.Prelude.{slice_set, Option, Some, None, IfSome, is_some, ⊤, Result, Ok, Err, MatchResult}
-use Rattle.std.specs.Prelude.{nat_lt, nat_le, if◌then◌else◌}
+use Rattle.std.specs.Prelude.{unwrap_or, nat_lt, if◌then◌else◌}
 use Rattle.ballot_base.specs.Limits.{most_candidates, most_voters}
 use Rattle.ballot_base.specs.Lists.{IsIncreasing}
 use Rattle.ballot_base.specs.Ballots.{Election, election, has_ballot, with_votes, voter_count}
@@ -21,7 +21,7 @@ use Rattle.preflib_text.specs.Metadata.{written_number}
 use Rattle.preflib_text.specs.Names.{kind_named}
 use Rattle.preflib_text.specs.Approvals.{approved}
 use Rattle.preflib_text.specs.Reading.{Cast, or_else, fault_if, number_fault, is_fitting, ballot_fault, kind_or}
-use Rattle.preflib_text.specs.Reading.{kind_or_usual}
+use Rattle.preflib_text.specs.Reading.{is_empty, kind_or_usual, may_be_candidate}
 use Rattle.preflib_text.specs.Steps.Tokens.{ballot_of}
 
 -- the first of two types
@@ -69,9 +69,9 @@ told_notes pick notes (AlternativesAre value) = record notes { alternatives = wr
 told_notes pick notes (CategoriesAre value) = record notes { categories = written_number value }
 told_notes pick notes _ = notes
 
-abbrev pub told_effect : Fact → Effect
-told_effect (NameIs n name) = if nat_le 1 n && nat_le n most_candidates then Names n name else NoEffect
-told_effect _ = NoEffect
+abbrev pub told_effect : Notes → Fact → Effect
+told_effect notes (NameIs n name) = if may_be_candidate notes.alternatives n then Names n name else NoEffect
+told_effect notes _ = NoEffect
 
 -- ---- ballots
 
@@ -113,7 +113,7 @@ line_notes pick notes line =
 abbrev pub line_effect : Pick → Notes → List ℕ → Effect
 line_effect pick notes line =
     if is_ballot_line line then cast_effect pick notes (ballot_of line)
-    else (if notes.has_ballot then NoEffect else told_effect (told_of line))
+    else (if notes.has_ballot then NoEffect else told_effect notes (told_of line))
 
 -- the number of alternatives that is noted is one of a profile
 abbrev pub IsSound : Notes → Type 0
@@ -134,7 +134,8 @@ with_effect e (Casts (Some m) set count) = election m (take m e.names) (with_vot
 -- an effect that these notes allow
 abbrev pub IsProper : Notes → Effect → Type 0
 IsProper notes NoEffect = ⊤
-IsProper notes (Names n name) = (notes.has_ballot ≡ false) × (1 ≤ n) × (n ≤ most_candidates)
+IsProper notes (Names n name) =
+    (notes.has_ballot ≡ false) × (1 ≤ n) × (n ≤ unwrap_or notes.alternatives most_candidates)
 IsProper notes (Casts None set count) =
     (notes.has_ballot ≡ true) × IfSome notes.alternatives (λ m. IsIncreasing 1 m set) × (1 ≤ count)
 IsProper notes (Casts (Some m) set count) =
@@ -147,10 +148,10 @@ MayCome e (Names n name) = (1 ≤ n) × (n ≤ e.m)
 MayCome e (Casts None set count) = IsIncreasing 1 e.m set × (1 ≤ count)
 MayCome e (Casts (Some m) set count) = (1 ≤ m) × (m ≤ e.m) × (e.rows ≡ []) × IsIncreasing 1 m set × (1 ≤ count)
 
--- whether an effect takes memory: a name does, and a ballot that makes a new row
+-- whether an effect takes memory: a name that has bytes does, and a ballot that makes a new row
 abbrev pub effect_takes : Election → Effect → Bool
 effect_takes e NoEffect = false
-effect_takes e (Names n name) = true
+effect_takes e (Names n name) = not (is_empty name)
 effect_takes e (Casts first set count) = not (has_ballot e.rows set)
 
 -- a refusal is of this fault, or is out of memory where there is none and memory is taken
@@ -162,10 +163,6 @@ abbrev pub DoneOrRefused : Result ⊤ FaultName → Election → Election → Ef
 DoneOrRefused result e next effect = MatchResult result
     (λ _. (effect_error e effect ≡ None) × (next ≡ with_effect e effect))
     (λ name. Refuses (effect_error e effect) (effect_takes e effect) name)
-
-abbrev pub is_empty : {X : Type 0} → List X → Bool
-is_empty [] = true
-is_empty (x ∷ xs) = false
 
 -- what is wrong at the end
 abbrev pub end_error : Notes → Election → Option FaultName

@@ -1,4 +1,4 @@
-use Rattle.std.proofs.Common.{refl, arith}
+use Rattle.std.proofs.Common.{◌≡◌, ℕ, ◌≤◌, ◌==◌, false, List, [], ◌∷◌, sym, ◌∙◌, length, refl, arith}
 use Rattle.std.proofs.lemmas.List.{length-append}
 use Rattle.preflib_text.proofs.PieceLemmas.{loop_count, loop_refused, loop_next, loop_kept, loop_long, sound, opened, begun, room_left, held_short, on_ok, on_err}
 use Rattle.preflib_text.proofs.pieces.feed_lines.Goals as goal
@@ -41,12 +41,16 @@ loop-at-preserved g c = (
   omega (arith, c.loop-at.invariant.2, c.in_default-end_line.ensures.number),
 )
 
+some_bytes : (bytes : List ℕ) → (length bytes == 0) ≡ false → 1 ≤ length bytes
+some_bytes [] some = absurd (cc)
+some_bytes (b ∷ bytes) some = omega arith
+
 pub hold-requires-clause-number : goal.hold-requires-clause-number
 hold-requires-clause-number g c =
     let count = loop_count _ _ _ _ _ _ _ _ c.loop-at.invariant.0.1 c.loop-at.invariant.0.2 in
     let whole = length-append c.args._fed.now.bytes c.args.bytes.now in
-    let some = c.if-is_empty.false in
-    grind (arith, count, whole, c.requires.length, some, c.is_empty.ensures)
+    let some = some_bytes c.loop-at.rest.now (sym c.is_empty.ensures ∙ c.if-is_empty.false) in
+    omega (arith, count, whole, c.requires.length, some)
 
 pub hold-requires-clause-held : goal.hold-requires-clause-held
 hold-requires-clause-held g c = room_left c.loop-at.progress.number c.loop-at.held.items (held_short _ _ _ _ _ _ c.loop-at.invariant.0.2)
