@@ -240,7 +240,8 @@ impl<A: Allocator + Copy> Profile<A> {
     /// The name of a candidate, if it has one: bytes that need not be text. Any number may be asked for; 0 and the
     /// numbers above m have no name.
     pub fn name(&self, n: u8) -> Option<&[u8]>
-        ensures { option_map (λ name. name.now) result ≡ name_of self.now n }
+        ensures value { option_map (λ name. name.now) result ≡ name_of self.now n }
+        ensures valid { IsElection self.now }
     {
         if n == 0 || n > self.m {
             return None;

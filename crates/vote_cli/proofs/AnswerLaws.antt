@@ -1,9 +1,7 @@
 -- Each request has one answer over each input.
-use Rattle.std.proofs.Common.{◌≡◌, ◌⊎◌, ℕ, zero, suc, ◌+◌, ◌≤◌, ◌<◌, Bool, true, false, List, [], ◌∷◌, length, Option, Some, None, Result, Ok, Err, inl, inr, refl, sym, subst, ap, ◌∙◌, arith}
+use Rattle.std.proofs.Common.{◌≡◌, ◌⊎◌, ℕ, zero, suc, ◌+◌, ◌≤◌, ◌<◌, Bool, true, false, List, [], ◌∷◌, length, Option, Some, None, Result, Ok, Err, inl, inr, refl, sym, subst, ap, ◌∙◌, arith, true≢false}
 use Rattle.std.specs.Prelude.{MatchResult, codes, is_some}
-use Rattle.std.proofs.Math.Dec.{leb}
-use Rattle.std.proofs.lemmas.Bool.Decides.{leb_tells}
-use Rattle.ballot_base.specs.Limits.{most_members}
+use Rattle.std.proofs.lemmas.Bool.{cases_Bool}
 use Rattle.ballot_base.specs.Lists.{IsIncreasing}
 use Rattle.ballot_base.specs.Ballots.{Election}
 use Rattle.group_check.specs.Groups.{HasProperty}
@@ -21,32 +19,8 @@ use Rattle.vote_cli.specs.FaultText.{fault_text}
 use Rattle.vote_cli.specs.Names.{naming}
 use Rattle.vote_cli.specs.CheckText.{holds_text, violation_text}
 use Rattle.vote_cli.specs.declared.status.Status.TheVariants.{InputRefused}
-use Rattle.vote_cli.specs.Answer.{Answer, IsAnswer, IsAnswerOver, IsAnswerTo, IsCheckAnswer, IsCommittee, answered, ballots_answer, election_answer, request_refused, refused, share_answer, violated}
-
--- ---- a list is a committee, or not
-
-decide_increasing : (first last : ℕ) (list : List ℕ) → IsIncreasing first last list ⊎ (IsIncreasing first last list → ⊥)
-decide_increasing first last [] = inl tt
-decide_increasing first last (n ∷ rest) = by (leb_tells first n) (leb_tells n last) (decide_increasing (n + 1) last rest)
-  where
-    by : ((leb first n ≡ true) × (first ≤ n)) ⊎ ((leb first n ≡ false) × (n < first))
-        → ((leb n last ≡ true) × (n ≤ last)) ⊎ ((leb n last ≡ false) × (last < n))
-        → IsIncreasing (n + 1) last rest ⊎ (IsIncreasing (n + 1) last rest → ⊥)
-        → IsIncreasing first last (n ∷ rest) ⊎ (IsIncreasing first last (n ∷ rest) → ⊥)
-    by (inl low) (inl high) (inl others) = inl (low.1, high.1, others)
-    by (inl low) (inl high) (inr none) = inr (λ h. none h.2)
-    by (inl low) (inr high) others = inr (λ h. omega (arith, h.1, high.1))
-    by (inr low) high others = inr (λ h. omega (arith, h.0, low.1))
-
-decide_committee : (m : ℕ) (list : List ℕ) → IsCommittee m list ⊎ (IsCommittee m list → ⊥)
-decide_committee m list = by (decide_increasing 1 m list) (leb_tells (length list) most_members)
-  where
-    by : IsIncreasing 1 m list ⊎ (IsIncreasing 1 m list → ⊥)
-        → ((leb (length list) most_members ≡ true) × (length list ≤ most_members)) ⊎ ((leb (length list) most_members ≡ false) × (most_members < length list))
-        → IsCommittee m list ⊎ (IsCommittee m list → ⊥)
-    by (inl order) (inl few) = inl (record { order = order; few = few.1 })
-    by (inl order) (inr many) = inr (λ h. omega (arith, h.few, many.1))
-    by (inr none) few = inr (λ h. none h.order)
+use Rattle.vote_cli.specs.Answer.{Answer, IsAnswer, IsAnswerOver, IsAnswerTo, IsCheckAnswer, answered, ballots_answer, election_answer, may_be_checked, request_refused, refused, share_answer, violated}
+use Rattle.vote_cli.proofs.StartLemmas.{may_be_checked-is}
 
 -- ---- a committee has the property, or there is a report
 
@@ -80,15 +54,15 @@ module _ (property : Property) (e : Election) (committee : List ℕ) (rises : Is
 one_check_answer : (property : Property) (list : List ℕ) (with_names : Bool) (e : Election) (a b : Answer)
     → IsCheckAnswer property list with_names e a → IsCheckAnswer property list with_names e b → a ≡ b
 one_check_answer property list with_names e a b (inl x) (inl y) = x.1 ∙ sym y.1
-one_check_answer property list with_names e a b (inl x) (inr (inl y)) = absurd (x.0 y.0)
-one_check_answer property list with_names e a b (inl x) (inr (inr y)) = absurd (x.0 y.0)
-one_check_answer property list with_names e a b (inr (inl x)) (inl y) = absurd (y.0 x.0)
+one_check_answer property list with_names e a b (inl x) (inr (inl y)) = absurd (true≢false (sym y.0 ∙ x.0))
+one_check_answer property list with_names e a b (inl x) (inr (inr y)) = absurd (true≢false (sym y.0 ∙ x.0))
+one_check_answer property list with_names e a b (inr (inl x)) (inl y) = absurd (true≢false (sym x.0 ∙ y.0))
 one_check_answer property list with_names e a b (inr (inl x)) (inr (inl y)) = x.2 ∙ sym y.2
 one_check_answer property list with_names e a b (inr (inl x)) (inr (inr y)) =
-    absurd (not_both property e list x.0.order y.1.0 x.1 y.1.1)
-one_check_answer property list with_names e a b (inr (inr x)) (inl y) = absurd (y.0 x.0)
+    absurd (not_both property e list (may_be_checked-is e.m list x.0) y.1.0 x.1 y.1.1)
+one_check_answer property list with_names e a b (inr (inr x)) (inl y) = absurd (true≢false (sym x.0 ∙ y.0))
 one_check_answer property list with_names e a b (inr (inr x)) (inr (inl y)) =
-    absurd (not_both property e list x.0.order x.1.0 y.1 x.1.1)
+    absurd (not_both property e list (may_be_checked-is e.m list x.0) x.1.0 y.1 x.1.1)
 one_check_answer property list with_names e a b (inr (inr x)) (inr (inr y)) =
     x.1.2 ∙ ap (λ report. violated (violation_text (naming with_names e.names) report e)) (one_report property e list x.1.0 y.1.0 x.1.1 y.1.1) ∙ sym y.1.2
 
@@ -121,11 +95,11 @@ one_answer asked bytes a b x y = one_answer_to asked.names asked.demand asked.pi
 -- ---- and one at least
 
 some_check_answer : (property : Property) (list : List ℕ) (with_names : Bool) (e : Election) → (answer : Answer) × IsCheckAnswer property list with_names e answer
-some_check_answer property list with_names e = by (decide_committee e.m list)
+some_check_answer property list with_names e = by (cases_Bool (may_be_checked e.m list))
   where
-    by : IsCommittee e.m list ⊎ (IsCommittee e.m list → ⊥) → (answer : Answer) × IsCheckAnswer property list with_names e answer
+    by : (may_be_checked e.m list ≡ true) ⊎ (may_be_checked e.m list ≡ false) → (answer : Answer) × IsCheckAnswer property list with_names e answer
     by (inr none) = (request_refused (codes "CommitteeMisfit"), inl (none, refl))
-    by (inl committee) = go (checked property e list committee.order)
+    by (inl committee) = go (checked property e list (may_be_checked-is e.m list committee))
       where
         go : HasProperty property e list ⊎ ((report : Violation) × IsReport property e list report) → (answer : Answer) × IsCheckAnswer property list with_names e answer
         go (inl has) = (answered holds_text, inr (inl (committee, has, refl)))

@@ -15,7 +15,7 @@ use Rattle.vote_cli.specs.ElectText.{best_text, elect_answers, elect_header, ele
 use Rattle.request_words.specs.Request.{whole}
 use Rattle.vote_cli.specs.Listing.{allocation_line, answers_text, committee_line, has_more, last_line, listing_text, within_limit}
 use Rattle.vote_cli.specs.Names.{beside, called, candidates_text, joined, name_or_number, names_text, naming}
-use Rattle.vote_cli.specs.Starts.{has_seats_for, is_committee, is_increasing, may_start}
+use Rattle.vote_cli.specs.Starts.{has_seats_for, may_start}
 use Rattle.vote_cli.specs.Steps.Names.{IsName, listed_name, listed_names, names_in, seated_name}
 use Rattle.vote_cli.specs.RuleValues.{value_by}
 use Rattle.vote_cli.specs.Steps.Numbers.{following_text}
@@ -106,12 +106,6 @@ found_names : (names_in None ≡ []) × (names_in (Some (record { ref_ptr = (0, 
 found_names = (refl, refl, refl, refl)
 
 -- ---- starts
-rising : (is_increasing 1 3 (1 ∷ 3 ∷ []) ≡ true) × (is_increasing 1 3 (3 ∷ 1 ∷ []) ≡ false) × (is_increasing 1 3 (1 ∷ 4 ∷ []) ≡ false)
-rising = (refl, refl, refl)
-
-committees_of_three : (is_committee 3 2 (1 ∷ 3 ∷ []) ≡ true) × (is_committee 3 2 (1 ∷ []) ≡ false) × (is_committee 3 2 (1 ∷ 1 ∷ []) ≡ false)
-committees_of_three = (refl, refl, refl)
-
 seats_of_three : (has_seats_for 3 (5 ∷ 0 ∷ 0 ∷ []) ≡ true) × (has_seats_for 3 (4 ∷ 2 ∷ []) ≡ false) × (has_seats_for 3 (10001 ∷ 0 ∷ 0 ∷ []) ≡ false)
 seats_of_three = (refl, refl, refl)
 

@@ -11,8 +11,8 @@ use Rattle.std.proofs.lemmas.Option.{get_or_from_slice_get, slice_get_within}
 use Rattle.std.specs.List.{list_all}
 use Rattle.std.specs.Prelude.{IfSome, MatchResult, flat_map, nat_le, nat_lt, option_map, slice_get, sum}
 use Rattle.ballot_base.specs.Ballots.{Election}
-use Rattle.ballot_base.specs.Lists.{AreInOrder, IsIncreasing, increasing_lists, is_later, later_than}
-use Rattle.ballot_base.proofs.Committees.{chosen-from_contains}
+use Rattle.ballot_base.specs.Lists.{AreInOrder, increasing_lists, is_committee, is_later, later_than}
+use Rattle.ballot_base.proofs.Committees.{chosen-from_contains, is_committee-true}
 use Rattle.ballot_base.proofs.Later.{later_than-end}
 use Rattle.tie_walk.specs.Sequences.{is_sequential_winner}
 use Rattle.tie_walk.proofs.LawLemmas.{Contains-from_filter, winner-is, winners-order}
@@ -39,10 +39,9 @@ use Rattle.vote_cli.specs.Listing.{answers_text, has_more, last_line, within_lim
 use Rattle.vote_cli.specs.Names.{Naming, naming}
 use Rattle.vote_cli.specs.Parties.{has_many_approved, party_votes}
 use Rattle.vote_cli.specs.RuleValues.{value_by}
-use Rattle.vote_cli.specs.Starts.{has_seats_for, is_committee, is_increasing, may_start}
+use Rattle.vote_cli.specs.Starts.{has_seats_for, may_start}
 use Rattle.vote_cli.specs.declared.status.Status.TheVariants.{Answered, InputRefused, RequestRefused}
 use Rattle.vote_cli.proofs.PageLaws.{counted_by, elected_by, text_of}
-use Rattle.vote_cli.proofs.StartLemmas.{increasing_yes}
 
 -- ---- what comes after an answer
 
@@ -167,16 +166,13 @@ elect_order : (rule : Rule) (size : ℕ) (e : Election) → AreInOrder (elect_an
 elect_order (Scored rule) size e = winners-order (value_by rule size e) e.m size
 elect_order (Sequential rule) size e = sequential-later rule e size
 
-is_committee-from : (m k : ℕ) (x : List ℕ) → IsIncreasing 1 m x → length x ≡ k → is_committee m k x ≡ true
-is_committee-from m k x order size = and_from (is_increasing 1 m x) (length x == k) (increasing_yes 1 m x order) (eq-eqb (length x) k size)
-
 elect_fits : (rule : Rule) (size : ℕ) (e : Election) (x : List ℕ) → Contains (elect_answers rule size e) x → is_committee e.m size x ≡ true
 elect_fits (Scored rule) size e x c =
     let known = winner-is (value_by rule size e) e.m size x c in
-    is_committee-from e.m size x known.0 known.1
+    is_committee-true e.m size x known.0 known.1
 elect_fits (Sequential rule) size e x c =
     let known = chosen-from_contains 1 e.m size x (Contains-from_filter (is_sequential_winner rule e size) (increasing_lists 1 e.m size) x c) in
-    is_committee-from e.m size x known.0 known.1
+    is_committee-true e.m size x known.0 known.1
 
 each_at_most : (most : ℕ) (xs : List ℕ) → sum xs ≤ most → list_all (λ n. nat_le n most) xs ≡ true
 each_at_most most [] few = refl

@@ -4,7 +4,7 @@ use Rattle.std.specs.Prelude.{codes}
 use Rattle.std.specs.List.{range_with_len}
 use Rattle.std.proofs.lemmas.Bool.{both_ways}
 use Rattle.std.specs.Fmt.{digits}
-use Rattle.ballot_base.specs.Lists.{lists_of}
+use Rattle.ballot_base.specs.Lists.{is_committee, lists_of}
 use Rattle.ballot_base.specs.Ballots.{Election, Row, election}
 use Rattle.ballot_base.specs.declared.increments.ThieleRule.TheVariants.{Av}
 use Rattle.request_words.specs.declared.request.Rule.TheVariants.{Scored}
@@ -17,7 +17,7 @@ use Rattle.request_words.specs.Request.{Asked, Demand, IsPage, Paging, electing,
 use Rattle.vote_cli.specs.Device.{is_failed_write, bytes_given, AppendsBeginning, ReaderState, WriterState, reader_state, writer_state}
 use Rattle.vote_cli.specs.Laws.{IsCut, IsListed, IsPart, IsRest, IsSameRefusal, Listed, asked_for, elect_listed, front, is_listing, later_of, line_for, page_from, share_listed, text_after, with_page}
 use Rattle.vote_cli.specs.Listing.{allocation_line, committee_line}
-use Rattle.vote_cli.specs.Starts.{has_seats_for, is_committee}
+use Rattle.vote_cli.specs.Starts.{has_seats_for}
 use Rattle.vote_cli.specs.Status.{code_of}
 use Rattle.vote_cli.specs.Steps.Sharing.{IsShareRefusal, IsSharedOut}
 use Rattle.ballot_base.specs.Increments.{increments}
@@ -27,7 +27,7 @@ use Rattle.seat_share.specs.Allocations.{lists_with_sum}
 use Rattle.std.specs.Borrow.{MutBor}
 use Rattle.vote_cli.specs.declared.printing.Printer.{Printer}
 use Rattle.vote_cli.specs.Steps.Printing.{Prints, Sends}
-use Rattle.vote_cli.specs.Answer.{Answer, answered, violated, refused, request_refused, election_answer, IsCheckAnswer, IsCommittee, share_answer, share_answer_by, ballots_answer, IsAnswer}
+use Rattle.vote_cli.specs.Answer.{Answer, answered, violated, refused, request_refused, election_answer, IsCheckAnswer, may_be_checked, share_answer, share_answer_by, ballots_answer, IsAnswer}
 use Rattle.vote_cli.specs.Runs.{Ends, FailsToRead, IsAllRead, IsRight, IsTooLong, ReadsInput, ReadsSoundly, Reports, has_votes, input_for, memory_line, read_failed_line, write_failed_line}
 use Rattle.vote_cli.specs.Steps.Refusals.{IsRefusal, IsUnread, status_of, error_of, ReadsBallots, TellsOfReads, TellsOfWrites, ReadsOn, WritesRight, IsWritten, outcome_status}
 use Rattle.vote_cli.specs.Steps.RequestFaults.{request_fault_word}
@@ -82,18 +82,17 @@ answer_to_four = refl
 
 -- a start of one number is no committee of two
 answer_to_misfit : election_answer (Scored (Thiele Av)) 2 (record { after = Some (1 ∷ []); limit = None }) false three ≡ request_refused (codes "AfterMisfit")
+unfolding lists_of
 answer_to_misfit = refl
 
 -- a list that falls is no committee
-falling : IsIncreasing 1 3 (3 ∷ 1 ∷ []) → ⊥
-falling h = omega (arith, h.2.0)
-
 answer_to_falling : IsCheckAnswer Jr (3 ∷ 1 ∷ []) true three (request_refused (codes "CommitteeMisfit"))
-answer_to_falling = inl ((λ committee. falling committee.order), refl)
+unfolding lists_of
+answer_to_falling = inl (refl, refl)
 
--- neither are 41 candidates
-too_many : IsCommittee 64 (range_with_len 1 41) → ⊥
-too_many committee = omega (arith, committee.few)
+-- 41 candidates are too many
+too_many : may_be_checked 64 (range_with_len 1 41) ≡ false
+too_many = refl
 
 -- 1 and 3 stand for all voters
 one_and_three : IsIncreasing 1 3 (1 ∷ 3 ∷ [])
@@ -109,7 +108,8 @@ all_stand (suc zero) least most some = no_group Jr three (1 ∷ 3 ∷ []) 1 one_
 all_stand (suc (suc level)) least most some = above_greatest Jr three (1 ∷ 3 ∷ []) (suc (suc level)) most (omega arith) some
 
 answer_to_holds : IsCheckAnswer Jr (1 ∷ 3 ∷ []) true three (answered (line (codes "holds")))
-answer_to_holds = inr (inl (record { order = one_and_three; few = lit≤ tt }, all_stand, refl))
+unfolding lists_of
+answer_to_holds = inr (inl (refl, all_stand, refl))
 
 -- three voters approve 1 and 2, and one approves 3 and 4: the committee of 3 and 4 leaves three of four with nobody
 divided : Election
@@ -128,8 +128,8 @@ report = record { low = lit≤ tt; high = lit≤ tt; breaks = its_group_breaks; 
 
 answer_to_violated : IsCheckAnswer Jr (3 ∷ 4 ∷ []) false divided (violated
     (line (codes "violated jr") ++ line (codes "level 1") ++ line (codes "candidates 1") ++ line (codes "voters 3 of 4") ++ line (codes "3: 1,2")))
-unfolding divided digits
-answer_to_violated = inr (inr (record { order = (lit≤ tt, lit≤ tt, (lit≤ tt, lit≤ tt, tt)); few = lit≤ tt }, (shown, report, refl)))
+unfolding divided digits lists_of
+answer_to_violated = inr (inr (refl, (shown, report, refl)))
 
 -- seats by votes, and by ballots: the ballot for 1 and 2 is for no one party
 answer_to_votes : share_answer Dhondt 2 whole None (3 ∷ 1 ∷ []) ≡ answered (line (codes "method dhondt") ++ line (codes "seats 2") ++ line (codes "2,0") ++ line (codes "end"))
@@ -252,11 +252,11 @@ abbrev after_one : Paging
 after_one = record { after = Some (1 ∷ []); limit = None }
 
 a_part : IsPart one_seat after_one (two_answers (line (codes "2") ++ line (codes "end"))) (answered (one_seat.header ++ line (codes "2") ++ line (codes "end")))
-unfolding digits
+unfolding digits lists_of
 a_part = record { all_is = refl; part_is = refl }
 
 no_part : IsPart one_seat (record { after = Some (1 ∷ 2 ∷ []); limit = None }) (two_answers (line (codes "2") ++ line (codes "end"))) (request_refused (codes "AfterMisfit"))
-unfolding digits
+unfolding digits lists_of
 no_part = record { all_is = refl; part_is = refl }
 
 -- what follows the first answer

@@ -1,10 +1,12 @@
 -- What is known of the input and of the writers, joined to the answer.
 use Rattle.std.proofs.Common.{arith, length, ◌≤◌, ◌≡◌, ◌≢◌, ◌⊎◌, inl, inr, ℕ, Bool, true, false, List, [], Option, Some, None, Ok, Err, IfSome, Result, is_ok, refl, sym, ap, ap₂, subst, ◌∙◌, ◌++◌, append-nil, true≢false}
-use Rattle.std.specs.Prelude.{IsErr, IsErrAnd, codes, if◌then◌else◌}
-use Rattle.std.specs.Io.KnownBytes.{Appends, Consumes}
+use Rattle.std.specs.Prelude.{◌||◌, IsErr, IsErrAnd, codes, if◌then◌else◌}
+use Rattle.std.specs.Io.KnownBytes.{Appends, Consumes, IsAtEnd}
 use Rattle.std.proofs.KnownBytes.{Appends-nil}
 use Rattle.std.proofs.lemmas.List.{length-append}
 use Rattle.ballot_base.specs.Ballots.{Election}
+use Rattle.ballot_base.specs.Limits.{most_members}
+use Rattle.ballot_base.specs.Lists.{IsIncreasing}
 use Rattle.group_check.specs.Groups.{HasProperty}
 use Rattle.group_check.specs.Report.{IsReport}
 use Rattle.group_check.specs.declared.property.Property.{Property}
@@ -30,10 +32,11 @@ use Rattle.vote_cli.specs.FaultText.{fault_text}
 use Rattle.vote_cli.specs.Device.{ReaderState, WriterState}
 use Rattle.vote_cli.specs.Names.{Naming, naming}
 use Rattle.vote_cli.specs.Steps.RequestFaults.{request_fault_word}
-use Rattle.vote_cli.specs.Answer.{Answer, IsAnswer, IsAnswerAbout, IsAnswerOver, IsAnswerTo, IsCheckAnswer, IsCommittee, ballots_answer, share_answer, answered, request_refused, refused, violated}
+use Rattle.vote_cli.specs.Answer.{Answer, IsAnswer, IsAnswerAbout, IsAnswerOver, IsAnswerTo, IsCheckAnswer, ballots_answer, may_be_checked, share_answer, answered, request_refused, refused, violated}
 use Rattle.vote_cli.specs.Runs.{Ends, FailsToRead, IsAllRead, IsRight, IsTooLong, ReadsInput, ReadsSoundly, Reports, has_votes, input_for}
 use Rattle.vote_cli.specs.Steps.Printing.{Passes}
 use Rattle.vote_cli.proofs.PrintingLemmas.{alone}
+use Rattle.vote_cli.proofs.StartLemmas.{may_be_checked-true}
 use Rattle.vote_cli.specs.Steps.Refusals.{WritesRight, IsRefusal, IsUnread, IsWritten, ReadsBallots, ReadsOn, TellsOfReads, TellsOfWrites, error_of, status_of, outcome_status}
 
 -- a writer of errors that was not called
@@ -62,15 +65,15 @@ module _ (IsRight : Answer → Type 0) {old new : Option (List ℕ)} {had_failed
       subst (WritesRight IsRight old new) (sym written) (violated text, right, (prints.sent, prints.rest, prints.order, prints.took))
 
 -- the answers about a committee that is the list's, among m candidates
-pub check_holds : (property : Property) (with_names : Bool) (e : Election) (m : ℕ) (list committee : List ℕ) → m ≡ e.m → committee ≡ list → IsCommittee m list
+pub check_holds : (property : Property) (with_names : Bool) (e : Election) (m : ℕ) (list committee : List ℕ) → m ≡ e.m → committee ≡ list → IsIncreasing 1 m list → length list ≤ most_members
     → HasProperty property e committee → IsCheckAnswer property list with_names e (answered holds_text)
-check_holds property with_names e m list committee all same fits holds =
-    inr (inl (subst (λ n. IsCommittee n list) all fits, subst (HasProperty property e) same holds, refl))
+check_holds property with_names e m list committee all same rises few holds =
+    inr (inl (subst (λ n. may_be_checked n list ≡ true) all (may_be_checked-true m list rises few), subst (HasProperty property e) same holds, refl))
 
-pub check_violated : (property : Property) (with_names : Bool) (e : Election) (m : ℕ) (list committee : List ℕ) (report : Violation) (names : Naming) → names ≡ naming with_names e.names → m ≡ e.m → committee ≡ list → IsCommittee m list
+pub check_violated : (property : Property) (with_names : Bool) (e : Election) (m : ℕ) (list committee : List ℕ) (report : Violation) (names : Naming) → names ≡ naming with_names e.names → m ≡ e.m → committee ≡ list → IsIncreasing 1 m list → length list ≤ most_members
     → IsReport property e committee report → IsCheckAnswer property list with_names e (violated (violation_text names report e))
-check_violated property with_names e m list committee report names called all same fits reports =
-    inr (inr (subst (λ n. IsCommittee n list) all fits, (report, subst (λ c. IsReport property e c report) same reports, ap (λ n. violated (violation_text n report e)) called)))
+check_violated property with_names e m list committee report names called all same rises few reports =
+    inr (inr (subst (λ n. may_be_checked n list ≡ true) all (may_be_checked-true m list rises few), (report, subst (λ c. IsReport property e c report) same reports, ap (λ n. violated (violation_text n report e)) called)))
 
 -- what is right under one test is right under a wider one
 writes_wider : (P Q : Answer → Type 0) (old new : Option (List ℕ)) (result : Result Outcome Refusal)
@@ -153,6 +156,32 @@ module _ (asked : Asked) (question : Question) (demanded : of_ballots question �
         by : (r : Result Outcome Refusal) → IsErr r → IsErrAnd r (λ f. f ≡ refusal) → WritesRight (IsRight asked reader) old new r
         by (Ok outcome) is_err same = absurd (true≢false (sym is_err))
         by (Err passed) is_err same = of passed (subst (λ r. IfSome reader.remaining (λ bytes. ReadsBallots pick bytes r)) (was ∙ ap Err (sym same)) reads)
+
+-- ---- a loop of reads
+
+-- a call that did not fail leaves a device as it was
+pub unfailed : (before now after : Bool) → now ≡ before → after ≡ (now || false) → after ≡ before
+unfailed before true after same is = is ∙ same
+unfailed before false after same is = is ∙ same
+
+-- at the end of the input all was fed, and nothing is left
+pub fed_whole : (before now after : Option (List ℕ)) (fed : List ℕ) → Consumes before now fed → Consumes now after [] → IsAtEnd after → IfSome before (λ bytes. fed ≡ bytes)
+fed_whole None now after fed past last end = tt
+fed_whole (Some xs) None after fed past last end = absurd past
+fed_whole (Some xs) (Some ys) None fed past last end = absurd last
+fed_whole (Some xs) (Some ys) (Some zs) fed past last end = sym (past ∙ ap (λ l. fed ++ l) (last ∙ end) ∙ append-nil fed)
+
+pub none_left : (before now after : Option (List ℕ)) (fed : List ℕ) → Consumes before now fed → Consumes now after [] → IsAtEnd after → IfSome before (λ bytes. after ≡ Some [])
+none_left None now after fed past last end = tt
+none_left (Some xs) None after fed past last end = absurd past
+none_left (Some xs) (Some ys) None fed past last end = absurd last
+none_left (Some xs) (Some ys) (Some zs) fed past last end = ap Some end
+
+-- memory ran out, with what was read before
+pub passed_memory : {T : Type 0} (old new : ReaderState) (refusal : Refusal) (result : Result T Refusal) → refusal ≡ Memory → IsErr result × IsErrAnd result (λ f. f ≡ refusal)
+    → ReadsSoundly old new → ReadsOn old new result
+passed_memory old new refusal (Ok x) memory is sound = absurd (true≢false (sym is.0))
+passed_memory {T} old new refusal (Err passed) memory is sound = subst (λ r. ReadsOn {T = T} old new (Err r)) (sym (is.1 ∙ memory)) sound
 
 -- bytes of which so many were read are too many
 pub too_many : (before after : Option (List ℕ)) (read : List ℕ) → Consumes before after read → word_limit ≤ length read → IfSome before IsTooLong

@@ -4,54 +4,52 @@ use Rattle.std.specs.Prelude.{◌==◌, IsErr, IsErrAnd, IfErr, nat_le}
 use Rattle.std.specs.List.{list_all}
 use Rattle.std.proofs.lemmas.Bool.{and_from, and_left, and_right, and_parts, le-leb, lt-leb, leb-true, eq-eqb, ne_eqb, false_from_ne_true, eqb-true}
 use Rattle.std.proofs.lemmas.List.Folds.{list_all_at}
-use Rattle.ballot_base.specs.Lists.{IsIncreasing}
+use Rattle.ballot_base.specs.Lists.{IsIncreasing, is_committee}
+use Rattle.ballot_base.proofs.Committees.{is_committee-false, is_committee-is, is_committee-true}
 use Rattle.ballot_base.specs.Limits.{most_members}
 use Rattle.seat_share.specs.Faults.{share_fault}
 use Rattle.seat_share.specs.Limits.{most_parties, most_seats}
 use Rattle.seat_share.specs.declared.method.ShareFault.{ShareFault}
-use Rattle.vote_cli.specs.Answer.{Answer, IsCommittee, request_refused, share_answer_by}
+use Rattle.vote_cli.specs.Answer.{Answer, may_be_checked, request_refused, share_answer_by}
 use Rattle.vote_cli.specs.declared.status.Status.TheVariants.{Answered, RequestRefused}
 use Rattle.vote_cli.specs.Steps.RequestFaults.{request_fault_word}
 use Rattle.vote_cli.specs.Steps.Sharing.{IsShareRefusal}
 use Rattle.vote_cli.specs.declared.refusal.RequestFault.{RequestFault}
-use Rattle.vote_cli.specs.Starts.{has_seats_for, is_committee, is_increasing}
+use Rattle.vote_cli.specs.Starts.{has_seats_for}
 
 -- ---- committees
 
-pub increasing_yes : (first last : ℕ) (list : List ℕ) → IsIncreasing first last list → is_increasing first last list ≡ true
-increasing_yes first last [] h = refl
-increasing_yes first last (n ∷ rest) h =
-    and_from (nat_le first n && nat_le n last) (is_increasing (n + 1) last rest)
-    (and_from (nat_le first n) (nat_le n last) (le-leb first n h.0) (le-leb n last h.1)) (increasing_yes (n + 1) last rest h.2)
+-- a list that may be checked, and one that may not
+pub may_be_checked-true : (m : ℕ) (list : List ℕ) → IsIncreasing 1 m list → length list ≤ most_members → may_be_checked m list ≡ true
+may_be_checked-true m list rises few =
+    and_from (nat_le (length list) most_members) (is_committee m (length list) list) (le-leb (length list) most_members few) (is_committee-true m (length list) list rises refl)
 
-increasing_from : (first last : ℕ) (list : List ℕ) → is_increasing first last list ≡ true → IsIncreasing first last list
-increasing_from first last [] h = tt
-increasing_from first last (n ∷ rest) h =
-    let all = and_parts (nat_le first n && nat_le n last) (is_increasing (n + 1) last rest) h in
-    let here = and_parts (nat_le first n) (nat_le n last) all.0 in
-    (leb-true first n here.0, leb-true n last here.1, increasing_from (n + 1) last rest all.1)
+pub may_be_checked-is : (m : ℕ) (list : List ℕ) → may_be_checked m list ≡ true → IsIncreasing 1 m list
+may_be_checked-is m list may =
+    (is_committee-is m (length list) list (and_parts (nat_le (length list) most_members) (is_committee m (length list) list) may).1).0
+
+pub may_be_checked-false : (m : ℕ) (list : List ℕ) → (length list ≤ most_members → IsIncreasing 1 m list → ⊥) → may_be_checked m list ≡ false
+may_be_checked-false m list none =
+    false_from_ne_true (may_be_checked m list)
+    (λ may.
+    none (leb-true (length list) most_members (and_parts (nat_le (length list) most_members) (is_committee m (length list) list) may).0)
+    (may_be_checked-is m list may))
 
 -- a committee of the right size
-pub committee_yes : (m k size : ℕ) (list committee : List ℕ) → IsCommittee m list → committee ≡ list → size ≡ length committee → size ≡ k
+pub committee_yes : (m k size : ℕ) (list committee : List ℕ) → IsIncreasing 1 m list → committee ≡ list → size ≡ length committee → size ≡ k
     → is_committee m k list ≡ true
-committee_yes m k size list committee is same counted right =
-    and_from (is_increasing 1 m list) (length list == k) (increasing_yes 1 m list is.order)
-    (eq-eqb (length list) k (ap length (sym same) ∙ sym counted ∙ right))
+committee_yes m k size list committee rises same counted right =
+    is_committee-true m k list rises (ap length (sym same) ∙ sym counted ∙ right)
 
 -- one of another size
 pub committee_of_other_size : (m k size : ℕ) (list committee : List ℕ) → committee ≡ list → size ≡ length committee → (size ≡ k → ⊥)
     → is_committee m k list ≡ false
 committee_of_other_size m k size list committee same counted wrong =
-    and_right (is_increasing 1 m list) (length list == k) (ne_eqb (length list) k (λ e. wrong (counted ∙ ap length same ∙ e)))
+    is_committee-false m k list (λ is. wrong (counted ∙ ap length same ∙ is.1))
 
 -- a list that is no committee of any size
-pub no_committee : (m k : ℕ) (list : List ℕ) → k ≤ most_members → (IsCommittee m list → ⊥) → is_committee m k list ≡ false
-no_committee m k list few none =
-    false_from_ne_true (is_committee m k list)
-    (λ yes.
-    let parts = and_parts (is_increasing 1 m list) (length list == k) yes in
-    let size : length list ≡ k = eqb-true (length list) k parts.1 in
-    none (record { order = increasing_from 1 m list parts.0; few = omega (arith, size, few) }))
+pub no_committee : (m k : ℕ) (list : List ℕ) → k ≤ most_members → (length list ≤ most_members → IsIncreasing 1 m list → ⊥) → is_committee m k list ≡ false
+no_committee m k list few none = is_committee-false m k list (λ is. none (omega (arith, is.1, few)) is.0)
 
 -- ---- seats
 

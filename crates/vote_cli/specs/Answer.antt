@@ -1,8 +1,8 @@
 -- The answer to a request and an input.
-use Rattle.std.specs.Prelude.{◌≡◌, ◌⊎◌, ◌≤◌, ◌++◌, ℕ, length, Bool, true, false, not, List}
-use Rattle.std.specs.Prelude.{[], Option, Some, None, Result, MatchResult, codes, nat_lt, if◌then◌else◌}
+use Rattle.std.specs.Prelude.{◌≡◌, ◌⊎◌, ◌&&◌, ◌++◌, ℕ, length, Bool, true, false, not, List}
+use Rattle.std.specs.Prelude.{[], Option, Some, None, Result, MatchResult, codes, nat_le, nat_lt, if◌then◌else◌}
 use Rattle.ballot_base.specs.Limits.{most_members}
-use Rattle.ballot_base.specs.Lists.{IsIncreasing}
+use Rattle.ballot_base.specs.Lists.{is_committee}
 use Rattle.ballot_base.specs.Ballots.{Election}
 use Rattle.group_check.specs.Groups.{HasProperty}
 use Rattle.group_check.specs.Report.{IsReport}
@@ -27,7 +27,7 @@ use Rattle.vote_cli.specs.Names.{Naming, naming}
 use Rattle.vote_cli.specs.Parties.{has_many_approved, party_votes}
 use Rattle.vote_cli.specs.CheckText.{holds_text, violation_text}
 use Rattle.vote_cli.specs.ShareText.{share_text}
-use Rattle.vote_cli.specs.Starts.{has_seats_for, is_committee, may_start}
+use Rattle.vote_cli.specs.Starts.{has_seats_for, may_start}
 use Rattle.vote_cli.specs.Text.{line}
 
 -- the text, the status, and the error line with its end, or nothing where there is none
@@ -60,17 +60,16 @@ election_answer rule size page with_names election =
     else if not (may_start (is_committee election.m size) page.after) then request_refused (codes "AfterMisfit")
     else answered (elect_text rule size page (naming with_names election.names) election)
 
--- the list is a committee of candidates 1 to m, in increasing order, and no larger than one that may be elected
-pub record IsCommittee (m : ℕ) (list : List ℕ) : Type 0 where
-  pub order : IsIncreasing 1 m list
-  pub few : length list ≤ most_members
+-- whether a list may be checked: it is a committee of the candidates 1 to m, no larger than one that may be elected
+abbrev pub may_be_checked : ℕ → List ℕ → Bool
+may_be_checked m list = nat_le (length list) most_members && is_committee m (length list) list
 
 -- whether the committee of a list has a property, or the report that shows that it has not
 abbrev pub IsCheckAnswer : Property → List ℕ → Bool → Election → Answer → Type 0
 IsCheckAnswer property list with_names election answer =
-    ((IsCommittee election.m list → ⊥) × (answer ≡ request_refused (codes "CommitteeMisfit")))
-    ⊎ (IsCommittee election.m list × HasProperty property election list × (answer ≡ answered holds_text))
-    ⊎ (IsCommittee election.m list × ((report : Violation) × IsReport property election list report
+    ((may_be_checked election.m list ≡ false) × (answer ≡ request_refused (codes "CommitteeMisfit")))
+    ⊎ ((may_be_checked election.m list ≡ true) × HasProperty property election list × (answer ≡ answered holds_text))
+    ⊎ ((may_be_checked election.m list ≡ true) × ((report : Violation) × IsReport property election list report
     × (answer ≡ violated (violation_text (naming with_names election.names) report election))))
 
 -- the fair allocations of seats to parties with these votes: a fault of the votes comes before one of the start

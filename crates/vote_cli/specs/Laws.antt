@@ -2,7 +2,7 @@
 use Rattle.std.specs.Prelude.{◌≡◌, ◌++◌, ℕ, Bool, true, false, List, [], ◌∷◌, None, Some, Ok}
 use Rattle.std.specs.Prelude.{◌-◌, codes, drop, flat_map, length, option_map, take, if◌then◌else◌}
 use Rattle.ballot_base.specs.Ballots.{Election}
-use Rattle.ballot_base.specs.Lists.{later_than}
+use Rattle.ballot_base.specs.Lists.{is_committee, later_than}
 use Rattle.preflib_text.specs.Reading.{Reads}
 use Rattle.preflib_text.specs.declared.pick.Pick.{Pick}
 use Rattle.request_words.specs.Request.{Asked, Demand, Paging, electing, checking, sharing, whole}
@@ -16,7 +16,7 @@ use Rattle.vote_cli.specs.Listing.{allocation_line, committee_line, has_more, la
 use Rattle.vote_cli.specs.Names.{Naming, naming}
 use Rattle.vote_cli.specs.Parties.{party_votes}
 use Rattle.vote_cli.specs.ShareText.{share_header}
-use Rattle.vote_cli.specs.Starts.{has_seats_for, is_committee, may_start}
+use Rattle.vote_cli.specs.Starts.{has_seats_for, may_start}
 use Rattle.vote_cli.specs.Text.{line}
 
 -- whether the answer to a demand is a list of answers

@@ -1,5 +1,5 @@
 -- The lists after which the answers to a request may start.
-use Rattle.std.specs.Prelude.{ℕ, ◌+◌, ◌==◌, ◌&&◌, Bool, true, List, [], ◌∷◌, Option, Some, None, length, nat_le}
+use Rattle.std.specs.Prelude.{ℕ, ◌==◌, ◌&&◌, Bool, true, List, Option, Some, None, length, nat_le}
 use Rattle.std.specs.List.{list_all}
 use Rattle.seat_share.specs.Limits.{most_seats}
 
@@ -7,15 +7,6 @@ use Rattle.seat_share.specs.Limits.{most_seats}
 abbrev pub may_start : (List ℕ → Bool) → Option (List ℕ) → Bool
 may_start fits None = true
 may_start fits (Some start) = fits start
-
--- whether a list is an increasing list of whole numbers from first to last
-abbrev pub is_increasing : ℕ → ℕ → List ℕ → Bool
-is_increasing first last [] = true
-is_increasing first last (n ∷ rest) = nat_le first n && nat_le n last && is_increasing (n + 1) last rest
-
--- whether a list is a committee of k of the candidates 1 to m, be it a winner or not
-abbrev pub is_committee : ℕ → ℕ → List ℕ → Bool
-is_committee m k list = is_increasing 1 m list && length list == k
 
 -- whether a list has a number of seats for each of so many parties, be it an allocation or not
 abbrev pub has_seats_for : ℕ → List ℕ → Bool

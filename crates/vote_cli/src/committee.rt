@@ -1,7 +1,7 @@
 //! The committee that a check is of.
-ghost use Rattle.std.specs.Prelude.{◌≡◌, ◌≤◌, None, IfSome};
-ghost use Rattle.ballot_base.specs.Limits.{most_candidates};
-ghost use Rattle.vote_cli.specs.Answer.{IsCommittee};
+ghost use Rattle.std.specs.Prelude.{◌≡◌, ◌≤◌, None, IfSome, length};
+ghost use Rattle.ballot_base.specs.Limits.{most_candidates, most_members};
+ghost use Rattle.ballot_base.specs.Lists.{IsIncreasing};
 
 use ballot_base::{CandSet, MOST_MEMBERS};
 
@@ -9,8 +9,9 @@ use ballot_base::{CandSet, MOST_MEMBERS};
 /// increasing, has another number, or has more than `MOST_MEMBERS`.
 pub(crate) fn committee_of(list: &[u64], m: u8) -> Option<CandSet>
     requires { m ≤ most_candidates }
-    ensures some { IfSome result (λ committee. (committee ≡ list.now) × IsCommittee m list.now) }
-    ensures none { result ≡ None → IsCommittee m list.now → ⊥ }
+    ensures some { IfSome result (λ committee. committee ≡ list.now) }
+    ensures fits { IfSome result (λ _. IsIncreasing 1 m list.now × (length list.now ≤ most_members)) }
+    ensures none { result ≡ None → length list.now ≤ most_members → IsIncreasing 1 m list.now → ⊥ }
 {
     if list.len() > usize::from(MOST_MEMBERS) {
         return None;

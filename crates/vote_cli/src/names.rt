@@ -66,11 +66,8 @@ impl<'a, A: Allocator + Copy> Names<'a, A> {
 fn name_of<A: Allocator + Copy>(profile: Option<&Profile<A>>, n: usize) -> Option<&[u8]>
     ensures { IsName (names_in profile.entry) n result }
 {
-    let profile = profile?;
-    if n == 0 || n > usize::from(profile.m()) {
-        return None;
-    }
-    profile.name(n as u8)
+    // No candidate has the number 0.
+    profile?.name(u8::try_from(n).unwrap_or(0))
 }
 
 /// Prints the name of a candidate, or the number where it has none.

@@ -1,10 +1,11 @@
 //! The lists after which answers start.
 ghost use Rattle.std.specs.Prelude.{◌≡◌, ◌≤◌, ℕ, IfOk, IfErr, IfSome, None, false, true, length};
 ghost use Rattle.ballot_base.specs.Limits.{most_candidates, most_members};
+ghost use Rattle.ballot_base.specs.Lists.{is_committee};
 ghost use Rattle.request_words.specs.Request.{paging_of};
 ghost use Rattle.seat_share.specs.Limits.{most_parties};
 ghost use Rattle.tie_walk.specs.Winners.{IsStart};
-ghost use Rattle.vote_cli.specs.Starts.{has_seats_for, is_committee, may_start};
+ghost use Rattle.vote_cli.specs.Starts.{has_seats_for, may_start};
 
 use crate::committee::committee_of;
 use crate::refusal::RequestFault;
