@@ -4,5 +4,6 @@ mod files;
 mod growths;
 mod mutants;
 mod pieces;
+mod sets;
 mod support;
 mod words;

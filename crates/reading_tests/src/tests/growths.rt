@@ -10,7 +10,7 @@ use std::process::Abort;
 
 /// A file of each type, with names, and the lines that take memory: the first, where the builder is made, those of
 /// names, and those of new ballots.
-static GROWING: [(&str, &[u64]); 5] = [
+static GROWING: [(&str, &[u64]); 6] = [
     (
         "# DATA TYPE: cat\n# ALTERNATIVE NAME 9: Nobody\n# NUMBER ALTERNATIVES: 3\n\
          # ALTERNATIVE NAME 1: Ada\n# NUMBER CATEGORIES: 2\n# ALTERNATIVE NAME 3: Cy\n\
@@ -35,6 +35,13 @@ static GROWING: [(&str, &[u64]); 5] = [
         "# ALTERNATIVE NAME 3: Cy\n# ALTERNATIVE NAME 3: Di\n# DATA TYPE: toi\n# NUMBER ALTERNATIVES: 3\n\
          1: {},{2}\n2: {2,3}\n",
         &[1, 2, 5, 6],
+    ),
+    // Empty names take no memory, nor do names of numbers above a known number of alternatives.
+    (
+        "# DATA TYPE: soi\n# ALTERNATIVE NAME 1: Ada\n# ALTERNATIVE NAME 1:\n# ALTERNATIVE NAME 64: \t\n\
+         # NUMBER ALTERNATIVES: 3\n# ALTERNATIVE NAME 2:\n# ALTERNATIVE NAME 4: Di\n\
+         # ALTERNATIVE NAME 3: Cy\n1: 1\n",
+        &[1, 2, 8, 9],
     ),
 ];
 

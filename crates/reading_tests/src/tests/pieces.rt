@@ -201,3 +201,51 @@ fn bytes_that_are_no_text(rt: HostRuntime) {
         assert_holds(&rt, rt.alloc(), pick, file, wanted);
     }
 }
+
+/// A file of 87 bytes.
+static SMALL: &[u8] =
+    b"# DATA TYPE: cat\n# NUMBER ALTERNATIVES: 3\n# NUMBER CATEGORIES: 2\n2: {1,2},3\n1: 3,{1,2}\n";
+
+/// What its first n bytes hold.
+fn held_by_beginning(n: usize) -> &'static str {
+    match n {
+        0..=38 => "NoAlternatives",
+        // After the colon of the alternatives.
+        39 | 40 => "line 2: BadNumber",
+        // After the colon of the categories.
+        62 | 63 => "line 3: BadNumber",
+        41..=65 => "NoVoters",
+        // Two voters approve nobody so far.
+        67 | 68 => "3\n2: ",
+        66 | 69..=72 | 74 => "line 4: BadBallot",
+        73 | 75 | 76 => "3\n2: 1,2",
+        // One voter approves nobody so far.
+        78 | 79 => "3\n2: 1,2\n1: ",
+        80 | 86 | 87 => "3\n2: 1,2\n1: 3",
+        _ => "line 5: BadBallot",
+    }
+}
+
+#[test]
+fn beginnings_of_a_file(rt: HostRuntime) {
+    assert!(rt; SMALL.len() == 87);
+    let pick = reading_as(&rt, rt.alloc(), "");
+    for n in 0..=SMALL.len() {
+        assert_holds(&rt, rt.alloc(), pick, &SMALL[..n], held_by_beginning(n));
+    }
+}
+
+/// Lines that tell nothing take no memory, however many they are: of a reader's growths, all but those of `new` are
+/// still to come.
+#[test]
+fn many_lines_without_memory(rt: HostRuntime) {
+    let alloc = rt.alloc();
+    let pick = reading_as(&rt, alloc, "");
+    let lines = "# X: y\n".repeat(alloc, 285_715).expect(&rt, "memory");
+    let (file, _) = lines.as_bytes().split_at(lines.len().min(2_000_000));
+    let heap = Refusing::new(alloc, 3);
+    // Each line has seven bytes: after one byte, a million and two million bytes, 1, 1 and 2 bytes are held.
+    let told = told_of(&rt, alloc, &heap, pick, file, 1, 1_000_000);
+    assert!(rt; file.len() == 2_000_000 && heap.left.get() == 1);
+    assert!(rt; told.as_str() == "1; 1; 2; NoAlternatives", "{told}");
+}

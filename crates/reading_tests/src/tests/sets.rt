@@ -1,0 +1,77 @@
+//! Sets of candidates, committees in order, and the numbers of Thiele's rules.
+use ballot_base::{
+    CandSet, Increments, KSets, MOST_CANDIDATES, MOST_MEMBERS, ThieleRule, common_multiple,
+};
+use std::alloc::Global;
+use std::process::Abort;
+
+/// Lists, and how the set of each is shown.
+static SETS: [(&[u8], &str); 7] = [
+    (&[], "Some({})"),
+    (&[1], "Some({1})"),
+    (&[1, 3, 64], "Some({1, 3, 64})"),
+    (&[1, 3, 3], "None"),
+    (&[3, 1], "None"),
+    (&[0], "None"),
+    (&[65], "None"),
+];
+
+#[test]
+fn sets_of_lists(rt: HostRuntime) {
+    for (list, wanted) in &SETS {
+        let text = format!(in rt.alloc(); "{:?}", CandSet::of_list(list)).expect(&rt, wanted);
+        assert!(rt; text.as_str() == *wanted, "{list:?}: {text}");
+    }
+}
+
+/// Asserts which sets come, one after the other.
+fn assert_sets(rt: &impl Abort, alloc: Global, sets: KSets, wanted: &str) {
+    let mut text = String::new(alloc);
+    for set in sets {
+        write!(text, "{set:?}").expect(rt, wanted);
+    }
+    assert!(rt; text.as_str() == wanted, "{wanted}: {text}");
+}
+
+/// The pairs of four candidates, from the first on, and after two of them.
+#[test]
+fn pairs_in_order(rt: HostRuntime) {
+    let alloc = rt.alloc();
+    let all = "{1, 2}{1, 3}{1, 4}{2, 3}{2, 4}{3, 4}";
+    assert_sets(&rt, alloc, KSets::new(4, 2), all);
+    let middle = CandSet::empty().with(1).with(4);
+    assert_sets(&rt, alloc, KSets::after(4, 2, middle), "{2, 3}{2, 4}{3, 4}");
+    let last = CandSet::empty().with(3).with(4);
+    assert_sets(&rt, alloc, KSets::after(4, 2, last), "");
+}
+
+/// Numbers n, and the least common multiple of the numbers 1 to n.
+static MULTIPLES: [(u8, u128); 5] = [
+    (0, 1),
+    (10, 2520),
+    (20, 232_792_560),
+    (40, 5_342_931_457_063_200),
+    (64, 1_182_266_884_102_822_267_511_361_600),
+];
+
+/// Rules, sizes of committees, the common denominator, and the first increments; all others are 0.
+static INCREMENTS: [(ThieleRule, u8, u128, &[u128]); 4] = [
+    (ThieleRule::Pav, 3, 6, &[6, 3, 2]),
+    (ThieleRule::Cc, 3, 1, &[1, 0, 0]),
+    (ThieleRule::Geom2, 3, 4, &[4, 2, 1]),
+    (ThieleRule::Av, 2, 1, &[1, 1]),
+];
+
+#[test]
+fn multiples_and_increments(rt: HostRuntime) {
+    for (n, wanted) in &MULTIPLES {
+        let multiple = common_multiple((*n).min(MOST_CANDIDATES));
+        assert!(rt; multiple == *wanted, "{n}: {multiple}");
+    }
+    for (rule, size, denom, first) in &INCREMENTS {
+        let increments = Increments::of(*rule, (*size).clamp(1, MOST_MEMBERS));
+        let (front, rest) = increments.w.split_at(first.len().min(40));
+        let is_right = increments.denom == *denom && front == *first;
+        assert!(rt; is_right && rest.iter().all(|w| *w == 0), "{increments:?}");
+    }
+}
