@@ -2,7 +2,7 @@
 use Rattle.std.proofs.Common.{◌≡◌, ℕ, ◌%◌, List, [], ◌∷◌, true, false, refl, lit≤, Some, None}
 use Rattle.std.specs.Prelude.{sum}
 use Rattle.ballot_base.specs.Lists.{increasing_lists, later_than, lists_of}
-use Rattle.tie_walk.specs.Winners.{Winning, IsStart, best_value, is_unbeaten, winners}
+use Rattle.tie_walk.specs.Winners.{Winning, IsNextWinner, IsStart, best_value, is_unbeaten, winners}
 
 abbrev sum_of_four : List ℕ → ℕ
 sum_of_four set = sum set % 4
@@ -37,6 +37,42 @@ after_the_first = record { tally = 4; m = 4; k = 2; after = None; best = 3; left
 one_is_left : after_the_first.left ≡ (3 ∷ 4 ∷ []) ∷ []
 unfolding after_the_first
 one_is_left = refl
+
+the_second : Winning ℕ
+the_second = record { tally = 4; m = 4; k = 2; after = None; best = 3; left = []; entered = 19; ceilings = 20 }
+
+-- the second winner, and after it the end: of the prefixes 19 are live if each bound is 3
+second_is_next : IsNextWinner ℕ (λ n set. sum set % n) (λ n c set left. 3) after_the_first (Some (3 ∷ 4 ∷ [])) the_second
+unfolding after_the_first the_second
+second_is_next = record {
+  first = refl;
+  same_tally = refl;
+  same_m = refl;
+  same_k = refl;
+  same_best = refl;
+  same_start = refl;
+  all_entered = λ e. absurd (cc);
+  none_else = λ e s. absurd (cc);
+  entered_rises = lit≤ tt;
+  ceilings_rise = lit≤ tt;
+  short_wait = λ e. lit≤ tt;
+}
+
+end_is_next : IsNextWinner ℕ (λ n set. sum set % n) (λ n c set left. 3) the_second None the_second
+unfolding lists_of the_second
+end_is_next = record {
+  first = (refl, refl);
+  same_tally = refl;
+  same_m = refl;
+  same_k = refl;
+  same_best = refl;
+  same_start = refl;
+  all_entered = λ e. lit≤ tt;
+  none_else = λ e s. refl;
+  entered_rises = lit≤ tt;
+  ceilings_rise = lit≤ tt;
+  short_wait = λ e. lit≤ tt;
+}
 
 start_of_two : IsStart 4 2 (Some (1 ∷ 3 ∷ []))
 start_of_two = ((lit≤ tt, lit≤ tt, (lit≤ tt, lit≤ tt, tt)), refl)

@@ -2,6 +2,7 @@ pub mod BestLemmas
 pub mod CeilingExamples
 pub mod Choices
 pub mod Closeness
+pub mod CountLemmas
 pub mod Distances
 pub mod Examples
 pub mod FoundLemmas

@@ -247,6 +247,14 @@ module _ (m k : ℕ) (after : Option (List ℕ)) where
           let grown : with_member set (c + 1) ≡ set ++ (c + 1) ∷ [] = with_member-above 1 c set (c + 1) up (omega arith) in
           rw (count, is, ahead, grown)
 
+      -- no more than the prefix itself, those with the next candidate, and those without
+      pub live-parts : live_below bound m k best after (m - c) c set
+          ≤ 1 + live_below bound m k best after (m - (c + 1)) (c + 1) (set ++ (c + 1) ∷ []) + live_below bound m k best after (m - (c + 1)) (c + 1) set
+      live-parts = elim (cases_Bool (is_ahead m k after c set)) [
+        | inl ahead ↦ omega (arith, live-split ahead)
+        | inr past ↦ omega (arith, live-past (m - c) c set past)
+      ]
+
       -- the parts of a prefix that the walk is past are past
       past-part : (next : List ℕ) → members_upto next c ≡ set → is_ahead m k after c set ≡ false → live_below bound m k best after (m - (c + 1)) (c + 1) next ≡ 0
       past-part next cut past = elim (cases_Bool (is_ahead m k after (c + 1) next)) [

@@ -1,24 +1,31 @@
--- In which ranges values lie, whatever the election is.
-use Rattle.std.proofs.Common.{◌≡◌, ℕ, zero, suc, ◌-◌, ◌*◌, ◌/◌, ◌^◌, ◌<◌, ◌≤◌, Bool, true, false, cond, List, [], ◌∷◌, ap, arith, get_or, length, lit≤, map, refl, sum, sum_by, take}
+-- In which ranges values and bounds lie, whatever the election is.
+use Rattle.std.proofs.Common.{◌≡◌, ℕ, zero, suc, ◌+◌, ◌-◌, ◌*◌, ◌/◌, ◌^◌, ◌<◌, ◌≤◌, ◌∙◌, Bool, true, false, cond, List, [], ◌∷◌, ◌++◌, add-one, ap, arith, get_or, length, lit≤, map, refl, sum, sum_by, sym, take}
 use Rattle.std.specs.Prelude.{nat_le}
 use Rattle.std.specs.List.{range_with_len}
-use Rattle.std.proofs.Math.Nat.{div-mul-le_self, le-div_iff_mul-le, mul-div-le, mul-le-mul, pow-le-pow_left, pow-le-pow_right}
+use Rattle.std.proofs.Math.Nat.{div-mul-le_self, le-div_iff_mul-le, mul-div-le, mul-le-mul, mul-le-mul_right, pow-le-pow_left, pow-le-pow_right}
 use Rattle.std.proofs.lemmas.Bool.{leb-true}
 use Rattle.std.proofs.lemmas.List.Sums.{sum-map, sum_by-cons, sum_by-le-sum_by, sum_by-take-le, count_by-le-length}
 use Rattle.ballot_base.specs.Limits.{most_candidates, most_members, most_voters}
 use Rattle.ballot_base.specs.Lists.{IsIncreasing}
 use Rattle.ballot_base.specs.CandSet.{has_member}
 use Rattle.ballot_base.specs.CommonMultiple.{common_multiple}
-use Rattle.ballot_base.specs.Increments.{increment, increments}
+use Rattle.ballot_base.specs.Increments.{increment, increments, denominator}
 use Rattle.ballot_base.specs.Ballots.{Row, Election, IsElection, hits}
 use Rattle.ballot_base.specs.declared.increments.ThieleRule.{ThieleRule}
 use Rattle.ballot_base.specs.declared.increments.ThieleRule.TheVariants.{Pav, Geom2, Geom3, Geom4}
 use Rattle.ballot_base.proofs.Committees.{length-increasing}
+use Rattle.ballot_base.proofs.Increasing.{has_member-above}
 use Rattle.ballot_base.proofs.LeastMultiples.{common_multiple_most, common_multiple_small}
+use Rattle.ballot_base.proofs.WeightLemmas.{denominator-most, weight-most}
+use Rattle.tie_walk.specs.Ceilings.{ceiling, gain_at, greatest_sum}
+use Rattle.tie_walk.specs.Sequences.{gain}
 use Rattle.tie_walk.specs.Values.{thiele_value, satisfaction_value}
 use Rattle.tie_walk.specs.Steps.Tables.{parts}
+use Rattle.tie_walk.proofs.Gains.{gain-most, satisfaction-most, thiele-gain}
+use Rattle.tie_walk.proofs.GreatestSums.{best_of-most, greatest_sum-same}
 use Rattle.tie_walk.proofs.RowSums.{all-most, satisfaction_value-by_parts}
-use Rattle.tie_walk.proofs.TableLemmas.{parts-at, parts-first}
+use Rattle.tie_walk.proofs.TableLemmas.{parts-at, parts-first, sum-take_more}
+use Rattle.tie_walk.proofs.TightLemmas.{hits-most, satisfaction-tight}
 
 -- ---- the sum of all increments
 
@@ -118,3 +125,67 @@ satisfaction e committee valid =
     products a b c [] = refl
     products a b c (row ∷ rows) =
         omega (arith, sum_by-cons (λ (r : Row). a r * b r * c r) row rows, sum_by-cons (λ (r : Row). a r * (b r * c r)) row rows, products a b c rows, mul-assoc (a row) (b row) (c row))
+
+-- ---- the bounds
+
+take-most : (w : List ℕ) (most x : ℕ) → ((i : ℕ) → get_or w i 0 ≤ most) → sum (take x w) ≤ x * most
+take-most w most zero each = omega arith
+take-most w most (suc x) each =
+    let product : suc x * most ≡ x * most + most = omega arith in
+    let step : sum (take (suc x) w) ≡ sum (take x w) + get_or w x 0 = ap (λ n. sum (take n w)) (sym (add-one x)) ∙ sum-take_more w x in
+    omega (arith, product, step, each x, take-most w most x each)
+
+-- a voter has no more hits than the set has members
+set-most : (w : List ℕ) (e : Election) (c most : ℕ) (set : List ℕ) → IsElection e → IsIncreasing 1 c set → ((i : ℕ) → get_or w i 0 ≤ most)
+    → thiele_value w e.rows set ≤ most_voters * (length set * most)
+set-most w e c most set valid up each =
+    all-most (λ (r : Row). sum (take (hits r.0 set) w)) e (length set * most) valid
+    (λ r own. omega (arith, take-most w most (hits r.0 set) each, mul-le-mul_right most (hits-most 1 e.m 1 c r.0 set own up)))
+
+-- the members and the candidates still to add are no more than all candidates, and each gives no more than all voters'
+-- first hits
+thiele-ceiling_most : (rule : ThieleRule) (e : Election) (k c : ℕ) (set : List ℕ) (left : ℕ) → IsElection e → k ≤ most_members → c ≤ e.m → IsIncreasing 1 c set
+    → left ≤ e.m - c → ceiling (thiele_value (increments rule k) e.rows) e.m c set left ≤ 2 ^ 38 * denominator rule k
+thiele-ceiling_most rule e k c set left valid small inside up fits =
+    let w : List ℕ = increments rule k in
+    let d : ℕ = denominator rule k in
+    let each : (i : ℕ) → get_or w i 0 ≤ d = λ i. weight-most rule k i small in
+    let same : greatest_sum (gain_at (thiele_value w e.rows) set) (c + 1) e.m left ≡ greatest_sum (gain w e.rows set) (c + 1) e.m left =
+    greatest_sum-same (gain_at (thiele_value w e.rows) set) (gain w e.rows set) (c + 1) e.m
+    (λ x low high. sym (thiele-gain e.m w e.rows set x valid.ballots (has_member-above 1 c set x up (omega arith)))) left in
+    let more : greatest_sum (gain w e.rows set) (c + 1) e.m left ≤ left * (2 ^ 32 * d) =
+    best_of-most (gain w e.rows set) (2 ^ 32 * d) (λ n. gain-most e w set n d valid each) (e.m + 1 - (c + 1)) (c + 1) left in
+    let few : length set + left ≤ 64 = omega (arith, length-increasing 1 c set up, inside, fits, valid.most) in
+    let product : (length set + left) * d ≤ 64 * d = mul-le-mul_right d few in
+    omega (arith, same, more, product, set-most w e c d set valid up each)
+
+members_small : common_multiple most_members < 2 ^ 53
+unfolding common_multiple
+members_small = lit≤ tt
+
+pub proportional-ceiling : (e : Election) (k c : ℕ) (set : List ℕ) (left : ℕ) → IsElection e → k ≤ most_members → c ≤ e.m → IsIncreasing 1 c set
+    → left ≤ e.m - c → ceiling (thiele_value (increments Pav k) e.rows) e.m c set left < 2 ^ 91
+proportional-ceiling e k c set left valid small inside up fits =
+    omega (arith, thiele-ceiling_most Pav e k c set left valid small inside up fits, common_multiple_most k most_members small, members_small)
+
+geometric-by_denominator : (rule : ThieleRule) (e : Election) (k c : ℕ) (set : List ℕ) (left : ℕ) → IsElection e → k ≤ most_members → c ≤ e.m → IsIncreasing 1 c set
+    → left ≤ e.m - c → ceiling (thiele_value (increments rule k) e.rows) e.m c set left ≤ 2 ^ 116
+geometric-by_denominator rule e k c set left valid small inside up fits =
+    omega (arith, thiele-ceiling_most rule e k c set left valid small inside up fits, denominator-most rule k small)
+
+pub geometric-ceiling : (e : Election) (k c : ℕ) (set : List ℕ) (left : ℕ) → IsElection e → k ≤ most_members → c ≤ e.m → IsIncreasing 1 c set
+    → left ≤ e.m - c → (ceiling (thiele_value (increments Geom2 k) e.rows) e.m c set left ≤ 2 ^ 116)
+    × (ceiling (thiele_value (increments Geom3 k) e.rows) e.m c set left ≤ 2 ^ 116)
+    × (ceiling (thiele_value (increments Geom4 k) e.rows) e.m c set left ≤ 2 ^ 116)
+geometric-ceiling e k c set left valid small inside up fits = (
+  geometric-by_denominator Geom2 e k c set left valid small inside up fits,
+  geometric-by_denominator Geom3 e k c set left valid small inside up fits,
+  geometric-by_denominator Geom4 e k c set left valid small inside up fits,
+)
+
+-- the bound is the value of some committee
+pub satisfaction-ceiling : (e : Election) (c : ℕ) (set : List ℕ) (left : ℕ) → IsElection e → c ≤ e.m → IsIncreasing 1 c set → left ≤ e.m - c
+    → ceiling (satisfaction_value e.m e.rows) e.m c set left < 2 ^ 122
+satisfaction-ceiling e c set left valid inside up fits =
+    let some = satisfaction-tight e (length set + left) valid c set left inside up refl fits in
+    omega (arith, some.2, satisfaction-most e (parts (common_multiple e.m)) (set ++ some.0) valid refl)

@@ -90,7 +90,7 @@ module _ (value : List ℕ → ℕ) (m k : ℕ) (worth : ℕ → ℕ)
 -- ---- approval voting
 
 -- a committee has no more hits than members
-hits-most : (first last first' last' : ℕ) (ballot set : List ℕ) → IsIncreasing first last ballot → IsIncreasing first' last' set → hits ballot set ≤ length set
+pub hits-most : (first last first' last' : ℕ) (ballot set : List ℕ) → IsIncreasing first last ballot → IsIncreasing first' last' set → hits ballot set ≤ length set
 hits-most first last first' last' ballot [] up is = omega (arith, hits-none ballot)
 hits-most first last first' last' ballot (x ∷ set) up is =
     let here : with_member set x ≡ x ∷ set = front set is.2 in

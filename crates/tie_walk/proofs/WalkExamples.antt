@@ -2,7 +2,7 @@
 -- is the sum of its members.
 use Rattle.std.proofs.Common.{◌≡◌, ℕ, ◌+◌, ◌*◌, List, [], ◌∷◌, true, false, refl, lit≤, lit<, Some, None, sum, arith}
 use Rattle.ballot_base.specs.Lists.{lists_of}
-use Rattle.tie_walk.specs.Steps.Walks.{committees_below, committees_after, committees_from, IsPlace, IsPast, work_left, IsFound, those_reaching, open_below, open_after, open_from, IsStride, is_alive, waits_at, waits_after, waits_from, IsWait, IsRaised, IsBegun, IsKnown, IsWalk}
+use Rattle.tie_walk.specs.Steps.Walks.{committees_below, committees_after, committees_from, IsPlace, IsPast, work_left, IsFound, those_reaching, open_below, open_after, open_from, IsStride, is_alive, waits_at, waits_after, waits_from, IsWait, IsRaised, IsBegun, IsCounted, IsKnown, IsWalk}
 use Rattle.tie_walk.specs.declared.prefix.Prefix.{Prefix}
 use Rattle.tie_walk.specs.declared.walk.Counts.{Counts}
 use Rattle.tie_walk.specs.declared.walk.Known.{Known}
@@ -131,9 +131,13 @@ wait_past_one : IsWait sum 3 2 5 (Some with_one) one_entered None first_without_
 unfolding lists_of with_one without_one one_entered one_of_two_entered first_without_one
 wait_past_one = lit≤ tt
 
+counted_with_one : IsCounted bound_of_three 3 2 5 None first_with_one
+unfolding lists_of bound_of_three with_one one_entered first_with_one
+counted_with_one = record { all = lit≤ tt; few = lit≤ tt; exact = λ e. refl; asked = lit≤ tt; fits = lit< tt }
+
 begun_with_one : IsBegun sum bound_of_three 3 2 5 None first_with_one
 unfolding lists_of bound_of_three with_one one_entered first_with_one
-begun_with_one = record { next = refl; place = (lit≤ tt, (lit≤ tt, lit≤ tt, tt), lit≤ tt); few = lit≤ tt; all = λ e. refl; asked = lit≤ tt; asks = lit< tt }
+begun_with_one = record { next = refl; place = (lit≤ tt, (lit≤ tt, lit≤ tt, tt), lit≤ tt); counted = counted_with_one }
 
 walk_of_pairs : IsWalk sum bound_of_three 3 3 2 5 None first_with_one (None ∷ [])
 unfolding lists_of bound_of_three with_one one_entered first_with_one
@@ -142,10 +146,7 @@ walk_of_pairs = record {
   some = lit≤ tt;
   most = lit≤ tt;
   place_is = (lit≤ tt, (lit≤ tt, lit≤ tt, tt), lit≤ tt);
-  few = lit≤ tt;
-  all = λ e. refl;
-  asked = lit≤ tt;
-  asks = lit< tt;
+  counted = counted_with_one;
   known = (tt, tt);
 }
 

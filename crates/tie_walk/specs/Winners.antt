@@ -1,7 +1,9 @@
 -- Which committees win, whatever gives a committee its value.
-use Rattle.std.specs.Prelude.{◌≡◌, ℕ, Bool, List, Option, None, Some, ⊤, length, map, filter, fold, max, nat_le}
+use Rattle.std.specs.Prelude.{◌≡◌, ℕ, ◌+◌, ◌*◌, ◌≤◌, Bool, List, Option, None, Some, ⊤, length, map, filter, fold, max, nat_le}
+use Rattle.std.specs.Iterator.{YieldsFirst}
 use Rattle.std.specs.List.{list_all}
 use Rattle.ballot_base.specs.Lists.{IsIncreasing, increasing_lists}
+use Rattle.tie_walk.specs.Ceilings.{IsExactAtBest, live_count}
 
 -- the greatest value of a committee of k of the candidates 1 to m
 -- (Lackner and Skowron, Multi-Winner Voting with Approval Preferences)
@@ -34,3 +36,25 @@ pub record Winning (T : Type 0) : Type 0 where
   pub left : List (List ℕ)
   pub entered : ℕ
   pub ceilings : ℕ
+
+-- What one call for the next winner gives: the walk before it, the winner, and the walk after it. Values and bounds are
+-- those of the tally.
+pub record IsNextWinner (T : Type 0) (value : T → List ℕ → ℕ) (bound : T → ℕ → List ℕ → ℕ → ℕ) (from : Winning T)
+    (winner : Option (List ℕ)) (to : Winning T) : Type 0 where
+  -- the first of the winners left, or None if none is left
+  pub first : YieldsFirst (λ (w : Winning T). w.left) from winner to
+  pub same_tally : to.tally ≡ from.tally
+  pub same_m : to.m ≡ from.m
+  pub same_k : to.k ≡ from.k
+  pub same_best : to.best ≡ from.best
+  pub same_start : to.after ≡ from.after
+  -- at the end every live prefix was entered
+  pub all_entered : winner ≡ None → live_count (bound to.tally) to.m to.k to.best to.after ≤ to.entered
+  -- without a start no others were
+  pub none_else : winner ≡ None → to.after ≡ None
+      → to.entered ≡ live_count (bound to.tally) to.m to.k to.best to.after
+  pub entered_rises : from.entered ≤ to.entered
+  pub ceilings_rise : from.ceilings ≤ to.ceilings
+  -- if bounds are exact at the greatest value, four of them for each candidate are enough
+  pub short_wait : IsExactAtBest (value to.tally) (bound to.tally) to.m to.k to.best
+      → to.ceilings ≤ from.ceilings + 4 * to.m

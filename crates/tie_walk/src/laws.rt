@@ -1,5 +1,5 @@
 //! Laws of the definitions. Each function does nothing, and its contract is the law.
-ghost use Rattle.std.specs.Prelude.{◌≡◌, ◌≢◌, ℕ, ◌+◌, ◌-◌, ◌^◌, ◌<◌, ◌≤◌, ◌↔◌, List, [], ◌∷◌, ◌++◌, Option, Some, length, map, fold, take, slice_index, IsTrue, Contains, AllPairs};
+ghost use Rattle.std.specs.Prelude.{◌≡◌, ◌≢◌, ℕ, ◌+◌, ◌-◌, ◌*◌, ◌^◌, ◌<◌, ◌≤◌, ◌↔◌, List, [], ◌∷◌, ◌++◌, Option, Some, length, map, fold, take, slice_index, IsTrue, Contains, AllPairs};
 ghost use Rattle.std.specs.List.{AllByRecursion, range_with_len};
 ghost use Rattle.ballot_base.specs.Limits.{most_members};
 ghost use Rattle.ballot_base.specs.Increments.{increments};
@@ -10,9 +10,10 @@ ghost use Rattle.tie_walk.specs.Sequences.{hit_weights, has_greatest_gain, has_l
 ghost use Rattle.tie_walk.specs.Ceilings.{Prefix, IsLive, IsSubmodular, IsBound, IsTight, IsExactAtBest};
 ghost use Rattle.tie_walk.specs.Ceilings.{ceiling, closeness_upto, live_below};
 ghost use Rattle.tie_walk.specs.Values.{greatest_distance, closeness, satisfaction_value, thiele_value};
-ghost use Rattle.tie_walk.specs.Winners.{best_value, winners};
+ghost use Rattle.tie_walk.specs.Winners.{Winning, IsNextWinner, best_value, winners};
 
 use crate::sequential::SeqRule;
+use crate::tally::Tally;
 use ballot_base::ThieleRule;
 
 /// The greatest value: a winner has it, and no committee has a greater one.
@@ -75,6 +76,14 @@ pub fn tight_bounds()
         → IsExactAtBest value bound m k best }
 {}
 
+/// How far a winner is from the one before it if no bound is too high, as under approval voting and satisfaction
+/// approval voting: one call of `next` asks for at most four bounds for each candidate.
+pub fn short_waits<T: Tally>()
+    ensures { (from : Winning T) (winner : Option (List ℕ)) (to : Winning T)
+        → IsTight (T.value_of from.tally) (T.bound_of from.tally) from.m from.k
+        → IsNextWinner T T.value_of T.bound_of from winner to → to.ceilings ≤ from.ceilings + 4 * from.m }
+{}
+
 /// No ballot is farther from a committee than there are candidates: the value under minimax and the distance add up to
 /// their number.
 pub fn distances()
@@ -125,4 +134,20 @@ pub fn ranges()
         × (thiele_value (increments ThieleRule.Geom4 k) e.rows committee < 2 ^ 114) }
     ensures satisfaction { (e : Election) (committee : List ℕ) → IsElection e
         → satisfaction_value e.m e.rows committee < 2 ^ 125 }
+{}
+
+/// How large bounds are, those of every prefix that a tally may be asked for, whatever the election is. So no sum of a
+/// tally wraps.
+pub fn ceiling_ranges()
+    ensures proportional { (e : Election) (k c : ℕ) (set : List ℕ) (left : ℕ) → IsElection e → k ≤ most_members
+        → c ≤ e.m → IsIncreasing 1 c set → left ≤ e.m - c
+        → ceiling (thiele_value (increments ThieleRule.Pav k) e.rows) e.m c set left < 2 ^ 91 }
+    ensures geometric { (e : Election) (k c : ℕ) (set : List ℕ) (left : ℕ) → IsElection e → k ≤ most_members
+        → c ≤ e.m → IsIncreasing 1 c set → left ≤ e.m - c
+        → (ceiling (thiele_value (increments ThieleRule.Geom2 k) e.rows) e.m c set left ≤ 2 ^ 116)
+        × (ceiling (thiele_value (increments ThieleRule.Geom3 k) e.rows) e.m c set left ≤ 2 ^ 116)
+        × (ceiling (thiele_value (increments ThieleRule.Geom4 k) e.rows) e.m c set left ≤ 2 ^ 116) }
+    ensures satisfaction { (e : Election) (c : ℕ) (set : List ℕ) (left : ℕ) → IsElection e
+        → c ≤ e.m → IsIncreasing 1 c set → left ≤ e.m - c
+        → ceiling (satisfaction_value e.m e.rows) e.m c set left < 2 ^ 122 }
 {}

@@ -40,9 +40,8 @@ impl<'a, A: Allocator + Copy> SavTally<'a, A> {
     /// The values of sets of the profile's candidates. No bound is too high. It takes no memory.
     pub fn new(profile: &'a Profile<A>) -> SavTally<'a, A>
         ensures tally { result ≡ profile.now }
-        ensures tight { (k : ℕ) → IsTight (λ set. satisfaction_value profile.now.m profile.now.rows set)
-            (λ c set left. ceiling (satisfaction_value profile.now.m profile.now.rows) profile.now.m c set left)
-            profile.now.m k }
+        ensures tight { let tallies = ⟦<SavTally<'a, A> as Tally>⟧ in (k : ℕ)
+            → IsTight (tallies.value_of result) (tallies.bound_of result) (tallies.candidates result) k }
     {
         let denom = common_multiple(profile.m());
         let shares = parts(denom);

@@ -52,9 +52,8 @@ impl<'a, A: Allocator + Copy> ThieleTally<'a, A> {
         requires some { 1 ≤ k }
         requires size { k ≤ most_members }
         ensures tally { result ≡ thiele_of profile.now rule k }
-        ensures tight { rule ≡ ThieleRule.Av → IsTight (λ set. thiele_value (increments rule k) profile.now.rows set)
-            (λ c set left. ceiling (thiele_value (increments rule k) profile.now.rows) profile.now.m c set left)
-            profile.now.m k }
+        ensures tight { let tallies = ⟦<ThieleTally<'a, A> as Tally>⟧ in result.rule ≡ ThieleRule.Av
+            → IsTight (tallies.value_of result) (tallies.bound_of result) (tallies.candidates result) result.k }
     {
         // The ballots of a profile are sets of its candidates.
         profile.m();

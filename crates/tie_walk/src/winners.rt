@@ -1,9 +1,9 @@
 //! The winning committees of a tally, by a walk from prefix to prefix that enters no prefix whose bound is too low.
-ghost use Rattle.std.specs.Prelude.{◌≡◌, ◌+◌, ◌*◌, ◌≤◌, None};
+ghost use Rattle.std.specs.Prelude.{◌≡◌, ◌+◌, ◌≤◌};
 ghost use Rattle.ballot_base.specs.Lists.{later_than};
-ghost use Rattle.tie_walk.specs.Ceilings.{IsExactAtBest, live_count};
-ghost use Rattle.std.specs.Iterator.{YieldsFirst, item_count};
-ghost use Rattle.tie_walk.specs.Winners.{Winning, IsStart, best_value, winners};
+ghost use Rattle.tie_walk.specs.Ceilings.{live_count};
+ghost use Rattle.std.specs.Iterator.{item_count};
+ghost use Rattle.tie_walk.specs.Winners.{Winning, IsStart, IsNextWinner, best_value, winners};
 
 use crate::best::greatest_value;
 use crate::tally::Tally;
@@ -120,15 +120,8 @@ impl<'a, T: Tally> Winners<'a, T> {
 impl<'a, T: Tally> Iterator for Winners<'a, T> {
     type Item = CandSet;
 
-    // The first of the winners left, or nothing where none is left: then, without a start, exactly the live prefixes
-    // were entered. All else is as it was. The counts never fall, and where bounds are exact at the greatest value, few
-    // are asked for until the next winner or the end.
-    ghost next_gives = { λ s r t. YieldsFirst (λ (w : Winning T). w.left) s r t
-        × (t.tally ≡ s.tally) × (t.m ≡ s.m) × (t.k ≡ s.k) × (t.best ≡ s.best) × (t.after ≡ s.after)
-        × (r ≡ None → t.after ≡ None → t.entered ≡ live_count (T.bound_of t.tally) t.m t.k t.best t.after)
-        × (s.entered ≤ t.entered) × (s.ceilings ≤ t.ceilings)
-        × (IsExactAtBest (T.value_of t.tally) (T.bound_of t.tally) t.m t.k t.best
-        → t.ceilings ≤ s.ceilings + 4 * t.m) };
+    // The first of the winners left, or None if none is left, and what the counts are then.
+    ghost next_gives = { IsNextWinner T T.value_of T.bound_of };
 
     ghost remaining = { item_count (λ (w : Winning T). w.left) };
 

@@ -111,16 +111,23 @@ pub record IsRaised (m : ℕ) (from : Option Prefix) (before : Counts) (rest : W
   pub asked : rest.counts.entered + before.ceilings ≤ before.entered + rest.counts.ceilings
   pub work : rest.counts.ceilings + work_left m rest.place ≤ before.ceilings + work_left m from
 
--- the first place of a walk over the winners: what it has entered on its way there was live, but for m at most
+-- What a walk has counted: the prefixes that it has entered and those still to be entered are all that are live, and m
+-- others at most, which lie on the way to a start.
+pub record IsCounted (bound : ℕ → List ℕ → ℕ → ℕ) (m k best : ℕ) (after : Option (List ℕ)) (walk : Walk) : Type 0 where
+  pub all : live_count bound m k best after ≤ walk.counts.entered + open_from bound m k best walk.place
+  pub few : walk.counts.entered + open_from bound m k best walk.place ≤ live_count bound m k best after + m
+  pub exact : after ≡ None
+      → walk.counts.entered + open_from bound m k best walk.place ≡ live_count bound m k best after
+  pub asked : walk.counts.entered ≤ walk.counts.ceilings
+  pub fits : walk.counts.ceilings + work_left m walk.place < 2 ^ 127
+
+-- the first place of a walk over the winners
 pub record IsBegun (value : List ℕ → ℕ) (bound : ℕ → List ℕ → ℕ → ℕ) (m k best : ℕ) (after : Option (List ℕ))
     (walk : Walk) : Type 0 where
   pub next : those_reaching value best (committees_from m k walk.place)
       ≡ those_reaching value best (later_than after (increasing_lists 1 m k))
   pub place : IsPlace m k walk.place
-  pub few : walk.counts.entered + open_from bound m k best walk.place ≤ live_count bound m k best after + m
-  pub all : after ≡ None → walk.counts.entered + open_from bound m k best walk.place ≡ live_count bound m k best after
-  pub asked : walk.counts.entered ≤ walk.counts.ceilings
-  pub asks : walk.counts.ceilings + work_left m walk.place < 2 ^ 127
+  pub counted : IsCounted bound m k best after walk
 
 -- what is known of the bounds of a set for committees of k
 abbrev pub IsKnown : (List ℕ → ℕ) → (ℕ → List ℕ → ℕ → ℕ) → ℕ → ℕ → ℕ → Option Known → Type 0
@@ -138,8 +145,5 @@ pub record IsWalk (value : List ℕ → ℕ) (bound : ℕ → List ℕ → ℕ �
   pub some : 1 ≤ m
   pub most : m ≤ most_candidates
   pub place_is : IsPlace m k walk.place
-  pub few : walk.counts.entered + open_from bound m k best walk.place ≤ live_count bound m k best after + m
-  pub all : after ≡ None → walk.counts.entered + open_from bound m k best walk.place ≡ live_count bound m k best after
-  pub asked : walk.counts.entered ≤ walk.counts.ceilings
-  pub asks : walk.counts.ceilings + work_left m walk.place < 2 ^ 127
+  pub counted : IsCounted bound m k best after walk
   pub known : AreKnown value bound m k best levels

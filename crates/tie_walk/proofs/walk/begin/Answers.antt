@@ -30,8 +30,11 @@ returns-clause-begun g c =
     record {
       next = sym (ap (those_reaching value best) (sym root.0) ∙ stride.next ∙ ap (λ f. option_to_list f ++ those_reaching value best (committees_from m k c.visit.result.1.place)) none);
       place = stride.place;
-      few = omega (arith, all);
-      all = λ e. all;
-      asked = omega (arith, none-yet.entered, raised.asked);
-      asks = omega (arith, none-yet.ceilings, raised.work, work-most m k (Some c.root.result) c.requires.most root.1);
+      counted = record {
+        all = omega (arith, all);
+        few = omega (arith, all);
+        exact = λ e. all;
+        asked = omega (arith, none-yet.entered, raised.asked);
+        fits = omega (arith, none-yet.ceilings, raised.work, work-most m k (Some c.root.result) c.requires.most root.1);
+      };
     }

@@ -13,7 +13,8 @@ use std::cell::Cell;
 use std::process::Abort;
 use tie_walk::{MinimaxTally, SavTally, Tally, ThieleTally, Winners};
 
-/// A Thiele tally that counts the calls of its values and bounds, and of how far they reach.
+/// A Thiele tally that hands on its number of candidates, its values and its bounds only, and counts the calls of the
+/// last two.
 #[derive(Drop)]
 struct Counting<'a> {
     tally: ThieleTally<'a>,
@@ -49,14 +50,10 @@ impl<'a> Tally for Counting<'a> {
         self.count();
         self.tally.bound(c, set, left)
     }
-
-    fn reach(&self, c: u8, set: CandSet, left: u8, best: u128) -> Option<u8> {
-        self.count();
-        self.tally.reach(c, set, left, best)
-    }
 }
 
-/// Of 40 candidates a voter approves the first 20, who win 20 seats: a walk over 41 prefixes, and few calls in all.
+/// Of 40 candidates a voter approves the first 20, who win 20 seats: a walk over 41 prefixes, and at most 10,000 calls
+/// in all.
 #[test]
 fn twenty_of_forty_in_few_calls(rt: HostRuntime) {
     let profile = election_of(&rt, rt.alloc(), 40, &[((1 << 20) - 1, 1)]);
