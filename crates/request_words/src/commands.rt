@@ -22,9 +22,7 @@ pub(crate) fn program<'a>(alloc: Global) -> Result<Command<'a>, AllocError>
 {
     let commands = vec![in alloc; elect(alloc)?, check(alloc)?, share(alloc)?]?;
     Command::new(alloc, "committees")
-        .about(
-            "Elects committees by the approval ballots of PrefLib files, checks them, and shares out seats",
-        )
+        .about("Elect committees from PrefLib ballot files, check them, and share out seats")
         .after_long_help(help::PROGRAM)
         .subcommand_required(true)
         .subcommands(commands)
@@ -34,11 +32,12 @@ pub(crate) fn program<'a>(alloc: Global) -> Result<Command<'a>, AllocError>
 fn elect<'a>(alloc: Global) -> Result<Command<'a>, AllocError>
     ensures { IfOk result (IsCommand rule_names elect_over) }
 {
-    let about = "Prints every committee that wins";
+    let about = "Print every winning committee, ties included";
     let rules = Rule::NAMES.as_slice();
-    let rule = "The rule by which committees win";
+    let rule =
+        "The rule: av, pav, cc, geom2, geom3, geom4, sav,\nminimax, seqpav, seqcc or revseqpav";
     let most = u32::from(MOST_MEMBERS);
-    let size = "The number of seats to be filled";
+    let size = "The number of seats to fill, 1 to 40";
     let own = vec![in alloc;
         name_option(alloc, "rule", "RULE", rules, rule).required(true),
         number_option(alloc, "size", "SIZE", most, size).required(true),
@@ -52,13 +51,12 @@ fn elect<'a>(alloc: Global) -> Result<Command<'a>, AllocError>
 fn check<'a>(alloc: Global) -> Result<Command<'a>, AllocError>
     ensures { IfOk result (IsCommand property_names check_over) }
 {
-    let about =
-        "Tells whether a committee represents the voters, and prints a group that it leaves out";
+    let about = "Check whether a committee represents the voters";
     let properties = Property::NAMES.as_slice();
-    let property = "The property that the committee is checked for";
+    let property = "The property: jr, pjr, ejr or ejrplus";
     let committee = "The members of the committee, as 2,3,5";
     let own = vec![in alloc;
-        name_option(alloc, "property", "PROPERTY", properties, property).required(true),
+        name_option(alloc, "property", "NAME", properties, property).required(true),
         list_option(alloc, "committee", committee).required(true),
     ]?;
     command(alloc, "check", about, help::CHECK, own)
@@ -68,12 +66,12 @@ fn check<'a>(alloc: Global) -> Result<Command<'a>, AllocError>
 fn share<'a>(alloc: Global) -> Result<Command<'a>, AllocError>
     ensures { IfOk result (IsCommand method_names share_over) }
 {
-    let about = "Prints every way to share out seats among parties";
+    let about = "Print every way to share out seats among parties";
     let methods = Method::NAMES.as_slice();
-    let method = "The method by which seats are shared out";
+    let method = "The method: hamilton, dhondt, saintelague,\nhuntington, adams or dean";
     let most = u32::from(MOST_SEATS);
-    let seats = "The number of seats to share out";
-    let votes = "The votes of each party, as 53,24,23 [default: those of the ballots]";
+    let seats = "The number of seats to share out, 1 to 10000";
+    let votes = "The votes of each party, as 53,24,23\n[default: those of the ballots]";
     let own = vec![in alloc;
         name_option(alloc, "method", "METHOD", methods, method).required(true),
         number_option(alloc, "seats", "SEATS", most, seats).required(true),
@@ -107,12 +105,13 @@ fn shared_arguments<'a>(alloc: Global) -> Result<Vec<Arg<'a>>, AllocError>
     ensures { IfOk result (λ arguments. AreShared arguments.items) }
 {
     let kinds = Kind::NAMES.as_slice();
-    let kind = "The type of the file [default: its line DATA TYPE, or its ending]";
-    let category = "Approves category N of a cat file [default: the first]";
-    let set_size = "Approves the fewest first classes of a ranking that have N candidates";
+    let kind =
+        "The type of the file: cat, soc, soi, toc or toi\n[default: its DATA TYPE line, or its extension]";
+    let category = "Count category N of a cat file as approved\n[default: the first]";
+    let set_size = "Count the top classes of a ranking as approved,\nuntil they hold N candidates";
     let classes =
-        "Approves the first N classes of a ranking [default: the first that is not empty]";
-    let names = "Prints the names of the candidates beside their numbers";
+        "Count the top N classes of a ranking as approved\n[default: the first that is not empty]";
+    let names = "Print the names of the candidates beside numbers";
     Ok(vec![in alloc;
         name_option(alloc, "kind", "KIND", kinds, kind),
         number_option(alloc, "category", "N", MOST_WAY_NUMBER, category),
@@ -127,7 +126,7 @@ fn shared_arguments<'a>(alloc: Global) -> Result<Vec<Arg<'a>>, AllocError>
 fn after_option<'a>(alloc: Global) -> Arg<'a>
     ensures { IsArgument (text_option (codes "after")) result }
 {
-    let help = "Prints only the answers that come after this one, as 2,3,5";
+    let help = "Print only the answers that come after this one,\nas 2,3,5";
     list_option(alloc, "after", help)
 }
 
@@ -135,6 +134,6 @@ fn after_option<'a>(alloc: Global) -> Arg<'a>
 fn limit_option<'a>(alloc: Global) -> Arg<'a>
     ensures { IsArgument (number_option (codes "limit") most_limit) result }
 {
-    let help = "Prints N answers at most, and whether there are more [default: all]";
+    let help = "Print N answers at most, and whether there are\nmore [default: all]";
     number_option(alloc, "limit", "N", MOST_LIMIT, help)
 }

@@ -32,7 +32,7 @@ pub(crate) fn number_option<'a>(
         .help(help)
 }
 
-/// An option that takes one of these names.
+/// An option that takes one of these names, which its help lists within the columns.
 pub(crate) fn name_option<'a>(
     alloc: Global,
     name: &'a str,
@@ -46,6 +46,7 @@ pub(crate) fn name_option<'a>(
         .long(name)
         .value_name(value)
         .value_parser(names)
+        .hide_possible_values(true)
         .help(help)
 }
 
@@ -65,5 +66,5 @@ pub(crate) fn file_word<'a>(alloc: Global) -> Arg<'a>
 {
     Arg::new(alloc, "file")
         .value_name("FILE")
-        .help("The ballots, a PrefLib file [default: standard input]")
+        .help("The ballots, a PrefLib file\n[default: standard input]")
 }

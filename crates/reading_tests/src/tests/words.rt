@@ -209,8 +209,8 @@ share --method dean --seats 1 --committee 1 | Usage(\"error:
 // Help.
 --help | Help( | Usage: committees <COMMAND>\\n
 elect -h | Help( | Usage: committees elect [OPTIONS] --rule <RULE> --size <SIZE> [FILE]\\n
-check -h | Help( | Usage: committees check [OPTIONS] --property <PROPERTY> --committee <LIST> [FILE]\\n
-check --help | Help( | Usage: committees check [OPTIONS] --property <PROPERTY> --committee <LIST> [FILE]\\n
+check -h | Help( | Usage: committees check [OPTIONS] --property <NAME> --committee <LIST> [FILE]\\n
+check --help | Help( | Usage: committees check [OPTIONS] --property <NAME> --committee <LIST> [FILE]\\n
 share --help | Help( | Usage: committees share [OPTIONS] --method <METHOD> --seats <SEATS> [FILE]\\n
 share --votes 1, -h | Help( | Usage: committees share [OPTIONS] --method <METHOD> --seats <SEATS> [FILE]\\n
 // Words that are no lists of numbers.

@@ -1,0 +1,247 @@
+"""Tests of committees.py and table_to_cat, with real runs of the program: python3 -m unittest discover tools"""
+import doctest
+import os
+import stat
+import subprocess
+import sys
+import tempfile
+import unittest
+from fractions import Fraction
+
+HERE = os.path.dirname(os.path.realpath(__file__))
+TOP = os.path.dirname(HERE)
+sys.path.insert(0, HERE)
+import committees  # noqa: E402
+from committees import check, elect, share  # noqa: E402
+
+BOARD = os.path.join(TOP, "examples", "board.cat")
+SONGS = os.path.join(TOP, "examples", "songs.soi")
+BALLOTS = [({1, 2, 3}, 7), ({4, 5}, 2), ({6}, 1)]
+
+
+class Voter:
+    def __init__(self, approved, weight=1):
+        self.approved = approved
+        self.weight = weight
+
+
+class Profile(list):
+    """As much of abcvoting's Profile as this module looks at: candidates are numbered from 0."""
+
+    num_cand = 6
+
+
+class Elections(unittest.TestCase):
+    def test_a_file(self):
+        answers = elect(BOARD, "pav", 3)
+        self.assertEqual(answers.score, Fraction(77, 6))
+        self.assertEqual(list(answers), [frozenset({1, 2, 3})])
+        self.assertIs(answers.more, False)
+        self.assertEqual(list(answers), [])
+
+    def test_sets(self):
+        ties = [frozenset(tie) for tie in ({1, 4}, {1, 5}, {2, 4}, {2, 5}, {3, 4}, {3, 5})]
+        self.assertEqual(list(elect(BALLOTS, "cc", 2)), ties)
+        self.assertEqual(list(elect([{1, 2}, {1, 2}, [3]], "av", 1)), [frozenset({1}), frozenset({2})])
+        self.assertEqual(elect([{1}, set()], "av", 1, candidates=9).score, 1)
+
+    def test_a_profile_numbered_from_0(self):
+        profile = Profile([Voter({0, 1, 2}, 7), Voter({3, 4}, 2), Voter({5})])
+        self.assertEqual(next(elect(profile, "cc", 2)), frozenset({0, 3}))
+        self.assertEqual(list(elect(profile, "cc", 2, after={2, 3})), [frozenset({2, 4})])
+        self.assertEqual(check(profile, "pjr", {0, 3, 5}).candidates, frozenset({0, 1}))
+        self.assertEqual(share(Profile([Voter({0}, 5), Voter({1}, 3), Voter({5}, 3)]), "adams", 2).__next__(), (1, 0, 0, 0, 0, 1))
+
+    def test_pages(self):
+        answers = elect(BALLOTS, "cc", 2, limit=2)
+        self.assertIsNone(answers.more)
+        page = list(answers)
+        self.assertIs(answers.more, True)
+        rest = elect(BALLOTS, "cc", 2, after=page[-1])
+        self.assertEqual([sorted(tie) for tie in rest], [[2, 4], [2, 5], [3, 4], [3, 5]])
+        self.assertIs(rest.more, False)
+
+    def test_rules(self):
+        for rule in "av pav cc geom2 geom3 geom4 sav minimax seqpav seqcc revseqpav minimaxav".split():
+            answers = elect(BALLOTS, rule, 2)
+            self.assertEqual(answers.score is None, rule.startswith(("minimax", "seq", "revseq")), rule)
+            self.assertEqual(answers.distance is None, not rule.startswith("minimax"), rule)
+            self.assertTrue(all(len(committee) == 2 for committee in answers), rule)
+
+    def test_ways(self):
+        self.assertEqual(list(elect(SONGS, "av", 2, setsize=2)), [frozenset({2, 5})])
+        self.assertEqual(next(elect(SONGS, "av", 2, classes=1, kind="toi")), frozenset({2, 5}))
+        self.assertEqual(next(elect(BOARD, "av", 1, category=2)), frozenset({6}))
+
+
+class Checks(unittest.TestCase):
+    def test_a_report(self):
+        report = check(BALLOTS, "pjr", [1, 4, 6])
+        self.assertFalse(report)
+        self.assertEqual((report.level, report.group, report.voters), (2, 7, 10))
+        self.assertEqual((report.candidates, report.within), (frozenset({1, 2}), frozenset({1})))
+        self.assertEqual(report.rows, ((7, frozenset({1, 2, 3})),))
+        self.assertIsNone(check(BOARD, "ejr", {1, 4, 6}).within)
+        self.assertEqual(check([{1}], "pjr", {2}, candidates=2).within, frozenset())
+
+    def test_what_holds(self):
+        self.assertTrue(check(BOARD, "jr", {1, 2, 3}))
+        self.assertTrue(check(BOARD, "ejr+", {1, 2, 3}).holds)
+
+
+class Shares(unittest.TestCase):
+    def test_votes(self):
+        self.assertEqual(list(share([5, 3, 3], "adams", 2)), [(1, 0, 1), (1, 1, 0)])
+        self.assertEqual(list(share((5, 3, 3), "smallestdivisors", 2, after=(1, 0, 1))), [(1, 1, 0)])
+
+    def test_names_of_methods(self):
+        for name, own in committees.METHODS.items():
+            self.assertEqual(list(share([53, 24, 23], name, 7)), list(share([53, 24, 23], own, 7)))
+
+    def test_ballots(self):
+        walks = os.path.join(TOP, "examples", "walks.soc")
+        self.assertEqual(list(share(walks, "dhondt", 6)), [(3, 1, 2, 0)])
+
+
+class Refusals(unittest.TestCase):
+    def refused(self, kind, status, fault, line, call, *given, **options):
+        with self.assertRaises(kind) as caught:
+            list(call(*given, **options))
+        self.assertEqual((caught.exception.status, caught.exception.fault, caught.exception.line), (status, fault, line))
+
+    def test_each_status(self):
+        self.refused(committees.UsageRefused, 2, None, None, elect, BOARD, "borda", 2)
+        self.refused(committees.UsageRefused, 2, "TwoPicks", None, elect, SONGS, "av", 2, setsize=1, classes=1)
+        self.refused(committees.UsageRefused, 2, "BadList", None, share, [], "adams", 2)
+        self.refused(committees.InputRefused, 3, "NoVoters", None, elect, [], "av", 1)
+        self.refused(committees.InputRefused, 3, "NoSuchCandidate", 3, elect, [{1, 4}], "av", 1, candidates=3)
+        self.refused(committees.InputRefused, 3, "TooManyCandidates", 2, elect, [{65}], "av", 1)
+        self.refused(committees.RequestRefused, 4, "SizeTooLarge", None, elect, [{1}], "av", 2)
+        self.refused(committees.RequestRefused, 4, "AfterMisfit", None, elect, BALLOTS, "av", 2, after=[1])
+        self.refused(committees.RequestRefused, 4, "CommitteeMisfit", None, check, BALLOTS, "jr", [9])
+        self.refused(committees.RequestRefused, 4, "ManyApproved", None, share, BALLOTS, "adams", 2)
+        self.refused(committees.DeviceFailed, 6, None, None, elect, "no-such-file.cat", "av", 1)
+        self.refused(committees.DeviceFailed, 6, None, None, elect, "--rule", "av", 1)
+
+    def test_a_large_input_that_is_not_read(self):
+        self.refused(committees.UsageRefused, 2, None, None, elect, [{1}] * 100000, "borda", 1)
+
+    def test_numbers(self):
+        with self.assertRaises(ValueError):
+            elect([({1}, 1.5)], "av", 1)
+        with self.assertRaises(ValueError):
+            elect([{0, 1}], "av", 1)
+
+    def test_no_program(self):
+        with self.assertRaises(committees.NoProgram):
+            elect(BOARD, "av", 1, program="/no/such/program")
+
+    def test_output_that_is_cut_off(self):
+        for output in ["", "rule av\\n", "rule av\\nsize 1\\nscore 7/1\\n1\\n", "rule av\\nsize 1\\nscore 7/1\\n1\\nend", "rule av\\nsize 1\\nscore 7/1\\n1\\nmo"]:
+            with tempfile.TemporaryDirectory() as room:
+                program = os.path.join(room, "program")
+                with open(program, "w") as file:
+                    file.write(f"#!/bin/sh\ncat >/dev/null\nprintf '{output}'\n")
+                os.chmod(program, os.stat(program).st_mode | stat.S_IXUSR)
+                with self.assertRaises(committees.CutOff, msg=output):
+                    list(elect(BALLOTS, "av", 1, program=program))
+
+    def test_a_status_after_the_last_line(self):
+        with tempfile.TemporaryDirectory() as room:
+            program = os.path.join(room, "program")
+            with open(program, "w") as file:
+                file.write("#!/bin/sh\ncat >/dev/null\nprintf 'rule av\\nsize 1\\nscore 7/1\\n1\\nend\\n'\necho 'committees: write failed' >&2\nexit 6\n")
+            os.chmod(program, os.stat(program).st_mode | stat.S_IXUSR)
+            with self.assertRaises(committees.DeviceFailed):
+                list(elect(BALLOTS, "av", 1, program=program))
+
+
+class Ends(unittest.TestCase):
+    def test_an_iterator_that_is_dropped_ends_its_run(self):
+        # 64 candidates with one voter each: 6 * 10^18 ties
+        for drop in ("del", "close", "with"):
+            answers = elect([{number} for number in range(1, 65)], "cc", 32)
+            self.assertEqual(next(answers), frozenset(range(1, 33)))
+            process = answers._run.process
+            self.assertIsNone(process.poll())
+            if drop == "del":
+                del answers
+            elif drop == "close":
+                answers.close()
+                with self.assertRaises(committees.CutOff):
+                    next(answers)
+            else:
+                with answers:
+                    pass
+            self.assertIsNotNone(process.poll())
+
+
+class Documents(unittest.TestCase):
+    def test_the_examples_of_the_module(self):
+        self.assertEqual(doctest.testmod(committees).failed, 0)
+
+
+class Tables(unittest.TestCase):
+    def made(self, table, *words):
+        data = table if isinstance(table, bytes) else table.encode()
+        run = subprocess.run([sys.executable, os.path.join(HERE, "table_to_cat"), *words], input=data, capture_output=True)
+        return run.returncode, run.stdout.decode(), run.stderr.decode()
+
+    def ballots(self, table, *words):
+        status, out, said = self.made(table, *words)
+        self.assertEqual(status, 0, said)
+        return [line for line in out.splitlines() if not line.startswith("#")]
+
+    def refused(self, why, table, *words):
+        status, out, said = self.made(table, *words)
+        self.assertEqual((status, out), (1, ""))
+        self.assertIn(why, said)
+
+    def test_separators_ends_of_lines_and_quotes(self):
+        want = ["2: {1},{2,3}", "1: {2,3},{1}"]
+        for separator in ",;\t":
+            for end in ("\n", "\r\n"):
+                rows = ["Ada,Ben,Cleo", "x,,", "X,,", ",x,x"]
+                self.assertEqual(self.ballots(end.join(rows).replace(",", separator) + end), want)
+        _, out, _ = self.made('"Lovelace, Ada";"Ben ""the Big""";Cleo\nx;;\n')
+        self.assertIn("# ALTERNATIVE NAME 1: Lovelace, Ada\n# ALTERNATIVE NAME 2: Ben \"the Big\"\n", out)
+
+    def test_marks(self):
+        self.refused("2 different marks ('no', 'yes')", "A,B\nyes,no\n")
+        self.assertEqual(self.ballots("A,B\nyes,no\nYes,YES\n", "--yes", "yes"), ["1: {1},{2}", "1: {1,2},{}"])
+        self.assertEqual(self.ballots("A,B\n1,0\n0,1\n", "--yes=1"), ["1: {1},{2}", "1: {2},{1}"])
+        self.assertEqual(self.ballots("A,B\nx,ok\n", "--yes=x", "--yes=ok"), ["1: {1,2},{}"])
+        self.refused("no cell is marked y", "A,B\nx,x\n", "--yes=y")
+
+    def test_shapes(self):
+        self.assertEqual(self.ballots("A,B,,\n,x,,\n\nx\n"), ["1: {2},{1}", "1: {1},{2}"])
+        self.assertEqual(self.ballots("Time,A,B\n9:00,x,\n9:05,,x\n", "--skip", "1"), ["1: {1},{2}", "1: {2},{1}"])
+        self.assertEqual(self.ballots("A\nx\n"), ["1: {1},{}"])
+        self.refused("line 3: a mark stands in column 3", "A,B\nx,\nx,,x\n")
+        self.refused("column 2 has no name", "A,,B\nx,,\n")
+        self.refused("two columns are named 'A'", "A,B,A\nx,,\n")
+        self.refused("the table is empty", "")
+        self.refused("no row below", "A,B\n")
+        self.refused("line 2:", 'A,B\n"x,\n')
+
+    def test_voters_who_approve_nobody(self):
+        status, out, said = self.made("A,B\n,\nx,\n,\n")
+        self.assertEqual((status, out.splitlines()[-2:]), (0, ["2: {},{1,2}", "1: {1},{2}"]))
+        self.assertIn("2 of 3 voters approve nobody (line 2, 4)", said)
+
+    def test_encodings(self):
+        for coding in ("utf-8", "utf-8-sig", "utf-16"):
+            _, out, _ = self.made("Ödön,B\nx,\n".encode(coding))
+            self.assertIn("# ALTERNATIVE NAME 1: Ödön\n", out)
+        self.refused("is not UTF-8", "Ödön,B\nx,\n".encode("latin-1"))
+
+    def test_the_program_takes_it(self):
+        with tempfile.TemporaryDirectory() as room:
+            path = os.path.join(room, "votes.cat")
+            with open(path, "w") as file:
+                file.write(self.made("A,B,C\nx,x,\n,x,x\n")[1])
+            self.assertEqual(list(elect(path, "av", 1)), [frozenset({2})])
+
+
+if __name__ == "__main__":
+    unittest.main()
