@@ -1,3 +1,4 @@
+pub mod CloneLemmas
 pub mod Committees
 pub mod Examples
 pub mod FirstMember

@@ -2,6 +2,7 @@ pub mod Limits
 pub mod Lists
 pub mod CandSet
 pub mod Ballots
+pub mod Clones
 pub mod CommonMultiple
 pub mod Hashing
 pub mod Increments

@@ -2,6 +2,7 @@
 #![tactic(auto)]
 
 pub mod cand_set;
+pub mod clones;
 pub mod hashing;
 pub mod increments;
 pub mod laws;
@@ -11,9 +12,10 @@ pub mod profile;
 pub mod subsets;
 
 pub use cand_set::CandSet;
+pub use clones::{Clones, all_clones};
 pub use hashing::BallotHashing;
 pub use increments::{Increments, ThieleRule};
-pub use limits::{MOST_CANDIDATES, MOST_MEMBERS, MOST_VOTERS};
+pub use limits::{MOST_CANDIDATES, MOST_MEMBERS, MOST_VOTERS, PLACES};
 pub use multiples::common_multiple;
 pub use profile::{AddFault, Ballots, FinishFault, Profile, ProfileBuilder};
 pub use subsets::KSets;

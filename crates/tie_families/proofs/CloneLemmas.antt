@@ -14,14 +14,12 @@ use Rattle.tie_walk.specs.declared.sequential.Step.{Step}
 use Rattle.tie_walk.specs.declared.sequential.Step.TheVariants.{Grow}
 use Rattle.tie_walk.proofs.RowSums.{AreBallots, length-common}
 use Rattle.tie_walk.proofs.WorthLemmas.{share, partial, worth-whole}
-use Rattle.tie_families.specs.Clones.{are_clones}
+use Rattle.ballot_base.proofs.CloneLemmas.{both-same, is_both}
+use Rattle.ballot_base.specs.Clones.{are_clones}
 use Rattle.tie_families.specs.Steps.Levels.{IsBelow, IsFalling}
 use Rattle.tie_families.proofs.Numbers.{bit, IsSameness, sums-within}
 
 -- ---- clones are of one class
-
-abbrev pub is_both : Bool → Bool → Bool
-is_both x y = cond x y (not y)
 
 both-itself : (x : Bool) → is_both x x ≡ true
 both-itself true = refl
@@ -38,12 +36,6 @@ both-joined true true z e f = f
 both-joined true false z e f = absurd (let g : false ≡ true = e in cc)
 both-joined false true z e f = absurd (let g : false ≡ true = e in cc)
 both-joined false false z e f = f
-
-pub both-same : (x y : Bool) → is_both x y ≡ true → x ≡ y
-both-same true true e = refl
-both-same true false e = sym e
-both-same false true e = e
-both-same false false e = refl
 
 clones-itself : (rows : List Row) (c : ℕ) → are_clones rows c c ≡ true
 clones-itself [] c = refl

@@ -11,7 +11,8 @@ use Rattle.ballot_base.specs.Ballots.{Row}
 use Rattle.ballot_base.proofs.Committees.{increasing_lists-contains, chosen-from_contains}
 use Rattle.ballot_base.proofs.Increasing.{IsIncreasing-lower, IsIncreasing-higher, IsIncreasing-push, IsIncreasing-filter, IsIncreasing-with_member, has_member-above, has_member-below, has_member-filter, same_increasing, with_member-above}
 use Rattle.tie_walk.proofs.SequenceLemmas.{length-with_member}
-use Rattle.tie_families.specs.Clones.{are_clones, clone_count, has_as_many, is_between}
+use Rattle.ballot_base.specs.Clones.{are_clones}
+use Rattle.tie_families.specs.Clones.{clone_count, has_as_many, is_between}
 use Rattle.tie_families.specs.Steps.Families.{may_be_in}
 use Rattle.tie_families.specs.Steps.Levels.{IsBelow}
 use Rattle.tie_families.specs.Steps.Tables.{completed, completed_by}

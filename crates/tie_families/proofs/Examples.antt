@@ -6,7 +6,8 @@ use Rattle.ballot_base.specs.Lists.{lists_of}
 use Rattle.tie_walk.specs.Sequences.{hit_weights}
 use Rattle.tie_walk.specs.declared.sequential.SeqRule.TheVariants.{SeqPav, SeqCc}
 use Rattle.tie_walk.specs.declared.sequential.Step.TheVariants.{Grow, Shrink}
-use Rattle.tie_families.specs.Clones.{are_clones, clones_among, clone_count, has_as_many, is_between}
+use Rattle.ballot_base.specs.Clones.{are_clones, clones_among}
+use Rattle.tie_families.specs.Clones.{clone_count, has_as_many, is_between}
 use Rattle.tie_families.specs.Families.{sequential_of, is_winner, some_winner}
 use Rattle.tie_families.specs.Steps.Families.{may_be_in}
 use Rattle.tie_families.specs.Steps.Levels.{is_first_open, is_settled, has_settled, ties, tied_worth, shares_no_voter, is_independent, end, chosen, family_changes, other_end}

@@ -21,7 +21,7 @@ use Rattle.tie_walk.proofs.LawLemmas.{passes-from_filter, Contains-filter, IsInc
 use Rattle.tie_walk.proofs.LevelLemmas.{choice-parts, in_bounds, reached-increasing}
 use Rattle.tie_walk.proofs.RowSums.{AreBallots}
 use Rattle.tie_walk.proofs.SequenceLemmas.{IsSized, length-with_member, length-without_member, reached-sized}
-use Rattle.tie_families.specs.Clones.{are_clones, clones_among}
+use Rattle.ballot_base.specs.Clones.{are_clones, clones_among}
 use Rattle.tie_families.specs.Steps.Levels.{is_first_open, ties, end, end_or, chosen, followed, family_changes, IsNextFamilies, IsBelow, IsAhead, IsFalling, IsStrict, IsOfSize, IsReachedBy, IsPlaced, IsOf, IsFamilyLevel}
 use Rattle.tie_families.proofs.CloneLemmas.{clones-sameness}
 use Rattle.tie_families.proofs.Lists.{Contains-from_map, Contains-from_flat_map, Contains-only, count-others, open-is, open-from, with-without, without-with, without-itself, with-itself, with-increasing, without-increasing}

@@ -24,10 +24,11 @@ use Rattle.tie_walk.proofs.LevelLemmas.{in_bounds}
 use Rattle.tie_walk.proofs.SequenceLaws.{sequential-later}
 use Rattle.tie_walk.proofs.SequenceLemmas.{same_sorted}
 use Rattle.tie_walk.proofs.StepLemmas.{has_member-range}
-use Rattle.tie_families.specs.Clones.{are_clones, clones_among, has_as_many, is_between}
+use Rattle.ballot_base.specs.Clones.{are_clones, clones_among}
+use Rattle.tie_families.specs.Clones.{has_as_many, is_between}
 use Rattle.tie_families.specs.Steps.Families.{AreApart}
 use Rattle.tie_families.specs.Steps.Levels.{IsBelow, AreFamilies}
-use Rattle.tie_families.specs.Steps.Tables.{AreClones}
+use Rattle.ballot_base.specs.Clones.{AreClones}
 use Rattle.tie_families.proofs.CloneLemmas.{clones-sameness}
 use Rattle.tie_families.proofs.Numbers.{some-passes, member-counts, within-turned}
 use Rattle.tie_families.proofs.PairLemmas.{pairs-first, pairs-pass}

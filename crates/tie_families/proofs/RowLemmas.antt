@@ -13,7 +13,7 @@ use Rattle.tie_walk.specs.Steps.Choices.{worth, hits_of}
 use Rattle.tie_walk.specs.declared.sequential.Step.{Step}
 use Rattle.tie_walk.proofs.RowSums.{AreBallots}
 use Rattle.tie_walk.proofs.WorthLemmas.{share, partial, worth-whole}
-use Rattle.tie_families.specs.Clones.{are_clones}
+use Rattle.ballot_base.specs.Clones.{are_clones}
 use Rattle.tie_families.specs.Steps.Levels.{IsFalling, IsStrict}
 use Rattle.tie_families.proofs.CloneLemmas.{IsWhole, all_whole}
 

@@ -18,7 +18,8 @@ use Rattle.tie_walk.proofs.LawLemmas.{IsIncreasing-range}
 use Rattle.tie_walk.proofs.LevelLemmas.{in_bounds, choice-parts}
 use Rattle.tie_walk.proofs.RowSums.{AreBallots}
 use Rattle.tie_walk.proofs.StepLemmas.{has_member-range, lowest, values-lowest}
-use Rattle.tie_families.specs.Clones.{are_clones, clones_among, clone_count}
+use Rattle.ballot_base.specs.Clones.{are_clones, clones_among}
+use Rattle.tie_families.specs.Clones.{clone_count}
 use Rattle.tie_families.specs.Steps.Levels.{tied_worth, end_or, is_first_open, is_settled, ties, shares_no_voter, is_independent, end, chosen, IsBelow, IsAhead, IsFalling, IsStrict}
 use Rattle.tie_families.proofs.CloneLemmas.{clones-sameness, hits-members, worth-same, gain-falls}
 use Rattle.tie_families.proofs.Lists.{all-at, member-without, some-fails, count-others, open-is, open-from, with-increasing, without-increasing}

@@ -12,46 +12,11 @@ use Rattle.ballot_base.specs.CandSet.{has_member, common_members, other_members,
 use Rattle.ballot_base.specs.Ballots.{Row}
 use Rattle.ballot_base.proofs.Increasing.{has_member-filter}
 use Rattle.tie_walk.proofs.StepLemmas.{has_member-range, range-more}
-use Rattle.tie_families.specs.Clones.{are_clones, clones_among, clone_count}
-use Rattle.tie_families.specs.Steps.Tables.{AreClones, completed_by}
-use Rattle.tie_families.proofs.CloneLemmas.{is_both}
+use Rattle.ballot_base.specs.Clones.{are_clones, clones_among}
+use Rattle.tie_families.specs.Clones.{clone_count}
+use Rattle.ballot_base.specs.Clones.{AreClones}
+use Rattle.tie_families.specs.Steps.Tables.{completed_by}
 use Rattle.tie_families.proofs.Numbers.{bit, count-cons}
-
-filter-both : {X : Type 0} (p q : X → Bool) (xs : List X) → filter (λ x. p x && q x) xs ≡ filter q (filter p xs)
-filter-both p q [] = refl
-filter-both p q (x ∷ xs) =
-    elim (p x) as (λ b. cond (b && q x) (x ∷ filter (λ y. p y && q y) xs) (filter (λ y. p y && q y) xs) ≡ filter q (cond b (x ∷ filter p xs) (filter p xs))) [
-      | true ↦ ap (λ l. cond (q x) (x ∷ l) l) (filter-both p q xs)
-      | false ↦ filter-both p q xs
-    ]
-
-filter-same : {X : Type 0} (p q : X → Bool) (xs : List X) → ((x : X) → p x ≡ q x) → filter p xs ≡ filter q xs
-filter-same p q [] same = refl
-filter-same p q (x ∷ xs) same = ap (λ b. cond b (x ∷ filter p xs) (filter p xs)) (same x) ∙ ap (λ l. cond (q x) (x ∷ l) l) (filter-same p q xs same)
-
--- no row tells candidates apart
-pub clones-none : (m c : ℕ) → range_with_len 1 m ≡ clones_among m [] c
-clones-none m c = all (range_with_len 1 m)
-  where
-    all : (xs : List ℕ) → xs ≡ filter (are_clones [] c) xs
-    all [] = refl
-    all (x ∷ xs) = ap (λ l. x ∷ l) (all xs)
-
-module _ (m : ℕ) (rows : List Row) (i : ℕ) (row : Row) (c : ℕ) (found : slice_get rows i ≡ Some row) where
-  clones-more : clones_among m (take (i + 1) rows) c ≡ filter (λ d. is_both (has_member row.0 c) (has_member row.0 d)) (clones_among m (take i rows) c)
-  clones-more =
-      let here : get_or rows i row ≡ row = get_or_from_slice_get rows i row row found in
-      let within : i < length rows = slice_get_within rows i row found in
-      filter-same (are_clones (take (i + 1) rows) c) (λ d. are_clones (take i rows) c d && is_both (has_member row.0 c) (has_member row.0 d)) (range_with_len 1 m)
-      (λ d. list_all_more (λ (r : Row). is_both (has_member r.0 c) (has_member r.0 d)) rows i row within
-      ∙ ap (λ (r : Row). are_clones (take i rows) c d && is_both (has_member r.0 c) (has_member r.0 d)) here)
-      ∙ filter-both (are_clones (take i rows) c) (λ d. is_both (has_member row.0 c) (has_member row.0 d)) (range_with_len 1 m)
-
-  pub clones-approved : has_member row.0 c ≡ true → clones_among m (take (i + 1) rows) c ≡ common_members (clones_among m (take i rows) c) row.0
-  clones-approved is = clones-more ∙ ap (λ b. filter (λ d. is_both b (has_member row.0 d)) (clones_among m (take i rows) c)) is
-
-  pub clones-other : has_member row.0 c ≡ false → clones_among m (take (i + 1) rows) c ≡ other_members (clones_among m (take i rows) c) row.0
-  clones-other is = clones-more ∙ ap (λ b. filter (λ d. is_both b (has_member row.0 d)) (clones_among m (take i rows) c)) is
 
 -- the members of a class
 pub class-count : (m : ℕ) (rows : List Row) (c : ℕ) (set : List ℕ) → IsIncreasing 1 m set → length (common_members set (clones_among m rows c)) ≡ clone_count rows set c

@@ -14,7 +14,7 @@ use Rattle.tie_walk.specs.declared.sequential.Step.TheVariants.{Grow, Shrink}
 use Rattle.tie_walk.proofs.LawLemmas.{IsIncreasing-range}
 use Rattle.tie_walk.proofs.LevelLemmas.{in_bounds}
 use Rattle.tie_walk.proofs.RowSums.{AreBallots}
-use Rattle.tie_families.specs.Clones.{are_clones, clones_among}
+use Rattle.ballot_base.specs.Clones.{are_clones, clones_among}
 use Rattle.tie_families.specs.Steps.Levels.{is_first_open, IsBelow}
 use Rattle.tie_families.proofs.CloneLemmas.{clones-sameness, worth-same}
 use Rattle.tie_families.proofs.Lists.{all-at, all-from, some-fails, members-of, count-others, open-is, open-from, with-without, without-with, without-itself, with-itself, with-increasing, without-increasing}

@@ -16,7 +16,8 @@ use Rattle.tie_walk.specs.declared.sequential.SeqRule.TheVariants.{SeqPav, SeqCc
 use Rattle.tie_walk.proofs.HitWeights.{hit_weights-length, hit_weights-at}
 use Rattle.tie_walk.proofs.LevelLemmas.{in_bounds}
 use Rattle.tie_walk.proofs.StepLemmas.{has_member-range}
-use Rattle.tie_families.specs.Clones.{are_clones, clone_count, has_as_many}
+use Rattle.ballot_base.specs.Clones.{are_clones}
+use Rattle.tie_families.specs.Clones.{clone_count, has_as_many}
 use Rattle.tie_families.specs.Steps.Levels.{IsBelow, IsFalling}
 use Rattle.tie_families.proofs.CloneLemmas.{clones-sameness}
 use Rattle.tie_families.proofs.Lists.{all-at, all-from}

@@ -1,18 +1,9 @@
--- Clones: candidates whom the same voters approve
+-- Sets by the number of members that they have of each class of clones
 -- (Tideman, Independence of clones as a criterion for voting rules; here voters approve or do not).
-use Rattle.std.specs.Prelude.{ℕ, ◌&&◌, Bool, List, not, filter, count_by, nat_le, if◌then◌else◌}
+use Rattle.std.specs.Prelude.{ℕ, ◌&&◌, Bool, List, count_by, nat_le}
 use Rattle.std.specs.List.{list_all, range_with_len}
-use Rattle.ballot_base.specs.CandSet.{has_member}
 use Rattle.ballot_base.specs.Ballots.{Row}
-
--- whether each row approves both candidates or none of them
-abbrev pub are_clones : List Row → ℕ → ℕ → Bool
-are_clones rows c d =
-    list_all (λ (row : Row). if has_member row.0 c then has_member row.0 d else not (has_member row.0 d)) rows
-
--- the clones of a candidate among the candidates 1 to m
-abbrev pub clones_among : ℕ → List Row → ℕ → List ℕ
-clones_among m rows c = filter (are_clones rows c) (range_with_len 1 m)
+use Rattle.ballot_base.specs.Clones.{are_clones}
 
 -- how many clones of a candidate a set has
 abbrev pub clone_count : List Row → List ℕ → ℕ → ℕ

@@ -1,43 +1,13 @@
-//! Clones: candidates whom the same voters approve.
+//! Sets by the number of members that they have of each class of clones.
 ghost use Rattle.std.specs.Prelude.{◌≡◌, ◌≤◌, ℕ, List};
 ghost use Rattle.ballot_base.specs.Limits.{most_candidates};
 ghost use Rattle.ballot_base.specs.Lists.{IsIncreasing};
 ghost use Rattle.ballot_base.specs.Ballots.{Row};
-ghost use Rattle.tie_families.specs.Clones.{clones_among, has_as_many, is_between};
-ghost use Rattle.tie_families.specs.Steps.Tables.{AreClones, completed};
+ghost use Rattle.tie_families.specs.Clones.{has_as_many, is_between};
+ghost use Rattle.ballot_base.specs.Clones.{AreClones};
+ghost use Rattle.tie_families.specs.Steps.Tables.{completed};
 
-use ballot_base::{CandSet, Profile};
-use std::alloc::Allocator;
-use tie_walk::PLACES;
-
-/// The clones of each candidate, itself among them, at its number.
-pub(crate) type Clones = [CandSet; PLACES];
-
-/// The clones of all candidates of a profile.
-pub(crate) fn all_clones<A: Allocator + Copy>(profile: &Profile<A>) -> Clones
-    ensures { AreClones profile.now.m profile.now.rows result }
-{
-    let mut all = [CandSet::empty(); PLACES];
-    for c in 1..profile.m() + 1 {
-        all[usize::from(c)] = clones_of(profile, c);
-    }
-    all
-}
-
-/// The candidates whom exactly the voters of this one approve.
-fn clones_of<A: Allocator + Copy>(profile: &Profile<A>, c: u8) -> CandSet
-    ensures { result ≡ clones_among profile.now.m profile.now.rows c }
-{
-    let mut clones = CandSet::all(profile.m());
-    for (ballot, _voters) in profile.ballots() {
-        clones = if ballot.has(c) {
-            clones.common(ballot)
-        } else {
-            clones.minus(ballot)
-        };
-    }
-    clones
-}
+use ballot_base::{CandSet, Clones};
 
 /// Whether a set has at least as many of each class of clones as another one.
 pub(crate) fn has_as_many(clones: &Clones, m: u8, set: CandSet, other: CandSet) -> bool

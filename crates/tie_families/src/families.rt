@@ -8,11 +8,11 @@ ghost use Rattle.tie_walk.specs.Sequences.{sequential_winners};
 ghost use Rattle.tie_families.specs.Clones.{is_between};
 ghost use Rattle.tie_families.specs.Families.{Sequential, sequential_of, is_winner, some_winner};
 ghost use Rattle.tie_families.specs.Steps.Families.{AreApart, may_be_in};
-ghost use Rattle.tie_families.specs.Steps.Tables.{AreClones};
+ghost use Rattle.ballot_base.specs.Clones.{AreClones};
 
-use crate::clones::{Clones, all_clones, completed, is_between};
+use crate::clones::{completed, is_between};
 use crate::levels::{Spans, families_of};
-use ballot_base::{CandSet, Profile};
+use ballot_base::{CandSet, Clones, Profile, all_clones};
 use std::alloc::{AllocError, Allocator, Global};
 use std::marker::Model;
 use tie_walk::{SeqRule, Tally};

@@ -8,7 +8,7 @@ ghost use Rattle.ballot_base.specs.Lists.{IsIncreasing};
 ghost use Rattle.ballot_base.specs.Ballots.{Row};
 ghost use Rattle.tie_walk.specs.Sequences.{hit_weights};
 ghost use Rattle.tie_walk.specs.Steps.Choices.{change, worth, better, worst, open_candidates};
-ghost use Rattle.tie_families.specs.Steps.Tables.{AreClones};
+ghost use Rattle.ballot_base.specs.Clones.{AreClones};
 ghost use Rattle.tie_families.specs.Steps.Levels.{is_first_open, has_settled, ties, tied_worth, shares_no_voter, end, chosen, family_changes, other_end, IsFalling, IsStrict, IsFamilyLevel, IsNextFamilies, AreFamilies};
 
 use crate::clones::Clones;

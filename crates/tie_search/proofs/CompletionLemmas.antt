@@ -50,7 +50,7 @@ with-stays set n x other = has_member-with_member set n x ∙ ap (λ b. b || has
 with-is : (set : List ℕ) (n x : ℕ) → x ≡ n → has_member (with_member set n) x ≡ true
 with-is set n x same = has_member-with_member set n x ∙ ap (λ b. b || has_member set x) (eq-eqb n x (sym same))
 
-filter-most : (p : ℕ → Bool) (xs : List ℕ) → length (filter p xs) ≤ length xs
+pub filter-most : (p : ℕ → Bool) (xs : List ℕ) → length (filter p xs) ≤ length xs
 filter-most p xs = omega (arith, length-filter_both p (λ x. not (p x)) (λ x. refl) xs)
 
 -- a member less is shorter

@@ -1,3 +1,4 @@
+pub mod CloneLemmas
 pub mod ColumnLemmas
 pub mod CompletionLemmas
 mod Examples

@@ -1,5 +1,8 @@
 //! The search for a committee of at least a value, depth first, that goes into no set whose bound is too low.
-ghost use Rattle.std.specs.Prelude.{◌≡◌, ℕ, ◌+◌, ◌-◌, ◌*◌, ◌^◌, ◌<◌, ◌≤◌, ◌↔◌, ◌||◌, true, false, MatchOption, IsTrue, length, slice_index, sum_by};
+ghost use Rattle.std.specs.Prelude.{◌≡◌, ℕ, ◌+◌, ◌-◌, ◌*◌, ◌^◌, ◌<◌, ◌≤◌, ◌↔◌, ◌||◌, true, false, List, MatchOption, IsTrue, length, slice_index, sum_by};
+ghost use Rattle.ballot_base.specs.Ballots.{Row};
+ghost use Rattle.ballot_base.specs.Clones.{AreClones, clones_among};
+ghost use Rattle.ballot_base.specs.Limits.{most_candidates};
 ghost use Rattle.ballot_base.specs.CandSet.{has_member};
 ghost use Rattle.ballot_base.specs.Lists.{IsIncreasing};
 ghost use Rattle.ballot_base.specs.Increments.{increments};
@@ -11,15 +14,27 @@ ghost use Rattle.tie_search.specs.Completions.{IsOpen, IsOutOfReach, IsReaching,
 use crate::columns::Columns;
 use crate::order::Order;
 use crate::prices::{Prices, SCALE};
-use ballot_base::{CandSet, ThieleRule};
+use ballot_base::{CandSet, Clones, ThieleRule};
 use std::alloc::Allocator;
 use tie_walk::{PLACES, Tally, ThieleTally, widened};
 
-/// What a search is helped by, where it is worth its making.
+/// What a search is helped by: who are clones; and columns and prices, if they are worth their making.
 #[derive(Drop)]
 pub(crate) struct Aids {
+    pub(crate) clones: Clones,
     pub(crate) columns: Option<Columns>,
     pub(crate) prices: Option<Prices>,
+}
+
+impl Aids {
+    /// The clones of a candidate, itself among them.
+    fn clones_of(&self, candidate: u8) -> CandSet
+        requires { candidate ≤ most_candidates }
+        ensures { (m : ℕ) (rows : List Row) → AreClones m rows self.now.clones → 1 ≤ candidate → candidate ≤ m
+            → m ≤ most_candidates → result ≡ clones_among m rows candidate }
+    {
+        self.clones[usize::from(candidate)]
+    }
 }
 
 /// A committee of the set and of `left` of the free candidates whose value is at least `least`, if there is one.
@@ -79,12 +94,14 @@ fn descend<A: Allocator + Copy>(
         least,
     ) {
         let next = order.first_of(rest)?;
-        rest = rest.without(next);
+        let others = rest.without(next);
         let more = value + gains[usize::from(next)];
-        let found = descend(tally, aids, set.with(next), more, rest, left - 1, least);
+        let found = descend(tally, aids, set.with(next), more, others, left - 1, least);
         if let Some(committee) = found {
             return Some(committee);
         }
+        // A committee with a clone of the candidate would be worth the same with the candidate in its place.
+        rest = others.minus(aids.clones_of(next));
         if !may_suffice(tally, set, rest, least) {
             return None;
         }

@@ -12,7 +12,7 @@ use crate::columns::Columns;
 use crate::prices::Prices;
 use crate::search::{Aids, find};
 use crate::witness::{with_last, witnessed_upto};
-use ballot_base::{CandSet, Profile, ThieleRule};
+use ballot_base::{CandSet, Profile, ThieleRule, all_clones};
 use std::alloc::{Allocator, Global};
 use std::cell::Cell;
 use std::marker::Model;
@@ -57,6 +57,7 @@ impl<'a, A: Allocator + Copy> SearchTally<'a, A> {
         let values = ThieleTally::new(profile, rule, k);
         let m = values.m();
         let aids = Aids {
+            clones: all_clones(profile),
             columns: Columns::of(profile, rule, k),
             prices: Prices::of(profile, &values, rule, k),
         };

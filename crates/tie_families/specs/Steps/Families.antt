@@ -6,7 +6,8 @@ use Rattle.tie_walk.specs.Winners.{Winning}
 use Rattle.tie_walk.specs.declared.sequential.SeqRule.{SeqRule}
 use Rattle.tie_families.specs.Steps.Levels.{AreFamilies}
 use Rattle.tie_families.specs.Clones.{is_between}
-use Rattle.tie_families.specs.Steps.Tables.{AreClones, completed}
+use Rattle.ballot_base.specs.Clones.{AreClones}
+use Rattle.tie_families.specs.Steps.Tables.{completed}
 
 -- whether the family has a committee of the set and of `left` of the candidates after c: no more of them are needed for
 -- as many of each class as its least, and no fewer are left for as many as its most

@@ -12,7 +12,8 @@ use Rattle.tie_walk.specs.Steps.Choices.{may_choose, change, worth, better, wors
 use Rattle.tie_walk.specs.declared.sequential.SeqRule.{SeqRule}
 use Rattle.tie_walk.specs.declared.sequential.Step.{Step}
 use Rattle.tie_walk.specs.declared.sequential.Step.TheVariants.{Grow, Shrink}
-use Rattle.tie_families.specs.Clones.{clones_among, clone_count, has_as_many, is_between}
+use Rattle.ballot_base.specs.Clones.{clones_among}
+use Rattle.tie_families.specs.Clones.{clone_count, has_as_many, is_between}
 
 -- whether none of the candidates below c may be chosen whom the set of clones has
 abbrev pub is_first_open : Step → List ℕ → List ℕ → ℕ → Bool

@@ -1,13 +1,9 @@
--- The clones of all candidates in a table.
-use Rattle.std.specs.Prelude.{◌≡◌, ℕ, ◌+◌, ◌-◌, ◌≤◌, List, [], fold, nat_lt, slice_index_or, if◌then◌else◌}
+-- Sets that lack members of some class of clones.
+use Rattle.std.specs.Prelude.{ℕ, ◌+◌, ◌-◌, List, fold, nat_lt, if◌then◌else◌}
 use Rattle.std.specs.List.{range_with_len}
 use Rattle.ballot_base.specs.CandSet.{with_member}
 use Rattle.ballot_base.specs.Ballots.{Row}
-use Rattle.tie_families.specs.Clones.{clones_among, clone_count}
-
--- at each candidate's number the table has its clones
-abbrev pub AreClones : ℕ → List Row → List (List ℕ) → Type 0
-AreClones m rows table = (c : ℕ) → 1 ≤ c → c ≤ m → slice_index_or table c [] ≡ clones_among m rows c
+use Rattle.tie_families.specs.Clones.{clone_count}
 
 -- the set with the candidate, where it has fewer clones of the candidate than the other set
 abbrev pub completed_by : List Row → List ℕ → List ℕ → ℕ → List ℕ

@@ -1,5 +1,6 @@
 -- What a tally by search keeps.
 use Rattle.std.specs.Prelude.{◌≡◌, ℕ, ◌≤◌, List, length, Option, MatchOption, ⊤}
+use Rattle.ballot_base.specs.Clones.{AreClones}
 use Rattle.ballot_base.specs.Lists.{IsIncreasing}
 use Rattle.tie_walk.specs.Values.{Thiele}
 use Rattle.tie_walk.specs.Winners.{best_value}
@@ -16,6 +17,7 @@ KeepsColumns tally columns = MatchOption columns ⊤ (λ kept.
 
 -- what a search is helped by is of the election
 pub record IsAided (tally : Thiele) (aids : Aids) : Type 0 where
+  pub clones : AreClones tally.election.m tally.election.rows aids.clones
   pub columns : KeepsColumns tally aids.columns
   pub prices : IsPriced tally aids.prices
 

@@ -3,7 +3,8 @@ use Rattle.std.specs.Prelude.{fold}
 use Rattle.std.specs.List.{range_with_len}
 use Rattle.ballot_base.specs.Lists.{IsIncreasing}
 use Rattle.ballot_base.specs.Ballots.{Row}
-use Rattle.tie_families.specs.Steps.Tables.{AreClones, completed_by}
+use Rattle.ballot_base.specs.Clones.{AreClones}
+use Rattle.tie_families.specs.Steps.Tables.{completed_by}
 use Rattle.tie_families.proofs.clones.completed.Given as goal
 
 -- the set with those before x that it lacks

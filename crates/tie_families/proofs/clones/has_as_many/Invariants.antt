@@ -3,7 +3,7 @@ use Rattle.std.specs.Prelude.{nat_le}
 use Rattle.std.specs.List.{list_all, range_with_len}
 use Rattle.ballot_base.specs.Ballots.{Row}
 use Rattle.tie_families.specs.Clones.{clone_count}
-use Rattle.tie_families.specs.Steps.Tables.{AreClones}
+use Rattle.ballot_base.specs.Clones.{AreClones}
 use Rattle.tie_families.proofs.clones.has_as_many.Given as goal
 
 -- the set has as many clones of each candidate before c

@@ -2,7 +2,7 @@ use Rattle.std.proofs.Common.{◌≡◌, List, false, length, take}
 use Rattle.std.specs.List.{list_any, zip}
 use Rattle.ballot_base.specs.Ballots.{Row}
 use Rattle.tie_families.specs.Clones.{is_between}
-use Rattle.tie_families.specs.Steps.Tables.{AreClones}
+use Rattle.ballot_base.specs.Clones.{AreClones}
 use Rattle.tie_families.proofs.families.is_in_some.Given as goal
 
 -- none of the families so far has one

@@ -3,7 +3,7 @@ use Rattle.std.specs.Prelude.{fold}
 use Rattle.std.proofs.lemmas.Bool.{both_ways}
 use Rattle.tie_walk.specs.Steps.Choices.{worth, better, worst, open_candidates}
 use Rattle.tie_families.specs.Steps.Levels.{has_settled, ties, tied_worth}
-use Rattle.tie_families.specs.Steps.Tables.{AreClones}
+use Rattle.ballot_base.specs.Clones.{AreClones}
 use Rattle.tie_families.proofs.StepLemmas.{settled-is, worths-are, none-unsettled}
 use Rattle.tie_families.proofs.levels.ties_and_end.Goals as goal
 use Rattle.tie_families.proofs.levels.ties_and_end.Goals.{then-is_settled, else-is_settled}

@@ -1,11 +1,12 @@
-use Rattle.std.proofs.Common.{◌≡◌, ◌+◌, ◌∙◌, true, ap, arith, get_or}
+use Rattle.std.proofs.Common.{◌≡◌, ◌+◌, ◌<◌, ◌≤◌, ◌∙◌, true, ap, arith, get_or, length}
 use Rattle.ballot_base.specs.Increments.{increments}
-use Rattle.ballot_base.specs.CandSet.{has_member, with_member, without_member}
+use Rattle.ballot_base.specs.CandSet.{has_member, other_members, with_member, without_member}
 use Rattle.tie_walk.specs.Sequences.{gain}
 use Rattle.tie_search.proofs.WholeLemmas.{value-with}
 use Rattle.tie_search.specs.Completions.{IsOpen, tally_value}
 use Rattle.tie_search.proofs.CompletionLemmas.{member-low, member-high, open-with, open-without, without-is, without-shorter}
-use Rattle.tie_search.proofs.SearchLemmas.{AreLeft, found-below, node-none, none-left, not-true, set-short, struck-out, value-most}
+use Rattle.tie_search.proofs.SearchLemmas.{AreLeft, found-below, node-none, none-left, not-true, set-short, value-most}
+use Rattle.tie_search.proofs.CloneLemmas.{class-are, clones-out, minus-is, minus-most, open-minus}
 use Rattle.tie_search.proofs.search.+descend.Goals as goal
 
 pub returns-then-value-least : goal.returns-then-value-least
@@ -67,58 +68,89 @@ descend-found-requires g t c κs within =
     ap (λ n. get_or c.gains_at-gains.result n 0) c.from.ensures ∙ c.gains_at-gains.ensures.gains next free in
     let value : c.args.value + get_or c.gains_at-gains.result c.from.result 0 ≡ tally_value c.args.tally.now (with_member c.args.set next) =
     omega (arith, gained, same, c.requires.value) in
-    (omega (arith, c.if-left-eq0.false, c.decreases), (within, (c.requires.aids, (rw (c.with.ensures, c.without-rest.ensures) opened, rw c.with.ensures value))))
+    (omega (arith, c.if-left-eq0.false, c.decreases), (within, (c.requires.aids, (rw (c.with.ensures, c.without-others.ensures) opened, rw c.with.ensures value))))
+
+pub clones_of-requires : goal.clones_of-requires
+clones_of-requires g t c =
+    omega (
+      arith,
+      c.valid.ensures.election.most,
+      member-high 1 c.args.tally.now.election.m c.loop-set.rest c.in_ok-next.next c.loop-set.invariant.opened.free_within c.in_ok-next.ensures,
+    )
 
 pub may_suffice-requires : goal.may_suffice-requires
 may_suffice-requires g t c =
-    rw c.without-rest.ensures (open-without c.args.tally.now.election.m c.args.set c.loop-set.rest c.in_ok-next.next c.loop-set.invariant.opened)
+    rw (c.minus-rest.ensures, c.without-others.ensures) (open-minus c.args.tally.now.election.m c.args.set (without_member c.loop-set.rest c.in_ok-next.next) c.clones_of.result
+    (open-without c.args.tally.now.election.m c.args.set c.loop-set.rest c.in_ok-next.next c.loop-set.invariant.opened))
 
 pub returns-then-not-may_suffice : goal.returns-then-not-may_suffice
 returns-then-not-may_suffice g t c =
     let rest = c.loop-set.rest in
     let next = c.in_ok-next.next in
-    let left_out : AreLeft (tally_value c.args.tally.now) c.args.tally.now.election.m c.args.set c.args.left c.args.least c.args.free (without_member rest next) =
-    struck-out (tally_value c.args.tally.now) c.args.tally.now.election.m c.args.set c.args.left c.args.least c.args.free rest next
-    (omega (arith, c.if-left-eq0.false)) c.loop-set.invariant.opened c.in_ok-next.ensures c.loop-set.invariant.kept
-    (rw (c.with.ensures, c.without-rest.ensures) at c.in_default.ensures) in
-    none-left (tally_value c.args.tally.now) c.args.tally.now.election.m c.args.set c.args.left c.args.least c.args.free (without_member rest next) left_out
-    (rw c.without-rest.ensures at (c.may_suffice.ensures c.if-not-may_suffice.true c.args.left))
+    let opened = c.loop-set.invariant.opened in
+    let m = c.args.tally.now.election.m in
+    let low : 1 ≤ next = member-low 1 m rest next opened.free_within c.in_ok-next.ensures in
+    let high : next ≤ m = member-high 1 m rest next opened.free_within c.in_ok-next.ensures in
+    let are = class-are m c.args.tally.now.election.rows next c.clones_of.result
+    (c.clones_of.ensures m c.args.tally.now.election.rows c.requires.aids.clones low high c.valid.ensures.election.most) in
+    let left_out : AreLeft (tally_value c.args.tally.now) m c.args.set c.args.left c.args.least c.args.free (other_members (without_member rest next) c.clones_of.result) =
+    clones-out c.args.tally.now c.args.set c.args.left c.args.least c.args.free rest c.clones_of.result next c.valid.ensures.election
+    (omega (arith, c.if-left-eq0.false)) opened c.in_ok-next.ensures are c.loop-set.invariant.kept
+    (rw (c.with.ensures, c.without-others.ensures) at c.in_default.ensures) in
+    none-left (tally_value c.args.tally.now) c.args.tally.now.election.m c.args.set c.args.left c.args.least c.args.free (other_members (without_member rest next) c.clones_of.result) left_out
+    (rw (c.minus-rest.ensures, c.without-others.ensures) at (c.may_suffice.ensures c.if-not-may_suffice.true c.args.left))
 
 pub may_afford-requires-in-loop-set-clause-opened : goal.may_afford-requires-in-loop-set-clause-opened
 may_afford-requires-in-loop-set-clause-opened g t c =
-    rw c.without-rest.ensures (open-without c.args.tally.now.election.m c.args.set c.loop-set.rest c.in_ok-next.next c.loop-set.invariant.opened)
+    rw (c.minus-rest.ensures, c.without-others.ensures) (open-minus c.args.tally.now.election.m c.args.set (without_member c.loop-set.rest c.in_ok-next.next) c.clones_of.result
+    (open-without c.args.tally.now.election.m c.args.set c.loop-set.rest c.in_ok-next.next c.loop-set.invariant.opened))
 
 pub returns-then-not-may_afford-2 : goal.returns-then-not-may_afford-2
 returns-then-not-may_afford-2 g t c =
     let rest = c.loop-set.rest in
     let next = c.in_ok-next.next in
-    let left_out : AreLeft (tally_value c.args.tally.now) c.args.tally.now.election.m c.args.set c.args.left c.args.least c.args.free (without_member rest next) =
-    struck-out (tally_value c.args.tally.now) c.args.tally.now.election.m c.args.set c.args.left c.args.least c.args.free rest next
-    (omega (arith, c.if-left-eq0.false)) c.loop-set.invariant.opened c.in_ok-next.ensures c.loop-set.invariant.kept
-    (rw (c.with.ensures, c.without-rest.ensures) at c.in_default.ensures) in
-    none-left (tally_value c.args.tally.now) c.args.tally.now.election.m c.args.set c.args.left c.args.least c.args.free (without_member rest next) left_out
-    (rw c.without-rest.ensures at (c.may_afford-in-loop-set.ensures c.if-not-may_afford-2.true))
+    let opened = c.loop-set.invariant.opened in
+    let m = c.args.tally.now.election.m in
+    let low : 1 ≤ next = member-low 1 m rest next opened.free_within c.in_ok-next.ensures in
+    let high : next ≤ m = member-high 1 m rest next opened.free_within c.in_ok-next.ensures in
+    let are = class-are m c.args.tally.now.election.rows next c.clones_of.result
+    (c.clones_of.ensures m c.args.tally.now.election.rows c.requires.aids.clones low high c.valid.ensures.election.most) in
+    let left_out : AreLeft (tally_value c.args.tally.now) m c.args.set c.args.left c.args.least c.args.free (other_members (without_member rest next) c.clones_of.result) =
+    clones-out c.args.tally.now c.args.set c.args.left c.args.least c.args.free rest c.clones_of.result next c.valid.ensures.election
+    (omega (arith, c.if-left-eq0.false)) opened c.in_ok-next.ensures are c.loop-set.invariant.kept
+    (rw (c.with.ensures, c.without-others.ensures) at c.in_default.ensures) in
+    none-left (tally_value c.args.tally.now) c.args.tally.now.election.m c.args.set c.args.left c.args.least c.args.free (other_members (without_member rest next) c.clones_of.result) left_out
+    (rw (c.minus-rest.ensures, c.without-others.ensures) at (c.may_afford-in-loop-set.ensures c.if-not-may_afford-2.true))
 
 pub returns-in-Some : goal.returns-in-Some
 returns-in-Some g t c =
     found-below (tally_value c.args.tally.now) c.args.tally.now.election.m c.args.set c.args.left c.args.least c.args.free c.loop-set.rest c.in-Some.committee c.in_ok-next.next
     (omega (arith, c.if-left-eq0.false)) c.requires.opened (c.loop-set.invariant.among c.in_ok-next.next c.in_ok-next.ensures) c.loop-set.invariant.among
-    (rw (c.with.ensures, c.without-rest.ensures) at c.in-Some.ensures)
+    (rw (c.with.ensures, c.without-others.ensures) at c.in-Some.ensures)
 
 pub loop-set-smaller : goal.loop-set-smaller
-loop-set-smaller g t c = rw c.without-rest.ensures (without-shorter c.loop-set.rest c.in_ok-next.next c.in_ok-next.ensures)
+loop-set-smaller g t c =
+    let fewer = minus-most (without_member c.loop-set.rest c.in_ok-next.next) c.clones_of.result in
+    let short = without-shorter c.loop-set.rest c.in_ok-next.next c.in_ok-next.ensures in
+    rw (c.minus-rest.ensures, c.without-others.ensures) (omega (arith, fewer, short))
 
 pub loop-set-preserved : goal.loop-set-preserved
 loop-set-preserved g t c =
     let rest = c.loop-set.rest in
     let next = c.in_ok-next.next in
-    let left_out : AreLeft (tally_value c.args.tally.now) c.args.tally.now.election.m c.args.set c.args.left c.args.least c.args.free (without_member rest next) =
-    struck-out (tally_value c.args.tally.now) c.args.tally.now.election.m c.args.set c.args.left c.args.least c.args.free rest next
-    (omega (arith, c.if-left-eq0.false)) c.loop-set.invariant.opened c.in_ok-next.ensures c.loop-set.invariant.kept
-    (rw (c.with.ensures, c.without-rest.ensures) at c.in_default.ensures) in
-    rw c.without-rest.ensures record {
-      opened = open-without c.args.tally.now.election.m c.args.set rest next c.loop-set.invariant.opened;
-      among = λ n h. c.loop-set.invariant.among n (without-is rest next n h);
+    let opened = c.loop-set.invariant.opened in
+    let m = c.args.tally.now.election.m in
+    let low : 1 ≤ next = member-low 1 m rest next opened.free_within c.in_ok-next.ensures in
+    let high : next ≤ m = member-high 1 m rest next opened.free_within c.in_ok-next.ensures in
+    let are = class-are m c.args.tally.now.election.rows next c.clones_of.result
+    (c.clones_of.ensures m c.args.tally.now.election.rows c.requires.aids.clones low high c.valid.ensures.election.most) in
+    let left_out : AreLeft (tally_value c.args.tally.now) m c.args.set c.args.left c.args.least c.args.free (other_members (without_member rest next) c.clones_of.result) =
+    clones-out c.args.tally.now c.args.set c.args.left c.args.least c.args.free rest c.clones_of.result next c.valid.ensures.election
+    (omega (arith, c.if-left-eq0.false)) opened c.in_ok-next.ensures are c.loop-set.invariant.kept
+    (rw (c.with.ensures, c.without-others.ensures) at c.in_default.ensures) in
+    rw (c.minus-rest.ensures, c.without-others.ensures) record {
+      opened = open-minus m c.args.set (without_member rest next) c.clones_of.result (open-without m c.args.set rest next opened);
+      among = λ n h. c.loop-set.invariant.among n (without-is rest next n (minus-is (without_member rest next) c.clones_of.result n h));
       kept = left_out;
     }
 

@@ -2,7 +2,7 @@ use Rattle.std.proofs.Common.{◌≡◌, ◌+◌, ◌∙◌, ℕ, cond, sym, ap,
 use Rattle.std.proofs.lemmas.Bool.{ne_eqb}
 use Rattle.tie_walk.specs.Ceilings.{IsBound}
 use Rattle.tie_families.specs.Families.{Sequential, sequential_of, is_winner, some_winner}
-use Rattle.tie_families.specs.Steps.Tables.{AreClones}
+use Rattle.ballot_base.specs.Clones.{AreClones}
 use Rattle.tie_families.proofs.ValueLemmas.{byte-is, some-other, bound-wins, bound-law, list-candidates}
 use Rattle.tie_families.proofs.families.FamiliesTally.bound.Goals as goal
 use Rattle.tie_families.proofs.families.FamiliesTally.bound.Goals.{then-len-left, else-len-left}

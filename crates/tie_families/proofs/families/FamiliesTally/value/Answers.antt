@@ -2,7 +2,7 @@ use Rattle.std.proofs.Common.{◌≡◌, ◌∙◌, ℕ, cond, sym, ap, subst, a
 use Rattle.std.proofs.lemmas.Bool.{ne_eqb}
 use Rattle.ballot_base.specs.Lists.{IsIncreasing}
 use Rattle.tie_families.specs.Families.{Sequential, sequential_of, is_winner}
-use Rattle.tie_families.specs.Steps.Tables.{AreClones}
+use Rattle.ballot_base.specs.Clones.{AreClones}
 use Rattle.tie_families.proofs.ValueLemmas.{byte-is, other-size, value-wins, list-candidates}
 use Rattle.tie_families.proofs.families.FamiliesTally.value.Goals as goal
 use Rattle.tie_families.proofs.families.FamiliesTally.value.Goals.{then-len-self, else-len-self}

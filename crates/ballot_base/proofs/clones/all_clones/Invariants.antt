@@ -1,7 +1,7 @@
 use Rattle.std.proofs.Common.{◌≡◌, ℕ, ◌+◌, ◌<◌, ◌≤◌, [], length, get_or}
 use Rattle.ballot_base.specs.Limits.{most_candidates}
-use Rattle.tie_families.specs.Clones.{clones_among}
-use Rattle.tie_families.proofs.clones.all_clones.Given as goal
+use Rattle.ballot_base.specs.Clones.{clones_among}
+use Rattle.ballot_base.proofs.clones.all_clones.Given as goal
 
 -- the clones of those before c are in their places
 abbrev pub invariant-loop-c : goal.invariant-loop-c

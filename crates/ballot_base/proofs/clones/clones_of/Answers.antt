@@ -4,9 +4,9 @@ use Rattle.std.proofs.lemmas.List.{length_push}
 use Rattle.ballot_base.specs.Ballots.{Row}
 use Rattle.ballot_base.specs.CandSet.{common_members, other_members}
 use Rattle.ballot_base.proofs.Turns.{row_of_turn, all_passed}
-use Rattle.tie_families.specs.Clones.{are_clones, clones_among}
-use Rattle.tie_families.proofs.TableLemmas.{clones-none, clones-approved, clones-other}
-use Rattle.tie_families.proofs.clones.clones_of.Goals as goal
+use Rattle.ballot_base.specs.Clones.{are_clones, clones_among}
+use Rattle.ballot_base.proofs.CloneLemmas.{clones-none, clones-approved, clones-other}
+use Rattle.ballot_base.proofs.clones.clones_of.Goals as goal
 
 pub loop-ballot-init : goal.loop-ballot-init
 loop-ballot-init g c =

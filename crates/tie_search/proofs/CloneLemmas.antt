@@ -1,0 +1,177 @@
+-- A candidate who was tried takes the place of a clone.
+use Rattle.std.proofs.Common.{◌≡◌, ℕ, ◌+◌, ◌-◌, ◌*◌, ◌<◌, ◌≤◌, ◌==◌, ◌&&◌, ◌||◌, ◌∙◌, Bool, true, false, cond, not, List, [], ◌∷◌, refl, sym, ap, arith, inl, inr, length, filter}
+use Rattle.std.specs.Prelude.{sum_by}
+use Rattle.std.specs.List.{AllByRecursion}
+use Rattle.std.proofs.lemmas.Bool.{cases_Bool, cases_eq, eq-eqb, ne_eqb, eqb-true}
+use Rattle.ballot_base.specs.Lists.{IsIncreasing}
+use Rattle.ballot_base.specs.CandSet.{has_member, other_members, with_member, without_member}
+use Rattle.ballot_base.specs.Ballots.{Row, IsElection, hits}
+use Rattle.ballot_base.specs.Clones.{are_clones, clones_among}
+use Rattle.ballot_base.specs.Increments.{increments}
+use Rattle.ballot_base.proofs.CloneLemmas.{clones-same, clones_among-are}
+use Rattle.ballot_base.proofs.Increasing.{IsIncreasing-filter, IsIncreasing-with_member, has_member-filter, has_member-with_member, same_increasing}
+use Rattle.tie_walk.specs.Sequences.{gain, supporters, weight}
+use Rattle.tie_walk.specs.Values.{Thiele}
+use Rattle.tie_search.specs.Completions.{IsCompletion, IsOpen, IsOutOfReach, tally_value}
+use Rattle.tie_search.proofs.CompletionLemmas.{completion-with, filter-most, member-high, member-low, member-without, with-longer, without-is}
+use Rattle.tie_search.proofs.SearchLemmas.{AreLeft, struck-out}
+use Rattle.tie_search.proofs.WholeLemmas.{value-with}
+
+-- ---- values
+
+supporters-same : (rows : List Row) (c d : ℕ) → AllByRecursion (λ (row : Row). has_member row.0 c ≡ has_member row.0 d) rows → supporters rows c ≡ supporters rows d
+supporters-same [] c d same = refl
+supporters-same (row ∷ rows) c d same =
+    ap (λ b. cond b (row ∷ supporters rows c) (supporters rows c)) same.0
+    ∙ ap (λ l. cond (has_member row.0 d) (row ∷ l) l) (supporters-same rows c d same.1)
+
+gain-same : (weights : List ℕ) (rows : List Row) (set : List ℕ) (c d : ℕ) → are_clones rows c d ≡ true → gain weights rows set c ≡ gain weights rows set d
+gain-same weights rows set c d are =
+    ap (sum_by (λ (row : Row). row.1 * weight weights (hits row.0 set + 1))) (supporters-same rows c d (clones-same rows c d are))
+
+itself : (n : ℕ) → (n == n) ≡ true
+itself n = eq-eqb n n refl
+
+gone : (set : List ℕ) (n : ℕ) → has_member (without_member set n) n ≡ false
+gone set n = member-without set n n ∙ ap (λ b. not b && has_member set n) (itself n)
+
+-- a member that is taken out comes back
+back : (m : ℕ) (set : List ℕ) (n : ℕ) → IsIncreasing 1 m set → has_member set n ≡ true → with_member (without_member set n) n ≡ set
+back m set n up here =
+    same_increasing 1 m (with_member (without_member set n) n) set
+    (IsIncreasing-with_member 1 m (without_member set n) n (member-low 1 m set n up here) (member-high 1 m set n up here) (IsIncreasing-filter (λ x. not (x == n)) 1 m set up)) up
+    (λ x. has_member-with_member (without_member set n) n x ∙ ap (λ b. (n == x) || b) (member-without set n x) ∙ each x)
+  where
+    each : (x : ℕ) → ((n == x) || (not (x == n) && has_member set x)) ≡ has_member set x
+    each x = elim (cases_eq x n) [
+      | inl same ↦ ap (λ b. b || (not (x == n) && has_member set x)) (eq-eqb n x (sym same)) ∙ sym (ap (has_member set) same ∙ here)
+      | inr other ↦ ap (λ b. b || (not (x == n) && has_member set x)) (ne_eqb n x (λ e. other (sym e))) ∙ ap (λ b. not b && has_member set x) (ne_eqb x n other)
+    ]
+
+-- a committee with c in the place of d
+abbrev pub exchanged : List ℕ → ℕ → ℕ → List ℕ
+exchanged committee c d = with_member (without_member committee d) c
+
+module _ (m : ℕ) (committee : List ℕ) (c d : ℕ) (up : IsIncreasing 1 m committee) (here : has_member committee d ≡ true) (out : has_member committee c ≡ false) where
+  abbrev less : List ℕ
+  less = without_member committee d
+
+  less-up : IsIncreasing 1 m less
+  less-up = IsIncreasing-filter (λ x. not (x == d)) 1 m committee up
+
+  less-out : has_member less c ≡ false
+  less-out = member-without committee d c ∙ ap (λ b. not (c == d) && b) out ∙ and-false (not (c == d))
+    where
+      and-false : (b : Bool) → (b && false) ≡ false
+      and-false true = refl
+      and-false false = refl
+
+  -- it is worth the same where they are clones
+  pub value-exchanged : (tally : Thiele) → IsElection tally.election → are_clones tally.election.rows c d ≡ true → tally_value tally (exchanged committee c d) ≡ tally_value tally committee
+  value-exchanged tally valid are =
+      omega (
+        arith,
+        value-with tally less c valid less-out,
+        value-with tally less d valid (gone committee d),
+        gain-same (increments tally.rule tally.k) tally.election.rows less c d are,
+        ap (tally_value tally) (back m committee d up here),
+      )
+
+  -- and as large
+  exchanged-size : 1 ≤ c → c ≤ m → length (exchanged committee c d) ≡ length committee
+  exchanged-size low high =
+      omega (
+        arith,
+        with-longer m less c less-up low high less-out,
+        with-longer m less d less-up (member-low 1 m committee d up here) (member-high 1 m committee d up here) (gone committee d),
+        ap length (back m committee d up here),
+      )
+
+  -- it completes the same set, if c is free and d is no member of the set
+  pub completion-exchanged : (set free : List ℕ) (left : ℕ) → IsOpen m set free → has_member free c ≡ true → has_member set d ≡ false → IsCompletion m set free left committee
+      → IsCompletion m set free left (exchanged committee c d)
+  completion-exchanged set free left open' is_free not_in whole = record {
+    candidates = IsIncreasing-with_member 1 m less c low high less-up;
+    whole = λ x is. has_member-with_member less c x ∙ or-right (c == x) (has_member less x) (stays x (whole.whole x is) (λ same. let e : true ≡ false = sym is ∙ ap (has_member set) same ∙ not_in in cc));
+    within = λ x is. elim (cases_eq x c) [
+      | inl same ↦ or-right (has_member set x) (has_member free x) (ap (has_member free) same ∙ is_free)
+      | inr other ↦ whole.within x (without-is committee d x (sym (has_member-with_member less c x ∙ ap (λ b. b || has_member less x) (ne_eqb c x (λ e. other (sym e)))) ∙ is))
+    ];
+    size = exchanged-size low high ∙ whole.size;
+  }
+    where
+      low : 1 ≤ c
+      low = member-low 1 m free c open'.free_within is_free
+
+      high : c ≤ m
+      high = member-high 1 m free c open'.free_within is_free
+
+      or-right : (p q : Bool) → q ≡ true → (p || q) ≡ true
+      or-right true q h = refl
+      or-right false q h = h
+
+      stays : (x : ℕ) → has_member committee x ≡ true → (x ≡ d → ⊥) → has_member less x ≡ true
+      stays x is other = member-without committee d x ∙ ap (λ b. not b && has_member committee x) (ne_eqb x d other) ∙ is
+
+-- ---- the search
+
+pub minus-is : (free clones : List ℕ) (x : ℕ) → has_member (other_members free clones) x ≡ true → has_member free x ≡ true
+minus-is free clones x is = both (not (has_member clones x)) (has_member free x) (sym (has_member-filter (λ y. not (has_member clones y)) free x) ∙ is)
+  where
+    both : (p q : Bool) → (p && q) ≡ true → q ≡ true
+    both true q h = h
+    both false q h = absurd cc
+
+pub open-minus : (m : ℕ) (set free clones : List ℕ) → IsOpen m set free → IsOpen m set (other_members free clones)
+open-minus m set free clones open' = record {
+  set_within = open'.set_within;
+  free_within = IsIncreasing-filter (λ x. not (has_member clones x)) 1 m free open'.free_within;
+  apart = λ x is. open'.apart x (minus-is free clones x is);
+}
+
+pub minus-most : (free clones : List ℕ) → length (other_members free clones) ≤ length free
+minus-most free clones = filter-most (λ x. not (has_member clones x)) free
+
+-- those of its class are clones of a candidate
+pub class-are : (m : ℕ) (rows : List Row) (c : ℕ) (clones : List ℕ) → clones ≡ clones_among m rows c → (d : ℕ) → has_member clones d ≡ true → are_clones rows c d ≡ true
+class-are m rows c clones is d h = clones_among-are m rows c d (sym (ap (λ l. has_member l d) is) ∙ h)
+
+-- A candidate was tried and is struck out, with its clones: a committee with one of them reaches the value only if the
+-- one with the candidate in its place does.
+pub clones-out : (tally : Thiele) (set : List ℕ) (left least : ℕ) (free rest clones : List ℕ) (c : ℕ) → IsElection tally.election → 1 ≤ left → IsOpen tally.election.m set rest → has_member rest c ≡ true
+    → ((d : ℕ) → has_member clones d ≡ true → are_clones tally.election.rows c d ≡ true) → AreLeft (tally_value tally) tally.election.m set left least free rest
+    → IsOutOfReach (tally_value tally) tally.election.m (with_member set c) (without_member rest c) (left - 1) least
+    → AreLeft (tally_value tally) tally.election.m set left least free (other_members (without_member rest c) clones)
+clones-out tally set left least free rest clones c valid some open' here are left_ none committee whole reaches = record {
+  candidates = now.candidates;
+  whole = now.whole;
+  within = λ x is. go x (has_member set x) refl (has_member clones x) refl is;
+  size = now.size;
+}
+  where
+    before : IsCompletion tally.election.m set rest left committee
+    before = left_ committee whole reaches
+
+    now : IsCompletion tally.election.m set (without_member rest c) left committee
+    now = struck-out (tally_value tally) tally.election.m set left least free rest c some open' here left_ none committee whole reaches
+
+    out : has_member committee c ≡ false
+    out = elim (cases_Bool (has_member committee c)) [
+      | inl is ↦ absurd (let e : false ≡ true = sym (ap (λ b. b || has_member (without_member rest c) c) (open'.apart c here) ∙ gone rest c) ∙ now.within c is in cc)
+      | inr is ↦ is
+    ]
+
+    -- no clone is in it but those of the set
+    no-clone : (x : ℕ) → has_member set x ≡ false → has_member clones x ≡ true → has_member committee x ≡ true → ⊥
+    no-clone x not_in clone is =
+        let swap = completion-exchanged tally.election.m committee c x now.candidates is out set rest left open' here not_in before in
+        let with_c : has_member (exchanged committee c x) c ≡ true = has_member-with_member (without_member committee x) c c ∙ ap (λ b. b || has_member (without_member committee x) c) (itself c) in
+        let less = none (exchanged committee c x) (completion-with tally.election.m set rest left c open' here (exchanged committee c x) some swap with_c) in
+        omega (arith, less, reaches, value-exchanged tally.election.m committee c x now.candidates is out tally valid (are x clone))
+
+    go : (x : ℕ) (b : Bool) → has_member set x ≡ b → (k : Bool) → has_member clones x ≡ k → has_member committee x ≡ true → (has_member set x || has_member (other_members (without_member rest c) clones) x) ≡ true
+    go x true in_ k clone is = ap (λ b. b || has_member (other_members (without_member rest c) clones) x) in_
+    go x false not_in true clone is = absurd (no-clone x not_in clone is)
+    go x false not_in false clone is =
+        ap (λ b. has_member set x || b) (has_member-filter (λ y. not (has_member clones y)) (without_member rest c) x ∙ ap (λ b. not b && has_member (without_member rest c) x) clone)
+        ∙ now.within x is
