@@ -11,8 +11,7 @@ ghost use Rattle.tie_walk.specs.Steps.Choices.{change, worth, better, worst, ope
 ghost use Rattle.ballot_base.specs.Clones.{AreClones};
 ghost use Rattle.tie_families.specs.Steps.Levels.{is_first_open, has_settled, ties, tied_worth, shares_no_voter, end, chosen, family_changes, other_end, IsFalling, IsStrict, IsFamilyLevel, IsNextFamilies, AreFamilies};
 
-use crate::clones::Clones;
-use ballot_base::{CandSet, Profile};
+use ballot_base::{CandSet, Clones, Profile};
 use indexmap::IndexSet;
 use std::alloc::{AllocError, Allocator};
 use std::hash::{BuildHasherDefault, FoldHasher};

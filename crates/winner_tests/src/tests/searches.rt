@@ -27,7 +27,7 @@ fn assert_same(rt: &impl Abort, profile: &Profile, rule: ThieleRule, k: u8)
 }
 
 /// Asserts the same of each rule and size.
-fn assert_all_same(rt: &impl Abort, profile: &Profile)
+pub(super) fn assert_all_same(rt: &impl Abort, profile: &Profile)
     requires { profile.now.m ≤ most_members }
 {
     let m = profile.m();
