@@ -1,6 +1,6 @@
 -- Each definition of the walk, computed on a small example: the pairs of three candidates, where the value of a committee
 -- is the sum of its members.
-use Rattle.std.proofs.Common.{◌≡◌, ℕ, ◌+◌, ◌*◌, List, [], ◌∷◌, true, false, refl, lit≤, lit<, Some, None, sum, arith}
+use Rattle.std.proofs.Common.{◌≡◌, ℕ, ◌+◌, ◌*◌, List, [], ◌∷◌, true, false, refl, lit≤, lit<, Some, None, sum}
 use Rattle.ballot_base.specs.Lists.{lists_of}
 use Rattle.tie_walk.specs.Steps.Walks.{committees_below, committees_after, committees_from, IsPlace, IsPast, work_left, IsFound, those_reaching, open_below, open_after, open_from, IsStride, is_alive, waits_at, waits_after, waits_from, IsWait, IsRaised, IsBegun, IsCounted, IsKnown, IsWalk}
 use Rattle.tie_walk.specs.declared.prefix.Prefix.{Prefix}
@@ -139,7 +139,7 @@ begun_with_one : IsBegun sum bound_of_three 3 2 5 None first_with_one
 unfolding lists_of bound_of_three with_one one_entered first_with_one
 begun_with_one = record { next = refl; place = (lit≤ tt, (lit≤ tt, lit≤ tt, tt), lit≤ tt); counted = counted_with_one }
 
-walk_of_pairs : IsWalk sum bound_of_three 3 3 2 5 None first_with_one (None ∷ [])
+walk_of_pairs : IsWalk bound_of_three 3 3 2 5 None first_with_one (None ∷ [])
 unfolding lists_of bound_of_three with_one one_entered first_with_one
 walk_of_pairs = record {
   candidates_are = refl;
@@ -154,6 +154,6 @@ no_candidate_upto_one : Known
 no_candidate_upto_one = record { set = []; first = 1; last = 1 }
 
 -- a bound of 5 where there is no candidate yet
-known_of_one : IsKnown sum (λ c set left. 5) 3 2 5 (Some no_candidate_upto_one)
+known_of_one : IsKnown (λ c set left. 5) 3 2 5 (Some no_candidate_upto_one)
 unfolding no_candidate_upto_one
-known_of_one = record { low = lit≤ tt; high = lit≤ tt; reached = λ n low high. lit≤ tt; next = λ more. absurd (omega (arith, more)) }
+known_of_one = record { low = lit≤ tt; high = lit≤ tt; reached = λ n low high. lit≤ tt }

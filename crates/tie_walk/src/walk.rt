@@ -25,8 +25,7 @@ pub(crate) struct Walk {
     pub(crate) counts: Counts,
 }
 
-/// What is known of the bounds of a set: those of the prefixes from `first` up to `last` reach the best value, and that
-/// of the next one does not.
+/// What is known of the bounds of a set: those of the prefixes from `first` up to `last` reach the best value.
 #[derive(Clone, Copy)]
 pub(crate) struct Known {
     set: CandSet,
@@ -40,7 +39,7 @@ pub(crate) type Levels = [Option<Known>; PLACES];
 
 /// Nothing is known.
 pub(crate) fn no_levels() -> Levels
-    ensures { (value : List ℕ → ℕ) (bound : ℕ → List ℕ → ℕ → ℕ) (m k best : ℕ) → AreKnown value bound m k best result }
+    ensures { (bound : ℕ → List ℕ → ℕ → ℕ) (m k best : ℕ) → AreKnown bound m k best result }
 {
     [None; PLACES]
 }
@@ -61,19 +60,19 @@ fn reaches<T: Tally>(
     requires place { IsPlace m k (Some prefix) }
     requires room { k ≤ length prefix.set + (m - prefix.c) }
     requires fits { ceilings.old < 2 ^ 127 }
-    requires known { AreKnown (T.value_of tally.now) (T.bound_of tally.now) m k best levels.old }
+    requires known { AreKnown (T.bound_of tally.now) m k best levels.old }
     ensures count { ceilings.new ≡ ceilings.old + 1 }
     ensures reached { result ≡ true → best ≤ T.bound_of tally.now prefix.c prefix.set (k - length prefix.set) }
     ensures short { result ≡ false → IsShort (T.value_of tally.now) (T.bound_of tally.now) m prefix.set
         (k - length prefix.set) best prefix.c }
-    ensures known { AreKnown (T.value_of tally.now) (T.bound_of tally.now) m k best levels.new }
+    ensures known { AreKnown (T.bound_of tally.now) m k best levels.new }
 {
     *ceilings += 1;
     let Prefix { c, set } = prefix;
     let len = set.len();
     if let Some(known) = levels[usize::from(len)] {
-        if known.set == set && known.first <= c && c <= known.last + 1 {
-            return c <= known.last;
+        if known.set == set && known.first <= c && c <= known.last {
+            return true;
         }
     }
     let Some(last) = tally.reach(c, set, k - len, best) else {
@@ -100,12 +99,12 @@ fn enter<T: Tally>(
     requires place { IsPlace m k (Some prefix) }
     requires fits { counts.old.entered < 2 ^ 127 }
     requires asks { counts.old.ceilings < 2 ^ 127 }
-    requires known { AreKnown (T.value_of tally.now) (T.bound_of tally.now) m k best levels.old }
+    requires known { AreKnown (T.bound_of tally.now) m k best levels.old }
     ensures open { result ≡ is_open (T.bound_of tally.now) m k best prefix.c prefix.set }
     ensures entered { counts.new.entered ≡ counts.old.entered + (if result then 1 else 0) }
     ensures asked { counts.old.ceilings + (if result then 1 else 0) ≤ counts.new.ceilings }
     ensures once { counts.new.ceilings ≤ counts.old.ceilings + 1 }
-    ensures known { AreKnown (T.value_of tally.now) (T.bound_of tally.now) m k best levels.new }
+    ensures known { AreKnown (T.bound_of tally.now) m k best levels.new }
     ensures none { result ≡ false
         → those_reaching (T.value_of tally.now) best (committees_below m k prefix.c prefix.set) ≡ [] }
 {
@@ -160,7 +159,7 @@ fn visit<T: Tally>(
     requires place { IsPlace m k (Some prefix) }
     requires fits { counts.entered < 2 ^ 127 }
     requires asks { counts.ceilings + work_left m (Some prefix) < 2 ^ 127 }
-    requires known { AreKnown (T.value_of tally.now) (T.bound_of tally.now) m k best levels.old }
+    requires known { AreKnown (T.bound_of tally.now) m k best levels.old }
     ensures stride { IsStride (T.value_of tally.now) (T.bound_of tally.now) m k best (Some prefix)
         counts.entered result.0 result.1 }
     ensures raised { IsRaised m (Some prefix) counts result.1 }
@@ -168,7 +167,7 @@ fn visit<T: Tally>(
         → IsWait (T.value_of tally.now) m k best (Some prefix) counts result.0 result.1 }
     ensures work { work_left m result.1.place < work_left m (Some prefix) }
     ensures early { prefix.c < m → result.0 ≡ None }
-    ensures known { AreKnown (T.value_of tally.now) (T.bound_of tally.now) m k best levels.new }
+    ensures known { AreKnown (T.bound_of tally.now) m k best levels.new }
 {
     let Prefix { c, set } = prefix;
     if !enter(tally, m, k, best, Prefix { c, set }, &mut counts, levels) {
@@ -201,14 +200,14 @@ pub(crate) fn next_winner<T: Tally>(
     requires place { IsPlace m k from.place }
     requires fits { from.counts.entered + open_from (T.bound_of tally.now) m k best from.place < 2 ^ 127 }
     requires asks { from.counts.ceilings + work_left m from.place < 2 ^ 127 }
-    requires known { AreKnown (T.value_of tally.now) (T.bound_of tally.now) m k best levels.old }
+    requires known { AreKnown (T.bound_of tally.now) m k best levels.old }
     ensures stride { IsStride (T.value_of tally.now) (T.bound_of tally.now) m k best from.place
         from.counts.entered result.0 result.1 }
     ensures raised { IsRaised m from.place from.counts result.1 }
     ensures wait { IsExactAtBest (T.value_of tally.now) (T.bound_of tally.now) m k best
         → result.1.counts.ceilings ≤ from.counts.ceilings + 4 * m }
     ensures end { result.0 ≡ None → result.1.place ≡ None }
-    ensures known { AreKnown (T.value_of tally.now) (T.bound_of tally.now) m k best levels.new }
+    ensures known { AreKnown (T.bound_of tally.now) m k best levels.new }
 {
     let Walk {
         mut place,
@@ -242,9 +241,9 @@ pub(crate) fn begin<T: Tally>(tally: &T, m: u8, k: u8, best: u128, levels: &mut 
     requires most { m ≤ most_candidates }
     requires some { 1 ≤ k }
     requires fits { k ≤ m }
-    requires known { AreKnown (T.value_of tally.now) (T.bound_of tally.now) m k best levels.old }
+    requires known { AreKnown (T.bound_of tally.now) m k best levels.old }
     ensures begun { IsBegun (T.value_of tally.now) (T.bound_of tally.now) m k best None result }
-    ensures known { AreKnown (T.value_of tally.now) (T.bound_of tally.now) m k best levels.new }
+    ensures known { AreKnown (T.bound_of tally.now) m k best levels.new }
 {
     visit(tally, m, k, best, Prefix::root(), no_counts(), levels).1
 }
@@ -264,9 +263,9 @@ pub(crate) fn begin_after<T: Tally>(
     requires some { 1 ≤ k }
     requires fits { k ≤ m }
     requires start { IsStart m k (Some start) }
-    requires known { AreKnown (T.value_of tally.now) (T.bound_of tally.now) m k best levels.old }
+    requires known { AreKnown (T.bound_of tally.now) m k best levels.old }
     ensures begun { IsBegun (T.value_of tally.now) (T.bound_of tally.now) m k best (Some start) result }
-    ensures known { AreKnown (T.value_of tally.now) (T.bound_of tally.now) m k best levels.new }
+    ensures known { AreKnown (T.bound_of tally.now) m k best levels.new }
 {
     let mut counts = no_counts();
     for c in 0..m {

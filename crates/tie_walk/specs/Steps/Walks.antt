@@ -130,20 +130,19 @@ pub record IsBegun (value : List ℕ → ℕ) (bound : ℕ → List ℕ → ℕ 
   pub counted : IsCounted bound m k best after walk
 
 -- what is known of the bounds of a set for committees of k
-abbrev pub IsKnown : (List ℕ → ℕ) → (ℕ → List ℕ → ℕ → ℕ) → ℕ → ℕ → ℕ → Option Known → Type 0
-IsKnown value bound m k best None = ⊤
-IsKnown value bound m k best (Some known) =
-    IsReach value bound m known.set (k - length known.set) best known.first known.last
+abbrev pub IsKnown : (ℕ → List ℕ → ℕ → ℕ) → ℕ → ℕ → ℕ → Option Known → Type 0
+IsKnown bound m k best None = ⊤
+IsKnown bound m k best (Some known) = IsReach bound m known.set (k - length known.set) best known.first known.last
 
-abbrev pub AreKnown : (List ℕ → ℕ) → (ℕ → List ℕ → ℕ → ℕ) → ℕ → ℕ → ℕ → List (Option Known) → Type 0
-AreKnown value bound m k best levels = AllByRecursion (IsKnown value bound m k best) levels
+abbrev pub AreKnown : (ℕ → List ℕ → ℕ → ℕ) → ℕ → ℕ → ℕ → List (Option Known) → Type 0
+AreKnown bound m k best levels = AllByRecursion (IsKnown bound m k best) levels
 
 -- what is true of a walk over the winners among the committees of k of this many candidates
-pub record IsWalk (value : List ℕ → ℕ) (bound : ℕ → List ℕ → ℕ → ℕ) (candidates m k best : ℕ)
-    (after : Option (List ℕ)) (walk : Walk) (levels : List (Option Known)) : Type 0 where
+pub record IsWalk (bound : ℕ → List ℕ → ℕ → ℕ) (candidates m k best : ℕ) (after : Option (List ℕ)) (walk : Walk)
+    (levels : List (Option Known)) : Type 0 where
   pub candidates_are : m ≡ candidates
   pub some : 1 ≤ m
   pub most : m ≤ most_candidates
   pub place_is : IsPlace m k walk.place
   pub counted : IsCounted bound m k best after walk
-  pub known : AreKnown value bound m k best levels
+  pub known : AreKnown bound m k best levels

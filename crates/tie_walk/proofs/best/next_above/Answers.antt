@@ -14,7 +14,7 @@ next_winner-found-requires-clause-asks g c =
     omega (arith, c.no_counts.ensures.ceilings, work-most c.args.m c.args.k c.args.place c.requires.most c.requires.place)
 
 pub next_winner-found-requires-clause-known : goal.next_winner-found-requires-clause-known
-next_winner-found-requires-clause-known g c = c.no_levels-levels.ensures _ _ _ _ _
+next_winner-found-requires-clause-known g c = c.no_levels-levels.ensures _ _ _ _
 
 pub returns : goal.returns
 returns g c =

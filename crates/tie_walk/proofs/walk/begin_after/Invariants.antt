@@ -10,7 +10,7 @@ abbrev pub invariant-loop-c : goal.invariant-loop-c
 invariant-loop-c g l = record {
   entered : l.counts.entered ≡ l.c;
   ceilings : l.counts.ceilings ≡ l.c;
-  known : AreKnown (g.T.Tally.value_of l.tally) (g.T.Tally.bound_of l.tally) l.m l.k l.best l.levels;
+  known : AreKnown (g.T.Tally.bound_of l.tally) l.m l.k l.best l.levels;
   all : live_count (g.T.Tally.bound_of l.tally) l.m l.k l.best (Some l.start)
       ≤ l.c + live_below (g.T.Tally.bound_of l.tally) l.m l.k l.best (Some l.start) (l.m - l.c) l.c (members_upto l.start l.c)
       + open_after (g.T.Tally.bound_of l.tally) l.m l.k l.best [] (members_upto l.start l.c);

@@ -8,7 +8,7 @@ abbrev pub invariant-loop-place : goal.invariant-loop-place
 invariant-loop-place g l = record {
   place : IsPlace l.m l.k l.place;
   rest : those_reaching (g.T.Tally.value_of l.tally) l.best (committees_from l.m l.k l.fn.from.place) ≡ those_reaching (g.T.Tally.value_of l.tally) l.best (committees_from l.m l.k l.place);
-  known : AreKnown (g.T.Tally.value_of l.tally) (g.T.Tally.bound_of l.tally) l.m l.k l.best l.levels;
+  known : AreKnown (g.T.Tally.bound_of l.tally) l.m l.k l.best l.levels;
   entered : l.fn.from.counts.entered ≤ l.counts.entered;
   asked : l.counts.entered + l.fn.from.counts.ceilings ≤ l.fn.from.counts.entered + l.counts.ceilings;
   work : l.counts.ceilings + work_left l.m l.place ≤ l.fn.from.counts.ceilings + work_left l.m l.fn.from.place;

@@ -18,7 +18,7 @@ returns-in-None-clause-left g c =
     c.greatest_value-best.ensures c.begin.ensures.begun.next c.in-None.is
 
 pub begin_after-requires-clause-known : goal.begin_after-requires-clause-known
-begin_after-requires-clause-known g c = c.no_levels-levels.ensures _ _ _ _ _
+begin_after-requires-clause-known g c = c.no_levels-levels.ensures _ _ _ _
 
 pub begin-requires-clause-known : goal.begin-requires-clause-known
-begin-requires-clause-known g c = c.no_levels-levels.ensures _ _ _ _ _
+begin-requires-clause-known g c = c.no_levels-levels.ensures _ _ _ _
