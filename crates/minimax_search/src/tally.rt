@@ -170,18 +170,11 @@ impl<'a, A: Allocator + Copy> Tally for NearTally<'a, A> {
     }
 
     fn reach(&self, c: u8, set: CandSet, left: u8, best: u128) -> Option<u8> {
-        let m = self.profile.m();
-        let mut last = None;
-        let mut here = c;
-        while here + left <= m {
-            let next = self.reaching_upto(here, set, left, best);
-            if next == here {
-                return last;
-            }
-            last = Some(next - 1);
-            here = next;
+        let end = self.reaching_upto(c, set, left, best);
+        if end == c {
+            return None;
         }
-        last
+        Some(end - 1)
     }
 
     fn good_committee(&self, k: u8) -> Option<CandSet> {

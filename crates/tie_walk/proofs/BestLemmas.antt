@@ -13,7 +13,6 @@ use Rattle.tie_walk.specs.Ceilings.{IsBound}
 use Rattle.tie_walk.specs.Steps.Walks.{committees_below, committees_after, committees_from, IsPlace, IsFound, those_reaching, open_below, open_after, open_from}
 use Rattle.tie_walk.specs.declared.prefix.Prefix.{Prefix}
 use Rattle.tie_walk.specs.Winners.{best_value}
-use Rattle.tie_walk.proofs.OpenLemmas.{open-most}
 use Rattle.tie_walk.proofs.SequenceLemmas.{length-with_member, length-without_member}
 use Rattle.tie_walk.proofs.WalkLemmas.{below-bounded, from-root}
 use Rattle.tie_walk.proofs.WinnersLemmas.{greatest, greatest-low, greatest-most, greatest-next, greatest-first}
@@ -63,23 +62,6 @@ first-reaching P value least (x ∷ sets) rest set all is = elim (cases_Bool (na
       let later : those_reaching value least sets ≡ set ∷ rest = rw low at is in
       first-reaching P value least sets rest set all.1 later
 ]
-
--- ---- the prefixes from a place on are few enough to be counted
-
-module _ (bound : ℕ → List ℕ → ℕ → ℕ) (m k best : ℕ) where
-  below-few : (n : ℕ) (set : List ℕ) → m ≤ most_candidates → open_below bound m k best (m - n) n set ≤ 2 ^ 65
-  below-few n set most =
-      let power : 2 ^ (m - n + 1) ≤ 2 ^ 65 = pow-le-pow_right {n = 2} (omega arith) {i = m - n + 1} {j = 65} (omega (arith, most)) in
-      omega (arith, power, open-most bound m k best (m - n) n set)
-
-  after-few : (front rest : List ℕ) → m ≤ most_candidates → open_after bound m k best front rest ≤ length rest * 2 ^ 65
-  after-few front [] most = omega arith
-  after-few front (n ∷ rest) most = omega (arith, after-few (front ++ n ∷ []) rest most, below-few n front most)
-
-  pub open-few : (place : Option Prefix) → m ≤ most_candidates → k ≤ m → IsPlace m k place → open_from bound m k best place < 2 ^ 127
-  open-few None most fits here = omega arith
-  open-few (Some prefix) most fits here =
-      omega (arith, most, fits, here.2, below-few prefix.c prefix.set most, after-few [] prefix.set most)
 
 -- ---- the greatest value
 

@@ -9,7 +9,7 @@ use Rattle.ballot_base.specs.CommonMultiple.{common_multiple}
 use Rattle.ballot_base.specs.Increments.{increments}
 use Rattle.ballot_base.specs.declared.increments.ThieleRule.TheVariants.{Av, Pav}
 use Rattle.tie_walk.specs.Ceilings.{greatest_sum, gain_at, IsSubmodular, IsBound, IsAdded, IsTight, IsExactAtBest, IsShort, IsReach, ceiling, greatest_distance_upto, closeness_upto, Prefix, is_open, is_ahead, IsLive, live_below, live_count}
-use Rattle.tie_walk.specs.Steps.Tables.{IsLastReaching, IsLastClose, IsLastNear}
+use Rattle.tie_walk.specs.Steps.Tables.{IsReachBySums, IsClose, IsNear}
 use Rattle.tie_walk.specs.Values.{thiele_value, satisfaction_value}
 use Rattle.tie_walk.proofs.GreatestSums.{ceiling-whole}
 use Rattle.tie_walk.proofs.WaitLemmas.{tight-exact}
@@ -134,25 +134,24 @@ live_without_one = (tt, lit≤ tt, open_beginnings, refl)
 sizes_short : IsShort length (λ c set left. 3 - c) 3 [] 1 2 2
 sizes_short = (lit< tt, λ added up size. omega (arith, size))
 
-sizes_reach : IsReach length (λ c set left. 3 - c) 3 [] 1 2 0 1
-sizes_reach = record { low = lit≤ tt; high = lit≤ tt; reached = λ n low high. omega (arith, high); next = λ more. sizes_short }
+sizes_reach : IsReach (λ c set left. 3 - c) 3 [] 1 2 0 1
+sizes_reach = record { low = lit≤ tt; high = lit≤ tt; reached = λ n low high. omega (arith, high) }
 
--- of 3, 2 and 1, those after 1 have 2, and those after 2 do not
-last_of_three : IsLastReaching (λ n. 4 - n) 1 3 1 2 1
+-- of 3, 2 and 1, those after 1 have 2
+one_of_three : IsReachBySums (λ n. 4 - n) 1 3 1 2 1
 unfolding lists_of
-last_of_three = record {
+one_of_three = record {
   low = lit≤ tt;
   high = lit≤ tt;
   reached = λ n low high. let one : n ≡ 1 = omega (arith, low, high) in rw one (lit≤ tt);
-  next = λ more. lit< tt;
 }
 
-close_upto_two : IsLastClose (1 ∷ 3 ∷ []) [] 1 0 3 2
-close_upto_two = record { low = lit≤ tt; high = lit≤ tt; close = lit≤ tt; next = λ more. lit< tt }
+close_upto_two : IsClose (1 ∷ 3 ∷ []) [] 1 0 3 2
+close_upto_two = record { low = lit≤ tt; high = lit≤ tt; close = lit≤ tt }
 
-near_upto_one : IsLastNear two_and_one [] 1 0 3 1
+near_upto_one : IsNear two_and_one [] 1 0 3 1
 unfolding two_and_one
-near_upto_one = record { low = lit≤ tt; high = lit≤ tt; near = lit≤ tt; next = λ more. lit< tt }
+near_upto_one = record { low = lit≤ tt; high = lit≤ tt; near = lit≤ tt }
 
 -- ---- bounds that are the value of a completion
 

@@ -14,7 +14,7 @@ use Rattle.ballot_base.specs.Ballots.{Row}
 use Rattle.ballot_base.proofs.Increasing.{has_member-below, has_member-filter, IsIncreasing-filter, IsIncreasing-higher}
 use Rattle.tie_walk.specs.Values.{distance, closeness}
 use Rattle.tie_walk.specs.Ceilings.{greatest_distance_upto, closeness_upto, IsBound, IsShort, IsReach}
-use Rattle.tie_walk.specs.Steps.Tables.{IsLastClose, IsLastNear}
+use Rattle.tie_walk.specs.Steps.Tables.{IsClose, IsNear}
 use Rattle.tie_walk.proofs.Distances.{distance-most, ord_max-max}
 
 -- those of the ballot up to c who are not in the set are not in the committee either
@@ -95,7 +95,7 @@ module _ (c m : ℕ) (within : c ≤ m) where
   pub distance_upto-most : (ballot set : List ℕ) → IsIncreasing 1 m ballot → IsIncreasing 1 c set → distance (members_upto ballot c) set ≤ m
   distance_upto-most ballot set i j = distance-most m (members_upto ballot c) set (upto-increasing 1 ballot i) (IsIncreasing-higher 1 c m set within j)
 
--- ---- the last candidate up to whom no ballot is too far
+-- ---- a candidate up to whom no ballot is too far
 
 upto-upto : (c d : ℕ) (ballot : List ℕ) → c ≤ d → members_upto (members_upto ballot d) c ≡ members_upto ballot c
 upto-upto c d [] low = refl
@@ -141,19 +141,13 @@ greatest_upto-more c set rows i row found =
     ∙ fold-append (λ g (r : Row). max g (distance (members_upto r.0 c) set)) 0 (take i rows) (row ∷ [])
 
 module _ (set : List ℕ) (most c end : ℕ) (up : IsIncreasing 1 c set) (rows : List Row) (i : ℕ) (row : Row) (found : slice_get rows i ≡ Some row) where
-  pub near-step : (last next : ℕ) → IsLastNear (take i rows) set most c end last → IsLastClose row.0 set most c last next → IsLastNear (take (i + 1) rows) set most c end next
+  pub near-step : (last next : ℕ) → IsNear (take i rows) set most c end last → IsClose row.0 set most c last next → IsNear (take (i + 1) rows) set most c end next
   near-step last next was is =
       let higher : (n : ℕ) → c ≤ n → IsIncreasing 1 n set = λ n low. IsIncreasing-higher 1 c n set low up in
       record {
         low = is.low;
         high = omega (arith, is.high, was.high);
         near = omega (arith, greatest_upto-more next set rows i row found, is.close, was.near, greatest_upto-later next last set (take i rows) is.high (higher next is.low));
-        next = λ more. elim (cases_lt next last) [
-          | inl fell ↦ omega (arith, greatest_upto-more (next + 1) set rows i row found, is.next fell)
-          | inr stayed ↦
-              let same : last ≡ next = omega (arith, stayed, is.high) in
-              omega (arith, greatest_upto-more (next + 1) set rows i row found, was.next (omega (arith, same, more)), ap (λ n. greatest_distance_upto (n + 1) (take i rows) set) same)
-        ];
       }
 
   -- a ballot that is too far is too far among all
@@ -176,8 +170,8 @@ greatest-within c m within set (row ∷ rows) low h all up =
     greatest-within c m within set rows (max low (distance (members_upto row.0 c) set)) (omega (arith, h, distance_upto-most c m within row.0 set all.0 up)) all.1 up
 
 module _ (m : ℕ) (rows : List Row) (all : AllByRecursion (λ (row : Row). IsIncreasing 1 m row.0) rows) (set : List ℕ) (left best c : ℕ) (up : IsIncreasing 1 c set) where
-  pub near-reach : (result : Option ℕ) → best ≤ m → c + left ≤ m → MatchOption result (m - best < greatest_distance_upto c rows set) (IsLastNear rows set (m - best) c (m - left))
-      → MatchOption result (IsShort (closeness m rows) (λ n s r. closeness_upto m rows n s) m set left best c) (IsReach (closeness m rows) (λ n s r. closeness_upto m rows n s) m set left best c)
+  pub near-reach : (result : Option ℕ) → best ≤ m → c + left ≤ m → MatchOption result (m - best < greatest_distance_upto c rows set) (IsNear rows set (m - best) c (m - left))
+      → MatchOption result (IsShort (closeness m rows) (λ n s r. closeness_upto m rows n s) m set left best c) (IsReach (λ n s r. closeness_upto m rows n s) m set left best c)
   near-reach None few fits far = (omega (arith, few, far, greatest-within c m (omega (arith, fits)) set rows 0 (omega arith) all up), closeness-bounds m rows c set left up)
   near-reach (Some last) few fits is =
       let higher : (n : ℕ) → c ≤ n → IsIncreasing 1 n set = λ n low. IsIncreasing-higher 1 c n set low up in
@@ -185,9 +179,4 @@ module _ (m : ℕ) (rows : List Row) (all : AllByRecursion (λ (row : Row). IsIn
         low = is.low;
         high = omega (arith, is.high, fits);
         reached = λ n low high. omega (arith, few, is.near, greatest_upto-later n last set rows high (higher n low));
-        next = λ more.
-            let past : c ≤ last + 1 = omega (arith, is.low) in (
-              omega (arith, few, is.next (omega (arith, more)), greatest-within (last + 1) m (omega (arith, more)) set rows 0 (omega arith) all (higher (last + 1) past)),
-              closeness-bounds m rows (last + 1) set left (higher (last + 1) past),
-            );
       }

@@ -9,7 +9,7 @@ use Rattle.std.proofs.lemmas.List.Sums.{sum_by-cons, fold-append}
 use Rattle.ballot_base.specs.Lists.{IsIncreasing, lists_of, increasing_lists}
 use Rattle.ballot_base.proofs.Committees.{IsChosen, increasing_lists-chosen}
 use Rattle.tie_walk.specs.Ceilings.{IsBound, ceiling, gain_at, greatest_sum}
-use Rattle.tie_walk.specs.Steps.Tables.{IsLastReaching}
+use Rattle.tie_walk.specs.Steps.Tables.{IsReachBySums}
 use Rattle.tie_walk.proofs.WinnersLemmas.{greatest}
 
 pub lists-short : (n first size : ℕ) → n < size → lists_of n first size ≡ []
@@ -158,25 +158,16 @@ module _ (worth : ℕ → ℕ) where
       let count : m - (m - passed) ≡ passed = omega (arith, within) in
       rw count at (table-done (m - passed) m size (omega arith))
 
-  -- the last candidate whose sum is large enough
+  -- a candidate whose sum is large enough, as those of the ones before are
   pub reaching-found : (c m left least passed last : ℕ) → left ≤ passed → last + passed ≡ m → c ≤ last → least ≤ best_of passed (m + 1 - passed) left
-      → ((q : ℕ) → q + 1 ≡ passed → left ≤ q → best_of q (m + 1 - q) left < least) → IsLastReaching worth c m left least last
-  reaching-found c m left least passed last enough here low large short =
+      → IsReachBySums worth c m left least last
+  reaching-found c m left least passed last enough here low large =
       let at : m - passed + 1 ≡ last + 1 = omega (arith, here) in
       let sum : best_of passed (m + 1 - passed) left ≡ greatest_sum worth (last + 1) m left = table-at m passed left (omega (arith, here)) ∙ ap (λ f. greatest_sum worth f m left) at in
       record {
         low = low;
         high = omega (arith, enough, here);
         reached = λ n from to. omega (arith, large, sum, sum-later n last m left to (omega (arith, here)));
-        next = λ more.
-            let before : passed - 1 + 1 ≡ passed = omega (arith, more, here) in
-            let after : m - (passed - 1) + 1 ≡ last + 2 = omega (arith, more, here) in
-            omega (
-              arith,
-              short (passed - 1) before (omega (arith, more, here)),
-              table-at m (passed - 1) left (omega (arith, here)),
-              ap (λ f. greatest_sum worth f m left) after,
-            );
       }
 
   -- one candidate more was looked at

@@ -14,12 +14,12 @@ use Rattle.ballot_base.specs.CandSet.{with_member, members_upto}
 use Rattle.ballot_base.proofs.Committees.{IsChosen, increasing_lists-chosen}
 use Rattle.ballot_base.proofs.Increasing.{with_member-above, IsIncreasing-push, IsIncreasing-higher}
 use Rattle.tie_walk.specs.Ceilings.{is_open, is_ahead, live_below, live_count}
-use Rattle.tie_walk.specs.Steps.Walks.{committees_below, committees_after, those_reaching, open_below, open_after}
+use Rattle.tie_walk.specs.Steps.Walks.{committees_below, committees_after, IsPlace, those_reaching, open_below, open_after}
 use Rattle.tie_walk.specs.Winners.{best_value, winners}
 use Rattle.tie_walk.proofs.GreatestSums.{some_list}
 use Rattle.tie_walk.proofs.StartLemmas.{later_than-filter}
 use Rattle.tie_walk.proofs.WinnersLemmas.{winners-from_best}
-use Rattle.tie_walk.proofs.WalkLemmas.{append_none, below-split, below-full, from-root, start-split, after-start}
+use Rattle.tie_walk.proofs.WalkLemmas.{prefix_at, append_none, below-split, below-full, from-root, start-split, after-start}
 use Rattle.tie_walk.proofs.OpenLemmas.{reaching-append, none-last, open-sizes, open-none, open_after-push, shut-large}
 
 -- ---- the members up to c
@@ -220,24 +220,6 @@ module _ (m k : ℕ) (after : Option (List ℕ)) where
               live-shut r (n + 1) (s ++ (n + 1) ∷ []) shut ∙ sym (open-none bound m k best r (n + 1) (s ++ (n + 1) ∷ []) shut)
         ]
 
-    pub live-most : (rest c : ℕ) (set : List ℕ) → live_below bound m k best after rest c set < 2 ^ (rest + 1)
-    live-most zero c set = elim (is_open bound m k best c set && is_ahead m k after c set) as (λ b. cond b 1 0 < 2 ^ 1) [
-      | true ↦ omega arith
-      | false ↦ omega arith
-    ]
-    live-most (suc rest) c set =
-        let power : 2 ^ (suc rest + 1) ≡ 2 ^ (rest + 1) * 2 = ap (λ n. 2 ^ n) (shifted rest) ∙ pow-suc 2 (rest + 1) in
-        let more = live-most rest (c + 1) (with_member set (c + 1)) in
-        let less = live-most rest (c + 1) set in
-        elim (is_open bound m k best c set && is_ahead m k after c set)
-        as (λ b. cond b (1 + live_below bound m k best after rest (c + 1) (with_member set (c + 1)) + live_below bound m k best after rest (c + 1) set) 0 < 2 ^ (suc rest + 1)) [
-          | true ↦ omega (arith, power, more, less)
-          | false ↦ omega (arith, power, more, less)
-        ]
-      where
-        shifted : (n : ℕ) → suc n + 1 ≡ suc (n + 1)
-        shifted n = omega arith
-
     -- ---- on the way down to the start: the prefix with the next candidate, and the one without
     module _ (c : ℕ) (set : List ℕ) (more : c < m) (up : IsIncreasing 1 c set) (is : is_open bound m k best c set ≡ true) where
       live-split : is_ahead m k after c set ≡ true → live_below bound m k best after (m - c) c set
@@ -338,6 +320,14 @@ module _ (m k : ℕ) where
       let parts = upto-rest 1 m c start up in
       omega (arith, size, ap length parts.1.0, length-append (members_upto start c) parts.0)
 
+  -- each beginning of a start is a place
+  pub place-upto : (c : ℕ) (start set : List ℕ) → c ≤ m → IsIncreasing 1 m start → length start ≡ k → set ≡ members_upto start c → IsPlace m k (Some (prefix_at c set))
+  place-upto c start set inside up size is = (
+    inside,
+    subst (IsIncreasing 1 c) (sym is) (upto-increasing 1 m c start up),
+    omega (arith, ap length is, upto-few c start up size),
+  )
+
   -- a step down: what is live below the next beginning, and what is still to be entered after it, is no more
   pub down-step : (bound : ℕ → List ℕ → ℕ → ℕ) (best c : ℕ) (start : List ℕ) → c < m → IsIncreasing 1 m start → length start ≡ k
       → is_open bound m k best c (members_upto start c) ≡ true
@@ -364,9 +354,3 @@ winners-left value n m k best sets start after count greatest left is =
     ∙ ap (later_than start) (sym (winners-from_best value n k))
     ∙ ap (λ x. later_than start (winners value x k)) count
     ∙ ap (λ s. later_than s (winners value m k)) (sym is)
-
--- so few prefixes are live that a count of them fits
-pub live-fits : (bound : ℕ → List ℕ → ℕ → ℕ) (m k best n : ℕ) (after : Option (List ℕ)) → m ≤ most_candidates → n ≤ live_count bound m k best after + m → n < 2 ^ 127
-live-fits bound m k best n after most few =
-    let power : 2 ^ (m + 1) ≤ 2 ^ 65 = pow-le-pow_right {n = 2} (omega arith) {i = m + 1} {j = 65} (omega (arith, most)) in
-    omega (arith, most, few, power, live-most m k after bound best m 0 [])

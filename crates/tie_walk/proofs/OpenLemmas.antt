@@ -177,21 +177,3 @@ module _ (bound : ℕ → List ℕ → ℕ → ℕ) (m k best : ℕ) where
   pub entered-last : (prefix : Prefix) (next : Option Prefix) → IsPast prefix next → m ≤ prefix.c → is_open bound m k best prefix.c prefix.set ≡ true
       → 1 + open_from bound m k best next ≡ open_from bound m k best (Some prefix)
   entered-last prefix next past last is = omega (arith, open-past prefix next past, open-last prefix.c prefix.set last is)
-
-  -- no more than all prefixes
-  pub open-most : (rest c : ℕ) (set : List ℕ) → open_below bound m k best rest c set < 2 ^ (rest + 1)
-  open-most zero c set = elim (is_open bound m k best c set) as (λ b. cond b 1 0 < 2 ^ 1) [
-    | true ↦ omega arith
-    | false ↦ omega arith
-  ]
-  open-most (suc rest) c set =
-      let power : 2 ^ (suc rest + 1) ≡ 2 ^ (rest + 1) * 2 = ap (λ n. 2 ^ n) (shifted rest) ∙ pow-suc 2 (rest + 1) in
-      let more = open-most rest (c + 1) (with_member set (c + 1)) in
-      let less = open-most rest (c + 1) set in
-      elim (is_open bound m k best c set) as (λ b. cond b (1 + open_below bound m k best rest (c + 1) (with_member set (c + 1)) + open_below bound m k best rest (c + 1) set) 0 < 2 ^ (suc rest + 1)) [
-        | true ↦ omega (arith, power, more, less)
-        | false ↦ omega (arith, power, more, less)
-      ]
-    where
-      shifted : (n : ℕ) → suc n + 1 ≡ suc (n + 1)
-      shifted n = omega arith

@@ -196,6 +196,9 @@ none_below c (x ∷ set) low up = absurd (omega (arith, up.0, up.1))
 
 -- ---- the first place
 
+abbrev pub prefix_at : ℕ → List ℕ → Prefix
+prefix_at c set = record { c = c; set = set }
+
 pub at_root : (m k : ℕ) (root : Prefix) → root.c ≡ 0 → root.set ≡ [] → (committees_from m k (Some root) ≡ increasing_lists 1 m k) × IsPlace m k (Some root)
 at_root m k root none nobody = (
   ap (λ n. committees_below m k n root.set ++ committees_after m k [] root.set) none ∙ ap (λ s. committees_below m k 0 s ++ committees_after m k [] s) nobody

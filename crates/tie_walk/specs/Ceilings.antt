@@ -61,13 +61,11 @@ IsExactAtBest value bound m k best = (c : ℕ) (set : List ℕ) (left : ℕ) →
 abbrev pub IsShort : (List ℕ → ℕ) → (ℕ → List ℕ → ℕ → ℕ) → ℕ → List ℕ → ℕ → ℕ → ℕ → Type 0
 IsShort value bound m set left best c = (bound c set left < best) × IsBound value m c set left (bound c set left)
 
--- the bounds of the set reach the best value from c up to `last`, and no further
-pub record IsReach (value : List ℕ → ℕ) (bound : ℕ → List ℕ → ℕ → ℕ) (m : ℕ) (set : List ℕ) (left best c last : ℕ)
-    : Type 0 where
+-- the bounds of the set reach the best value from c up to `last`
+pub record IsReach (bound : ℕ → List ℕ → ℕ → ℕ) (m : ℕ) (set : List ℕ) (left best c last : ℕ) : Type 0 where
   pub low : c ≤ last
   pub high : last + left ≤ m
   pub reached : (n : ℕ) → c ≤ n → n ≤ last → best ≤ bound n set left
-  pub next : last + left < m → IsShort value bound m set left best (last + 1)
 
 pub record Prefix : Type 0 where
   pub c : ℕ

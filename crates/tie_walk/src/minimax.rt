@@ -5,7 +5,7 @@ ghost use Rattle.ballot_base.specs.Lists.{IsIncreasing};
 ghost use Rattle.ballot_base.specs.CandSet.{members_upto};
 ghost use Rattle.tie_walk.specs.Ceilings.{greatest_distance_upto, closeness_upto};
 ghost use Rattle.tie_walk.specs.Values.{distance, greatest_distance, closeness};
-ghost use Rattle.tie_walk.specs.Steps.Tables.{IsLastClose, IsLastNear};
+ghost use Rattle.tie_walk.specs.Steps.Tables.{IsClose, IsNear};
 
 use crate::tally::Tally;
 use ballot_base::{CandSet, Profile};
@@ -91,7 +91,7 @@ fn farthest_upto<A: Allocator + Copy>(profile: &Profile<A>, c: u8, set: CandSet)
     greatest
 }
 
-/// The last candidate of c to `end` up to whom no ballot is farther from the set than `most`; nothing where one is for
+/// A candidate of c to `end` up to whom no ballot is farther from the set than `most`: the last one. None if one is for
 /// c.
 fn last_near<A: Allocator + Copy>(
     profile: &Profile<A>,
@@ -104,7 +104,7 @@ fn last_near<A: Allocator + Copy>(
     requires some { c ≤ end }
     requires candidates { IsIncreasing 1 c set }
     ensures { MatchOption result (most < greatest_distance_upto c profile.now.rows set)
-        (IsLastNear profile.now.rows set most c end) }
+        (IsNear profile.now.rows set most c end) }
 {
     let mut last = end;
     for (ballot, _voters) in profile.ballots() {
@@ -116,12 +116,12 @@ fn last_near<A: Allocator + Copy>(
     Some(last)
 }
 
-/// The last candidate of c to `end` up to whom the ballot is no farther from the set than `most`; nothing where it is
+/// A candidate of c to `end` up to whom the ballot is no farther from the set than `most`: the last one. None if it is
 /// for c.
 fn last_close(ballot: CandSet, set: CandSet, most: u8, c: u8, end: u8) -> Option<u8>
     requires high { end ≤ most_candidates }
     requires some { c ≤ end }
-    ensures { MatchOption result (most < distance (members_upto ballot c) set) (IsLastClose ballot set most c end) }
+    ensures { MatchOption result (most < distance (members_upto ballot c) set) (IsClose ballot set most c end) }
 {
     let mut last = end;
     while distance(ballot.upto(last), set) > most {

@@ -3,7 +3,7 @@ ghost use Rattle.std.specs.Prelude.{◌≡◌, ℕ, ◌+◌, ◌-◌, ◌*◌, �
 ghost use Rattle.ballot_base.specs.Limits.{most_candidates};
 ghost use Rattle.ballot_base.specs.Lists.{IsIncreasing};
 ghost use Rattle.tie_walk.specs.Ceilings.{IsBound, IsShort, IsReach, greatest_sum};
-ghost use Rattle.tie_walk.specs.Steps.Tables.{sum_of_worths, IsLastReaching};
+ghost use Rattle.tie_walk.specs.Steps.Tables.{sum_of_worths, IsReachBySums};
 
 use ballot_base::{CandSet, MOST_CANDIDATES};
 
@@ -37,24 +37,20 @@ pub trait Tally {
         ensures value { result ≡ bound_of self.now c set left }
         ensures law { IsBound (value_of self.now) (candidates self.now) c set left result };
 
-    /// The last candidate up to whom the bounds of the set reach `best`, from c on; nothing where that of c does not.
-    /// A tally may find it by less work than one bound after another.
+    /// A place up to which the bounds of the set reach `best`, from c on; None if the bound at c does not. A tally may
+    /// look further than c if that takes less work than one bound after another.
     fn reach(&self, c: u8, set: CandSet, left: u8, best: u128) -> Option<u8>
         requires within { c ≤ candidates self.now }
         requires candidates { IsIncreasing 1 c set }
         requires fits { left ≤ candidates self.now - c }
         ensures { MatchOption result
             (IsShort (value_of self.now) (bound_of self.now) (candidates self.now) set left best c)
-            (IsReach (value_of self.now) (bound_of self.now) (candidates self.now) set left best c) }
+            (IsReach (bound_of self.now) (candidates self.now) set left best c) }
     {
-        let mut last = None;
-        for here in c..self.m() - left + 1 {
-            if self.bound(here, set, left) < best {
-                return last;
-            }
-            last = Some(here);
+        if self.bound(c, set, left) < best {
+            return None;
         }
-        last
+        Some(c)
     }
 
     /// A committee of k to begin with, where the tally knows a good one: the search for the greatest value passes over
@@ -100,8 +96,8 @@ pub(crate) fn greatest_sum(worths: &[u128; PLACES], c: u8, m: u8, left: u8) -> u
     sums[usize::from(left)]
 }
 
-/// The last candidate, from c on, for whom the greatest sum of `left` of what the candidates after this one have, up to
-/// m, is at least `least`; nothing where it is less for c.
+/// A candidate, from c on, up to whom the greatest sum of `left` of what the candidates after each have, up to m, is at
+/// least `least`: the last one. None if it is less for c.
 pub(crate) fn last_reaching(
     worths: &[u128; PLACES],
     c: u8,
@@ -114,7 +110,7 @@ pub(crate) fn last_reaching(
     requires fits { left ≤ m - c }
     requires small { (n : ℕ) → slice_index worths.now n < 2 ^ 122 }
     ensures { MatchOption result (greatest_sum (slice_index worths.now) (c + 1) m left < least)
-        (IsLastReaching (slice_index worths.now) c m left least) }
+        (IsReachBySums (slice_index worths.now) c m left least) }
 {
     let mut sums = [0; PLACES];
     for passed in 0..m - c {

@@ -1,10 +1,9 @@
-//! The walk that hands out the winners, and counts the prefixes that it enters.
+//! The walk over the committees whose value reaches the best, and what it counts.
 ghost use Rattle.std.specs.Prelude.{◌≡◌, ℕ, ◌+◌, ◌-◌, ◌*◌, ◌^◌, ◌<◌, ◌≤◌, true, false, [], ◌∷◌, ◌++◌, List, None, Some, length, if◌then◌else◌};
 ghost use Rattle.ballot_base.specs.Limits.{most_candidates};
-ghost use Rattle.ballot_base.specs.Lists.{increasing_lists};
 ghost use Rattle.tie_walk.specs.Ceilings.{IsShort, IsExactAtBest, is_open};
-ghost use Rattle.tie_walk.specs.Steps.Walks.{committees_below, IsPlace, work_left, those_reaching, open_from};
-ghost use Rattle.tie_walk.specs.Steps.Walks.{IsStride, IsRaised, IsWait, IsBegun, AreKnown};
+ghost use Rattle.tie_walk.specs.Steps.Walks.{committees_below, IsPlace, work_left, those_reaching};
+ghost use Rattle.tie_walk.specs.Steps.Walks.{AreKnown, IsKnown, IsWalk, IsStride, IsRaised, IsWait, IsBegun, aim, aim_at, progress};
 ghost use Rattle.tie_walk.specs.Winners.{IsStart};
 
 use crate::prefix::Prefix;
@@ -18,15 +17,7 @@ pub(crate) struct Counts {
     pub(crate) ceilings: u128,
 }
 
-/// A walk over the committees whose value reaches the best: where it goes on, and what it has counted.
-#[derive(Clone, Copy)]
-pub(crate) struct Walk {
-    pub(crate) place: Option<Prefix>,
-    pub(crate) counts: Counts,
-}
-
-/// What is known of the bounds of a set: those of the prefixes from `first` up to `last` reach the best value, and that
-/// of the next one does not.
+/// What is known of the bounds of a set: those of the prefixes from `first` up to `last` reach the best value.
 #[derive(Clone, Copy)]
 pub(crate) struct Known {
     set: CandSet,
@@ -36,96 +27,223 @@ pub(crate) struct Known {
 
 /// For each number of members, what is known of the set of so many that was asked last: the walk strikes out one
 /// candidate after another below the same sets.
-pub(crate) type Levels = [Option<Known>; PLACES];
+type Levels = [Option<Known>; PLACES];
 
-/// Nothing is known.
-pub(crate) fn no_levels() -> Levels
-    ensures { (value : List ℕ → ℕ) (bound : ℕ → List ℕ → ℕ → ℕ) (m k best : ℕ) → AreKnown value bound m k best result }
-{
-    [None; PLACES]
-}
-
-/// Whether the bound of a prefix reaches the best value: one question more, also where a question before has told it.
-/// No other step of the walk asks.
-fn reaches<T: Tally>(
-    tally: &T,
+/// A walk over the committees of k of the tally's m candidates whose value reaches the best: where it goes on, what it
+/// has counted, and what it knows of bounds.
+#[derive(Drop)]
+pub(crate) struct Walk<'a, T: Tally> {
+    tally: &'a T,
     m: u8,
     k: u8,
-    best: u128,
-    prefix: Prefix,
-    ceilings: &mut u128,
-    levels: &mut Levels,
-) -> bool
-    requires candidates { m ≡ T.candidates tally.now }
-    requires most { m ≤ most_candidates }
-    requires place { IsPlace m k (Some prefix) }
-    requires room { k ≤ length prefix.set + (m - prefix.c) }
-    requires fits { ceilings.old < 2 ^ 127 }
-    requires known { AreKnown (T.value_of tally.now) (T.bound_of tally.now) m k best levels.old }
-    ensures count { ceilings.new ≡ ceilings.old + 1 }
-    ensures reached { result ≡ true → best ≤ T.bound_of tally.now prefix.c prefix.set (k - length prefix.set) }
-    ensures short { result ≡ false → IsShort (T.value_of tally.now) (T.bound_of tally.now) m prefix.set
-        (k - length prefix.set) best prefix.c }
-    ensures known { AreKnown (T.value_of tally.now) (T.bound_of tally.now) m k best levels.new }
-{
-    *ceilings += 1;
-    let Prefix { c, set } = prefix;
-    let len = set.len();
-    if let Some(known) = levels[usize::from(len)] {
-        if known.set == set && known.first <= c && c <= known.last + 1 {
-            return c <= known.last;
+    pub(crate) best: u128,
+    pub(crate) place: Option<Prefix>,
+    pub(crate) counts: Counts,
+    levels: Levels,
+}
+
+impl<'a, T: Tally> Walk<'a, T> {
+    /// A walk from a place on that has counted nothing.
+    pub(crate) fn new(tally: &'a T, k: u8, best: u128, place: Option<Prefix>) -> Walk<'a, T>
+        requires some { 1 ≤ k }
+        requires fits { k ≤ T.candidates tally.now }
+        requires place { IsPlace (T.candidates tally.now) k place }
+        ensures walk { IsWalk T.candidates T.bound_of result }
+        ensures aim { aim result ≡ aim_at tally.now (T.candidates tally.now) k best }
+        ensures place { result.place ≡ place }
+        ensures entered { result.counts.entered ≡ 0 }
+        ensures ceilings { result.counts.ceilings ≡ 0 }
+    {
+        Walk {
+            tally,
+            m: tally.m(),
+            k,
+            best,
+            place,
+            counts: Counts {
+                entered: 0,
+                ceilings: 0,
+            },
+            levels: [None; PLACES],
         }
     }
-    let Some(last) = tally.reach(c, set, k - len, best) else {
-        return false;
-    };
-    let first = c;
-    levels[usize::from(len)] = Some(Known { set, first, last });
-    true
+
+    /// Whether the bound of a prefix reaches the best value. This counts as one bound, even if what is known answers it,
+    /// or a tally's own `reach` does. No other step of the walk asks for a bound.
+    fn reaches(&mut self, prefix: Prefix) -> bool
+        requires walk { IsWalk T.candidates T.bound_of self.old }
+        requires place { IsPlace self.old.m self.old.k (Some prefix) }
+        requires room { self.old.k ≤ length prefix.set + (self.old.m - prefix.c) }
+        requires fits { self.old.counts.ceilings < 2 ^ 127 }
+        ensures walk { IsWalk T.candidates T.bound_of self.new }
+        ensures aim { aim self.new ≡ aim self.old }
+        ensures entered { self.new.counts.entered ≡ self.old.counts.entered }
+        ensures asked { self.new.counts.ceilings ≡ self.old.counts.ceilings + 1 }
+        ensures reached { result ≡ true → self.old.best
+            ≤ T.bound_of self.old.tally.now prefix.c prefix.set (self.old.k - length prefix.set) }
+        ensures short { result ≡ false
+            → IsShort (T.value_of self.old.tally.now) (T.bound_of self.old.tally.now) self.old.m prefix.set
+            (self.old.k - length prefix.set) self.old.best prefix.c }
+    {
+        self.counts.ceilings += 1;
+        let Prefix { c, set } = prefix;
+        if is_known(&self.levels, Prefix { c, set }) {
+            return true;
+        }
+        let left = self.k - set.len();
+        let Some(last) = self.tally.reach(c, set, left, self.best) else {
+            return false;
+        };
+        let first = c;
+        keep(&mut self.levels, Known { set, first, last });
+        true
+    }
+
+    /// Whether the walk enters a prefix: it does if the prefix can become a committee, and its bound reaches the best
+    /// value. Only this step of the walk goes down, and only it raises the count of prefixes.
+    fn enter(&mut self, prefix: Prefix) -> bool
+        requires walk { IsWalk T.candidates T.bound_of self.old }
+        requires place { IsPlace self.old.m self.old.k (Some prefix) }
+        requires fits { self.old.counts.entered < 2 ^ 127 }
+        requires asks { self.old.counts.ceilings < 2 ^ 127 }
+        ensures walk { IsWalk T.candidates T.bound_of self.new }
+        ensures aim { aim self.new ≡ aim self.old }
+        ensures open { result
+            ≡ is_open (T.bound_of self.old.tally.now) self.old.m self.old.k self.old.best prefix.c prefix.set }
+        ensures entered { self.new.counts.entered ≡ self.old.counts.entered + (if result then 1 else 0) }
+        ensures asked { self.old.counts.ceilings + (if result then 1 else 0) ≤ self.new.counts.ceilings }
+        ensures once { self.new.counts.ceilings ≤ self.old.counts.ceilings + 1 }
+        ensures none { result ≡ false → those_reaching (T.value_of self.old.tally.now) self.old.best
+            (committees_below self.old.m self.old.k prefix.c prefix.set) ≡ [] }
+    {
+        let Prefix { c, set } = prefix;
+        if set.len() + (self.m - c) < self.k {
+            return false;
+        }
+        if !self.reaches(Prefix { c, set }) {
+            return false;
+        }
+        self.counts.entered += 1;
+        true
+    }
+
+    /// What the walk finds at a prefix, a winner or nothing. Then it goes on after the prefix, or below it.
+    fn visit(&mut self, prefix: Prefix) -> Option<CandSet>
+        requires walk { IsWalk T.candidates T.bound_of self.old }
+        requires place { IsPlace self.old.m self.old.k (Some prefix) }
+        requires fits { self.old.counts.entered < 2 ^ 127 }
+        requires asks { self.old.counts.ceilings + work_left self.old.m (Some prefix) < 2 ^ 127 }
+        ensures walk { IsWalk T.candidates T.bound_of self.new }
+        ensures aim { aim self.new ≡ aim self.old }
+        ensures stride { IsStride (T.value_of self.old.tally.now) (T.bound_of self.old.tally.now) self.old.m self.old.k
+            self.old.best (Some prefix) self.old.counts.entered result (progress self.new) }
+        ensures raised { IsRaised self.old.m (Some prefix) self.old.counts (progress self.new) }
+        ensures wait { IsExactAtBest (T.value_of self.old.tally.now) (T.bound_of self.old.tally.now) self.old.m
+            self.old.k self.old.best → IsWait (T.value_of self.old.tally.now) self.old.m self.old.k self.old.best
+            (Some prefix) self.old.counts result (progress self.new) }
+        ensures work { work_left self.old.m self.new.place < work_left self.old.m (Some prefix) }
+        ensures early { prefix.c < self.old.m → result ≡ None }
+    {
+        let tally = self.tally;
+        let (m, k, best) = (self.m, self.k, self.best);
+        let Prefix { c, set } = prefix;
+        if !self.enter(Prefix { c, set }) {
+            self.place = Prefix { c, set }.past();
+            return None;
+        }
+        if c < m {
+            self.place = Some(first_below(Prefix { c, set }, m, k));
+            return None;
+        }
+        self.place = Prefix { c, set }.past();
+        if tally.value(set) < best {
+            return None;
+        }
+        Some(set)
+    }
+
+    /// The next winner from where the walk stands.
+    pub(crate) fn next(&mut self) -> Option<CandSet>
+        requires walk { IsWalk T.candidates T.bound_of self.old }
+        requires asked { self.old.counts.entered ≤ self.old.counts.ceilings }
+        requires fits { self.old.counts.ceilings + work_left self.old.m self.old.place < 2 ^ 127 }
+        ensures walk { IsWalk T.candidates T.bound_of self.new }
+        ensures aim { aim self.new ≡ aim self.old }
+        ensures stride { IsStride (T.value_of self.old.tally.now) (T.bound_of self.old.tally.now) self.old.m self.old.k
+            self.old.best self.old.place self.old.counts.entered result (progress self.new) }
+        ensures raised { IsRaised self.old.m self.old.place self.old.counts (progress self.new) }
+        ensures wait { IsExactAtBest (T.value_of self.old.tally.now) (T.bound_of self.old.tally.now) self.old.m
+            self.old.k self.old.best → self.new.counts.ceilings ≤ self.old.counts.ceilings + 4 * self.old.m }
+        ensures end { result ≡ None → self.new.place ≡ None }
+    {
+        while let Some(prefix) = self.place {
+            if let Some(set) = self.visit(prefix) {
+                return Some(set);
+            }
+        }
+        None
+    }
+
+    /// A walk over all committees.
+    pub(crate) fn begin(tally: &'a T, k: u8, best: u128) -> Walk<'a, T>
+        requires some { 1 ≤ k }
+        requires fits { k ≤ T.candidates tally.now }
+        ensures walk { IsWalk T.candidates T.bound_of result }
+        ensures aim { aim result ≡ aim_at tally.now (T.candidates tally.now) k best }
+        ensures begun { IsBegun (T.value_of tally.now) (T.bound_of tally.now) (T.candidates tally.now) k best None
+            (progress result) }
+    {
+        let mut walk = Walk::new(tally, k, best, None);
+        walk.visit(Prefix::root());
+        walk
+    }
+
+    /// A walk from right after the start: down to it as far as its beginnings are open, which does not enter the last,
+    /// and past what is below.
+    pub(crate) fn begin_after(tally: &'a T, k: u8, best: u128, start: CandSet) -> Walk<'a, T>
+        requires some { 1 ≤ k }
+        requires fits { k ≤ T.candidates tally.now }
+        requires start { IsStart (T.candidates tally.now) k (Some start) }
+        ensures walk { IsWalk T.candidates T.bound_of result }
+        ensures aim { aim result ≡ aim_at tally.now (T.candidates tally.now) k best }
+        ensures begun { IsBegun (T.value_of tally.now) (T.bound_of tally.now) (T.candidates tally.now) k best
+            (Some start) (progress result) }
+    {
+        let mut walk = Walk::new(tally, k, best, None);
+        let m = walk.m;
+        for c in 0..m {
+            let set = start.upto(c);
+            if !walk.enter(Prefix { c, set }) {
+                walk.place = Prefix { c, set }.past();
+                return walk;
+            }
+        }
+        walk.place = Prefix { c: m, set: start }.past();
+        walk
+    }
 }
 
-/// Whether the walk enters a prefix, which counts there: where it can become a committee, and the bound reaches the
-/// best value. No other step of the walk goes down, and no other raises that count.
-fn enter<T: Tally>(
-    tally: &T,
-    m: u8,
-    k: u8,
-    best: u128,
-    prefix: Prefix,
-    counts: &mut Counts,
-    levels: &mut Levels,
-) -> bool
-    requires candidates { m ≡ T.candidates tally.now }
-    requires most { m ≤ most_candidates }
-    requires place { IsPlace m k (Some prefix) }
-    requires fits { counts.old.entered < 2 ^ 127 }
-    requires asks { counts.old.ceilings < 2 ^ 127 }
-    requires known { AreKnown (T.value_of tally.now) (T.bound_of tally.now) m k best levels.old }
-    ensures open { result ≡ is_open (T.bound_of tally.now) m k best prefix.c prefix.set }
-    ensures entered { counts.new.entered ≡ counts.old.entered + (if result then 1 else 0) }
-    ensures asked { counts.old.ceilings + (if result then 1 else 0) ≤ counts.new.ceilings }
-    ensures once { counts.new.ceilings ≤ counts.old.ceilings + 1 }
-    ensures known { AreKnown (T.value_of tally.now) (T.bound_of tally.now) m k best levels.new }
-    ensures none { result ≡ false
-        → those_reaching (T.value_of tally.now) best (committees_below m k prefix.c prefix.set) ≡ [] }
+/// Whether the bound of a prefix is known to reach the best value.
+fn is_known(levels: &Levels, prefix: Prefix) -> bool
+    ensures { (bound : ℕ → List ℕ → ℕ → ℕ) (m k best : ℕ) → AreKnown bound m k best levels.now → result ≡ true
+        → best ≤ bound prefix.c prefix.set (k - length prefix.set) }
 {
     let Prefix { c, set } = prefix;
-    if set.len() + (m - c) < k {
-        return false;
+    if let Some(known) = levels[usize::from(set.len())] {
+        if known.set == set && known.first <= c && c <= known.last {
+            return true;
+        }
     }
-    if !reaches(
-        tally,
-        m,
-        k,
-        best,
-        Prefix { c, set },
-        &mut counts.ceilings,
-        levels,
-    ) {
-        return false;
-    }
-    counts.entered += 1;
-    true
+    false
+}
+
+/// Keeps what is known of the bounds of a set, in place of what was known of another one with as many members.
+fn keep(levels: &mut Levels, known: Known)
+    ensures { (bound : ℕ → List ℕ → ℕ → ℕ) (m k best : ℕ) → AreKnown bound m k best levels.old
+        → IsKnown bound m k best (Some known) → AreKnown bound m k best levels.new }
+{
+    let len = known.set.len();
+    levels[usize::from(len)] = Some(known);
 }
 
 /// The first prefix below one that is no whole committee: with the next candidate, where there is room for one.
@@ -143,139 +261,4 @@ fn first_below(prefix: Prefix, m: u8, k: u8) -> Prefix
         return Prefix { c, set }.grown();
     }
     Prefix { c: c + 1, set }
-}
-
-/// What the walk finds at a prefix, a winner or nothing, and where it goes on.
-fn visit<T: Tally>(
-    tally: &T,
-    m: u8,
-    k: u8,
-    best: u128,
-    prefix: Prefix,
-    mut counts: Counts,
-    levels: &mut Levels,
-) -> (Option<CandSet>, Walk)
-    requires candidates { m ≡ T.candidates tally.now }
-    requires most { m ≤ most_candidates }
-    requires place { IsPlace m k (Some prefix) }
-    requires fits { counts.entered < 2 ^ 127 }
-    requires asks { counts.ceilings + work_left m (Some prefix) < 2 ^ 127 }
-    requires known { AreKnown (T.value_of tally.now) (T.bound_of tally.now) m k best levels.old }
-    ensures stride { IsStride (T.value_of tally.now) (T.bound_of tally.now) m k best (Some prefix)
-        counts.entered result.0 result.1 }
-    ensures raised { IsRaised m (Some prefix) counts result.1 }
-    ensures wait { IsExactAtBest (T.value_of tally.now) (T.bound_of tally.now) m k best
-        → IsWait (T.value_of tally.now) m k best (Some prefix) counts result.0 result.1 }
-    ensures work { work_left m result.1.place < work_left m (Some prefix) }
-    ensures early { prefix.c < m → result.0 ≡ None }
-    ensures known { AreKnown (T.value_of tally.now) (T.bound_of tally.now) m k best levels.new }
-{
-    let Prefix { c, set } = prefix;
-    if !enter(tally, m, k, best, Prefix { c, set }, &mut counts, levels) {
-        let place = Prefix { c, set }.past();
-        return (None, Walk { place, counts });
-    }
-    if c < m {
-        let place = Some(first_below(Prefix { c, set }, m, k));
-        return (None, Walk { place, counts });
-    }
-    let place = Prefix { c, set }.past();
-    if tally.value(set) < best {
-        return (None, Walk { place, counts });
-    }
-    (Some(set), Walk { place, counts })
-}
-
-/// The next winner from where the walk stands, and where it goes on.
-pub(crate) fn next_winner<T: Tally>(
-    tally: &T,
-    m: u8,
-    k: u8,
-    best: u128,
-    from: Walk,
-    levels: &mut Levels,
-) -> (Option<CandSet>, Walk)
-    requires candidates { m ≡ T.candidates tally.now }
-    requires most { m ≤ most_candidates }
-    requires some { 1 ≤ m }
-    requires place { IsPlace m k from.place }
-    requires fits { from.counts.entered + open_from (T.bound_of tally.now) m k best from.place < 2 ^ 127 }
-    requires asks { from.counts.ceilings + work_left m from.place < 2 ^ 127 }
-    requires known { AreKnown (T.value_of tally.now) (T.bound_of tally.now) m k best levels.old }
-    ensures stride { IsStride (T.value_of tally.now) (T.bound_of tally.now) m k best from.place
-        from.counts.entered result.0 result.1 }
-    ensures raised { IsRaised m from.place from.counts result.1 }
-    ensures wait { IsExactAtBest (T.value_of tally.now) (T.bound_of tally.now) m k best
-        → result.1.counts.ceilings ≤ from.counts.ceilings + 4 * m }
-    ensures end { result.0 ≡ None → result.1.place ≡ None }
-    ensures known { AreKnown (T.value_of tally.now) (T.bound_of tally.now) m k best levels.new }
-{
-    let Walk {
-        mut place,
-        mut counts,
-    } = from;
-    while let Some(prefix) = place {
-        let (found, rest) = visit(tally, m, k, best, prefix, counts, levels);
-        if let Some(set) = found {
-            return (Some(set), rest);
-        }
-        place = rest.place;
-        counts = rest.counts;
-    }
-    (None, Walk { place, counts })
-}
-
-/// Nothing is counted.
-pub(crate) fn no_counts() -> Counts
-    ensures entered { result.entered ≡ 0 }
-    ensures ceilings { result.ceilings ≡ 0 }
-{
-    Counts {
-        entered: 0,
-        ceilings: 0,
-    }
-}
-
-/// A walk over all committees.
-pub(crate) fn begin<T: Tally>(tally: &T, m: u8, k: u8, best: u128, levels: &mut Levels) -> Walk
-    requires candidates { m ≡ T.candidates tally.now }
-    requires most { m ≤ most_candidates }
-    requires some { 1 ≤ k }
-    requires fits { k ≤ m }
-    requires known { AreKnown (T.value_of tally.now) (T.bound_of tally.now) m k best levels.old }
-    ensures begun { IsBegun (T.value_of tally.now) (T.bound_of tally.now) m k best None result }
-    ensures known { AreKnown (T.value_of tally.now) (T.bound_of tally.now) m k best levels.new }
-{
-    visit(tally, m, k, best, Prefix::root(), no_counts(), levels).1
-}
-
-/// A walk from right after the start: down to it as far as its beginnings are open, which does not enter the last, and
-/// past what is below.
-pub(crate) fn begin_after<T: Tally>(
-    tally: &T,
-    m: u8,
-    k: u8,
-    best: u128,
-    start: CandSet,
-    levels: &mut Levels,
-) -> Walk
-    requires candidates { m ≡ T.candidates tally.now }
-    requires most { m ≤ most_candidates }
-    requires some { 1 ≤ k }
-    requires fits { k ≤ m }
-    requires start { IsStart m k (Some start) }
-    requires known { AreKnown (T.value_of tally.now) (T.bound_of tally.now) m k best levels.old }
-    ensures begun { IsBegun (T.value_of tally.now) (T.bound_of tally.now) m k best (Some start) result }
-    ensures known { AreKnown (T.value_of tally.now) (T.bound_of tally.now) m k best levels.new }
-{
-    let mut counts = no_counts();
-    for c in 0..m {
-        let set = start.upto(c);
-        if !enter(tally, m, k, best, Prefix { c, set }, &mut counts, levels) {
-            let place = Prefix { c, set }.past();
-            return Walk { place, counts };
-        }
-    }
-    let place = Prefix { c: m, set: start }.past();
-    Walk { place, counts }
 }

@@ -7,7 +7,7 @@ ghost use Rattle.tie_walk.specs.Winners.{Winning, IsStart, IsNextWinner, best_va
 
 use crate::best::greatest_value;
 use crate::tally::Tally;
-use crate::walk::{Levels, Walk, begin, begin_after, next_winner, no_levels};
+use crate::walk::Walk;
 use ballot_base::CandSet;
 use std::marker::Model;
 
@@ -16,35 +16,28 @@ use std::marker::Model;
 /// (Lackner and Skowron, Multi-Winner Voting with Approval Preferences)
 #[derive(Drop)]
 pub struct Winners<'a, T: Tally> {
-    tally: &'a T,
-    m: u8,
-    k: u8,
+    walk: Walk<'a, T>,
     after: Option<CandSet>,
-    best: u128,
-    walk: Walk,
-    levels: Levels,
 }
 
 impl<'a, T: Tally> Model for Winners<'a, T> {
-    ghost use Rattle.tie_walk.specs.Steps.Walks.{IsWalk, committees_from, those_reaching};
+    ghost use Rattle.tie_walk.specs.Steps.Walks.{IsWinning, committees_from, those_reaching};
     ghost use Rattle.tie_walk.specs.Winners.{Winning};
 
     ghost Value = { Winning T };
 
     ghost view = { λ w. record {
-      tally = w.tally.now;
-      m = w.m;
-      k = w.k;
+      tally = w.walk.tally.now;
+      m = w.walk.m;
+      k = w.walk.k;
       after = w.after;
-      best = w.best;
-      left = those_reaching (T.value_of w.tally.now) w.best (committees_from w.m w.k w.walk.place);
+      best = w.walk.best;
+      left = those_reaching (T.value_of w.walk.tally.now) w.walk.best (committees_from w.walk.m w.walk.k w.walk.place);
       entered = w.walk.counts.entered;
       ceilings = w.walk.counts.ceilings;
     } };
 
-    ghost invariant = { λ w.
-        IsWalk (T.value_of w.tally.now) (T.bound_of w.tally.now) (T.candidates w.tally.now) w.m w.k w.best w.after
-        w.walk w.levels };
+    ghost invariant = { λ w. IsWinning T.candidates T.bound_of w.after w.walk };
 }
 
 impl<'a, T: Tally> Winners<'a, T> {
@@ -63,27 +56,15 @@ impl<'a, T: Tally> Winners<'a, T> {
         ensures best { result.best ≡ best_value (T.value_of tally.now) m k }
         ensures left { result.left ≡ later_than after (winners (T.value_of tally.now) m k) }
     {
-        let m = tally.m();
-        let best = greatest_value(tally, m, k);
-        let mut levels = no_levels();
+        let best = greatest_value(tally, k);
         match after {
             Some(set) => Winners {
-                tally,
-                m,
-                k,
+                walk: Walk::begin_after(tally, k, best, set),
                 after: Some(set),
-                best,
-                walk: begin_after(tally, m, k, best, set, &mut levels),
-                levels,
             },
             None => Winners {
-                tally,
-                m,
-                k,
+                walk: Walk::begin(tally, k, best),
                 after: None,
-                best,
-                walk: begin(tally, m, k, best, &mut levels),
-                levels,
             },
         }
     }
@@ -92,7 +73,7 @@ impl<'a, T: Tally> Winners<'a, T> {
     pub fn best(&self) -> u128
         ensures { result ≡ self.now.best }
     {
-        self.best
+        self.walk.best
     }
 
     /// How many prefixes were entered so far by the walk that hands out the winners: decisions on the first candidates,
@@ -107,8 +88,9 @@ impl<'a, T: Tally> Winners<'a, T> {
     }
 
     /// How many bounds were asked for so far by the walk that hands out the winners: one for each prefix at which it
-    /// had to know whether the bound reaches the greatest value, also where the bound of another prefix had told it.
-    /// The walk that found the greatest value does not count. No prefix is entered without one.
+    /// had to know whether the bound reaches the greatest value. These are its calls of `Tally::bound`, unless the tally
+    /// has a `reach` of its own: what that answers for many prefixes at once counts for each of them. The walk that
+    /// found the greatest value does not count. No prefix is entered without a bound.
     pub fn ceilings(&self) -> u128
         ensures count { result ≡ self.now.ceilings }
         ensures entered { self.now.entered ≤ result }
@@ -126,10 +108,6 @@ impl<'a, T: Tally> Iterator for Winners<'a, T> {
     ghost remaining = { item_count (λ (w : Winning T). w.left) };
 
     fn next(&mut self) -> Option<CandSet> {
-        let best = self.best;
-        let levels = &mut self.levels;
-        let (found, walk) = next_winner(self.tally, self.m, self.k, best, self.walk, levels);
-        self.walk = walk;
-        found
+        self.walk.next()
     }
 }

@@ -1,5 +1,5 @@
 -- What tallies keep, and how they sum.
-use Rattle.std.specs.Prelude.{◌≡◌, ℕ, ◌+◌, ◌*◌, ◌/◌, ◌<◌, ◌≤◌, List, ◌∷◌, length, map, sum, sum_by, take, slice_index}
+use Rattle.std.specs.Prelude.{◌≡◌, ℕ, ◌+◌, ◌*◌, ◌/◌, ◌≤◌, List, ◌∷◌, length, map, sum, sum_by, take, slice_index}
 use Rattle.std.specs.List.{range_with_len}
 use Rattle.ballot_base.specs.Limits.{most_candidates, most_members}
 use Rattle.ballot_base.specs.Ballots.{Row, Election}
@@ -24,26 +24,23 @@ abbrev pub sum_of_worths : List ℕ → List ℕ → ℕ → ℕ
 sum_of_worths counts worths most =
     sum (map (λ j. slice_index counts j * slice_index worths j) (range_with_len 0 (most + 1)))
 
--- the last candidate, from c on, with so great a sum of `left` of what the candidates after it have
-pub record IsLastReaching (worth : ℕ → ℕ) (c m left least last : ℕ) : Type 0 where
+-- a candidate, from c on, up to whom the greatest sum of `left` of what the candidates after each have is so great
+pub record IsReachBySums (worth : ℕ → ℕ) (c m left least last : ℕ) : Type 0 where
   pub low : c ≤ last
   pub high : last + left ≤ m
   pub reached : (n : ℕ) → c ≤ n → n ≤ last → least ≤ greatest_sum worth (n + 1) m left
-  pub next : last + left < m → greatest_sum worth (last + 2) m left < least
 
--- the last candidate of c to `end` up to whom the ballot is no farther from the set than this
-pub record IsLastClose (ballot set : List ℕ) (most c end last : ℕ) : Type 0 where
+-- a candidate of c to `end` up to whom the ballot is no farther from the set than `most`
+pub record IsClose (ballot set : List ℕ) (most c end last : ℕ) : Type 0 where
   pub low : c ≤ last
   pub high : last ≤ end
   pub close : distance (members_upto ballot last) set ≤ most
-  pub next : last < end → most < distance (members_upto ballot (last + 1)) set
 
--- the last candidate of c to `end` up to whom no ballot is farther from the set than this
-pub record IsLastNear (rows : List Row) (set : List ℕ) (most c end last : ℕ) : Type 0 where
+-- a candidate of c to `end` up to whom no ballot is farther from the set than `most`
+pub record IsNear (rows : List Row) (set : List ℕ) (most c end last : ℕ) : Type 0 where
   pub low : c ≤ last
   pub high : last ≤ end
   pub near : greatest_distance_upto last rows set ≤ most
-  pub next : last < end → most < greatest_distance_upto (last + 1) rows set
 
 -- what is true of each tally of a Thiele rule
 pub record IsThiele (rule : ThieleRule) (k denom : ℕ) (weights sums : List ℕ) : Type 0 where

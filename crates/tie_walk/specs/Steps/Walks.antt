@@ -72,9 +72,30 @@ module _ (bound : ℕ → List ℕ → ℕ → ℕ) (m k best : ℕ) where
   open_from None = 0
   open_from (Some prefix) = open_below (m - prefix.c) prefix.c prefix.set + open_after [] prefix.set
 
+-- what a walk looks for: the committees of k of the tally's m candidates whose value reaches the best
+pub record Aim (T : Type 0) : Type 0 where
+  pub tally : T
+  pub m : ℕ
+  pub k : ℕ
+  pub best : ℕ
+
+abbrev pub aim_at : {T : Type 0} → T → ℕ → ℕ → ℕ → Aim T
+aim_at tally m k best = record { tally = tally; m = m; k = k; best = best }
+
+abbrev pub aim : {T : Type 0} → Walk T → Aim T
+aim walk = aim_at walk.tally.now walk.m walk.k walk.best
+
+-- where a walk goes on, and what it has counted
+pub record Progress : Type 0 where
+  pub place : Option Prefix
+  pub counts : Counts
+
+abbrev pub progress : {T : Type 0} → Walk T → Progress
+progress walk = record { place = walk.place; counts = walk.counts }
+
 -- a part of the walk over the winners: which winner it finds, and where it goes on
 pub record IsStride (value : List ℕ → ℕ) (bound : ℕ → List ℕ → ℕ → ℕ) (m k best : ℕ) (from : Option Prefix)
-    (entered : ℕ) (found : Option (List ℕ)) (rest : Walk) : Type 0 where
+    (entered : ℕ) (found : Option (List ℕ)) (rest : Progress) : Type 0 where
   pub next : those_reaching value best (committees_from m k from)
       ≡ option_to_list found ++ those_reaching value best (committees_from m k rest.place)
   pub count : rest.counts.entered + open_from bound m k best rest.place ≡ entered + open_from bound m k best from
@@ -101,49 +122,53 @@ module _ (value : List ℕ → ℕ) (m k best : ℕ) where
   waits_from (Some prefix) = waits_at (waits_after 0 [] prefix.set) prefix.c prefix.set
 
   -- how many bounds a part of the walk asks for at most, if it finds a winner or not
-  abbrev pub IsWait : Option Prefix → Counts → Option (List ℕ) → Walk → Type 0
+  abbrev pub IsWait : Option Prefix → Counts → Option (List ℕ) → Progress → Type 0
   IsWait from before None rest = rest.counts.ceilings + waits_from rest.place ≤ before.ceilings + waits_from from
   IsWait from before (Some set) rest = rest.counts.ceilings ≤ before.ceilings + waits_from from
 
 -- what that part adds to the counts: each prefix with a bound, and no more bounds than the prefixes that it passes
-pub record IsRaised (m : ℕ) (from : Option Prefix) (before : Counts) (rest : Walk) : Type 0 where
+pub record IsRaised (m : ℕ) (from : Option Prefix) (before : Counts) (rest : Progress) : Type 0 where
   pub entered : before.entered ≤ rest.counts.entered
   pub asked : rest.counts.entered + before.ceilings ≤ before.entered + rest.counts.ceilings
   pub work : rest.counts.ceilings + work_left m rest.place ≤ before.ceilings + work_left m from
 
 -- What a walk has counted: the prefixes that it has entered and those still to be entered are all that are live, and m
 -- others at most, which lie on the way to a start.
-pub record IsCounted (bound : ℕ → List ℕ → ℕ → ℕ) (m k best : ℕ) (after : Option (List ℕ)) (walk : Walk) : Type 0 where
-  pub all : live_count bound m k best after ≤ walk.counts.entered + open_from bound m k best walk.place
-  pub few : walk.counts.entered + open_from bound m k best walk.place ≤ live_count bound m k best after + m
+pub record IsCounted (bound : ℕ → List ℕ → ℕ → ℕ) (m k best : ℕ) (after : Option (List ℕ)) (progress : Progress) : Type 0 where
+  pub all : live_count bound m k best after ≤ progress.counts.entered + open_from bound m k best progress.place
+  pub few : progress.counts.entered + open_from bound m k best progress.place ≤ live_count bound m k best after + m
   pub exact : after ≡ None
-      → walk.counts.entered + open_from bound m k best walk.place ≡ live_count bound m k best after
-  pub asked : walk.counts.entered ≤ walk.counts.ceilings
-  pub fits : walk.counts.ceilings + work_left m walk.place < 2 ^ 127
+      → progress.counts.entered + open_from bound m k best progress.place ≡ live_count bound m k best after
+  pub asked : progress.counts.entered ≤ progress.counts.ceilings
+  pub fits : progress.counts.ceilings + work_left m progress.place < 2 ^ 127
 
 -- the first place of a walk over the winners
 pub record IsBegun (value : List ℕ → ℕ) (bound : ℕ → List ℕ → ℕ → ℕ) (m k best : ℕ) (after : Option (List ℕ))
-    (walk : Walk) : Type 0 where
-  pub next : those_reaching value best (committees_from m k walk.place)
+    (progress : Progress) : Type 0 where
+  pub next : those_reaching value best (committees_from m k progress.place)
       ≡ those_reaching value best (later_than after (increasing_lists 1 m k))
-  pub place : IsPlace m k walk.place
-  pub counted : IsCounted bound m k best after walk
+  pub place : IsPlace m k progress.place
+  pub counted : IsCounted bound m k best after progress
 
 -- what is known of the bounds of a set for committees of k
-abbrev pub IsKnown : (List ℕ → ℕ) → (ℕ → List ℕ → ℕ → ℕ) → ℕ → ℕ → ℕ → Option Known → Type 0
-IsKnown value bound m k best None = ⊤
-IsKnown value bound m k best (Some known) =
-    IsReach value bound m known.set (k - length known.set) best known.first known.last
+abbrev pub IsKnown : (ℕ → List ℕ → ℕ → ℕ) → ℕ → ℕ → ℕ → Option Known → Type 0
+IsKnown bound m k best None = ⊤
+IsKnown bound m k best (Some known) = IsReach bound m known.set (k - length known.set) best known.first known.last
 
-abbrev pub AreKnown : (List ℕ → ℕ) → (ℕ → List ℕ → ℕ → ℕ) → ℕ → ℕ → ℕ → List (Option Known) → Type 0
-AreKnown value bound m k best levels = AllByRecursion (IsKnown value bound m k best) levels
+abbrev pub AreKnown : (ℕ → List ℕ → ℕ → ℕ) → ℕ → ℕ → ℕ → List (Option Known) → Type 0
+AreKnown bound m k best levels = AllByRecursion (IsKnown bound m k best) levels
 
--- what is true of a walk over the winners among the committees of k of this many candidates
-pub record IsWalk (value : List ℕ → ℕ) (bound : ℕ → List ℕ → ℕ → ℕ) (candidates m k best : ℕ)
-    (after : Option (List ℕ)) (walk : Walk) (levels : List (Option Known)) : Type 0 where
-  pub candidates_are : m ≡ candidates
-  pub some : 1 ≤ m
-  pub most : m ≤ most_candidates
-  pub place_is : IsPlace m k walk.place
-  pub counted : IsCounted bound m k best after walk
-  pub known : AreKnown value bound m k best levels
+-- what is true of each walk over the committees of k of a tally's candidates
+pub record IsWalk {T : Type 0} (candidates : T → ℕ) (bound : T → ℕ → List ℕ → ℕ → ℕ) (walk : Walk T) : Type 0 where
+  pub m_is : walk.m ≡ candidates walk.tally.now
+  pub most : walk.m ≤ most_candidates
+  pub some : 1 ≤ walk.k
+  pub fits : walk.k ≤ walk.m
+  pub place_is : IsPlace walk.m walk.k walk.place
+  pub known : AreKnown (bound walk.tally.now) walk.m walk.k walk.best walk.levels
+
+-- what is true of a walk over the winners after a start
+pub record IsWinning {T : Type 0} (candidates : T → ℕ) (bound : T → ℕ → List ℕ → ℕ → ℕ) (after : Option (List ℕ))
+    (walk : Walk T) : Type 0 where
+  pub walk_is : IsWalk candidates bound walk
+  pub counted : IsCounted (bound walk.tally.now) walk.m walk.k walk.best after (progress walk)

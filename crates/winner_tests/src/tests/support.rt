@@ -6,6 +6,7 @@ ghost use Rattle.tie_walk.specs.Winners.{IsStart};
 
 use ballot_base::{CandSet, Profile, ProfileBuilder};
 use std::alloc::Global;
+use std::cell::Cell;
 use std::process::Abort;
 use tie_walk::{Tally, Winners};
 
@@ -131,5 +132,61 @@ pub(super) fn assert_begins_with_a_winner<S: Tally>(
     match searched.good_committee(k) {
         Some(good) => assert_eq!(rt; searched.value(good), best, "{good:?}"),
         None => panic!(rt; "no good committee of {k}"),
+    }
+}
+
+/// A tally that hands on its number of candidates, its values and its bounds only, and counts the calls of the last two.
+#[derive(Drop)]
+pub(super) struct Counting<'a, T: Tally> {
+    pub(super) tally: &'a T,
+    values: Cell<u64>,
+    bounds: Cell<u64>,
+}
+
+impl<'a, T: Tally> Counting<'a, T> {
+    pub(super) fn new(tally: &'a T) -> Counting<'a, T>
+        ensures { result.tally.now ≡ tally.now }
+    {
+        Counting {
+            tally,
+            values: Cell::new(0),
+            bounds: Cell::new(0),
+        }
+    }
+
+    /// How many bounds were asked for so far.
+    pub(super) fn bounds(&self) -> u64 {
+        self.bounds.get()
+    }
+
+    /// How many values and bounds were asked for so far.
+    pub(super) fn calls(&self) -> u64 {
+        self.values.get().saturating_add(self.bounds.get())
+    }
+}
+
+fn count(calls: &Cell<u64>) {
+    calls.set(calls.get().saturating_add(1));
+}
+
+impl<'a, T: Tally> Tally for Counting<'a, T> {
+    ghost candidates = { λ counting. T.candidates counting.tally.now };
+
+    ghost value_of = { λ counting. T.value_of counting.tally.now };
+
+    ghost bound_of = { λ counting. T.bound_of counting.tally.now };
+
+    fn m(&self) -> u8 {
+        self.tally.m()
+    }
+
+    fn value(&self, set: CandSet) -> u128 {
+        count(&self.values);
+        self.tally.value(set)
+    }
+
+    fn bound(&self, c: u8, set: CandSet, left: u8) -> u128 {
+        count(&self.bounds);
+        self.tally.bound(c, set, left)
     }
 }

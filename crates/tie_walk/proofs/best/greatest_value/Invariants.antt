@@ -7,8 +7,8 @@ use Rattle.tie_walk.proofs.best.greatest_value.Given as goal
 -- the greatest so far, with what is left, is the best
 abbrev pub invariant-loop-best : goal.invariant-loop-best
 invariant-loop-best g l = record {
-  place : IsPlace l.m l.k l.place;
-  best : greatest (g.T.Tally.value_of l.tally) l.best (committees_from l.m l.k l.place) ≡ best_value (g.T.Tally.value_of l.tally) l.m l.k;
+  place : IsPlace (g.T.Tally.candidates l.tally) l.k l.place;
+  best : greatest (g.T.Tally.value_of l.tally) l.best (committees_from (g.T.Tally.candidates l.tally) l.k l.place) ≡ best_value (g.T.Tally.value_of l.tally) (g.T.Tally.candidates l.tally) l.k;
 }
 
 abbrev pub decreases-loop-best : goal.decreases-loop-best

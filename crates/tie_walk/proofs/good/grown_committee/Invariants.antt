@@ -4,4 +4,4 @@ use Rattle.tie_walk.proofs.good.grown_committee.Given as goal
 
 -- so many candidates so far
 abbrev pub invariant-loop-size : goal.invariant-loop-size
-invariant-loop-size g l = IsIncreasing 1 l.m l.set × (length l.set ≡ l._size)
+invariant-loop-size g l = IsIncreasing 1 (g.T.Tally.candidates l.tally) l.set × (length l.set ≡ l._size)

@@ -10,15 +10,15 @@ loop-n-init g c = (refl, λ x low high. absurd (omega (arith, low, high)))
 
 pub value-value-requires : goal.value-value-requires
 value-value-requires g c =
-    let up = IsIncreasing-with_member 1 c.args.m c.args.set c.loop-n.n c.loop-n.auto.n (omega (arith, c.loop-n-test.true)) c.requires.members in
-    subst (λ n. IsIncreasing 1 n c.with-more.result) c.requires.candidates (subst (IsIncreasing 1 c.args.m) (sym c.with-more.ensures) up)
+    let up = IsIncreasing-with_member 1 (g.T.Tally.candidates c.args.tally.now) c.args.set c.loop-n.n c.loop-n.auto.n (omega (arith, c.loop-n-test.true, c.m-n-end.ensures.value)) c.requires.members in
+    subst (IsIncreasing 1 (g.T.Tally.candidates c.args.tally.now)) (sym c.with-more.ensures) up
 
 pub loop-n-preserved : goal.loop-n-preserved
 loop-n-preserved g c =
-    let m = c.args.m in
+    let m = g.T.Tally.candidates c.args.tally.now in
     let set = c.args.set in
     let n = c.loop-n.n in
-    let within : n ≤ m = omega (arith, c.loop-n-test.true) in
+    let within : n ≤ m = omega (arith, c.loop-n-test.true, c.m-n-end.ensures.value) in
     elim c.if-not-has.branch [
       | then-not-has+then-value-best w ↦
           subst (IsOneMore m set (n + 1) c.if-not-has.best) (sym w.grown-is)
@@ -33,12 +33,12 @@ loop-n-preserved g c =
 
 pub returns-clause-candidates : goal.returns-clause-candidates
 returns-clause-candidates g c =
-    let end : c.loop-n.n ≡ c.args.m + 1 = omega (arith, c.loop-n-test.false, c.loop-n.auto.n-end) in
-    subst (IsIncreasing 1 c.args.m) (sym c.unwrap_or.ensures)
-    (one-more-done c.args.m c.args.set c.loop-n.best c.loop-n.grown c.requires.members c.requires.room (subst (λ n. IsOneMore c.args.m c.args.set n c.loop-n.best c.loop-n.grown) end c.loop-n.invariant)).0
+    let end : c.loop-n.n ≡ (g.T.Tally.candidates c.args.tally.now) + 1 = omega (arith, c.loop-n-test.false, c.loop-n.auto.n-end, c.m-n-end.ensures.value) in
+    subst (IsIncreasing 1 (g.T.Tally.candidates c.args.tally.now)) (sym c.unwrap_or.ensures)
+    (one-more-done (g.T.Tally.candidates c.args.tally.now) c.args.set c.loop-n.best c.loop-n.grown c.requires.members c.requires.room (subst (λ n. IsOneMore (g.T.Tally.candidates c.args.tally.now) c.args.set n c.loop-n.best c.loop-n.grown) end c.loop-n.invariant)).0
 
 pub returns-clause-size : goal.returns-clause-size
 returns-clause-size g c =
-    let end : c.loop-n.n ≡ c.args.m + 1 = omega (arith, c.loop-n-test.false, c.loop-n.auto.n-end) in
+    let end : c.loop-n.n ≡ (g.T.Tally.candidates c.args.tally.now) + 1 = omega (arith, c.loop-n-test.false, c.loop-n.auto.n-end, c.m-n-end.ensures.value) in
     subst (λ s. length s ≡ length c.args.set + 1) (sym c.unwrap_or.ensures)
-    (one-more-done c.args.m c.args.set c.loop-n.best c.loop-n.grown c.requires.members c.requires.room (subst (λ n. IsOneMore c.args.m c.args.set n c.loop-n.best c.loop-n.grown) end c.loop-n.invariant)).1
+    (one-more-done (g.T.Tally.candidates c.args.tally.now) c.args.set c.loop-n.best c.loop-n.grown c.requires.members c.requires.room (subst (λ n. IsOneMore (g.T.Tally.candidates c.args.tally.now) c.args.set n c.loop-n.best c.loop-n.grown) end c.loop-n.invariant)).1

@@ -3,13 +3,12 @@ use Rattle.ballot_base.specs.Limits.{most_candidates}
 use Rattle.tie_walk.proofs.GreatestSums.{best_of, table-begun, table-step, table-fits, table-done, reaching-found}
 use Rattle.tie_walk.proofs.WorthLemmas.{no_total}
 use Rattle.tie_walk.proofs.tally.last_reaching.Goals as goal
-use Rattle.tie_walk.proofs.tally.last_reaching.Goals.{then-passed-left-2, else-passed-left-2, else-passed-left-via-then-passed-left+else-sums-from, else-passed-left-via-else-passed-left}
+use Rattle.tie_walk.proofs.tally.last_reaching.Goals.{then-passed-left-2, else-passed-left-2}
 
 pub loop-passed-init : goal.loop-passed-init
 loop-passed-init c = record {
   long = refl;
   made = λ j h. no_total (most_candidates + 1) j ∙ sym (table-begun (λ n. get_or c.args.worths.now n 0) c.args.m j);
-  short = λ q e low. absurd (omega (arith, e));
 }
 
 pub returns-then-sums-from : goal.returns-then-sums-from
@@ -18,7 +17,6 @@ returns-then-sums-from c =
     reaching-found w c.args.c c.args.m c.args.left c.args.least c.loop-passed.passed (c.args.m - c.loop-passed.passed) c.if-passed-left.true
     (omega (arith, c.loop-passed-test.true)) (omega (arith, c.loop-passed-test.true))
     (omega (arith, c.if-sums-from.true, ap (λ n. get_or c.loop-passed.sums n 0) c.from.ensures, c.loop-passed.invariant.made c.args.left (omega arith)))
-    c.loop-passed.invariant.short
 
 -- how many candidates the sums are of, after one more
 abbrev Most : ℕ → ℕ → ℕ → Type 0
@@ -51,18 +49,6 @@ loop-passed-preserved c =
       made = table-step w c.args.m c.loop-passed.passed c.args.left c.if-passed-left-2.most (w c.from-in-loop-passed.result) c.loop-passed.sums c.add_candidate.new.sums
           (omega (arith, c.loop-passed-test.true, c.requires)) (ap w c.from-in-loop-passed.ensures) most.0 most.1 most.2 c.loop-passed.invariant.made
           c.add_candidate.ensures.first c.add_candidate.ensures.within c.add_candidate.ensures.after;
-      short = λ q e low.
-          let at : q ≡ c.loop-passed.passed = omega (arith, e) in
-          elim c.else-passed-left.branch [
-            | else-passed-left-via-then-passed-left+else-sums-from v ↦ omega (
-              arith,
-              v.if-sums-from.false,
-              ap (λ n. get_or c.loop-passed.sums n 0) v.from.ensures,
-              c.loop-passed.invariant.made c.args.left (omega arith),
-              ap (λ n. best_of w n (c.args.m + 1 - n) c.args.left) at,
-            )
-            | else-passed-left-via-else-passed-left v ↦ absurd (omega (arith, v.if-passed-left.false, at, low))
-          ];
     }
 
 pub returns-then-sums-from-2 : goal.returns-then-sums-from-2
@@ -72,7 +58,6 @@ returns-then-sums-from-2 c =
     reaching-found w c.args.c c.args.m c.args.left c.args.least c.loop-passed.passed c.args.c (omega (arith, end, c.requires.fits))
     (omega (arith, end, c.requires.within)) (omega arith)
     (omega (arith, c.if-sums-from-2.true, ap (λ n. get_or c.loop-passed.sums n 0) c.from-2.ensures, c.loop-passed.invariant.made c.args.left (omega arith)))
-    c.loop-passed.invariant.short
 
 pub returns : goal.returns
 returns c =

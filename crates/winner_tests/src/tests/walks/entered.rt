@@ -3,69 +3,24 @@
 ghost use Rattle.std.specs.Prelude.{◌≡◌, ◌≤◌, length};
 ghost use Rattle.ballot_base.specs.Limits.{most_candidates};
 ghost use Rattle.ballot_base.specs.Lists.{IsIncreasing};
-ghost use Rattle.ballot_base.specs.Increments.{increments};
-ghost use Rattle.tie_walk.specs.Ceilings.{ceiling};
-ghost use Rattle.tie_walk.specs.Values.{thiele_value};
 
-use super::super::support::{Draw, ballot_of, election_of, random_ballots};
+use super::super::support::{Counting, Draw, ballot_of, election_of, random_ballots};
 use ballot_base::{CandSet, KSets, MOST_CANDIDATES, ThieleRule};
-use std::cell::Cell;
 use std::process::Abort;
 use tie_walk::{MinimaxTally, SavTally, Tally, ThieleTally, Winners};
-
-/// A Thiele tally that hands on its number of candidates, its values and its bounds only, and counts the calls of the
-/// last two.
-#[derive(Drop)]
-struct Counting<'a> {
-    tally: ThieleTally<'a>,
-    calls: Cell<u64>,
-}
-
-impl<'a> Counting<'a> {
-    fn count(&self) {
-        self.calls.set(self.calls.get().saturating_add(1));
-    }
-}
-
-impl<'a> Tally for Counting<'a> {
-    ghost candidates = { λ counting. counting.tally.election.m };
-
-    ghost value_of = { λ counting set.
-        thiele_value (increments counting.tally.rule counting.tally.k) counting.tally.election.rows set };
-
-    ghost bound_of = { λ counting c set left.
-        ceiling (thiele_value (increments counting.tally.rule counting.tally.k) counting.tally.election.rows)
-        counting.tally.election.m c set left };
-
-    fn m(&self) -> u8 {
-        self.tally.m()
-    }
-
-    fn value(&self, set: CandSet) -> u128 {
-        self.count();
-        self.tally.value(set)
-    }
-
-    fn bound(&self, c: u8, set: CandSet, left: u8) -> u128 {
-        self.count();
-        self.tally.bound(c, set, left)
-    }
-}
 
 /// Of 40 candidates a voter approves the first 20, who win 20 seats: a walk over 41 prefixes, and at most 10,000 calls
 /// in all.
 #[test]
 fn twenty_of_forty_in_few_calls(rt: HostRuntime) {
     let profile = election_of(&rt, rt.alloc(), 40, &[((1 << 20) - 1, 1)]);
-    let counting = Counting {
-        tally: ThieleTally::new(&profile, ThieleRule::Av, 20),
-        calls: Cell::new(0),
-    };
+    let tally = ThieleTally::new(&profile, ThieleRule::Av, 20);
+    let counting = Counting::new(&tally);
     let mut winners = Winners::new(&counting, 40, 20, None);
     assert!(rt; winners.next() == Some(CandSet::all(20)), "the winner");
     assert!(rt; winners.next().is_none(), "after the winner");
     assert_eq!(rt; winners.entered(), 41);
-    assert!(rt; counting.calls.get() <= 10_000, "too many calls");
+    assert!(rt; counting.calls() <= 10_000, "too many calls");
 }
 
 /// Two voters approve 1 and 2, and one voter 3: nine prefixes are live, and four after 1 and 3.

@@ -4,7 +4,7 @@ ghost use Rattle.ballot_base.specs.Limits.{most_members};
 ghost use Rattle.tie_walk.specs.Ceilings.{IsTight};
 ghost use Rattle.tie_walk.specs.Winners.{IsStart};
 
-use super::super::support::{ballot_of, election_of};
+use super::super::support::{Counting, ballot_of, election_of};
 use ballot_base::{CandSet, MOST_CANDIDATES, Profile, ThieleRule};
 use std::process::Abort;
 use tie_walk::laws::short_waits;
@@ -58,25 +58,43 @@ fn bounds_of_satisfaction(profile: &Profile, k: u8) -> u128
     bounds_to_the_next(&mut winners)
 }
 
-/// How many calls for a winner are counted.
-const CALLS: u16 = 1000;
-
-/// Asserts that each of the first 1,000 calls for a winner asks for at most four bounds for each of 64 candidates.
-fn assert_waits(rt: &impl Abort, tally: &SavTally, k: u8, after: Option<CandSet>)
+/// How many winners come in so many calls. Each call has to count just the bounds that it asks a tally for that answers
+/// nothing else, at most four for each candidate.
+fn count_with_waits<T: Tally>(
+    rt: &impl Abort,
+    tally: &T,
+    k: u8,
+    after: Option<CandSet>,
+    calls: u16,
+) -> u16
     requires some { 1 ≤ k }
-    requires fits { k ≤ tally.now.m }
-    requires start { IsStart tally.now.m k after }
+    requires fits { k ≤ T.candidates tally.now }
+    requires start { IsStart (T.candidates tally.now) k after }
 {
-    let mut winners = Winners::new(tally, tally.m(), k, after);
-    for call in 0..CALLS {
-        let before = winners.ceilings();
-        assert!(rt; winners.next().is_some(), "call {call}");
+    let counting = Counting::new(tally);
+    let m = counting.m();
+    let mut winners = Winners::new(&counting, m, k, after);
+    let mut found = 0_u16;
+    for call in 0..calls {
+        let (before, asked) = (winners.ceilings(), counting.bounds());
+        let winner = winners.next();
         let bounds = winners.ceilings().saturating_sub(before);
-        assert!(rt; bounds <= 256, "{bounds} bounds in call {call}");
+        assert_eq!(rt;
+            bounds,
+            u128::from(counting.bounds().saturating_sub(asked)),
+            "call {call}"
+        );
+        assert!(rt;
+            bounds <= 4 * u128::from(m),
+            "{bounds} bounds in call {call}"
+        );
+        found = found.saturating_add(u16::from(winner.is_some()));
     }
+    found
 }
 
-/// Of 64 candidates a voter approves all, so that all committees of 32 tie: the first, and those after 1 to 31 and 64.
+/// Of 64 candidates a voter approves all, so that all committees of 32 tie: the first 1,000 of them, and those after 1 to
+/// 31 and 64.
 #[test]
 fn waits_for_tied_committees(rt: HostRuntime) {
     let profile = election_of(&rt, rt.alloc(), MOST_CANDIDATES, &[(u64::MAX, 1)]);
@@ -87,10 +105,18 @@ fn waits_for_tied_committees(rt: HostRuntime) {
         assert!(rt; bounds >= 32, "a bound for each of 1 to 32");
     }
     let tally = SavTally::new(&profile);
-    assert_waits(&rt, &tally, 32, None);
+    assert_eq!(rt; count_with_waits(&rt, &tally, 32, None, 1000), 1000);
     let start = ballot_of(MOST_CANDIDATES, (1 << 31) - 1 | 1 << 63);
     if start.len() != 32 {
         panic!(rt; "a start of 32");
     }
-    assert_waits(&rt, &tally, 32, Some(start));
+    assert_eq!(rt; count_with_waits(&rt, &tally, 32, Some(start), 1000), 1000);
+}
+
+/// Of 40 candidates a voter approves the first 20, who win 20 seats.
+#[test]
+fn waits_for_the_only_winner(rt: HostRuntime) {
+    let profile = election_of(&rt, rt.alloc(), 40, &[((1 << 20) - 1, 1)]);
+    let tally = ThieleTally::new(&profile, ThieleRule::Av, 20);
+    assert_eq!(rt; count_with_waits(&rt, &tally, 20, None, 3), 1);
 }

@@ -4,7 +4,7 @@ use Rattle.ballot_base.specs.Ballots.{Election}
 use Rattle.ballot_base.specs.CommonMultiple.{common_multiple}
 use Rattle.ballot_base.proofs.Increasing.{IsIncreasing-higher}
 use Rattle.tie_walk.specs.Ceilings.{IsBound, IsShort, IsReach, ceiling, greatest_sum}
-use Rattle.tie_walk.specs.Steps.Tables.{parts, IsLastReaching}
+use Rattle.tie_walk.specs.Steps.Tables.{parts, IsReachBySums}
 use Rattle.tie_walk.specs.Values.{satisfaction_value}
 use Rattle.tie_walk.proofs.Gains.{score-most, satisfaction-ceiling}
 use Rattle.tie_walk.proofs.Reaches.{reach-sums}
@@ -37,14 +37,14 @@ returns g c =
     let shares : t.shares ≡ parts (common_multiple e.m) = c.self.invariant.shares_are ∙ ap parts c.self.invariant.denom_is in
     let base : c.value.result ≡ value set = c.value.ensures ∙ ap (λ (x : Election). satisfaction_value x.m x.rows set) (sym same) in
     let higher = λ (n : ℕ) (low : c.args.c ≤ n). IsIncreasing-higher 1 c.args.c n set low c.requires.candidates in
-    let law : (n : ℕ) → c.args.c ≤ n → IsBound value e.m n set left (ceiling value e.m n set left) = λ n low.
-    ceiling-bounds value (satisfaction-submodular e.m e.rows) e.m n set left (higher n low) in
+    let law : IsBound value e.m c.args.c set left (ceiling value e.m c.args.c set left) =
+    ceiling-bounds value (satisfaction-submodular e.m e.rows) e.m c.args.c set left c.requires.candidates in
     let sums : (n : ℕ) → c.args.c ≤ n → ceiling value e.m n set left ≡ value set + greatest_sum worth (n + 1) e.m left = λ n low.
     sym (satisfaction-ceiling e t.shares t.scores n left set c.m.ensures.valid (higher n low) shares c.self.invariant.scores_are) in
-    let found : MatchOption c.last_reaching.result (greatest_sum worth (c.args.c + 1) e.m left < least) (IsLastReaching worth c.args.c e.m left least) =
-    subst (λ n. MatchOption c.last_reaching.result (greatest_sum worth (c.args.c + 1) n left < least) (IsLastReaching worth c.args.c n left least)) c.m.ensures.value c.last_reaching.ensures in
+    let found : MatchOption c.last_reaching.result (greatest_sum worth (c.args.c + 1) e.m left < least) (IsReachBySums worth c.args.c e.m left least) =
+    subst (λ n. MatchOption c.last_reaching.result (greatest_sum worth (c.args.c + 1) n left < least) (IsReachBySums worth c.args.c n left least)) c.m.ensures.value c.last_reaching.ensures in
     let here = reach-sums value (ceiling value e.m) e.m set left c.args.best c.args.c law worth (value set) least c.last_reaching.result
     (omega (arith, c.requires.fits, c.requires.within, size)) sums (c.saturating_sub-least.ensures ∙ ap (λ n. c.args.best - n) base) found in
     subst (λ (x : Election). MatchOption c.last_reaching.result
     (IsShort (satisfaction_value x.m x.rows) (ceiling (satisfaction_value x.m x.rows) x.m) x.m set left c.args.best c.args.c)
-    (IsReach (satisfaction_value x.m x.rows) (ceiling (satisfaction_value x.m x.rows) x.m) x.m set left c.args.best c.args.c)) same here
+    (IsReach (ceiling (satisfaction_value x.m x.rows) x.m) x.m set left c.args.best c.args.c)) same here

@@ -5,7 +5,7 @@ use Rattle.ballot_base.specs.Limits.{most_members}
 use Rattle.ballot_base.specs.Increments.{increments}
 use Rattle.ballot_base.proofs.Increasing.{IsIncreasing-higher}
 use Rattle.tie_walk.specs.Ceilings.{IsBound, ceiling, greatest_sum}
-use Rattle.tie_walk.specs.Steps.Tables.{IsLastReaching}
+use Rattle.tie_walk.specs.Steps.Tables.{IsReachBySums}
 use Rattle.tie_walk.specs.Values.{thiele_value, Thiele}
 use Rattle.tie_walk.proofs.Gains.{thiele-ceiling}
 use Rattle.tie_walk.proofs.GreatestSums.{ceiling-whole}
@@ -22,8 +22,8 @@ returns-then-value-best g c =
     let t : Thiele = c.args.self.now in
     let value = thiele_value (increments t.rule t.k) t.election.rows in
     let few = subst (λ (x : Thiele). x.k ≤ most_members) c.self.view_is c.self.invariant.size in
-    let law : (n : ℕ) → c.args.c ≤ n → IsBound value t.election.m n c.args.set c.args.left (ceiling value t.election.m n c.args.set c.args.left) = λ n low.
-    ceiling-bounds value (thiele_rule-submodular t.rule t.k t.election.rows few) t.election.m n c.args.set c.args.left (IsIncreasing-higher 1 c.args.c n c.args.set low c.requires.candidates) in
+    let law : IsBound value t.election.m c.args.c c.args.set c.args.left (ceiling value t.election.m c.args.c c.args.set c.args.left) =
+    ceiling-bounds value (thiele_rule-submodular t.rule t.k t.election.rows few) t.election.m c.args.c c.args.set c.args.left c.requires.candidates in
     let same : (n : ℕ) → c.args.c ≤ n → ceiling value t.election.m n c.args.set c.args.left ≡ value c.args.set = λ n low.
     ap (ceiling value t.election.m n c.args.set) c.if-left-eq0.true ∙ ceiling-whole value t.election.m n c.args.set in
     reach-none value (ceiling value t.election.m) t.election.m c.args.set c.args.left c.args.best c.args.c law (value c.args.set) c.if-left-eq0.true same
@@ -35,8 +35,8 @@ returns-else-value-best g c =
     let value = thiele_value (increments t.rule t.k) t.election.rows in
     let few = subst (λ (x : Thiele). x.k ≤ most_members) c.self.view_is c.self.invariant.size in
     let size : c.m-m.result ≡ t.election.m = c.m-m.ensures.value ∙ ap (λ (x : Thiele). x.election.m) c.self.view_is in
-    let law : (n : ℕ) → c.args.c ≤ n → IsBound value t.election.m n c.args.set c.args.left (ceiling value t.election.m n c.args.set c.args.left) = λ n low.
-    ceiling-bounds value (thiele_rule-submodular t.rule t.k t.election.rows few) t.election.m n c.args.set c.args.left (IsIncreasing-higher 1 c.args.c n c.args.set low c.requires.candidates) in
+    let law : IsBound value t.election.m c.args.c c.args.set c.args.left (ceiling value t.election.m c.args.c c.args.set c.args.left) =
+    ceiling-bounds value (thiele_rule-submodular t.rule t.k t.election.rows few) t.election.m c.args.c c.args.set c.args.left c.requires.candidates in
     let same : (n : ℕ) → c.args.c ≤ n → ceiling value t.election.m n c.args.set c.args.left ≡ value c.args.set = λ n low.
     ap (ceiling value t.election.m n c.args.set) c.if-left-eq0.true ∙ ceiling-whole value t.election.m n c.args.set in
     let all = reach-all value (ceiling value t.election.m) t.election.m c.args.set c.args.left c.args.best c.args.c law (value c.args.set) c.if-left-eq0.true same c.requires.within
@@ -54,11 +54,11 @@ returns g c =
     let valid = subst (λ (x : Thiele). IsElection x.election) c.self.view_is c.m-m.ensures.valid in
     let size : c.m-m.result ≡ t.election.m = c.m-m.ensures.value ∙ ap (λ (x : Thiele). x.election.m) c.self.view_is in
     let higher = λ (n : ℕ) (low : c.args.c ≤ n). IsIncreasing-higher 1 c.args.c n c.args.set low c.requires.candidates in
-    let law : (n : ℕ) → c.args.c ≤ n → IsBound value t.election.m n c.args.set c.args.left (ceiling value t.election.m n c.args.set c.args.left) = λ n low.
-    ceiling-bounds value (thiele_rule-submodular t.rule t.k t.election.rows few) t.election.m n c.args.set c.args.left (higher n low) in
+    let law : IsBound value t.election.m c.args.c c.args.set c.args.left (ceiling value t.election.m c.args.c c.args.set c.args.left) =
+    ceiling-bounds value (thiele_rule-submodular t.rule t.k t.election.rows few) t.election.m c.args.c c.args.set c.args.left c.requires.candidates in
     let same : (n : ℕ) → c.args.c ≤ n → ceiling value t.election.m n c.args.set c.args.left ≡ value c.args.set + greatest_sum (λ x. get_or gains x 0) (n + 1) t.election.m c.args.left = λ n low.
     sym (thiele-ceiling t.election w gains n c.args.left c.args.set valid (higher n low) (λ x from to. c.gains_after-value.ensures.gains x (omega (arith, low, from)) to)) in
     let found = subst (λ n. MatchOption c.last_reaching.result (greatest_sum (λ x. get_or gains x 0) (c.args.c + 1) n c.args.left < least)
-    (IsLastReaching (λ x. get_or gains x 0) c.args.c n c.args.left least)) size c.last_reaching.ensures in
+    (IsReachBySums (λ x. get_or gains x 0) c.args.c n c.args.left least)) size c.last_reaching.ensures in
     reach-sums value (ceiling value t.election.m) t.election.m c.args.set c.args.left c.args.best c.args.c law (λ x. get_or gains x 0) (value c.args.set) least c.last_reaching.result
     (omega (arith, c.requires.fits, c.requires.within)) same (c.saturating_sub.ensures ∙ ap (λ n. c.args.best - n) c.gains_after-value.ensures.value) found

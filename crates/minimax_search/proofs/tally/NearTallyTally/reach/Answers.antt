@@ -1,5 +1,0 @@
-use Rattle.ballot_base.proofs.Increasing.{IsIncreasing-higher}
-use Rattle.minimax_search.proofs.tally.NearTallyTally.reach.Goals as goal
-
-pub reaching_upto-next-requires-clause-candidates : goal.reaching_upto-next-requires-clause-candidates
-reaching_upto-next-requires-clause-candidates g c = IsIncreasing-higher 1 c.args.c c.loop-here.here c.args.set c.loop-here.invariant.low c.requires.candidates
