@@ -215,7 +215,7 @@ module _ (property : Property) (e : Election) (committee : List ℕ) (level : �
       rw all.0 (no_pair shared lists all.1)
 
 module _ {X : Type 0} where
-  all_of : (P : X → Type 0) → ((x : X) → P x) → (xs : List X) → AllByRecursion P xs
+  pub all_of : (P : X → Type 0) → ((x : X) → P x) → (xs : List X) → AllByRecursion P xs
   all_of P each [] = tt
   all_of P each (x ∷ xs) = (each x, all_of P each xs)
 
@@ -291,7 +291,7 @@ pub below_nothing : (m size : ℕ) (committee : List ℕ) → IsIncreasing 1 m c
 below_nothing m size committee i = same_lists_of (sublists committee size) ∙ sym (lists_of_members m size committee i)
 
 module _ (property : Property) (e : Election) (committee : List ℕ) (level : ℕ) where
-  lists_step : (shared : List ℕ) (lists : List (List ℕ))
+  pub lists_step : (shared : List ℕ) (lists : List (List ℕ))
       → first_of_lists property e committee level (shared ∷ lists)
       ≡ option_or (first_of property e committee level (pairs_of shared (lists_within property e.m committee level))) (first_of_lists property e committee level lists)
   lists_step shared lists =

@@ -1,4 +1,5 @@
 pub mod BreakLemmas
+pub mod CloneLemmas
 pub mod CountedLemmas
 pub mod Examples
 pub mod GroupLemmas

@@ -40,12 +40,12 @@ in_range last count set e i =
 
 -- ---- all lists of some of the items
 
-sublists-empty : (xs : List ℕ) → [] ∷ [] ≡ sublists xs zero
+pub sublists-empty : (xs : List ℕ) → [] ∷ [] ≡ sublists xs zero
 sublists-empty [] = refl
 sublists-empty (x ∷ xs) = refl
 
 -- the lists all of whose numbers pass are the lists of the numbers that pass
-front_kept : (p : ℕ → Bool) (x : ℕ) → p x ≡ true → (lists : List (List ℕ)) → filter (list_all p) (map (λ rest. x ∷ rest) lists) ≡ map (λ rest. x ∷ rest) (filter (list_all p) lists)
+pub front_kept : (p : ℕ → Bool) (x : ℕ) → p x ≡ true → (lists : List (List ℕ)) → filter (list_all p) (map (λ rest. x ∷ rest) lists) ≡ map (λ rest. x ∷ rest) (filter (list_all p) lists)
 front_kept p x e [] = refl
 front_kept p x e (list ∷ lists) =
     let more = front_kept p x e lists in
@@ -57,7 +57,7 @@ front_kept p x e (list ∷ lists) =
     cases true more = ap (λ ls. (x ∷ list) ∷ ls) more
     cases false more = more
 
-front_dropped : (p : ℕ → Bool) (x : ℕ) → p x ≡ false → (lists : List (List ℕ)) → filter (list_all p) (map (λ rest. x ∷ rest) lists) ≡ []
+pub front_dropped : (p : ℕ → Bool) (x : ℕ) → p x ≡ false → (lists : List (List ℕ)) → filter (list_all p) (map (λ rest. x ∷ rest) lists) ≡ []
 front_dropped p x e [] = refl
 front_dropped p x e (list ∷ lists) = rw e (front_dropped p x e lists)
 

@@ -3,13 +3,14 @@ ghost use Rattle.std.specs.Prelude.{◌≡◌, ◌≢◌, ℕ, ◌+◌, ◌-◌,
 ghost use Rattle.std.specs.List.{list_all};
 ghost use Rattle.ballot_base.specs.Limits.{most_candidates, most_members, most_voters};
 ghost use Rattle.ballot_base.specs.Lists.{IsIncreasing};
-ghost use Rattle.ballot_base.specs.Ballots.{IsElection};
+ghost use Rattle.ballot_base.specs.Ballots.{IsElection, Row};
+ghost use Rattle.ballot_base.specs.Clones.{AreClones, clones_among};
 ghost use Rattle.group_check.specs.Groups.{HasProperty};
 ghost use Rattle.group_check.specs.Report.{IsReport, first_violation, lists_within, is_in_group, group_of};
 ghost use Rattle.group_check.specs.Steps.Checking.{greatest_level, shared_size, may_share, IsFirst, IsSecond, Computes, pairs_of, first_of, first_of_lists, completions, is_possible, possible_candidates, voters_below, voters_around, is_enough_within, is_large};
 
 use crate::property::{Property, Violation, includes};
-use ballot_base::{CandSet, Profile};
+use ballot_base::{CandSet, Clones, Profile, all_clones};
 use std::alloc::Allocator;
 
 /// So many lists U are few enough to be tried before any candidates.
@@ -28,8 +29,9 @@ pub fn find_violation<A: Allocator + Copy>(
     ensures none { (result ≡ None) ↔ HasProperty property profile.now committee }
     ensures some { IfSome result (λ report. IsReport property profile.now committee report) }
 {
+    let clones = all_clones(profile);
     for level in 1..=greatest_level(property, committee) {
-        let found = first_at(profile, committee, property, level);
+        let found = first_at(profile, &clones, committee, property, level);
         if found.is_some() {
             return found;
         }
@@ -64,13 +66,24 @@ fn may_share(property: Property, committee: CandSet, candidate: u8) -> bool
     property != Property::EjrPlus || !committee.has(candidate)
 }
 
+/// The clones of a candidate, itself among them.
+fn clones_of(clones: &Clones, candidate: u8) -> CandSet
+    requires { candidate ≤ most_candidates }
+    ensures { (m : ℕ) (rows : List Row) → AreClones m rows clones.now → 1 ≤ candidate → candidate ≤ m
+        → m ≤ most_candidates → result ≡ clones_among m rows candidate }
+{
+    clones[usize::from(candidate)]
+}
+
 /// The first violation at a level.
 fn first_at<A: Allocator + Copy>(
     profile: &Profile<A>,
+    clones: &Clones,
     committee: CandSet,
     property: Property,
     level: u8,
 ) -> Option<Violation>
+    requires clones { AreClones profile.now.m profile.now.rows clones.now }
     requires some { committee ≢ [] }
     requires candidates { IsIncreasing 1 profile.now.m committee }
     requires least { 1 ≤ level }
@@ -84,6 +97,7 @@ fn first_at<A: Allocator + Copy>(
     }
     first_beyond(
         profile,
+        clones,
         committee,
         property,
         level,
@@ -174,6 +188,7 @@ fn has_few_lists(k: u8, size: u8) -> bool
 /// The first violation at a level that shares these candidates and `left` of the pool, which come after them.
 fn first_beyond<A: Allocator + Copy>(
     profile: &Profile<A>,
+    clones: &Clones,
     committee: CandSet,
     property: Property,
     level: u8,
@@ -181,6 +196,7 @@ fn first_beyond<A: Allocator + Copy>(
     pool: CandSet,
     left: u8,
 ) -> Option<Violation>
+    requires clones { AreClones profile.now.m profile.now.rows clones.now }
     requires candidates { IsIncreasing 1 profile.now.m committee }
     requires least { 1 ≤ level }
     requires most { level ≤ greatest_level property committee }
@@ -201,12 +217,25 @@ fn first_beyond<A: Allocator + Copy>(
     let voters = voters_below(profile, committee, level, more);
     // No list below a beginning has more voters than it.
     if is_enough(profile, committee, level, voters) {
-        let found = first_beyond(profile, committee, property, level, more, rest, left - 1);
+        let found = first_beyond(
+            profile,
+            clones,
+            committee,
+            property,
+            level,
+            more,
+            rest,
+            left - 1,
+        );
         if found.is_some() {
             return found;
         }
     }
-    first_beyond(profile, committee, property, level, shared, rest, left)
+    // A list with a clone in the candidate's place has the same groups as the one with the candidate.
+    let others = rest.minus(clones_of(clones, candidate));
+    first_beyond(
+        profile, clones, committee, property, level, shared, others, left,
+    )
 }
 
 /// The first violation at a level with these candidates.

@@ -1,13 +1,14 @@
-use Rattle.std.proofs.Common.{◌≡◌, ℕ, ◌+◌, ◌-◌, ◌<◌, ◌++◌, ◌∷◌, [], List, ap, sym, subst, ◌∙◌, arith, length, sum, true}
+use Rattle.std.proofs.Common.{◌≡◌, ℕ, ◌+◌, ◌-◌, ◌<◌, ◌++◌, ◌∷◌, [], List, ap, sym, subst, ◌∙◌, arith, length, not, sum, true, None}
 use Rattle.std.specs.Option.{option_or}
 use Rattle.std.specs.List.{list_all}
 use Rattle.std.proofs.lemmas.List.{append_assoc, length-append}
 use Rattle.ballot_base.specs.Limits.{most_candidates}
 use Rattle.ballot_base.specs.Lists.{IsIncreasing}
-use Rattle.ballot_base.specs.CandSet.{with_member}
+use Rattle.ballot_base.specs.CandSet.{has_member, with_member}
 use Rattle.group_check.specs.Steps.Checking.{is_large, may_share, voters_below, first_of_lists, completions}
-use Rattle.group_check.proofs.CountedLemmas.{found_first, none_first}
-use Rattle.group_check.proofs.WalkLemmas.{IsIncreasing-front, IsIncreasing-with, IsIncreasing-without, at_least_one, with_member-end}
+use Rattle.group_check.proofs.CloneLemmas.{clones_out, length-kept, none_found-is, order-kept, share-kept}
+use Rattle.group_check.proofs.CountedLemmas.{found_first}
+use Rattle.group_check.proofs.WalkLemmas.{IsIncreasing-front, IsIncreasing-with, IsIncreasing-without, at_least_one, at_most_last, with_member-end}
 use Rattle.group_check.proofs.BeginningLemmas.{none_below, none_from_few, first_whole, first_split, share_without, share_front}
 use Rattle.group_check.proofs.checking.+first_beyond.Goals as goal
 use Rattle.group_check.proofs.checking.+first_beyond.Goals.{then-is_enough+else-is_some, else-is_enough}
@@ -50,17 +51,20 @@ first_beyond-found-requires g t c κs within =
       (
         within,
         (
-          c.requires.candidates,
+          c.requires.clones,
           (
-            c.requires.least,
+            c.requires.candidates,
             (
-              c.requires.most,
+              c.requires.least,
               (
-                subst (λ more. IsIncreasing 1 m (more ++ c.in_ok-candidate.rest)) (sym c.with-more.ensures) next,
+                c.requires.most,
                 (
-                  omega (arith, longer, c.requires.size, c.if-left-eq0.false),
-                  subst (λ more. list_all may (more ++ c.in_ok-candidate.rest) ≡ true) (sym (c.with-more.ensures ∙ with_member-end 1 m c.args.shared x c.in_ok-candidate.rest order))
-                      (subst (λ set. list_all may set ≡ true) (sym (append_assoc c.args.shared (x ∷ []) c.in_ok-candidate.rest)) all),
+                  subst (λ more. IsIncreasing 1 m (more ++ c.in_ok-candidate.rest)) (sym c.with-more.ensures) next,
+                  (
+                    omega (arith, longer, c.requires.size, c.if-left-eq0.false),
+                    subst (λ more. list_all may (more ++ c.in_ok-candidate.rest) ≡ true) (sym (c.with-more.ensures ∙ with_member-end 1 m c.args.shared x c.in_ok-candidate.rest order))
+                        (subst (λ set. list_all may set ≡ true) (sym (append_assoc c.args.shared (x ∷ []) c.in_ok-candidate.rest)) all),
+                  ),
                 ),
               ),
             ),
@@ -80,25 +84,39 @@ returns-then-is_some g t c =
     ∙ first_split c.args.property e c.args.committee c.args.level c.args.shared c.in_ok-candidate.candidate c.in_ok-candidate.rest c.args.left order c.if-left-eq0.false
     ∙ ap (λ pool. first c.args.shared pool c.args.left) (sym c.in_ok-candidate.ensures)
 
+pub clones_of-requires : goal.clones_of-requires
+clones_of-requires g t c =
+    (subst (λ pool. IsIncreasing 1 most_candidates pool) c.in_ok-candidate.ensures c.valid.ensures).1
+
 pub first_beyond-requires : goal.first_beyond-requires
 first_beyond-requires g t c κs within =
     let m = c.args.profile.now.m in
     let may = may_share c.args.property c.args.committee in
+    let stays = λ (n : ℕ). not (has_member c.clones_of.result n) in
+    let x = c.in_ok-candidate.candidate in
+    let rest = c.in_ok-candidate.rest in
     let all = subst (λ pool. list_all may (c.args.shared ++ pool) ≡ true) c.in_ok-candidate.ensures c.requires.shared in
     let order = subst (λ pool. IsIncreasing 1 m (c.args.shared ++ pool)) c.in_ok-candidate.ensures c.requires.order in
-    let less : length c.in_ok-candidate.rest < length c.args.pool = omega (arith, ap length c.in_ok-candidate.ensures) in (
+    let less : length c.minus-others.result < length c.args.pool =
+    omega (arith, ap length c.in_ok-candidate.ensures, ap length c.minus-others.ensures, length-kept stays rest) in (
       omega (arith, less, c.decreases),
       (
         within,
         (
-          c.requires.candidates,
+          c.requires.clones,
           (
-            c.requires.least,
+            c.requires.candidates,
             (
-              c.requires.most,
+              c.requires.least,
               (
-                IsIncreasing-without 1 m c.args.shared c.in_ok-candidate.candidate c.in_ok-candidate.rest order,
-                (c.requires.size, share_without may c.args.shared c.in_ok-candidate.candidate c.in_ok-candidate.rest all),
+                c.requires.most,
+                (
+                  subst (λ pool. IsIncreasing 1 m (c.args.shared ++ pool)) (sym c.minus-others.ensures) (order-kept stays 1 m c.args.shared rest (IsIncreasing-without 1 m c.args.shared x rest order)),
+                  (
+                    c.requires.size,
+                    subst (λ pool. list_all may (c.args.shared ++ pool) ≡ true) (sym c.minus-others.ensures) (share-kept may stays c.args.shared rest (share_without may c.args.shared x rest all)),
+                  ),
+                ),
               ),
             ),
           ),
@@ -110,20 +128,25 @@ pub returns : goal.returns
 returns g t c =
     let e = c.args.profile.now in
     let first = λ (front pool : List ℕ) (left : ℕ). first_of_lists c.args.property e c.args.committee c.args.level (completions front pool left) in
-    let order = subst (λ pool. IsIncreasing 1 e.m (c.args.shared ++ pool)) c.in_ok-candidate.ensures c.requires.order in
-    let rest = first c.args.shared c.in_ok-candidate.rest c.args.left in
-    let more = with_member c.args.shared c.in_ok-candidate.candidate in
-    let front : rest ≡ option_or (first more c.in_ok-candidate.rest (c.args.left - 1)) rest = elim c.if-is_enough.branch [
+    let x = c.in_ok-candidate.candidate in
+    let pool = c.in_ok-candidate.rest in
+    let order = subst (λ set. IsIncreasing 1 e.m (c.args.shared ++ set)) c.in_ok-candidate.ensures c.requires.order in
+    let rest = first c.args.shared pool c.args.left in
+    let more = with_member c.args.shared x in
+    let none : None ≡ first more pool (c.args.left - 1) = elim c.if-is_enough.branch [
       | then-is_enough+else-is_some w ↦
-          none_first w.first_beyond-found.result _ rest
-          (w.first_beyond-found.ensures ∙ ap (λ set. first set c.in_ok-candidate.rest (c.args.left - 1)) c.with-more.ensures)
+          none_found-is w.first_beyond-found.result _
+          (w.first_beyond-found.ensures ∙ ap (λ set. first set pool (c.args.left - 1)) c.with-more.ensures)
           (sym w.is_some.ensures ∙ w.if-is_some.false)
       | else-is_enough w ↦
-          ap (λ o. option_or o rest)
-          (none_below c.args.property e c.args.committee c.args.level more c.in_ok-candidate.rest (c.args.left - 1) c.voters_below-voters.ensures.valid c.requires.least
+          none_below c.args.property e c.args.committee c.args.level more pool (c.args.left - 1) c.voters_below-voters.ensures.valid c.requires.least
           (ap (λ set. is_large e c.args.committee c.args.level (sum (voters_below e c.args.committee c.args.level set))) (sym c.with-more.ensures)
-          ∙ ap (is_large e c.args.committee c.args.level) (sym c.voters_below-voters.ensures.group) ∙ sym c.is_enough.ensures ∙ w.if-is_enough.false))
+          ∙ ap (is_large e c.args.committee c.args.level) (sym c.voters_below-voters.ensures.group) ∙ sym c.is_enough.ensures ∙ w.if-is_enough.false)
     ] in
-    c.first_beyond.ensures ∙ front
-    ∙ first_split c.args.property e c.args.committee c.args.level c.args.shared c.in_ok-candidate.candidate c.in_ok-candidate.rest c.args.left order c.if-left-eq0.false
-    ∙ ap (λ pool. first c.args.shared pool c.args.left) (sym c.in_ok-candidate.ensures)
+    let class = c.clones_of.ensures e.m e.rows c.requires.clones (at_least_one e.m c.args.shared x pool order) (at_most_last 1 e.m c.args.shared x pool order) c.voters_below-voters.ensures.valid.most in
+    c.first_beyond.ensures
+    ∙ ap (λ set. first c.args.shared set c.args.left) c.minus-others.ensures
+    ∙ clones_out c.args.property e c.args.committee c.args.level c.args.shared x pool c.clones_of.result c.args.left order c.if-left-eq0.false class none
+    ∙ ap (λ o. option_or o rest) none
+    ∙ first_split c.args.property e c.args.committee c.args.level c.args.shared x pool c.args.left order c.if-left-eq0.false
+    ∙ ap (λ set. first c.args.shared set c.args.left) (sym c.in_ok-candidate.ensures)
