@@ -38,16 +38,16 @@ votes-weaker : (a b : Bool) (n : ℕ) → (a ≡ true → b ≡ true) → cond a
 votes-weaker true b n h = let is : cond b n 0 ≡ n = ap (λ c. cond c n 0) (h refl) in omega (arith, is)
 votes-weaker false b n h = omega arith
 
-sum-weaker : (m : ℕ) (test other : List ℕ → Bool) (rows : List Row) → AllByRecursion (λ row. IsIncreasing 1 m row.0) rows
-    → ((ballot : List ℕ) → IsIncreasing 1 m ballot → test ballot ≡ true → other ballot ≡ true) → sum (group_of test rows) ≤ sum (group_of other rows)
-sum-weaker m test other [] all more = omega arith
-sum-weaker m test other (row ∷ rows) all more =
+sum-weaker : (test other : List ℕ → Bool) (rows : List Row) → AllByRecursion (λ (row : Row). test row.0 ≡ true → other row.0 ≡ true) rows
+    → sum (group_of test rows) ≤ sum (group_of other rows)
+sum-weaker test other [] all = omega arith
+sum-weaker test other (row ∷ rows) all =
     omega (
       arith,
       sum_by-cons (λ (x : ℕ). x) (cond (test row.0) row.1 0) (group_of test rows),
       sum_by-cons (λ (x : ℕ). x) (cond (other row.0) row.1 0) (group_of other rows),
-      votes-weaker (test row.0) (other row.0) row.1 (more row.0 all.0),
-      sum-weaker m test other rows all.1 more,
+      votes-weaker (test row.0) (other row.0) row.1 all.0,
+      sum-weaker test other rows all.1,
     )
 
 no_longer : (a b : Bool) → (a ≡ true → b ≡ true) → b ≡ false → a ≡ false
@@ -58,12 +58,20 @@ no_longer true b more e = absurd (never (sym (more refl) ∙ e))
 no_longer false b more e = refl
 
 -- where the other group is too small, so is the one
-too_small : (e : Election) (committee : List ℕ) (level : ℕ) (test other : List ℕ → Bool) → IsElection e
+pub too_small : (e : Election) (committee : List ℕ) (level : ℕ) (test other : List ℕ → Bool)
+    → AllByRecursion (λ (row : Row). test row.0 ≡ true → other row.0 ≡ true) e.rows
+    → is_large e committee level (sum (group_of other e.rows)) ≡ false → is_large e committee level (sum (group_of test e.rows)) ≡ false
+too_small e committee level test other more =
+    no_longer (is_large e committee level (sum (group_of test e.rows))) (is_large e committee level (sum (group_of other e.rows)))
+    (large_more e committee level (sum (group_of test e.rows)) (sum (group_of other e.rows)) (sum-weaker test other e.rows more))
+
+-- where each ballot of the one is one of the other
+small_ballots : (e : Election) (committee : List ℕ) (level : ℕ) (test other : List ℕ → Bool) → IsElection e
     → ((ballot : List ℕ) → IsIncreasing 1 e.m ballot → test ballot ≡ true → other ballot ≡ true)
     → is_large e committee level (sum (group_of other e.rows)) ≡ false → is_large e committee level (sum (group_of test e.rows)) ≡ false
-too_small e committee level test other valid more =
-    no_longer (is_large e committee level (sum (group_of test e.rows))) (is_large e committee level (sum (group_of other e.rows)))
-    (large_more e committee level (sum (group_of test e.rows)) (sum (group_of other e.rows)) (sum-weaker e.m test other e.rows valid.ballots more))
+small_ballots e committee level test other valid more =
+    too_small e committee level test other
+    (AllByRecursion-weaker (λ (row : Row). IsIncreasing 1 e.m row.0) (λ (row : Row). test row.0 ≡ true → other row.0 ≡ true) (λ row i. more row.0 i) e.rows valid.ballots)
 
 group_of-same : (test other : List ℕ → Bool) (rows : List Row) → ((ballot : List ℕ) → test ballot ≡ other ballot) → group_of test rows ≡ group_of other rows
 group_of-same test other [] same = refl
@@ -146,7 +154,7 @@ module _ (e : Election) (committee : List ℕ) (level : ℕ) (shared : List ℕ)
       sym (none_passes (is_enough_within e committee level shared) (completions within pool left)
       (AllByRecursion-map (λ u. is_enough_within e committee level shared u ≡ false) (λ rest. within ++ rest) (sublists pool left)
       (AllByRecursion-weaker (IsTail 1 e.m pool left) (λ rest. is_enough_within e committee level shared (within ++ rest) ≡ false)
-      (λ rest is. too_small e committee level (fits_pair Pjr committee level (shared, within ++ rest)) (is_around committee shared within pool left) valid
+      (λ rest is. small_ballots e committee level (fits_pair Pjr committee level (shared, within ++ rest)) (is_around committee shared within pool left) valid
       (λ ballot j h. stays e.m committee shared within pool left level rest ballot is j h) few)
       (sublists pool left) (tails 1 e.m pool left (IsIncreasing-rest 1 e.m within pool i)))))
 
@@ -203,7 +211,7 @@ module _ (property : Property) (e : Election) (committee : List ℕ) (level : �
       → is_large e committee level (sum (voters_below e committee level front)) ≡ false → pair_breaks property e committee level (shared, within) ≡ false
   small_front front shared within valid least second part few =
       small_pair property e committee level (shared, within)
-      (too_small e committee level (fits_pair property committee level (shared, within)) (is_below committee level front) valid
+      (small_ballots e committee level (fits_pair property committee level (shared, within)) (is_below committee level front) valid
       (λ ballot i h.
       let known = few_members property e.m committee level (shared, within) ballot least second i h in
       and_from (includes ballot front) (nat_lt (length (common_members ballot committee)) level) (part ballot known.0) known.1) few)
@@ -220,7 +228,7 @@ module _ {X : Type 0} where
   all_of P each (x ∷ xs) = (each x, all_of P each xs)
 
   -- where no item is found, none passes
-  none_found : (p : X → Bool) (xs : List X) → find p xs ≡ None → AllByRecursion (λ x. p x ≡ false) xs
+  pub none_found : (p : X → Bool) (xs : List X) → find p xs ≡ None → AllByRecursion (λ x. p x ≡ false) xs
   none_found p [] h = tt
   none_found p (x ∷ xs) h = cases (p x) refl (λ later. none_found p xs later) h
     where

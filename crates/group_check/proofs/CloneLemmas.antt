@@ -1,28 +1,30 @@
 -- Lists with a clone in the place of a candidate that was tried: they find nothing where those with the candidate found
 -- nothing.
-use Rattle.std.proofs.Common.{◌≡◌, ℕ, zero, suc, ◌+◌, ◌-◌, ◌≤◌, ◌&&◌, ◌++◌, Bool, true, false, cond, List, [], ◌∷◌, Option, Some, None, refl, sym, ap, subst, ◌∙◌, arith, length, map, filter, not}
-use Rattle.std.specs.Prelude.{find, is_some, option_map, ⊤}
+use Rattle.std.proofs.Common.{◌≡◌, ℕ, zero, suc, ◌+◌, ◌-◌, ◌≤◌, ◌==◌, ◌&&◌, ◌||◌, ◌++◌, Bool, true, false, cond, List, [], ◌∷◌, Option, Some, None, refl, sym, ap, subst, ◌∙◌, arith, length, map, filter, not}
+use Rattle.std.specs.Prelude.{find, option_map, ⊤}
 use Rattle.std.specs.List.{AllByRecursion, list_all}
 use Rattle.std.specs.Option.{option_or}
-use Rattle.std.proofs.lemmas.Bool.{and_from, and_parts}
+use Rattle.std.proofs.lemmas.Bool.{and_from, and_parts, ne_eqb}
 use Rattle.std.proofs.lemmas.List.{append_assoc}
 use Rattle.std.proofs.lemmas.List.Sums.{length-filter, count_by-le-length}
 use Rattle.std.proofs.lemmas.List.Elements.{filter-append}
 use Rattle.ballot_base.specs.Lists.{IsIncreasing}
-use Rattle.ballot_base.specs.CandSet.{has_member, with_member, other_members}
+use Rattle.ballot_base.specs.CandSet.{has_member, with_member, common_members, other_members}
 use Rattle.ballot_base.specs.Ballots.{Row, Election}
 use Rattle.ballot_base.specs.Clones.{are_clones, clones_among}
 use Rattle.ballot_base.proofs.CloneLemmas.{clones-same, clones_among-are}
-use Rattle.ballot_base.proofs.Increasing.{IsIncreasing-filter}
+use Rattle.ballot_base.proofs.Increasing.{IsIncreasing-filter, has_member-below, has_member-filter, has_member_tail}
 use Rattle.group_check.specs.declared.property.Property.{Property}
 use Rattle.group_check.specs.declared.property.Property.TheVariants.{Jr, Pjr, Ejr, EjrPlus}
 use Rattle.group_check.specs.declared.property.Violation.{Violation}
 use Rattle.group_check.specs.Groups.{breaks}
 use Rattle.group_check.specs.Report.{includes, violation_of, fits_pair, group_of, lists_within, pair_breaks}
-use Rattle.group_check.specs.Steps.Checking.{first_of, first_of_lists, pairs_of, sublists, completions}
+use Rattle.group_check.specs.Steps.Checking.{first_of, first_of_lists, pairs_of, sublists, completions, is_enough_within}
+use Rattle.group_check.proofs.SetLemmas.{all_pass, or_mono, or_second, passes_at}
+use Rattle.group_check.proofs.TestLemmas.{list_all-weaker}
 use Rattle.group_check.proofs.PlaceLemmas.{sublists-empty, front_kept, front_dropped}
-use Rattle.group_check.proofs.WalkLemmas.{AllByRecursion-append, AllByRecursion-map, AllByRecursion-weaker, with_member-end}
-use Rattle.group_check.proofs.BeginningLemmas.{all_of, lists_step}
+use Rattle.group_check.proofs.WalkLemmas.{AllByRecursion-append, AllByRecursion-map, AllByRecursion-weaker, at_least, with_member-end}
+use Rattle.group_check.proofs.BeginningLemmas.{all_of, lists_step, none_found, too_small}
 
 module _ {X : Type 0} where
   all_parts : (P : X → Type 0) (xs ys : List X) → AllByRecursion P (xs ++ ys) → AllByRecursion P xs × AllByRecursion P ys
@@ -141,6 +143,14 @@ all_exchanged : (p : ℕ → Bool) (front : List ℕ) (x y : ℕ) (rest : List �
 all_exchanged p [] x y rest same = ap (λ b. b && list_all p rest) same
 all_exchanged p (z ∷ zs) x y rest same = ap (λ b. p z && b) (all_exchanged p zs x y rest same)
 
+-- who leaves with its class is a clone
+class_clone : (m : ℕ) (rows : List Row) (clones : List ℕ) (x : ℕ) → clones ≡ clones_among m rows x → (y : ℕ) → not (has_member clones y) ≡ false → are_clones rows x y ≡ true
+class_clone m rows clones x is y gone = clones_among-are m rows x y (sym (ap (λ set. has_member set y) is) ∙ is_in (has_member clones y) gone)
+  where
+    is_in : (b : Bool) → not b ≡ false → b ≡ true
+    is_in true h = refl
+    is_in false h = absurd (let clash : true ≡ false = h in cc)
+
 -- ---- lists T
 
 -- the same rows approve all of both
@@ -252,20 +262,125 @@ module _ (property : Property) (e : Election) (committee : List ℕ) (level : �
       (λ row. all_swapped (has_member row.0) before x y after) e.rows) h)
       (λ before y after k f h. misses-same (before ++ x ∷ after) (before ++ y ∷ after)
       (AllByRecursion-weaker (λ (row : Row). has_member row.0 x ≡ has_member row.0 y) (λ (row : Row). includes row.0 (before ++ x ∷ after) ≡ includes row.0 (before ++ y ∷ after))
-      (λ row same. all_exchanged (has_member row.0) before x y after same) e.rows (clones-same e.rows x y (clone y k))) h)
+      (λ row same. all_exchanged (has_member row.0) before x y after same) e.rows (clones-same e.rows x y (class_clone e.m e.rows clones x is y k))) h)
       front rest size tt with_x in
       ap (λ lists. first_of_lists property e committee level (map (λ list. front ++ list) lists)) (sym (sublists-kept stays rest (suc size)))
       ∙ left_out front (list_all stays) (sublists rest (suc size)) lost
-    where
-      is_in : (b : Bool) → not b ≡ false → b ≡ true
-      is_in true h = refl
-      is_in false h = absurd (never h)
-        where
-          never : true ≡ false → ⊥
-          never k = cc
 
-      clone : (y : ℕ) → not (has_member clones y) ≡ false → are_clones e.rows x y ≡ true
-      clone y k = clones_among-are e.m e.rows x y (sym (ap (λ set. has_member set y) is) ∙ is_in (has_member clones y) k)
+-- ---- lists U
+
+-- who is in a list with y, and is not y, is in the list with x in its place
+member_exchanged : (front : List ℕ) (y x : ℕ) (rest : List ℕ) (n : ℕ) → (y ≡ n → ⊥) → has_member (front ++ y ∷ rest) n ≡ true → has_member (front ++ x ∷ rest) n ≡ true
+member_exchanged [] y x rest n other h = or_second (x == n) (has_member rest n) (sym (has_member_tail y n rest other) ∙ h)
+member_exchanged (z ∷ zs) y x rest n other h =
+    or_mono (z == n) (has_member (zs ++ y ∷ rest) n) (has_member (zs ++ x ∷ rest) n) (λ k. member_exchanged zs y x rest n other k) h
+
+member_swapped : (front : List ℕ) (x y : ℕ) (rest : List ℕ) (n : ℕ) → has_member (front ++ y ∷ x ∷ rest) n ≡ true → has_member (front ++ x ∷ y ∷ rest) n ≡ true
+member_swapped [] x y rest n h = both (y == n) (x == n) (has_member rest n) h
+  where
+    both : (a b c : Bool) → (a || (b || c)) ≡ true → (b || (a || c)) ≡ true
+    both true true c h = refl
+    both true false c h = refl
+    both false true c h = refl
+    both false false c h = h
+member_swapped (z ∷ zs) x y rest n h =
+    or_mono (z == n) (has_member (zs ++ y ∷ x ∷ rest) n) (has_member (zs ++ x ∷ y ∷ rest) n) (λ k. member_swapped zs x y rest n k) h
+
+absent-without : (front : List ℕ) (y : ℕ) (rest : List ℕ) (x : ℕ) → has_member (front ++ y ∷ rest) x ≡ false → has_member (front ++ rest) x ≡ false
+absent-without [] y rest x h = second (y == x) (has_member rest x) h
+  where
+    second : (a b : Bool) → (a || b) ≡ false → b ≡ false
+    second true b h = absurd (let clash : true ≡ false = h in cc)
+    second false b h = h
+absent-without (z ∷ zs) y rest x h = later (z == x) (has_member (zs ++ y ∷ rest) x) (has_member (zs ++ rest) x) (λ k. absent-without zs y rest x k) h
+  where
+    later : (a b c : Bool) → (b ≡ false → c ≡ false) → (a || b) ≡ false → (a || c) ≡ false
+    later true b c more h = h
+    later false b c more h = more h
+
+-- an item stands once in an increasing list
+absent : (first last : ℕ) (front : List ℕ) (x : ℕ) (rest : List ℕ) → IsIncreasing first last (front ++ x ∷ rest) → has_member (front ++ rest) x ≡ false
+absent first last [] x rest i = has_member-below (x + 1) last rest x i.2 (omega arith)
+absent first last (z ∷ zs) x rest i =
+    let above = at_least (z + 1) last zs x rest i.2 in
+    ap (λ b. b || has_member (zs ++ rest) x) (ne_eqb z x (λ same. omega (arith, above, same))) ∙ absent (z + 1) last zs x rest i.2
+
+-- a list that takes a clone of x and not x itself fits no voter of theirs, so it fits no more than the one with x
+fits_exchanged : (committee ballot : List ℕ) (front : List ℕ) (y x : ℕ) (rest : List ℕ) → has_member committee x ≡ true → has_member (front ++ y ∷ rest) x ≡ false
+    → has_member ballot x ≡ has_member ballot y → includes (front ++ y ∷ rest) (common_members ballot committee) ≡ true
+    → includes (front ++ x ∷ rest) (common_members ballot committee) ≡ true
+fits_exchanged committee ballot front y x rest member out same fits =
+    all_pass (has_member (front ++ x ∷ rest)) approved (λ n h.
+    member_exchanged front y x rest n (λ here. never (sym (approves n h) ∙ ap (has_member ballot) (sym here) ∙ sym same ∙ (not_x (has_member ballot x) refl)))
+    (passes_at (has_member (front ++ y ∷ rest)) approved n fits h))
+  where
+    approved : List ℕ
+    approved = common_members ballot committee
+
+    never : true ≡ false → ⊥
+    never k = cc
+
+    approves : (n : ℕ) → has_member approved n ≡ true → has_member ballot n ≡ true
+    approves n h = (and_parts (has_member committee n) (has_member ballot n) (sym (has_member-filter (has_member committee) ballot n) ∙ h)).1
+
+    not_x : (b : Bool) → has_member ballot x ≡ b → has_member ballot x ≡ false
+    not_x true is =
+        let here : has_member approved x ≡ true = has_member-filter (has_member committee) ballot x ∙ and_from (has_member committee x) (has_member ballot x) member is in
+        absurd (never (sym (passes_at (has_member (front ++ y ∷ rest)) approved x fits here) ∙ out))
+    not_x false is = is
+
+module _ {X : Type 0} where
+  -- items that do not pass may be left out
+  find_left_out : {Y : Type 0} (suits : Y → Bool) (f : X → Y) (p : X → Bool) (xs : List X) → AllByRecursion (λ x. p x ≡ false → suits (f x) ≡ false) xs
+      → find suits (map f (filter p xs)) ≡ find suits (map f xs)
+  find_left_out suits f p [] h = refl
+  find_left_out suits f p (x ∷ xs) h = cases (p x) refl (find_left_out suits f p xs h.1)
+    where
+      cases : (b : Bool) → p x ≡ b → find suits (map f (filter p xs)) ≡ find suits (map f xs) → find suits (map f (cond b (x ∷ filter p xs) (filter p xs))) ≡ find suits (map f (x ∷ xs))
+      cases true is more = ap (λ o. cond (suits (f x)) (Some (f x)) o) more
+      cases false is more = more ∙ ap (λ b. cond b (Some (f x)) (find suits (map f xs))) (sym (h.0 is))
+
+module _ (e : Election) (committee : List ℕ) (level : ℕ) (shared : List ℕ) where
+  abbrev Small : List ℕ → Type 0
+  Small within = is_enough_within e committee level shared within ≡ false
+
+  small_where : (within other : List ℕ)
+      → AllByRecursion (λ (row : Row). includes other (common_members row.0 committee) ≡ true → includes within (common_members row.0 committee) ≡ true) e.rows
+      → Small within → Small other
+  small_where within other more =
+      too_small e committee level (fits_pair Pjr committee level (shared, other)) (fits_pair Pjr committee level (shared, within))
+      (AllByRecursion-weaker (λ (row : Row). includes other (common_members row.0 committee) ≡ true → includes within (common_members row.0 committee) ≡ true)
+      (λ (row : Row). fits_pair Pjr committee level (shared, other) row.0 ≡ true → fits_pair Pjr committee level (shared, within) row.0 ≡ true)
+      (λ row h fits.
+      let parts = and_parts (includes row.0 shared) (includes other (common_members row.0 committee)) fits in
+      and_from (includes row.0 shared) (includes within (common_members row.0 committee)) parts.0 (h parts.1)) e.rows more)
+
+  -- where the lists U with a member have too few voters, those with a clone of it in its place need not be tried
+  pub members_out : (within : List ℕ) (x : ℕ) (rest clones : List ℕ) (left : ℕ) → IsIncreasing 1 e.m (within ++ x ∷ rest) → (left ≡ 0 → ⊥) → has_member committee x ≡ true
+      → clones ≡ clones_among e.m e.rows x
+      → None ≡ find (is_enough_within e committee level shared) (completions (with_member within x) rest (left - 1))
+      → find (is_enough_within e committee level shared) (completions within (other_members rest clones) left) ≡ find (is_enough_within e committee level shared) (completions within rest left)
+  members_out within x rest clones zero i some member is none = absurd (some refl)
+  members_out within x rest clones (suc size) i some member is none =
+      let one : suc size - 1 ≡ size = omega arith in
+      let suits = is_enough_within e committee level shared in
+      let stays = λ (n : ℕ). not (has_member clones n) in
+      let more = with_member within x in
+      let tried = all_mapped Small (λ list. more ++ list) (sublists rest size)
+      (none_found suits (completions more rest size) (sym (none ∙ ap (λ n. find suits (completions more rest n)) one))) in
+      let with_x = AllByRecursion-weaker (λ list. Small (more ++ list)) (λ list. Small (within ++ x ∷ list))
+      (λ list h. subst Small (ap (λ set. set ++ list) (with_member-end 1 e.m within x rest i) ∙ append_assoc within (x ∷ []) list) h) (sublists rest size) tried in
+      let lost = lists-lost Small (λ list. has_member list x ≡ false) x stays (λ before y after f. absent-without before y after x f)
+      (λ before y after h. small_where (before ++ x ∷ y ∷ after) (before ++ y ∷ x ∷ after)
+      (all_of (λ (row : Row). includes (before ++ y ∷ x ∷ after) (common_members row.0 committee) ≡ true → includes (before ++ x ∷ y ∷ after) (common_members row.0 committee) ≡ true)
+      (λ row k. list_all-weaker (has_member (before ++ y ∷ x ∷ after)) (has_member (before ++ x ∷ y ∷ after)) (λ n. member_swapped before x y after n) (common_members row.0 committee) k) e.rows) h)
+      (λ before y after k f h. small_where (before ++ x ∷ after) (before ++ y ∷ after)
+      (AllByRecursion-weaker (λ (row : Row). has_member row.0 x ≡ has_member row.0 y)
+      (λ (row : Row). includes (before ++ y ∷ after) (common_members row.0 committee) ≡ true → includes (before ++ x ∷ after) (common_members row.0 committee) ≡ true)
+      (λ row same. fits_exchanged committee row.0 before y x after member f same) e.rows (clones-same e.rows x y (class_clone e.m e.rows clones x is y k))) h)
+      within rest size (absent 1 e.m within x rest i) with_x in
+      ap (λ lists. find suits (map (λ list. within ++ list) lists)) (sym (sublists-kept stays rest (suc size)))
+      ∙ find_left_out suits (λ list. within ++ list) (list_all stays) (sublists rest (suc size)) lost
 
 -- ---- the pool that is left
 
@@ -285,10 +400,3 @@ share-kept may p (y ∷ ys) rest h =
 
 pub length-kept : (p : ℕ → Bool) (xs : List ℕ) → length (filter p xs) ≤ length xs
 length-kept p xs = omega (arith, length-filter p xs, count_by-le-length p xs)
-
-pub none_found-is : {X : Type 0} (found first : Option X) → found ≡ first → is_some found ≡ false → None ≡ first
-none_found-is None first e none = e
-none_found-is (Some x) first e none = absurd (never none)
-  where
-    never : true ≡ false → ⊥
-    never h = cc

@@ -56,10 +56,10 @@ found_first None first rest e some = absurd (never some)
     never h = cc
 found_first (Some x) first rest e some = ap (λ o. option_or o rest) e
 
--- where nothing was found, the rest decides
-pub none_first : {X : Type 0} (found first : Option X) (rest : Option X) → found ≡ first → is_some found ≡ false → rest ≡ option_or first rest
-none_first None first rest e some = ap (λ o. option_or o rest) e
-none_first (Some x) first rest e some = absurd (never some)
+-- where nothing was found, there is nothing
+pub none_found-is : {X : Type 0} (found first : Option X) → found ≡ first → is_some found ≡ false → None ≡ first
+none_found-is None first e none = e
+none_found-is (Some x) first e none = absurd (never none)
   where
     never : true ≡ false → ⊥
     never h = cc

@@ -25,7 +25,7 @@ pub IsIncreasing-without : (first last : ℕ) (front : List ℕ) (x : ℕ) (rest
 IsIncreasing-without first last [] x rest i = IsIncreasing-lower first (x + 1) last rest (omega (arith, i.0)) i.2
 IsIncreasing-without first last (y ∷ ys) x rest i = (i.0, i.1, IsIncreasing-without (y + 1) last ys x rest i.2)
 
-at_least : (first last : ℕ) (front : List ℕ) (x : ℕ) (rest : List ℕ) → IsIncreasing first last (front ++ x ∷ rest) → first ≤ x
+pub at_least : (first last : ℕ) (front : List ℕ) (x : ℕ) (rest : List ℕ) → IsIncreasing first last (front ++ x ∷ rest) → first ≤ x
 at_least first last [] x rest i = i.0
 at_least first last (y ∷ ys) x rest i = let later = at_least (y + 1) last ys x rest i.2 in omega (arith, later, i.0)
 

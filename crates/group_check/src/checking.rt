@@ -6,7 +6,7 @@ ghost use Rattle.ballot_base.specs.Lists.{IsIncreasing};
 ghost use Rattle.ballot_base.specs.Ballots.{IsElection, Row};
 ghost use Rattle.ballot_base.specs.Clones.{AreClones, clones_among};
 ghost use Rattle.group_check.specs.Groups.{HasProperty};
-ghost use Rattle.group_check.specs.Report.{IsReport, first_violation, lists_within, is_in_group, group_of};
+ghost use Rattle.group_check.specs.Report.{IsReport, first_violation, includes, lists_within, is_in_group, group_of};
 ghost use Rattle.group_check.specs.Steps.Checking.{greatest_level, shared_size, may_share, IsFirst, IsSecond, Computes, pairs_of, first_of, first_of_lists, completions, is_possible, possible_candidates, voters_below, voters_around, is_enough_within, is_large};
 
 use crate::property::{Property, Violation, includes};
@@ -92,7 +92,9 @@ fn first_at<A: Allocator + Copy>(
 {
     let pool = possible_candidates(profile, committee, property, level);
     let size = shared_size(property, level);
-    if pool.len() < size || property == Property::Pjr && is_refuted(profile, committee, level) {
+    if pool.len() < size
+        || property == Property::Pjr && is_refuted(profile, clones, committee, level)
+    {
         return None;
     }
     first_beyond(
@@ -149,7 +151,13 @@ fn is_possible<A: Allocator + Copy>(
 
 /// Whether no list U has enough voters at a level, whatever candidates they share. Where there are many lists U none is
 /// tried, and the answer is no.
-fn is_refuted<A: Allocator + Copy>(profile: &Profile<A>, committee: CandSet, level: u8) -> bool
+fn is_refuted<A: Allocator + Copy>(
+    profile: &Profile<A>,
+    clones: &Clones,
+    committee: CandSet,
+    level: u8,
+) -> bool
+    requires clones { AreClones profile.now.m profile.now.rows clones.now }
     requires candidates { IsIncreasing 1 profile.now.m committee }
     requires least { 1 ≤ level }
     requires most { level ≤ length committee }
@@ -159,6 +167,7 @@ fn is_refuted<A: Allocator + Copy>(profile: &Profile<A>, committee: CandSet, lev
     has_few_lists(committee.len(), level - 1)
         && first_within(
             profile,
+            clones,
             committee,
             level,
             nobody,
@@ -206,7 +215,7 @@ fn first_beyond<A: Allocator + Copy>(
     ensures { result ≡ first_of_lists property profile.now committee level (completions shared pool left) }
 {
     if left == 0 {
-        return first_sharing(profile, committee, property, level, shared);
+        return first_sharing(profile, clones, committee, property, level, shared);
     }
     if pool.len() < left {
         return None;
@@ -241,11 +250,13 @@ fn first_beyond<A: Allocator + Copy>(
 /// The first violation at a level with these candidates.
 fn first_sharing<A: Allocator + Copy>(
     profile: &Profile<A>,
+    clones: &Clones,
     committee: CandSet,
     property: Property,
     level: u8,
     shared: CandSet,
 ) -> Option<Violation>
+    requires clones { AreClones profile.now.m profile.now.rows clones.now }
     requires candidates { IsIncreasing 1 profile.now.m committee }
     requires least { 1 ≤ level }
     requires most { level ≤ greatest_level property committee }
@@ -259,6 +270,7 @@ fn first_sharing<A: Allocator + Copy>(
     }
     let within = first_within(
         profile,
+        clones,
         committee,
         level,
         shared,
@@ -273,6 +285,7 @@ fn first_sharing<A: Allocator + Copy>(
 /// all the candidates.
 fn first_within<A: Allocator + Copy>(
     profile: &Profile<A>,
+    clones: &Clones,
     committee: CandSet,
     level: u8,
     shared: CandSet,
@@ -280,6 +293,8 @@ fn first_within<A: Allocator + Copy>(
     pool: CandSet,
     left: u8,
 ) -> Option<CandSet>
+    requires clones { AreClones profile.now.m profile.now.rows clones.now }
+    requires members { IsTrue (includes committee pool) }
     requires order { IsIncreasing 1 profile.now.m (within ++ pool) }
     ensures { result ≡ find (is_enough_within profile.now committee level shared) (completions within pool left) }
 {
@@ -296,11 +311,24 @@ fn first_within<A: Allocator + Copy>(
     }
     let (member, rest) = pool.split_first()?;
     let more = within.with(member);
-    let found = first_within(profile, committee, level, shared, more, rest, left - 1);
+    let found = first_within(
+        profile,
+        clones,
+        committee,
+        level,
+        shared,
+        more,
+        rest,
+        left - 1,
+    );
     if found.is_some() {
         return found;
     }
-    first_within(profile, committee, level, shared, within, rest, left)
+    // A voter who approves the member approves its clones, and fits no list that has one of them without it.
+    let others = rest.minus(clones_of(clones, member));
+    first_within(
+        profile, clones, committee, level, shared, within, others, left,
+    )
 }
 
 /// The violation with the whole group of these candidates, if it is large enough for the level.

@@ -6,8 +6,8 @@ use Rattle.ballot_base.specs.Limits.{most_candidates}
 use Rattle.ballot_base.specs.Lists.{IsIncreasing}
 use Rattle.ballot_base.specs.CandSet.{has_member, with_member}
 use Rattle.group_check.specs.Steps.Checking.{is_large, may_share, voters_below, first_of_lists, completions}
-use Rattle.group_check.proofs.CloneLemmas.{clones_out, length-kept, none_found-is, order-kept, share-kept}
-use Rattle.group_check.proofs.CountedLemmas.{found_first}
+use Rattle.group_check.proofs.CloneLemmas.{clones_out, length-kept, order-kept, share-kept}
+use Rattle.group_check.proofs.CountedLemmas.{found_first, none_found-is}
 use Rattle.group_check.proofs.WalkLemmas.{IsIncreasing-front, IsIncreasing-with, IsIncreasing-without, at_least_one, at_most_last, with_member-end}
 use Rattle.group_check.proofs.BeginningLemmas.{none_below, none_from_few, first_whole, first_split, share_without, share_front}
 use Rattle.group_check.proofs.checking.+first_beyond.Goals as goal

@@ -1,8 +1,13 @@
 use Rattle.std.proofs.Common.{◌-◌, ap, sym, ◌∙◌}
 use Rattle.std.specs.Prelude.{find}
+use Rattle.ballot_base.specs.CandSet.{has_member}
 use Rattle.group_check.specs.Steps.Checking.{is_enough_within, completions}
 use Rattle.group_check.proofs.BeginningLemmas.{is_pjr, first_pair, first_second, no_pair_with}
+use Rattle.group_check.proofs.SetLemmas.{all_pass}
 use Rattle.group_check.proofs.checking.first_sharing.Goals as goal
+
+pub first_within-requires-clause-members : goal.first_within-requires-clause-members
+first_within-requires-clause-members g c = all_pass (has_member c.args.committee) c.args.committee (λ n h. h)
 
 pub returns-in_err-within : goal.returns-in_err-within
 returns-in_err-within g c =

@@ -1,8 +1,13 @@
 use Rattle.std.proofs.Common.{ℕ, ◌-◌, List, ap, sym, ◌∙◌}
 use Rattle.std.specs.Prelude.{find}
+use Rattle.ballot_base.specs.CandSet.{has_member}
 use Rattle.group_check.specs.Steps.Checking.{is_enough_within, completions}
 use Rattle.group_check.proofs.BeginningLemmas.{none_at_all, nothing_there}
+use Rattle.group_check.proofs.SetLemmas.{all_pass}
 use Rattle.group_check.proofs.checking.is_refuted.Goals as goal
+
+pub first_within-requires-clause-members : goal.first_within-requires-clause-members
+first_within-requires-clause-members g c = all_pass (has_member c.args.committee) c.args.committee (λ n h. h)
 
 pub returns-then-has_few_lists : goal.returns-then-has_few_lists
 returns-then-has_few_lists g c h =
