@@ -610,18 +610,26 @@ module _ (pick : Pick) (bytes : List ℕ) (notes : Notes) (e : Election) (number
 -- ---- what contracts see
 
 pub agrees_true : (pick : Pick) (bytes : List ℕ) (fault : Option ReadFault) (notes : Notes) (e : Election) (number : ℕ) (held : List ℕ) → Agrees pick bytes fault notes e number held → IsTrue (feeding pick bytes fault)
+unfolding Agrees
 agrees_true pick bytes None notes e number held is = fed_true pick bytes notes e number held is
 agrees_true pick bytes (Some fault) notes e number held is = is
 
 -- a reader that has answered a fault
 pub agrees_more : (pick : Pick) (bytes more : List ℕ) (fault : Option ReadFault) (notes next_notes : Notes) (e next : Election) (number next_number : ℕ) (held next_held : List ℕ) → is_some fault ≡ true
     → Agrees pick bytes fault notes e number held → Agrees pick (bytes ++ more) fault next_notes next next_number next_held
+unfolding Agrees
 agrees_more pick bytes more None notes next_notes e next number next_number held next_held h is = absurd (cc)
 agrees_more pick bytes more (Some fault) notes next_notes e next number next_number held next_held h is = stays_true pick bytes more fault is
 
 pub agrees_fed : (pick : Pick) (bytes : List ℕ) (fault : Option ReadFault) (notes : Notes) (e : Election) (number : ℕ) (held : List ℕ) → fault ≡ None → Agrees pick bytes fault notes e number held → IsFed pick bytes notes e number held
+unfolding Agrees
 agrees_fed pick bytes None notes e number held h is = is
 agrees_fed pick bytes (Some fault) notes e number held h is = absurd (cc)
+
+-- a reader without a fault, and one with a fault
+pub agrees_none : (pick : Pick) (bytes : List ℕ) (notes : Notes) (e : Election) (number : ℕ) (held : List ℕ) → IsFed pick bytes notes e number held → Agrees pick bytes None notes e number held
+unfolding Agrees
+agrees_none pick bytes notes e number held is = is
 
 pub none_is : (fault : Option ReadFault) → is_some fault ≡ false → fault ≡ None
 none_is None h = refl
@@ -663,6 +671,7 @@ none_after pick bytes notes e number held (Some fault) fed (inr (other, same, (b
 
 pub nothing_new : (pick : Pick) (bytes : List ℕ) (fault next : Option ReadFault) (notes : Notes) (e : Election) (number : ℕ) (held : List ℕ) → Agrees pick bytes fault notes e number held
     → IsTrue (feeding pick bytes next) → IfSome fault (λ known. next ≡ Some known) → (fault ≡ None → IfSome next (λ known. IsLate (ended_lines bytes) known)) → next ≡ fault
+unfolding Agrees
 nothing_new pick bytes None next notes e number held is holds again late = none_after pick bytes notes e number held next is holds (late refl)
 nothing_new pick bytes (Some known) next notes e number held is holds again late = again
 

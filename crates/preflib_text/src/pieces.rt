@@ -168,6 +168,7 @@ fn feed_lines<A: Allocator + Copy + Drop>(
 }
 
 /// The fault that was answered, else the first one of a piece.
+#[tactic(auto, unfolding(crate::specs::Steps::Pieces::Agrees))]
 fn fault_after<A: Allocator + Copy + Drop>(
     fault: Option<ReadFault>,
     progress: &mut Progress<A>,

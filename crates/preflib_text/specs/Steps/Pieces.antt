@@ -49,6 +49,6 @@ pub record IsFed (pick : Pick) (bytes : List ℕ) (notes : Notes) (e : Election)
   pub short : is_too_long (unfinished_line bytes) ≡ false
 
 -- what is kept agrees with what was fed
-abbrev pub Agrees : Pick → List ℕ → Option ReadFault → Notes → Election → ℕ → List ℕ → Type 0
+unfoldable pub Agrees : Pick → List ℕ → Option ReadFault → Notes → Election → ℕ → List ℕ → Type 0
 Agrees pick bytes None notes e number held = IsFed pick bytes notes e number held
 Agrees pick bytes (Some fault) notes e number held = IsTrue (feeding pick bytes (Some fault))

@@ -1,8 +1,9 @@
-use Rattle.std.proofs.Common.{◌⊎◌, Ok, Err, IfOk, IfErr, subst}
+use Rattle.std.proofs.Common.{◌⊎◌, Ok, Err, IfOk, IfErr, sym, subst}
 use Rattle.preflib_text.specs.Lines.{lines_of}
 use Rattle.preflib_text.specs.Reading.{Reads}
 use Rattle.preflib_text.specs.Pieces.{Feeding, LacksMemory}
-use Rattle.preflib_text.proofs.PieceLemmas.{every_fed}
+use Rattle.preflib_text.specs.Steps.Pieces.{IsFed}
+use Rattle.preflib_text.proofs.PieceLemmas.{agrees_fed, every_fed}
 use Rattle.preflib_text.proofs.pieces.LineReader.finish.Goals as goal
 
 pub returns-in-Some-clause-err : goal.returns-in-Some-clause-err
@@ -16,3 +17,9 @@ returns-clause-ok g c = subst (λ (v : Feeding). IfOk c.finish_lines.result (λ 
 pub returns-clause-err : goal.returns-clause-err
 returns-clause-err g c =
     subst (λ (v : Feeding). IfErr c.finish_lines.result (λ fault. Reads v.fed v.pick (Err fault) ⊎ LacksMemory (lines_of v.fed) v.pick fault)) c.self.view_is c.finish_lines.ensures.err
+
+pub finish_lines-requires-clause-fed : goal.finish_lines-requires-clause-fed
+finish_lines-requires-clause-fed g c =
+    let kept = c.self.inside in
+    subst (λ l. IsFed kept.pick kept.fed.bytes kept.progress.notes kept.progress.builder kept.progress.number l) (sym c.deref.ensures.value)
+    (agrees_fed _ _ kept.fault _ _ _ _ c.in_default.is c.self.invariant.3)
