@@ -68,8 +68,8 @@ impl<'a, T: Tally> Walk<'a, T> {
         }
     }
 
-    /// Whether the bound of a prefix reaches the best value. This counts as one bound, even if what is known answers it,
-    /// or a tally's own `reach` does. No other step of the walk asks for a bound.
+    /// Whether the bound of a prefix reaches the best value. This counts as one bound, even if what is known answers
+    /// it, or a tally's own `reach` does. No other step of the walk asks for a bound.
     fn reaches(&mut self, prefix: Prefix) -> bool
         requires walk { IsWalk T.candidates T.bound_of self.old }
         requires place { IsPlace self.old.m self.old.k (Some prefix) }

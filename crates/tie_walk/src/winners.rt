@@ -88,9 +88,9 @@ impl<'a, T: Tally> Winners<'a, T> {
     }
 
     /// How many bounds were asked for so far by the walk that hands out the winners: one for each prefix at which it
-    /// had to know whether the bound reaches the greatest value. These are its calls of `Tally::bound`, unless the tally
-    /// has a `reach` of its own: what that answers for many prefixes at once counts for each of them. The walk that
-    /// found the greatest value does not count. No prefix is entered without a bound.
+    /// had to know whether the bound reaches the greatest value. These are its calls of `Tally::bound`, unless the
+    /// tally has a `reach` of its own: what that answers for many prefixes at once counts for each of them. The walk
+    /// that found the greatest value does not count. No prefix is entered without a bound.
     pub fn ceilings(&self) -> u128
         ensures count { result ≡ self.now.ceilings }
         ensures entered { self.now.entered ≤ result }

@@ -134,7 +134,8 @@ pub record IsRaised (m : ℕ) (from : Option Prefix) (before : Counts) (rest : P
 
 -- What a walk has counted: the prefixes that it has entered and those still to be entered are all that are live, and m
 -- others at most, which lie on the way to a start.
-pub record IsCounted (bound : ℕ → List ℕ → ℕ → ℕ) (m k best : ℕ) (after : Option (List ℕ)) (progress : Progress) : Type 0 where
+pub record IsCounted (bound : ℕ → List ℕ → ℕ → ℕ) (m k best : ℕ) (after : Option (List ℕ)) (progress : Progress)
+    : Type 0 where
   pub all : live_count bound m k best after ≤ progress.counts.entered + open_from bound m k best progress.place
   pub few : progress.counts.entered + open_from bound m k best progress.place ≤ live_count bound m k best after + m
   pub exact : after ≡ None

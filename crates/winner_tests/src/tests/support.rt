@@ -135,7 +135,8 @@ pub(super) fn assert_begins_with_a_winner<S: Tally>(
     }
 }
 
-/// A tally that hands on its number of candidates, its values and its bounds only, and counts the calls of the last two.
+/// A tally that hands on only its number of candidates, its values and its bounds, and counts the calls of the last
+/// two.
 #[derive(Drop)]
 pub(super) struct Counting<'a, T: Tally> {
     pub(super) tally: &'a T,

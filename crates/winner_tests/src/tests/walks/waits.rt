@@ -93,8 +93,8 @@ fn count_with_waits<T: Tally>(
     found
 }
 
-/// Of 64 candidates a voter approves all, so that all committees of 32 tie: the first 1,000 of them, and those after 1 to
-/// 31 and 64.
+/// Of 64 candidates a voter approves all, so that all committees of 32 tie: the first 1,000 of them, and those after 1
+/// to 31 and 64.
 #[test]
 fn waits_for_tied_committees(rt: HostRuntime) {
     let profile = election_of(&rt, rt.alloc(), MOST_CANDIDATES, &[(u64::MAX, 1)]);
