@@ -11,12 +11,12 @@ ghost use Rattle.tie_walk.specs.Steps.Choices.{change, worth, better, worst, ope
 ghost use Rattle.ballot_base.specs.Clones.{AreClones};
 ghost use Rattle.tie_families.specs.Steps.Levels.{is_first_open, has_settled, ties, tied_worth, shares_no_voter, end, chosen, family_changes, other_end, IsFalling, IsStrict, IsFamilyLevel, IsNextFamilies, AreFamilies};
 
-use ballot_base::{CandSet, Clones, Profile};
+use ballot_base::{CandSet, Clones, PLACES, Profile};
 use indexmap::IndexSet;
 use std::alloc::{AllocError, Allocator};
 use std::hash::{BuildHasherDefault, FoldHasher};
 use tie_walk::sequential::{Step, best_worth, hit_weights, put_in_order, worths};
-use tie_walk::{PLACES, SeqRule};
+use tie_walk::SeqRule;
 
 /// The families of a level that were found so far, each once.
 type FoundFamilies<A> = IndexSet<CandSet, BuildHasherDefault<FoldHasher>, A>;

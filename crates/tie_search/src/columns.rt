@@ -11,9 +11,8 @@ ghost use Rattle.ballot_base.specs.CandSet.{has_member};
 ghost use Rattle.tie_walk.specs.Values.{thiele_of};
 ghost use Rattle.tie_search.specs.Steps.Columns.{block_voters, most_blocks, total, given, IsBlock, AreByHits, AreColumns, AreColumnsOf, AreRising, AreWeights, voters_of, voter_ballot, word_before};
 
-use ballot_base::{CandSet, Increments, MOST_MEMBERS, Profile, ThieleRule};
+use ballot_base::{CandSet, Increments, MOST_MEMBERS, PLACES, Profile, ThieleRule};
 use std::alloc::Allocator;
-use tie_walk::PLACES;
 
 /// How many voters share a word.
 const BLOCK_VOTERS: usize = 64;

@@ -9,9 +9,9 @@ use crate::columns::Weights;
 use crate::order::Order;
 use crate::prices::{MOST_ROWS, Multipliers, SCALE, base_of, prices_of};
 use crate::search::excess;
-use ballot_base::{CandSet, MOST_MEMBERS, Profile};
+use ballot_base::{CandSet, MOST_MEMBERS, PLACES, Profile};
 use std::alloc::Allocator;
-use tie_walk::{PLACES, Tally, ThieleTally, those_after};
+use tie_walk::{Tally, ThieleTally, those_after};
 
 /// How often the multipliers are moved at most.
 const ROUNDS: u8 = 100;

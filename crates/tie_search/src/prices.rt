@@ -8,9 +8,9 @@ ghost use Rattle.tie_search.specs.Steps.Priced.{ArePrices, scale, most_rows, pri
 use crate::columns::{Weights, small_weights};
 use crate::multipliers::chosen;
 use crate::order::Order;
-use ballot_base::{CandSet, Increments, Profile, ThieleRule};
+use ballot_base::{CandSet, Increments, PLACES, Profile, ThieleRule};
 use std::alloc::Allocator;
-use tie_walk::{PLACES, ThieleTally, add_to_members, those_after};
+use tie_walk::{ThieleTally, add_to_members, those_after};
 
 /// What hits give is multiplied by this, so that there are multipliers between two increments.
 pub(crate) const SCALE: u64 = 4096;

@@ -14,9 +14,9 @@ ghost use Rattle.tie_search.specs.Completions.{IsOpen, IsOutOfReach, IsReaching,
 use crate::columns::Columns;
 use crate::order::Order;
 use crate::prices::{Prices, SCALE};
-use ballot_base::{CandSet, Clones, ThieleRule};
+use ballot_base::{CandSet, Clones, PLACES, ThieleRule};
 use std::alloc::Allocator;
-use tie_walk::{PLACES, Tally, ThieleTally, widened};
+use tie_walk::{Tally, ThieleTally, widened};
 
 /// What a search is helped by: who are clones; and columns and prices, if they are worth their making.
 #[derive(Drop)]

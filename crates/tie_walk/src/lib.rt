@@ -17,6 +17,6 @@ pub mod winners;
 pub use minimax::MinimaxTally;
 pub use satisfaction::SavTally;
 pub use sequential::{SeqRule, SeqWinners, add_to_members};
-pub use tally::{PLACES, Tally};
+pub use tally::Tally;
 pub use thiele::{ThieleTally, those_after, widened};
 pub use winners::Winners;

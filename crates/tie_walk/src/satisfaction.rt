@@ -8,8 +8,8 @@ ghost use Rattle.tie_walk.specs.Values.{satisfaction_value};
 ghost use Rattle.tie_walk.specs.Steps.Tables.{parts, score};
 
 use crate::sequential::add_to_members;
-use crate::tally::{PLACES, Tally, greatest_sum, last_reaching, sum_of_worths};
-use ballot_base::{CandSet, Profile, common_multiple};
+use crate::tally::{Tally, greatest_sum, last_reaching, sum_of_worths};
+use ballot_base::{CandSet, PLACES, Profile, common_multiple};
 use std::alloc::{Allocator, Global};
 use std::marker::Model;
 

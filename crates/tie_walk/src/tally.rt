@@ -5,10 +5,7 @@ ghost use Rattle.ballot_base.specs.Lists.{IsIncreasing};
 ghost use Rattle.tie_walk.specs.Ceilings.{IsBound, IsShort, IsReach, greatest_sum};
 ghost use Rattle.tie_walk.specs.Steps.Tables.{sum_of_worths, IsReachBySums};
 
-use ballot_base::{CandSet, MOST_CANDIDATES};
-
-/// The places of a table that has one for each number of candidates, 0 to `MOST_CANDIDATES`.
-pub const PLACES: usize = MOST_CANDIDATES as usize + 1;
+use ballot_base::{CandSet, PLACES};
 
 /// What gives a committee its value.
 pub trait Tally {

@@ -7,8 +7,8 @@ ghost use Rattle.tie_walk.specs.Steps.Walks.{AreKnown, IsKnown, IsWalk, IsStride
 ghost use Rattle.tie_walk.specs.Winners.{IsStart};
 
 use crate::prefix::Prefix;
-use crate::tally::{PLACES, Tally};
-use ballot_base::CandSet;
+use crate::tally::Tally;
+use ballot_base::{CandSet, PLACES};
 
 /// How many prefixes a walk has entered, and how many bounds it has asked for.
 #[derive(Clone, Copy)]
