@@ -18,18 +18,75 @@ fn chosen(bits: u64) -> CandSet {
     set
 }
 
-/// A small election of so many ballots, with 1 to `most` voters each, the same for the same seed.
-fn small_election(rt: &impl Abort, alloc: Global, seed: u64, ballots: u64, most: u64) -> Profile {
+/// Small elections of so many ballots, with 1 to `most` voters each.
+#[derive(Clone, Copy)]
+struct Kind {
+    seeds: u64,
+    ballots: u64,
+    most: u64,
+    /// At each candidate's place the first of its clones.
+    firsts: [u8; 5],
+}
+
+impl Kind {
+    fn new(seeds: u64, ballots: u64, most: u64, firsts: [u8; 5]) -> Kind {
+        Kind {
+            seeds,
+            ballots,
+            most,
+            firsts,
+        }
+    }
+}
+
+/// Elections without clones, and with classes of one to three.
+fn kinds() -> [Kind; 10] {
+    [
+        Kind::new(100, 6, 3, [1, 2, 3, 4, 5]),
+        Kind::new(50, FEW_VOTERS, 1, [1, 2, 3, 4, 5]),
+        Kind::new(100, 6, 3, [1, 1, 3, 4, 5]),
+        Kind::new(100, 6, 3, [1, 2, 2, 1, 5]),
+        Kind::new(100, 6, 3, [1, 2, 3, 3, 3]),
+        Kind::new(100, FEW_VOTERS, 1, [1, 2, 1, 2, 1]),
+        Kind::new(100, FEW_VOTERS, 1, [1, 1, 1, 4, 4]),
+        Kind::new(100, FEW_VOTERS, 1, [1, 2, 3, 1, 3]),
+        Kind::new(100, 4, 3, [1, 2, 2, 2, 1]),
+        Kind::new(100, 4, 3, [1, 2, 1, 4, 4]),
+    ]
+}
+
+/// The kind, as a number: its ballots, and then its first clones.
+fn named(kind: &Kind) -> u64 {
+    let mut name = kind.ballots;
+    for first in kind.firsts {
+        name = name.saturating_mul(10).saturating_add(u64::from(first));
+    }
+    name
+}
+
+/// The candidates whose first clone is in the set.
+fn with_clones(set: CandSet, firsts: &[u8; 5]) -> CandSet {
+    let mut all = CandSet::empty();
+    for candidate in 1..=FEW {
+        if set.has(firsts[usize::from(candidate) - 1]) {
+            all = all.with(candidate);
+        }
+    }
+    all
+}
+
+/// A small election of a kind, the same for the same seed.
+fn small_election(rt: &impl Abort, alloc: Global, seed: u64, kind: &Kind) -> Profile {
     let mut builder = ProfileBuilder::new(alloc, MOST_CANDIDATES).expect(rt, "memory");
     let mut state = seed;
-    for _round in 0..ballots {
+    for _round in 0..kind.ballots {
         state = state
             .wrapping_mul(6_364_136_223_846_793_005)
             .wrapping_add(1_442_695_040_888_963_407);
-        let ballot = chosen(state >> 32);
+        let ballot = with_clones(chosen(state >> 32), &kind.firsts);
         ballot.valid();
         builder
-            .add(ballot, (state >> 60) % most.max(1) + 1)
+            .add(ballot, (state >> 60) % kind.most.max(1) + 1)
             .expect(rt, "a ballot");
     }
     builder.finish().ok().expect(rt, "a profile")
@@ -213,7 +270,7 @@ fn violation(
 }
 
 /// How many committees of an election lack a property, each compared with what is found by trying all.
-fn count_violated(rt: &impl Abort, profile: &Profile, seed: u64) -> u64 {
+fn count_violated(rt: &impl Abort, profile: &Profile, seed: u64, kind: &Kind) -> u64 {
     let mut violated = 0u64;
     for bits in 1..32 {
         let committee = chosen(bits << 1);
@@ -222,24 +279,25 @@ fn count_violated(rt: &impl Abort, profile: &Profile, seed: u64) -> u64 {
             violated = violated.saturating_add(u64::from(found.is_some()));
             assert!(rt;
                 is_right(profile, committee, property, found),
-                "{seed} {bits} {}",
-                property.name()
+                "{seed} {bits} {} {}",
+                property.name(),
+                named(kind)
             );
         }
     }
     violated
 }
 
-/// All committees of small elections: of six ballots with 1 to 3 voters each, and of five voters.
+/// All committees of small elections.
 #[test]
 fn small_elections(rt: HostRuntime) {
-    for (seeds, ballots, most) in [(100, 6, 3), (50, FEW_VOTERS, 1)] {
+    for kind in kinds() {
         let mut violated = 0u64;
-        for seed in 0..seeds {
-            let profile = small_election(&rt, rt.alloc(), seed, ballots, most);
-            violated = violated.saturating_add(count_violated(&rt, &profile, seed));
+        for seed in 0..kind.seeds {
+            let profile = small_election(&rt, rt.alloc(), seed, &kind);
+            violated = violated.saturating_add(count_violated(&rt, &profile, seed, &kind));
         }
-        assert!(rt; violated > 100, "{violated} among {ballots} ballots");
+        assert!(rt; violated > 100, "{violated} {}", named(&kind));
     }
 }
 
@@ -275,5 +333,96 @@ fn many_lists(rt: HostRuntime) {
     for (voters, alike, is_violated) in [(20, others, true), (40, CandSet::empty(), false)] {
         let profile = large_election(&rt, rt.alloc(), voters, alike);
         assert_lacks(&rt, &profile, is_violated);
+    }
+}
+
+/// The candidates of these spans, each from its first to its last.
+fn spanned(spans: &[(u8, u8)]) -> CandSet {
+    let all = CandSet::all(MOST_CANDIDATES);
+    let mut missed = all;
+    for (first, last) in spans.iter().copied() {
+        let before = CandSet::all(first.saturating_sub(1).min(MOST_CANDIDATES));
+        missed = missed.minus(CandSet::all(last.min(MOST_CANDIDATES)).minus(before));
+    }
+    all.minus(missed)
+}
+
+/// An election of one voter a ballot.
+fn election_of(rt: &impl Abort, alloc: Global, ballots: &[CandSet]) -> Profile {
+    let mut builder = ProfileBuilder::new(alloc, MOST_CANDIDATES).expect(rt, "memory");
+    for ballot in ballots.iter().copied() {
+        ballot.valid();
+        builder.add(ballot, 1).expect(rt, "a ballot");
+    }
+    builder.finish().ok().expect(rt, "a profile")
+}
+
+/// So many voters who approve so many members of their own each, from 1 on, and candidates from 41 on whom all approve.
+fn blocks(rt: &impl Abort, alloc: Global, voters: u8, size: u8, alike: u8) -> Profile {
+    let mut ballots = Vec::new(alloc);
+    for voter in 1..=voters {
+        let last = voter.saturating_mul(size);
+        let first = last.saturating_sub(size).saturating_add(1);
+        let ballot = spanned(&[(first, last), (41, alike.saturating_add(40))]);
+        ballots.push(ballot).expect(rt, "memory");
+    }
+    election_of(rt, alloc, &ballots)
+}
+
+/// Committees of the first 40 candidates beside clones whom all voters approve: groups of some voters share as many
+/// clones as the level wants, and their own members, alike too, decide whether the committee has PJR. Each line has the
+/// voters, the members of each, the clones, and the level and the voters of the first violation (0 if there is none).
+#[test]
+fn clones_beside_blocks(rt: HostRuntime) {
+    for (voters, size, alike, level, group) in [
+        (4, 10, 22, 0, 0),
+        (5, 8, 18, 0, 0),
+        (5, 8, 22, 0, 0),
+        (6, 6, 22, 13, 2),
+        (7, 5, 22, 11, 2),
+        (8, 5, 22, 0, 0),
+        (9, 4, 14, 13, 3),
+    ] {
+        let profile = blocks(&rt, rt.alloc(), voters, size, alike);
+        let committee = CandSet::all(40);
+        let property = Property::Pjr;
+        let due = (level > 0).then_some(Violation {
+            property,
+            committee,
+            level,
+            shared: spanned(&[(41, level.saturating_add(40))]),
+            within: spanned(&[(1, level.saturating_sub(1))]),
+            voters: group,
+        });
+        let found = violation(&rt, &profile, committee, property);
+        assert!(rt; found == due, "{voters} voters of {size}, {alike} clones");
+    }
+}
+
+/// Three voters who share classes of clones two by two. Each approves 25 members of a committee of 39, so any two lack
+/// one where they share a candidate outside it at level 26, and only EJR+ asks no more of them.
+#[test]
+fn clones_of_pairs(rt: HostRuntime) {
+    let profile = election_of(
+        &rt,
+        rt.alloc(),
+        &[
+            spanned(&[(1, 25), (26, 43), (62, 62)]),
+            spanned(&[(1, 25), (44, 61), (63, 63)]),
+            spanned(&[(1, 7), (26, 61), (64, 64)]),
+        ],
+    );
+    let committee = spanned(&[(8, 19), (26, 37), (44, 55), (62, 64)]);
+    for property in Property::ALL.iter().copied() {
+        let due = (property == Property::EjrPlus).then_some(Violation {
+            property,
+            committee,
+            level: 26,
+            shared: CandSet::all(1),
+            within: CandSet::empty(),
+            voters: 3,
+        });
+        let found = violation(&rt, &profile, committee, property);
+        assert!(rt; found == due, "{}", property.name());
     }
 }
