@@ -8,8 +8,8 @@ ghost use Rattle.ballot_base.specs.Increments.{increment, denominator, increment
 
 use crate::increments::ThieleRule;
 
-/// Which lists `increasing_lists` has: exactly the increasing ones of this length. They are those that pass the test for
-/// a committee.
+/// Which lists `increasing_lists` has: exactly the increasing ones of this length. They are those that pass the test
+/// for a committee.
 pub fn committees()
     ensures members { (first last size : ℕ) (set : List ℕ) → Contains (increasing_lists first last size) set
         ↔ (IsIncreasing first last set × (length set ≡ size)) }

@@ -193,7 +193,7 @@ elect_in rows = option_map (λ p. result_and_then (elect_over_page rows p.0 (num
 -- what `check` asks for
 abbrev pub check_in : List Row → Option (Result Asked LineFault)
 check_in rows =
-    option_map (λ p. result_and_then (λ committee. asking rows (of_ballots (checking p.0 committee))) (listed Committee p.1))
+    option_map (λ p. result_and_then (λ list. asking rows (of_ballots (checking p.0 list))) (listed Committee p.1))
     (option_zip (option_and_then property_named (first_of (codes "property") rows)) (first_of (codes "committee") rows))
 
 -- whether an argument is given

@@ -186,7 +186,7 @@ impl Sink for Recorder {
         ensures bytes { WriteAppends (Some self.old.0) (Some self.new.0) result buf.now }
         ensures failed { self.new.2 ≡ (self.old.2 || is_failed_write result buf.now) }
         ensures count { self.new.1 ≡ self.old.1 }
-            ensures due { IsDue self.old.3 (length self.old.0) → buf.now ≢ [] → is_failed_write result buf.now ≡ true }
+        ensures due { IsDue self.old.3 (length self.old.0) → buf.now ≢ [] → is_failed_write result buf.now ≡ true }
         ensures fault { self.new.3 ≡ (if is_failed_write result buf.now then Fault.Sound else self.old.3) }
     {
         if buf.is_empty() {

@@ -15,8 +15,8 @@ use ballot_base::{CandSet, Clones, PLACES, Profile};
 use indexmap::IndexSet;
 use std::alloc::{AllocError, Allocator};
 use std::hash::{BuildHasherDefault, FoldHasher};
-use tie_walk::sequential::{Step, best_worth, hit_weights, put_in_order, worths};
 use tie_walk::SeqRule;
+use tie_walk::sequential::{Step, best_worth, hit_weights, put_in_order, worths};
 
 /// The families of a level that were found so far, each once.
 type FoundFamilies<A> = IndexSet<CandSet, BuildHasherDefault<FoldHasher>, A>;

@@ -13,7 +13,9 @@ ghost use Rattle.tie_walk.specs.Steps.Tables.{prefix_sums};
 
 use crate::sequential::{Step, worths};
 use crate::tally::{Tally, greatest_sum, last_reaching, sum_of_worths};
-use ballot_base::{CandSet, Increments, MOST_CANDIDATES, MOST_MEMBERS, PLACES, Profile, ThieleRule};
+use ballot_base::{
+    CandSet, Increments, MOST_CANDIDATES, MOST_MEMBERS, PLACES, Profile, ThieleRule,
+};
 use std::alloc::{Allocator, Global};
 use std::marker::Model;
 

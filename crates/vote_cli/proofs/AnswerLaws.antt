@@ -1,5 +1,5 @@
 -- Each request has one answer over each input.
-use Rattle.std.proofs.Common.{◌≡◌, ◌⊎◌, ℕ, zero, suc, ◌+◌, ◌≤◌, ◌<◌, Bool, true, false, List, [], ◌∷◌, length, Option, Some, None, Result, Ok, Err, inl, inr, refl, sym, subst, ap, ◌∙◌, arith, true≢false}
+use Rattle.std.proofs.Common.{◌≡◌, ◌⊎◌, ℕ, zero, suc, ◌+◌, ◌≤◌, Bool, true, false, List, [], length, Option, Some, None, Result, Ok, Err, inl, inr, refl, sym, subst, ap, ◌∙◌, arith, true≢false}
 use Rattle.std.specs.Prelude.{MatchResult, codes, is_some}
 use Rattle.std.proofs.lemmas.Bool.{cases_Bool}
 use Rattle.ballot_base.specs.Lists.{IsIncreasing}

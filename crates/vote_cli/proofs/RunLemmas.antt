@@ -27,17 +27,17 @@ use Rattle.vote_cli.specs.declared.refusal.Refusal.{Refusal}
 use Rattle.vote_cli.specs.declared.refusal.Refusal.TheVariants.{Input, Request, Memory, ReadFailed, WriteFailed}
 use Rattle.vote_cli.specs.declared.status.Status.{Status}
 use Rattle.vote_cli.specs.declared.status.Status.TheVariants as status
-use Rattle.request_words.specs.Request.{Asked, Demand, Paging, Question, of_ballots, of_votes}
+use Rattle.request_words.specs.Request.{Asked, Paging, Question, of_ballots}
 use Rattle.vote_cli.specs.FaultText.{fault_text}
 use Rattle.vote_cli.specs.Device.{ReaderState, WriterState}
 use Rattle.vote_cli.specs.Names.{Naming, naming}
 use Rattle.vote_cli.specs.Steps.RequestFaults.{request_fault_word}
 use Rattle.vote_cli.specs.Answer.{Answer, IsAnswer, IsAnswerAbout, IsAnswerOver, IsAnswerTo, IsCheckAnswer, ballots_answer, may_be_checked, share_answer, answered, request_refused, refused, violated}
-use Rattle.vote_cli.specs.Runs.{Ends, FailsToRead, IsAllRead, IsRight, IsTooLong, ReadsInput, ReadsSoundly, Reports, has_votes, input_for}
+use Rattle.vote_cli.specs.Runs.{Ends, IsRight, IsTooLong, ReadsSoundly, Reports, input_for}
 use Rattle.vote_cli.specs.Steps.Printing.{Passes}
 use Rattle.vote_cli.proofs.PrintingLemmas.{alone}
 use Rattle.vote_cli.proofs.StartLemmas.{may_be_checked-true}
-use Rattle.vote_cli.specs.Steps.Refusals.{WritesRight, IsRefusal, IsUnread, IsWritten, ReadsBallots, ReadsOn, TellsOfReads, TellsOfWrites, error_of, status_of, outcome_status}
+use Rattle.vote_cli.specs.Steps.Refusals.{WritesRight, IsRefusal, IsWritten, ReadsBallots, ReadsOn, TellsOfReads, TellsOfWrites, error_of, status_of, outcome_status}
 
 -- a writer of errors that was not called
 Reports-nothing : (err : WriterState) → Reports err err []

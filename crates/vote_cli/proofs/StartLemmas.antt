@@ -1,8 +1,8 @@
 -- Which lists may be starts.
-use Rattle.std.proofs.Common.{◌≡◌, ℕ, ◌+◌, ◌≤◌, ◌<◌, ◌∙◌, Bool, true, false, ◌&&◌, List, [], ◌∷◌, Option, Some, None, Result, Ok, Err, refl, sym, ap, arith, length, subst, get_or}
+use Rattle.std.proofs.Common.{◌≡◌, ℕ, ◌≤◌, ◌<◌, ◌∙◌, Bool, true, false, List, [], Option, Some, None, Result, Ok, Err, refl, sym, ap, arith, length, subst, get_or}
 use Rattle.std.specs.Prelude.{◌==◌, IsErr, IsErrAnd, IfErr, nat_le}
 use Rattle.std.specs.List.{list_all}
-use Rattle.std.proofs.lemmas.Bool.{and_from, and_left, and_right, and_parts, le-leb, lt-leb, leb-true, eq-eqb, ne_eqb, false_from_ne_true, eqb-true}
+use Rattle.std.proofs.lemmas.Bool.{and_from, and_left, and_right, and_parts, le-leb, lt-leb, leb-true, eq-eqb, ne_eqb, false_from_ne_true}
 use Rattle.std.proofs.lemmas.List.Folds.{list_all_at}
 use Rattle.ballot_base.specs.Lists.{IsIncreasing, is_committee}
 use Rattle.ballot_base.proofs.Committees.{is_committee-false, is_committee-is, is_committee-true}

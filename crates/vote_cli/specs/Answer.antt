@@ -103,8 +103,8 @@ IsAnswerAbout with_names (checking property list) election answer =
 IsAnswerAbout with_names (sharing method seats page) election answer =
     answer ≡ ballots_answer method seats page with_names election
 
--- the answer to a demand and the bytes of an input; with votes in the words, the bytes do not matter, and no party has a
--- name
+-- the answer to a demand and the bytes of an input; with votes in the words, the bytes do not matter, and no party
+-- has a name
 abbrev pub IsAnswerTo : Bool → Demand → Pick → List ℕ → Answer → Type 0
 IsAnswerTo with_names (of_ballots question) pick bytes answer =
     IsAnswerOver (IsAnswerAbout with_names question) pick bytes answer

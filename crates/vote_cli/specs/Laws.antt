@@ -1,5 +1,5 @@
 -- What a start and a limit change in the answer to a request.
-use Rattle.std.specs.Prelude.{◌≡◌, ◌++◌, ℕ, Bool, true, false, List, [], ◌∷◌, None, Some, Ok}
+use Rattle.std.specs.Prelude.{◌≡◌, ◌++◌, ℕ, Bool, true, false, List, [], ◌∷◌, Some, Ok}
 use Rattle.std.specs.Prelude.{◌-◌, codes, drop, flat_map, length, option_map, take, if◌then◌else◌}
 use Rattle.ballot_base.specs.Ballots.{Election}
 use Rattle.ballot_base.specs.Lists.{is_committee, later_than}

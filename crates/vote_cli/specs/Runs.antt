@@ -1,5 +1,5 @@
 -- What a run leaves: on its devices, and with which status it ends.
-use Rattle.std.specs.Prelude.{◌≡◌, ◌⊎◌, ◌≤◌, ◌<◌, ◌+◌, ◌++◌, ℕ, length, Bool, true, false, List}
+use Rattle.std.specs.Prelude.{◌≡◌, ◌⊎◌, ◌≤◌, ◌<◌, ◌+◌, ℕ, length, Bool, true, false, List}
 use Rattle.std.specs.Prelude.{[], Option, Some, IfSome, codes, if◌then◌else◌}
 use Rattle.std.specs.Io.KnownBytes.{Appends}
 use Rattle.preflib_text.specs.Limits.{word_limit}

@@ -50,8 +50,8 @@ pub fn rest()
         → IsAnswer (asked_for (page_from page j last) asked) bytes rest → IsRest listed page j all rest }
 {}
 
-/// Allocations come in the same order as committees: `seat_share`, which stands on no other crate, has its own definition of
-/// what is later than a start.
+/// Allocations come in the same order as committees: `seat_share`, which stands on no other crate, has its own
+/// definition of what is later than a start.
 pub fn orders()
     ensures later { (list other : List ℕ) → IsLaterAllocation list other ↔ IsLater list other }
     ensures starts { (start : Option (List ℕ)) (lists : List (List ℕ))

@@ -56,8 +56,8 @@ ReadsBallots pick bytes (Err Memory) = Unit {0}
 ReadsBallots pick bytes (Err ReadFailed) = Unit {0}
 ReadsBallots pick bytes (Err refusal) = ⊥
 
--- how an input was read, by what came of it: it could not be read exactly if that is the refusal; it was read to its end
--- unless memory ran out
+-- how an input was read, by what came of it: it could not be read exactly if that is the refusal; it was read to its
+-- end unless memory ran out
 abbrev pub ReadsOn : {T : Type 0} → ReaderState → ReaderState → Result T Refusal → Type 0
 ReadsOn old new (Err ReadFailed) = FailsToRead old new
 ReadsOn old new (Err Memory) = ReadsSoundly old new

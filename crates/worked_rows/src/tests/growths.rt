@@ -37,8 +37,8 @@ fn growths_of_run(rt: &impl Abort, alloc: Global, words: &str, bytes: &[u8], tex
 /// Two groups of voters with nothing in common.
 const PARTED: &[u8] = b"# DATA TYPE: cat\n# NUMBER ALTERNATIVES: 4\n3: {1,2}\n1: {3,4}\n";
 
-/// Words, an input, what the run leaves, and the fewest growths that it asks for: the room of names and for a line, each
-/// name and each new ballot, and sets that choices make.
+/// Words, an input, what the run leaves, and the fewest growths that it asks for: the room of names and for a line,
+/// each name and each new ballot, and sets that choices make.
 type Run<'a> = (&'a str, &'a [u8], &'a [u8], u64);
 
 static RUNS: [Run<'static>; 11] = [
@@ -128,7 +128,11 @@ fn assert_first_decides(rt: &impl Abort, alloc: Global, run: Run<'_>, growths: u
             let heap = Refusing::new(alloc, growth);
             let source = SliceReader::failing(bytes, 16, call);
             let ended = run_on(&heap, &request, source, writer(alloc), writer(alloc));
-            let left = if growth <= before { MEMORY } else { READ_FAILED };
+            let left = if growth <= before {
+                MEMORY
+            } else {
+                READ_FAILED
+            };
             assert_ended(rt, words, growth as usize, &ended, ending(left));
         }
     }

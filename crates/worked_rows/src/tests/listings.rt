@@ -24,7 +24,8 @@ share --method huntington --seats 10 --votes 1,6 | method huntington¶seats 10 |
 share --method adams --seats 2 --votes 5,3,3 | method adams¶seats 2 | 1,0,1¶1,1,0
 share --method dean --seats 2 --votes 5,3,3 | method dean¶seats 2 | 1,0,1¶1,1,0";
 
-/// A list of answers: the words that ask for it, its lines before the answers, and the answers. `¶` stands between lines.
+/// A list of answers: the words that ask for it, its lines before the answers, and the answers. `¶` stands between
+/// lines.
 #[derive(Clone, Copy)]
 pub(super) struct Listing<'a> {
     words: &'a str,

@@ -6,8 +6,8 @@ use std::process::Abort;
 use test_devices::{Fault, Recorder, reader, run_on, writer};
 
 /// Asserts that a second run fetches what is missing after this beginning of a text: it starts after the last whole
-/// answer, with what is left of the limit. If no answer is whole, or if the limit leaves only the last line missing, there
-/// is no such run.
+/// answer, with what is left of the limit. If no answer is whole, or if the limit leaves only the last line missing,
+/// there is no such run.
 fn assert_fetched(
     rt: &impl Abort,
     alloc: Global,
