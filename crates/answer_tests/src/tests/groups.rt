@@ -238,8 +238,8 @@ fn shows_itself(profile: &Profile, violation: &Violation) -> bool {
         )
 }
 
-/// Whether this is the first violation of all, and its own ballots show it. Where there are few voters, its level is the
-/// least at which some group breaks the property.
+/// Whether this is the first violation of all, and its own ballots show it. Where there are few voters, its level is
+/// the least at which some group breaks the property.
 fn is_right(
     profile: &Profile,
     committee: CandSet,
