@@ -70,7 +70,7 @@ fn may_share(property: Property, committee: CandSet, candidate: u8) -> bool
 fn clones_of(clones: &Clones, candidate: u8) -> CandSet
     requires { candidate ≤ most_candidates }
     ensures { (m : ℕ) (rows : List Row) → AreClones m rows clones.now → 1 ≤ candidate → candidate ≤ m
-        → m ≤ most_candidates → result ≡ clones_among m rows candidate }
+        → result ≡ clones_among m rows candidate }
 {
     clones[usize::from(candidate)]
 }

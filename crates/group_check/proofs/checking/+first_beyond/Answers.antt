@@ -143,7 +143,7 @@ returns g t c =
           (ap (λ set. is_large e c.args.committee c.args.level (sum (voters_below e c.args.committee c.args.level set))) (sym c.with-more.ensures)
           ∙ ap (is_large e c.args.committee c.args.level) (sym c.voters_below-voters.ensures.group) ∙ sym c.is_enough.ensures ∙ w.if-is_enough.false)
     ] in
-    let class = c.clones_of.ensures e.m e.rows c.requires.clones (at_least_one e.m c.args.shared x pool order) (at_most_last 1 e.m c.args.shared x pool order) c.voters_below-voters.ensures.valid.most in
+    let class = c.clones_of.ensures e.m e.rows c.requires.clones (at_least_one e.m c.args.shared x pool order) (at_most_last 1 e.m c.args.shared x pool order) in
     c.first_beyond.ensures
     ∙ ap (λ set. first c.args.shared set c.args.left) c.minus-others.ensures
     ∙ clones_out c.args.property e c.args.committee c.args.level c.args.shared x pool c.clones_of.result c.args.left order c.if-left-eq0.false class none

@@ -110,7 +110,7 @@ returns g t c =
     let none = none_found-is c.first_within-found.result _
     (c.first_within-found.ensures ∙ ap (λ more. find suits (completions more pool (c.args.left - 1))) c.with-more.ensures)
     (sym c.is_some.ensures ∙ c.if-is_some.false) in
-    let class = c.clones_of.ensures e.m e.rows c.requires.clones (at_least_one e.m c.args.within x pool order) (at_most_last 1 e.m c.args.within x pool order) c.voters_around-voters.ensures.valid.most in
+    let class = c.clones_of.ensures e.m e.rows c.requires.clones (at_least_one e.m c.args.within x pool order) (at_most_last 1 e.m c.args.within x pool order) in
     c.first_within.ensures
     ∙ ap (λ set. find suits (completions c.args.within set c.args.left)) c.minus-others.ensures
     ∙ members_out e c.args.committee c.args.level c.args.shared c.args.within x pool c.clones_of.result c.args.left order c.if-left-eq0.false
