@@ -32,11 +32,11 @@ gain-same weights rows set c d are =
 itself : (n : ℕ) → (n == n) ≡ true
 itself n = eq-eqb n n refl
 
-gone : (set : List ℕ) (n : ℕ) → has_member (without_member set n) n ≡ false
+pub gone : (set : List ℕ) (n : ℕ) → has_member (without_member set n) n ≡ false
 gone set n = member-without set n n ∙ ap (λ b. not b && has_member set n) (itself n)
 
 -- a member that is taken out comes back
-back : (m : ℕ) (set : List ℕ) (n : ℕ) → IsIncreasing 1 m set → has_member set n ≡ true → with_member (without_member set n) n ≡ set
+pub back : (m : ℕ) (set : List ℕ) (n : ℕ) → IsIncreasing 1 m set → has_member set n ≡ true → with_member (without_member set n) n ≡ set
 back m set n up here =
     same_increasing 1 m (with_member (without_member set n) n) set
     (IsIncreasing-with_member 1 m (without_member set n) n (member-low 1 m set n up here) (member-high 1 m set n up here) (IsIncreasing-filter (λ x. not (x == n)) 1 m set up)) up
@@ -53,13 +53,13 @@ abbrev pub exchanged : List ℕ → ℕ → ℕ → List ℕ
 exchanged committee c d = with_member (without_member committee d) c
 
 module _ (m : ℕ) (committee : List ℕ) (c d : ℕ) (up : IsIncreasing 1 m committee) (here : has_member committee d ≡ true) (out : has_member committee c ≡ false) where
-  abbrev less : List ℕ
+  abbrev pub less : List ℕ
   less = without_member committee d
 
-  less-up : IsIncreasing 1 m less
+  pub less-up : IsIncreasing 1 m less
   less-up = IsIncreasing-filter (λ x. not (x == d)) 1 m committee up
 
-  less-out : has_member less c ≡ false
+  pub less-out : has_member less c ≡ false
   less-out = member-without committee d c ∙ ap (λ b. not (c == d) && b) out ∙ and-false (not (c == d))
     where
       and-false : (b : Bool) → (b && false) ≡ false
@@ -78,7 +78,7 @@ module _ (m : ℕ) (committee : List ℕ) (c d : ℕ) (up : IsIncreasing 1 m com
       )
 
   -- and as large
-  exchanged-size : 1 ≤ c → c ≤ m → length (exchanged committee c d) ≡ length committee
+  pub exchanged-size : 1 ≤ c → c ≤ m → length (exchanged committee c d) ≡ length committee
   exchanged-size low high =
       omega (
         arith,
@@ -136,24 +136,25 @@ minus-most free clones = filter-most (λ x. not (has_member clones x)) free
 pub class-are : (m : ℕ) (rows : List Row) (c : ℕ) (clones : List ℕ) → clones ≡ clones_among m rows c → (d : ℕ) → has_member clones d ≡ true → are_clones rows c d ≡ true
 class-are m rows c clones is d h = clones_among-are m rows c d (sym (ap (λ l. has_member l d) is) ∙ h)
 
--- A candidate was tried and is struck out, with its clones: a committee with one of them reaches the value only if the
--- one with the candidate in its place does.
-pub clones-out : (tally : Thiele) (set : List ℕ) (left least : ℕ) (free rest clones : List ℕ) (c : ℕ) → IsElection tally.election → 1 ≤ left → IsOpen tally.election.m set rest → has_member rest c ≡ true
-    → ((d : ℕ) → has_member clones d ≡ true → are_clones tally.election.rows c d ≡ true) → AreLeft (tally_value tally) tally.election.m set left least free rest
-    → IsOutOfReach (tally_value tally) tally.election.m (with_member set c) (without_member rest c) (left - 1) least
-    → AreLeft (tally_value tally) tally.election.m set left least free (other_members (without_member rest c) clones)
-clones-out tally set left least free rest clones c valid some open' here are left_ none committee whole reaches = record {
+-- A candidate was tried and is struck out, with others in whose place it would be worth the same: a committee with one
+-- of them reaches the value only if the one with the candidate in its place does.
+pub clones-left : (value : List ℕ → ℕ) (m : ℕ) (set : List ℕ) (left least : ℕ) (free rest clones : List ℕ) (c : ℕ) → 1 ≤ left → IsOpen m set rest → has_member rest c ≡ true
+    → ((committee : List ℕ) (d : ℕ) → IsIncreasing 1 m committee → has_member committee d ≡ true → has_member committee c ≡ false → has_member clones d ≡ true → value (exchanged committee c d) ≡ value committee)
+    → AreLeft value m set left least free rest
+    → IsOutOfReach value m (with_member set c) (without_member rest c) (left - 1) least
+    → AreLeft value m set left least free (other_members (without_member rest c) clones)
+clones-left value m set left least free rest clones c some open' here same left_ none committee whole reaches = record {
   candidates = now.candidates;
   whole = now.whole;
   within = λ x is. go x (has_member set x) refl (has_member clones x) refl is;
   size = now.size;
 }
   where
-    before : IsCompletion tally.election.m set rest left committee
+    before : IsCompletion m set rest left committee
     before = left_ committee whole reaches
 
-    now : IsCompletion tally.election.m set (without_member rest c) left committee
-    now = struck-out (tally_value tally) tally.election.m set left least free rest c some open' here left_ none committee whole reaches
+    now : IsCompletion m set (without_member rest c) left committee
+    now = struck-out value m set left least free rest c some open' here left_ none committee whole reaches
 
     out : has_member committee c ≡ false
     out = elim (cases_Bool (has_member committee c)) [
@@ -164,10 +165,10 @@ clones-out tally set left least free rest clones c valid some open' here are lef
     -- no clone is in it but those of the set
     no-clone : (x : ℕ) → has_member set x ≡ false → has_member clones x ≡ true → has_member committee x ≡ true → ⊥
     no-clone x not_in clone is =
-        let swap = completion-exchanged tally.election.m committee c x now.candidates is out set rest left open' here not_in before in
+        let swap = completion-exchanged m committee c x now.candidates is out set rest left open' here not_in before in
         let with_c : has_member (exchanged committee c x) c ≡ true = has_member-with_member (without_member committee x) c c ∙ ap (λ b. b || has_member (without_member committee x) c) (itself c) in
-        let less = none (exchanged committee c x) (completion-with tally.election.m set rest left c open' here (exchanged committee c x) some swap with_c) in
-        omega (arith, less, reaches, value-exchanged tally.election.m committee c x now.candidates is out tally valid (are x clone))
+        let fewer = none (exchanged committee c x) (completion-with m set rest left c open' here (exchanged committee c x) some swap with_c) in
+        omega (arith, fewer, reaches, same committee x now.candidates is out clone)
 
     go : (x : ℕ) (b : Bool) → has_member set x ≡ b → (k : Bool) → has_member clones x ≡ k → has_member committee x ≡ true → (has_member set x || has_member (other_members (without_member rest c) clones) x) ≡ true
     go x true in_ k clone is = ap (λ b. b || has_member (other_members (without_member rest c) clones) x) in_
@@ -175,3 +176,12 @@ clones-out tally set left least free rest clones c valid some open' here are lef
     go x false not_in false clone is =
         ap (λ b. has_member set x || b) (has_member-filter (λ y. not (has_member clones y)) (without_member rest c) x ∙ ap (λ b. not b && has_member (without_member rest c) x) clone)
         ∙ now.within x is
+
+-- the same under a Thiele rule
+pub clones-out : (tally : Thiele) (set : List ℕ) (left least : ℕ) (free rest clones : List ℕ) (c : ℕ) → IsElection tally.election → 1 ≤ left → IsOpen tally.election.m set rest → has_member rest c ≡ true
+    → ((d : ℕ) → has_member clones d ≡ true → are_clones tally.election.rows c d ≡ true) → AreLeft (tally_value tally) tally.election.m set left least free rest
+    → IsOutOfReach (tally_value tally) tally.election.m (with_member set c) (without_member rest c) (left - 1) least
+    → AreLeft (tally_value tally) tally.election.m set left least free (other_members (without_member rest c) clones)
+clones-out tally set left least free rest clones c valid some open' here are =
+    clones-left (tally_value tally) tally.election.m set left least free rest clones c some open' here
+    (λ committee d up is out clone. value-exchanged tally.election.m committee c d up is out tally valid (are d clone))
