@@ -9,15 +9,15 @@ use Rattle.request_words.specs.declared.request.Rule.{Rule}
 use Rattle.request_words.specs.declared.request.Rule.TheVariants.{Scored, Sequential}
 use Rattle.tie_walk.specs.declared.sequential.SeqRule.TheVariants.{SeqPav, SeqCc, RevSeqPav}
 use Rattle.request_words.specs.declared.request.ScoredRule.TheVariants.{Thiele, Satisfaction, Minimax}
-use Rattle.request_words.specs.Request.{Asked, Demand, checking, electing, of_ballots, of_votes, whole}
+use Rattle.request_words.specs.Request.{Asked, Demand, checking, electing, of_ballots, of_votes, sharing, whole}
 use Rattle.preflib_text.specs.declared.pick.Kind.{Kind}
-use Rattle.preflib_text.specs.declared.pick.Kind.TheVariants.{Soc, Soi, Toi}
+use Rattle.preflib_text.specs.declared.pick.Kind.TheVariants.{Cat, Soc, Soi, Toc, Toi}
 use Rattle.preflib_text.specs.declared.pick.Pick.{Pick}
 use Rattle.preflib_text.specs.declared.pick.Way.{Way}
-use Rattle.preflib_text.specs.declared.pick.Way.TheVariants.{Usual, Category, Classes}
+use Rattle.preflib_text.specs.declared.pick.Way.TheVariants.{Usual, Category, SetSize, Classes}
 use Rattle.group_check.specs.declared.property.Property.TheVariants.{Jr, Pjr, Ejr, EjrPlus}
 use Rattle.seat_share.specs.declared.method.Method.TheVariants.{Hamilton, Dhondt, SainteLague, Huntington, Adams, Dean}
-use Rattle.request_words.specs.declared.words.LineFault.TheVariants.{BadList, VotesAndInput, Memory}
+use Rattle.request_words.specs.declared.words.LineFault.TheVariants.{BadList, TwoPicks, VotesAndInput, Memory}
 use Rattle.request_words.specs.declared.words.ListOption.TheVariants.{Committee, Votes, After}
 use Rattle.request_words.specs.Endings.{after_last, kind_in_path}
 use Rattle.request_words.specs.NumberList.{all_there, entry_of, list_of}
