@@ -1,3 +1,4 @@
 pub mod BoundLemmas
+mod CloneLemmas
 mod Examples
 pub mod NeedLemmas

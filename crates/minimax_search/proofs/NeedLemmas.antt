@@ -4,7 +4,7 @@ use Rattle.std.specs.List.{AllByRecursion}
 use Rattle.std.proofs.lemmas.Bool.{cases_eq, cases_lt}
 use Rattle.std.proofs.lemmas.List.Folds.{list_any-append}
 use Rattle.std.proofs.lemmas.List.Sums.{sum_by-cons, length-filter, count_by-le-length}
-use Rattle.ballot_base.specs.CandSet.{has_member, common_members, with_member, without_member}
+use Rattle.ballot_base.specs.CandSet.{has_member, common_members, other_members, with_member, without_member}
 use Rattle.ballot_base.specs.Lists.{IsIncreasing}
 use Rattle.ballot_base.specs.Ballots.{Row, hits}
 use Rattle.ballot_base.proofs.Increasing.{IsIncreasing-filter, has_member-filter, has_member_head, has_member_tail}
@@ -13,14 +13,15 @@ use Rattle.tie_walk.proofs.Distances.{ballot-found, common-least_right, common-t
 use Rattle.tie_walk.proofs.RowSums.{length-common}
 use Rattle.tie_search.specs.Completions.{IsOpen, IsCompletion, IsReaching, IsOutOfReach}
 use Rattle.tie_search.proofs.CompletionLemmas.{added, added-free, added-increasing, added-size, and-true, completion-few, completion-members, hits-same, open-without, without-is}
-use Rattle.tie_search.proofs.SearchLemmas.{AreLeft, none-left, struck-out}
+use Rattle.tie_search.proofs.CloneLemmas.{clones-left, exchanged, minus-is, open-minus}
+use Rattle.tie_search.proofs.SearchLemmas.{AreLeft, none-left}
 use Rattle.minimax_search.specs.Needs.{hits_needed}
 use Rattle.minimax_search.specs.Steps.Near.{AreChoices, IsNarrowed}
 
 -- ---- one ballot
 
 -- both sizes have the hits twice
-distance-hits : (m : ℕ) (ballot committee : List ℕ) → IsIncreasing 1 m ballot → IsIncreasing 1 m committee
+pub distance-hits : (m : ℕ) (ballot committee : List ℕ) → IsIncreasing 1 m ballot → IsIncreasing 1 m committee
     → distance ballot committee + 2 * hits ballot committee ≡ length ballot + length committee
 distance-hits m ballot committee up rises = omega (arith, distance-sizes 1 m ballot committee up rises, length-common ballot committee)
 
@@ -285,11 +286,14 @@ module _ (value : List ℕ → ℕ) (m : ℕ) (set free rest : List ℕ) (left l
   }
 
   -- a candidate was tried and is struck out
-  pub narrowed-struck : (n : ℕ) → 1 ≤ left → has_member rest n ≡ true → IsOutOfReach value m (with_member set n) (without_member rest n) (left - 1) least → IsNarrowed value m set free left least (without_member rest n)
-  narrowed-struck n some here none = record {
-    opened = open-without m set rest n narrowed.opened;
-    among = λ x h. narrowed.among x (without-is rest n x h);
-    kept = struck-out value m set left least free rest n some narrowed.opened here narrowed.kept none;
+  -- a candidate was tried, and is struck out with those in whose place it would make a committee as near
+  pub narrowed-clones : (n : ℕ) (clones : List ℕ) → 1 ≤ left → has_member rest n ≡ true
+      → ((committee : List ℕ) (d : ℕ) → IsIncreasing 1 m committee → has_member committee d ≡ true → has_member committee n ≡ false → has_member clones d ≡ true → value (exchanged committee n d) ≡ value committee)
+      → IsOutOfReach value m (with_member set n) (without_member rest n) (left - 1) least → IsNarrowed value m set free left least (other_members (without_member rest n) clones)
+  narrowed-clones n clones some here same none = record {
+    opened = open-minus m set (without_member rest n) clones (open-without m set rest n narrowed.opened);
+    among = λ x h. narrowed.among x (without-is rest n x (minus-is (without_member rest n) clones x h));
+    kept = clones-left value m set left least free rest clones n some narrowed.opened here same narrowed.kept none;
   }
 
   pub narrowed-out : IsOutOfReach value m set rest left least → IsOutOfReach value m set free left least

@@ -1,12 +1,15 @@
 //! The search for a committee that is near each ballot, depth first, that goes into no set where a ballot needs more
 //! hits than it can have.
-ghost use Rattle.std.specs.Prelude.{◌≡◌, ◌-◌, ◌≤◌, IsTrue, MatchOption};
+ghost use Rattle.std.specs.Prelude.{◌≡◌, ◌-◌, ◌≤◌, ℕ, List, IsTrue, MatchOption};
+ghost use Rattle.ballot_base.specs.Ballots.{Row};
+ghost use Rattle.ballot_base.specs.Clones.{AreClones, clones_among};
+ghost use Rattle.ballot_base.specs.Limits.{most_candidates};
 ghost use Rattle.tie_walk.specs.Values.{closeness, greatest_distance};
 ghost use Rattle.tie_search.specs.Completions.{IsOpen, IsOutOfReach, IsReaching};
 ghost use Rattle.minimax_search.specs.Steps.Near.{AreChoices, IsNarrowed};
 
 use crate::needs::still_needed;
-use ballot_base::{CandSet, Profile};
+use ballot_base::{CandSet, Clones, Profile, all_clones};
 use std::alloc::Allocator;
 
 /// A committee of the set and of `left` of the free candidates that is no farther than `most` from any ballot, if there
@@ -23,20 +26,59 @@ pub fn find_near<A: Allocator + Copy>(
         (IsOutOfReach (closeness profile.now.m profile.now.rows) profile.now.m set free left (profile.now.m - most))
         (IsReaching (closeness profile.now.m profile.now.rows) profile.now.m set free left (profile.now.m - most)) }
 {
-    profile.m();
-    let (choices, mut rest) = choices(profile, set, free, left, most)?;
-    if left == 0 {
-        return Some(set);
-    }
-    while let Some(parts) = choices.common(rest).split_first() {
-        let next = parts.0;
-        rest = rest.without(next);
-        let found = find_near(profile, set.with(next), rest, left - 1, most);
-        if let Some(committee) = found {
-            return Some(committee);
+    let search = NearSearch {
+        profile,
+        clones: &all_clones(profile),
+        most,
+    };
+    search.find_near(set, free, left)
+}
+
+/// What all steps of a search share: the ballots, who are clones on them, and how far a committee may be from each.
+#[derive(Drop)]
+pub(crate) struct NearSearch<'a, A: Allocator + Copy> {
+    pub(crate) profile: &'a Profile<A>,
+    pub(crate) clones: &'a Clones,
+    pub(crate) most: u8,
+}
+
+impl<A: Allocator + Copy> NearSearch<'_, A> {
+    /// A committee of the set and of `left` of the free candidates that is near, if there is one.
+    pub(crate) fn find_near(&self, set: CandSet, free: CandSet, left: u8) -> Option<CandSet>
+        requires clones { AreClones self.now.profile.now.m self.now.profile.now.rows self.now.clones.now }
+        requires opened { IsOpen self.now.profile.now.m set free }
+        ensures { MatchOption result
+            (IsOutOfReach (closeness self.now.profile.now.m self.now.profile.now.rows) self.now.profile.now.m set free
+            left (self.now.profile.now.m - self.now.most))
+            (IsReaching (closeness self.now.profile.now.m self.now.profile.now.rows) self.now.profile.now.m set free
+            left (self.now.profile.now.m - self.now.most)) }
+    {
+        self.profile.m();
+        let (choices, mut rest) = choices(self.profile, set, free, left, self.most)?;
+        if left == 0 {
+            return Some(set);
         }
+        while let Some(parts) = choices.common(rest).split_first() {
+            let next = parts.0;
+            let others = rest.without(next);
+            let found = self.find_near(set.with(next), others, left - 1);
+            if let Some(committee) = found {
+                return Some(committee);
+            }
+            // A committee with a clone of the candidate would be as near with the candidate in its place.
+            rest = others.minus(clones_of(self.clones, next));
+        }
+        None
     }
-    None
+}
+
+/// The clones of a candidate, itself among them.
+fn clones_of(clones: &Clones, candidate: u8) -> CandSet
+    requires { candidate ≤ most_candidates }
+    ensures { (m : ℕ) (rows : List Row) → AreClones m rows clones.now → 1 ≤ candidate → candidate ≤ m
+        → result ≡ clones_among m rows candidate }
+{
+    clones[usize::from(candidate)]
 }
 
 /// Free candidates of whom one has to join the set, those on a ballot that needs more hits or all of them; and those of

@@ -1,6 +1,7 @@
 //! Values under minimax approval voting whose bounds are found by search.
 ghost use Rattle.std.specs.Prelude.{◌≡◌, ℕ, ◌+◌, ◌-◌, ◌≤◌, List, [], false, MatchOption, length};
 ghost use Rattle.ballot_base.specs.Ballots.{IsElection};
+ghost use Rattle.ballot_base.specs.Clones.{AreClones};
 ghost use Rattle.ballot_base.specs.Lists.{IsIncreasing};
 ghost use Rattle.tie_walk.specs.Values.{closeness};
 ghost use Rattle.tie_walk.specs.Winners.{best_value};
@@ -8,8 +9,8 @@ ghost use Rattle.tie_search.specs.Completions.{IsOutOfReach, IsReaching, is_reac
 ghost use Rattle.tie_search.specs.Steps.Witness.{IsReachedTo, IsWitnessed};
 ghost use Rattle.minimax_search.specs.Bounds.{minimax_of, closeness_by, best_closeness, near_bound};
 
-use crate::search::find_near;
-use ballot_base::{CandSet, Profile};
+use crate::search::NearSearch;
+use ballot_base::{CandSet, Clones, Profile, all_clones};
 use std::alloc::{Allocator, Global};
 use std::cell::Cell;
 use std::marker::Model;
@@ -22,6 +23,7 @@ use tie_walk::{MinimaxTally, Tally, those_after};
 #[derive(Drop)]
 pub struct NearTally<'a, A: Allocator + Copy = Global> {
     profile: &'a Profile<A>,
+    clones: Clones,
     k: u8,
     // The least greatest distance of a ballot from a committee of k, and a committee that has it.
     most: u8,
@@ -38,7 +40,7 @@ impl<'a, A: Allocator + Copy> Model for NearTally<'a, A> {
 
     ghost view = { λ t. minimax_of t.profile.now t.k };
 
-    ghost invariant = { λ t. IsNearest t.profile.now t.k t.most t.committee };
+    ghost invariant = { λ t. IsNearest t.profile.now t.clones t.k t.most t.committee };
 }
 
 impl<'a, A: Allocator + Copy> NearTally<'a, A> {
@@ -47,10 +49,12 @@ impl<'a, A: Allocator + Copy> NearTally<'a, A> {
         requires { k ≤ profile.now.m }
         ensures { result ≡ minimax_of profile.now k }
     {
-        let committee = nearest_committee(profile, k);
+        let clones = all_clones(profile);
+        let committee = nearest_committee(profile, &clones, k);
         let most = greatest_distance(profile, committee);
         NearTally {
             profile,
+            clones,
             k,
             most,
             committee,
@@ -96,7 +100,12 @@ impl<'a, A: Allocator + Copy> NearTally<'a, A> {
             return latest;
         }
         let free = those_after(c, m);
-        match find_near(self.profile, set, free, left, self.most) {
+        let search = NearSearch {
+            profile: self.profile,
+            clones: &self.clones,
+            most: self.most,
+        };
+        match search.find_near(set, free, left) {
             Some(committee) => {
                 self.found.set(committee);
                 witnessed_upto(committee, m, c, set, left)
@@ -186,8 +195,9 @@ impl<'a, A: Allocator + Copy> Tally for NearTally<'a, A> {
 }
 
 /// A committee of k that none is nearer than to the ballot farthest from it.
-fn nearest_committee<A: Allocator + Copy>(profile: &Profile<A>, k: u8) -> CandSet
-    requires { k ≤ profile.now.m }
+fn nearest_committee<A: Allocator + Copy>(profile: &Profile<A>, clones: &Clones, k: u8) -> CandSet
+    requires clones { AreClones profile.now.m profile.now.rows clones.now }
+    requires fits { k ≤ profile.now.m }
     ensures candidates { IsIncreasing 1 profile.now.m result }
     ensures size { length result ≡ k }
     ensures best { closeness profile.now.m profile.now.rows result
@@ -195,7 +205,7 @@ fn nearest_committee<A: Allocator + Copy>(profile: &Profile<A>, k: u8) -> CandSe
 {
     let all = those_after(0, profile.m());
     let mut nearest = CandSet::all(k);
-    while let Some(nearer) = nearer_than(profile, all, nearest, k) {
+    while let Some(nearer) = nearer_than(profile, clones, all, nearest, k) {
         nearest = nearer;
     }
     nearest
@@ -204,10 +214,12 @@ fn nearest_committee<A: Allocator + Copy>(profile: &Profile<A>, k: u8) -> CandSe
 /// A committee of k of all candidates with a greater value, if there is one.
 fn nearer_than<A: Allocator + Copy>(
     profile: &Profile<A>,
+    clones: &Clones,
     all: CandSet,
     committee: CandSet,
     k: u8,
 ) -> Option<CandSet>
+    requires clones { AreClones profile.now.m profile.now.rows clones.now }
     requires all { IsIncreasing 1 profile.now.m all }
     requires candidates { IsIncreasing 1 profile.now.m committee }
     ensures { MatchOption result
@@ -220,7 +232,12 @@ fn nearer_than<A: Allocator + Copy>(
     if far == 0 {
         return None;
     }
-    find_near(profile, CandSet::empty(), all, k, far - 1)
+    let search = NearSearch {
+        profile,
+        clones,
+        most: far - 1,
+    };
+    search.find_near(CandSet::empty(), all, k)
 }
 
 /// The greatest distance of a ballot from the committee.

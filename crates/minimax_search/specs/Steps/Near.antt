@@ -3,6 +3,7 @@ use Rattle.std.specs.Prelude.{◌≡◌, ℕ, ◌-◌, ◌≤◌, true, List, le
 use Rattle.ballot_base.specs.CandSet.{has_member}
 use Rattle.ballot_base.specs.Lists.{IsIncreasing}
 use Rattle.ballot_base.specs.Ballots.{Election}
+use Rattle.ballot_base.specs.Clones.{AreClones}
 use Rattle.tie_walk.specs.Values.{closeness}
 use Rattle.tie_walk.specs.Winners.{best_value}
 use Rattle.tie_search.specs.Completions.{IsOpen, IsCompletion, IsReaching}
@@ -23,7 +24,8 @@ pub record IsNarrowed (value : List ℕ → ℕ) (m : ℕ) (set free : List ℕ)
         → IsCompletion m set rest left committee
 
 -- what is true of each tally by search: its committee is no farther than `most` from any ballot, and none is nearer
-pub record IsNearest (e : Election) (k most : ℕ) (committee : List ℕ) : Type 0 where
+pub record IsNearest (e : Election) (clones : List (List ℕ)) (k most : ℕ) (committee : List ℕ) : Type 0 where
+  pub classes : AreClones e.m e.rows clones
   pub fits : k ≤ e.m
   pub within : most ≤ e.m
   pub best_is : e.m - most ≡ best_value (closeness e.m e.rows) e.m k

@@ -9,7 +9,7 @@ use Rattle.minimax_search.proofs.tally.nearest_committee.Goals as goal
 
 pub loop-nearer-init : goal.loop-nearer-init
 loop-nearer-init g c = rw c.all-nearest.ensures record {
-  candidates = IsIncreasing-range 1 c.args.k c.args.profile.now.m (omega (arith, c.requires));
+  candidates = IsIncreasing-range 1 c.args.k c.args.profile.now.m (omega (arith, c.requires.fits));
   size = length-range_with_len 1 c.args.k;
 }
 
@@ -39,5 +39,5 @@ returns-clause-best g c =
     let e = c.args.profile.now in
     let none : IsOutOfReach (closeness e.m e.rows) e.m [] c.those_after-all.result c.args.k (closeness e.m e.rows c.loop-nearer.nearest + 1) = c.in_default.ensures in
     best-found (closeness e.m e.rows) e.m c.args.k (closeness e.m e.rows c.loop-nearer.nearest + 1) c.loop-nearer.nearest c.those_after-all.result
-    c.requires c.loop-nearer.invariant.candidates c.loop-nearer.invariant.size (rw (← c.m.ensures.value) c.those_after-all.ensures.within)
+    c.requires.fits c.loop-nearer.invariant.candidates c.loop-nearer.invariant.size (rw (← c.m.ensures.value) c.those_after-all.ensures.within)
     (λ n low high. c.those_after-all.ensures.all n (omega arith) (omega (arith, high, c.m.ensures.value))) refl none

@@ -8,8 +8,8 @@ use Rattle.tie_search.proofs.WitnessLemmas.{witnessed-joined}
 use Rattle.minimax_search.specs.Bounds.{Minimax, best_closeness, closeness_by}
 use Rattle.minimax_search.proofs.tally.NearTally.reached_upto.Goals as goal
 
-pub find_near-requires : goal.find_near-requires
-find_near-requires g c =
+pub find_near-requires-clause-opened : goal.find_near-requires-clause-opened
+find_near-requires-clause-opened g c =
     let e = c.self.inside.profile.now in
     let size : e.m ≡ c.args.self.now.election.m = ap (λ (x : Minimax). x.election.m) c.self.view_is in
     let after : IsIncreasing (c.args.c + 1) e.m c.those_after-free.result = rw (← c.m-m.ensures.value) c.those_after-free.ensures.within in
