@@ -12,6 +12,9 @@ use std::process::Abort;
 use tie_search::SearchTally;
 use tie_walk::{Tally, Winners};
 
+/// More winners than any of these elections has.
+const MOST_COUNTED: usize = 100_000;
+
 /// Parties of candidates whom the same voters approve, and the seats to fill.
 #[derive(Clone, Copy)]
 struct Lists<'a> {
@@ -104,8 +107,9 @@ fn assert_as_dhondt(rt: &impl Abort, alloc: Global, lists: Lists<'_>) {
         assert_eq!(rt; found, wanted, "{:?}", allocation.seats());
         all = found.wrapping_add(all);
     }
-    let winners = Winners::new(&tally, tally.m(), k, None).count();
-    assert_eq!(rt; winners as u64, all, "the winners of {seats} seats");
+    let winners = Winners::new(&tally, tally.m(), k, None);
+    let count = winners.take(MOST_COUNTED).count();
+    assert_eq!(rt; count as u64, all, "the winners of {seats} seats");
 }
 
 #[test]
@@ -158,19 +162,19 @@ fn random_classes(rt: HostRuntime) {
     }
 }
 
-/// A committee of k of the candidates 1 to m that are next to each other, in the middle.
-fn middle_committee(m: u8, k: u8) -> CandSet
+/// A committee of k of the candidates 1 to m that are next to each other, from candidate 2 on if there are enough.
+fn second_committee(m: u8, k: u8) -> CandSet
     requires most { m ≤ most_candidates }
     requires fits { k ≤ m }
     ensures { IsStart m k (Some result) }
 {
     let mut word = 0;
-    for n in 0..k {
-        word |= 1 << ((usize::from(m - k) / 2 + usize::from(n)) % 64);
+    for n in 1..=k {
+        word |= 1 << (usize::from(n) % 64);
     }
-    let middle = ballot_of(m, word);
-    if middle.len() == k {
-        return middle;
+    let second = ballot_of(m, word);
+    if second.len() == k {
+        return second;
     }
     first_committee(m, k)
 }
@@ -181,7 +185,7 @@ fn assert_ends(rt: &impl Abort, alloc: Global, rule: ThieleRule, lists: Lists<'_
     let m = profile.m();
     let k = fitting(lists.seats, m);
     let tally = SearchTally::new(&profile, rule, k);
-    for start in [None, Some(middle_committee(m, k))] {
+    for start in [None, Some(second_committee(m, k))] {
         let found = Winners::new(&tally, m, k, start).take(1000).count();
         assert_eq!(rt; found, 1000, "{rule:?} {k} of {m}");
     }

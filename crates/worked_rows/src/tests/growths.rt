@@ -1,4 +1,6 @@
 //! Growths that are refused, one after the other.
+ghost use Rattle.std.specs.Prelude.{◌≤◌};
+
 use super::support::{ANSWER, THREE, assert_ended, ending, request};
 use refusing_heap::Refusing;
 use std::alloc::Global;
@@ -149,7 +151,9 @@ fn a_growth_and_a_read(rt: HostRuntime) {
 
 /// Asserts that a run whose growth of this number is refused ends out of memory, with nothing written, whichever writer
 /// fails later.
-fn assert_growth_decides(rt: &impl Abort, alloc: Global, run: Run<'_>, growth: u64) {
+fn assert_growth_decides(rt: &impl Abort, alloc: Global, run: Run<'_>, growth: u64)
+    requires { 1 ≤ growth }
+{
     let (words, bytes, _text, _least) = run;
     let request = request(rt, alloc, words);
     for fault in [Fault::ErrorAfter(0), Fault::ZeroAfter(0), Fault::AtFlush] {
