@@ -90,14 +90,19 @@ fn assert_rest(rt: &impl Abort, alloc: Global, words: &str, taken: usize) {
     assert!(rt; is_fetched, "a row of {taken} bytes");
 }
 
-/// The output fails after each of the bytes, or at the flush after them all, and the rest is fetched.
+/// Asserts that the text is cut off where the output fails after each of its bytes, and that the rest is fetched.
+fn assert_each_cut(rt: &impl Abort, alloc: Global, words: &str, text: &str) {
+    for (taken, _byte) in text.char_indices() {
+        let fault = Fault::ErrorAfter(taken);
+        assert_cut_off(rt, alloc, words, fault, &text[..taken]);
+        assert_rest(rt, alloc, words, taken);
+    }
+}
+
+/// The output fails after each of the bytes, or at the flush after them all.
 #[test]
 fn ties_that_are_cut_off(rt: HostRuntime) {
     let words = "elect --rule pav --size 2";
-    for (taken, _byte) in TIES.char_indices() {
-        let fault = Fault::ErrorAfter(taken);
-        assert_cut_off(&rt, rt.alloc(), words, fault, &TIES[..taken]);
-        assert_rest(&rt, rt.alloc(), words, taken);
-    }
+    assert_each_cut(&rt, rt.alloc(), words, TIES);
     assert_cut_off(&rt, rt.alloc(), words, Fault::AtFlush, TIES);
 }
