@@ -1,28 +1,51 @@
 //! Clones: candidates whom the same voters approve.
-ghost use Rattle.std.specs.Prelude.{◌≡◌};
+ghost use Rattle.std.specs.Prelude.{◌≡◌, ◌≤◌, [], slice_index_or};
 ghost use Rattle.ballot_base.specs.Clones.{AreClones, clones_among};
+ghost use Rattle.ballot_base.specs.Limits.{most_candidates};
 
 use crate::cand_set::CandSet;
 use crate::limits::PLACES;
 use crate::profile::Profile;
 use std::alloc::Allocator;
+use std::marker::Model;
 
-/// The clones of each candidate, itself among them, at its number.
-pub type Clones = [CandSet; PLACES];
+/// The classes of clones of a profile. Contracts see a list that holds the class of each candidate at its number.
+#[derive(Drop)]
+pub struct Clones {
+    classes: [CandSet; PLACES],
+}
 
-/// The clones of all candidates of a profile. It takes no memory.
-pub fn all_clones<A: Allocator + Copy>(profile: &Profile<A>) -> Clones
-    ensures { AreClones profile.now.m profile.now.rows result }
-{
-    let mut all = [CandSet::empty(); PLACES];
-    for c in 1..profile.m() + 1 {
-        all[usize::from(c)] = clones_of(profile, c);
+impl Model for Clones {
+    ghost use Rattle.std.specs.Prelude.{ℕ, List};
+
+    ghost Value = { List (List ℕ) };
+
+    ghost view = { λ c. c.classes };
+}
+
+impl Clones {
+    /// Finds the clones of every candidate of a profile. It takes no memory.
+    pub fn of<A: Allocator + Copy>(profile: &Profile<A>) -> Clones
+        ensures { AreClones profile.now.m profile.now.rows result }
+    {
+        let mut classes = [CandSet::empty(); PLACES];
+        for c in 1..profile.m() + 1 {
+            classes[usize::from(c)] = class_of(profile, c);
+        }
+        Clones { classes }
     }
-    all
+
+    /// The clones of a candidate, itself among them.
+    pub fn class(&self, candidate: u8) -> CandSet
+        requires { candidate ≤ most_candidates }
+        ensures { result ≡ slice_index_or self.now candidate [] }
+    {
+        self.classes[usize::from(candidate)]
+    }
 }
 
 /// The candidates whom exactly the voters of this one approve.
-fn clones_of<A: Allocator + Copy>(profile: &Profile<A>, c: u8) -> CandSet
+fn class_of<A: Allocator + Copy>(profile: &Profile<A>, c: u8) -> CandSet
     ensures { result ≡ clones_among profile.now.m profile.now.rows c }
 {
     let mut clones = CandSet::all(profile.m());

@@ -12,7 +12,7 @@ pub mod profile;
 pub mod subsets;
 
 pub use cand_set::CandSet;
-pub use clones::{Clones, all_clones};
+pub use clones::Clones;
 pub use hashing::BallotHashing;
 pub use increments::{Increments, ThieleRule};
 pub use limits::{MOST_CANDIDATES, MOST_MEMBERS, MOST_VOTERS, PLACES};

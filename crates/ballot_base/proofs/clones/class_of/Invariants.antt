@@ -1,7 +1,7 @@
 use Rattle.std.proofs.Common.{◌≡◌, filter, length, take}
 use Rattle.std.specs.List.{range_with_len}
 use Rattle.ballot_base.specs.Clones.{are_clones}
-use Rattle.ballot_base.proofs.clones.clones_of.Given as goal
+use Rattle.ballot_base.proofs.clones.class_of.Given as goal
 
 -- those whom the rows so far do not tell from c
 abbrev pub invariant-loop-ballot : goal.invariant-loop-ballot

@@ -6,7 +6,7 @@ use Rattle.ballot_base.specs.CandSet.{common_members, other_members}
 use Rattle.ballot_base.proofs.Turns.{row_of_turn, all_passed}
 use Rattle.ballot_base.specs.Clones.{are_clones, clones_among}
 use Rattle.ballot_base.proofs.CloneLemmas.{clones-none, clones-approved, clones-other}
-use Rattle.ballot_base.proofs.clones.clones_of.Goals as goal
+use Rattle.ballot_base.proofs.clones.class_of.Goals as goal
 
 pub loop-ballot-init : goal.loop-ballot-init
 loop-ballot-init g c =
