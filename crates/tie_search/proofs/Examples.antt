@@ -2,27 +2,31 @@
 -- of the candidates 1 to 3 the best has 2 and 3.
 use Rattle.std.proofs.Common.{◌≡◌, true, false, [], ◌∷◌, refl, sum, lit≤, lit<, arith}
 use Rattle.ballot_base.specs.Lists.{lists_of}
+use Rattle.tie_walk.specs.Ceilings.{ceiling, closeness_upto}
+use Rattle.tie_walk.specs.Values.{closeness, distance}
+use Rattle.tie_walk.specs.Winners.{best_value}
+use Rattle.tie_search.specs.Needs.{hits_needed}
 use Rattle.tie_search.specs.Completions.{IsOpen, IsCompletion, IsReaching, IsOutOfReach, IsWinnerFrom, is_reached, exact_bound}
 use Rattle.tie_search.specs.Prices.{kept, base, price}
 use Rattle.tie_search.specs.Steps.Witness.{IsSetAndLater}
 use Rattle.tie_search.specs.Steps.Columns.{voter_ballot, given, total, voters_of}
 
-best-at_root : exact_bound sum 3 2 0 [] 2 ≡ 5
+best-at_root : exact_bound sum (ceiling sum 3) 3 2 0 [] 2 ≡ 5
 unfolding lists_of
 best-at_root = refl
 
 -- no committee with 1 has the greatest value
-less-with_one : exact_bound sum 3 2 1 (1 ∷ []) 1 ≡ 4
+less-with_one : exact_bound sum (ceiling sum 3) 3 2 1 (1 ∷ []) 1 ≡ 4
 unfolding lists_of
 less-with_one = refl
 
 -- a committee without 1 has
-best-without_one : exact_bound sum 3 2 1 [] 2 ≡ 5
+best-without_one : exact_bound sum (ceiling sum 3) 3 2 1 [] 2 ≡ 5
 unfolding lists_of
 best-without_one = refl
 
 -- the set and those to add make no committee of two: the ceiling is 1 with 2 and 3
-ceiling-of_three : exact_bound sum 3 2 1 (1 ∷ []) 2 ≡ 6
+ceiling-of_three : exact_bound sum (ceiling sum 3) 3 2 1 (1 ∷ []) 2 ≡ 6
 unfolding lists_of
 ceiling-of_three = refl
 
@@ -105,3 +109,63 @@ given-second = refl
 given-by_all : total (λ v. given (6 ∷ 3 ∷ 2 ∷ []) (2 ∷ []) 1 (voter_ballot ((1 ∷ 2 ∷ []) ∷ (1 ∷ 2 ∷ []) ∷ (3 ∷ []) ∷ []) v)) 4 ≡ 6
 unfolding total
 given-by_all = refl
+
+-- ---- hits that ballots need under minimax approval voting
+
+-- a ballot of three needs two hits of a committee of four to be no farther than 3: with 2 and 3 in common, 1, 4 and 5
+-- stand on one of the two alone
+needed-two : hits_needed 3 4 3 ≡ 2
+needed-two = refl
+
+far-three : distance (1 ∷ 2 ∷ 3 ∷ []) (2 ∷ 3 ∷ 4 ∷ 5 ∷ []) ≡ 3
+far-three = refl
+
+hits-two : hits (1 ∷ 2 ∷ 3 ∷ []) (2 ∷ 3 ∷ 4 ∷ 5 ∷ []) ≡ 2
+hits-two = refl
+
+-- with one hit the distance is 5, so that two are needed for 4 as well
+needed-four : hits_needed 3 4 4 ≡ 2
+needed-four = refl
+
+needed-five : hits_needed 3 4 5 ≡ 1
+needed-five = refl
+
+-- no hit where both together are no more
+needed-none : hits_needed 3 4 7 ≡ 0
+needed-none = refl
+
+needed-none_more : hits_needed 3 4 9 ≡ 0
+needed-none_more = refl
+
+-- ---- bounds of two of three candidates, where one voter approves 1 and 2, and one approves 3: with 1 and 2 the second
+-- voter is at the distance 3, with 3 in the committee no voter is farther than 2
+
+abbrev two_of_three : List ℕ → ℕ
+two_of_three set = closeness 3 ((1 ∷ 2 ∷ [], 1) ∷ (3 ∷ [], 1) ∷ []) set
+
+abbrev two_of_three-upto : ℕ → List ℕ → ℕ → ℕ
+two_of_three-upto c set left = closeness_upto 3 ((1 ∷ 2 ∷ [], 1) ∷ (3 ∷ [], 1) ∷ []) c set
+
+value-with_three : two_of_three (1 ∷ 3 ∷ []) ≡ 1
+value-with_three = refl
+
+value-without_three : two_of_three (1 ∷ 2 ∷ []) ≡ 0
+value-without_three = refl
+
+best-of_two : best_value two_of_three 3 2 ≡ 1
+unfolding lists_of
+best-of_two = refl
+
+bound-with_one : exact_bound two_of_three two_of_three-upto 3 2 1 (1 ∷ []) 1 ≡ 1
+unfolding lists_of
+bound-with_one = refl
+
+-- no committee has 1 and 2 and the greatest value
+bound-with_both : exact_bound two_of_three two_of_three-upto 3 2 2 (1 ∷ 2 ∷ []) 0 ≡ 0
+unfolding lists_of
+bound-with_both = refl
+
+-- the set and those to add make no committee of two: as far as 1, the farthest ballot is at the distance 1
+bound-of_three : exact_bound two_of_three two_of_three-upto 3 2 1 (1 ∷ []) 2 ≡ 2
+unfolding lists_of
+bound-of_three = refl

@@ -3,6 +3,8 @@ pub mod ColumnLemmas
 pub mod CompletionLemmas
 mod Examples
 pub mod LiveLemmas
+mod NearClones
+pub mod NeedLemmas
 pub mod PriceLemmas
 pub mod PricedLemmas
 pub mod ReachLemmas

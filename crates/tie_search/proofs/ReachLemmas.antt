@@ -9,10 +9,9 @@ use Rattle.ballot_base.specs.Lists.{IsIncreasing, increasing_lists}
 use Rattle.ballot_base.specs.CandSet.{has_member}
 use Rattle.ballot_base.proofs.Committees.{chosen-from_contains, increasing_lists-contains}
 use Rattle.ballot_base.proofs.Increasing.{IsIncreasing-filter, IsIncreasing-higher, IsIncreasing-lower, has_member-above, same_increasing}
-use Rattle.tie_walk.specs.Ceilings.{IsAdded, IsBound, IsExactAtBest, IsSubmodular, ceiling}
+use Rattle.tie_walk.specs.Ceilings.{IsAdded, IsBound, IsExactAtBest}
 use Rattle.tie_walk.specs.Winners.{best_value}
 use Rattle.tie_walk.proofs.LawLemmas.{IsIncreasing-range, no_greater_value, some_winner, winner-is}
-use Rattle.tie_walk.proofs.Submodular.{ceiling-bounds}
 use Rattle.tie_search.specs.Completions.{IsOpen, IsCompletion, IsOutOfReach, is_reached, exact_bound}
 use Rattle.tie_search.specs.Steps.Witness.{IsSetAndLater}
 use Rattle.tie_search.proofs.CompletionLemmas.{added, added-size, completion-members, member-low, member-high}
@@ -94,55 +93,50 @@ module _ (value : List ℕ → ℕ) (m c : ℕ) (set free : List ℕ) (left : �
 
 -- ---- the bound
 
-module _ (value : List ℕ → ℕ) (m k c : ℕ) (set : List ℕ) (left : ℕ) (within : c ≤ m) (up : IsIncreasing 1 c set) where
-  best-bounds : (more : List ℕ) → IsIncreasing (c + 1) m more → length more ≡ left → length set + left ≡ k → value (set ++ more) ≤ best_value value m k
-  best-bounds more rises size whole =
-      no_greater_value value m k (set ++ more)
-      (increasing_lists-contains 1 m k (set ++ more) (increasing-append 1 c m set more (omega arith) within up rises, omega (arith, size, whole, length-append set more)))
-
-  reached-bounds : (b : Bool) → is_reached value m c set left (best_value value m k) ≡ b → length set + left ≡ k
-      → IsBound value m c set left (cond b (best_value value m k) (best_value value m k - 1))
-  reached-bounds true e whole more rises size = best-bounds more rises size whole
-  reached-bounds false e whole more rises size = elim (cases_lt (value (set ++ more)) (best_value value m k)) [
-    | inl under ↦ omega (arith, under)
-    | inr reaches ↦
-        let some : is_reached value m c set left (best_value value m k) ≡ true =
-        any-true (λ l. nat_le (best_value value m k) (value (set ++ l))) (increasing_lists (c + 1) m left) more
-        (increasing_lists-contains (c + 1) m left more (rises, size)) (le-leb (best_value value m k) (value (set ++ more)) reaches) in
-        absurd (let no : true ≡ false = sym some ∙ e in cc)
-  ]
-
-  -- the bound by search is a bound
-  pub exact-bounds : IsSubmodular value → IsBound value m c set left (exact_bound value m k c set left)
-  exact-bounds falls = elim (cases_eq (length set + left) k) [
-    | inl whole ↦ subst (λ n. IsBound value m c set left n) (sym (at-size whole))
-        (reached-bounds (is_reached value m c set left (best_value value m k)) refl whole)
-    | inr other ↦ subst (λ n. IsBound value m c set left n) (sym (at-other other)) (ceiling-bounds value falls m c set left up)
-  ]
-    where
-      at-size : length set + left ≡ k → exact_bound value m k c set left ≡ cond (is_reached value m c set left (best_value value m k)) (best_value value m k) (best_value value m k - 1)
-      at-size whole = ap (λ b. cond b (cond (is_reached value m c set left (best_value value m k)) (best_value value m k) (best_value value m k - 1)) (ceiling value m c set left)) (eq-eqb (length set + left) k whole)
-
-      at-other : (length set + left ≡ k → ⊥) → exact_bound value m k c set left ≡ ceiling value m c set left
-      at-other other = ap (λ b. cond b (cond (is_reached value m c set left (best_value value m k)) (best_value value m k) (best_value value m k - 1)) (ceiling value m c set left)) (ne_eqb (length set + left) k other)
-
+module _ (value : List ℕ → ℕ) (bound : ℕ → List ℕ → ℕ → ℕ) (m k c : ℕ) (set : List ℕ) (left : ℕ) where
   -- what the three answers are
-  pub exact-reached : length set + left ≡ k → is_reached value m c set left (best_value value m k) ≡ true → exact_bound value m k c set left ≡ best_value value m k
-  exact-reached whole is =
-      ap (λ b. cond b (cond (is_reached value m c set left (best_value value m k)) (best_value value m k) (best_value value m k - 1)) (ceiling value m c set left)) (eq-eqb (length set + left) k whole)
-      ∙ ap (λ b. cond b (best_value value m k) (best_value value m k - 1)) is
+  at-size : length set + left ≡ k → exact_bound value bound m k c set left ≡ cond (is_reached value m c set left (best_value value m k)) (best_value value m k) (best_value value m k - 1)
+  at-size whole = ap (λ b. cond b (cond (is_reached value m c set left (best_value value m k)) (best_value value m k) (best_value value m k - 1)) (bound c set left)) (eq-eqb (length set + left) k whole)
 
-  pub exact-short : length set + left ≡ k → is_reached value m c set left (best_value value m k) ≡ false → exact_bound value m k c set left ≡ best_value value m k - 1
-  exact-short whole is =
-      ap (λ b. cond b (cond (is_reached value m c set left (best_value value m k)) (best_value value m k) (best_value value m k - 1)) (ceiling value m c set left)) (eq-eqb (length set + left) k whole)
-      ∙ ap (λ b. cond b (best_value value m k) (best_value value m k - 1)) is
+  pub exact-reached : length set + left ≡ k → is_reached value m c set left (best_value value m k) ≡ true → exact_bound value bound m k c set left ≡ best_value value m k
+  exact-reached whole is = at-size whole ∙ ap (λ b. cond b (best_value value m k) (best_value value m k - 1)) is
 
-  pub exact-other : (length set + left ≡ k → ⊥) → exact_bound value m k c set left ≡ ceiling value m c set left
-  exact-other other = ap (λ b. cond b (cond (is_reached value m c set left (best_value value m k)) (best_value value m k) (best_value value m k - 1)) (ceiling value m c set left)) (ne_eqb (length set + left) k other)
+  pub exact-short : length set + left ≡ k → is_reached value m c set left (best_value value m k) ≡ false → exact_bound value bound m k c set left ≡ best_value value m k - 1
+  exact-short whole is = at-size whole ∙ ap (λ b. cond b (best_value value m k) (best_value value m k - 1)) is
+
+  pub exact-other : (length set + left ≡ k → ⊥) → exact_bound value bound m k c set left ≡ bound c set left
+  exact-other other = ap (λ b. cond b (cond (is_reached value m c set left (best_value value m k)) (best_value value m k) (best_value value m k - 1)) (bound c set left)) (ne_eqb (length set + left) k other)
+
+  module _ (within : c ≤ m) (up : IsIncreasing 1 c set) where
+    reached-bounds : (b : Bool) → is_reached value m c set left (best_value value m k) ≡ b → length set + left ≡ k
+        → IsBound value m c set left (cond b (best_value value m k) (best_value value m k - 1))
+    reached-bounds true e whole more rises size =
+        no_greater_value value m k (set ++ more)
+        (increasing_lists-contains 1 m k (set ++ more) (increasing-append 1 c m set more (omega arith) within up rises, omega (arith, size, whole, length-append set more)))
+    reached-bounds false e whole more rises size = elim (cases_lt (value (set ++ more)) (best_value value m k)) [
+      | inl under ↦ omega (arith, under)
+      | inr reaches ↦
+          let some : is_reached value m c set left (best_value value m k) ≡ true =
+          any-true (λ l. nat_le (best_value value m k) (value (set ++ l))) (increasing_lists (c + 1) m left) more
+          (increasing_lists-contains (c + 1) m left more (rises, size)) (le-leb (best_value value m k) (value (set ++ more)) reaches) in
+          absurd (let no : true ≡ false = sym some ∙ e in cc)
+    ]
+
+    -- of a whole committee the bound by search is a bound
+    pub whole-bounds : length set + left ≡ k → IsBound value m c set left (exact_bound value bound m k c set left)
+    whole-bounds whole =
+        subst (λ n. IsBound value m c set left n) (sym (at-size whole)) (reached-bounds (is_reached value m c set left (best_value value m k)) refl whole)
+
+    -- it is one if that of the other sizes is
+    pub exact-bounds : IsBound value m c set left (bound c set left) → IsBound value m c set left (exact_bound value bound m k c set left)
+    exact-bounds bounds = elim (cases_eq (length set + left) k) [
+      | inl whole ↦ whole-bounds whole
+      | inr other ↦ subst (λ n. IsBound value m c set left n) (sym (exact-other other)) bounds
+    ]
 
 -- the bound reaches the greatest value only where some committee does
-pub exact-at_best : (value : List ℕ → ℕ) (m k : ℕ) → IsExactAtBest value (exact_bound value m k) m k (best_value value m k)
-exact-at_best value m k c set left within up whole fits reaches = by (is_reached value m c set left (best_value value m k)) refl
+pub exact-at_best : (value : List ℕ → ℕ) (bound : ℕ → List ℕ → ℕ → ℕ) (m k : ℕ) → IsExactAtBest value (exact_bound value bound m k) m k (best_value value m k)
+exact-at_best value bound m k c set left within up whole fits reaches = by (is_reached value m c set left (best_value value m k)) refl
   where
     by : (b : Bool) → is_reached value m c set left (best_value value m k) ≡ b
         → (added' : List ℕ) × IsAdded m c left added' × (best_value value m k ≤ value (set ++ added'))
@@ -153,22 +147,26 @@ exact-at_best value m k c set left within up whole fits reaches = by (is_reached
     by false e = (
       range_with_len (c + 1) left,
       (IsIncreasing-range (c + 1) left m (omega (arith, within, fits)), length-range_with_len (c + 1) left),
-      omega (arith, reaches, exact-short value m k c set left within up whole e),
+      omega (arith, reaches, exact-short value bound m k c set left whole e),
     )
 
 -- ---- the greatest value
 
--- a committee above which there is none has the greatest value
-pub best-found : (value : List ℕ → ℕ) (m k least : ℕ) (committee all : List ℕ) → k ≤ m → IsIncreasing 1 m committee → length committee ≡ k
-    → IsIncreasing 1 m all → ((n : ℕ) → 1 ≤ n → n ≤ m → has_member all n ≡ true)
-    → least ≡ value committee + 1 → IsOutOfReach value m [] all k least → value committee ≡ best_value value m k
-best-found value m k least committee all fits up size all-up all-in is none =
+-- a committee of k completes the empty set
+pub completes-none : (m k : ℕ) (all committee : List ℕ) → ((n : ℕ) → 0 < n → n ≤ m → has_member all n ≡ true) → IsIncreasing 1 m committee → length committee ≡ k
+    → IsCompletion m [] all k committee
+completes-none m k all committee all-in up size = record {
+  candidates = up;
+  whole = λ n h. absurd cc;
+  within = λ n h. all-in n (let low : 1 ≤ n = member-low 1 m committee n up h in omega arith) (member-high 1 m committee n up h);
+  size = omega (arith, size);
+}
+
+-- a committee that none exceeds has the greatest value
+pub best-found : (value : List ℕ → ℕ) (m k : ℕ) (committee : List ℕ) → k ≤ m → IsIncreasing 1 m committee → length committee ≡ k
+    → IsBound value m 0 [] k (value committee) → value committee ≡ best_value value m k
+best-found value m k committee fits up size none =
     let some = some_winner value m k fits in
     let winner = winner-is value m k some.0 some.1 in
-    let whole : IsCompletion m [] all k some.0 = record {
-      candidates = winner.0;
-      whole = λ n h. absurd cc;
-      within = λ n h. all-in n (member-low 1 m some.0 n winner.0 h) (member-high 1 m some.0 n winner.0 h);
-      size = omega (arith, winner.1);
-    } in
-    omega (arith, is, none some.0 whole, winner.2, no_greater_value value m k committee (increasing_lists-contains 1 m k committee (up, size)))
+    let most : value some.0 ≤ value committee = none some.0 winner.0 winner.1 in
+    omega (arith, most, winner.2, no_greater_value value m k committee (increasing_lists-contains 1 m k committee (up, size)))

@@ -10,7 +10,6 @@ use Rattle.ballot_base.specs.Lists.{IsIncreasing, increasing_lists}
 use Rattle.ballot_base.specs.CandSet.{has_member, members_upto, other_members}
 use Rattle.ballot_base.proofs.Committees.{increasing_lists-contains, length-increasing}
 use Rattle.ballot_base.proofs.Increasing.{IsIncreasing-filter, IsIncreasing-higher, IsIncreasing-lower, has_member-below, has_member-filter, same_increasing}
-use Rattle.tie_walk.specs.Ceilings.{IsSubmodular}
 use Rattle.tie_walk.specs.Winners.{best_value}
 use Rattle.tie_walk.proofs.LawLemmas.{IsIncreasing-range}
 use Rattle.tie_walk.proofs.LiveLemmas.{upto-all, upto-none, upto-rest}
@@ -18,7 +17,7 @@ use Rattle.tie_walk.proofs.WalkLemmas.{append_none}
 use Rattle.tie_search.specs.Completions.{exact_bound, is_reached}
 use Rattle.tie_search.specs.Steps.Witness.{IsSetAndLater, IsReachedTo, IsWitnessed}
 use Rattle.tie_search.proofs.CompletionLemmas.{member-high}
-use Rattle.tie_search.proofs.ReachLemmas.{any-true, exact-bounds, exact-reached, exact-short, increasing-append}
+use Rattle.tie_search.proofs.ReachLemmas.{any-true, exact-reached, exact-short, increasing-append, whole-bounds}
 
 module _ (m c : ℕ) (set : List ℕ) (left : ℕ) (within : c ≤ m) (up : IsIncreasing 1 c set) where
   -- who is not in the set was added
@@ -128,20 +127,19 @@ short-some value m c set left least within fits none = elim (cases_lt 0 least) [
 ]
 
 -- so far the bounds reach the best value
-module _ (value : List ℕ → ℕ) (falls : IsSubmodular value) (m k c : ℕ) (set : List ℕ) (left : ℕ) (within : c ≤ m) (up : IsIncreasing 1 c set)
+module _ (value : List ℕ → ℕ) (bound : ℕ → List ℕ → ℕ → ℕ) (m k c : ℕ) (set : List ℕ) (left : ℕ) (within : c ≤ m) (up : IsIncreasing 1 c set)
     (fits : left ≤ m - c) (whole : length set + left ≡ k) where
   pub reached-to : (best end : ℕ) → best ≡ best_value value m k → IsWitnessed value m set left (best_value value m k) c end
-      → (end ≡ c → is_reached value m c set left (best_value value m k) ≡ false) → IsReachedTo value (exact_bound value m k) m set left best c end
+      → (end ≡ c → is_reached value m c set left (best_value value m k) ≡ false) → IsReachedTo value (exact_bound value bound m k) m set left best c end
   reached-to best end is witnessed none = record {
     low = witnessed.low;
     high = witnessed.high;
     reached = λ n low high.
-        let inside : n ≤ m = omega (arith, high, witnessed.high) in
-        subst (λ b. best ≤ b) (sym (exact-reached value m k n set left inside (IsIncreasing-higher 1 c n set low up) whole (witnessed.reached n low high))) (omega (arith, is));
+        subst (λ b. best ≤ b) (sym (exact-reached value bound m k n set left whole (witnessed.reached n low high))) (omega (arith, is));
     short = λ same.
         let out = none same in
         let some = short-some value m c set left (best_value value m k) within fits out in (
-          subst (λ b. b < best) (sym (exact-short value m k c set left within up whole out)) (omega (arith, is, some)),
-          exact-bounds value m k c set left within up falls,
+          subst (λ b. b < best) (sym (exact-short value bound m k c set left whole out)) (omega (arith, is, some)),
+          whole-bounds value bound m k c set left within up whole,
         );
   }

@@ -4,7 +4,7 @@ use Rattle.std.specs.List.{list_any}
 use Rattle.ballot_base.specs.Lists.{IsIncreasing, increasing_lists}
 use Rattle.ballot_base.specs.CandSet.{has_member, members_upto}
 use Rattle.ballot_base.specs.Increments.{increments}
-use Rattle.tie_walk.specs.Ceilings.{Prefix, ceiling}
+use Rattle.tie_walk.specs.Ceilings.{Prefix}
 use Rattle.tie_walk.specs.Values.{Thiele, thiele_value}
 use Rattle.tie_walk.specs.Winners.{best_value}
 
@@ -41,15 +41,20 @@ abbrev pub is_reached : (List ℕ → ℕ) → ℕ → ℕ → List ℕ → ℕ 
 is_reached value m c set left least =
     list_any (λ added. nat_le least (value (set ++ added))) (increasing_lists (c + 1) m left)
 
--- The bound by search: where the set and `left` make a committee of k, the greatest value of all where it is reached,
--- and one less where it is not; else the ceiling.
-abbrev pub exact_bound : (List ℕ → ℕ) → ℕ → ℕ → ℕ → List ℕ → ℕ → ℕ
-exact_bound value m k c set left =
+-- The bound by search: if the set and `left` make a committee of k, the greatest value of all where it is reached, and
+-- one less where it is not; for other sizes, another bound.
+abbrev pub exact_bound : (List ℕ → ℕ) → (ℕ → List ℕ → ℕ → ℕ) → ℕ → ℕ → ℕ → List ℕ → ℕ → ℕ
+exact_bound value bound m k c set left =
     if length set + left == k
     then (if is_reached value m c set left (best_value value m k)
     then best_value value m k
     else best_value value m k - 1)
-    else ceiling value m c set left
+    else bound c set left
+
+-- what contracts see of a tally by search: the tally that is searched, and the size of committees
+pub record Exact (S : Type 0) : Type 0 where
+  pub search : S
+  pub k : ℕ
 
 -- a winner that begins with the prefix: its members up to the prefix's last candidate are those of the prefix
 pub record IsWinnerFrom (value : List ℕ → ℕ) (m k : ℕ) (prefix : Prefix) (committee : List ℕ) : Type 0 where

@@ -1,3 +1,4 @@
 pub mod Completions
+pub mod Needs
 pub mod Prices
 pub mod Steps

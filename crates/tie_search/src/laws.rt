@@ -1,26 +1,37 @@
 //! Laws of the definitions. Each function does nothing, and its contract is the law.
-ghost use Rattle.std.specs.Prelude.{◌≡◌, ℕ, ◌+◌, ◌-◌, ◌*◌, ◌≤◌, List, None, Some, ◌⊎◌, length, sum_by};
+ghost use Rattle.std.specs.Prelude.{◌≡◌, ℕ, ◌+◌, ◌-◌, ◌*◌, ◌≤◌, ◌↔◌, List, None, Some, ◌⊎◌, length, sum_by};
 ghost use Rattle.std.specs.List.{AllByRecursion};
 ghost use Rattle.ballot_base.specs.Limits.{most_members};
-ghost use Rattle.ballot_base.specs.Ballots.{Row};
+ghost use Rattle.ballot_base.specs.Ballots.{Row, hits};
 ghost use Rattle.ballot_base.specs.Increments.{increments};
 ghost use Rattle.ballot_base.specs.Lists.{IsIncreasing, IsLater};
 ghost use Rattle.ballot_base.specs.CandSet.{members_upto};
-ghost use Rattle.tie_walk.specs.Ceilings.{Prefix, IsBound, IsExactAtBest, IsLive, IsSubmodular, gain_at, live_count};
-ghost use Rattle.tie_walk.specs.Values.{thiele_value};
+ghost use Rattle.tie_walk.specs.Ceilings.{Prefix, IsBound, IsExactAtBest, IsLive, gain_at, live_count};
+ghost use Rattle.tie_walk.specs.Values.{greatest_distance, thiele_value};
 ghost use Rattle.tie_walk.specs.Winners.{best_value, winners};
+ghost use Rattle.tie_search.specs.Needs.{hits_needed};
 ghost use Rattle.tie_search.specs.Prices.{Priced, priced_rows, base, price};
 ghost use Rattle.tie_search.specs.Completions.{IsOpen, IsCompletion, IsWinnerFrom, exact_bound};
 
 use ballot_base::ThieleRule;
 
-/// Where gains only fall, the bound by search is a bound; and it reaches the greatest value only where some committee
-/// does.
+/// The bound by search is a bound if that of the other sizes is one; and it reaches the greatest value only if some
+/// committee does.
 pub fn exact_bounds()
-    ensures bounds { (value : List ℕ → ℕ) (m k c : ℕ) (set : List ℕ) (left : ℕ) → IsSubmodular value → c ≤ m
-        → IsIncreasing 1 c set → IsBound value m c set left (exact_bound value m k c set left) }
-    ensures exact { (value : List ℕ → ℕ) (m k : ℕ)
-        → IsExactAtBest value (exact_bound value m k) m k (best_value value m k) }
+    ensures bounds { (value : List ℕ → ℕ) (bound : ℕ → List ℕ → ℕ → ℕ) (m k c : ℕ) (set : List ℕ) (left : ℕ) → c ≤ m
+        → IsIncreasing 1 c set → IsBound value m c set left (bound c set left)
+        → IsBound value m c set left (exact_bound value bound m k c set left) }
+    ensures exact { (value : List ℕ → ℕ) (bound : ℕ → List ℕ → ℕ → ℕ) (m k : ℕ)
+        → IsExactAtBest value (exact_bound value bound m k) m k (best_value value m k) }
+{}
+
+/// Under minimax approval voting, no ballot is farther than `most` from a committee of k exactly if each ballot has as
+/// many hits as it needs.
+pub fn needs()
+    ensures { (m k most : ℕ) (rows : List Row) (committee : List ℕ)
+        → AllByRecursion (λ row. IsIncreasing 1 m row.0) rows → IsIncreasing 1 m committee → length committee ≡ k
+        → (greatest_distance rows committee ≤ most)
+        ↔ AllByRecursion (λ row. hits_needed (length row.0) k most ≤ hits row.0 committee) rows }
 {}
 
 /// Which prefixes a walk has to enter where bounds are exact at the greatest value. Without a start each begins some

@@ -26,17 +26,6 @@ pub(crate) struct Aids {
     pub(crate) prices: Option<Prices>,
 }
 
-impl Aids {
-    /// The clones of a candidate, itself among them.
-    fn clones_of(&self, candidate: u8) -> CandSet
-        requires { candidate ≤ most_candidates }
-        ensures { (m : ℕ) (rows : List Row) → AreClones m rows self.now.clones → 1 ≤ candidate → candidate ≤ m
-            → m ≤ most_candidates → result ≡ clones_among m rows candidate }
-    {
-        self.clones[usize::from(candidate)]
-    }
-}
-
 /// A committee of the set and of `left` of the free candidates whose value is at least `least`, if there is one.
 /// (Nemhauser and Wolsey, Maximizing submodular set functions)
 pub(crate) fn find<A: Allocator + Copy>(
@@ -101,7 +90,7 @@ fn descend<A: Allocator + Copy>(
             return Some(committee);
         }
         // A committee with a clone of the candidate would be worth the same with the candidate in its place.
-        rest = others.minus(aids.clones_of(next));
+        rest = others.minus(aids.clones.class(next));
         if !may_suffice(tally, set, rest, least) {
             return None;
         }

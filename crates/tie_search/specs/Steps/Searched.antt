@@ -1,5 +1,5 @@
 -- What a tally by search keeps.
-use Rattle.std.specs.Prelude.{◌≡◌, ℕ, ◌≤◌, List, length, Option, MatchOption, ⊤}
+use Rattle.std.specs.Prelude.{◌≡◌, ℕ, ◌<◌, ◌≤◌, List, length, Option, MatchOption, ⊤}
 use Rattle.ballot_base.specs.Clones.{AreClones}
 use Rattle.ballot_base.specs.Lists.{IsIncreasing}
 use Rattle.tie_walk.specs.Values.{Thiele}
@@ -22,11 +22,15 @@ pub record IsAided (tally : Thiele) (aids : Aids) : Type 0 where
   pub prices : IsPriced tally aids.prices
 
 -- what is true of each tally by search: its committee has the greatest value
-pub record IsSearched (values : Thiele) (aids : Aids) (m k best : ℕ) (committee : List ℕ) : Type 0 where
-  pub aided : IsAided values aids
-  pub m_is : m ≡ values.election.m
-  pub k_is : k ≡ values.k
+pub record IsSearched (value : List ℕ → ℕ) (m k best : ℕ) (committee : List ℕ) : Type 0 where
+  pub some : 1 ≤ k
   pub fits : k ≤ m
-  pub best_is : best ≡ best_value (tally_value values) m k
+  pub best_is : best ≡ best_value value m k
   pub candidates : IsIncreasing 1 m committee
   pub size : length committee ≡ k
+
+-- a committee of k of the candidates 1 to m with a greater value
+pub record IsBetter (value : List ℕ → ℕ) (m k : ℕ) (committee better : List ℕ) : Type 0 where
+  pub candidates : IsIncreasing 1 m better
+  pub size : length better ≡ k
+  pub more : value committee < value better

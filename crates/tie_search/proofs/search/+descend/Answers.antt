@@ -70,8 +70,8 @@ descend-found-requires g t c κs within =
     omega (arith, gained, same, c.requires.value) in
     (omega (arith, c.if-left-eq0.false, c.decreases), (within, (c.requires.aids, (rw (c.with.ensures, c.without-others.ensures) opened, rw c.with.ensures value))))
 
-pub clones_of-requires : goal.clones_of-requires
-clones_of-requires g t c =
+pub class-requires : goal.class-requires
+class-requires g t c =
     omega (
       arith,
       c.valid.ensures.election.most,
@@ -80,7 +80,7 @@ clones_of-requires g t c =
 
 pub may_suffice-requires : goal.may_suffice-requires
 may_suffice-requires g t c =
-    rw (c.minus-rest.ensures, c.without-others.ensures) (open-minus c.args.tally.now.election.m c.args.set (without_member c.loop-set.rest c.in_ok-next.next) c.clones_of.result
+    rw (c.minus-rest.ensures, c.without-others.ensures) (open-minus c.args.tally.now.election.m c.args.set (without_member c.loop-set.rest c.in_ok-next.next) c.class.result
     (open-without c.args.tally.now.election.m c.args.set c.loop-set.rest c.in_ok-next.next c.loop-set.invariant.opened))
 
 pub returns-then-not-may_suffice : goal.returns-then-not-may_suffice
@@ -91,18 +91,18 @@ returns-then-not-may_suffice g t c =
     let m = c.args.tally.now.election.m in
     let low : 1 ≤ next = member-low 1 m rest next opened.free_within c.in_ok-next.ensures in
     let high : next ≤ m = member-high 1 m rest next opened.free_within c.in_ok-next.ensures in
-    let are = class-are m c.args.tally.now.election.rows next c.clones_of.result
+    let are = class-are m c.args.tally.now.election.rows next c.class.result
     (c.clones_of.ensures m c.args.tally.now.election.rows c.requires.aids.clones low high c.valid.ensures.election.most) in
-    let left_out : AreLeft (tally_value c.args.tally.now) m c.args.set c.args.left c.args.least c.args.free (other_members (without_member rest next) c.clones_of.result) =
-    clones-out c.args.tally.now c.args.set c.args.left c.args.least c.args.free rest c.clones_of.result next c.valid.ensures.election
+    let left_out : AreLeft (tally_value c.args.tally.now) m c.args.set c.args.left c.args.least c.args.free (other_members (without_member rest next) c.class.result) =
+    clones-out c.args.tally.now c.args.set c.args.left c.args.least c.args.free rest c.class.result next c.valid.ensures.election
     (omega (arith, c.if-left-eq0.false)) opened c.in_ok-next.ensures are c.loop-set.invariant.kept
     (rw (c.with.ensures, c.without-others.ensures) at c.in_default.ensures) in
-    none-left (tally_value c.args.tally.now) c.args.tally.now.election.m c.args.set c.args.left c.args.least c.args.free (other_members (without_member rest next) c.clones_of.result) left_out
+    none-left (tally_value c.args.tally.now) c.args.tally.now.election.m c.args.set c.args.left c.args.least c.args.free (other_members (without_member rest next) c.class.result) left_out
     (rw (c.minus-rest.ensures, c.without-others.ensures) at (c.may_suffice.ensures c.if-not-may_suffice.true c.args.left))
 
 pub may_afford-requires-in-loop-set-clause-opened : goal.may_afford-requires-in-loop-set-clause-opened
 may_afford-requires-in-loop-set-clause-opened g t c =
-    rw (c.minus-rest.ensures, c.without-others.ensures) (open-minus c.args.tally.now.election.m c.args.set (without_member c.loop-set.rest c.in_ok-next.next) c.clones_of.result
+    rw (c.minus-rest.ensures, c.without-others.ensures) (open-minus c.args.tally.now.election.m c.args.set (without_member c.loop-set.rest c.in_ok-next.next) c.class.result
     (open-without c.args.tally.now.election.m c.args.set c.loop-set.rest c.in_ok-next.next c.loop-set.invariant.opened))
 
 pub returns-then-not-may_afford-2 : goal.returns-then-not-may_afford-2
@@ -113,13 +113,13 @@ returns-then-not-may_afford-2 g t c =
     let m = c.args.tally.now.election.m in
     let low : 1 ≤ next = member-low 1 m rest next opened.free_within c.in_ok-next.ensures in
     let high : next ≤ m = member-high 1 m rest next opened.free_within c.in_ok-next.ensures in
-    let are = class-are m c.args.tally.now.election.rows next c.clones_of.result
+    let are = class-are m c.args.tally.now.election.rows next c.class.result
     (c.clones_of.ensures m c.args.tally.now.election.rows c.requires.aids.clones low high c.valid.ensures.election.most) in
-    let left_out : AreLeft (tally_value c.args.tally.now) m c.args.set c.args.left c.args.least c.args.free (other_members (without_member rest next) c.clones_of.result) =
-    clones-out c.args.tally.now c.args.set c.args.left c.args.least c.args.free rest c.clones_of.result next c.valid.ensures.election
+    let left_out : AreLeft (tally_value c.args.tally.now) m c.args.set c.args.left c.args.least c.args.free (other_members (without_member rest next) c.class.result) =
+    clones-out c.args.tally.now c.args.set c.args.left c.args.least c.args.free rest c.class.result next c.valid.ensures.election
     (omega (arith, c.if-left-eq0.false)) opened c.in_ok-next.ensures are c.loop-set.invariant.kept
     (rw (c.with.ensures, c.without-others.ensures) at c.in_default.ensures) in
-    none-left (tally_value c.args.tally.now) c.args.tally.now.election.m c.args.set c.args.left c.args.least c.args.free (other_members (without_member rest next) c.clones_of.result) left_out
+    none-left (tally_value c.args.tally.now) c.args.tally.now.election.m c.args.set c.args.left c.args.least c.args.free (other_members (without_member rest next) c.class.result) left_out
     (rw (c.minus-rest.ensures, c.without-others.ensures) at (c.may_afford-in-loop-set.ensures c.if-not-may_afford-2.true))
 
 pub returns-in-Some : goal.returns-in-Some
@@ -130,7 +130,7 @@ returns-in-Some g t c =
 
 pub loop-set-smaller : goal.loop-set-smaller
 loop-set-smaller g t c =
-    let fewer = minus-most (without_member c.loop-set.rest c.in_ok-next.next) c.clones_of.result in
+    let fewer = minus-most (without_member c.loop-set.rest c.in_ok-next.next) c.class.result in
     let short = without-shorter c.loop-set.rest c.in_ok-next.next c.in_ok-next.ensures in
     rw (c.minus-rest.ensures, c.without-others.ensures) (omega (arith, fewer, short))
 
@@ -142,15 +142,15 @@ loop-set-preserved g t c =
     let m = c.args.tally.now.election.m in
     let low : 1 ≤ next = member-low 1 m rest next opened.free_within c.in_ok-next.ensures in
     let high : next ≤ m = member-high 1 m rest next opened.free_within c.in_ok-next.ensures in
-    let are = class-are m c.args.tally.now.election.rows next c.clones_of.result
+    let are = class-are m c.args.tally.now.election.rows next c.class.result
     (c.clones_of.ensures m c.args.tally.now.election.rows c.requires.aids.clones low high c.valid.ensures.election.most) in
-    let left_out : AreLeft (tally_value c.args.tally.now) m c.args.set c.args.left c.args.least c.args.free (other_members (without_member rest next) c.clones_of.result) =
-    clones-out c.args.tally.now c.args.set c.args.left c.args.least c.args.free rest c.clones_of.result next c.valid.ensures.election
+    let left_out : AreLeft (tally_value c.args.tally.now) m c.args.set c.args.left c.args.least c.args.free (other_members (without_member rest next) c.class.result) =
+    clones-out c.args.tally.now c.args.set c.args.left c.args.least c.args.free rest c.class.result next c.valid.ensures.election
     (omega (arith, c.if-left-eq0.false)) opened c.in_ok-next.ensures are c.loop-set.invariant.kept
     (rw (c.with.ensures, c.without-others.ensures) at c.in_default.ensures) in
     rw (c.minus-rest.ensures, c.without-others.ensures) record {
-      opened = open-minus m c.args.set (without_member rest next) c.clones_of.result (open-without m c.args.set rest next opened);
-      among = λ n h. c.loop-set.invariant.among n (without-is rest next n (minus-is (without_member rest next) c.clones_of.result n h));
+      opened = open-minus m c.args.set (without_member rest next) c.class.result (open-without m c.args.set rest next opened);
+      among = λ n h. c.loop-set.invariant.among n (without-is rest next n (minus-is (without_member rest next) c.class.result n h));
       kept = left_out;
     }
 

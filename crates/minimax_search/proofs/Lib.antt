@@ -1,4 +1,0 @@
-pub mod BoundLemmas
-mod CloneLemmas
-mod Examples
-pub mod NeedLemmas

@@ -1,3 +1,0 @@
-pub mod Bounds
-pub mod Needs
-pub mod Steps

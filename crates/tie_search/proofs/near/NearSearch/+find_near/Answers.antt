@@ -1,0 +1,87 @@
+use Rattle.std.proofs.Common.{◌-◌, ◌≤◌, ◌∙◌, arith, sym}
+use Rattle.ballot_base.specs.CandSet.{with_member, without_member}
+use Rattle.tie_walk.specs.Values.{closeness}
+use Rattle.tie_search.specs.Completions.{IsOpen}
+use Rattle.tie_search.proofs.CompletionLemmas.{member-low, member-high, open-with, without-shorter}
+use Rattle.tie_search.proofs.SearchLemmas.{found-below, set-reaches}
+use Rattle.tie_search.proofs.CloneLemmas.{class-are, minus-most}
+use Rattle.tie_search.proofs.NearClones.{closeness-exchanged}
+use Rattle.tie_search.proofs.NeedLemmas.{all-tried, narrowed-clones, near-value, next-tried}
+use Rattle.tie_search.proofs.near.NearSearch.+find_near.Goals as goal
+
+pub returns-then-left-eq0 : goal.returns-then-left-eq0
+returns-then-left-eq0 g t c =
+    let e = c.args.self.now.profile.now in
+    set-reaches (closeness e.m e.rows) e.m c.args.set c.args.left (e.m - c.args.self.now.most) c.args.free c.if-left-eq0.true c.requires.opened
+    (near-value e.m e.rows c.args.self.now.most c.args.set (c.in_ok-choices.ensures.0 c.if-left-eq0.true))
+
+pub loop-parts-init : goal.loop-parts-init
+loop-parts-init g t c = c.in_ok-choices.ensures.1
+
+pub with-requires-clause-low : goal.with-requires-clause-low
+with-requires-clause-low g t c =
+    member-low 1 c.args.self.now.profile.now.m c.loop-parts.rest c.in-Some.parts.0 c.loop-parts.invariant.opened.free_within
+    (next-tried c.in_ok-choices.choices c.loop-parts.rest c.common.result c.in-Some.parts.1 c.in-Some.parts.0 c.common.ensures c.in-Some.ensures)
+
+pub with-requires-clause-high : goal.with-requires-clause-high
+with-requires-clause-high g t c =
+    omega (
+      arith,
+      c.m.ensures.valid.most,
+      member-high 1 c.args.self.now.profile.now.m c.loop-parts.rest c.in-Some.parts.0 c.loop-parts.invariant.opened.free_within
+          (next-tried c.in_ok-choices.choices c.loop-parts.rest c.common.result c.in-Some.parts.1 c.in-Some.parts.0 c.common.ensures c.in-Some.ensures),
+    )
+
+pub find_near-found-requires : goal.find_near-found-requires
+find_near-found-requires g t c κs within =
+    let next = c.in-Some.parts.0 in
+    let opened : IsOpen c.args.self.now.profile.now.m (with_member c.args.set next) (without_member c.loop-parts.rest next) =
+    open-with c.args.self.now.profile.now.m c.args.set c.loop-parts.rest next c.loop-parts.invariant.opened
+    (next-tried c.in_ok-choices.choices c.loop-parts.rest c.common.result c.in-Some.parts.1 next c.common.ensures c.in-Some.ensures) in
+    (omega (arith, c.if-left-eq0.false, c.decreases), (within, (c.requires.clones, rw (c.with.ensures, c.without-others.ensures) opened)))
+
+pub returns-in-Some-found : goal.returns-in-Some-found
+returns-in-Some-found g t c =
+    let e = c.args.self.now.profile.now in
+    let next = c.in-Some.parts.0 in
+    let left = next-tried c.in_ok-choices.choices c.loop-parts.rest c.common.result c.in-Some.parts.1 next c.common.ensures c.in-Some.ensures in
+    found-below (closeness e.m e.rows) e.m c.args.set c.args.left (e.m - c.args.self.now.most) c.args.free c.loop-parts.rest c.in-Some-found.committee next
+    (omega (arith, c.if-left-eq0.false)) c.requires.opened (c.loop-parts.invariant.among next left) c.loop-parts.invariant.among
+    (rw (c.with.ensures, c.without-others.ensures) at c.in-Some-found.ensures)
+
+pub class-requires : goal.class-requires
+class-requires g t c =
+    omega (
+      arith,
+      c.m.ensures.valid.most,
+      member-high 1 c.args.self.now.profile.now.m c.loop-parts.rest c.in-Some.parts.0 c.loop-parts.invariant.opened.free_within
+          (next-tried c.in_ok-choices.choices c.loop-parts.rest c.common.result c.in-Some.parts.1 c.in-Some.parts.0 c.common.ensures c.in-Some.ensures),
+    )
+
+pub loop-parts-smaller : goal.loop-parts-smaller
+loop-parts-smaller g t c =
+    let fewer = minus-most (without_member c.loop-parts.rest c.in-Some.parts.0) c.class.result in
+    let short = without-shorter c.loop-parts.rest c.in-Some.parts.0
+    (next-tried c.in_ok-choices.choices c.loop-parts.rest c.common.result c.in-Some.parts.1 c.in-Some.parts.0 c.common.ensures c.in-Some.ensures) in
+    rw (c.minus-rest.ensures, c.without-others.ensures) (omega (arith, fewer, short))
+
+pub loop-parts-preserved : goal.loop-parts-preserved
+loop-parts-preserved g t c =
+    let e = c.args.self.now.profile.now in
+    let rest = c.loop-parts.rest in
+    let next = c.in-Some.parts.0 in
+    let here = next-tried c.in_ok-choices.choices rest c.common.result c.in-Some.parts.1 next c.common.ensures c.in-Some.ensures in
+    let low : 1 ≤ next = member-low 1 e.m rest next c.loop-parts.invariant.opened.free_within here in
+    let high : next ≤ e.m = member-high 1 e.m rest next c.loop-parts.invariant.opened.free_within here in
+    let are = class-are e.m e.rows next c.class.result (c.class.ensures ∙ c.requires.clones next low high) in
+    rw (c.minus-rest.ensures, c.without-others.ensures)
+    (narrowed-clones (closeness e.m e.rows) e.m c.args.set c.args.free rest c.args.left (e.m - c.args.self.now.most) c.loop-parts.invariant next c.class.result
+    (omega (arith, c.if-left-eq0.false)) here
+    (λ committee d up is out clone. closeness-exchanged e.m committee next d up is out low high e.rows c.m.ensures.valid.ballots (are d clone))
+    (rw (c.with.ensures, c.without-others.ensures) at c.in_default-found.ensures))
+
+pub returns : goal.returns
+returns g t c =
+    let e = c.args.self.now.profile.now in
+    all-tried (closeness e.m e.rows) e.m c.args.set c.args.free c.args.left (e.m - c.args.self.now.most) c.in_ok-choices.choices c.loop-parts.rest c.requires.opened
+    (c.in_ok-choices.ensures.2 (omega (arith, c.if-left-eq0.false))) c.loop-parts.invariant.kept (sym c.common.ensures ∙ c.in_default.ensures)

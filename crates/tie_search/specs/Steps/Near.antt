@@ -1,0 +1,19 @@
+-- Steps of the search for a committee that is near each ballot.
+use Rattle.std.specs.Prelude.{◌≡◌, ℕ, ◌≤◌, true, List}
+use Rattle.ballot_base.specs.CandSet.{has_member}
+use Rattle.tie_search.specs.Completions.{IsOpen, IsCompletion, IsReaching}
+
+-- free candidates of whom each committee has one that completes the set and reaches the value
+pub record AreChoices (value : List ℕ → ℕ) (m : ℕ) (set free : List ℕ) (left least : ℕ) (choices : List ℕ) : Type 0
+  where
+    pub among : (n : ℕ) → has_member choices n ≡ true → has_member free n ≡ true
+    pub one : (committee : List ℕ) → IsReaching value m set free left least committee
+        → (n : ℕ) × (has_member choices n ≡ true) × (has_member committee n ≡ true)
+
+-- free candidates to whom all belong who are added by a committee that completes the set and reaches the value
+pub record IsNarrowed (value : List ℕ → ℕ) (m : ℕ) (set free : List ℕ) (left least : ℕ) (rest : List ℕ) : Type 0
+  where
+    pub opened : IsOpen m set rest
+    pub among : (n : ℕ) → has_member rest n ≡ true → has_member free n ≡ true
+    pub kept : (committee : List ℕ) → IsCompletion m set free left committee → least ≤ value committee
+        → IsCompletion m set rest left committee

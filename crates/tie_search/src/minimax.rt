@@ -1,0 +1,74 @@
+//! Minimax approval voting as values that can be searched.
+ghost use Rattle.std.specs.Prelude.{◌≡◌};
+ghost use Rattle.tie_walk.specs.Ceilings.{closeness_upto};
+ghost use Rattle.tie_walk.specs.Values.{closeness};
+
+use crate::near::NearSearch;
+use crate::searchable::Searchable;
+use ballot_base::{CandSet, Clones, Profile};
+use std::alloc::{Allocator, Global};
+use std::marker::Model;
+use tie_walk::{MinimaxTally, Tally};
+
+/// The values under minimax approval voting, and who are clones. Contracts see the election.
+#[derive(Drop)]
+pub struct MinimaxSearch<'a, A: Allocator + Copy = Global> {
+    profile: &'a Profile<A>,
+    clones: Clones,
+}
+
+impl<'a, A: Allocator + Copy> Model for MinimaxSearch<'a, A> {
+    ghost use Rattle.ballot_base.specs.Ballots.{Election};
+    ghost use Rattle.ballot_base.specs.Clones.{AreClones};
+
+    ghost Value = { Election };
+
+    ghost view = { λ t. t.profile.now };
+
+    ghost invariant = { λ t. AreClones t.profile.now.m t.profile.now.rows t.clones };
+}
+
+impl<'a, A: Allocator + Copy> MinimaxSearch<'a, A> {
+    /// Prepares a search among the committees of a profile's candidates. It takes no memory.
+    pub fn new(profile: &'a Profile<A>) -> MinimaxSearch<'a, A>
+        ensures { result ≡ profile.now }
+    {
+        let clones = Clones::of(profile);
+        MinimaxSearch { profile, clones }
+    }
+}
+
+impl<'a, A: Allocator + Copy> Tally for MinimaxSearch<'a, A> {
+    ghost candidates = { λ tally. tally.m };
+
+    ghost value_of = { λ tally set. closeness tally.m tally.rows set };
+
+    ghost bound_of = { λ tally c set left. closeness_upto tally.m tally.rows c set };
+
+    fn m(&self) -> u8 {
+        self.profile.m()
+    }
+
+    fn value(&self, set: CandSet) -> u128 {
+        MinimaxTally::new(self.profile).value(set)
+    }
+
+    fn bound(&self, c: u8, set: CandSet, left: u8) -> u128 {
+        MinimaxTally::new(self.profile).bound(c, set, left)
+    }
+}
+
+impl<'a, A: Allocator + Copy> Searchable for MinimaxSearch<'a, A> {
+    fn find(&self, set: CandSet, free: CandSet, left: u8, least: u128) -> Option<CandSet> {
+        let m = self.profile.m();
+        if least > u128::from(m) {
+            return None;
+        }
+        let search = NearSearch {
+            profile: self.profile,
+            clones: &self.clones,
+            most: m - least as u8,
+        };
+        search.find_near(set, free, left)
+    }
+}

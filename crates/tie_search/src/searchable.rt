@@ -1,0 +1,17 @@
+//! Values whose committees can be searched for.
+ghost use Rattle.std.specs.Prelude.{MatchOption};
+ghost use Rattle.tie_search.specs.Completions.{IsOpen, IsOutOfReach, IsReaching};
+
+use ballot_base::CandSet;
+use tie_walk::Tally;
+
+/// Values whose committees can be searched for.
+pub trait Searchable: Tally {
+    /// Finds a committee of the set and `left` of the free candidates whose value is at least `least`. None if there is
+    /// no such committee.
+    fn find(&self, set: CandSet, free: CandSet, left: u8, least: u128) -> Option<CandSet>
+        requires { IsOpen (Self.candidates self.now) set free }
+        ensures { MatchOption result
+            (IsOutOfReach (Self.value_of self.now) (Self.candidates self.now) set free left least)
+            (IsReaching (Self.value_of self.now) (Self.candidates self.now) set free left least) };
+}

@@ -1,0 +1,90 @@
+//! Thiele's rules as values that can be searched.
+ghost use Rattle.std.specs.Prelude.{◌≡◌, ℕ, ◌≤◌};
+ghost use Rattle.ballot_base.specs.Limits.{most_members};
+ghost use Rattle.tie_walk.specs.Values.{thiele_of};
+ghost use Rattle.tie_walk.specs.Ceilings.{ceiling};
+ghost use Rattle.tie_search.specs.Completions.{tally_value};
+
+use crate::columns::Columns;
+use crate::prices::Prices;
+use crate::search::{Aids, find};
+use crate::searchable::Searchable;
+use ballot_base::{CandSet, Clones, Profile, ThieleRule};
+use std::alloc::{Allocator, Global};
+use std::marker::Model;
+use tie_walk::{Tally, ThieleTally};
+
+/// The values under a Thiele rule, times the common denominator of its increments, and what a search among them is
+/// helped by. Contracts see the election, the rule and k.
+#[derive(Drop)]
+pub struct ThieleSearch<'a, A: Allocator + Copy = Global> {
+    values: ThieleTally<'a, A>,
+    aids: Aids,
+}
+
+impl<'a, A: Allocator + Copy> Model for ThieleSearch<'a, A> {
+    ghost use Rattle.tie_walk.specs.Values.{Thiele};
+    ghost use Rattle.tie_search.specs.Steps.Searched.{IsAided};
+
+    ghost Value = { Thiele };
+
+    ghost view = { λ t. t.values };
+
+    ghost invariant = { λ t. IsAided t.values t.aids };
+}
+
+impl<'a, A: Allocator + Copy> ThieleSearch<'a, A> {
+    /// Prepares a search among the committees of k. It takes no memory.
+    pub fn new(profile: &'a Profile<A>, rule: ThieleRule, k: u8) -> ThieleSearch<'a, A>
+        requires some { 1 ≤ k }
+        requires size { k ≤ most_members }
+        requires fits { k ≤ profile.now.m }
+        ensures { result ≡ thiele_of profile.now rule k }
+    {
+        let values = ThieleTally::new(profile, rule, k);
+        let aids = Aids {
+            clones: Clones::of(profile),
+            columns: Columns::of(profile, rule, k),
+            prices: Prices::of(profile, &values, rule, k),
+        };
+        ThieleSearch { values, aids }
+    }
+}
+
+impl<'a, A: Allocator + Copy> Tally for ThieleSearch<'a, A> {
+    ghost candidates = { λ tally. tally.election.m };
+
+    ghost value_of = { λ tally set. tally_value tally set };
+
+    ghost bound_of = { λ tally c set left. ceiling (tally_value tally) tally.election.m c set left };
+
+    fn m(&self) -> u8 {
+        self.values.m()
+    }
+
+    fn value(&self, set: CandSet) -> u128 {
+        self.values.value(set)
+    }
+
+    fn bound(&self, c: u8, set: CandSet, left: u8) -> u128 {
+        self.values.bound(c, set, left)
+    }
+
+    // The good committee that was met when the prices were made.
+    fn good_committee(&self, k: u8) -> Option<CandSet> {
+        let Some(prices) = &self.aids.prices else {
+            return None;
+        };
+        let committee = prices.committee.upto(self.values.m());
+        if committee.len() != k {
+            return None;
+        }
+        Some(committee)
+    }
+}
+
+impl<'a, A: Allocator + Copy> Searchable for ThieleSearch<'a, A> {
+    fn find(&self, set: CandSet, free: CandSet, left: u8, least: u128) -> Option<CandSet> {
+        find(&self.values, &self.aids, set, free, left, least)
+    }
+}
