@@ -220,12 +220,7 @@ fn first_committee<S: Searchable>(search: &S, k: u8) -> CandSet
 }
 
 /// A committee of size k with a greater value, if there is one. No committee of this size is worth more than `most`.
-fn better_than<S: Searchable>(
-    search: &S,
-    committee: CandSet,
-    k: u8,
-    most: u128,
-) -> Option<CandSet>
+fn better_than<S: Searchable>(search: &S, committee: CandSet, k: u8, most: u128) -> Option<CandSet>
     requires candidates { IsIncreasing 1 (S.candidates search.now) committee }
     requires most { IsBound (S.value_of search.now) (S.candidates search.now) 0 [] k most }
     ensures { MatchOption result

@@ -75,6 +75,7 @@ impl<'a, A: Allocator + Copy> Tally for ThieleSearch<'a, A> {
         let Some(prices) = &self.aids.prices else {
             return None;
         };
+        prices.committee.valid();
         let committee = prices.committee.upto(self.values.m());
         if committee.len() != k {
             return None;

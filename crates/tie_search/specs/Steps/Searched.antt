@@ -8,7 +8,6 @@ use Rattle.tie_search.specs.declared.columns.Columns.{Columns}
 use Rattle.tie_search.specs.declared.search.Aids.{Aids}
 use Rattle.tie_search.specs.Steps.Columns.{AreColumnsOf}
 use Rattle.tie_search.specs.Steps.Priced.{IsPriced}
-use Rattle.tie_search.specs.Completions.{tally_value}
 
 -- the columns are those of the election, where they are kept
 abbrev pub KeepsColumns : Thiele → Option Columns → Type 0

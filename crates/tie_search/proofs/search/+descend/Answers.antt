@@ -92,7 +92,7 @@ returns-then-not-may_suffice g t c =
     let low : 1 ≤ next = member-low 1 m rest next opened.free_within c.in_ok-next.ensures in
     let high : next ≤ m = member-high 1 m rest next opened.free_within c.in_ok-next.ensures in
     let are = class-are m c.args.tally.now.election.rows next c.class.result
-    (c.clones_of.ensures m c.args.tally.now.election.rows c.requires.aids.clones low high c.valid.ensures.election.most) in
+    (c.class.ensures ∙ c.requires.aids.clones next low high) in
     let left_out : AreLeft (tally_value c.args.tally.now) m c.args.set c.args.left c.args.least c.args.free (other_members (without_member rest next) c.class.result) =
     clones-out c.args.tally.now c.args.set c.args.left c.args.least c.args.free rest c.class.result next c.valid.ensures.election
     (omega (arith, c.if-left-eq0.false)) opened c.in_ok-next.ensures are c.loop-set.invariant.kept
@@ -114,7 +114,7 @@ returns-then-not-may_afford-2 g t c =
     let low : 1 ≤ next = member-low 1 m rest next opened.free_within c.in_ok-next.ensures in
     let high : next ≤ m = member-high 1 m rest next opened.free_within c.in_ok-next.ensures in
     let are = class-are m c.args.tally.now.election.rows next c.class.result
-    (c.clones_of.ensures m c.args.tally.now.election.rows c.requires.aids.clones low high c.valid.ensures.election.most) in
+    (c.class.ensures ∙ c.requires.aids.clones next low high) in
     let left_out : AreLeft (tally_value c.args.tally.now) m c.args.set c.args.left c.args.least c.args.free (other_members (without_member rest next) c.class.result) =
     clones-out c.args.tally.now c.args.set c.args.left c.args.least c.args.free rest c.class.result next c.valid.ensures.election
     (omega (arith, c.if-left-eq0.false)) opened c.in_ok-next.ensures are c.loop-set.invariant.kept
@@ -143,7 +143,7 @@ loop-set-preserved g t c =
     let low : 1 ≤ next = member-low 1 m rest next opened.free_within c.in_ok-next.ensures in
     let high : next ≤ m = member-high 1 m rest next opened.free_within c.in_ok-next.ensures in
     let are = class-are m c.args.tally.now.election.rows next c.class.result
-    (c.clones_of.ensures m c.args.tally.now.election.rows c.requires.aids.clones low high c.valid.ensures.election.most) in
+    (c.class.ensures ∙ c.requires.aids.clones next low high) in
     let left_out : AreLeft (tally_value c.args.tally.now) m c.args.set c.args.left c.args.least c.args.free (other_members (without_member rest next) c.class.result) =
     clones-out c.args.tally.now c.args.set c.args.left c.args.least c.args.free rest c.class.result next c.valid.ensures.election
     (omega (arith, c.if-left-eq0.false)) opened c.in_ok-next.ensures are c.loop-set.invariant.kept

@@ -1,9 +1,61 @@
-use Rattle.std.proofs.Common.{◌≡◌, arith, subst, sym}
-use Rattle.tie_search.specs.Completions.{IsReaching}
-use Rattle.tie_search.specs.Steps.Witness.{IsSetAndLater}
+use Rattle.std.proofs.Common.{◌≡◌, ◌+◌, ◌∙◌, arith, false, subst, sym, ap}
+use Rattle.ballot_base.specs.Lists.{IsIncreasing}
+use Rattle.tie_walk.specs.Winners.{best_value}
+use Rattle.tie_search.specs.Completions.{Exact, IsReaching, is_reached}
+use Rattle.tie_search.specs.Steps.Witness.{IsSetAndLater, IsWitnessed}
 use Rattle.tie_search.proofs.ReachLemmas.{joined-completion, open-after, reached-none}
 use Rattle.tie_search.proofs.WitnessLemmas.{witnessed-joined}
 use Rattle.tie_search.proofs.exact.ExactTally.reached_upto.Goals as goal
 
 pub find-requires : goal.find-requires
-find-requires g c = ?
+find-requires g c =
+    let t = c.self.inside in
+    let size : c.m-m.result ≡ g.S.Tally.candidates t.search = c.m-m.ensures.value in
+    let inside : g.S.Tally.candidates t.search ≡ g.S.Tally.candidates c.args.self.now.search = ap (λ (x : Exact g.row.S.Denot). g.S.Tally.candidates x.search) c.self.view_is in
+    let after : IsIncreasing (c.args.c + 1) (g.S.Tally.candidates t.search) c.those_after-free.result = rw (← size) c.those_after-free.ensures.within in
+    open-after (g.S.Tally.value_of t.search) (g.S.Tally.candidates t.search) c.args.c c.args.set c.those_after-free.result c.args.left (omega (arith, c.requires.within, inside))
+    c.requires.candidates after (λ n low high. c.those_after-free.ensures.all n low (omega (arith, high, size)))
+
+pub returns-in-Some-clause-witnessed : goal.returns-in-Some-clause-witnessed
+returns-in-Some-clause-witnessed g c =
+    let t = c.self.inside in
+    let V = g.S.Tally.value_of t.search in
+    let end = c.witnessed_upto.result in
+    let found : IsReaching V (g.S.Tally.candidates t.search) c.args.set c.those_after-free.result c.args.left t.best c.in-Some.committee = c.in-Some.ensures in
+    let here : IsWitnessed V c.m-m.result c.args.set c.args.left t.best c.args.c end =
+    witnessed-joined V c.m-m.result c.args.set c.args.left t.best c.args.c end c.in-Some.committee c.witnessed_upto.ensures.low c.witnessed_upto.ensures.high c.witnessed_upto.ensures.witnessed found.reaches in
+    subst (λ (x : Exact g.row.S.Denot). IsWitnessed (g.S.Tally.value_of x.search) (g.S.Tally.candidates x.search) c.args.set c.args.left
+    (best_value (g.S.Tally.value_of x.search) (g.S.Tally.candidates x.search) x.k) c.args.c end) c.self.view_is
+    (subst (λ b. IsWitnessed V (g.S.Tally.candidates t.search) c.args.set c.args.left b c.args.c end) c.self.invariant.best_is
+    (subst (λ n. IsWitnessed V n c.args.set c.args.left t.best c.args.c end) c.m-m.ensures.value here))
+
+pub returns-in-Some-clause-none : goal.returns-in-Some-clause-none
+returns-in-Some-clause-none g c same =
+    let t = c.self.inside in
+    let V = g.S.Tally.value_of t.search in
+    let m = g.S.Tally.candidates t.search in
+    let size : c.m-m.result ≡ m = c.m-m.ensures.value in
+    let inside : m ≡ g.S.Tally.candidates c.args.self.now.search = ap (λ (x : Exact g.row.S.Denot). g.S.Tally.candidates x.search) c.self.view_is in
+    let after : IsIncreasing (c.args.c + 1) m c.those_after-free.result = rw (← size) c.those_after-free.ensures.within in
+    let found : IsReaching V m c.args.set c.those_after-free.result c.args.left t.best c.in-Some.committee = c.in-Some.ensures in
+    let joined : IsSetAndLater m c.args.c c.args.set c.args.left c.in-Some.committee =
+    joined-completion V m c.args.c c.args.set c.those_after-free.result c.args.left (omega (arith, c.requires.within, inside))
+    c.requires.candidates after (λ n low high. c.those_after-free.ensures.all n low (omega (arith, high, size))) c.in-Some.committee found.completes in
+    absurd (c.witnessed_upto.ensures.end (omega (arith, same, c.requires.within, inside, size))
+    (subst (λ n. IsSetAndLater n c.witnessed_upto.result c.args.set c.args.left c.in-Some.committee) (sym size)
+    (subst (λ n. IsSetAndLater m n c.args.set c.args.left c.in-Some.committee) (sym same) joined)))
+
+pub returns-in-None-clause-none : goal.returns-in-None-clause-none
+returns-in-None-clause-none g c same =
+    let t = c.self.inside in
+    let V = g.S.Tally.value_of t.search in
+    let m = g.S.Tally.candidates t.search in
+    let size : c.m-m.result ≡ m = c.m-m.ensures.value in
+    let inside : m ≡ g.S.Tally.candidates c.args.self.now.search = ap (λ (x : Exact g.row.S.Denot). g.S.Tally.candidates x.search) c.self.view_is in
+    let after : IsIncreasing (c.args.c + 1) m c.those_after-free.result = rw (← size) c.those_after-free.ensures.within in
+    let none : is_reached V m c.args.c c.args.set c.args.left t.best ≡ false =
+    reached-none V m c.args.c c.args.set c.those_after-free.result c.args.left (omega (arith, c.requires.within, inside))
+    c.requires.candidates after (λ n low high. c.those_after-free.ensures.all n low (omega (arith, high, size))) t.best c.in-None.ensures in
+    ap (λ (x : Exact g.row.S.Denot). is_reached (g.S.Tally.value_of x.search) (g.S.Tally.candidates x.search) c.args.c c.args.set c.args.left
+    (best_value (g.S.Tally.value_of x.search) (g.S.Tally.candidates x.search) x.k)) (sym c.self.view_is)
+    ∙ ap (is_reached V m c.args.c c.args.set c.args.left) (sym c.self.invariant.best_is) ∙ none

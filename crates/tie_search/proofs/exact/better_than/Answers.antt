@@ -1,0 +1,27 @@
+use Rattle.std.proofs.Common.{◌≡◌, ◌+◌, ◌<◌, ◌≤◌, ℕ, true, List, [], arith, Option, None, Some}
+use Rattle.std.specs.Prelude.{MatchOption}
+use Rattle.ballot_base.specs.CandSet.{has_member}
+use Rattle.tie_walk.specs.Ceilings.{IsBound}
+use Rattle.tie_search.specs.Completions.{IsOutOfReach, IsReaching}
+use Rattle.tie_search.specs.Steps.Searched.{IsBetter}
+use Rattle.tie_search.proofs.ReachLemmas.{completes-none}
+use Rattle.tie_search.proofs.exact.better_than.Goals as goal
+
+-- what was found among all candidates is better, or there is none
+found : (value : List ℕ → ℕ) (m k : ℕ) (all committee : List ℕ) → ((n : ℕ) → 0 < n → n ≤ m → has_member all n ≡ true)
+    → (result : Option (List ℕ)) → MatchOption result (IsOutOfReach value m [] all k (value committee + 1)) (IsReaching value m [] all k (value committee + 1))
+    → MatchOption result (IsBound value m 0 [] k (value committee)) (IsBetter value m k committee)
+found value m k all committee all-in None none =
+    λ other up size. let low : value other < value committee + 1 = none other (completes-none m k all other all-in up size) in omega (arith, low)
+found value m k all committee all-in (Some better) some = record {
+  candidates = some.completes.candidates;
+  size = omega (arith, some.completes.size);
+  more = omega (arith, some.reaches);
+}
+
+pub returns : goal.returns
+returns g c =
+    let m = g.S.Tally.candidates c.args.search.now in
+    found (g.S.Tally.value_of c.args.search.now) m c.args.k c.those_after-all.result c.args.committee
+    (λ n low high. c.those_after-all.ensures.all n low (omega (arith, high, c.m.ensures.value))) c.find.result
+    (rw (c.empty.ensures, c.value-value.ensures) at c.find.ensures)
