@@ -3,7 +3,6 @@ use Rattle.std.proofs.Common.{◌≡◌, ℕ, suc, ◌+◌, ◌-◌, ◌<◌, �
 use Rattle.std.specs.Prelude.{fold}
 use Rattle.std.specs.List.{range_with_len}
 use Rattle.std.proofs.lemmas.Bool.{lt-ltb, le-ltb}
-use Rattle.std.proofs.lemmas.List.{get_or_default}
 use Rattle.std.proofs.lemmas.List.Sums.{length-filter, fold-append}
 use Rattle.ballot_base.specs.Lists.{IsIncreasing}
 use Rattle.ballot_base.specs.CandSet.{has_member, common_members, with_member}
@@ -38,12 +37,10 @@ class-count m rows c set up = length-filter (has_member (clones_among m rows c))
         and-true true = refl
         and-true false = refl
 
--- those of a class in a table
-pub place-count : (m : ℕ) (rows : List Row) (table : List (List ℕ)) (k at : ℕ) (any set : List ℕ) → AreClones m rows table → 1 ≤ k → k ≤ m → m < length table → at ≡ k → IsIncreasing 1 m set
-    → length (common_members set (get_or table at any)) ≡ clone_count rows set k
-place-count m rows table k at any set are low high long is up =
-    let own : get_or table at any ≡ clones_among m rows k = ap (λ d. get_or table d any) is ∙ get_or_default table k any [] (omega (arith, high, long)) ∙ are k low high in
-    ap (λ l. length (common_members set l)) own ∙ class-count m rows k set up
+-- those of a class of a table
+pub own-count : (m : ℕ) (rows : List Row) (table : List (List ℕ)) (k : ℕ) (class set : List ℕ) → AreClones m rows table → 1 ≤ k → k ≤ m → class ≡ get_or table k [] → IsIncreasing 1 m set
+    → length (common_members set class) ≡ clone_count rows set k
+own-count m rows table k class set are low high is up = ap (λ l. length (common_members set l)) (is ∙ are k low high) ∙ class-count m rows k set up
 
 -- ---- a set that is completed
 

@@ -17,7 +17,7 @@ pub(crate) fn has_as_many(clones: &Clones, m: u8, set: CandSet, other: CandSet) 
     ensures { (rows : List Row) → AreClones m rows clones.now → result ≡ has_as_many m rows set other }
 {
     for c in 1..m + 1 {
-        let class = clones[usize::from(c)];
+        let class = clones.class(c);
         if set.common(class).len() < other.common(class).len() {
             return false;
         }
@@ -53,7 +53,7 @@ pub(crate) fn completed(clones: &Clones, c: u8, m: u8, set: CandSet, other: Cand
 {
     let mut all = set;
     for x in c + 1..m + 1 {
-        let class = clones[usize::from(x)];
+        let class = clones.class(x);
         if all.common(class).len() < other.common(class).len() {
             all = all.with(x);
         }

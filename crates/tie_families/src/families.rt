@@ -12,7 +12,7 @@ ghost use Rattle.ballot_base.specs.Clones.{AreClones};
 
 use crate::clones::{completed, is_between};
 use crate::levels::{Spans, families_of};
-use ballot_base::{CandSet, Clones, Profile, all_clones};
+use ballot_base::{CandSet, Clones, Profile};
 use std::alloc::{AllocError, Allocator, Global};
 use std::marker::Model;
 use tie_walk::{SeqRule, Tally};
@@ -56,7 +56,7 @@ impl<'a, A: Allocator + Copy + Drop> Families<'a, A> {
         ensures { IfOk result (λ families. families ≡ sequential_of profile.now rule k) }
     {
         let m = profile.m();
-        let clones = all_clones(profile);
+        let clones = Clones::of(profile);
         let Spans { leasts, mosts } = families_of(alloc, profile, rule, k, &clones)?;
         Ok(Families {
             profile,
@@ -142,7 +142,7 @@ fn are_apart(clones: &Clones, m: u8) -> bool
     ensures { result ≡ true → AreApart m clones.now }
 {
     for c in 1..m + 1 {
-        let class = clones[usize::from(c)];
+        let class = clones.class(c);
         if class.len() != 1 {
             return false;
         }

@@ -67,10 +67,9 @@ fn ties(
 {
     let mut ties = CandSet::empty();
     for c in 1..m + 1 {
-        let at = usize::from(c);
         if step.may_choose(set, c)
-            && worths[at] == best
-            && is_first_open(step, clones[at], set, c)
+            && worths[usize::from(c)] == best
+            && is_first_open(step, clones.class(c), set, c)
         {
             ties = ties.with(c);
         }

@@ -13,11 +13,10 @@ use crate::names::Names;
 use crate::printing::{Printer, WriteFailed};
 use ballot_base::{CandSet, Increments, Profile, ThieleRule, common_multiple};
 use itoa::Buffer;
-use minimax_search::NearTally;
 use request_words::{Rule, ScoredRule};
 use std::alloc::Allocator;
 use tie_families::FamilyWinners;
-use tie_search::SearchTally;
+use tie_search::{ExactTally, MinimaxSearch, ThieleSearch};
 use tie_walk::{SavTally, SeqRule, Tally, ThieleTally, Winners};
 
 /// Prints a score over its denominator, on a line.
@@ -158,7 +157,7 @@ fn write_thiele<W: Sink, A: Allocator + Copy>(
         let tally = ThieleTally::new(profile, thiele, size);
         return write_by(out, &tally, rule, size, after, limit, names);
     }
-    let tally = SearchTally::new(profile, thiele, size);
+    let tally = ExactTally::new(ThieleSearch::new(profile, thiele, size), size);
     write_by(out, &tally, rule, size, after, limit, names)
 }
 
@@ -188,7 +187,7 @@ pub(crate) fn write_scored<W: Sink, A: Allocator + Copy>(
             write_by(out, &tally, rule, size, after, limit, names)
         }
         ScoredRule::Minimax => {
-            let tally = NearTally::new(profile, size);
+            let tally = ExactTally::new(MinimaxSearch::new(profile), size);
             write_by(out, &tally, rule, size, after, limit, names)
         }
     }
