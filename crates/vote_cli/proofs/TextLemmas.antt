@@ -5,7 +5,6 @@ use Rattle.std.proofs.lemmas.Bool.{lt-ltb, le-ltb, ltb-true, ltb-false}
 use Rattle.std.proofs.lemmas.List.{take_all}
 use Rattle.ballot_base.specs.Ballots.{Election}
 use Rattle.ballot_base.specs.Lists.{later_than}
-use Rattle.minimax_search.specs.Bounds.{Minimax as Near, minimax_of}
 use Rattle.request_words.specs.Request.{Paging}
 use Rattle.request_words.specs.declared.request.Rule.TheVariants.{Scored}
 use Rattle.request_words.specs.declared.request.ScoredRule.{ScoredRule}
@@ -85,8 +84,7 @@ module _ (names : Naming) (page : Paging) (rule : ScoredRule) (size : ℕ) (e : 
       ≡ elect_text (Scored rule) size page names e
   satisfaction_text tally is same = rw (is, same) refl
 
-  pub minimax_text : (tally : Near) → rule ≡ Minimax → tally ≡ minimax_of e size
-      → listing_text (committee_line names) (scored_header rule tally.election.m size (best_value (closeness tally.election.m tally.election.rows) tally.election.m size)) page
-      (winners (closeness tally.election.m tally.election.rows) tally.election.m size)
+  pub minimax_text : (tally : Election) → rule ≡ Minimax → tally ≡ e
+      → listing_text (committee_line names) (scored_header rule tally.m size (best_value (closeness tally.m tally.rows) tally.m size)) page (winners (closeness tally.m tally.rows) tally.m size)
       ≡ elect_text (Scored rule) size page names e
   minimax_text tally is same = rw (is, same) refl

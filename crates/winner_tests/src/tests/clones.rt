@@ -9,7 +9,7 @@ use ballot_base::{CandSet, Profile, ThieleRule};
 use seat_share::{Method, Shares};
 use std::alloc::Global;
 use std::process::Abort;
-use tie_search::SearchTally;
+use tie_search::{ExactTally, ThieleSearch};
 use tie_walk::{Tally, Winners};
 
 /// More winners than any of these elections has.
@@ -84,7 +84,7 @@ fn fitting(seats: u8, m: u8) -> u8
 fn assert_as_dhondt(rt: &impl Abort, alloc: Global, lists: Lists<'_>) {
     let profile = lists.election(rt, alloc);
     let k = fitting(lists.seats, profile.m());
-    let tally = SearchTally::new(&profile, ThieleRule::Pav, k);
+    let tally = ExactTally::new(ThieleSearch::new(&profile, ThieleRule::Pav, k), k);
     let seats = u16::from(lists.seats);
     let allocations = match Shares::new(lists.votes, Method::Dhondt, seats, None) {
         Ok(allocations) => allocations,
@@ -184,7 +184,7 @@ fn assert_ends(rt: &impl Abort, alloc: Global, rule: ThieleRule, lists: Lists<'_
     let profile = lists.election(rt, alloc);
     let m = profile.m();
     let k = fitting(lists.seats, m);
-    let tally = SearchTally::new(&profile, rule, k);
+    let tally = ExactTally::new(ThieleSearch::new(&profile, rule, k), k);
     for start in [None, Some(second_committee(m, k))] {
         let found = Winners::new(&tally, m, k, start).take(1000).count();
         assert_eq!(rt; found, 1000, "{rule:?} {k} of {m}");

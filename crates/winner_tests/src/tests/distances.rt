@@ -1,33 +1,14 @@
 //! Winners by search against a walk with plain bounds.
-ghost use Rattle.std.specs.Prelude.{◌≤◌};
-
-use super::support::{
-    Draw, assert_begins_with_a_winner, assert_same_winners, election_of, first_committee,
-    random_ballots,
-};
+use super::support::{Draw, assert_searched, election_of, random_ballots};
 use ballot_base::Profile;
-use minimax_search::NearTally;
 use std::process::Abort;
+use tie_search::MinimaxSearch;
 use tie_walk::MinimaxTally;
 
-/// Asserts that the search and the walk with plain bounds find the same winners, all of them and those later than the
-/// first, and that the search begins with one.
-fn assert_same(rt: &impl Abort, profile: &Profile, k: u8)
-    requires some { 1 ≤ k }
-    requires fits { k ≤ profile.now.m }
-{
-    let plain = MinimaxTally::new(profile);
-    let searched = NearTally::new(profile, k);
-    assert_begins_with_a_winner(rt, &searched, k, searched.best());
-    for start in [None, Some(first_committee(profile.m(), k))] {
-        assert_same_winners(rt, &plain, &searched, k, start);
-    }
-}
-
-/// Asserts the same of each size.
+/// Asserts that the search and a walk with plain bounds find the same winners of each size.
 fn assert_all_sizes(rt: &impl Abort, profile: &Profile) {
     for k in 1..profile.m() + 1 {
-        assert_same(rt, profile, k);
+        assert_searched(rt, &MinimaxTally::new(profile), MinimaxSearch::new(profile), k);
     }
 }
 

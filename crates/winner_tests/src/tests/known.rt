@@ -4,9 +4,8 @@ ghost use Rattle.std.specs.Prelude.{◌≤◌};
 
 use super::support::election_of;
 use ballot_base::{Profile, ThieleRule};
-use minimax_search::NearTally;
 use std::process::Abort;
-use tie_search::SearchTally;
+use tie_search::{ExactTally, MinimaxSearch, ThieleSearch};
 use tie_walk::{Tally, Winners};
 
 /// The size of the committees.
@@ -99,7 +98,7 @@ fn assert_thiele(rt: &impl Abort, profile: &Profile, known: [(u128, usize); 5])
         let (best, winners) = known[i];
         assert_known(
             rt,
-            &SearchTally::new(profile, RULES[i], SIZE),
+            &ExactTally::new(ThieleSearch::new(profile, RULES[i], SIZE), SIZE),
             best,
             winners,
         );
@@ -173,7 +172,7 @@ fn minimax(rt: HostRuntime) {
         let profile = election_of(&rt, rt.alloc(), m, &drawn(draw));
         assert_known(
             &rt,
-            &NearTally::new(&profile, SIZE),
+            &ExactTally::new(MinimaxSearch::new(&profile), SIZE),
             u128::from(m - distance),
             winners,
         );

@@ -2,38 +2,21 @@
 ghost use Rattle.std.specs.Prelude.{◌≤◌};
 ghost use Rattle.ballot_base.specs.Limits.{most_members};
 
-use super::support::{
-    Draw, assert_begins_with_a_winner, assert_same_winners, election_of, first_committee,
-    random_ballots,
-};
+use super::support::{Draw, assert_searched, election_of, random_ballots};
 use ballot_base::{Profile, ThieleRule};
 use std::process::Abort;
-use tie_search::SearchTally;
+use tie_search::ThieleSearch;
 use tie_walk::ThieleTally;
 
-/// Asserts that the search and the walk with ceilings find the same winners, all of them and those later than the
-/// first, and that the search begins with one.
-fn assert_same(rt: &impl Abort, profile: &Profile, rule: ThieleRule, k: u8)
-    requires some { 1 ≤ k }
-    requires size { k ≤ most_members }
-    requires fits { k ≤ profile.now.m }
-{
-    let plain = ThieleTally::new(profile, rule, k);
-    let searched = SearchTally::new(profile, rule, k);
-    assert_begins_with_a_winner(rt, &searched, k, searched.best());
-    for start in [None, Some(first_committee(profile.m(), k))] {
-        assert_same_winners(rt, &plain, &searched, k, start);
-    }
-}
-
-/// Asserts the same of each rule and size.
+/// Asserts that the search and a walk with ceilings find the same winners under each rule, of each size.
 pub(super) fn assert_all_same(rt: &impl Abort, profile: &Profile)
     requires { profile.now.m ≤ most_members }
 {
     let m = profile.m();
     for rule in ThieleRule::ALL {
         for k in 1..m + 1 {
-            assert_same(rt, profile, rule, k);
+            let plain = ThieleTally::new(profile, rule, k);
+            assert_searched(rt, &plain, ThieleSearch::new(profile, rule, k), k);
         }
     }
 }

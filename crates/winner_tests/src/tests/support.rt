@@ -119,19 +119,20 @@ pub(super) fn assert_same_winners<P: Tally, S: Tally>(
     assert!(rt; found.eq(wanted), "{k} of {m} after {start:?}");
 }
 
-/// Asserts that the committee that the search for the greatest value begins with has it.
-pub(super) fn assert_begins_with_a_winner<S: Tally>(
-    rt: &impl Abort,
-    searched: &S,
-    k: u8,
-    best: u128,
-)
+/// Asserts that the search begins with a winner, and that it and the walk with plain bounds find the same winners, all
+/// of them and those later than the first committee.
+pub(super) fn assert_searched<P: Tally, S: Searchable + Drop>(rt: &impl Abort, plain: &P, search: S, k: u8)
+    requires candidates { P.candidates plain.now ≡ S.candidates search }
     requires some { 1 ≤ k }
-    requires fits { k ≤ S.candidates searched.now }
+    requires fits { k ≤ P.candidates plain.now }
 {
+    let searched = ExactTally::new(search, k);
     match searched.good_committee(k) {
-        Some(good) => assert_eq!(rt; searched.value(good), best, "{good:?}"),
+        Some(good) => assert_eq!(rt; searched.value(good), searched.best(), "{good:?}"),
         None => panic!(rt; "no good committee of {k}"),
+    }
+    for start in [None, Some(first_committee(plain.m(), k))] {
+        assert_same_winners(rt, plain, &searched, k, start);
     }
 }
 

@@ -1,4 +1,6 @@
-use Rattle.std.proofs.Common.{subst, sym, is_ok}
+use Rattle.std.proofs.Common.{subst, sym, ap, is_ok, ◌∙◌}
+use Rattle.ballot_base.specs.Ballots.{Election}
+use Rattle.tie_search.specs.Completions.{Exact}
 use Rattle.request_words.specs.declared.request.ScoredRule.{ScoredRule}
 use Rattle.request_words.specs.declared.request.Rule.TheVariants.{Scored}
 use Rattle.vote_cli.specs.ElectText.{elect_text}
@@ -19,4 +21,5 @@ returns-in-Satisfaction g c =
 pub returns-in-Minimax : goal.returns-in-Minimax
 returns-in-Minimax g c =
     subst (Sends g.W.Sink.contents g.W.Device.has_failed c.args.out.now c.write_by-in-Minimax.new.out _)
-    (minimax_text c.args.names.now (record { after = c.args.after; limit = c.args.limit }) c.args.rule c.args.size c.args.profile.now c.new-tally-in-Minimax.result c.in-Minimax.is c.new-tally-in-Minimax.ensures) c.write_by-in-Minimax.ensures
+    (minimax_text c.args.names.now (record { after = c.args.after; limit = c.args.limit }) c.args.rule c.args.size c.args.profile.now c.new-tally-in-Minimax.result.search c.in-Minimax.is
+    (ap (λ (x : Exact Election). x.search) c.new-tally-in-Minimax.ensures ∙ c.new.ensures)) c.write_by-in-Minimax.ensures

@@ -1,4 +1,6 @@
-use Rattle.std.proofs.Common.{subst, refl}
+use Rattle.std.proofs.Common.{subst, ap, refl, ◌∙◌}
+use Rattle.tie_search.specs.Completions.{Exact}
+use Rattle.tie_walk.specs.Values.{Thiele as Thiele'}
 use Rattle.vote_cli.specs.Steps.Printing.{Sends}
 use Rattle.vote_cli.proofs.TextLemmas.{thiele_text}
 use Rattle.request_words.specs.declared.request.ScoredRule.TheVariants.{Thiele}
@@ -12,4 +14,5 @@ returns-then-eq g c =
 pub returns : goal.returns
 returns g c =
     subst (Sends g.W.Sink.contents g.W.Device.has_failed c.args.out.now c.write_by-2.new.out _)
-    (thiele_text c.args.names.now (record { after = c.args.after; limit = c.args.limit }) (Thiele c.args.thiele) c.args.size c.args.profile.now c.args.thiele c.new-tally-2.result refl c.new-tally-2.ensures) c.write_by-2.ensures
+    (thiele_text c.args.names.now (record { after = c.args.after; limit = c.args.limit }) (Thiele c.args.thiele) c.args.size c.args.profile.now c.args.thiele c.new-tally-2.result.search refl
+    (ap (λ (x : Exact Thiele'). x.search) c.new-tally-2.ensures ∙ c.new.ensures)) c.write_by-2.ensures
