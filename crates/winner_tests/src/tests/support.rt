@@ -8,6 +8,7 @@ use ballot_base::{CandSet, Profile, ProfileBuilder};
 use std::alloc::Global;
 use std::cell::Cell;
 use std::process::Abort;
+use tie_search::{ExactTally, Searchable};
 use tie_walk::{Tally, Winners};
 
 /// The candidates 1 to m whose bit of the word is 1.
