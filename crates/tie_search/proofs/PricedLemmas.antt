@@ -1,6 +1,10 @@
 -- Prices by the multipliers of an array: what the loops over rows add up, and what prices say of a set.
-use Rattle.std.proofs.Common.{◌≡◌, ℕ, zero, suc, true, false, ◌+◌, ◌-◌, ◌*◌, ◌<◌, ◌≤◌, ◌==◌, ◌||◌, ◌∙◌, Bool, cond, List, [], ◌∷◌, ◌++◌, refl, sym, ap, subst, arith, length, map, fold, max, sum, sum_by, take, slice_get, Some, get_or, add-one}
+use Rattle.std.proofs.Common.{◌≡◌, ℕ, zero, suc, true, false, ◌+◌, ◌-◌, ◌*◌, ◌<◌, ◌≤◌, ◌==◌, ◌||◌, ◌∙◌, Bool, cond, List, [], ◌∷◌, ◌++◌, refl, sym, ap, subst, arith, inl, inr, length, map, fold, max, sum, sum_by, take, slice_get, Some, get_or, add-one}
+use Rattle.std.specs.Int.{div_ceil}
 use Rattle.std.specs.List.{AllByRecursion, range_with_len}
+use Rattle.std.proofs.Math.Nat.{mul-le-mul_left, mul-le-mul_right}
+use Rattle.std.proofs.lemmas.Bool.{cases_lt}
+use Rattle.std.proofs.lemmas.Grind.{div_ceil_times}
 use Rattle.std.proofs.lemmas.List.{take_more, length-take-le}
 use Rattle.std.proofs.lemmas.List.FromFn.{map-range_with_len_more}
 use Rattle.std.proofs.lemmas.List.Sums.{sum_by-append, sum_by-cons, fold-append}
@@ -8,12 +12,12 @@ use Rattle.std.proofs.lemmas.Option.{get_or_from_slice_get, slice_get_within}
 use Rattle.ballot_base.specs.Limits.{most_voters}
 use Rattle.ballot_base.specs.Lists.{IsIncreasing}
 use Rattle.ballot_base.specs.CandSet.{has_member}
-use Rattle.ballot_base.specs.Ballots.{Row, IsElection, voter_count}
+use Rattle.ballot_base.specs.Ballots.{Row, IsElection, hits, voter_count}
 use Rattle.ballot_base.specs.Increments.{increments}
 use Rattle.ballot_base.proofs.Increasing.{has_member_head}
 use Rattle.tie_walk.proofs.TableLemmas.{sum-take_more}
 use Rattle.tie_walk.specs.Values.{Thiele, thiele_value}
-use Rattle.tie_search.specs.Prices.{Priced, priced_rows, kept, base, price}
+use Rattle.tie_search.specs.Prices.{AreRounded, Priced, priced_rows, kept, base, price}
 use Rattle.tie_search.specs.Completions.{IsOpen, IsCompletion, tally_value}
 use Rattle.tie_search.specs.Steps.Priced.{ArePrices, scale, priced_by}
 use Rattle.tie_search.proofs.ColumnLemmas.{voters-part}
@@ -131,19 +135,68 @@ price-more f rows i row n at =
       e,
     )
 
+-- ---- weights in larger units, rounded up
+
+take-rounded : (v : List ℕ) (unit : ℕ) (w : List ℕ) → AreRounded v unit w → (x : ℕ) → sum (take x v) ≤ unit * sum (take x w)
+take-rounded v unit w rounded zero = omega arith
+take-rounded v unit w rounded (suc x) =
+    let spread : (a b c : ℕ) → a * (b + c) ≡ a * b + a * c = λ a b c. omega arith in
+    omega (
+      arith,
+      ap (λ j. sum (take j v)) (add-one x),
+      ap (λ j. unit * sum (take j w)) (add-one x),
+      sum-take_more v x,
+      ap (λ j. unit * j) (sum-take_more w x),
+      spread unit (sum (take x w)) (get_or w x 0),
+      rounded x,
+      take-rounded v unit w rounded x,
+    )
+
+pub value-rounded : (v : List ℕ) (unit : ℕ) (w : List ℕ) (rows : List Row) (committee : List ℕ) → AreRounded v unit w → thiele_value v rows committee ≤ unit * thiele_value w rows committee
+value-rounded v unit w [] committee rounded = omega arith
+value-rounded v unit w (row ∷ rows) committee rounded =
+    let h = hits row.0 committee in
+    let one : row.1 * sum (take h v) ≤ row.1 * (unit * sum (take h w)) = mul-le-mul_left row.1 (take-rounded v unit w rounded h) in
+    let turned : (a b c d : ℕ) → b * (a * c + d) ≡ a * (b * c) + b * d = λ a b c d. omega arith in
+    omega (
+      arith,
+      one,
+      sum_by-cons (λ (r : Row). r.1 * sum (take (hits r.0 committee) v)) row rows,
+      ap (λ n. unit * n) (sum_by-cons (λ (r : Row). r.1 * sum (take (hits r.0 committee) w)) row rows),
+      turned row.1 unit (sum (take h w)) (thiele_value w rows committee),
+      value-rounded v unit w rows committee rounded,
+    )
+
+-- so many units as it takes are enough
+pub ceil-high : (n unit : ℕ) → 1 ≤ unit → n ≤ unit * div_ceil n unit
+ceil-high n unit some =
+    let turned : (a b : ℕ) → a * b ≡ b * a = λ a b. omega arith in
+    omega (arith, (div_ceil_times n unit (omega (arith, some))).0, turned unit (div_ceil n unit))
+
+-- what is at most so many units takes at most so many when it is rounded up
+pub ceil-low : (n unit v : ℕ) → 1 ≤ unit → n ≤ unit * v → div_ceil n unit ≤ v
+ceil-low n unit v some low = elim (cases_lt v (div_ceil n unit)) [
+  | inl high ↦
+      let most : div_ceil n unit * unit < n + unit = (div_ceil_times n unit (omega (arith, some))).1 in
+      let more : (v + 1) * unit ≤ div_ceil n unit * unit = mul-le-mul_right unit (omega (arith, high)) in
+      let spread : (a b : ℕ) → (a + 1) * b ≡ b * a + b = λ a b. omega arith in
+      absurd (omega (arith, most, more, low, spread v unit))
+  | inr few ↦ few
+]
+
 -- ---- what prices say of a set
 
-pub prices-bound : (tally : Thiele) (all_keep : ℕ) (worths set free : List ℕ) (left t : ℕ) (committee : List ℕ) → ArePrices tally all_keep worths → IsElection tally.election
+pub prices-bound : (tally : Thiele) (unit all_keep : ℕ) (worths set free : List ℕ) (left t : ℕ) (committee : List ℕ) (are : ArePrices tally unit all_keep worths) → IsElection tally.election
     → IsOpen tally.election.m set free → IsCompletion tally.election.m set free left committee
-    → scale * tally_value tally committee ≤ all_keep + sum_by (λ n. get_or worths n 0 - 0) set + left * t + sum_by (λ n. get_or worths n 0 - t) free
-prices-bound tally all_keep worths set free left t committee are valid open' whole =
+    → scale * thiele_value are.weights tally.election.rows committee ≤ all_keep + sum_by (λ n. get_or worths n 0 - 0) set + left * t + sum_by (λ n. get_or worths n 0 - t) free
+prices-bound tally unit all_keep worths set free left t committee are valid open' whole =
     let rows = tally.election.rows in
     let m = tally.election.m in
     let priced = priced_by are.multiplier rows in
-    let w = increments tally.rule tally.k in
+    let w = are.weights in
     let same : priced_rows priced ≡ rows = rows-priced are.multiplier rows in
     let rises : AllByRecursion {X = Row} (λ row. IsIncreasing 1 m row.0) (priced_rows priced) = subst (AllByRecursion {X = Row} (λ row. IsIncreasing 1 m row.0)) (sym same) valid.ballots in
-    let node : scale * tally_value tally committee ≤ base w scale priced + sum_by (price priced) set + left * t + sum_by (λ n. price priced n - t) free =
+    let node : scale * thiele_value w rows committee ≤ base w scale priced + sum_by (price priced) set + left * t + sum_by (λ n. price priced n - t) free =
     subst (λ (l : List Row). scale * thiele_value w l committee ≤ base w scale priced + sum_by (price priced) set + left * t + sum_by (λ n. price priced n - t) free)
     same (priced-node w scale m priced set free left t committee rises open' whole) in
     let worth : (xs : List ℕ) → IsIncreasing 1 m xs → (n : ℕ) → has_member xs n ≡ true → get_or worths n 0 ≡ price priced n =

@@ -1,7 +1,7 @@
 -- Prices of candidates: what a committee gives each voter is at most what is kept for the voter and the multiplier for
 -- each hit, so that no committee is worth more than its price (Fisher, The Lagrangian relaxation method for solving
 -- integer programming problems).
-use Rattle.std.specs.Prelude.{ℕ, ◌+◌, ◌-◌, ◌*◌, List, length, map, filter, fold, max, sum, sum_by, take}
+use Rattle.std.specs.Prelude.{ℕ, ◌+◌, ◌-◌, ◌*◌, ◌≤◌, List, length, map, filter, fold, max, sum, sum_by, take, slice_index}
 use Rattle.std.specs.List.{range_with_len}
 use Rattle.ballot_base.specs.CandSet.{has_member}
 use Rattle.ballot_base.specs.Ballots.{Row}
@@ -26,3 +26,7 @@ base weights scale priced = sum_by (λ p. p.0.1 * kept weights scale p.1 (length
 -- the multipliers of all voters who approve the candidate
 abbrev pub price : List Priced → ℕ → ℕ
 price priced n = sum_by (λ p. p.0.1 * p.1) (filter (λ p. has_member p.0.0 n) priced)
+
+-- the second weights are the first in larger units, rounded up or higher
+abbrev pub AreRounded : List ℕ → ℕ → List ℕ → Type 0
+AreRounded weights unit rounded = (j : ℕ) → slice_index weights j ≤ unit * slice_index rounded j

@@ -11,7 +11,8 @@ ghost use Rattle.ballot_base.specs.CandSet.{has_member};
 ghost use Rattle.tie_walk.specs.Values.{thiele_of};
 ghost use Rattle.tie_search.specs.Steps.Columns.{block_voters, most_blocks, total, given, IsBlock, AreByHits, AreColumns, AreColumnsOf, AreRising, AreWeights, voters_of, voter_ballot, word_before};
 
-use ballot_base::{CandSet, Increments, MOST_MEMBERS, PLACES, Profile, ThieleRule};
+use crate::weights::{Weights, small_weights};
+use ballot_base::{CandSet, Increments, PLACES, Profile, ThieleRule};
 use std::alloc::Allocator;
 
 /// How many voters share a word.
@@ -22,12 +23,6 @@ const MOST_BLOCKS: usize = 128;
 
 /// With more voters a row than this, a pass over the rows is quicker than one over the blocks.
 const ROW_VOTERS: usize = 2;
-
-/// A weight that is too large: the gains of all blocks may not fit a word of 64 bits.
-const LARGE_WEIGHT: u128 = 1 << 44;
-
-/// What a voter gives for each hit, the first at 0.
-pub(crate) type Weights = [u64; MOST_MEMBERS as usize];
 
 /// Who of 64 voters approve each candidate, at the candidate's number.
 type Block = [u64; PLACES];
@@ -154,21 +149,6 @@ fn blocks_of<A: Allocator + Copy>(profile: &Profile<A>) -> [Block; MOST_BLOCKS]
         voters += count;
     }
     blocks
-}
-
-/// The same weights in smaller words, if none is too large to be added up there.
-pub(crate) fn small_weights(weights: &[u128; MOST_MEMBERS as usize]) -> Option<Weights>
-    ensures { MatchOption result ⊤ (λ small. (j : ℕ) → (slice_index small j ≡ slice_index weights.now j)
-        × (slice_index small j < 2 ^ 44)) }
-{
-    let mut small = [0; MOST_MEMBERS as usize];
-    for j in 0..small.len() {
-        if weights[j] >= LARGE_WEIGHT {
-            return None;
-        }
-        small[j] = weights[j] as u64;
-    }
-    Some(small)
 }
 
 /// Up to which hit something is given.

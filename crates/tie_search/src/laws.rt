@@ -10,7 +10,7 @@ ghost use Rattle.tie_walk.specs.Ceilings.{Prefix, IsBound, IsExactAtBest, IsLive
 ghost use Rattle.tie_walk.specs.Values.{greatest_distance, thiele_value};
 ghost use Rattle.tie_walk.specs.Winners.{best_value, winners};
 ghost use Rattle.tie_search.specs.Needs.{hits_needed};
-ghost use Rattle.tie_search.specs.Prices.{Priced, priced_rows, base, price};
+ghost use Rattle.tie_search.specs.Prices.{AreRounded, Priced, priced_rows, base, price};
 ghost use Rattle.tie_search.specs.Completions.{IsOpen, IsCompletion, IsWinnerFrom, exact_bound};
 
 use ballot_base::ThieleRule;
@@ -63,6 +63,7 @@ pub fn thresholds()
 
 /// Prices bound values: whatever multiplier is chosen for each row, no committee is worth more than what all voters
 /// keep and the prices of its members, times the scale; and any threshold bounds the committees that complete a set.
+/// Weights may be rounded up to larger units.
 pub fn prices()
     ensures committees { (weights : List ℕ) (scale m : ℕ) (priced : List Priced) (committee : List ℕ)
         → AllByRecursion (λ row. IsIncreasing 1 m row.0) (priced_rows priced) → IsIncreasing 1 m committee
@@ -74,4 +75,7 @@ pub fn prices()
         → scale * thiele_value weights (priced_rows priced) committee
         ≤ base weights scale priced + sum_by (price priced) set + left * threshold
         + sum_by (λ n. price priced n - threshold) free }
+    ensures rounded { (weights : List ℕ) (unit : ℕ) (rounded : List ℕ) (rows : List Row) (committee : List ℕ)
+        → AreRounded weights unit rounded
+        → thiele_value weights rows committee ≤ unit * thiele_value rounded rows committee }
 {}

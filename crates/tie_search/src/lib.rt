@@ -14,6 +14,7 @@ mod prices;
 mod search;
 pub mod searchable;
 pub mod thiele;
+mod weights;
 mod witness;
 
 pub use exact::ExactTally;

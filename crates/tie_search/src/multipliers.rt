@@ -5,10 +5,10 @@ ghost use Rattle.ballot_base.specs.Limits.{most_candidates};
 ghost use Rattle.ballot_base.specs.Lists.{IsIncreasing};
 ghost use Rattle.tie_search.specs.Steps.Priced.{most_rows};
 
-use crate::columns::Weights;
 use crate::order::Order;
 use crate::prices::{MOST_ROWS, Multipliers, SCALE, base_of, prices_of};
 use crate::search::excess;
+use crate::weights::Weights;
 use ballot_base::{CandSet, MOST_MEMBERS, PLACES, Profile};
 use std::alloc::Allocator;
 use tie_walk::{Tally, ThieleTally, those_after};
@@ -22,13 +22,16 @@ const PATIENCE: u8 = 8;
 /// The length of a step is counted in parts of which so many are the whole gap.
 const WHOLE: u128 = 16;
 
-/// Multipliers by which the bound of all committees of k is low, and a good committee that was met on the way.
+/// Multipliers by which the bound of all committees of k is low, and a good committee that was met on the way. The
+/// weights count in units of this many of the values' own.
 pub(crate) fn chosen<A: Allocator + Copy>(
     profile: &Profile<A>,
     values: &ThieleTally<A>,
     weights: &Weights,
+    unit: u128,
     k: u8,
 ) -> (Multipliers, CandSet)
+    requires unit { 1 ≤ unit }
     requires rows { length profile.now.rows ≤ most_rows }
     requires weights { (j : ℕ) → slice_index weights.now j < 2 ^ 44 }
     ensures { (i : ℕ) → slice_index result.0 i ≤ 2 ^ 56 }
@@ -46,7 +49,7 @@ pub(crate) fn chosen<A: Allocator + Copy>(
         let worths = prices_of(profile, &multipliers);
         let dearest = dearest(&worths, m, k);
         let bound = base_of(profile, weights, &multipliers) + excess(&worths, dearest, 0);
-        let reached = values.value(dearest).saturating_mul(scale);
+        let reached = (values.value(dearest) / unit).saturating_mul(scale);
         if reached > value {
             committee = dearest;
             value = reached;

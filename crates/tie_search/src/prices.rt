@@ -5,9 +5,9 @@ ghost use Rattle.tie_walk.specs.Values.{thiele_of};
 ghost use Rattle.tie_search.specs.Prices.{kept, base, price};
 ghost use Rattle.tie_search.specs.Steps.Priced.{ArePrices, scale, most_rows, priced_by};
 
-use crate::columns::{Weights, small_weights};
 use crate::multipliers::chosen;
 use crate::order::Order;
+use crate::weights::{Weights, rounded_weights};
 use ballot_base::{CandSet, Increments, PLACES, Profile, ThieleRule};
 use std::alloc::Allocator;
 use tie_walk::{ThieleTally, add_to_members, those_after};
@@ -21,10 +21,12 @@ pub(crate) const MOST_ROWS: usize = 8192;
 /// A multiplier for each row, at the row's number.
 pub(crate) type Multipliers = [u64; MOST_ROWS];
 
-/// The price of each candidate, at its number: times the scale, all voters together give a committee no more than what
-/// they keep and the prices of its members.
+/// The price of each candidate, at its number: times the scale, all voters together give a committee no more units than
+/// what they keep and the prices of its members.
 #[derive(Drop)]
 pub(crate) struct Prices {
+    // How many of the rule's units are one unit of the weights that the prices are made of.
+    pub(crate) unit: u128,
     // What all voters keep.
     pub(crate) base: u128,
     pub(crate) worths: [u128; PLACES],
@@ -34,8 +36,7 @@ pub(crate) struct Prices {
 }
 
 impl Prices {
-    /// The prices by multipliers that make them low, if there is room for so many rows, and what a hit gives is not too
-    /// large.
+    /// The prices by multipliers that make them low. None if there is no room for this many rows.
     pub(crate) fn of<A: Allocator + Copy>(
         profile: &Profile<A>,
         values: &ThieleTally<A>,
@@ -44,16 +45,17 @@ impl Prices {
     ) -> Option<Prices>
         requires some { 1 ≤ k }
         requires size { k ≤ most_members }
-        ensures { MatchOption result ⊤ (λ prices. ArePrices (thiele_of profile.now rule k) prices.base prices.worths) }
+        ensures { MatchOption result ⊤ (λ prices. ArePrices (thiele_of profile.now rule k) prices.unit prices.base prices.worths) }
     {
         if profile.rows() > MOST_ROWS {
             return None;
         }
-        let weights = small_weights(&Increments::of(rule, k).w)?;
-        let (multipliers, committee) = chosen(profile, values, &weights, k);
+        let (weights, unit) = rounded_weights(&Increments::of(rule, k).w)?;
+        let (multipliers, committee) = chosen(profile, values, &weights, unit, k);
         let worths = prices_of(profile, &multipliers);
         let candidates = those_after(0, profile.m());
         Some(Prices {
+            unit,
             base: base_of(profile, &weights, &multipliers),
             worths,
             order: Order::by_worth(candidates, &worths),

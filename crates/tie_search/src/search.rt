@@ -161,7 +161,8 @@ fn may_afford<A: Allocator + Copy>(
     };
     let paid = prices.base + excess(&prices.worths, set, 0);
     let threshold = prices.order.nth_worth(free, left, &prices.worths);
-    let scaled = least.saturating_mul(u128::from(SCALE));
+    let units = least.div_ceil(prices.unit);
+    let scaled = units.saturating_mul(u128::from(SCALE));
     may_reach(paid, &prices.worths, free, left, threshold, scaled)
 }
 

@@ -4,7 +4,7 @@ use Rattle.ballot_base.specs.Limits.{most_candidates}
 use Rattle.ballot_base.specs.Ballots.{Row}
 use Rattle.ballot_base.specs.Increments.{increments}
 use Rattle.tie_walk.specs.Values.{Thiele}
-use Rattle.tie_search.specs.Prices.{Priced, base, price}
+use Rattle.tie_search.specs.Prices.{AreRounded, Priced, base, price}
 use Rattle.tie_search.specs.declared.prices.Prices.{Prices}
 
 -- what hits give is multiplied by this, so that there are multipliers between two increments
@@ -20,10 +20,14 @@ unfoldable pub priced_by : (ℕ → ℕ) → List Row → List Priced
 priced_by multiplier [] = []
 priced_by multiplier (row ∷ rows) = (row, multiplier 0) ∷ priced_by (λ i. multiplier (suc i)) rows
 
--- what all voters keep, and the price of each candidate, by some multipliers
-pub record ArePrices (tally : Thiele) (all_keep : ℕ) (worths : List ℕ) : Type 0 where
+-- What all voters keep, and the price of each candidate, by some weights and multipliers. The weights are those of the
+-- rule in larger units, rounded up.
+pub record ArePrices (tally : Thiele) (unit all_keep : ℕ) (worths : List ℕ) : Type 0 where
+  pub weights : List ℕ
   pub multiplier : ℕ → ℕ
-  pub keep : all_keep ≡ base (increments tally.rule tally.k) scale (priced_by multiplier tally.election.rows)
+  pub some : 1 ≤ unit
+  pub rounded : AreRounded (increments tally.rule tally.k) unit weights
+  pub keep : all_keep ≡ base weights scale (priced_by multiplier tally.election.rows)
   pub prices : (n : ℕ) → n ≤ most_candidates
       → slice_index worths n ≡ price (priced_by multiplier tally.election.rows) n
   pub small_base : all_keep ≤ 2 ^ 116
@@ -31,4 +35,4 @@ pub record ArePrices (tally : Thiele) (all_keep : ℕ) (worths : List ℕ) : Typ
 
 -- the prices are those of the election, where they are kept
 abbrev pub IsPriced : Thiele → Option Prices → Type 0
-IsPriced tally prices = MatchOption prices ⊤ (λ kept. ArePrices tally kept.base kept.worths)
+IsPriced tally prices = MatchOption prices ⊤ (λ kept. ArePrices tally kept.unit kept.base kept.worths)

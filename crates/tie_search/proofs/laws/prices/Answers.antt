@@ -1,4 +1,5 @@
 use Rattle.tie_search.proofs.PriceLemmas.{price-bounds, priced-node}
+use Rattle.tie_search.proofs.PricedLemmas.{value-rounded}
 use Rattle.tie_search.proofs.laws.prices.Goals as goal
 
 pub returns-clause-committees : goal.returns-clause-committees
@@ -7,3 +8,6 @@ returns-clause-committees c weights scale m priced committee ballots up = price-
 pub returns-clause-completions : goal.returns-clause-completions
 returns-clause-completions c weights scale m priced set free left threshold committee ballots open' whole =
     priced-node weights scale m priced set free left threshold committee ballots open' whole
+
+pub returns-clause-rounded : goal.returns-clause-rounded
+returns-clause-rounded c weights unit rounded rows committee up = value-rounded weights unit rounded rows committee up

@@ -1,9 +1,12 @@
 use Rattle.std.proofs.Common.{◌+◌, ◌-◌, ◌*◌, ◌≤◌, ap, arith, inl, inr, get_or, sum_by}
 use Rattle.std.proofs.lemmas.Bool.{cases_lt}
+use Rattle.std.specs.Int.{div_ceil}
+use Rattle.ballot_base.specs.Increments.{increments}
+use Rattle.tie_walk.specs.Values.{thiele_value}
 use Rattle.tie_search.specs.Completions.{tally_value}
 use Rattle.tie_search.specs.Steps.Priced.{ArePrices, scale}
 use Rattle.tie_search.proofs.CompletionLemmas.{completion-few}
-use Rattle.tie_search.proofs.PricedLemmas.{prices-bound}
+use Rattle.tie_search.proofs.PricedLemmas.{ceil-low, prices-bound, value-rounded}
 use Rattle.tie_search.proofs.SearchLemmas.{not-true}
 use Rattle.tie_search.proofs.search.may_afford.Goals as goal
 
@@ -12,14 +15,19 @@ returns g c short committee whole =
     let tally = c.args.tally.now in
     let worths = c.in-Some.prices.worths in
     let t = c.nth_worth-threshold.result in
-    let are : ArePrices tally c.in-Some.prices.base worths = rw c.in-Some.is at c.requires.prices in
-    let bound : scale * tally_value tally committee
+    let are : ArePrices tally c.in-Some.prices.unit c.in-Some.prices.base worths = rw c.in-Some.is at c.requires.prices in
+    let bound : scale * thiele_value are.weights tally.election.rows committee
     ≤ c.in-Some.prices.base + sum_by (λ n. get_or worths n 0 - 0) c.args.set + c.args.left * t + sum_by (λ n. get_or worths n 0 - t) c.args.free =
-    prices-bound tally c.in-Some.prices.base worths c.args.set c.args.free c.args.left t committee are c.valid.ensures.election c.requires.opened whole in
+    prices-bound tally c.in-Some.prices.unit c.in-Some.prices.base worths c.args.set c.args.free c.args.left t committee are c.valid.ensures.election c.requires.opened whole in
     elim (cases_lt (tally_value tally committee) c.args.least) [
       | inl low ↦ low
-      | inr high ↦ absurd (not-true c.may_reach.result short (c.may_reach.ensures.1 (
+      | inr high ↦
+          let value : tally_value tally committee ≤ c.in-Some.prices.unit * thiele_value are.weights tally.election.rows committee =
+          value-rounded (increments tally.rule tally.k) c.in-Some.prices.unit are.weights tally.election.rows committee are.rounded in
+          let units : div_ceil c.args.least c.in-Some.prices.unit ≤ thiele_value are.weights tally.election.rows committee =
+          ceil-low c.args.least c.in-Some.prices.unit (thiele_value are.weights tally.election.rows committee) are.some (omega (arith, high, value)) in
+          absurd (not-true c.may_reach.result short (c.may_reach.ensures.1 (
         completion-few tally.election.m c.args.set c.args.free c.args.left committee c.requires.opened whole,
-        omega (arith, c.saturating_mul-scaled.ensures, ap (λ x. c.args.least * x) c.from.ensures, bound, high, c.excess.ensures.sum),
+        omega (arith, c.saturating_mul-scaled.ensures, ap (λ x. c.div_ceil-units.result * x) c.from.ensures, c.div_ceil-units.ensures, units, bound, c.excess.ensures.sum),
       )))
     ]

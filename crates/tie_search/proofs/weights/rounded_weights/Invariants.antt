@@ -1,0 +1,11 @@
+use Rattle.std.proofs.Common.{◌≡◌, ℕ, ◌*◌, ◌<◌, ◌≤◌, ◌^◌, length, get_or}
+use Rattle.ballot_base.specs.Limits.{most_members}
+use Rattle.tie_search.proofs.weights.rounded_weights.Given as goal
+
+-- the weights so far are rounded up, and none is too large
+abbrev pub invariant-loop-j : goal.invariant-loop-j
+invariant-loop-j l = record {
+  long : length l.rounded ≡ most_members;
+  up : (i : ℕ) → i < l.j → get_or l.weights i 0 ≤ l.unit * get_or l.rounded i 0;
+  few : (i : ℕ) → get_or l.rounded i 0 < 2 ^ 44;
+}

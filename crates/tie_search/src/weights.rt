@@ -1,0 +1,44 @@
+//! What a voter gives for each hit, in words of 64 bits.
+ghost use Rattle.std.specs.Prelude.{◌≡◌, ℕ, ◌^◌, ◌<◌, ◌≤◌, slice_index, MatchOption, ⊤};
+ghost use Rattle.tie_search.specs.Prices.{AreRounded};
+
+use ballot_base::MOST_MEMBERS;
+
+/// A weight that is too large: the gains of all blocks of voters may not fit a word of 64 bits.
+const LARGE_WEIGHT: u128 = 1 << 44;
+
+/// What a voter gives for each hit, the first at 0.
+pub(crate) type Weights = [u64; MOST_MEMBERS as usize];
+
+/// The same weights in smaller words, if none is too large to be added up there.
+pub(crate) fn small_weights(weights: &[u128; MOST_MEMBERS as usize]) -> Option<Weights>
+    ensures { MatchOption result ⊤ (λ small. (j : ℕ) → (slice_index small j ≡ slice_index weights.now j)
+        × (slice_index small j < 2 ^ 44)) }
+{
+    let mut small = [0; MOST_MEMBERS as usize];
+    for j in 0..small.len() {
+        if weights[j] >= LARGE_WEIGHT {
+            return None;
+        }
+        small[j] = weights[j] as u64;
+    }
+    Some(small)
+}
+
+/// The weights in larger units, rounded up, and how large a unit is: 1 if none of the weights is too large. (None only
+/// if a later weight were larger than the first, which no rule has.)
+pub(crate) fn rounded_weights(weights: &[u128; MOST_MEMBERS as usize]) -> Option<(Weights, u128)>
+    ensures { MatchOption result ⊤ (λ rounded. (1 ≤ rounded.1) × AreRounded weights.now rounded.1 rounded.0
+        × ((j : ℕ) → slice_index rounded.0 j < 2 ^ 44)) }
+{
+    let unit = weights[0] / (LARGE_WEIGHT - 1) + 1;
+    let mut rounded = [0; MOST_MEMBERS as usize];
+    for j in 0..rounded.len() {
+        let weight = weights[j].div_ceil(unit);
+        if weight >= LARGE_WEIGHT {
+            return None;
+        }
+        rounded[j] = weight as u64;
+    }
+    Some((rounded, unit))
+}
