@@ -13,12 +13,11 @@ use Rattle.ballot_base.specs.Limits.{most_voters}
 use Rattle.ballot_base.specs.Lists.{IsIncreasing}
 use Rattle.ballot_base.specs.CandSet.{has_member}
 use Rattle.ballot_base.specs.Ballots.{Row, IsElection, hits, voter_count}
-use Rattle.ballot_base.specs.Increments.{increments}
 use Rattle.ballot_base.proofs.Increasing.{has_member_head}
 use Rattle.tie_walk.proofs.TableLemmas.{sum-take_more}
 use Rattle.tie_walk.specs.Values.{Thiele, thiele_value}
 use Rattle.tie_search.specs.Prices.{AreRounded, Priced, priced_rows, kept, base, price}
-use Rattle.tie_search.specs.Completions.{IsOpen, IsCompletion, tally_value}
+use Rattle.tie_search.specs.Completions.{IsOpen, IsCompletion}
 use Rattle.tie_search.specs.Steps.Priced.{ArePrices, scale, priced_by}
 use Rattle.tie_search.proofs.ColumnLemmas.{voters-part}
 use Rattle.tie_search.proofs.CompletionLemmas.{member-high}

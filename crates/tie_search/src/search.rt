@@ -1,7 +1,7 @@
 //! The search for a committee of at least a value, depth first, that goes into no set whose bound is too low.
 ghost use Rattle.std.specs.Prelude.{◌≡◌, ℕ, ◌+◌, ◌-◌, ◌*◌, ◌^◌, ◌<◌, ◌≤◌, ◌↔◌, ◌||◌, true, false, List, MatchOption, IsTrue, length, slice_index, sum_by};
 ghost use Rattle.ballot_base.specs.Ballots.{Row};
-ghost use Rattle.ballot_base.specs.Clones.{AreClones, clones_among};
+ghost use Rattle.ballot_base.specs.Clones.{AreClones};
 ghost use Rattle.ballot_base.specs.Limits.{most_candidates};
 ghost use Rattle.ballot_base.specs.CandSet.{has_member};
 ghost use Rattle.ballot_base.specs.Lists.{IsIncreasing};
@@ -26,144 +26,131 @@ pub(crate) struct Aids {
     pub(crate) prices: Option<Prices>,
 }
 
-/// A committee of the set and of `left` of the free candidates whose value is at least `least`, if there is one.
+/// A search for a committee whose value is at least `least`.
 /// (Nemhauser and Wolsey, Maximizing submodular set functions)
-pub(crate) fn find<A: Allocator + Copy>(
-    tally: &ThieleTally<A>,
-    aids: &Aids,
-    set: CandSet,
-    free: CandSet,
-    left: u8,
-    least: u128,
-) -> Option<CandSet>
-    requires aids { IsAided tally.now aids.now }
-    requires opened { IsOpen tally.now.election.m set free }
-    ensures { MatchOption result (IsOutOfReach (tally_value tally.now) tally.now.election.m set free left least)
-        (IsReaching (tally_value tally.now) tally.now.election.m set free left least) }
-{
-    if !may_suffice(tally, set, free, least) {
-        return None;
-    }
-    let value = tally.value(set);
-    descend(tally, aids, set, value, free, left, least)
+#[derive(Drop)]
+pub(crate) struct Search<'a, A: Allocator + Copy> {
+    pub(crate) tally: &'a ThieleTally<'a, A>,
+    pub(crate) aids: &'a Aids,
+    pub(crate) least: u128,
 }
 
-/// The same, where the value of the set is known.
-fn descend<A: Allocator + Copy>(
-    tally: &ThieleTally<A>,
-    aids: &Aids,
-    set: CandSet,
-    value: u128,
-    free: CandSet,
-    left: u8,
-    least: u128,
-) -> Option<CandSet>
-    requires aids { IsAided tally.now aids.now }
-    requires opened { IsOpen tally.now.election.m set free }
-    requires value { value ≡ tally_value tally.now set }
-    ensures { MatchOption result (IsOutOfReach (tally_value tally.now) tally.now.election.m set free left least)
-        (IsReaching (tally_value tally.now) tally.now.election.m set free left least) }
-{
-    tally.valid();
-    if left == 0 {
-        return if value < least { None } else { Some(set) };
-    }
-    if !may_afford(tally, &aids.prices, set, free, left, least) {
-        return None;
-    }
-    let gains = gains_at(tally, &aids.columns, set, free);
-    let order = Order::by_worth(free, &gains);
-    let mut rest = free;
-    while may_reach(
-        value,
-        &gains,
-        rest,
-        left,
-        order.threshold(rest, left, &gains),
-        least,
-    ) {
-        let next = order.first_of(rest)?;
-        let others = rest.without(next);
-        let more = value + gains[usize::from(next)];
-        let found = descend(tally, aids, set.with(next), more, others, left - 1, least);
-        if let Some(committee) = found {
-            return Some(committee);
-        }
-        // A committee with a clone of the candidate would be worth the same with the candidate in its place.
-        rest = others.minus(aids.clones.class(next));
-        if !may_suffice(tally, set, rest, least) {
+impl<A: Allocator + Copy> Search<'_, A> {
+    /// Finds such a committee of the set and `left` of the free candidates. None if there is no such committee.
+    pub(crate) fn find(&self, set: CandSet, free: CandSet, left: u8) -> Option<CandSet>
+        requires aids { IsAided self.now.tally.now self.now.aids.now }
+        requires opened { IsOpen self.now.tally.now.election.m set free }
+        ensures { MatchOption result
+            (IsOutOfReach (tally_value self.now.tally.now) self.now.tally.now.election.m set free left self.now.least)
+            (IsReaching (tally_value self.now.tally.now) self.now.tally.now.election.m set free left self.now.least) }
+    {
+        if !self.may_suffice(set, free) {
             return None;
         }
-        if !may_afford(tally, &aids.prices, set, rest, left, least) {
+        let value = self.tally.value(set);
+        self.descend(set, value, free, left)
+    }
+
+    /// Like `find`, but the value of the set is known, and the free candidates together may suffice.
+    fn descend(&self, set: CandSet, value: u128, free: CandSet, left: u8) -> Option<CandSet>
+        requires aids { IsAided self.now.tally.now self.now.aids.now }
+        requires opened { IsOpen self.now.tally.now.election.m set free }
+        requires value { value ≡ tally_value self.now.tally.now set }
+        ensures { MatchOption result
+            (IsOutOfReach (tally_value self.now.tally.now) self.now.tally.now.election.m set free left self.now.least)
+            (IsReaching (tally_value self.now.tally.now) self.now.tally.now.election.m set free left self.now.least) }
+    {
+        self.tally.valid();
+        if left == 0 {
+            return if value < self.least { None } else { Some(set) };
+        }
+        if !self.may_afford(set, free, left) {
             return None;
         }
+        let needed = self.least.saturating_sub(value);
+        let gains = self.gains_at(set, free);
+        let order = Order::by_worth(free, &gains);
+        let mut rest = free;
+        while may_reach(
+            &gains,
+            rest,
+            left,
+            order.threshold(rest, left, &gains),
+            needed,
+        ) {
+            let next = order.first_of(rest)?;
+            let others = rest.without(next);
+            let more = value + gains[usize::from(next)];
+            let found = self.descend(set.with(next), more, others, left - 1);
+            if let Some(committee) = found {
+                return Some(committee);
+            }
+            // A committee with a clone of the candidate would be worth the same with the candidate in its place.
+            rest = others.minus(self.aids.clones.class(next));
+            if !self.may_complete(set, rest, left) {
+                return None;
+            }
+        }
+        None
     }
-    None
-}
 
-/// What the set gains by each of the free candidates, at the candidate's number: from the columns, where they are kept.
-fn gains_at<A: Allocator + Copy>(
-    tally: &ThieleTally<A>,
-    columns: &Option<Columns>,
-    set: CandSet,
-    free: CandSet,
-) -> [u128; PLACES]
-    requires columns { KeepsColumns tally.now columns.now }
-    ensures gains { (n : ℕ) → has_member free n ≡ true → slice_index result n
-        ≡ gain (increments tally.now.rule tally.now.k) tally.now.election.rows set n }
-    ensures small { (n : ℕ) → slice_index result n ≤ 2 ^ 116 }
-{
-    tally.valid();
-    free.valid();
-    match columns {
-        Some(columns) => widened(&columns.gains(set)),
-        None => tally.value_and_gains(set, free).1,
+    /// Whether the tests that count no gains leave a committee of the set and `left` of the free candidates possible.
+    fn may_complete(&self, set: CandSet, free: CandSet, left: u8) -> bool
+        requires aids { IsAided self.now.tally.now self.now.aids.now }
+        requires opened { IsOpen self.now.tally.now.election.m set free }
+        ensures { result ≡ false
+            → IsOutOfReach (tally_value self.now.tally.now) self.now.tally.now.election.m set free left self.now.least }
+    {
+        self.may_suffice(set, free) && self.may_afford(set, free, left)
     }
-}
 
-/// Whether all the free candidates together could lift the set to the value. It is asked where a voter's first hit
-/// alone counts, since there it is soon not so; else the answer is yes.
-fn may_suffice<A: Allocator + Copy>(
-    tally: &ThieleTally<A>,
-    set: CandSet,
-    free: CandSet,
-    least: u128,
-) -> bool
-    requires { IsOpen tally.now.election.m set free }
-    ensures { result ≡ false
-        → (left : ℕ) → IsOutOfReach (tally_value tally.now) tally.now.election.m set free left least }
-{
-    tally.valid();
-    if !matches!(tally.rule(), ThieleRule::Cc) {
-        return true;
+    /// What the set gains by each of the free candidates, at the candidate's number: from the columns, if they are kept.
+    fn gains_at(&self, set: CandSet, free: CandSet) -> [u128; PLACES]
+        requires aids { IsAided self.now.tally.now self.now.aids.now }
+        ensures gains { (n : ℕ) → has_member free n ≡ true → slice_index result n
+            ≡ gain (increments self.now.tally.now.rule self.now.tally.now.k) self.now.tally.now.election.rows set n }
+        ensures small { (n : ℕ) → slice_index result n ≤ 2 ^ 116 }
+    {
+        self.tally.valid();
+        free.valid();
+        match &self.aids.columns {
+            Some(columns) => widened(&columns.gains(set)),
+            None => self.tally.value_and_gains(set, free).1,
+        }
     }
-    let value = tally.value(together(set, free));
-    value >= least
-}
 
-/// Whether the prices, where they are kept, allow a committee of the set and of `left` of the free candidates whose
-/// value is at least `least`.
-fn may_afford<A: Allocator + Copy>(
-    tally: &ThieleTally<A>,
-    prices: &Option<Prices>,
-    set: CandSet,
-    free: CandSet,
-    left: u8,
-    least: u128,
-) -> bool
-    requires prices { IsPriced tally.now prices.now }
-    requires opened { IsOpen tally.now.election.m set free }
-    ensures { result ≡ false → IsOutOfReach (tally_value tally.now) tally.now.election.m set free left least }
-{
-    tally.valid();
-    let Some(prices) = prices else {
-        return true;
-    };
-    let paid = prices.base + excess(&prices.worths, set, 0);
-    let threshold = prices.order.nth_worth(free, left, &prices.worths);
-    let units = least.div_ceil(prices.unit);
-    let scaled = units.saturating_mul(u128::from(SCALE));
-    may_reach(paid, &prices.worths, free, left, threshold, scaled)
+    /// Whether all the free candidates together could lift the set to the value. Asked only if just a voter's first hit
+    /// counts, as the answer is soon no then; under other rules it is yes.
+    fn may_suffice(&self, set: CandSet, free: CandSet) -> bool
+        requires { IsOpen self.now.tally.now.election.m set free }
+        ensures { result ≡ false → (left : ℕ)
+            → IsOutOfReach (tally_value self.now.tally.now) self.now.tally.now.election.m set free left self.now.least }
+    {
+        self.tally.valid();
+        if !matches!(self.tally.rule(), ThieleRule::Cc) {
+            return true;
+        }
+        let value = self.tally.value(together(set, free));
+        value >= self.least
+    }
+
+    /// Whether the prices, if they are kept, allow a committee of the set and `left` of the free candidates.
+    fn may_afford(&self, set: CandSet, free: CandSet, left: u8) -> bool
+        requires aids { IsAided self.now.tally.now self.now.aids.now }
+        requires opened { IsOpen self.now.tally.now.election.m set free }
+        ensures { result ≡ false
+            → IsOutOfReach (tally_value self.now.tally.now) self.now.tally.now.election.m set free left self.now.least }
+    {
+        self.tally.valid();
+        let Some(prices) = &self.aids.prices else {
+            return true;
+        };
+        let paid = prices.base + excess(&prices.worths, set, 0);
+        let threshold = prices.order.nth_worth(free, left, &prices.worths);
+        let units = self.least.div_ceil(prices.unit);
+        let needed = units.saturating_mul(u128::from(SCALE)).saturating_sub(paid);
+        may_reach(&prices.worths, free, left, threshold, needed)
+    }
 }
 
 /// The members of either set.
@@ -182,24 +169,22 @@ fn together(set: CandSet, other: CandSet) -> CandSet
     both
 }
 
-/// Whether so many candidates are free, and a value with the greatest gains reaches `least`. Any threshold is right;
-/// the last of the `left` greatest gains makes the bound the least.
-fn may_reach(
-    value: u128,
+/// Whether at least `left` candidates are free, and the greatest of their gains make up what is needed. Any threshold is
+/// right; the last of the `left` greatest gains makes the bound the lowest.
+pub(crate) fn may_reach(
     gains: &[u128; PLACES],
     free: CandSet,
     left: u8,
     threshold: u128,
-    least: u128,
+    needed: u128,
 ) -> bool
-    requires value { value ≤ 2 ^ 123 }
     requires small { (n : ℕ) → slice_index gains.now n ≤ 2 ^ 116 }
     requires threshold { threshold ≤ 2 ^ 116 }
     ensures { IsTrue result ↔ ((left ≤ length free)
-        × (least ≤ value + left * threshold + sum_by (λ n. slice_index gains.now n - threshold) free)) }
+        × (needed ≤ left * threshold + sum_by (λ n. slice_index gains.now n - threshold) free)) }
 {
     let more = excess(gains, free, threshold);
-    left <= free.len() && least <= value + u128::from(left) * threshold + more
+    left <= free.len() && needed <= u128::from(left) * threshold + more
 }
 
 /// What the worths of the candidates exceed the threshold by, together.

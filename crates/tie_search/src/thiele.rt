@@ -7,7 +7,7 @@ ghost use Rattle.tie_search.specs.Completions.{tally_value};
 
 use crate::columns::Columns;
 use crate::prices::Prices;
-use crate::search::{Aids, find};
+use crate::search::{Aids, Search};
 use crate::searchable::Searchable;
 use ballot_base::{CandSet, Clones, Profile, ThieleRule};
 use std::alloc::{Allocator, Global};
@@ -86,6 +86,11 @@ impl<'a, A: Allocator + Copy> Tally for ThieleSearch<'a, A> {
 
 impl<'a, A: Allocator + Copy> Searchable for ThieleSearch<'a, A> {
     fn find(&self, set: CandSet, free: CandSet, left: u8, least: u128) -> Option<CandSet> {
-        find(&self.values, &self.aids, set, free, left, least)
+        let search = Search {
+            tally: &self.values,
+            aids: &self.aids,
+            least,
+        };
+        search.find(set, free, left)
     }
 }

@@ -1,5 +1,4 @@
-use Rattle.std.proofs.Common.{◌≤◌, ◌*◌, ap, subst, get_or}
-use Rattle.tie_search.specs.Prices.{AreRounded}
+use Rattle.std.proofs.Common.{◌≤◌, ◌*◌, subst, get_or}
 use Rattle.tie_search.proofs.prices.Prices.of.Goals as goal
 
 pub returns : goal.returns

@@ -1,0 +1,139 @@
+use Rattle.std.proofs.Common.{◌≡◌, ◌+◌, ◌≤◌, ◌∙◌, true, ap, arith, get_or}
+use Rattle.ballot_base.specs.Increments.{increments}
+use Rattle.ballot_base.specs.CandSet.{has_member, other_members, with_member, without_member}
+use Rattle.tie_walk.specs.Sequences.{gain}
+use Rattle.tie_search.proofs.WholeLemmas.{value-with}
+use Rattle.tie_search.specs.Completions.{IsOpen, tally_value}
+use Rattle.tie_search.proofs.CompletionLemmas.{member-low, member-high, open-with, open-without, without-is, without-shorter}
+use Rattle.tie_search.proofs.SearchLemmas.{AreLeft, found-below, node-none, none-left, not-true, set-short, value-most}
+use Rattle.tie_search.proofs.CloneLemmas.{class-are, clones-out, minus-is, minus-most, open-minus}
+use Rattle.tie_search.proofs.search.Search.+descend.Goals as goal
+
+pub returns-then-value-self : goal.returns-then-value-self
+returns-then-value-self g t c =
+    set-short (tally_value c.args.self.now.tally.now) c.args.self.now.tally.now.election.m c.args.set c.args.left c.args.self.now.least c.args.free
+    c.if-left-eq0.true c.requires.opened (omega (arith, c.if-value-self.true, c.requires.value))
+
+pub loop-set-init : goal.loop-set-init
+loop-set-init g t c = record {
+  opened = c.requires.opened;
+  among = λ n h. h;
+  kept = λ committee whole reaches. whole;
+}
+
+pub with-requires-clause-low : goal.with-requires-clause-low
+with-requires-clause-low g t c =
+    member-low 1 c.args.self.now.tally.now.election.m c.loop-set.rest c.in_ok-next.next c.loop-set.invariant.opened.free_within c.in_ok-next.ensures
+
+pub with-requires-clause-high : goal.with-requires-clause-high
+with-requires-clause-high g t c =
+    omega (
+      arith,
+      c.valid.ensures.election.most,
+      member-high 1 c.args.self.now.tally.now.election.m c.loop-set.rest c.in_ok-next.next c.loop-set.invariant.opened.free_within c.in_ok-next.ensures,
+    )
+
+pub bounds-gains-from : goal.bounds-gains-from
+bounds-gains-from g t c =
+    omega (
+      arith,
+      c.valid.ensures.election.most,
+      member-high 1 c.args.self.now.tally.now.election.m c.loop-set.rest c.in_ok-next.next c.loop-set.invariant.opened.free_within c.in_ok-next.ensures,
+      c.from.ensures,
+    )
+
+pub overflow_add-more : goal.overflow_add-more
+overflow_add-more g t c =
+    omega (
+      arith,
+      c.requires.value,
+      value-most c.args.self.now.tally.now c.args.set c.valid.ensures.election c.valid.ensures.size,
+      c.gains_at-gains.ensures.small c.from.result,
+    )
+
+pub descend-found-requires : goal.descend-found-requires
+descend-found-requires g t c κs within =
+    let rest = c.loop-set.rest in
+    let next = c.in_ok-next.next in
+    let opened : IsOpen c.args.self.now.tally.now.election.m (with_member c.args.set next) (without_member rest next) =
+    open-with c.args.self.now.tally.now.election.m c.args.set rest next c.loop-set.invariant.opened c.in_ok-next.ensures in
+    let free : has_member c.args.free next ≡ true = c.loop-set.invariant.among next c.in_ok-next.ensures in
+    let gained : tally_value c.args.self.now.tally.now (with_member c.args.set next) ≡ tally_value c.args.self.now.tally.now c.args.set + gain (increments c.args.self.now.tally.now.rule c.args.self.now.tally.now.k) c.args.self.now.tally.now.election.rows c.args.set next =
+    value-with c.args.self.now.tally.now c.args.set next c.valid.ensures.election (c.requires.opened.apart next free) in
+    let same : get_or c.gains_at-gains.result c.from.result 0 ≡ gain (increments c.args.self.now.tally.now.rule c.args.self.now.tally.now.k) c.args.self.now.tally.now.election.rows c.args.set next =
+    ap (λ n. get_or c.gains_at-gains.result n 0) c.from.ensures ∙ c.gains_at-gains.ensures.gains next free in
+    let value : c.args.value + get_or c.gains_at-gains.result c.from.result 0 ≡ tally_value c.args.self.now.tally.now (with_member c.args.set next) =
+    omega (arith, gained, same, c.requires.value) in
+    (omega (arith, c.if-left-eq0.false, c.decreases), (within, (c.requires.aids, (rw (c.with.ensures, c.without-others.ensures) opened, rw c.with.ensures value))))
+
+pub class-requires : goal.class-requires
+class-requires g t c =
+    omega (
+      arith,
+      c.valid.ensures.election.most,
+      member-high 1 c.args.self.now.tally.now.election.m c.loop-set.rest c.in_ok-next.next c.loop-set.invariant.opened.free_within c.in_ok-next.ensures,
+    )
+
+pub may_complete-requires-clause-opened : goal.may_complete-requires-clause-opened
+may_complete-requires-clause-opened g t c =
+    rw (c.minus-rest.ensures, c.without-others.ensures) (open-minus c.args.self.now.tally.now.election.m c.args.set (without_member c.loop-set.rest c.in_ok-next.next) c.class.result
+    (open-without c.args.self.now.tally.now.election.m c.args.set c.loop-set.rest c.in_ok-next.next c.loop-set.invariant.opened))
+
+pub returns-then-not-may_complete : goal.returns-then-not-may_complete
+returns-then-not-may_complete g t c =
+    let rest = c.loop-set.rest in
+    let next = c.in_ok-next.next in
+    let opened = c.loop-set.invariant.opened in
+    let m = c.args.self.now.tally.now.election.m in
+    let low : 1 ≤ next = member-low 1 m rest next opened.free_within c.in_ok-next.ensures in
+    let high : next ≤ m = member-high 1 m rest next opened.free_within c.in_ok-next.ensures in
+    let are = class-are m c.args.self.now.tally.now.election.rows next c.class.result
+    (c.class.ensures ∙ c.requires.aids.clones next low high) in
+    let left_out : AreLeft (tally_value c.args.self.now.tally.now) m c.args.set c.args.left c.args.self.now.least c.args.free (other_members (without_member rest next) c.class.result) =
+    clones-out c.args.self.now.tally.now c.args.set c.args.left c.args.self.now.least c.args.free rest c.class.result next c.valid.ensures.election
+    (omega (arith, c.if-left-eq0.false)) opened c.in_ok-next.ensures are c.loop-set.invariant.kept
+    (rw (c.with.ensures, c.without-others.ensures) at c.in_default.ensures) in
+    none-left (tally_value c.args.self.now.tally.now) c.args.self.now.tally.now.election.m c.args.set c.args.left c.args.self.now.least c.args.free (other_members (without_member rest next) c.class.result) left_out
+    (rw (c.minus-rest.ensures, c.without-others.ensures) at (c.may_complete.ensures c.if-not-may_complete.true))
+
+pub returns-in-Some : goal.returns-in-Some
+returns-in-Some g t c =
+    found-below (tally_value c.args.self.now.tally.now) c.args.self.now.tally.now.election.m c.args.set c.args.left c.args.self.now.least c.args.free c.loop-set.rest c.in-Some.committee c.in_ok-next.next
+    (omega (arith, c.if-left-eq0.false)) c.requires.opened (c.loop-set.invariant.among c.in_ok-next.next c.in_ok-next.ensures) c.loop-set.invariant.among
+    (rw (c.with.ensures, c.without-others.ensures) at c.in-Some.ensures)
+
+pub loop-set-smaller : goal.loop-set-smaller
+loop-set-smaller g t c =
+    let fewer = minus-most (without_member c.loop-set.rest c.in_ok-next.next) c.class.result in
+    let short = without-shorter c.loop-set.rest c.in_ok-next.next c.in_ok-next.ensures in
+    rw (c.minus-rest.ensures, c.without-others.ensures) (omega (arith, fewer, short))
+
+pub loop-set-preserved : goal.loop-set-preserved
+loop-set-preserved g t c =
+    let rest = c.loop-set.rest in
+    let next = c.in_ok-next.next in
+    let opened = c.loop-set.invariant.opened in
+    let m = c.args.self.now.tally.now.election.m in
+    let low : 1 ≤ next = member-low 1 m rest next opened.free_within c.in_ok-next.ensures in
+    let high : next ≤ m = member-high 1 m rest next opened.free_within c.in_ok-next.ensures in
+    let are = class-are m c.args.self.now.tally.now.election.rows next c.class.result
+    (c.class.ensures ∙ c.requires.aids.clones next low high) in
+    let left_out : AreLeft (tally_value c.args.self.now.tally.now) m c.args.set c.args.left c.args.self.now.least c.args.free (other_members (without_member rest next) c.class.result) =
+    clones-out c.args.self.now.tally.now c.args.set c.args.left c.args.self.now.least c.args.free rest c.class.result next c.valid.ensures.election
+    (omega (arith, c.if-left-eq0.false)) opened c.in_ok-next.ensures are c.loop-set.invariant.kept
+    (rw (c.with.ensures, c.without-others.ensures) at c.in_default.ensures) in
+    rw (c.minus-rest.ensures, c.without-others.ensures) record {
+      opened = open-minus m c.args.set (without_member rest next) c.class.result (open-without m c.args.set rest next opened);
+      among = λ n h. c.loop-set.invariant.among n (without-is rest next n (minus-is (without_member rest next) c.class.result n h));
+      kept = left_out;
+    }
+
+pub returns : goal.returns
+returns g t c =
+    none-left (tally_value c.args.self.now.tally.now) c.args.self.now.tally.now.election.m c.args.set c.args.left c.args.self.now.least c.args.free c.loop-set.rest c.loop-set.invariant.kept
+    (node-none c.args.self.now.tally.now c.args.set c.loop-set.rest c.args.left c.args.self.now.least c.valid.ensures.election c.valid.ensures.size c.loop-set.invariant.opened
+    c.threshold.result c.gains_at-gains.result (λ n h. c.gains_at-gains.ensures.gains n (c.loop-set.invariant.among n h))
+    (λ both. not-true c.may_reach.result c.loop-set-test.false (c.may_reach.ensures.1 (
+      both.0,
+      omega (arith, both.1, c.requires.value),
+    ))))
