@@ -18,7 +18,7 @@ This module starts the program and reads its output; it computes nothing itself.
 - a `Profile` of abcvoting, or anything like it: iterated, it gives voters with `approved` and `weight`, and it has
   `num_cand`. Its candidates are numbered from 0, and so are those of the answers.
 
-Python 3.9 and its standard library are enough.
+How a profile is read can be said by the keywords of `Reading`. Python 3.9 and its standard library are enough.
 """
 from __future__ import annotations
 
@@ -29,7 +29,11 @@ import subprocess
 import weakref
 from fractions import Fraction
 from numbers import Number
-from typing import Any, FrozenSet, Iterable, Iterator, List, NamedTuple, Optional, Sequence, Tuple, Union
+from typing import TYPE_CHECKING, Any, FrozenSet, Iterable, Iterator, List, Mapping, NamedTuple, NoReturn, Optional
+from typing import Sequence, Tuple, TypedDict, Union
+
+if TYPE_CHECKING:
+    from typing_extensions import Unpack
 
 __all__ = [
     "Answers",
@@ -40,6 +44,7 @@ __all__ = [
     "InputRefused",
     "NoMemory",
     "NoProgram",
+    "Reading",
     "RequestRefused",
     "UsageRefused",
     "check",
@@ -133,10 +138,23 @@ class Check(NamedTuple):
         return self.holds
 
 
-class _Input(NamedTuple):
-    """What the program reads: words of its command line, and the bytes of its standard input."""
+class Reading(TypedDict, total=False):
+    """Keywords of `elect`, `check` and `share`. `candidates` is the number of candidates of a list of approval sets, if not
+    the highest number in it. `kind`, `category`, `setsize` and `classes` are the options of the program, and `program` is
+    its path."""
 
-    words: List[str]
+    candidates: Optional[int]
+    kind: Optional[str]
+    category: Optional[int]
+    setsize: Optional[int]
+    classes: Optional[int]
+    program: Optional[Path]
+
+
+class _Input(NamedTuple):
+    """What the program reads: arguments of its command line, and the bytes of its standard input."""
+
+    arguments: List[str]
     text: bytes = b""
     first: int = 1  # the number of the first candidate
 
@@ -165,11 +183,11 @@ def _ballots(profile: Any, candidates: Optional[int]) -> _Input:
     return _Input([], (header + "".join(lines)).encode(), first)
 
 
-def _input(profile: Any, candidates: Optional[int]) -> _Input:
+def _input(profile: Any, reading: Reading) -> _Input:
     if isinstance(profile, (str, os.PathLike)):
         # After `--` a path that begins with a dash is a path too.
         return _Input(["--", os.fspath(profile)])
-    return _ballots(profile, candidates)
+    return _ballots(profile, reading.get("candidates"))
 
 
 def _whole(number: Any) -> int:
@@ -182,8 +200,13 @@ def _list(numbers: Iterable[Any], first: int = 1) -> str:
     return ",".join(str(_whole(number) + 1 - first) for number in numbers)
 
 
-def _options(**options: Any) -> List[str]:
-    return [f"--{name}={value}" for name, value in options.items() if value is not None]
+def _options(command: str, options: Mapping[str, Any], reading: Reading) -> List[str]:
+    """The options of the program, from those of one command and the keywords of each."""
+    unknown = [name for name in reading if name not in Reading.__annotations__]
+    if unknown:
+        raise TypeError(f"{command}() got an unexpected keyword argument {unknown[0]!r}")
+    named = {**options, **reading, "candidates": None, "program": None}
+    return [f"--{name}={value}" for name, value in named.items() if value is not None]
 
 
 def _program(program: Optional[Path]) -> str:
@@ -210,11 +233,12 @@ def _end(process: "subprocess.Popen[bytes]") -> None:
 class _Run:
     """One run of the program, whose output is read line by line."""
 
-    def __init__(self, command: str, words: List[str], given: _Input, program: Optional[Path]):
-        path = _program(program)
+    def __init__(self, command: str, given: _Input, reading: Reading, **options: Any):
+        arguments = [*_options(command, options, reading), *given.arguments]
+        path = _program(reading.get("program"))
         try:
             self.process = subprocess.Popen(
-                [path, command, *words, *given.words],
+                [path, command, *arguments],
                 stdin=subprocess.PIPE,
                 stdout=subprocess.PIPE,
                 stderr=subprocess.PIPE,
@@ -238,7 +262,14 @@ class _Run:
             self.fail()
         return line[:-1].decode() if line else None
 
-    def fail(self) -> None:
+    def next_line(self) -> str:
+        """The next line, which has to be there."""
+        line = self.line()
+        if line is None:
+            self.fail()
+        return line
+
+    def fail(self) -> NoReturn:
         """Raises what the run ended with."""
         assert self.process.stdout and self.process.stderr
         self.process.stdout.read()
@@ -257,12 +288,17 @@ class _Run:
         raise CutOff(text or "the output ended before its last line", status)
 
     def expect(self, word: str) -> str:
-        """The rest of a line that begins with this word."""
-        line = self.line()
-        if line is None or not line.startswith(f"{word} "):
+        """The rest of the next line, which has to begin with this word."""
+        line = self.next_line()
+        if not line.startswith(f"{word} "):
             self.fail()
-        assert line
         return line[len(word) + 1 :]
+
+    def expect_header(self, **values: Any) -> None:
+        """Checks that the next lines are these words, each with its value."""
+        for word, value in values.items():
+            if self.expect(word) != str(value):
+                self.fail()
 
     def finish(self, *statuses: int) -> None:
         """Checks that nothing follows, and that the program ended with one of these statuses."""
@@ -291,14 +327,11 @@ class Answers(Iterator[Any]):
             raise StopIteration
         if not self._run.end.alive:
             raise CutOff("the answers were closed before the last one was read")
-        line = self._run.line()
-        if line is None:
-            self._run.fail()
+        line = self._run.next_line()
         if line in ("end", "more"):
             self._run.finish(0)
             self.more = line == "more"
             raise StopIteration
-        assert line
         numbers = [int(number) for number in line.split(",")]
         if self._first is None:
             return tuple(numbers)
@@ -321,25 +354,15 @@ def elect(
     size: int,
     after: Optional[Iterable[int]] = None,
     limit: Optional[int] = None,
-    *,
-    candidates: Optional[int] = None,
-    kind: Optional[str] = None,
-    category: Optional[int] = None,
-    setsize: Optional[int] = None,
-    classes: Optional[int] = None,
-    program: Optional[Path] = None,
+    **reading: Unpack[Reading],
 ) -> Answers:
     """Gives all winning committees of a rule, as frozensets in lexicographic order: those later than `after`, at most
-    `limit` of them. `candidates` is the number of candidates of a list of approval sets, if not the highest number in it.
-
-    Returns once the score is known; refusals are raised here."""
-    given = _input(profile, candidates)
+    `limit` of them. Returns once the score is known; refusals are raised here. `Reading` has the other keywords."""
+    given = _input(profile, reading)
     rule = RULES.get(rule, rule)
     start = None if after is None else _list(sorted(after), given.first)
-    options = _options(rule=rule, size=size, after=start, limit=limit, kind=kind, category=category, setsize=setsize, classes=classes)
-    run = _Run("elect", options, given, program)
-    if run.expect("rule") != rule or run.expect("size") != str(size):
-        run.fail()
+    run = _Run("elect", given, reading, rule=rule, size=size, after=start, limit=limit)
+    run.expect_header(rule=rule, size=size)
     if rule.startswith(("seq", "revseq")):
         return Answers(run, given.first)
     if rule == "minimax":
@@ -353,45 +376,26 @@ def share(
     seats: int,
     after: Optional[Iterable[int]] = None,
     limit: Optional[int] = None,
-    *,
-    candidates: Optional[int] = None,
-    kind: Optional[str] = None,
-    category: Optional[int] = None,
-    setsize: Optional[int] = None,
-    classes: Optional[int] = None,
-    program: Optional[Path] = None,
+    **reading: Unpack[Reading],
 ) -> Answers:
     """Gives all fair allocations of seats, as tuples in ascending order: those later than `after`, at most `limit` of them.
-    The profile is a list of votes, one number for each party, or a profile as for `elect`, whose candidates are the parties."""
+    The profile is a list of votes, one number for each party, or a profile as for `elect`, whose candidates are the
+    parties. `Reading` has the other keywords."""
     is_votes = isinstance(profile, Sequence) and all(isinstance(votes, Number) for votes in profile)
-    given = _Input([f"--votes={_list(profile)}"]) if is_votes else _input(profile, candidates)
+    given = _Input([f"--votes={_list(profile)}"]) if is_votes else _input(profile, reading)
     method = METHODS.get(method, method)
     start = None if after is None else _list(after)
-    options = _options(method=method, seats=seats, after=start, limit=limit, kind=kind, category=category, setsize=setsize, classes=classes)
-    run = _Run("share", options, given, program)
-    if run.expect("method") != method or run.expect("seats") != str(seats):
-        run.fail()
+    run = _Run("share", given, reading, method=method, seats=seats, after=start, limit=limit)
+    run.expect_header(method=method, seats=seats)
     return Answers(run, None)
 
 
-def check(
-    profile: Any,
-    property: str,
-    committee: Iterable[int],
-    *,
-    candidates: Optional[int] = None,
-    kind: Optional[str] = None,
-    category: Optional[int] = None,
-    setsize: Optional[int] = None,
-    classes: Optional[int] = None,
-    program: Optional[Path] = None,
-) -> Check:
-    """Says whether a committee has a property of representation, and otherwise describes a group that it leaves out."""
-    given = _input(profile, candidates)
+def check(profile: Any, property: str, committee: Iterable[int], **reading: Unpack[Reading]) -> Check:
+    """Reports whether a committee has a property of representation; if not, describes a group that it leaves out.
+    `Reading` has the other keywords."""
+    given = _input(profile, reading)
     property = PROPERTIES.get(property, property)
-    members = _list(sorted(committee), given.first)
-    options = _options(property=property, committee=members, kind=kind, category=category, setsize=setsize, classes=classes)
-    run = _Run("check", options, given, program)
+    run = _Run("check", given, reading, property=property, committee=_list(sorted(committee), given.first))
 
     def numbers(text: str) -> FrozenSet[int]:
         return frozenset(int(number) - 1 + given.first for number in text.split(",") if number.isdigit())
@@ -408,11 +412,7 @@ def check(
     group, _, voters = run.expect("voters").partition(" of ")
     rows: List[Row] = []
     while sum(row.count for row in rows) < int(group):
-        line = run.line()
-        if line is None:
-            run.fail()
-        assert line
-        count, _, ballot = line.partition(":")
+        count, _, ballot = run.next_line().partition(":")
         rows.append(Row(int(count), numbers(ballot.strip())))
     run.finish(1)
     return Check(False, level, shared, within, int(group), int(voters), tuple(rows))

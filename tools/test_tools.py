@@ -1,7 +1,7 @@
 """Tests of committees.py and table_to_cat, with real runs of the program: python3 -m unittest discover tools"""
+import contextlib
 import doctest
 import os
-import stat
 import subprocess
 import sys
 import tempfile
@@ -17,6 +17,18 @@ from committees import check, elect, share  # noqa: E402
 BOARD = os.path.join(TOP, "examples", "board.cat")
 SONGS = os.path.join(TOP, "examples", "songs.soi")
 BALLOTS = [({1, 2, 3}, 7), ({4, 5}, 2), ({6}, 1)]
+UNFINISHED = "rule av\\nsize 1\\nscore 7/1\\n1\\n"
+
+
+@contextlib.contextmanager
+def program_that(script):
+    """A program that reads its input and then runs this shell script; it is there as long as the block."""
+    with tempfile.TemporaryDirectory() as room:
+        path = os.path.join(room, "program")
+        with open(path, "w") as file:
+            file.write(f"#!/bin/sh\ncat >/dev/null\n{script}\n")
+        os.chmod(path, 0o755)
+        yield path
 
 
 class Voter:
@@ -136,24 +148,19 @@ class Refusals(unittest.TestCase):
         with self.assertRaises(committees.NoProgram):
             elect(BOARD, "av", 1, program="/no/such/program")
 
+    def test_keywords(self):
+        with self.assertRaisesRegex(TypeError, "check.*'limit'"):
+            check(BOARD, "jr", [1], limit=2)
+
     def test_output_that_is_cut_off(self):
-        for output in ["", "rule av\\n", "rule av\\nsize 1\\nscore 7/1\\n1\\n", "rule av\\nsize 1\\nscore 7/1\\n1\\nend", "rule av\\nsize 1\\nscore 7/1\\n1\\nmo"]:
-            with tempfile.TemporaryDirectory() as room:
-                program = os.path.join(room, "program")
-                with open(program, "w") as file:
-                    file.write(f"#!/bin/sh\ncat >/dev/null\nprintf '{output}'\n")
-                os.chmod(program, os.stat(program).st_mode | stat.S_IXUSR)
-                with self.assertRaises(committees.CutOff, msg=output):
-                    list(elect(BALLOTS, "av", 1, program=program))
+        for lines in ["", "rule av\\n", UNFINISHED, UNFINISHED + "end", UNFINISHED + "mo"]:
+            with program_that(f"printf '{lines}'") as program, self.assertRaises(committees.CutOff, msg=lines):
+                list(elect(BALLOTS, "av", 1, program=program))
 
     def test_a_status_after_the_last_line(self):
-        with tempfile.TemporaryDirectory() as room:
-            program = os.path.join(room, "program")
-            with open(program, "w") as file:
-                file.write("#!/bin/sh\ncat >/dev/null\nprintf 'rule av\\nsize 1\\nscore 7/1\\n1\\nend\\n'\necho 'committees: write failed' >&2\nexit 6\n")
-            os.chmod(program, os.stat(program).st_mode | stat.S_IXUSR)
-            with self.assertRaises(committees.DeviceFailed):
-                list(elect(BALLOTS, "av", 1, program=program))
+        script = f"printf '{UNFINISHED}end\\n'\necho 'committees: write failed' >&2\nexit 6"
+        with program_that(script) as program, self.assertRaises(committees.DeviceFailed):
+            list(elect(BALLOTS, "av", 1, program=program))
 
 
 class Ends(unittest.TestCase):

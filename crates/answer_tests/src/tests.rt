@@ -1,3 +1,3 @@
-//! One file a part of what is answered. Expected values are worked by hand, or found by a plainer search.
+//! One file for groups of voters, one for seats. Expected values are worked by hand, or found by a plainer search.
 mod groups;
 mod shares;

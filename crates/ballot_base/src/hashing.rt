@@ -1,4 +1,4 @@
-//! How ballots are hashed: by numbers that are known, or by secret ones.
+//! How ballots are hashed: by fixed parameters, or by secret ones.
 ghost use Rattle.std.specs.Prelude.{◌≡◌, ◌+◌, ◌*◌, ◌^◌};
 ghost use Rattle.ballot_base.specs.Hashing.{fixed_hashing, hashing_of, word_of_bytes, begun, with_word, upper_half};
 

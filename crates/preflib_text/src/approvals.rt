@@ -1,4 +1,4 @@
-//! What is noted of a ballot while it is read: whom it approves, and what is wrong with it.
+//! What is noted of a ballot while it is read: the candidates that it approves, and what is wrong with it.
 ghost use Rattle.std.specs.Prelude.{◌≡◌, ◌+◌, ◌^◌, ◌<◌, ◌≤◌, length};
 ghost use Rattle.ballot_base.specs.Limits.{most_candidates};
 ghost use Rattle.ballot_base.specs.Lists.{IsIncreasing};

@@ -1,4 +1,8 @@
-//! Reading one line of a ballot: a count, a colon and an order.
+//! Reading one line of a ballot, token by token: a count, a colon and an order. Each token has to fit its place in the
+//! order (`OrderPlace`).
+//!
+//! Most numbers of a ballot have one or two digits, and a comma right after them. `listed_number` reads both tokens at
+//! once; `proofs/ListedNumbers.antt` shows that the outcome is that of the two tokens.
 ghost use Rattle.std.specs.Prelude.{◌≡◌, ℕ, ◌+◌, ◌*◌, ◌^◌, ◌<◌, ◌≤◌, length, List, [], ◌∷◌, Some, None, MatchOption};
 ghost use Rattle.std.specs.Prelude.{IfOk, IfErr, IfSome};
 ghost use Rattle.std.specs.Option.{option_map, option_and_then};

@@ -1,4 +1,4 @@
-//! Why a file is not read.
+//! Why a file is refused.
 ghost use Rattle.std.specs.Prelude.{◌≡◌};
 ghost use Rattle.preflib_text.specs.Names.{fault_name, fault_named};
 

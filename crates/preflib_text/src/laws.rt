@@ -1,4 +1,4 @@
-//! Laws of the names, and of what bytes tell. The functions do nothing, and their contracts are the laws.
+//! Laws of names, and of inputs in pieces. Each function does nothing, and its contract is the law.
 ghost use Rattle.std.specs.Prelude.{◌≡◌, ℕ, ◌≤◌, ◌==◌, false, List, [], ◌∷◌, ◌++◌, length, map, Option, Some, Err};
 ghost use Rattle.std.specs.List.{list_any};
 ghost use Rattle.preflib_text.specs.Limits.{most_line_bytes};

@@ -1,4 +1,7 @@
-//! What the lines so far have told, and what the next line does.
+//! What is known from the lines so far, and what the next line does to the profile: its fault, a name or a ballot.
+//!
+//! `proofs/After.antt` has the statement on which both readers rest: what the notes and the profile are after some
+//! lines, and after one more.
 ghost use Rattle.std.specs.Prelude.{◌≡◌, ◌^◌, ◌≤◌, true, false, Some, None, MatchResult, IfOk, if◌then◌else◌};
 ghost use Rattle.ballot_base.specs.Limits.{most_candidates, most_voters};
 ghost use Rattle.preflib_text.specs.Limits.{most_categories};

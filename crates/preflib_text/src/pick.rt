@@ -1,4 +1,4 @@
-//! What of a file is taken as approvals.
+//! The type of a file, and which candidates of its ballots count as approved.
 ghost use Rattle.std.specs.Prelude.{◌≡◌, option_map};
 ghost use Rattle.preflib_text.specs.Names.{kind_name, kind_named};
 

@@ -1,4 +1,5 @@
-//! Reading a ballot file in pieces.
+//! Reading a ballot file in pieces. Of the text only the bytes since the last LF are kept; contracts see all that were
+//! fed.
 ghost use Rattle.std.specs.Prelude.{◌≡◌, ◌⊎◌, ℕ, ◌^◌, ◌<◌, ◌≤◌, ◌+◌, true, false, List, [], ◌∷◌, ◌++◌, length, Some};
 ghost use Rattle.std.specs.Prelude.{None, Result, Ok, Err, MatchResult, IfSome, IfOk, IfErr, OnOk};
 ghost use Rattle.std.specs.Vec.{vec_capacity, vec_len};

@@ -1,4 +1,4 @@
-//! Reading a whole ballot file.
+//! Reading a whole ballot file: cuts its lines, applies each to the profile, and ends the profile.
 ghost use Rattle.std.specs.Prelude.{◌≡◌, ◌⊎◌, ℕ, ◌^◌, ◌<◌, ◌≤◌, ◌+◌, true, false, List, [], ◌∷◌, not, map, Some};
 ghost use Rattle.std.specs.Prelude.{None, unwrap_or, Result, Ok, Err, nat_lt, MatchResult, IfOk, IfErr, OnOk};
 ghost use Rattle.ballot_base.specs.Limits.{most_candidates, most_voters};

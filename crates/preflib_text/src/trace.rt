@@ -1,4 +1,4 @@
-//! The bytes that have passed, which proofs alone read.
+//! The bytes that have passed through a reader, for proofs only.
 ghost use Rattle.std.specs.Prelude.{◌≡◌, ℕ, List, [], ◌++◌};
 ghost use Rattle.std.specs.Borrow.{ftrue};
 

@@ -1,4 +1,4 @@
-//! One file a part of what is read. Expected values are worked by hand.
+//! One file for each part of reading. Expected values are worked by hand.
 mod builders;
 mod files;
 mod growths;

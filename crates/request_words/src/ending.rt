@@ -1,4 +1,4 @@
-//! The type that the name of a file tells.
+//! The type of a file by its extension.
 ghost use Rattle.std.specs.Prelude.{◌≡◌, option_map};
 ghost use Rattle.request_words.specs.Endings.{after_last, kind_in_path};
 

@@ -1,4 +1,4 @@
-//! Laws of the words. Each function does nothing, and its contract is the law.
+//! Laws of the command line. Each function does nothing, and its contract is the law.
 ghost use Rattle.std.specs.Prelude.{◌≡◌, List, Some, map, true};
 ghost use Rattle.std.specs.Option.{IsSome};
 ghost use Rattle.clap.specs.Words.{Text, takes};

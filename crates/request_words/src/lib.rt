@@ -1,4 +1,4 @@
-//! The words of a command line, and the request that they make.
+//! The command line: its words, and the request that they make.
 #![tactic(auto)]
 
 mod commands;

@@ -1,4 +1,4 @@
-//! A list of numbers in a word of the command line.
+//! A list of numbers in an argument of the command line.
 ghost use Rattle.std.specs.Prelude.{◌≡◌, IfOk, option_map};
 ghost use Rattle.std.specs.Vec.{vec_items};
 ghost use Rattle.request_words.specs.NumberList.{entry_of, list_of};

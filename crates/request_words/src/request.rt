@@ -1,4 +1,4 @@
-//! What the words of a command line ask for.
+//! What a command line asks for.
 ghost use Rattle.std.specs.Prelude.{◌≡◌, option_map, string_bytes};
 ghost use Rattle.preflib_text.specs.Approvals.{HasNumber};
 ghost use Rattle.request_words.specs.Names.{rule_name, rule_named};

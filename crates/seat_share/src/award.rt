@@ -1,4 +1,10 @@
-//! Seats that are given one after the other, and the ties for the last of them.
+//! Seats given one after another, each to a party with the greatest claim to one more, and the ties for the last of
+//! them.
+//!
+//! The last claim that was met is a threshold. Seats that a party claims above it are certain; parties that claim a
+//! seat exactly there are tied. `proofs/Threshold.antt` has the theorem behind this: if all seats are given, no party
+//! has a claim to another's seat exactly if each has its certain seats and some tied ones have one more.
+//! `proofs/QuotaLemmas.antt` says the same of Hamilton's remainders.
 ghost use Rattle.std.specs.Prelude.{◌≡◌, ◌+◌, ◌≤◌, ◌<◌, ◌++◌, ◌∷◌, ℕ, List, [], length, sum, true, false, Some};
 ghost use Rattle.std.specs.List.{AllByRecursion};
 ghost use Rattle.seat_share.specs.Limits.{most_parties, most_votes};

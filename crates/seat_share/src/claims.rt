@@ -1,4 +1,5 @@
-//! What parties claim their next seat by.
+//! The claims of parties to their next seat: a quotient of a divisor method, or what is left of a party's votes by
+//! Hamilton's.
 ghost use Rattle.std.specs.Prelude.{◌≡◌, ◌≤◌};
 ghost use Rattle.seat_share.specs.Limits.{most_seats, most_votes};
 ghost use Rattle.seat_share.specs.Quotients.{is_at_least};

@@ -1,4 +1,4 @@
-//! What tests need of the world: devices that fail, and runs over them.
+//! For tests: devices that fail, and runs over them.
 #![tactic(auto)]
 
 pub mod devices;

@@ -1,4 +1,9 @@
 //! The families of the winners of a sequential rule, and a tally over them.
+//!
+//! The bound answers whether some family has a committee of the set and of `left` candidates after c. Candidates that
+//! the set lacks of the least set are added one after another, and have to fit; those for which the most set has room
+//! have to fill the committee (`proofs/CompletionLemmas.antt`). This is exact (`laws::exact_bounds`): `Winners` over it
+//! enters only prefixes with a winner below, and lists the union of the families in order, each committee once.
 ghost use Rattle.std.specs.Prelude.{◌≡◌, ℕ, ◌≤◌, ◌-◌, ◌==◌, ⊤, true, List, IfOk, MatchOption, length, if◌then◌else◌};
 ghost use Rattle.ballot_base.specs.Lists.{IsIncreasing};
 ghost use Rattle.std.specs.List.{AllByRecursion, list_all, list_any, zip};

@@ -1,4 +1,18 @@
-//! The families that the choices of a sequential rule make, level by level.
+//! The families that the choices of a sequential rule make, level by level. Three facts keep the levels short.
+//!
+//! - **Clones tie.** Whether a set is reached, what it gains and what it loses depend only on its number of members of
+//!   each class of clones (`proofs/CloneLemmas.antt`, `TiedClones.antt`). So of tied clones only the first is followed.
+//!   Candidates without supporters are one class.
+//! - **Gains only fall.** If no candidate adds to a set, no candidate adds to a larger one. Then all candidates tie at
+//!   each step, and each committee above the set is reached.
+//! - **Ties may be independent.** If no voter approves two of the tied candidates, each of them still ties after others
+//!   were chosen, and no other candidate does, not even a clone (`proofs/SpanLemmas.antt`). They are chosen in any
+//!   order.
+//!
+//! In the last two cases all choices lead to one set, the `end`: all candidates, or the set with all tied ones. The set
+//! stays in the levels until enough choices were made to reach its end, and stands for all sets between the two.
+//! `proofs/LevelLemmas.antt` shows, by induction over levels, that the families have exactly the committees that some
+//! sequence of choices makes.
 ghost use Rattle.std.specs.Prelude.{◌≡◌, ℕ, ◌^◌, ◌<◌, ◌≤◌, false, List, None, IfOk, OnOk, fold, map, length, slice_index};
 ghost use Rattle.std.specs.List.{AllByRecursion};
 ghost use Rattle.std.specs.Str.{bytes_eq};

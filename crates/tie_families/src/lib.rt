@@ -1,5 +1,8 @@
-//! The winners of the sequential rules, as families: of all committees between two sets, by how many of each class of
-//! clones they have, the two sets alone are kept.
+//! The winners of the sequential rules, kept as families: all committees between two sets, by the number of members of
+//! each class of clones.
+//!
+//! `levels` makes the families, `families` is a tally over them, and `winners` lists their committees by the walk of
+//! `tie_walk`. `clones` compares sets class by class.
 #![tactic(auto)]
 
 mod clones;

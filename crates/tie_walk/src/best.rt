@@ -1,4 +1,8 @@
-//! The greatest value of a committee, by walks from a good committee on to better ones.
+//! The greatest value of a committee, by the same walk that lists the winners.
+//!
+//! It begins with the value of a good committee (module `good`), and goes on to a committee with a value above the
+//! greatest so far, until there is none, or no bound leaves room for one. Each time the walk forgets what it knew of
+//! bounds.
 ghost use Rattle.std.specs.Prelude.{◌≡◌, ◌+◌, ◌^◌, ◌<◌, ◌≤◌, [], MatchOption};
 ghost use Rattle.tie_walk.specs.Steps.Walks.{committees_from, those_reaching, IsPlace, IsFound};
 ghost use Rattle.tie_walk.specs.Winners.{best_value};

@@ -1,4 +1,5 @@
-//! The values of minimax approval voting.
+//! The values of minimax approval voting. The bound of a prefix comes from the distances on the candidates decided so
+//! far, which only grow.
 ghost use Rattle.std.specs.Prelude.{◌≡◌, ◌<◌, ◌≤◌, MatchOption};
 ghost use Rattle.ballot_base.specs.Limits.{most_candidates};
 ghost use Rattle.ballot_base.specs.Lists.{IsIncreasing};

@@ -1,4 +1,4 @@
-//! Beginnings of committees, in the order of a walk over all committees.
+//! Prefixes: decisions on the first candidates, in the order of a walk over all committees.
 ghost use Rattle.std.specs.Prelude.{◌≡◌, ℕ, ◌+◌, ◌<◌, ◌≤◌, [], ◌∷◌, ◌++◌};
 ghost use Rattle.ballot_base.specs.Limits.{most_candidates};
 ghost use Rattle.ballot_base.specs.Lists.{IsIncreasing};

@@ -1,4 +1,8 @@
-//! What gives a committee its value.
+//! The trait `Tally`: what gives a committee its value, and bounds what its completions can have.
+//!
+//! A walk knows of its tally only what the trait says: the value of a set, the law of the bound, and what `reach`
+//! answers about bounds. So one walk serves rules with plain bounds, bounds found by search, and families of
+//! committees. The sums of the greatest gains are found by one pass over the candidates with a table, and no sorting.
 ghost use Rattle.std.specs.Prelude.{◌≡◌, ℕ, ◌+◌, ◌-◌, ◌*◌, ◌^◌, ◌<◌, ◌≤◌, List, MatchOption, ⊤, length, slice_index, max};
 ghost use Rattle.ballot_base.specs.Limits.{most_candidates};
 ghost use Rattle.ballot_base.specs.Lists.{IsIncreasing};

@@ -1,4 +1,5 @@
-//! The values of Thiele's rules.
+//! The values of Thiele's rules: one pass over the rows, with a table that is made once. The bound of a prefix is the
+//! value of its set and the greatest gains at it, since gains only fall as a committee grows.
 ghost use Rattle.std.specs.Prelude.{◌≡◌, ℕ, ◌+◌, ◌*◌, ◌^◌, ◌<◌, ◌≤◌, ◌==◌, true, List, filter, sum, slice_index, if◌then◌else◌};
 ghost use Rattle.ballot_base.specs.Limits.{most_candidates, most_members};
 ghost use Rattle.ballot_base.specs.Lists.{IsIncreasing};

@@ -1,4 +1,11 @@
-//! The walk over the committees whose value reaches the best, and what it counts.
+//! The walk over the committees whose value reaches the best: depth first from prefix to prefix, entering only prefixes
+//! whose bound reaches it; and the counts of its steps.
+//!
+//! Below one set candidates are removed one after another, so the walk asks `Tally::reach` once how far the bounds of
+//! the set reach, and keeps the answer for each number of members.
+//!
+//! `proofs/WalkLemmas.antt` shows that what the walk leaves out has no winner, `LiveLemmas.antt` and `OpenLemmas.antt`
+//! that each prefix it enters is live.
 ghost use Rattle.std.specs.Prelude.{◌≡◌, ℕ, ◌+◌, ◌-◌, ◌*◌, ◌^◌, ◌<◌, ◌≤◌, true, false, [], ◌∷◌, ◌++◌, List, None, Some, length, if◌then◌else◌};
 ghost use Rattle.ballot_base.specs.Limits.{most_candidates};
 ghost use Rattle.tie_walk.specs.Ceilings.{IsShort, IsExactAtBest, is_open};

@@ -1,4 +1,12 @@
-//! The winning committees of a tally, by a walk from prefix to prefix that enters no prefix whose bound is too low.
+//! The winning committees of a tally, one by one.
+//!
+//! `new` finds the greatest value first (module `best`). Then a walk of its own hands out each committee that has it,
+//! beginning right after the start if there is one. `entered` and `ceilings` count the steps of this second walk. The
+//! prefixes that it enters are the live ones of `specs/Ceilings.antt`, and at most m more on the way to a start.
+//!
+//! If bounds are exact at the greatest value (`IsExactAtBest`), one `next` asks for at most four bounds a candidate: at
+//! most two on the way down to a committee, and one on the way up (`proofs/WaitLemmas.antt`). A tally whose bounds are
+//! each the value of some committee (`IsTight`) is exact whatever is best (`laws::tight_bounds`).
 ghost use Rattle.std.specs.Prelude.{◌≡◌, ◌+◌, ◌≤◌};
 ghost use Rattle.ballot_base.specs.Lists.{later_than};
 ghost use Rattle.tie_walk.specs.Ceilings.{live_count};

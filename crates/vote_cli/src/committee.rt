@@ -1,4 +1,4 @@
-//! The committee that a check is of.
+//! The committee of a check, from its list.
 ghost use Rattle.std.specs.Prelude.{◌≡◌, ◌≤◌, None, IfSome, length};
 ghost use Rattle.ballot_base.specs.Limits.{most_candidates, most_members};
 ghost use Rattle.ballot_base.specs.Lists.{IsIncreasing};

@@ -1,4 +1,4 @@
-//! The devices that a run reads and writes, which tell whether a call has failed.
+//! The devices that a run reads and writes, which record whether a call has failed.
 ghost use Rattle.std.specs.Prelude.{◌≡◌, ◌+◌, ℕ, ◌||◌, Bool, List, Option, false, is_err};
 ghost use Rattle.std.specs.Io.{ReadsAtMost, WritesAtMost};
 ghost use Rattle.std.specs.Io.KnownBytes.{Keeps, ReadConsumes, WriteAppends};

@@ -1,4 +1,5 @@
-//! The list of the answers to a request: one loop prints them, whatever is asked for.
+//! The list of the answers to a request: one loop prints them. `Winners`, `FamilyWinners` and `Shares` hand out their
+//! answers through one trait.
 ghost use Rattle.std.specs.Prelude.{◌≡◌, ◌≢◌, ◌-◌, ℕ, List, Some, [], is_ok, option_map, false, true};
 ghost use Rattle.std.specs.Iterator.{YieldsFirstBy};
 ghost use Rattle.vote_cli.specs.Listing.{allocation_line, answers_text, committee_line, has_more, last_line};

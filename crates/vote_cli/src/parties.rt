@@ -1,4 +1,4 @@
-//! The votes of parties, from ballots that approve one party at most.
+//! The votes of parties, from ballots that each approve at most one party.
 ghost use Rattle.std.specs.Prelude.{◌≡◌, IfSome, None, true, false};
 ghost use Rattle.vote_cli.specs.Parties.{has_many_approved, party_votes};
 

@@ -1,4 +1,4 @@
-//! Why a run ends with no answer, or with a part of one.
+//! Why a run ends without an answer, or with only a beginning of one.
 ghost use Rattle.std.specs.Prelude.{◌≡◌, ◌++◌, [], codes, is_ok};
 ghost use Rattle.vote_cli.specs.Steps.RequestFaults.{request_fault_word};
 ghost use Rattle.vote_cli.specs.Steps.Refusals.{IsRefusal, error_of, status_of};
