@@ -1,4 +1,7 @@
-//! Clones: candidates whom the same voters approve.
+//! Clones: candidates approved by the same voters. `Clones::of` finds the class of each candidate of a profile.
+//!
+//! In any committee one clone may stand in the place of another: each voter has as many members as before. So searches
+//! and checks try one candidate of a class and then leave out the others.
 ghost use Rattle.std.specs.Prelude.{◌≡◌, ◌≤◌, [], slice_index_or};
 ghost use Rattle.ballot_base.specs.Clones.{AreClones, clones_among};
 ghost use Rattle.ballot_base.specs.Limits.{most_candidates};

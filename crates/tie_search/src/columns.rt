@@ -1,5 +1,9 @@
-//! The ballots of all voters, candidate by candidate: a bit a voter, 64 voters to a word. What a set gains by each
-//! candidate is counted for 64 voters at once.
+//! The ballots candidate by candidate, a bit a voter, so that gains are counted for 64 voters at once.
+//!
+//! Words that hold the voters with each number of hits are made member by member: those who approve the member move on
+//! by one hit. The gain of a candidate is the sum, over numbers of hits, of the weight times the bits that word and
+//! column share. There are no columns for more than 8,192 voters, more than two voters a row, or weights of 2^44 and
+//! more; then gains come from one pass over the rows.
 ghost use Rattle.std.specs.Prelude.{◌≡◌, ℕ, ◌+◌, ◌-◌, ◌*◌, ◌^◌, ◌<◌, ◌≤◌, ◌==◌, ◌&&◌, List, [], ◌∷◌, ◌++◌, length, replicate, slice_index, MatchOption, ⊤, if◌then◌else◌};
 ghost use Rattle.std.specs.Int.{bit_at};
 ghost use Rattle.std.specs.Int.Bits.{bit_and};

@@ -1,5 +1,10 @@
-//! The choice of a multiplier for each row, by which the prices of committees are little more than their values: a
-//! subgradient method (Held, Wolfe and Crowder, Validation of subgradient optimization). Any multipliers are right.
+//! The choice of a multiplier for each row that makes prices low: a subgradient method (Held, Wolfe and Crowder,
+//! Validation of subgradient optimization, 1974; Fisher, The Lagrangian relaxation method for solving integer
+//! programming problems, 1981).
+//!
+//! In up to 100 rounds the multiplier of a ballot goes up if the committee of the highest-priced candidates hits it too
+//! rarely, and down if too often. The best committee met on the way is what the search for the greatest value begins
+//! with. Only the range of the multipliers is proved, since prices bound values whatever the multipliers are.
 ghost use Rattle.std.specs.Prelude.{◌≡◌, ℕ, ◌^◌, ◌<◌, ◌≤◌, length, slice_index};
 ghost use Rattle.ballot_base.specs.Limits.{most_candidates};
 ghost use Rattle.ballot_base.specs.Lists.{IsIncreasing};

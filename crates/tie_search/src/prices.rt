@@ -1,4 +1,10 @@
-//! Prices of candidates. A search passes over a set whose price is too low without counting what the set gains.
+//! Prices of candidates: a bound that needs no gains. A search asks for it first, and counts gains only if it passes.
+//!
+//! Choose any multiplier for each row. A voter then gives a committee at most what is `kept` (the highest value of some
+//! number of hits less the multiplier for each hit), and the multiplier for each hit. Summed over the voters, no
+//! committee has more value than the `base` and the prices of its members (`specs/Prices.antt`, `laws::prices`). Values
+//! are scaled by 4,096, so that there are multipliers between two increments. Large weights are rounded up to units in
+//! which they are below 2^44. There are no prices for more than 8,192 different ballots.
 ghost use Rattle.std.specs.Prelude.{◌≡◌, ℕ, ◌+◌, ◌^◌, ◌<◌, ◌≤◌, length, slice_index, MatchOption, ⊤};
 ghost use Rattle.ballot_base.specs.Limits.{most_candidates, most_members};
 ghost use Rattle.tie_walk.specs.Values.{thiele_of};

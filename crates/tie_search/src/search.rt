@@ -1,4 +1,16 @@
-//! The search for a committee of at least a value, depth first, that goes into no set whose bound is too low.
+//! A search for a committee with at least a value under a Thiele rule: depth first, giving up sets whose bound is too
+//! low.
+//!
+//! If no candidate is left to add, the value decides. Otherwise the gains at the set give a bound, and each free
+//! candidate in turn, highest gain first, is searched below and then leaves, until the bound of the remaining ones is
+//! too low (Nemhauser and Wolsey, Maximizing submodular set functions, 1981). The gain of a candidate is added to the
+//! value, so no value is computed anew. Under `cc` a search also ends if all free candidates together add too little.
+//!
+//! A candidate who was tried leaves with all its clones: put in a clone's place, it makes a committee of the same
+//! value, and all committees with it were searched (`proofs/CloneLemmas.antt`).
+//!
+//! The bound needs no sorting in its proof. For any threshold, an added member brings at most the threshold and what
+//! its gain exceeds it by (`laws::thresholds`). The last of the `left` highest gains makes the bound lowest.
 ghost use Rattle.std.specs.Prelude.{◌≡◌, ℕ, ◌+◌, ◌-◌, ◌*◌, ◌^◌, ◌<◌, ◌≤◌, ◌↔◌, ◌||◌, true, false, List, MatchOption, IsTrue, length, slice_index, sum_by};
 ghost use Rattle.ballot_base.specs.Ballots.{Row};
 ghost use Rattle.ballot_base.specs.Clones.{AreClones};

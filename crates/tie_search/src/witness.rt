@@ -1,4 +1,4 @@
-//! How far a committee tells that others with its value can be found.
+//! How far a committee with a value shows that prefixes of the walk still have a completion with that value.
 ghost use Rattle.std.specs.Prelude.{◌≡◌, ℕ, ◌+◌, ◌-◌, ◌<◌, ◌≤◌, true};
 ghost use Rattle.ballot_base.specs.CandSet.{has_member};
 ghost use Rattle.ballot_base.specs.Limits.{most_candidates};
