@@ -51,10 +51,7 @@ sum-weaker test other (row ∷ rows) all =
     )
 
 no_longer : (a b : Bool) → (a ≡ true → b ≡ true) → b ≡ false → a ≡ false
-no_longer true b more e = absurd (never (sym (more refl) ∙ e))
-  where
-    never : true ≡ false → ⊥
-    never h = cc
+no_longer true b more e = let clash : true ≡ false = sym (more refl) ∙ e in cc
 no_longer false b more e = refl
 
 -- where the other group is too small, so is the one
@@ -233,17 +230,11 @@ module _ {X : Type 0} where
   none_found p (x ∷ xs) h = cases (p x) refl (λ later. none_found p xs later) h
     where
       cases : (b : Bool) → p x ≡ b → (find p xs ≡ None → AllByRecursion (λ y. p y ≡ false) xs) → cond b (Some x) (find p xs) ≡ None → (p x ≡ false) × AllByRecursion (λ y. p y ≡ false) xs
-      cases true e more h = absurd (never h)
-        where
-          never : Some x ≡ None → ⊥
-          never k = cc
+      cases true e more h = cc
       cases false e more h = (e, more h)
 
   found_holds : (P : X → Type 0) (p : X → Bool) (xs : List X) (x : X) → AllByRecursion P xs → find p xs ≡ Some x → P x
-  found_holds P p [] x all h = absurd (never h)
-    where
-      never : None ≡ Some x → ⊥
-      never e = cc
+  found_holds P p [] x all h = cc
   found_holds P p (y ∷ ys) x all h = cases (p y) (λ later. found_holds P p ys x all.1 later) h
     where
       cases : (b : Bool) → (find p ys ≡ Some x → P x) → cond b (Some y) (find p ys) ≡ Some x → P x
@@ -252,10 +243,7 @@ module _ {X : Type 0} where
 
 -- a set that does not pass as a whole has a member that does not
 fails_at : (p : ℕ → Bool) (set : List ℕ) → list_all p set ≡ false → (n : ℕ) × (has_member set n ≡ true) × (p n ≡ false)
-fails_at p [] h = absurd (never h)
-  where
-    never : true ≡ false → ⊥
-    never e = cc
+fails_at p [] h = cc
 fails_at p (x ∷ xs) h = cases (p x) refl (λ k. fails_at p xs k) h
   where
     cases : (b : Bool) → p x ≡ b → (list_all p xs ≡ false → (n : ℕ) × (has_member xs n ≡ true) × (p n ≡ false)) → (b && list_all p xs) ≡ false
@@ -276,10 +264,7 @@ same_lists_of (list ∷ lists) = ap (λ ls. list ∷ ls) (same_lists_of lists)
 
 second_fails : (a b : Bool) → (a && b) ≡ false → a ≡ true → b ≡ false
 second_fails true b h k = h
-second_fails false b h k = absurd (never k)
-  where
-    never : false ≡ true → ⊥
-    never n = cc
+second_fails false b h k = cc
 
 all_kept : (lists : List (List ℕ)) → lists ≡ filter (list_all (λ (c : ℕ). true)) lists
 all_kept [] = refl
@@ -377,10 +362,7 @@ module _ (property : Property) (e : Election) (committee : List ℕ) (level : �
           lists_step shared (filter p lists)
           ∙ ap (option_or (first_of property e committee level (pairs_of shared (lists_within property e.m committee level)))) rest
           ∙ sym (lists_step shared (filter q lists))
-      cases true h false k rest = absurd (never (sym (more shared h) ∙ k))
-        where
-          never : true ≡ false → ⊥
-          never n = cc
+      cases true h false k rest = let clash : true ≡ false = sym (more shared h) ∙ k in cc
       cases false h true k rest =
           rest
           ∙ ap (λ o. option_or o (first_of_lists property e committee level (filter q lists))) (left shared k h)
@@ -504,14 +486,8 @@ possible_more p c pool next least is choice =
 
 pub nothing_there : {X : Type 0} (found : Option X) (none : Bool) → is_some found ≡ not none → IsTrue none → found ≡ None
 nothing_there None none e h = refl
-nothing_there (Some x) true e h = absurd (never e)
-  where
-    never : true ≡ false → ⊥
-    never k = cc
-nothing_there (Some x) false e h = absurd (never h)
-  where
-    never : false ≡ true → ⊥
-    never k = cc
+nothing_there (Some x) true e h = cc
+nothing_there (Some x) false e h = cc
 
 pub possible_order : (property : Property) (e : Election) (committee : List ℕ) (level : ℕ) → IsIncreasing 1 e.m (possible_candidates property e committee level)
 possible_order property e committee level =
@@ -537,38 +513,20 @@ share_front p front rest h = (and_parts (list_all p front) (list_all p rest) (sy
 -- ---- whether the property is that with a list U
 
 pub is_pjr : (property : Property) (other : Bool) → other ≡ not (sameb the_type property Pjr) → other ≡ false → property ≡ Pjr
-is_pjr Jr other e h = absurd (never (sym h ∙ e))
-  where
-    never : false ≡ not (sameb the_type Jr Pjr) → ⊥
-    never k = cc
+is_pjr Jr other e h = let clash : false ≡ not (sameb the_type Jr Pjr) = sym h ∙ e in cc
 is_pjr Pjr other e h = refl
-is_pjr Ejr other e h = absurd (never (sym h ∙ e))
-  where
-    never : false ≡ not (sameb the_type Ejr Pjr) → ⊥
-    never k = cc
-is_pjr EjrPlus other e h = absurd (never (sym h ∙ e))
-  where
-    never : false ≡ not (sameb the_type EjrPlus Pjr) → ⊥
-    never k = cc
+is_pjr Ejr other e h = let clash : false ≡ not (sameb the_type Ejr Pjr) = sym h ∙ e in cc
+is_pjr EjrPlus other e h = let clash : false ≡ not (sameb the_type EjrPlus Pjr) = sym h ∙ e in cc
 
 -- the first pair with a T, of PJR
 pub first_pair : (property : Property) (e : Election) (committee : List ℕ) (level : ℕ) (shared within : List ℕ) → property ≡ Pjr
     → IsIncreasing 1 e.m committee → 1 ≤ level → level ≤ greatest_level property committee → IsFirst property e.m committee level shared
     → find (is_enough_within e committee level shared) (completions [] committee (level - 1)) ≡ Some within
     → first_of property e committee level ((shared, within) ∷ []) ≡ first_of property e committee level (pairs_of shared (lists_within property e.m committee level))
-first_pair Jr e committee level shared within is = absurd (never is)
-  where
-    never : Jr ≡ Pjr → ⊥
-    never k = cc
+first_pair Jr e committee level shared within is = cc
 first_pair Pjr e committee level shared within is = first_beside e committee level shared within
-first_pair Ejr e committee level shared within is = absurd (never is)
-  where
-    never : Ejr ≡ Pjr → ⊥
-    never k = cc
-first_pair EjrPlus e committee level shared within is = absurd (never is)
-  where
-    never : EjrPlus ≡ Pjr → ⊥
-    never k = cc
+first_pair Ejr e committee level shared within is = cc
+first_pair EjrPlus e committee level shared within is = cc
 
 pub first_second : (property : Property) (e : Election) (committee : List ℕ) (level : ℕ) (shared within : List ℕ) → IsIncreasing 1 e.m committee
     → find (is_enough_within e committee level shared) (completions [] committee (level - 1)) ≡ Some within → property ≡ Pjr → IsSecond property e.m level within

@@ -192,14 +192,8 @@ module _ (property : Property) (e : Election) (committee : List ℕ) (level : �
           → (None ≡ first_of property e committee level (pairs_of shared lists) → None ≡ first_of property e committee level (pairs_of other lists))
           → None ≡ option_map (violation_of property e committee level) (cond a (Some (shared, within)) (find (pair_breaks property e committee level) (pairs_of shared lists)))
           → None ≡ option_map (violation_of property e committee level) (cond b (Some (other, within)) (find (pair_breaks property e committee level) (pairs_of other lists)))
-      cases true b is more h = absurd (never h)
-        where
-          never : None ≡ Some (violation_of property e committee level (shared, within)) → ⊥
-          never k = cc
-      cases false true is more h = absurd (never is)
-        where
-          never : false ≡ true → ⊥
-          never k = cc
+      cases true b is more h = cc
+      cases false true is more h = cc
       cases false false is more h = more h
 
   -- T finds nothing
@@ -218,10 +212,7 @@ module _ (property : Property) (e : Election) (committee : List ℕ) (level : �
     where
       both : (a b : Option Violation) → None ≡ option_or a b → (None ≡ a) × (None ≡ b)
       both None b h = (refl, h)
-      both (Some v) b h = absurd (never h)
-        where
-          never : None ≡ Some v → ⊥
-          never k = cc
+      both (Some v) b h = cc
 
   -- lists that find nothing may be left out
   left_out : (front : List ℕ) (p : List ℕ → Bool) (lists : List (List ℕ)) → AllByRecursion (λ rest. p rest ≡ false → Misses (front ++ rest)) lists

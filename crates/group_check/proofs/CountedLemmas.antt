@@ -50,19 +50,13 @@ first_of-append property e committee level pairs more =
 
 -- what was found comes first
 pub found_first : {X : Type 0} (found first : Option X) (rest : Option X) → found ≡ first → is_some found ≡ true → found ≡ option_or first rest
-found_first None first rest e some = absurd (never some)
-  where
-    never : false ≡ true → ⊥
-    never h = cc
+found_first None first rest e some = cc
 found_first (Some x) first rest e some = ap (λ o. option_or o rest) e
 
 -- where nothing was found, there is nothing
 pub none_found-is : {X : Type 0} (found first : Option X) → found ≡ first → is_some found ≡ false → None ≡ first
 none_found-is None first e none = e
-none_found-is (Some x) first e none = absurd (never none)
-  where
-    never : true ≡ false → ⊥
-    never h = cc
+none_found-is (Some x) first e none = cc
 
 -- a nonempty committee has room for the greatest level
 pub greatest_level-le : (property : Property) (committee : List ℕ) → (committee ≡ [] → ⊥) → greatest_level property committee ≤ length committee

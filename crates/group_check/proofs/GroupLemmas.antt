@@ -57,10 +57,7 @@ has_member-range first (suc count) n low high =
     ]
 
 range_bounds : (first count n : ℕ) → has_member (range_with_len first count) n ≡ true → (first ≤ n) × (n < first + count)
-range_bounds first zero n h = absurd (never h)
-  where
-    never : false ≡ true → ⊥
-    never e = cc
+range_bounds first zero n h = cc
 range_bounds first (suc count) n h = cases (first == n) refl (λ later. range_bounds (first + 1) count n later) h
   where
     cases : (b : Bool) → (first == n) ≡ b → (has_member (range_with_len (first + 1) count) n ≡ true → (first + 1 ≤ n) × (n < first + 1 + count))
@@ -90,10 +87,7 @@ all_agree m level ballots shared choice all =
 -- ---- a candidate in common that passes a test
 
 pub any_at : (q : ℕ → Bool) (set : List ℕ) (n : ℕ) → has_member set n ≡ true → q n ≡ true → list_any q set ≡ true
-any_at q [] n h k = absurd (never h)
-  where
-    never : false ≡ true → ⊥
-    never e = cc
+any_at q [] n h k = cc
 any_at q (x ∷ xs) n h k = cases (x == n) refl (λ later. any_at q xs n later k) h
   where
     cases : (b : Bool) → (x == n) ≡ b → (has_member xs n ≡ true → list_any q xs ≡ true) → (b || has_member xs n) ≡ true → (q x || list_any q xs) ≡ true
@@ -101,10 +95,7 @@ any_at q (x ∷ xs) n h k = cases (x == n) refl (λ later. any_at q xs n later k
     cases false e later h = or_second (q x) (list_any q xs) (later h)
 
 member_at : (q : ℕ → Bool) (set : List ℕ) → list_any q set ≡ true → (n : ℕ) × (has_member set n ≡ true) × (q n ≡ true)
-member_at q [] h = absurd (never h)
-  where
-    never : false ≡ true → ⊥
-    never e = cc
+member_at q [] h = cc
 member_at q (x ∷ xs) h = cases (q x) refl (λ later. member_at q xs later) h
   where
     cases : (b : Bool) → q x ≡ b → (list_any q xs ≡ true → (n : ℕ) × (has_member xs n ≡ true) × (q n ≡ true)) → (b || list_any q xs) ≡ true

@@ -65,10 +65,7 @@ as_number b = cond b 1 0
 
 -- where no ballot approves a member of the committee, none is represented
 none_counted : (p : ℕ → Bool) (xs : List ℕ) (n : ℕ) → count_by p xs < 1 → has_member xs n ≡ true → p n ≡ true → ⊥
-none_counted p [] n few h k = absurd (never h)
-  where
-    never : false ≡ true → ⊥
-    never e = cc
+none_counted p [] n few h k = cc
 none_counted p (x ∷ xs) n few h k =
     let counted = sum_by-cons (λ (y : ℕ). cond (p y) 1 0) x xs in
     cases (x == n) refl (omega (arith, counted, few)) (none_counted p xs n (omega (arith, counted, few))) h
@@ -108,17 +105,11 @@ no_voters [] [] g h = refl
 no_voters [] (n ∷ group) g h = absurd g
 no_voters (row ∷ rows) [] g h = absurd g
 no_voters (row ∷ rows) (zero ∷ group) g h = omega (arith, sum_by-cons (λ (x : ℕ). x) 0 group, no_voters rows group g.1 h)
-no_voters (row ∷ rows) (suc n ∷ group) g h = absurd (never h)
-  where
-    never : row.0 ∷ member_ballots rows group ≡ [] → ⊥
-    never e = cc
+no_voters (row ∷ rows) (suc n ∷ group) g h = cc
 
 inside_unless : (a b : Bool) → (not a ≡ true → b ≡ true) → b ≡ false → a ≡ true
 inside_unless true b h k = refl
-inside_unless false b h k = absurd (never (sym (h refl) ∙ k))
-  where
-    never : true ≡ false → ⊥
-    never e = cc
+inside_unless false b h k = let clash : true ≡ false = sym (h refl) ∙ k in cc
 
 -- where all common candidates are members, whoever approves them approves as many members
 no_ballots : (m level : ℕ) (ballots : List (List ℕ)) (committee : List ℕ) → IsIncreasing 1 m committee → AllByRecursion (λ ballot. IsIncreasing 1 m ballot) ballots

@@ -55,10 +55,7 @@ module _ (property : Property) (e : Election) (committee : List ℕ) where
   -- where a violation was found, the committee lacks the property
   pub lacks_property : (level : ℕ) (found : Option Violation) → 1 ≤ level → level ≤ length committee
       → found ≡ first_violation property e committee level → is_some found ≡ true → (found ≡ None) ↔ HasProperty property e committee
-  lacks_property level None least most is some = absurd (never some)
-    where
-      never : false ≡ true → ⊥
-      never h = cc
+  lacks_property level None least most is some = cc
   lacks_property level (Some report) least most is some = (
     (λ none. absurd (never none)),
     (λ has. absurd (has level least most (some_group property e committee level report (sym is)))),
