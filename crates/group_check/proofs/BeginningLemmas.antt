@@ -1,5 +1,5 @@
 -- Beginnings of T and of U with too few voters: no list below them has enough of them.
-use Rattle.std.proofs.Common.{◌≡◌, ℕ, ◌+◌, ◌-◌, ◌<◌, ◌≤◌, ◌==◌, ◌&&◌, ◌||◌, ◌⊎◌, ◌++◌, Bool, true, false, cond, List, [], ◌∷◌, Option, Some, None, refl, sym, ap, subst, ◌∙◌, arith, inl, inr, length, map, filter, sum, not}
+use Rattle.std.proofs.Common.{◌≡◌, ℕ, ◌+◌, ◌-◌, ◌<◌, ◌≤◌, ◌==◌, ◌&&◌, ◌||◌, ◌⊎◌, ◌++◌, Bool, true, false, cond, List, [], ◌∷◌, Option, Some, None, refl, sym, ap, subst, ◌∙◌, arith, inl, inr, length, map, filter, sum, not, rules}
 use Rattle.std.specs.Prelude.{IsTrue, find, flat_map, is_some, min, nat_le, nat_lt, option_map}
 use Rattle.std.specs.List.{AllByRecursion, list_all, range_with_len}
 use Rattle.std.specs.Option.{option_or}
@@ -20,7 +20,7 @@ use Rattle.group_check.specs.declared.property.Property.{Property}
 use Rattle.group_check.specs.declared.property.Property.TheVariants.{Jr, Pjr, Ejr, EjrPlus}
 use Rattle.group_check.specs.declared.property.Violation.{Violation}
 use Rattle.group_check.specs.contracts.property.Property.{the_type}
-use denote.Enum.Bare.{sameb}
+use denote.Enum.Bare.{sameb, differs_false}
 use Rattle.group_check.specs.Groups.{member_ballots}
 use Rattle.group_check.specs.Report.{includes, violation_of, fits_pair, group_of, pair_group, lists_within, lists_shared, pair_breaks, first_violation}
 use Rattle.group_check.specs.Steps.Checking.{IsChoice, IsFirst, IsSecond, greatest_level, shared_size, may_share, is_possible, first_of, first_of_lists, pairs_of, sublists, completions, is_large, is_below, is_around, is_enough_within, voters_below, voters_around, possible_candidates}
@@ -513,28 +513,23 @@ share_front p front rest h = (and_parts (list_all p front) (list_all p rest) (sy
 -- ---- whether the property is that with a list U
 
 pub is_pjr : (property : Property) (other : Bool) → other ≡ not (sameb the_type property Pjr) → other ≡ false → property ≡ Pjr
-is_pjr Jr other e h = let clash : false ≡ not (sameb the_type Jr Pjr) = sym h ∙ e in cc
-is_pjr Pjr other e h = refl
-is_pjr Ejr other e h = let clash : false ≡ not (sameb the_type Ejr Pjr) = sym h ∙ e in cc
-is_pjr EjrPlus other e h = let clash : false ≡ not (sameb the_type EjrPlus Pjr) = sym h ∙ e in cc
+is_pjr property other e h = differs_false the_type (search rules) property Pjr (sym e ∙ h)
 
 -- the first pair with a T, of PJR
-pub first_pair : (property : Property) (e : Election) (committee : List ℕ) (level : ℕ) (shared within : List ℕ) → property ≡ Pjr
+pub first_pair : (property : Property) (e : Election) (committee : List ℕ) (level : ℕ) (shared within : List ℕ)
     → IsIncreasing 1 e.m committee → 1 ≤ level → level ≤ greatest_level property committee → IsFirst property e.m committee level shared
-    → find (is_enough_within e committee level shared) (completions [] committee (level - 1)) ≡ Some within
+    → find (is_enough_within e committee level shared) (completions [] committee (level - 1)) ≡ Some within → property ≡ Pjr
     → first_of property e committee level ((shared, within) ∷ []) ≡ first_of property e committee level (pairs_of shared (lists_within property e.m committee level))
-first_pair Jr e committee level shared within is = cc
-first_pair Pjr e committee level shared within is = first_beside e committee level shared within
-first_pair Ejr e committee level shared within is = cc
-first_pair EjrPlus e committee level shared within is = cc
+first_pair property e committee level shared within i least most first found is =
+    rw is (first_beside e committee level shared within i least (rw is at most) (rw is at first) found)
 
 pub first_second : (property : Property) (e : Election) (committee : List ℕ) (level : ℕ) (shared within : List ℕ) → IsIncreasing 1 e.m committee
     → find (is_enough_within e committee level shared) (completions [] committee (level - 1)) ≡ Some within → property ≡ Pjr → IsSecond property e.m level within
 first_second property e committee level shared within i found is =
-    subst (λ p. IsSecond p e.m level within) (sym is) (second_beside e committee level shared within i found)
+    rw is (second_beside e committee level shared within i found)
 
 pub no_pair_with : (property : Property) (e : Election) (committee : List ℕ) (level : ℕ) (shared : List ℕ) → IsIncreasing 1 e.m committee
     → find (is_enough_within e committee level shared) (completions [] committee (level - 1)) ≡ None → property ≡ Pjr
     → None ≡ first_of property e committee level (pairs_of shared (lists_within property e.m committee level))
 no_pair_with property e committee level shared i none is =
-    subst (λ p. None ≡ first_of p e committee level (pairs_of shared (lists_within p e.m committee level))) (sym is) (none_beside e committee level shared i none)
+    rw is (none_beside e committee level shared i none)

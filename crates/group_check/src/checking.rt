@@ -78,7 +78,7 @@ impl<A: Allocator + Copy> Search<'_, A> {
     {
         let pool = self.possible_candidates();
         let size = self.shared_size();
-        if pool.len() < size || self.property == Property::Pjr && self.is_refuted() {
+        if pool.len() < size || self.is_refuted() {
             return None;
         }
         self.first_beyond(CandSet::empty(), pool, size)
@@ -131,16 +131,16 @@ impl<A: Allocator + Copy> Search<'_, A> {
         self.is_enough(self.voters_below(alone))
     }
 
-    /// Whether no list U has enough voters for PJR, whichever candidates they share. If there are many lists U, none is
-    /// tried and the answer is `false`.
+    /// Whether the property is PJR and no list U has enough voters, whichever candidates they share. If there are many
+    /// lists U, none is tried and the answer is `false`.
     fn is_refuted(&self) -> bool
-        requires { self.now.level ≤ length self.now.committee }
         ensures { IsTrue result
-            → first_violation Property.Pjr self.now.profile.now self.now.committee self.now.level ≡ None }
+            → first_violation self.now.property self.now.profile.now self.now.committee self.now.level ≡ None }
     {
         let nobody = CandSet::empty();
         let size = self.level - 1;
-        has_few_lists(self.committee.len(), size)
+        self.property == Property::Pjr
+            && has_few_lists(self.committee.len(), size)
             && self.first_within(nobody, nobody, self.committee, size).is_none()
     }
 
@@ -254,9 +254,8 @@ impl<A: Allocator + Copy> Search<'_, A> {
         ensures most { result ≤ most_voters }
         ensures valid { IsElection self.now.profile.now }
     {
-        let (committee, level) = (self.committee, self.level);
         voters_with(self.profile, |ballot| {
-            includes(ballot, shared) && ballot.common(committee).len() < level
+            includes(ballot, shared) && ballot.common(self.committee).len() < self.level
         })
     }
 

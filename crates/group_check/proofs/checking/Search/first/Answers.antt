@@ -6,7 +6,7 @@ use Rattle.group_check.specs.Report.{first_violation}
 use Rattle.group_check.specs.Steps.Checking.{possible_candidates, shared_size, may_share, first_of_lists, completions}
 use Rattle.group_check.proofs.BeginningLemmas.{none_from_few, from_possible, is_pjr, possible_order, possible_share}
 use Rattle.group_check.proofs.checking.Search.first.Goals as goal
-use Rattle.group_check.proofs.checking.Search.first.Goals.{then-len-size-via-then-len-size, then-len-size-via-else-len-size+then-is_refuted, then-eq, else-eq}
+use Rattle.group_check.proofs.checking.Search.first.Goals.{then-len-size-via-then-len-size, then-len-size-via-else-len-size+then-is_refuted}
 
 pub returns-then-len-size : goal.returns-then-len-size
 returns-then-len-size g c =
@@ -16,16 +16,8 @@ returns-then-len-size g c =
           none_from_few c.args.self.now.property e c.args.self.now.committee c.args.self.now.level [] (possible_candidates c.args.self.now.property e c.args.self.now.committee c.args.self.now.level) (shared_size c.args.self.now.property c.args.self.now.level)
           (omega (arith, w.if-len-size.true, c.shared_size-size.ensures, c.len.ensures.count, ap length c.possible_candidates-pool.ensures.candidates))
           ∙ from_possible c.args.self.now.property e c.args.self.now.committee c.args.self.now.level c.possible_candidates-pool.ensures.valid c.args.self.now.least
-      | then-len-size-via-else-len-size+then-is_refuted w ↦ elim w.if-eq.branch [
-        | then-eq w' ↦
-            let is : c.args.self.now.property ≡ Pjr = is_pjr c.args.self.now.property false (sym (ap not (sym w.eq.ensures ∙ w'.if-eq.true))) refl in
-            sym (w'.is_refuted.ensures (sym w'.value-is ∙ w.if-is_refuted.true)) ∙ ap (λ p. first_violation p e c.args.self.now.committee c.args.self.now.level) (sym is)
-        | else-eq w' ↦ let clash : true ≡ false = sym w.if-is_refuted.true ∙ w'.value-is ∙ w'.if-eq.false in absurd (never clash)
-      ]
+      | then-len-size-via-else-len-size+then-is_refuted w ↦ sym (w.is_refuted.ensures w.if-is_refuted.true)
     ]
-  where
-    never : true ≡ false → ⊥
-    never k = cc
 
 pub first_beyond-requires-clause-order : goal.first_beyond-requires-clause-order
 first_beyond-requires-clause-order g c =

@@ -31,6 +31,7 @@ returns g c =
     let e = c.args.self.now.profile.now in
     let suits = is_enough_within e c.args.self.now.committee c.args.self.now.level c.args.shared in
     c.counted-2.ensures
-    ∙ first_pair c.args.self.now.property e c.args.self.now.committee c.args.self.now.level c.args.shared c.in_ok-within.within (is_pjr c.args.self.now.property c.ne.result c.ne.ensures c.if-ne.false)
+    ∙ first_pair c.args.self.now.property e c.args.self.now.committee c.args.self.now.level c.args.shared c.in_ok-within.within
     c.args.self.now.candidates c.args.self.now.least c.args.self.now.most c.requires
     (ap (λ set. find suits (completions set c.args.self.now.committee (c.args.self.now.level - 1))) (sym c.empty-nobody.ensures) ∙ sym c.first_within.ensures ∙ c.in_ok-within.was)
+    (is_pjr c.args.self.now.property c.ne.result c.ne.ensures c.if-ne.false)
