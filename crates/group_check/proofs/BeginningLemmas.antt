@@ -509,27 +509,3 @@ share_without p (y ∷ ys) x rest h =
 
 pub share_front : (p : ℕ → Bool) (front rest : List ℕ) → list_all p (front ++ rest) ≡ true → list_all p front ≡ true
 share_front p front rest h = (and_parts (list_all p front) (list_all p rest) (sym (list_all-append p front rest) ∙ h)).0
-
--- ---- whether the property is that with a list U
-
-pub is_pjr : (property : Property) (other : Bool) → other ≡ not (sameb the_type property Pjr) → other ≡ false → property ≡ Pjr
-is_pjr property other e h = differs_false the_type (search rules) property Pjr (sym e ∙ h)
-
--- the first pair with a T, of PJR
-pub first_pair : (property : Property) (e : Election) (committee : List ℕ) (level : ℕ) (shared within : List ℕ)
-    → IsIncreasing 1 e.m committee → 1 ≤ level → level ≤ greatest_level property committee → IsFirst property e.m committee level shared
-    → find (is_enough_within e committee level shared) (completions [] committee (level - 1)) ≡ Some within → property ≡ Pjr
-    → first_of property e committee level ((shared, within) ∷ []) ≡ first_of property e committee level (pairs_of shared (lists_within property e.m committee level))
-first_pair property e committee level shared within i least most first found is =
-    rw is (first_beside e committee level shared within i least (rw is at most) (rw is at first) found)
-
-pub first_second : (property : Property) (e : Election) (committee : List ℕ) (level : ℕ) (shared within : List ℕ) → IsIncreasing 1 e.m committee
-    → find (is_enough_within e committee level shared) (completions [] committee (level - 1)) ≡ Some within → property ≡ Pjr → IsSecond property e.m level within
-first_second property e committee level shared within i found is =
-    rw is (second_beside e committee level shared within i found)
-
-pub no_pair_with : (property : Property) (e : Election) (committee : List ℕ) (level : ℕ) (shared : List ℕ) → IsIncreasing 1 e.m committee
-    → find (is_enough_within e committee level shared) (completions [] committee (level - 1)) ≡ None → property ≡ Pjr
-    → None ≡ first_of property e committee level (pairs_of shared (lists_within property e.m committee level))
-no_pair_with property e committee level shared i none is =
-    rw is (none_beside e committee level shared i none)

@@ -16,11 +16,10 @@ first_within-requires-clause-members g c = all_pass (has_member c.args.self.now.
 pub returns-then-has_few_lists : goal.returns-then-has_few_lists
 returns-then-has_few_lists g c h =
     let e = c.args.self.now.profile.now in
-    let at = λ (set : List ℕ). find (is_enough_within e c.args.self.now.committee c.args.self.now.level set) (completions set c.args.self.now.committee (c.args.self.now.level - 1)) in
     let is : c.args.self.now.property ≡ Pjr = elim c.if-eq.branch [
       | then-eq w ↦ same_true the_type (search rules) c.args.self.now.property Pjr (sym c.eq.ensures ∙ w.if-eq.true)
       | else-eq w ↦ let clash : true ≡ false = sym c.if-has_few_lists.true ∙ w.value-is ∙ w.if-eq.false in cc
     ] in
     rw is
     (none_at_all e c.args.self.now.committee c.args.self.now.level c.args.self.now.candidates
-    (ap at (sym c.empty-nobody.ensures) ∙ sym c.first_within.ensures ∙ nothing_there c.first_within.result c.is_none.result c.is_none.ensures h))
+    (sym (rw c.empty-nobody.ensures at c.first_within.ensures) ∙ nothing_there c.first_within.result c.is_none.result c.is_none.ensures h))
