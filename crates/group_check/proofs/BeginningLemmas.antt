@@ -1,9 +1,9 @@
 -- Beginnings of T and of U with too few voters: no list below them has enough of them.
-use Rattle.std.proofs.Common.{◌≡◌, ℕ, ◌+◌, ◌-◌, ◌<◌, ◌≤◌, ◌==◌, ◌&&◌, ◌||◌, ◌⊎◌, ◌++◌, Bool, true, false, cond, List, [], ◌∷◌, Option, Some, None, refl, sym, ap, subst, ◌∙◌, arith, inl, inr, length, map, filter, sum, not, rules}
+use Rattle.std.proofs.Common.{◌≡◌, ℕ, ◌+◌, ◌-◌, ◌<◌, ◌≤◌, ◌==◌, ◌&&◌, ◌||◌, ◌⊎◌, ◌++◌, Bool, true, false, cond, List, [], ◌∷◌, Option, Some, None, refl, sym, ap, subst, ◌∙◌, arith, inl, inr, length, map, filter, sum, not}
 use Rattle.std.specs.Prelude.{IsTrue, find, flat_map, is_some, min, nat_le, nat_lt, option_map}
 use Rattle.std.specs.List.{AllByRecursion, list_all, range_with_len}
 use Rattle.std.specs.Option.{option_or}
-use Rattle.std.proofs.lemmas.Bool.{and_from, and_parts, le-leb, lt-leb, lt-ltb, eq-eqb, ne_eqb, cases_lt}
+use Rattle.std.proofs.lemmas.Bool.{and_from, and_parts, le-leb, lt-leb, lt-ltb, eq-eqb, ne_eqb, cases_lt, or_right}
 use Rattle.std.proofs.lemmas.Grind.{flat_map-append}
 use Rattle.std.proofs.lemmas.List.{append-nil, map-id}
 use Rattle.std.proofs.lemmas.List.Elements.{filter-append}
@@ -19,12 +19,10 @@ use Rattle.ballot_base.proofs.Increasing.{IsIncreasing-filter, has_member-filter
 use Rattle.group_check.specs.declared.property.Property.{Property}
 use Rattle.group_check.specs.declared.property.Property.TheVariants.{Jr, Pjr, Ejr, EjrPlus}
 use Rattle.group_check.specs.declared.property.Violation.{Violation}
-use Rattle.group_check.specs.contracts.property.Property.{the_type}
-use denote.Enum.Bare.{sameb, differs_false}
 use Rattle.group_check.specs.Groups.{member_ballots}
 use Rattle.group_check.specs.Report.{includes, violation_of, fits_pair, group_of, pair_group, lists_within, lists_shared, pair_breaks, first_violation}
-use Rattle.group_check.specs.Steps.Checking.{IsChoice, IsFirst, IsSecond, greatest_level, shared_size, may_share, is_possible, first_of, first_of_lists, pairs_of, sublists, completions, is_large, is_below, is_around, is_enough_within, voters_below, voters_around, possible_candidates}
-use Rattle.group_check.proofs.SetLemmas.{passes_at, kept_all, or_second, length-within, length-common_members, IsIncreasing-range}
+use Rattle.group_check.specs.Steps.Checking.{IsChoice, IsFirst, IsSecond, shared_size, may_share, is_possible, first_of, first_of_lists, pairs_of, sublists, completions, is_large, is_below, is_around, is_enough_within, voters_below, voters_around, possible_candidates}
+use Rattle.group_check.proofs.SetLemmas.{passes_at, kept_all, length-within, length-common_members, IsIncreasing-range}
 use Rattle.group_check.proofs.TestLemmas.{list_all-weaker, list_all-filter, found_passes}
 use Rattle.group_check.proofs.GroupLemmas.{group_of-group, group_of-pass, group-le}
 use Rattle.group_check.proofs.BreakLemmas.{any_may, large_more, pair_breaks-is}
@@ -248,7 +246,7 @@ fails_at p (x ∷ xs) h = cases (p x) refl (λ k. fails_at p xs k) h
   where
     cases : (b : Bool) → p x ≡ b → (list_all p xs ≡ false → (n : ℕ) × (has_member xs n ≡ true) × (p n ≡ false)) → (b && list_all p xs) ≡ false
         → (n : ℕ) × (has_member (x ∷ xs) n ≡ true) × (p n ≡ false)
-    cases true e more h = let later = more h in (later.0, or_second (x == later.0) (has_member xs later.0) later.1, later.2)
+    cases true e more h = let later = more h in (later.0, or_right (x == later.0) (has_member xs later.0) later.1, later.2)
     cases false e more h = (x, has_member_head x xs, e)
 
 seconds_fit : (property : Property) (m : ℕ) (committee : List ℕ) (level : ℕ) → AllByRecursion (IsSecond property m level) (lists_within property m committee level)

@@ -189,7 +189,7 @@ no_group property e committee level i least most none some =
     let test = pair_breaks property e committee level in
     let pairs = pairs_at property e.m committee level in
     let clash : true ≡ false = sym (some_pair property e committee level i least most some) ∙ sym (is_some-find test pairs) ∙ find-none (violation_of property e committee level) (find test pairs) none in
-    let clash : true ≡ false = clash in cc
+    cc
 
 -- with one, some group does
 pub some_group : (property : Property) (e : Election) (committee : List ℕ) (level : ℕ) (report : Violation) → first_violation property e committee level ≡ Some report

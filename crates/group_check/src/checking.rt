@@ -13,7 +13,7 @@ use crate::property::{Property, Violation, includes};
 use ballot_base::{CandSet, Clones, Profile};
 use std::alloc::Allocator;
 
-/// Lists U are tried on their own, before any candidates, only if there are at most this many of them.
+/// Lists U are tried on their own, before any candidates, only if there are at most this many.
 const FEW_LISTS: u64 = 1 << 20;
 
 /// Returns a group that shows that the committee lacks the property, or `None` if the committee has it. The group
@@ -94,14 +94,14 @@ impl<A: Allocator + Copy> Search<'_, A> {
         }
     }
 
-    /// Whether a candidate is one of those that a group may share. EJR+ excludes members of the committee.
+    /// Whether a group may share this candidate. EJR+ excludes members of the committee.
     fn may_share(&self, candidate: u8) -> bool
         ensures { result ≡ may_share self.now.property self.now.committee candidate }
     {
         self.property != Property::EjrPlus || !self.committee.has(candidate)
     }
 
-    /// The candidates that a group that breaks the property can share.
+    /// Which candidates a group can share if it breaks the property.
     fn possible_candidates(&self) -> CandSet
         ensures candidates { result
             ≡ possible_candidates self.now.property self.now.profile.now self.now.committee self.now.level }
@@ -116,8 +116,8 @@ impl<A: Allocator + Copy> Search<'_, A> {
         pool
     }
 
-    /// Whether a group that breaks the property can share the candidate: the property allows it, and enough of the
-    /// voters who approve the candidate are below the level.
+    /// Whether a group can share this candidate if it breaks the property. The property has to allow it, and enough of
+    /// the candidate's voters have to approve fewer members than the level.
     fn is_possible(&self, candidate: u8) -> bool
         requires low { 1 ≤ candidate }
         requires high { candidate ≤ most_candidates }
@@ -141,7 +141,9 @@ impl<A: Allocator + Copy> Search<'_, A> {
         let size = self.level - 1;
         self.property == Property::Pjr
             && has_few_lists(self.committee.len(), size)
-            && self.first_within(nobody, nobody, self.committee, size).is_none()
+            && self
+                .first_within(nobody, nobody, self.committee, size)
+                .is_none()
     }
 
     /// The first violation that shares these candidates and `left` candidates of the pool, all of which come after
@@ -162,14 +164,14 @@ impl<A: Allocator + Copy> Search<'_, A> {
         pool.valid();
         let (candidate, rest) = pool.split_first()?;
         let more = shared.with(candidate);
-        // No list that begins with these candidates has more voters than they have.
+        // A list that begins with these candidates has at most this many voters.
         if self.is_enough(self.voters_below(more)) {
             let found = self.first_beyond(more, rest, left - 1);
             if found.is_some() {
                 return found;
             }
         }
-        // A list with a clone in the candidate's place has the same groups as the list with the candidate.
+        // A list with a clone in the candidate's place has the same group as the list with the candidate.
         let others = rest.minus(self.clones.class(candidate));
         self.first_beyond(shared, others, left)
     }
@@ -191,7 +193,13 @@ impl<A: Allocator + Copy> Search<'_, A> {
 
     /// The first list U that consists of these members and `left` members of the pool, all of which come after them,
     /// and that has enough voters who approve all of `shared`.
-    fn first_within(&self, shared: CandSet, within: CandSet, pool: CandSet, left: u8) -> Option<CandSet>
+    fn first_within(
+        &self,
+        shared: CandSet,
+        within: CandSet,
+        pool: CandSet,
+        left: u8,
+    ) -> Option<CandSet>
         requires members { IsTrue (includes self.now.committee pool) }
         requires order { IsIncreasing 1 self.now.profile.now.m (within ++ pool) }
         ensures { result ≡ find (is_enough_within self.now.profile.now self.now.committee self.now.level shared)
@@ -200,7 +208,7 @@ impl<A: Allocator + Copy> Search<'_, A> {
         if pool.len() < left {
             return None;
         }
-        // No list that begins with these members has more voters than the voters around them.
+        // A list that begins with these members has at most this many voters.
         if !self.is_enough(self.voters_around(shared, within, pool, left)) {
             return None;
         }

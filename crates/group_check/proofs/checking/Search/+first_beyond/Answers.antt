@@ -1,4 +1,4 @@
-use Rattle.std.proofs.Common.{◌≡◌, ℕ, ◌+◌, ◌-◌, ◌∷◌, [], List, None, ap, sym, ◌∙◌, arith, length, not}
+use Rattle.std.proofs.Common.{◌≡◌, ℕ, ◌-◌, ◌∷◌, [], List, None, ap, sym, ◌∙◌, arith, length, not}
 use Rattle.std.specs.Option.{option_or}
 use Rattle.std.proofs.lemmas.List.{append_assoc, length-append}
 use Rattle.ballot_base.specs.CandSet.{has_member, with_member}

@@ -1,10 +1,8 @@
-use Rattle.std.proofs.Common.{◌≡◌, ℕ, ◌-◌, List, true, false, ap, sym, ◌∙◌, rules}
-use Rattle.std.specs.Prelude.{find}
+use Rattle.std.proofs.Common.{◌≡◌, true, false, sym, ◌∙◌, rules}
 use Rattle.ballot_base.specs.CandSet.{has_member}
 use denote.Enum.Bare.{same_true}
 use Rattle.group_check.specs.contracts.property.Property.{the_type}
 use Rattle.group_check.specs.declared.property.Property.TheVariants.{Pjr}
-use Rattle.group_check.specs.Steps.Checking.{is_enough_within, completions}
 use Rattle.group_check.proofs.BeginningLemmas.{none_at_all, nothing_there}
 use Rattle.group_check.proofs.SetLemmas.{all_pass}
 use Rattle.group_check.proofs.checking.Search.is_refuted.Goals as goal
