@@ -68,11 +68,15 @@ small_ballots e committee level test other valid more =
     too_small e committee level test other
     (AllByRecursion-weaker (λ (row : Row). IsIncreasing 1 e.m row.0) (λ (row : Row). test row.0 ≡ true → other row.0 ≡ true) (λ row i. more row.0 i) e.rows valid.ballots)
 
-group_of-same : (test other : List ℕ → Bool) (rows : List Row) → ((ballot : List ℕ) → test ballot ≡ other ballot) → group_of test rows ≡ group_of other rows
-group_of-same test other [] same = refl
-group_of-same test other (row ∷ rows) same =
-    let more = group_of-same test other rows same in
-    let here : cond (test row.0) row.1 0 ≡ cond (other row.0) row.1 0 = ap (λ b. cond b row.1 0) (same row.0) in
+pub all_of : {X : Type 0} (P : X → Type 0) → ((x : X) → P x) → (xs : List X) → AllByRecursion P xs
+all_of P each [] = tt
+all_of P each (x ∷ xs) = (each x, all_of P each xs)
+
+pub group_of-rows : (test other : List ℕ → Bool) (rows : List Row) → AllByRecursion (λ (row : Row). test row.0 ≡ other row.0) rows → group_of test rows ≡ group_of other rows
+group_of-rows test other [] same = refl
+group_of-rows test other (row ∷ rows) same =
+    let more = group_of-rows test other rows same.1 in
+    let here : cond (test row.0) row.1 0 ≡ cond (other row.0) row.1 0 = ap (λ b. cond b row.1 0) same.0 in
     cc
 
 -- a pair breaks a property only where its group is large enough
@@ -161,8 +165,10 @@ module _ (e : Election) (committee : List ℕ) (level : ℕ) (shared : List ℕ)
       → is_large e committee level (sum (voters_around e committee shared within pool left)) ≡ true
       → Some within ≡ find (is_enough_within e committee level shared) (completions within pool left)
   found_whole within pool left none large =
-      let same = group_of-same (is_around committee shared within pool left) (fits_pair Pjr committee level (shared, within)) e.rows
-      (λ ballot. around_whole committee shared within pool level left ballot none) in
+      let around = is_around committee shared within pool left in
+      let fits = fits_pair Pjr committee level (shared, within) in
+      let same = group_of-rows around fits e.rows
+      (all_of (λ (row : Row). around row.0 ≡ fits row.0) (λ row. around_whole committee shared within pool level left row.0 none) e.rows) in
       let enough : is_enough_within e committee level shared within ≡ true = ap (λ group. is_large e committee level (sum group)) (sym same) ∙ large in
       ap (λ b. cond b (Some within) None) (sym enough) ∙ ap (find (is_enough_within e committee level shared)) (sym (whole within pool left none))
 
@@ -218,10 +224,6 @@ module _ (property : Property) (e : Election) (committee : List ℕ) (level : �
       rw all.0 (no_pair shared lists all.1)
 
 module _ {X : Type 0} where
-  pub all_of : (P : X → Type 0) → ((x : X) → P x) → (xs : List X) → AllByRecursion P xs
-  all_of P each [] = tt
-  all_of P each (x ∷ xs) = (each x, all_of P each xs)
-
   -- where no item is found, none passes
   pub none_found : (p : X → Bool) (xs : List X) → find p xs ≡ None → AllByRecursion (λ x. p x ≡ false) xs
   none_found p [] h = tt

@@ -24,7 +24,7 @@ use Rattle.group_check.proofs.SetLemmas.{all_pass, or_mono, passes_at}
 use Rattle.group_check.proofs.TestLemmas.{list_all-weaker}
 use Rattle.group_check.proofs.PlaceLemmas.{sublists-empty, front_kept, front_dropped}
 use Rattle.group_check.proofs.WalkLemmas.{AllByRecursion-append, AllByRecursion-map, AllByRecursion-weaker, at_least, with_member-end}
-use Rattle.group_check.proofs.BeginningLemmas.{all_of, lists_step, none_found, too_small}
+use Rattle.group_check.proofs.BeginningLemmas.{all_of, group_of-rows, lists_step, none_found, too_small}
 
 module _ {X : Type 0} where
   all_parts : (P : X → Type 0) (xs ys : List X) → AllByRecursion P (xs ++ ys) → AllByRecursion P xs × AllByRecursion P ys
@@ -156,13 +156,6 @@ fits-same Jr committee level shared other within ballot h = ap (λ b. b && fits_
 fits-same Pjr committee level shared other within ballot h = ap (λ b. b && fits_pair Pjr committee level ([], within) ballot) h
 fits-same Ejr committee level shared other within ballot h = ap (λ b. b && fits_pair Ejr committee level ([], within) ballot) h
 fits-same EjrPlus committee level shared other within ballot h = ap (λ b. b && fits_pair EjrPlus committee level ([], within) ballot) h
-
-group_of-rows : (test other : List ℕ → Bool) (rows : List Row) → AllByRecursion (λ (row : Row). test row.0 ≡ other row.0) rows → group_of test rows ≡ group_of other rows
-group_of-rows test other [] same = refl
-group_of-rows test other (row ∷ rows) same =
-    let more = group_of-rows test other rows same.1 in
-    let here : cond (test row.0) row.1 0 ≡ cond (other row.0) row.1 0 = ap (λ b. cond b row.1 0) same.0 in
-    cc
 
 module _ (property : Property) (e : Election) (committee : List ℕ) (level : ℕ) where
   breaks-same : (shared other within : List ℕ) → SameRows e.rows shared other

@@ -15,14 +15,8 @@ use Rattle.group_check.proofs.BreakLemmas.{pair_breaks-is}
 
 -- the violation of these voters
 abbrev pub violation_with : Property → List ℕ → ℕ → List ℕ → List ℕ → ℕ → Violation
-violation_with property committee level shared within voters = record {
-  property = property;
-  committee = committee;
-  level = level;
-  shared = shared;
-  within = within;
-  voters = voters;
-}
+violation_with property committee level shared within voters =
+    record { property = property; committee = committee; level = level; shared = shared; within = within; voters = voters }
 
 then_some-find : {X : Type 0} {Y : Type 0} (f : X → Y) (b : Bool) (x : X) → then_some b (f x) ≡ option_map f (cond b (Some x) None)
 then_some-find f true x = refl

@@ -16,7 +16,7 @@ use Rattle.group_check.proofs.SetLemmas.{passes_at, all_pass, length-within, len
 
 -- ---- the group of all voters whose ballots pass a test
 
-at_most : (b : Bool) (n : ℕ) → cond b n 0 ≤ n
+pub at_most : (b : Bool) (n : ℕ) → cond b n 0 ≤ n
 at_most true n = omega arith
 at_most false n = omega arith
 

@@ -119,12 +119,7 @@ widened_later first last size p x xs wide low fails w = record {
     second n false e pass h = h
 
 widened_whole : (first last size : ℕ) (p : ℕ → Bool) (set : List ℕ) → IsIncreasing first last set → length set ≡ size → IsWidened first last size p set set
-widened_whole first last size p set i e = record {
-  increasing = i;
-  count = e;
-  inside = λ n h. h;
-  holds = λ n pass h. h;
-}
+widened_whole first last size p set i e = record { increasing = i; count = e; inside = λ n h. h; holds = λ n pass h. h }
 
 pub widened : (first last size : ℕ) (p : ℕ → Bool) (set : List ℕ) → IsIncreasing first last set → length (filter p set) ≤ size → size ≤ length set → (wide : List ℕ) × IsWidened first last size p set wide
 widened first last size p [] i few many = ([], widened_whole first last size p [] i (omega (arith, many)))
