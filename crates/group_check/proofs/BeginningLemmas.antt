@@ -5,7 +5,7 @@ use Rattle.std.specs.List.{AllByRecursion, list_all, range_with_len}
 use Rattle.std.specs.Option.{option_or}
 use Rattle.std.proofs.lemmas.Bool.{and_from, and_parts, le-leb, lt-leb, lt-ltb, eq-eqb, ne_eqb, cases_lt, or_right}
 use Rattle.std.proofs.lemmas.Grind.{flat_map-append}
-use Rattle.std.proofs.lemmas.List.{append-nil, map-id}
+use Rattle.std.proofs.lemmas.List.{append_assoc, append-nil, map-id}
 use Rattle.std.proofs.lemmas.List.Elements.{filter-append}
 use Rattle.std.proofs.lemmas.List.FromFn.{map-range_with_len_more}
 use Rattle.std.proofs.lemmas.List.Filters.{length-filter_both}
@@ -28,7 +28,7 @@ use Rattle.group_check.proofs.GroupLemmas.{group_of-group, group_of-pass, group-
 use Rattle.group_check.proofs.BreakLemmas.{any_may, large_more, pair_breaks-is}
 use Rattle.group_check.proofs.CountedLemmas.{first_of-append}
 use Rattle.group_check.proofs.PlaceLemmas.{kept_lists, lists_of_members, AllByRecursion-filter}
-use Rattle.group_check.proofs.WalkLemmas.{IsIncreasing-rest, IsTail, AllByRecursion-weaker, AllByRecursion-map, none_passes, tails, whole, split_lists, too_few_below}
+use Rattle.group_check.proofs.WalkLemmas.{with_member-end, IsIncreasing-rest, IsTail, AllByRecursion-weaker, AllByRecursion-map, none_passes, tails, whole, split_lists, too_few_below}
 
 -- ---- groups of which each voter of one belongs to the other
 
@@ -181,9 +181,10 @@ module _ (e : Election) (committee : List ℕ) (level : ℕ) (shared : List ℕ)
 
 -- ---- beginnings of T
 
-includes-front : (ballot front rest : List ℕ) → includes ballot (front ++ rest) ≡ true → includes ballot front ≡ true
-includes-front ballot front rest h =
-    (and_parts (includes ballot front) (includes ballot rest) (sym (list_all-append (has_member ballot) front rest) ∙ h)).0
+includes-front : (ballot shared : List ℕ) (x : ℕ) (tail : List ℕ) → includes ballot (shared ++ x ∷ tail) ≡ true → includes ballot (x ∷ shared) ≡ true
+includes-front ballot shared x tail h =
+    let parts = and_parts (includes ballot shared) (includes ballot (x ∷ tail)) (sym (list_all-append (has_member ballot) shared (x ∷ tail)) ∙ h) in
+    and_from (has_member ballot x) (includes ballot shared) (and_parts (has_member ballot x) (includes ballot tail) parts.1).0 parts.0
 
 -- a ballot that supports T and U has fewer members than the level
 few_members : (property : Property) (m : ℕ) (committee : List ℕ) (level : ℕ) (pair : List ℕ × List ℕ) (ballot : List ℕ) → 1 ≤ level → IsSecond property m level pair.1 → IsIncreasing 1 m ballot
@@ -312,15 +313,17 @@ module _ (property : Property) (e : Election) (committee : List ℕ) (level : �
       (lists_within property e.m committee level) (seconds_fit property e.m committee level))
 
   -- no T is below a beginning with too few voters
-  pub none_below : (front pool : List ℕ) (left : ℕ) → IsElection e → 1 ≤ level
-      → is_large e committee level (sum (voters_below e committee level front)) ≡ false
-      → None ≡ first_of_lists property e committee level (completions front pool left)
-  none_below front pool left valid least few =
-      no_lists (completions front pool left)
-      (AllByRecursion-map (λ shared. None ≡ first_of property e committee level (pairs_of shared (lists_within property e.m committee level)))
-      (λ rest. front ++ rest) (sublists pool left)
-      (all_of (λ rest. None ≡ first_of property e committee level (pairs_of (front ++ rest) (lists_within property e.m committee level)))
-      (λ rest. none_with front (front ++ rest) valid least (λ ballot h. includes-front ballot front rest h) few) (sublists pool left)))
+  pub none_below : (shared : List ℕ) (x : ℕ) (rest : List ℕ) (left : ℕ) → IsElection e → 1 ≤ level → IsIncreasing 1 e.m (shared ++ x ∷ rest)
+      → is_large e committee level (sum (voters_below e committee level (x ∷ shared))) ≡ false
+      → None ≡ first_of_lists property e committee level (completions (with_member shared x) rest left)
+  none_below shared x rest left valid least order few =
+      let more = with_member shared x in
+      no_lists (completions more rest left)
+      (AllByRecursion-map (λ list. None ≡ first_of property e committee level (pairs_of list (lists_within property e.m committee level)))
+      (λ tail. more ++ tail) (sublists rest left)
+      (all_of (λ tail. None ≡ first_of property e committee level (pairs_of (more ++ tail) (lists_within property e.m committee level)))
+      (λ tail. none_with (x ∷ shared) (more ++ tail) valid least
+      (λ ballot h. includes-front ballot shared x tail (rw (with_member-end 1 e.m shared x rest order, append_assoc shared (x ∷ []) tail) at h)) few) (sublists rest left)))
 
   pub none_from_few : (front pool : List ℕ) (left : ℕ) → length pool < left → None ≡ first_of_lists property e committee level (completions front pool left)
   none_from_few front pool left h = ap (first_of_lists property e committee level) (sym (too_few_below front pool left h))

@@ -18,7 +18,7 @@ use Rattle.group_check.specs.declared.property.Property.{Property}
 use Rattle.group_check.specs.declared.property.Property.TheVariants.{Jr, Pjr, Ejr, EjrPlus}
 use Rattle.group_check.specs.declared.property.Violation.{Violation}
 use Rattle.group_check.specs.Groups.{breaks}
-use Rattle.group_check.specs.Report.{includes, violation_of, fits_pair, group_of, lists_within, pair_breaks}
+use Rattle.group_check.specs.Report.{includes, violation_of, fits_pair, lists_within, pair_breaks}
 use Rattle.group_check.specs.Steps.Checking.{first_of, first_of_lists, pairs_of, sublists, completions, is_enough_within}
 use Rattle.group_check.proofs.SetLemmas.{all_pass, or_mono, passes_at}
 use Rattle.group_check.proofs.TestLemmas.{list_all-weaker}

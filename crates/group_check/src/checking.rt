@@ -119,16 +119,10 @@ impl<A: Allocator + Copy> Search<'_, A> {
     /// Whether a group can share this candidate if it breaks the property. The property has to allow it, and enough of
     /// the candidate's voters have to approve fewer members than the level.
     fn is_possible(&self, candidate: u8) -> bool
-        requires low { 1 ≤ candidate }
-        requires high { candidate ≤ most_candidates }
         ensures { result
             ≡ is_possible self.now.property self.now.profile.now self.now.committee self.now.level candidate }
     {
-        if !self.may_share(candidate) {
-            return false;
-        }
-        let alone = CandSet::empty().with(candidate);
-        self.is_enough(self.voters_below(alone))
+        self.may_share(candidate) && self.is_enough(self.voters_below(CandSet::empty(), candidate))
     }
 
     /// Whether the property is PJR and no list U has enough voters, whichever candidates they share. If there are many
@@ -161,12 +155,10 @@ impl<A: Allocator + Copy> Search<'_, A> {
         if pool.len() < left {
             return None;
         }
-        pool.valid();
         let (candidate, rest) = pool.split_first()?;
-        let more = shared.with(candidate);
-        // A list that begins with these candidates has at most this many voters.
-        if self.is_enough(self.voters_below(more)) {
-            let found = self.first_beyond(more, rest, left - 1);
+        // A list that begins with `shared` and the candidate has at most this many voters.
+        if self.is_enough(self.voters_below(shared, candidate)) {
+            let found = self.first_beyond(shared.with(candidate), rest, left - 1);
             if found.is_some() {
                 return found;
             }
@@ -255,15 +247,17 @@ impl<A: Allocator + Copy> Search<'_, A> {
         voters * u64::from(self.committee.len()) >= due
     }
 
-    /// How many voters approve all of these candidates and fewer members than the level.
-    fn voters_below(&self, shared: CandSet) -> u64
+    /// How many voters approve this candidate, all of `shared`, and fewer members than the level.
+    fn voters_below(&self, shared: CandSet, candidate: u8) -> u64
         ensures group { result
-            ≡ sum (voters_below self.now.profile.now self.now.committee self.now.level shared) }
+            ≡ sum (voters_below self.now.profile.now self.now.committee self.now.level (candidate ∷ shared)) }
         ensures most { result ≤ most_voters }
         ensures valid { IsElection self.now.profile.now }
     {
         voters_with(self.profile, |ballot| {
-            includes(ballot, shared) && ballot.common(self.committee).len() < self.level
+            ballot.has(candidate)
+                && includes(ballot, shared)
+                && ballot.common(self.committee).len() < self.level
         })
     }
 

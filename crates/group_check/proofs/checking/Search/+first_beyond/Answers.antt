@@ -27,13 +27,14 @@ returns-then-len-left g t c =
     let s = c.args.self.now in
     none_from_few s.property s.profile.now s.committee s.level c.args.shared c.args.pool c.args.left (omega (arith, c.if-len-left.true, c.len.ensures.count))
 
-pub with-more-requires-clause-low : goal.with-more-requires-clause-low
-with-more-requires-clause-low g t c =
+pub with-requires-clause-low : goal.with-requires-clause-low
+with-requires-clause-low g t c =
     at_least_one c.args.self.now.profile.now.m c.args.shared c.in_ok-candidate.candidate c.in_ok-candidate.rest (rw c.in_ok-candidate.ensures at c.requires.order)
 
-pub with-more-requires-clause-high : goal.with-more-requires-clause-high
-with-more-requires-clause-high g t c =
-    (rw c.in_ok-candidate.ensures at c.valid.ensures).1
+pub with-requires-clause-high : goal.with-requires-clause-high
+with-requires-clause-high g t c =
+    let last = at_most_last 1 c.args.self.now.profile.now.m c.args.shared c.in_ok-candidate.candidate c.in_ok-candidate.rest (rw c.in_ok-candidate.ensures at c.requires.order) in
+    omega (arith, last, c.voters_below.ensures.valid.most)
 
 pub first_beyond-found-requires : goal.first_beyond-found-requires
 first_beyond-found-requires g t c κs within =
@@ -41,12 +42,12 @@ first_beyond-found-requires g t c κs within =
     let x = c.in_ok-candidate.candidate in
     let rest = c.in_ok-candidate.rest in
     let order = rw c.in_ok-candidate.ensures at c.requires.order in
-    let more = c.with-more.ensures ∙ with_member-end 1 m c.args.shared x rest order in (
+    let more = c.with.ensures ∙ with_member-end 1 m c.args.shared x rest order in (
       omega (arith, ap length c.in_ok-candidate.ensures, c.decreases),
       (
         within,
         (
-          rw c.with-more.ensures (IsIncreasing-with 1 m c.args.shared x rest order),
+          rw c.with.ensures (IsIncreasing-with 1 m c.args.shared x rest order),
           (
             omega (arith, ap length more, length-append c.args.shared (x ∷ []), c.requires.size, c.if-left-eq0.false),
             rw (more, append_assoc c.args.shared (x ∷ []) rest) (rw c.in_ok-candidate.ensures at c.requires.shared),
@@ -61,13 +62,14 @@ returns-then-is_some g t c =
     let rest = c.in_ok-candidate.rest in
     rw c.in_ok-candidate.ensures
     (found_first c.first_beyond-found.result _ (first_of_lists s.property s.profile.now s.committee s.level (completions c.args.shared rest c.args.left))
-    (rw c.with-more.ensures at c.first_beyond-found.ensures) (sym c.is_some.ensures ∙ c.if-is_some.true)
+    (rw c.with.ensures at c.first_beyond-found.ensures) (sym c.is_some.ensures ∙ c.if-is_some.true)
     ∙ first_split s.property s.profile.now s.committee s.level c.args.shared c.in_ok-candidate.candidate rest c.args.left
     (rw c.in_ok-candidate.ensures at c.requires.order) c.if-left-eq0.false)
 
 pub class-requires : goal.class-requires
 class-requires g t c =
-    (rw c.in_ok-candidate.ensures at c.valid.ensures).1
+    let last = at_most_last 1 c.args.self.now.profile.now.m c.args.shared c.in_ok-candidate.candidate c.in_ok-candidate.rest (rw c.in_ok-candidate.ensures at c.requires.order) in
+    omega (arith, last, c.voters_below.ensures.valid.most)
 
 pub first_beyond-requires : goal.first_beyond-requires
 first_beyond-requires g t c κs within =
@@ -101,10 +103,10 @@ returns g t c =
     let more = with_member c.args.shared x in
     let none : None ≡ first more pool (c.args.left - 1) = elim c.if-is_enough.branch [
       | then-is_enough+else-is_some w ↦
-          none_found-is w.first_beyond-found.result _ (rw c.with-more.ensures at w.first_beyond-found.ensures) (sym w.is_some.ensures ∙ w.if-is_some.false)
+          none_found-is w.first_beyond-found.result _ (rw w.with.ensures at w.first_beyond-found.ensures) (sym w.is_some.ensures ∙ w.if-is_some.false)
       | else-is_enough w ↦
-          none_below s.property e s.committee s.level more pool (c.args.left - 1) c.voters_below.ensures.valid s.least
-          (sym (rw (c.voters_below.ensures.group, c.with-more.ensures) at c.is_enough.ensures) ∙ w.if-is_enough.false)
+          none_below s.property e s.committee s.level c.args.shared x pool (c.args.left - 1) c.voters_below.ensures.valid s.least order
+          (sym (rw c.voters_below.ensures.group at c.is_enough.ensures) ∙ w.if-is_enough.false)
     ] in
     let class = c.class.ensures ∙ s.classes x (at_least_one e.m c.args.shared x pool order) (at_most_last 1 e.m c.args.shared x pool order) in
     rw c.in_ok-candidate.ensures
