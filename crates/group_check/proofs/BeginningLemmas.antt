@@ -3,9 +3,9 @@ use Rattle.std.proofs.Common.{◌≡◌, ℕ, ◌+◌, ◌-◌, ◌<◌, ◌≤�
 use Rattle.std.specs.Prelude.{IsTrue, find, flat_map, is_some, min, nat_le, nat_lt, option_map}
 use Rattle.std.specs.List.{AllByRecursion, list_all, range_with_len}
 use Rattle.std.specs.Option.{option_or}
-use Rattle.std.proofs.lemmas.Bool.{and_from, and_parts, le-leb, lt-leb, lt-ltb, eq-eqb, ne_eqb, cases_lt}
+use Rattle.std.proofs.lemmas.Bool.{and_from, and_parts, le-leb, lt-leb, lt-ltb, eq-eqb, ne_eqb, cases_lt, or_right}
 use Rattle.std.proofs.lemmas.Grind.{flat_map-append}
-use Rattle.std.proofs.lemmas.List.{append-nil, map-id}
+use Rattle.std.proofs.lemmas.List.{append_assoc, append-nil, map-id}
 use Rattle.std.proofs.lemmas.List.Elements.{filter-append}
 use Rattle.std.proofs.lemmas.List.FromFn.{map-range_with_len_more}
 use Rattle.std.proofs.lemmas.List.Filters.{length-filter_both}
@@ -19,18 +19,16 @@ use Rattle.ballot_base.proofs.Increasing.{IsIncreasing-filter, has_member-filter
 use Rattle.group_check.specs.declared.property.Property.{Property}
 use Rattle.group_check.specs.declared.property.Property.TheVariants.{Jr, Pjr, Ejr, EjrPlus}
 use Rattle.group_check.specs.declared.property.Violation.{Violation}
-use Rattle.group_check.specs.contracts.property.Property.{the_type}
-use denote.Enum.Bare.{sameb}
 use Rattle.group_check.specs.Groups.{member_ballots}
 use Rattle.group_check.specs.Report.{includes, violation_of, fits_pair, group_of, pair_group, lists_within, lists_shared, pair_breaks, first_violation}
-use Rattle.group_check.specs.Steps.Checking.{IsChoice, IsFirst, IsSecond, greatest_level, shared_size, may_share, is_possible, first_of, first_of_lists, pairs_of, sublists, completions, is_large, is_below, is_around, is_enough_within, voters_below, voters_around, possible_candidates}
-use Rattle.group_check.proofs.SetLemmas.{passes_at, kept_all, or_second, length-within, length-common_members, IsIncreasing-range}
+use Rattle.group_check.specs.Steps.Checking.{IsChoice, IsFirst, IsSecond, shared_size, may_share, is_possible, first_of, first_of_lists, pairs_of, sublists, completions, is_large, is_below, is_around, is_enough_within, voters_below, voters_around, possible_candidates}
+use Rattle.group_check.proofs.SetLemmas.{passes_at, kept_all, length-within, length-common_members, IsIncreasing-range}
 use Rattle.group_check.proofs.TestLemmas.{list_all-weaker, list_all-filter, found_passes}
 use Rattle.group_check.proofs.GroupLemmas.{group_of-group, group_of-pass, group-le}
 use Rattle.group_check.proofs.BreakLemmas.{any_may, large_more, pair_breaks-is}
 use Rattle.group_check.proofs.CountedLemmas.{first_of-append}
 use Rattle.group_check.proofs.PlaceLemmas.{kept_lists, lists_of_members, AllByRecursion-filter}
-use Rattle.group_check.proofs.WalkLemmas.{IsIncreasing-rest, IsTail, AllByRecursion-weaker, AllByRecursion-map, none_passes, tails, whole, split_lists, too_few_below}
+use Rattle.group_check.proofs.WalkLemmas.{with_member-end, IsIncreasing-rest, IsTail, AllByRecursion-weaker, AllByRecursion-map, none_passes, tails, whole, split_lists, too_few_below}
 
 -- ---- groups of which each voter of one belongs to the other
 
@@ -51,10 +49,7 @@ sum-weaker test other (row ∷ rows) all =
     )
 
 no_longer : (a b : Bool) → (a ≡ true → b ≡ true) → b ≡ false → a ≡ false
-no_longer true b more e = absurd (never (sym (more refl) ∙ e))
-  where
-    never : true ≡ false → ⊥
-    never h = cc
+no_longer true b more e = let clash : true ≡ false = sym (more refl) ∙ e in cc
 no_longer false b more e = refl
 
 -- where the other group is too small, so is the one
@@ -73,11 +68,15 @@ small_ballots e committee level test other valid more =
     too_small e committee level test other
     (AllByRecursion-weaker (λ (row : Row). IsIncreasing 1 e.m row.0) (λ (row : Row). test row.0 ≡ true → other row.0 ≡ true) (λ row i. more row.0 i) e.rows valid.ballots)
 
-group_of-same : (test other : List ℕ → Bool) (rows : List Row) → ((ballot : List ℕ) → test ballot ≡ other ballot) → group_of test rows ≡ group_of other rows
-group_of-same test other [] same = refl
-group_of-same test other (row ∷ rows) same =
-    let more = group_of-same test other rows same in
-    let here : cond (test row.0) row.1 0 ≡ cond (other row.0) row.1 0 = ap (λ b. cond b row.1 0) (same row.0) in
+pub all_of : {X : Type 0} (P : X → Type 0) → ((x : X) → P x) → (xs : List X) → AllByRecursion P xs
+all_of P each [] = tt
+all_of P each (x ∷ xs) = (each x, all_of P each xs)
+
+pub group_of-rows : (test other : List ℕ → Bool) (rows : List Row) → AllByRecursion (λ (row : Row). test row.0 ≡ other row.0) rows → group_of test rows ≡ group_of other rows
+group_of-rows test other [] same = refl
+group_of-rows test other (row ∷ rows) same =
+    let more = group_of-rows test other rows same.1 in
+    let here : cond (test row.0) row.1 0 ≡ cond (other row.0) row.1 0 = ap (λ b. cond b row.1 0) same.0 in
     cc
 
 -- a pair breaks a property only where its group is large enough
@@ -166,8 +165,10 @@ module _ (e : Election) (committee : List ℕ) (level : ℕ) (shared : List ℕ)
       → is_large e committee level (sum (voters_around e committee shared within pool left)) ≡ true
       → Some within ≡ find (is_enough_within e committee level shared) (completions within pool left)
   found_whole within pool left none large =
-      let same = group_of-same (is_around committee shared within pool left) (fits_pair Pjr committee level (shared, within)) e.rows
-      (λ ballot. around_whole committee shared within pool level left ballot none) in
+      let around = is_around committee shared within pool left in
+      let fits = fits_pair Pjr committee level (shared, within) in
+      let same = group_of-rows around fits e.rows
+      (all_of (λ (row : Row). around row.0 ≡ fits row.0) (λ row. around_whole committee shared within pool level left row.0 none) e.rows) in
       let enough : is_enough_within e committee level shared within ≡ true = ap (λ group. is_large e committee level (sum group)) (sym same) ∙ large in
       ap (λ b. cond b (Some within) None) (sym enough) ∙ ap (find (is_enough_within e committee level shared)) (sym (whole within pool left none))
 
@@ -180,9 +181,10 @@ module _ (e : Election) (committee : List ℕ) (level : ℕ) (shared : List ℕ)
 
 -- ---- beginnings of T
 
-includes-front : (ballot front rest : List ℕ) → includes ballot (front ++ rest) ≡ true → includes ballot front ≡ true
-includes-front ballot front rest h =
-    (and_parts (includes ballot front) (includes ballot rest) (sym (list_all-append (has_member ballot) front rest) ∙ h)).0
+includes-front : (ballot shared : List ℕ) (x : ℕ) (tail : List ℕ) → includes ballot (shared ++ x ∷ tail) ≡ true → includes ballot (x ∷ shared) ≡ true
+includes-front ballot shared x tail h =
+    let parts = and_parts (includes ballot shared) (includes ballot (x ∷ tail)) (sym (list_all-append (has_member ballot) shared (x ∷ tail)) ∙ h) in
+    and_from (has_member ballot x) (includes ballot shared) (and_parts (has_member ballot x) (includes ballot tail) parts.1).0 parts.0
 
 -- a ballot that supports T and U has fewer members than the level
 few_members : (property : Property) (m : ℕ) (committee : List ℕ) (level : ℕ) (pair : List ℕ × List ℕ) (ballot : List ℕ) → 1 ≤ level → IsSecond property m level pair.1 → IsIncreasing 1 m ballot
@@ -223,27 +225,17 @@ module _ (property : Property) (e : Election) (committee : List ℕ) (level : �
       rw all.0 (no_pair shared lists all.1)
 
 module _ {X : Type 0} where
-  pub all_of : (P : X → Type 0) → ((x : X) → P x) → (xs : List X) → AllByRecursion P xs
-  all_of P each [] = tt
-  all_of P each (x ∷ xs) = (each x, all_of P each xs)
-
   -- where no item is found, none passes
   pub none_found : (p : X → Bool) (xs : List X) → find p xs ≡ None → AllByRecursion (λ x. p x ≡ false) xs
   none_found p [] h = tt
   none_found p (x ∷ xs) h = cases (p x) refl (λ later. none_found p xs later) h
     where
       cases : (b : Bool) → p x ≡ b → (find p xs ≡ None → AllByRecursion (λ y. p y ≡ false) xs) → cond b (Some x) (find p xs) ≡ None → (p x ≡ false) × AllByRecursion (λ y. p y ≡ false) xs
-      cases true e more h = absurd (never h)
-        where
-          never : Some x ≡ None → ⊥
-          never k = cc
+      cases true e more h = cc
       cases false e more h = (e, more h)
 
   found_holds : (P : X → Type 0) (p : X → Bool) (xs : List X) (x : X) → AllByRecursion P xs → find p xs ≡ Some x → P x
-  found_holds P p [] x all h = absurd (never h)
-    where
-      never : None ≡ Some x → ⊥
-      never e = cc
+  found_holds P p [] x all h = cc
   found_holds P p (y ∷ ys) x all h = cases (p y) (λ later. found_holds P p ys x all.1 later) h
     where
       cases : (b : Bool) → (find p ys ≡ Some x → P x) → cond b (Some y) (find p ys) ≡ Some x → P x
@@ -252,15 +244,12 @@ module _ {X : Type 0} where
 
 -- a set that does not pass as a whole has a member that does not
 fails_at : (p : ℕ → Bool) (set : List ℕ) → list_all p set ≡ false → (n : ℕ) × (has_member set n ≡ true) × (p n ≡ false)
-fails_at p [] h = absurd (never h)
-  where
-    never : true ≡ false → ⊥
-    never e = cc
+fails_at p [] h = cc
 fails_at p (x ∷ xs) h = cases (p x) refl (λ k. fails_at p xs k) h
   where
     cases : (b : Bool) → p x ≡ b → (list_all p xs ≡ false → (n : ℕ) × (has_member xs n ≡ true) × (p n ≡ false)) → (b && list_all p xs) ≡ false
         → (n : ℕ) × (has_member (x ∷ xs) n ≡ true) × (p n ≡ false)
-    cases true e more h = let later = more h in (later.0, or_second (x == later.0) (has_member xs later.0) later.1, later.2)
+    cases true e more h = let later = more h in (later.0, or_right (x == later.0) (has_member xs later.0) later.1, later.2)
     cases false e more h = (x, has_member_head x xs, e)
 
 seconds_fit : (property : Property) (m : ℕ) (committee : List ℕ) (level : ℕ) → AllByRecursion (IsSecond property m level) (lists_within property m committee level)
@@ -276,10 +265,7 @@ same_lists_of (list ∷ lists) = ap (λ ls. list ∷ ls) (same_lists_of lists)
 
 second_fails : (a b : Bool) → (a && b) ≡ false → a ≡ true → b ≡ false
 second_fails true b h k = h
-second_fails false b h k = absurd (never k)
-  where
-    never : false ≡ true → ⊥
-    never n = cc
+second_fails false b h k = cc
 
 all_kept : (lists : List (List ℕ)) → lists ≡ filter (list_all (λ (c : ℕ). true)) lists
 all_kept [] = refl
@@ -327,15 +313,17 @@ module _ (property : Property) (e : Election) (committee : List ℕ) (level : �
       (lists_within property e.m committee level) (seconds_fit property e.m committee level))
 
   -- no T is below a beginning with too few voters
-  pub none_below : (front pool : List ℕ) (left : ℕ) → IsElection e → 1 ≤ level
-      → is_large e committee level (sum (voters_below e committee level front)) ≡ false
-      → None ≡ first_of_lists property e committee level (completions front pool left)
-  none_below front pool left valid least few =
-      no_lists (completions front pool left)
-      (AllByRecursion-map (λ shared. None ≡ first_of property e committee level (pairs_of shared (lists_within property e.m committee level)))
-      (λ rest. front ++ rest) (sublists pool left)
-      (all_of (λ rest. None ≡ first_of property e committee level (pairs_of (front ++ rest) (lists_within property e.m committee level)))
-      (λ rest. none_with front (front ++ rest) valid least (λ ballot h. includes-front ballot front rest h) few) (sublists pool left)))
+  pub none_below : (shared : List ℕ) (x : ℕ) (rest : List ℕ) (left : ℕ) → IsElection e → 1 ≤ level → IsIncreasing 1 e.m (shared ++ x ∷ rest)
+      → is_large e committee level (sum (voters_below e committee level (x ∷ shared))) ≡ false
+      → None ≡ first_of_lists property e committee level (completions (with_member shared x) rest left)
+  none_below shared x rest left valid least order few =
+      let more = with_member shared x in
+      no_lists (completions more rest left)
+      (AllByRecursion-map (λ list. None ≡ first_of property e committee level (pairs_of list (lists_within property e.m committee level)))
+      (λ tail. more ++ tail) (sublists rest left)
+      (all_of (λ tail. None ≡ first_of property e committee level (pairs_of (more ++ tail) (lists_within property e.m committee level)))
+      (λ tail. none_with (x ∷ shared) (more ++ tail) valid least
+      (λ ballot h. includes-front ballot shared x tail (rw (with_member-end 1 e.m shared x rest order, append_assoc shared (x ∷ []) tail) at h)) few) (sublists rest left)))
 
   pub none_from_few : (front pool : List ℕ) (left : ℕ) → length pool < left → None ≡ first_of_lists property e committee level (completions front pool left)
   none_from_few front pool left h = ap (first_of_lists property e committee level) (sym (too_few_below front pool left h))
@@ -377,10 +365,7 @@ module _ (property : Property) (e : Election) (committee : List ℕ) (level : �
           lists_step shared (filter p lists)
           ∙ ap (option_or (first_of property e committee level (pairs_of shared (lists_within property e.m committee level)))) rest
           ∙ sym (lists_step shared (filter q lists))
-      cases true h false k rest = absurd (never (sym (more shared h) ∙ k))
-        where
-          never : true ≡ false → ⊥
-          never n = cc
+      cases true h false k rest = let clash : true ≡ false = sym (more shared h) ∙ k in cc
       cases false h true k rest =
           rest
           ∙ ap (λ o. option_or o (first_of_lists property e committee level (filter q lists))) (left shared k h)
@@ -504,14 +489,8 @@ possible_more p c pool next least is choice =
 
 pub nothing_there : {X : Type 0} (found : Option X) (none : Bool) → is_some found ≡ not none → IsTrue none → found ≡ None
 nothing_there None none e h = refl
-nothing_there (Some x) true e h = absurd (never e)
-  where
-    never : true ≡ false → ⊥
-    never k = cc
-nothing_there (Some x) false e h = absurd (never h)
-  where
-    never : false ≡ true → ⊥
-    never k = cc
+nothing_there (Some x) true e h = cc
+nothing_there (Some x) false e h = cc
 
 pub possible_order : (property : Property) (e : Election) (committee : List ℕ) (level : ℕ) → IsIncreasing 1 e.m (possible_candidates property e committee level)
 possible_order property e committee level =
@@ -533,50 +512,3 @@ share_without p (y ∷ ys) x rest h =
 
 pub share_front : (p : ℕ → Bool) (front rest : List ℕ) → list_all p (front ++ rest) ≡ true → list_all p front ≡ true
 share_front p front rest h = (and_parts (list_all p front) (list_all p rest) (sym (list_all-append p front rest) ∙ h)).0
-
--- ---- whether the property is that with a list U
-
-pub is_pjr : (property : Property) (other : Bool) → other ≡ not (sameb the_type property Pjr) → other ≡ false → property ≡ Pjr
-is_pjr Jr other e h = absurd (never (sym h ∙ e))
-  where
-    never : false ≡ not (sameb the_type Jr Pjr) → ⊥
-    never k = cc
-is_pjr Pjr other e h = refl
-is_pjr Ejr other e h = absurd (never (sym h ∙ e))
-  where
-    never : false ≡ not (sameb the_type Ejr Pjr) → ⊥
-    never k = cc
-is_pjr EjrPlus other e h = absurd (never (sym h ∙ e))
-  where
-    never : false ≡ not (sameb the_type EjrPlus Pjr) → ⊥
-    never k = cc
-
--- the first pair with a T, of PJR
-pub first_pair : (property : Property) (e : Election) (committee : List ℕ) (level : ℕ) (shared within : List ℕ) → property ≡ Pjr
-    → IsIncreasing 1 e.m committee → 1 ≤ level → level ≤ greatest_level property committee → IsFirst property e.m committee level shared
-    → find (is_enough_within e committee level shared) (completions [] committee (level - 1)) ≡ Some within
-    → first_of property e committee level ((shared, within) ∷ []) ≡ first_of property e committee level (pairs_of shared (lists_within property e.m committee level))
-first_pair Jr e committee level shared within is = absurd (never is)
-  where
-    never : Jr ≡ Pjr → ⊥
-    never k = cc
-first_pair Pjr e committee level shared within is = first_beside e committee level shared within
-first_pair Ejr e committee level shared within is = absurd (never is)
-  where
-    never : Ejr ≡ Pjr → ⊥
-    never k = cc
-first_pair EjrPlus e committee level shared within is = absurd (never is)
-  where
-    never : EjrPlus ≡ Pjr → ⊥
-    never k = cc
-
-pub first_second : (property : Property) (e : Election) (committee : List ℕ) (level : ℕ) (shared within : List ℕ) → IsIncreasing 1 e.m committee
-    → find (is_enough_within e committee level shared) (completions [] committee (level - 1)) ≡ Some within → property ≡ Pjr → IsSecond property e.m level within
-first_second property e committee level shared within i found is =
-    subst (λ p. IsSecond p e.m level within) (sym is) (second_beside e committee level shared within i found)
-
-pub no_pair_with : (property : Property) (e : Election) (committee : List ℕ) (level : ℕ) (shared : List ℕ) → IsIncreasing 1 e.m committee
-    → find (is_enough_within e committee level shared) (completions [] committee (level - 1)) ≡ None → property ≡ Pjr
-    → None ≡ first_of property e committee level (pairs_of shared (lists_within property e.m committee level))
-no_pair_with property e committee level shared i none is =
-    subst (λ p. None ≡ first_of p e committee level (pairs_of shared (lists_within p e.m committee level))) (sym is) (none_beside e committee level shared i none)

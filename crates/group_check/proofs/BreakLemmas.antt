@@ -21,18 +21,9 @@ use Rattle.group_check.proofs.GroupLemmas.{group_of-group, group_of-pass, group-
 collapse_three : (a b c d : Bool) → a ≡ true → c ≡ true → d ≡ true → ((a && (b && c)) && d) ≡ b
 collapse_three true true true true p q r = refl
 collapse_three true false true true p q r = refl
-collapse_three false b c d p q r = absurd (never p)
-  where
-    never : false ≡ true → ⊥
-    never e = cc
-collapse_three true b false d p q r = absurd (never q)
-  where
-    never : false ≡ true → ⊥
-    never e = cc
-collapse_three true b true false p q r = absurd (never r)
-  where
-    never : false ≡ true → ⊥
-    never e = cc
+collapse_three false b c d p q r = cc
+collapse_three true b false d p q r = cc
+collapse_three true b true false p q r = cc
 
 collapse_two : (b c d : Bool) → c ≡ true → d ≡ true → ((b && c) && d) ≡ b
 collapse_two b c d q r = collapse_three true b c d refl q r
@@ -188,10 +179,7 @@ find-none f None e = refl
 find-none f (Some x) e = cc
 
 find-some : {X : Type 0} {Y : Type 0} (f : X → Y) (found : Option X) (y : Y) → option_map f found ≡ Some y → (x : X) × (found ≡ Some x) × (f x ≡ y)
-find-some f None y e = absurd (never e)
-  where
-    never : None ≡ Some y → ⊥
-    never e = cc
+find-some f None y e = cc
 find-some f (Some x) y e = (x, refl, cc)
 
 -- without a first violation no group breaks the property at this level
@@ -201,10 +189,7 @@ no_group property e committee level i least most none some =
     let test = pair_breaks property e committee level in
     let pairs = pairs_at property e.m committee level in
     let clash : true ≡ false = sym (some_pair property e committee level i least most some) ∙ sym (is_some-find test pairs) ∙ find-none (violation_of property e committee level) (find test pairs) none in
-    absurd (never clash)
-  where
-    never : true ≡ false → ⊥
-    never e = cc
+    cc
 
 -- with one, some group does
 pub some_group : (property : Property) (e : Election) (committee : List ℕ) (level : ℕ) (report : Violation) → first_violation property e committee level ≡ Some report

@@ -4,7 +4,7 @@ use Rattle.std.proofs.Common.{◌≡◌, ℕ, zero, suc, ◌+◌, ◌-◌, ◌�
 use Rattle.std.specs.Prelude.{find, option_map, ⊤}
 use Rattle.std.specs.List.{AllByRecursion, list_all}
 use Rattle.std.specs.Option.{option_or}
-use Rattle.std.proofs.lemmas.Bool.{and_from, and_parts, ne_eqb}
+use Rattle.std.proofs.lemmas.Bool.{and_from, and_parts, not-false, or_parts, ne_eqb, or_right}
 use Rattle.std.proofs.lemmas.List.{append_assoc}
 use Rattle.std.proofs.lemmas.List.Sums.{length-filter, count_by-le-length}
 use Rattle.std.proofs.lemmas.List.Elements.{filter-append}
@@ -18,13 +18,13 @@ use Rattle.group_check.specs.declared.property.Property.{Property}
 use Rattle.group_check.specs.declared.property.Property.TheVariants.{Jr, Pjr, Ejr, EjrPlus}
 use Rattle.group_check.specs.declared.property.Violation.{Violation}
 use Rattle.group_check.specs.Groups.{breaks}
-use Rattle.group_check.specs.Report.{includes, violation_of, fits_pair, group_of, lists_within, pair_breaks}
+use Rattle.group_check.specs.Report.{includes, violation_of, fits_pair, lists_within, pair_breaks}
 use Rattle.group_check.specs.Steps.Checking.{first_of, first_of_lists, pairs_of, sublists, completions, is_enough_within}
-use Rattle.group_check.proofs.SetLemmas.{all_pass, or_mono, or_second, passes_at}
+use Rattle.group_check.proofs.SetLemmas.{all_pass, or_mono, passes_at}
 use Rattle.group_check.proofs.TestLemmas.{list_all-weaker}
 use Rattle.group_check.proofs.PlaceLemmas.{sublists-empty, front_kept, front_dropped}
 use Rattle.group_check.proofs.WalkLemmas.{AllByRecursion-append, AllByRecursion-map, AllByRecursion-weaker, at_least, with_member-end}
-use Rattle.group_check.proofs.BeginningLemmas.{all_of, lists_step, none_found, too_small}
+use Rattle.group_check.proofs.BeginningLemmas.{all_of, group_of-rows, lists_step, none_found, too_small}
 
 module _ {X : Type 0} where
   all_parts : (P : X → Type 0) (xs ys : List X) → AllByRecursion P (xs ++ ys) → AllByRecursion P xs × AllByRecursion P ys
@@ -95,10 +95,7 @@ module _ (Misses Fits : List ℕ → Type 0) (x : ℕ) (stays : ℕ → Bool)
       → ((n : ℕ) → AllByRecursion (MissesWith (front ++ y ∷ [])) (sublists ys n) → AllByRecursion (MissesLost (front ++ y ∷ [])) (sublists ys (suc n)))
       → AllByRecursion (λ rest. MissesLost front (y ∷ rest)) (sublists ys size)
   with_kept front y ys zero is h later =
-      subst (AllByRecursion (λ rest. MissesLost front (y ∷ rest))) (sublists-empty ys) ((λ e. absurd (never e)), tt)
-    where
-      never : (stays y && true) ≡ false → ⊥
-      never e = let clash : true ≡ false = ap (λ b. b && true) (sym is) ∙ e in cc
+      subst (AllByRecursion (λ rest. MissesLost front (y ∷ rest))) (sublists-empty ys) ((λ e. let clash : true ≡ false = ap (λ b. b && true) (sym is) ∙ e in cc), tt)
   with_kept front y ys (suc n) is h later =
       let first = all_mapped (MissesWith front) (λ rest. y ∷ rest) (sublists ys n) (all_parts (MissesWith front) (map (λ rest. y ∷ rest) (sublists ys n)) (sublists ys (suc n)) h).0 in
       let moved = AllByRecursion-weaker (λ rest. MissesWith front (y ∷ rest)) (MissesWith (front ++ y ∷ []))
@@ -145,11 +142,7 @@ all_exchanged p (z ∷ zs) x y rest same = ap (λ b. p z && b) (all_exchanged p 
 
 -- who leaves with its class is a clone
 class_clone : (m : ℕ) (rows : List Row) (clones : List ℕ) (x : ℕ) → clones ≡ clones_among m rows x → (y : ℕ) → not (has_member clones y) ≡ false → are_clones rows x y ≡ true
-class_clone m rows clones x is y gone = clones_among-are m rows x y (sym (ap (λ set. has_member set y) is) ∙ is_in (has_member clones y) gone)
-  where
-    is_in : (b : Bool) → not b ≡ false → b ≡ true
-    is_in true h = refl
-    is_in false h = absurd (let clash : true ≡ false = h in cc)
+class_clone m rows clones x is y gone = clones_among-are m rows x y (sym (ap (λ set. has_member set y) is) ∙ not-false (has_member clones y) gone)
 
 -- ---- lists T
 
@@ -163,13 +156,6 @@ fits-same Jr committee level shared other within ballot h = ap (λ b. b && fits_
 fits-same Pjr committee level shared other within ballot h = ap (λ b. b && fits_pair Pjr committee level ([], within) ballot) h
 fits-same Ejr committee level shared other within ballot h = ap (λ b. b && fits_pair Ejr committee level ([], within) ballot) h
 fits-same EjrPlus committee level shared other within ballot h = ap (λ b. b && fits_pair EjrPlus committee level ([], within) ballot) h
-
-group_of-rows : (test other : List ℕ → Bool) (rows : List Row) → AllByRecursion (λ (row : Row). test row.0 ≡ other row.0) rows → group_of test rows ≡ group_of other rows
-group_of-rows test other [] same = refl
-group_of-rows test other (row ∷ rows) same =
-    let more = group_of-rows test other rows same.1 in
-    let here : cond (test row.0) row.1 0 ≡ cond (other row.0) row.1 0 = ap (λ b. cond b row.1 0) same.0 in
-    cc
 
 module _ (property : Property) (e : Election) (committee : List ℕ) (level : ℕ) where
   breaks-same : (shared other within : List ℕ) → SameRows e.rows shared other
@@ -192,14 +178,8 @@ module _ (property : Property) (e : Election) (committee : List ℕ) (level : �
           → (None ≡ first_of property e committee level (pairs_of shared lists) → None ≡ first_of property e committee level (pairs_of other lists))
           → None ≡ option_map (violation_of property e committee level) (cond a (Some (shared, within)) (find (pair_breaks property e committee level) (pairs_of shared lists)))
           → None ≡ option_map (violation_of property e committee level) (cond b (Some (other, within)) (find (pair_breaks property e committee level) (pairs_of other lists)))
-      cases true b is more h = absurd (never h)
-        where
-          never : None ≡ Some (violation_of property e committee level (shared, within)) → ⊥
-          never k = cc
-      cases false true is more h = absurd (never is)
-        where
-          never : false ≡ true → ⊥
-          never k = cc
+      cases true b is more h = cc
+      cases false true is more h = cc
       cases false false is more h = more h
 
   -- T finds nothing
@@ -218,10 +198,7 @@ module _ (property : Property) (e : Election) (committee : List ℕ) (level : �
     where
       both : (a b : Option Violation) → None ≡ option_or a b → (None ≡ a) × (None ≡ b)
       both None b h = (refl, h)
-      both (Some v) b h = absurd (never h)
-        where
-          never : None ≡ Some v → ⊥
-          never k = cc
+      both (Some v) b h = cc
 
   -- lists that find nothing may be left out
   left_out : (front : List ℕ) (p : List ℕ → Bool) (lists : List (List ℕ)) → AllByRecursion (λ rest. p rest ≡ false → Misses (front ++ rest)) lists
@@ -271,7 +248,7 @@ module _ (property : Property) (e : Election) (committee : List ℕ) (level : �
 
 -- who is in a list with y, and is not y, is in the list with x in its place
 member_exchanged : (front : List ℕ) (y x : ℕ) (rest : List ℕ) (n : ℕ) → (y ≡ n → ⊥) → has_member (front ++ y ∷ rest) n ≡ true → has_member (front ++ x ∷ rest) n ≡ true
-member_exchanged [] y x rest n other h = or_second (x == n) (has_member rest n) (sym (has_member_tail y n rest other) ∙ h)
+member_exchanged [] y x rest n other h = or_right (x == n) (has_member rest n) (sym (has_member_tail y n rest other) ∙ h)
 member_exchanged (z ∷ zs) y x rest n other h =
     or_mono (z == n) (has_member (zs ++ y ∷ rest) n) (has_member (zs ++ x ∷ rest) n) (λ k. member_exchanged zs y x rest n other k) h
 
@@ -287,11 +264,7 @@ member_swapped (z ∷ zs) x y rest n h =
     or_mono (z == n) (has_member (zs ++ y ∷ x ∷ rest) n) (has_member (zs ++ x ∷ y ∷ rest) n) (λ k. member_swapped zs x y rest n k) h
 
 absent-without : (front : List ℕ) (y : ℕ) (rest : List ℕ) (x : ℕ) → has_member (front ++ y ∷ rest) x ≡ false → has_member (front ++ rest) x ≡ false
-absent-without [] y rest x h = second (y == x) (has_member rest x) h
-  where
-    second : (a b : Bool) → (a || b) ≡ false → b ≡ false
-    second true b h = absurd (let clash : true ≡ false = h in cc)
-    second false b h = h
+absent-without [] y rest x h = (or_parts (y == x) (has_member rest x) h).1
 absent-without (z ∷ zs) y rest x h = later (z == x) (has_member (zs ++ y ∷ rest) x) (has_member (zs ++ rest) x) (λ k. absent-without zs y rest x k) h
   where
     later : (a b c : Bool) → (b ≡ false → c ≡ false) → (a || b) ≡ false → (a || c) ≡ false

@@ -15,14 +15,8 @@ use Rattle.group_check.proofs.BreakLemmas.{pair_breaks-is}
 
 -- the violation of these voters
 abbrev pub violation_with : Property → List ℕ → ℕ → List ℕ → List ℕ → ℕ → Violation
-violation_with property committee level shared within voters = record {
-  property = property;
-  committee = committee;
-  level = level;
-  shared = shared;
-  within = within;
-  voters = voters;
-}
+violation_with property committee level shared within voters =
+    record { property = property; committee = committee; level = level; shared = shared; within = within; voters = voters }
 
 then_some-find : {X : Type 0} {Y : Type 0} (f : X → Y) (b : Bool) (x : X) → then_some b (f x) ≡ option_map f (cond b (Some x) None)
 then_some-find f true x = refl
@@ -50,19 +44,13 @@ first_of-append property e committee level pairs more =
 
 -- what was found comes first
 pub found_first : {X : Type 0} (found first : Option X) (rest : Option X) → found ≡ first → is_some found ≡ true → found ≡ option_or first rest
-found_first None first rest e some = absurd (never some)
-  where
-    never : false ≡ true → ⊥
-    never h = cc
+found_first None first rest e some = cc
 found_first (Some x) first rest e some = ap (λ o. option_or o rest) e
 
 -- where nothing was found, there is nothing
 pub none_found-is : {X : Type 0} (found first : Option X) → found ≡ first → is_some found ≡ false → None ≡ first
 none_found-is None first e none = e
-none_found-is (Some x) first e none = absurd (never none)
-  where
-    never : true ≡ false → ⊥
-    never h = cc
+none_found-is (Some x) first e none = cc
 
 -- a nonempty committee has room for the greatest level
 pub greatest_level-le : (property : Property) (committee : List ℕ) → (committee ≡ [] → ⊥) → greatest_level property committee ≤ length committee

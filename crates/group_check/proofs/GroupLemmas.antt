@@ -1,7 +1,7 @@
 -- Some group breaks a property exactly where the whole group of some T and U does.
 use Rattle.std.proofs.Common.{◌≡◌, ℕ, zero, suc, ◌+◌, ◌<◌, ◌≤◌, ◌==◌, ◌||◌, Bool, true, false, cond, List, [], ◌∷◌, refl, sym, ap, ◌∙◌, arith, inl, inr, length, take, sum}
 use Rattle.std.specs.List.{list_all, list_any, range_with_len}
-use Rattle.std.proofs.lemmas.Bool.{and_from, and_parts, or_left, eqb-true, cases_eq}
+use Rattle.std.proofs.lemmas.Bool.{and_from, and_parts, or_left, eqb-true, cases_eq, or_right}
 use Rattle.std.proofs.lemmas.List.{length-take-le}
 use Rattle.std.proofs.lemmas.List.Sums.{sum_by-cons}
 use Rattle.ballot_base.specs.Lists.{IsIncreasing}
@@ -12,11 +12,11 @@ use Rattle.group_check.specs.Groups.{IsGroup, member_ballots, common_candidates,
 use Rattle.group_check.specs.Report.{includes, group_of}
 use Rattle.group_check.specs.Steps.Checking.{IsChoice}
 use Rattle.group_check.proofs.TestLemmas.{list_all-filter, list_all-take, list_all-swap, list_all-weaker, both_at}
-use Rattle.group_check.proofs.SetLemmas.{passes_at, all_pass, or_second, length-within, length-passing, IsIncreasing-take, IsIncreasing-range}
+use Rattle.group_check.proofs.SetLemmas.{passes_at, all_pass, length-within, length-passing, IsIncreasing-take, IsIncreasing-range}
 
 -- ---- the group of all voters whose ballots pass a test
 
-at_most : (b : Bool) (n : ℕ) → cond b n 0 ≤ n
+pub at_most : (b : Bool) (n : ℕ) → cond b n 0 ≤ n
 at_most true n = omega arith
 at_most false n = omega arith
 
@@ -57,10 +57,7 @@ has_member-range first (suc count) n low high =
     ]
 
 range_bounds : (first count n : ℕ) → has_member (range_with_len first count) n ≡ true → (first ≤ n) × (n < first + count)
-range_bounds first zero n h = absurd (never h)
-  where
-    never : false ≡ true → ⊥
-    never e = cc
+range_bounds first zero n h = cc
 range_bounds first (suc count) n h = cases (first == n) refl (λ later. range_bounds (first + 1) count n later) h
   where
     cases : (b : Bool) → (first == n) ≡ b → (has_member (range_with_len (first + 1) count) n ≡ true → (first + 1 ≤ n) × (n < first + 1 + count))
@@ -90,27 +87,21 @@ all_agree m level ballots shared choice all =
 -- ---- a candidate in common that passes a test
 
 pub any_at : (q : ℕ → Bool) (set : List ℕ) (n : ℕ) → has_member set n ≡ true → q n ≡ true → list_any q set ≡ true
-any_at q [] n h k = absurd (never h)
-  where
-    never : false ≡ true → ⊥
-    never e = cc
+any_at q [] n h k = cc
 any_at q (x ∷ xs) n h k = cases (x == n) refl (λ later. any_at q xs n later k) h
   where
     cases : (b : Bool) → (x == n) ≡ b → (has_member xs n ≡ true → list_any q xs ≡ true) → (b || has_member xs n) ≡ true → (q x || list_any q xs) ≡ true
     cases true e later h = or_left (q x) (list_any q xs) (ap q (eqb-true x n e) ∙ k)
-    cases false e later h = or_second (q x) (list_any q xs) (later h)
+    cases false e later h = or_right (q x) (list_any q xs) (later h)
 
 member_at : (q : ℕ → Bool) (set : List ℕ) → list_any q set ≡ true → (n : ℕ) × (has_member set n ≡ true) × (q n ≡ true)
-member_at q [] h = absurd (never h)
-  where
-    never : false ≡ true → ⊥
-    never e = cc
+member_at q [] h = cc
 member_at q (x ∷ xs) h = cases (q x) refl (λ later. member_at q xs later) h
   where
     cases : (b : Bool) → q x ≡ b → (list_any q xs ≡ true → (n : ℕ) × (has_member xs n ≡ true) × (q n ≡ true)) → (b || list_any q xs) ≡ true
         → (n : ℕ) × (has_member (x ∷ xs) n ≡ true) × (q n ≡ true)
     cases true e later h = (x, has_member_head x xs, e)
-    cases false e later h = let more = later h in (more.0, or_second (x == more.0) (has_member xs more.0) more.1, more.2)
+    cases false e later h = let more = later h in (more.0, or_right (x == more.0) (has_member xs more.0) more.1, more.2)
 
 -- the candidates of T that pass are in common
 pub some_outside : (m : ℕ) (q : ℕ → Bool) (ballots : List (List ℕ)) (shared : List ℕ) → IsChoice m 1 shared → list_all q shared ≡ true
@@ -163,4 +154,4 @@ covered committee second (ballot ∷ ballots) all =
     (all_pass (has_member second) (common_members ballot committee) (λ n h.
     let split = and_parts (has_member committee n) (has_member ballot n) (sym (has_member-filter (has_member committee) ballot n) ∙ h) in
     all n (or_left (has_member ballot n) (list_any (λ b. has_member b n) ballots) split.1) split.0))
-    (covered committee second ballots (λ n some inside. all n (or_second (has_member ballot n) (list_any (λ b. has_member b n) ballots) some) inside))
+    (covered committee second ballots (λ n some inside. all n (or_right (has_member ballot n) (list_any (λ b. has_member b n) ballots) some) inside))

@@ -2,7 +2,7 @@
 use Rattle.std.proofs.Common.{◌≡◌, ℕ, zero, suc, ◌*◌, ◌<◌, ◌≤◌, ◌==◌, ◌&&◌, ◌||◌, Bool, true, false, cond, List, [], ◌∷◌, refl, sym, ap, ◌∙◌, arith, length, filter, not, sum}
 use Rattle.std.specs.Prelude.{nat_le, nat_lt, count_by}
 use Rattle.std.specs.List.{list_all, list_any, range_with_len, AllByRecursion}
-use Rattle.std.proofs.lemmas.Bool.{and_from, and_parts, leb-true, lt-ltb, ltb-true, eqb-true}
+use Rattle.std.proofs.lemmas.Bool.{and_from, and_parts, or_left, or_right, leb-true, lt-ltb, ltb-true, eqb-true}
 use Rattle.std.proofs.lemmas.Nat.{mul-le}
 use Rattle.std.proofs.lemmas.List.Sums.{length-filter, sum_by-cons}
 use Rattle.ballot_base.specs.Lists.{IsIncreasing}
@@ -34,21 +34,13 @@ hits-le-represented m ballots committee ballot i j among =
     has_member-filter some committee n ∙ and_from (some n) (has_member committee n) (among n split.0) split.1) in
     omega (arith, few, length-filter (has_member committee) ballot, length-common 1 m ballot committee j i)
 
-or_here : (a b : Bool) → a ≡ true → (a || b) ≡ true
-or_here true b h = refl
-or_here false b h = cc
-
-or_there : (a b : Bool) → b ≡ true → (a || b) ≡ true
-or_there true b h = refl
-or_there false b h = h
-
 below_from_few : (m level : ℕ) (all ballots : List (List ℕ)) (committee : List ℕ) → IsIncreasing 1 m committee → AllByRecursion (λ ballot. IsIncreasing 1 m ballot) ballots
     → ((n : ℕ) → list_any (λ b. has_member b n) ballots ≡ true → list_any (λ b. has_member b n) all ≡ true) → length (represented all committee) < level → all_below level committee ballots ≡ true
 below_from_few m level all [] committee i inc among few = refl
 below_from_few m level all (ballot ∷ ballots) committee i inc among few =
-    let most = hits-le-represented m all committee ballot i inc.0 (λ n h. among n (or_here (has_member ballot n) (list_any (λ b. has_member b n) ballots) h)) in
+    let most = hits-le-represented m all committee ballot i inc.0 (λ n h. among n (or_left (has_member ballot n) (list_any (λ b. has_member b n) ballots) h)) in
     and_from (nat_lt (hits ballot committee) level) (all_below level committee ballots) (lt-ltb (hits ballot committee) level (omega (arith, most, few)))
-    (below_from_few m level all ballots committee i inc.1 (λ n h. among n (or_there (has_member ballot n) (list_any (λ b. has_member b n) ballots) h)) few)
+    (below_from_few m level all ballots committee i inc.1 (λ n h. among n (or_right (has_member ballot n) (list_any (λ b. has_member b n) ballots) h)) few)
 
 pub ejr-pjr : (e : Election) (committee : List ℕ) → IsElection e → IsIncreasing 1 e.m committee → HasProperty Ejr e committee → HasProperty Pjr e committee
 ejr-pjr e committee valid i has level least most some =
@@ -65,10 +57,7 @@ as_number b = cond b 1 0
 
 -- where no ballot approves a member of the committee, none is represented
 none_counted : (p : ℕ → Bool) (xs : List ℕ) (n : ℕ) → count_by p xs < 1 → has_member xs n ≡ true → p n ≡ true → ⊥
-none_counted p [] n few h k = absurd (never h)
-  where
-    never : false ≡ true → ⊥
-    never e = cc
+none_counted p [] n few h k = cc
 none_counted p (x ∷ xs) n few h k =
     let counted = sum_by-cons (λ (y : ℕ). cond (p y) 1 0) x xs in
     cases (x == n) refl (omega (arith, counted, few)) (none_counted p xs n (omega (arith, counted, few))) h
@@ -81,7 +70,7 @@ none_counted p (x ∷ xs) n few h k =
 nothing_kept : (p : ℕ → Bool) (xs : List ℕ) → ((n : ℕ) → has_member xs n ≡ true → p n ≡ true → ⊥) → length (filter p xs) ≡ 0
 nothing_kept p [] none = refl
 nothing_kept p (x ∷ xs) none =
-    cases (p x) refl (nothing_kept p xs (λ n h. none n (or_there (x == n) (has_member xs n) h)))
+    cases (p x) refl (nothing_kept p xs (λ n h. none n (or_right (x == n) (has_member xs n) h)))
   where
     cases : (b : Bool) → p x ≡ b → length (filter p xs) ≡ 0 → length (cond b (x ∷ filter p xs) (filter p xs)) ≡ 0
     cases true e rest = absurd (none x (has_member_head x xs) e)
@@ -108,17 +97,11 @@ no_voters [] [] g h = refl
 no_voters [] (n ∷ group) g h = absurd g
 no_voters (row ∷ rows) [] g h = absurd g
 no_voters (row ∷ rows) (zero ∷ group) g h = omega (arith, sum_by-cons (λ (x : ℕ). x) 0 group, no_voters rows group g.1 h)
-no_voters (row ∷ rows) (suc n ∷ group) g h = absurd (never h)
-  where
-    never : row.0 ∷ member_ballots rows group ≡ [] → ⊥
-    never e = cc
+no_voters (row ∷ rows) (suc n ∷ group) g h = cc
 
 inside_unless : (a b : Bool) → (not a ≡ true → b ≡ true) → b ≡ false → a ≡ true
 inside_unless true b h k = refl
-inside_unless false b h k = absurd (never (sym (h refl) ∙ k))
-  where
-    never : true ≡ false → ⊥
-    never e = cc
+inside_unless false b h k = let clash : true ≡ false = sym (h refl) ∙ k in cc
 
 -- where all common candidates are members, whoever approves them approves as many members
 no_ballots : (m level : ℕ) (ballots : List (List ℕ)) (committee : List ℕ) → IsIncreasing 1 m committee → AllByRecursion (λ ballot. IsIncreasing 1 m ballot) ballots

@@ -18,10 +18,7 @@ and_true true b h = h
 and_true false b h = refl
 
 and_false : (a b : Bool) → a ≡ false → (a && b) ≡ a
-and_false true b h = absurd (never h)
-  where
-    never : true ≡ false → ⊥
-    never e = cc
+and_false true b h = cc
 and_false false b h = refl
 
 -- those of a range that are in a list within it

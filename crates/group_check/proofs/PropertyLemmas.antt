@@ -13,16 +13,7 @@ when_inside inside answer below e h = h ∙ ap (λ b. b && below) (sym e)
 pub fits_by_hits : (property : Property) (committee : List ℕ) (level : ℕ) (shared within ballot : List ℕ) (answer : Bool)
     → (property ≡ Jr) ⊎ ((property ≡ Ejr) ⊎ (property ≡ EjrPlus)) → includes ballot shared ≡ true → answer ≡ nat_lt (hits ballot committee) level → answer ≡ fits_pair property committee level (shared, within) ballot
 fits_by_hits Jr committee level shared within ballot answer which inside h = when_inside (includes ballot shared) answer (nat_lt (hits ballot committee) level) inside h
-fits_by_hits Pjr committee level shared within ballot answer which inside h = absurd (elim which [ inl e ↦ first e | inr d ↦ elim d [ inl e ↦ second e | inr e ↦ third e ] ])
-  where
-    first : Pjr ≡ Jr → ⊥
-    first e = cc
-
-    second : Pjr ≡ Ejr → ⊥
-    second e = cc
-
-    third : Pjr ≡ EjrPlus → ⊥
-    third e = cc
+fits_by_hits Pjr committee level shared within ballot answer which inside h = elim which [ inl e ↦ cc | inr d ↦ elim d [ inl e ↦ cc | inr e ↦ cc ] ]
 fits_by_hits Ejr committee level shared within ballot answer which inside h = when_inside (includes ballot shared) answer (nat_lt (hits ballot committee) level) inside h
 fits_by_hits EjrPlus committee level shared within ballot answer which inside h = when_inside (includes ballot shared) answer (nat_lt (hits ballot committee) level) inside h
 

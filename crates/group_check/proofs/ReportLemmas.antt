@@ -55,17 +55,11 @@ module _ (property : Property) (e : Election) (committee : List ℕ) where
   -- where a violation was found, the committee lacks the property
   pub lacks_property : (level : ℕ) (found : Option Violation) → 1 ≤ level → level ≤ length committee
       → found ≡ first_violation property e committee level → is_some found ≡ true → (found ≡ None) ↔ HasProperty property e committee
-  lacks_property level None least most is some = absurd (never some)
-    where
-      never : false ≡ true → ⊥
-      never h = cc
+  lacks_property level None least most is some = cc
   lacks_property level (Some report) least most is some = (
-    (λ none. absurd (never none)),
+    (λ none. cc),
     (λ has. absurd (has level least most (some_group property e committee level report (sym is)))),
   )
-    where
-      never : Some report ≡ None → ⊥
-      never h = cc
 
   some_group_of : (report : Violation) → IsReport property e committee report → SomeGroupBreaks property e committee report.level
   some_group_of report is = (group_of (is_in_group report) e.rows, group_of-group (is_in_group report) e.rows, is.breaks)

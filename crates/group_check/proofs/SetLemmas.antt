@@ -1,7 +1,7 @@
 -- Sets of candidates: how many members there are, and sets of a given size.
 use Rattle.std.proofs.Common.{◌≡◌, ℕ, zero, suc, ◌+◌, ◌≤◌, ◌==◌, ◌&&◌, ◌||◌, Bool, true, false, cond, List, [], ◌∷◌, refl, sym, ap, ◌∙◌, arith, inl, inr, length, filter, take}
 use Rattle.std.specs.List.{list_all, range_with_len}
-use Rattle.std.proofs.lemmas.Bool.{and_from, and_parts, eqb-true, eq-eqb, cases_order, cases_lt, ne_eqb}
+use Rattle.std.proofs.lemmas.Bool.{and_from, and_parts, eqb-true, eq-eqb, cases_order, cases_lt, ne_eqb, or_right}
 use Rattle.std.specs.Str.{bytes_eq}
 use Rattle.std.proofs.lemmas.Slice.Eq.{bytes_eq-Decides}
 use Rattle.std.proofs.lemmas.List.Sums.{length-filter, count_by-le-length}
@@ -24,15 +24,11 @@ passes_at p (x ∷ xs) n h k =
     cases true e here later k = ap p (sym (eqb-true x n e)) ∙ here
     cases false e here later k = later k
 
-pub or_second : (a b : Bool) → b ≡ true → (a || b) ≡ true
-or_second true b h = refl
-or_second false b h = h
-
 -- all pass where each member does
 pub all_pass : (p : ℕ → Bool) (set : List ℕ) → ((n : ℕ) → has_member set n ≡ true → p n ≡ true) → list_all p set ≡ true
 all_pass p [] each = refl
 all_pass p (x ∷ xs) each =
-    and_from (p x) (list_all p xs) (each x (has_member_head x xs)) (all_pass p xs (λ n h. each n (or_second (x == n) (has_member xs n) h)))
+    and_from (p x) (list_all p xs) (each x (has_member_head x xs)) (all_pass p xs (λ n h. each n (or_right (x == n) (has_member xs n) h)))
 
 same_test : (a b : Bool) → (a ≡ true → b ≡ true) → a ≡ (a && b)
 same_test true b h = sym (h refl)
@@ -114,7 +110,7 @@ widened_later : (first last size : ℕ) (p : ℕ → Bool) (x : ℕ) (xs wide : 
 widened_later first last size p x xs wide low fails w = record {
   increasing = IsIncreasing-lower first (x + 1) last wide (omega arith) w.increasing;
   count = w.count;
-  inside = λ n h. or_second (x == n) (has_member xs n) (w.inside n h);
+  inside = λ n h. or_right (x == n) (has_member xs n) (w.inside n h);
   holds = λ n pass h. w.holds n pass (second n (x == n) refl pass h);
 }
   where
@@ -123,12 +119,7 @@ widened_later first last size p x xs wide low fails w = record {
     second n false e pass h = h
 
 widened_whole : (first last size : ℕ) (p : ℕ → Bool) (set : List ℕ) → IsIncreasing first last set → length set ≡ size → IsWidened first last size p set set
-widened_whole first last size p set i e = record {
-  increasing = i;
-  count = e;
-  inside = λ n h. h;
-  holds = λ n pass h. h;
-}
+widened_whole first last size p set i e = record { increasing = i; count = e; inside = λ n h. h; holds = λ n pass h. h }
 
 pub widened : (first last size : ℕ) (p : ℕ → Bool) (set : List ℕ) → IsIncreasing first last set → length (filter p set) ≤ size → size ≤ length set → (wide : List ℕ) × IsWidened first last size p set wide
 widened first last size p [] i few many = ([], widened_whole first last size p [] i (omega (arith, many)))

@@ -1,5 +1,5 @@
 -- Tests of all or some items of a list.
-use Rattle.std.proofs.Common.{◌≡◌, ℕ, ◌&&◌, ◌||◌, Bool, true, false, cond, List, [], ◌∷◌, Some, None, refl, sym, ap, ◌∙◌, map, filter, take, zero, suc}
+use Rattle.std.proofs.Common.{◌≡◌, ℕ, ◌&&◌, ◌||◌, Bool, true, false, cond, List, [], ◌∷◌, Some, refl, sym, ap, ◌∙◌, map, filter, take, zero, suc}
 use Rattle.std.specs.Prelude.{find, flat_map, is_some, Contains}
 use Rattle.std.specs.List.{list_all, list_any}
 use Rattle.std.proofs.lemmas.Bool.{and_from, and_parts}
@@ -38,10 +38,7 @@ module _ {X : Type 0} where
 
   -- an item that passes is one of all
   pub both_at : (p q : X → Bool) (xs : List X) → list_all p xs ≡ true → list_any q xs ≡ true → (x : X) × (p x ≡ true) × (q x ≡ true)
-  both_at p q [] h k = absurd (elim_false k)
-    where
-      elim_false : false ≡ true → ⊥
-      elim_false e = cc
+  both_at p q [] h k = cc
   both_at p q (x ∷ xs) h k =
       let parts = and_parts (p x) (list_all p xs) h in
       cases (q x) refl parts.0 (λ more. both_at p q xs parts.1 more) k
@@ -57,10 +54,7 @@ module _ {X : Type 0} where
       elim (p x) as (λ b. is_some (cond b (Some x) (find p xs)) ≡ (b || list_any p xs)) [ true ↦ refl | false ↦ more ]
 
   pub found_passes : (p : X → Bool) (xs : List X) (x : X) → find p xs ≡ Some x → p x ≡ true
-  found_passes p [] x e = absurd (none e)
-    where
-      none : None ≡ Some x → ⊥
-      none e = cc
+  found_passes p [] x e = cc
   found_passes p (y ∷ ys) x e = cases (p y) refl (λ later. found_passes p ys x later) e
     where
       cases : (b : Bool) → p y ≡ b → (find p ys ≡ Some x → p x ≡ true) → cond b (Some y) (find p ys) ≡ Some x → p x ≡ true

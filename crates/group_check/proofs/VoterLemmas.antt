@@ -4,6 +4,7 @@ use Rattle.std.proofs.lemmas.List.Sums.{sum_by-cons, sum_by_more, sum_by_more_le
 use Rattle.std.proofs.lemmas.Option.{get_or_from_slice_get, slice_get_within}
 use Rattle.ballot_base.specs.Ballots.{Row, Election, IsElection, voter_count}
 use Rattle.group_check.specs.Report.{group_of}
+use Rattle.group_check.proofs.GroupLemmas.{at_most}
 
 -- a row's voters, where its ballot passes
 abbrev pub votes_passing : (List ℕ → Bool) → Row → ℕ
@@ -13,13 +14,10 @@ votes_passing test row = cond (test row.0) row.1 0
 abbrev pub everyone : List ℕ → Bool
 everyone ballot = true
 
-votes-le : (test : List ℕ → Bool) (row : Row) → votes_passing test row ≤ row.1
-votes-le test row = elim (test row.0) as (λ b. cond b row.1 0 ≤ row.1) [ true ↦ omega arith | false ↦ omega arith ]
-
 pub sum-votes-le : (test : List ℕ → Bool) (rows : List Row) → sum_by (votes_passing test) rows ≤ voter_count rows
 sum-votes-le test [] = omega arith
 sum-votes-le test (row ∷ rows) =
-    omega (arith, sum_by-cons (votes_passing test) row rows, sum_by-cons (λ (r : Row). r.1) row rows, votes-le test row, sum-votes-le test rows)
+    omega (arith, sum_by-cons (votes_passing test) row rows, sum_by-cons (λ (r : Row). r.1) row rows, at_most (test row.0) row.1, sum-votes-le test rows)
 
 pub sum-group_of : (test : List ℕ → Bool) (rows : List Row) → sum (group_of test rows) ≡ sum_by (votes_passing test) rows
 sum-group_of test [] = refl

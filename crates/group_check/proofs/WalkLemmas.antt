@@ -1,4 +1,5 @@
 -- The walk over the lists of a pool: which lists stand below a beginning, and in which order.
+use Rattle.std.proofs.lemmas.Bool.{or_right}
 use Rattle.std.proofs.Common.{◌≡◌, ℕ, zero, suc, ◌+◌, ◌-◌, ◌<◌, ◌≤◌, ◌==◌, ◌++◌, Bool, true, false, List, [], ◌∷◌, None, refl, sym, ap, ◌∙◌, arith, length, map}
 use Rattle.std.specs.Prelude.{find}
 use Rattle.std.specs.List.{AllByRecursion}
@@ -7,7 +8,7 @@ use Rattle.ballot_base.specs.Lists.{IsIncreasing}
 use Rattle.ballot_base.specs.CandSet.{has_member, with_member}
 use Rattle.ballot_base.proofs.Increasing.{IsIncreasing-lower, with_member-gt}
 use Rattle.group_check.specs.Steps.Checking.{sublists, completions}
-use Rattle.group_check.proofs.SetLemmas.{or_mono, or_second}
+use Rattle.group_check.proofs.SetLemmas.{or_mono}
 
 -- ---- a beginning and what comes after it
 
@@ -73,10 +74,7 @@ AllByRecursion-map P f [] h = tt
 AllByRecursion-map P f (x ∷ xs) h = (h.0, AllByRecursion-map P f xs h.1)
 
 no_tail : (first last : ℕ) (pool : List ℕ) → IsTail first last pool 0 []
-no_tail first last pool = record { increasing = tt; count = refl; inside = λ n h. absurd (never h) }
-  where
-    never : false ≡ true → ⊥
-    never e = cc
+no_tail first last pool = record { increasing = tt; count = refl; inside = λ n h. cc }
 
 pub tails : (first last : ℕ) (pool : List ℕ) (size : ℕ) → IsIncreasing first last pool → AllByRecursion (IsTail first last pool size) (sublists pool size)
 tails first last [] zero i = (no_tail first last [], tt)
@@ -93,7 +91,7 @@ tails first last (x ∷ xs) (suc size) i =
     (AllByRecursion-weaker (IsTail (x + 1) last xs (suc size)) (IsTail first last (x ∷ xs) (suc size)) (λ rest t. record {
       increasing = IsIncreasing-lower first (x + 1) last rest (omega (arith, i.0)) t.increasing;
       count = t.count;
-      inside = λ n h. or_second (x == n) (has_member xs n) (t.inside n h);
+      inside = λ n h. or_right (x == n) (has_member xs n) (t.inside n h);
     }) (sublists xs (suc size)) (tails (x + 1) last xs (suc size) i.2))
 
 -- a pool with too few items has no list

@@ -3,21 +3,22 @@ ghost use Rattle.std.specs.Prelude.{◌≡◌, ◌≢◌, ℕ, ◌+◌, ◌-◌,
 ghost use Rattle.std.specs.List.{list_all};
 ghost use Rattle.ballot_base.specs.Limits.{most_candidates, most_members, most_voters};
 ghost use Rattle.ballot_base.specs.Lists.{IsIncreasing};
-ghost use Rattle.ballot_base.specs.Ballots.{IsElection, Row};
-ghost use Rattle.ballot_base.specs.Clones.{AreClones, clones_among};
+ghost use Rattle.ballot_base.specs.Ballots.{IsElection};
+ghost use Rattle.ballot_base.specs.Clones.{AreClones};
 ghost use Rattle.group_check.specs.Groups.{HasProperty};
 ghost use Rattle.group_check.specs.Report.{IsReport, first_violation, includes, lists_within, is_in_group, group_of};
-ghost use Rattle.group_check.specs.Steps.Checking.{greatest_level, shared_size, may_share, IsFirst, IsSecond, Computes, pairs_of, first_of, first_of_lists, completions, is_possible, possible_candidates, voters_below, voters_around, is_enough_within, is_large};
+ghost use Rattle.group_check.specs.Steps.Checking.{IsIncreasing-prop, greatest_level, shared_size, may_share, IsFirst, IsSecond, Computes, pairs_of, first_of, first_of_lists, completions, is_possible, possible_candidates, voters_below, voters_around, is_enough_within, is_large};
 
 use crate::property::{Property, Violation, includes};
-use ballot_base::{CandSet, Clones, Profile, all_clones};
+use ballot_base::{CandSet, Clones, Profile};
 use std::alloc::Allocator;
 
-/// So many lists U are few enough to be tried before any candidates.
+/// Lists U are tried on their own, before any candidates, only if there are at most this many.
 const FEW_LISTS: u64 = 1 << 20;
 
-/// The group that shows that the committee lacks the property, if it lacks it: at the least level at which some group
-/// breaks the property, the whole group of the first candidates that show it. It takes no memory.
+/// Returns a group that shows that the committee lacks the property, or `None` if the committee has it. The group
+/// breaks the property at the lowest level at which any group does. It is the whole group of the first candidates that
+/// show a violation at that level. Allocates no memory.
 pub fn find_violation<A: Allocator + Copy>(
     profile: &Profile<A>,
     committee: CandSet,
@@ -29,9 +30,16 @@ pub fn find_violation<A: Allocator + Copy>(
     ensures none { (result ≡ None) ↔ HasProperty property profile.now committee }
     ensures some { IfSome result (λ report. IsReport property profile.now committee report) }
 {
-    let clones = all_clones(profile);
+    let clones = Clones::of(profile);
     for level in 1..=greatest_level(property, committee) {
-        let found = first_at(profile, &clones, committee, property, level);
+        let search = Search {
+            profile,
+            clones: &clones,
+            committee,
+            property,
+            level,
+        };
+        let found = search.first();
         if found.is_some() {
             return found;
         }
@@ -39,7 +47,7 @@ pub fn find_violation<A: Allocator + Copy>(
     None
 }
 
-/// The greatest level at which a group can break the property.
+/// The highest level at which a group can break the property.
 fn greatest_level(property: Property, committee: CandSet) -> u8
     ensures { result ≡ greatest_level property committee }
 {
@@ -49,137 +57,228 @@ fn greatest_level(property: Property, committee: CandSet) -> u8
     }
 }
 
-/// How many candidates a group has to share at a level.
-fn shared_size(property: Property, level: u8) -> u8
-    ensures { result ≡ shared_size property level }
-{
-    match property {
-        Property::Jr | Property::Pjr | Property::Ejr => level,
-        Property::EjrPlus => 1,
-    }
-}
-
-/// Whether a candidate is one of those that a group can share.
-fn may_share(property: Property, committee: CandSet, candidate: u8) -> bool
-    ensures { result ≡ may_share property committee candidate }
-{
-    property != Property::EjrPlus || !committee.has(candidate)
-}
-
-/// The clones of a candidate, itself among them.
-fn clones_of(clones: &Clones, candidate: u8) -> CandSet
-    requires { candidate ≤ most_candidates }
-    ensures { (m : ℕ) (rows : List Row) → AreClones m rows clones.now → 1 ≤ candidate → candidate ≤ m
-        → result ≡ clones_among m rows candidate }
-{
-    clones[usize::from(candidate)]
-}
-
-/// The first violation at a level.
-fn first_at<A: Allocator + Copy>(
-    profile: &Profile<A>,
-    clones: &Clones,
+/// The search for the first violation at one level.
+#[derive(Drop)]
+struct Search<'a, A: Allocator + Copy> {
+    profile: &'a Profile<A>,
+    clones: &'a Clones,
     committee: CandSet,
     property: Property,
     level: u8,
-) -> Option<Violation>
-    requires clones { AreClones profile.now.m profile.now.rows clones.now }
-    requires some { committee ≢ [] }
-    requires candidates { IsIncreasing 1 profile.now.m committee }
-    requires least { 1 ≤ level }
-    requires most { level ≤ greatest_level property committee }
-    ensures { result ≡ first_violation property profile.now committee level }
-{
-    let pool = possible_candidates(profile, committee, property, level);
-    let size = shared_size(property, level);
-    if pool.len() < size
-        || property == Property::Pjr && is_refuted(profile, clones, committee, level)
+    ghost classes: { AreClones profile.now.m profile.now.rows clones.now },
+    ghost candidates: { IsIncreasing 1 profile.now.m committee } by { IsIncreasing-prop 1 profile.now.m committee },
+    ghost least: { 1 ≤ level },
+    ghost most: { level ≤ greatest_level property committee },
+}
+
+impl<A: Allocator + Copy> Search<'_, A> {
+    /// The first violation at the level.
+    fn first(&self) -> Option<Violation>
+        ensures { result ≡ first_violation self.now.property self.now.profile.now self.now.committee self.now.level }
     {
-        return None;
+        let pool = self.possible_candidates();
+        let size = self.shared_size();
+        if pool.len() < size || self.is_refuted() {
+            return None;
+        }
+        self.first_beyond(CandSet::empty(), pool, size)
     }
-    first_beyond(
-        profile,
-        clones,
-        committee,
-        property,
-        level,
-        CandSet::empty(),
-        pool,
-        size,
-    )
-}
 
-/// The candidates who can be shared by a group that breaks a property at a level: enough of the voters who approve the
-/// candidate are below the level, and for EJR+ it is no member.
-fn possible_candidates<A: Allocator + Copy>(
-    profile: &Profile<A>,
-    committee: CandSet,
-    property: Property,
-    level: u8,
-) -> CandSet
-    ensures candidates { result ≡ possible_candidates property profile.now committee level }
-    ensures valid { IsElection profile.now }
-{
-    let mut pool = CandSet::empty();
-    for candidate in 1..=profile.m() {
-        if is_possible(profile, committee, property, level, candidate) {
-            pool = pool.with(candidate);
+    /// How many candidates a group has to share.
+    fn shared_size(&self) -> u8
+        ensures { result ≡ shared_size self.now.property self.now.level }
+    {
+        match self.property {
+            Property::Jr | Property::Pjr | Property::Ejr => self.level,
+            Property::EjrPlus => 1,
         }
     }
-    pool
-}
 
-/// Whether a candidate can be shared by a group that breaks a property at a level.
-fn is_possible<A: Allocator + Copy>(
-    profile: &Profile<A>,
-    committee: CandSet,
-    property: Property,
-    level: u8,
-    candidate: u8,
-) -> bool
-    requires low { 1 ≤ candidate }
-    requires high { candidate ≤ most_candidates }
-    ensures { result ≡ is_possible property profile.now committee level candidate }
-{
-    if !may_share(property, committee, candidate) {
-        return false;
+    /// Whether a group may share this candidate. EJR+ excludes members of the committee.
+    fn may_share(&self, candidate: u8) -> bool
+        ensures { result ≡ may_share self.now.property self.now.committee candidate }
+    {
+        self.property != Property::EjrPlus || !self.committee.has(candidate)
     }
-    let alone = CandSet::empty().with(candidate);
-    let voters = voters_below(profile, committee, level, alone);
-    is_enough(profile, committee, level, voters)
+
+    /// Which candidates a group can share if it breaks the property.
+    fn possible_candidates(&self) -> CandSet
+        ensures candidates { result
+            ≡ possible_candidates self.now.property self.now.profile.now self.now.committee self.now.level }
+        ensures valid { IsElection self.now.profile.now }
+    {
+        let mut pool = CandSet::empty();
+        for candidate in 1..=self.profile.m() {
+            if self.is_possible(candidate) {
+                pool = pool.with(candidate);
+            }
+        }
+        pool
+    }
+
+    /// Whether a group can share this candidate if it breaks the property. The property has to allow it, and enough of
+    /// the candidate's voters have to approve fewer members than the level.
+    fn is_possible(&self, candidate: u8) -> bool
+        ensures { result
+            ≡ is_possible self.now.property self.now.profile.now self.now.committee self.now.level candidate }
+    {
+        self.may_share(candidate) && self.is_enough(self.voters_below(CandSet::empty(), candidate))
+    }
+
+    /// Whether the property is PJR and no list U has enough voters, whichever candidates they share. If there are many
+    /// lists U, none is tried and the answer is `false`.
+    fn is_refuted(&self) -> bool
+        ensures { IsTrue result
+            → first_violation self.now.property self.now.profile.now self.now.committee self.now.level ≡ None }
+    {
+        let nobody = CandSet::empty();
+        let size = self.level - 1;
+        self.property == Property::Pjr
+            && has_few_lists(self.committee.len(), size)
+            && self
+                .first_within(nobody, nobody, self.committee, size)
+                .is_none()
+    }
+
+    /// The first violation that shares these candidates and `left` candidates of the pool, all of which come after
+    /// them.
+    fn first_beyond(&self, shared: CandSet, pool: CandSet, left: u8) -> Option<Violation>
+        requires order { IsIncreasing 1 self.now.profile.now.m (shared ++ pool) }
+        requires size { length shared + left ≡ shared_size self.now.property self.now.level }
+        requires shared { IsTrue (list_all (may_share self.now.property self.now.committee) (shared ++ pool)) }
+        ensures { result ≡ first_of_lists self.now.property self.now.profile.now self.now.committee self.now.level
+            (completions shared pool left) }
+    {
+        if left == 0 {
+            return self.first_sharing(shared);
+        }
+        if pool.len() < left {
+            return None;
+        }
+        let (candidate, rest) = pool.split_first()?;
+        // A list that begins with `shared` and the candidate has at most this many voters.
+        if self.is_enough(self.voters_below(shared, candidate)) {
+            let found = self.first_beyond(shared.with(candidate), rest, left - 1);
+            if found.is_some() {
+                return found;
+            }
+        }
+        // A list with a clone in the candidate's place has the same group as the list with the candidate.
+        let others = rest.minus(self.clones.class(candidate));
+        self.first_beyond(shared, others, left)
+    }
+
+    /// The first violation that shares exactly these candidates.
+    fn first_sharing(&self, shared: CandSet) -> Option<Violation>
+        requires { IsFirst self.now.property self.now.profile.now.m self.now.committee self.now.level shared }
+        ensures { let lists = lists_within self.now.property self.now.profile.now.m self.now.committee self.now.level in
+            result ≡ first_of self.now.property self.now.profile.now self.now.committee self.now.level
+            (pairs_of shared lists) }
+    {
+        let nobody = CandSet::empty();
+        if self.property != Property::Pjr {
+            return self.counted(shared, nobody);
+        }
+        let within = self.first_within(shared, nobody, self.committee, self.level - 1)?;
+        self.counted(shared, within)
+    }
+
+    /// The first list U that consists of these members and `left` members of the pool, all of which come after them,
+    /// and that has enough voters who approve all of `shared`.
+    fn first_within(
+        &self,
+        shared: CandSet,
+        within: CandSet,
+        pool: CandSet,
+        left: u8,
+    ) -> Option<CandSet>
+        requires members { IsTrue (includes self.now.committee pool) }
+        requires order { IsIncreasing 1 self.now.profile.now.m (within ++ pool) }
+        ensures { result ≡ find (is_enough_within self.now.profile.now self.now.committee self.now.level shared)
+            (completions within pool left) }
+    {
+        if pool.len() < left {
+            return None;
+        }
+        // A list that begins with these members has at most this many voters.
+        if !self.is_enough(self.voters_around(shared, within, pool, left)) {
+            return None;
+        }
+        if left == 0 {
+            return Some(within);
+        }
+        let (member, rest) = pool.split_first()?;
+        let more = within.with(member);
+        let found = self.first_within(shared, more, rest, left - 1);
+        if found.is_some() {
+            return found;
+        }
+        // A voter who approves the member approves its clones too, and so fits no list that has a clone without it.
+        let others = rest.minus(self.clones.class(member));
+        self.first_within(shared, within, others, left)
+    }
+
+    /// The violation with the whole group of these lists, if the group is large enough for the level.
+    fn counted(&self, shared: CandSet, within: CandSet) -> Option<Violation>
+        requires shared { IsFirst self.now.property self.now.profile.now.m self.now.committee self.now.level shared }
+        requires within { IsSecond self.now.property self.now.profile.now.m self.now.level within }
+        ensures { result ≡ first_of self.now.property self.now.profile.now self.now.committee self.now.level
+            ((shared, within) ∷ []) }
+    {
+        let mut violation = Violation {
+            property: self.property,
+            committee: self.committee,
+            level: self.level,
+            shared,
+            within,
+            voters: 0,
+        };
+        violation.voters = supporting_voters(self.profile, &violation);
+        self.is_enough(violation.voters).then_some(violation)
+    }
+
+    /// Whether a group of this many voters is large enough for the level l: it makes up at least l/k of all voters, if
+    /// the committee has k members.
+    fn is_enough(&self, voters: u64) -> bool
+        requires { voters ≤ most_voters }
+        ensures { result ≡ is_large self.now.profile.now self.now.committee self.now.level voters }
+    {
+        let due = u64::from(self.level) * self.profile.voters();
+        voters * u64::from(self.committee.len()) >= due
+    }
+
+    /// How many voters approve this candidate, all of `shared`, and fewer members than the level.
+    fn voters_below(&self, shared: CandSet, candidate: u8) -> u64
+        ensures group { result
+            ≡ sum (voters_below self.now.profile.now self.now.committee self.now.level (candidate ∷ shared)) }
+        ensures most { result ≤ most_voters }
+        ensures valid { IsElection self.now.profile.now }
+    {
+        voters_with(self.profile, |ballot| {
+            ballot.has(candidate)
+                && includes(ballot, shared)
+                && ballot.common(self.committee).len() < self.level
+        })
+    }
+
+    /// How many voters approve all of `shared`, and no members but those of `within` and at most `left` of the pool.
+    fn voters_around(&self, shared: CandSet, within: CandSet, pool: CandSet, left: u8) -> u64
+        ensures group { result
+            ≡ sum (voters_around self.now.profile.now self.now.committee shared within pool left) }
+        ensures most { result ≤ most_voters }
+        ensures valid { IsElection self.now.profile.now }
+    {
+        let committee = self.committee;
+        voters_with(self.profile, |ballot| {
+            let approved = ballot.common(committee);
+            let more = approved.common(pool).len().min(left);
+            includes(ballot, shared) && approved.len() <= approved.common(within).len() + more
+        })
+    }
 }
 
-/// Whether no list U has enough voters at a level, whatever candidates they share. Where there are many lists U none is
-/// tried, and the answer is no.
-fn is_refuted<A: Allocator + Copy>(
-    profile: &Profile<A>,
-    clones: &Clones,
-    committee: CandSet,
-    level: u8,
-) -> bool
-    requires clones { AreClones profile.now.m profile.now.rows clones.now }
-    requires candidates { IsIncreasing 1 profile.now.m committee }
-    requires least { 1 ≤ level }
-    requires most { level ≤ length committee }
-    ensures { IsTrue result → first_violation Property.Pjr profile.now committee level ≡ None }
-{
-    let nobody = CandSet::empty();
-    has_few_lists(committee.len(), level - 1)
-        && first_within(
-            profile,
-            clones,
-            committee,
-            level,
-            nobody,
-            nobody,
-            committee,
-            level - 1,
-        )
-        .is_none()
-}
-
-/// Whether there are at most `FEW_LISTS` lists of so many of the members of a committee of k. Any answer would be
-/// right: it only decides whether one more test is worth its time.
+/// Whether there are at most `FEW_LISTS` lists of `size` members of a committee of k. Either answer would be correct: it
+/// only decides whether one more test is worth its time.
 fn has_few_lists(k: u8, size: u8) -> bool
     requires most { k ≤ most_candidates }
     requires fits { size ≤ k }
@@ -194,221 +293,6 @@ fn has_few_lists(k: u8, size: u8) -> bool
     lists <= FEW_LISTS
 }
 
-/// The first violation at a level that shares these candidates and `left` of the pool, which come after them.
-fn first_beyond<A: Allocator + Copy>(
-    profile: &Profile<A>,
-    clones: &Clones,
-    committee: CandSet,
-    property: Property,
-    level: u8,
-    shared: CandSet,
-    pool: CandSet,
-    left: u8,
-) -> Option<Violation>
-    requires clones { AreClones profile.now.m profile.now.rows clones.now }
-    requires candidates { IsIncreasing 1 profile.now.m committee }
-    requires least { 1 ≤ level }
-    requires most { level ≤ greatest_level property committee }
-    requires order { IsIncreasing 1 profile.now.m (shared ++ pool) }
-    requires size { length shared + left ≡ shared_size property level }
-    requires shared { IsTrue (list_all (may_share property committee) (shared ++ pool)) }
-    ensures { result ≡ first_of_lists property profile.now committee level (completions shared pool left) }
-{
-    if left == 0 {
-        return first_sharing(profile, clones, committee, property, level, shared);
-    }
-    if pool.len() < left {
-        return None;
-    }
-    pool.valid();
-    let (candidate, rest) = pool.split_first()?;
-    let more = shared.with(candidate);
-    let voters = voters_below(profile, committee, level, more);
-    // No list below a beginning has more voters than it.
-    if is_enough(profile, committee, level, voters) {
-        let found = first_beyond(
-            profile,
-            clones,
-            committee,
-            property,
-            level,
-            more,
-            rest,
-            left - 1,
-        );
-        if found.is_some() {
-            return found;
-        }
-    }
-    // A list with a clone in the candidate's place has the same groups as the one with the candidate.
-    let others = rest.minus(clones_of(clones, candidate));
-    first_beyond(
-        profile, clones, committee, property, level, shared, others, left,
-    )
-}
-
-/// The first violation at a level with these candidates.
-fn first_sharing<A: Allocator + Copy>(
-    profile: &Profile<A>,
-    clones: &Clones,
-    committee: CandSet,
-    property: Property,
-    level: u8,
-    shared: CandSet,
-) -> Option<Violation>
-    requires clones { AreClones profile.now.m profile.now.rows clones.now }
-    requires candidates { IsIncreasing 1 profile.now.m committee }
-    requires least { 1 ≤ level }
-    requires most { level ≤ greatest_level property committee }
-    requires shared { IsFirst property profile.now.m committee level shared }
-    ensures { let lists = lists_within property profile.now.m committee level in
-        result ≡ first_of property profile.now committee level (pairs_of shared lists) }
-{
-    let nobody = CandSet::empty();
-    if property != Property::Pjr {
-        return counted(profile, committee, property, level, shared, nobody);
-    }
-    let within = first_within(
-        profile,
-        clones,
-        committee,
-        level,
-        shared,
-        nobody,
-        committee,
-        level - 1,
-    )?;
-    counted(profile, committee, property, level, shared, within)
-}
-
-/// The first list U of these members and `left` of the pool, which come after them, that has enough voters who approve
-/// all the candidates.
-fn first_within<A: Allocator + Copy>(
-    profile: &Profile<A>,
-    clones: &Clones,
-    committee: CandSet,
-    level: u8,
-    shared: CandSet,
-    within: CandSet,
-    pool: CandSet,
-    left: u8,
-) -> Option<CandSet>
-    requires clones { AreClones profile.now.m profile.now.rows clones.now }
-    requires members { IsTrue (includes committee pool) }
-    requires order { IsIncreasing 1 profile.now.m (within ++ pool) }
-    ensures { result ≡ find (is_enough_within profile.now committee level shared) (completions within pool left) }
-{
-    if pool.len() < left {
-        return None;
-    }
-    // No list below this beginning has more voters than those who stay around it.
-    let voters = voters_around(profile, committee, shared, within, pool, left);
-    if !is_enough(profile, committee, level, voters) {
-        return None;
-    }
-    if left == 0 {
-        return Some(within);
-    }
-    let (member, rest) = pool.split_first()?;
-    let more = within.with(member);
-    let found = first_within(
-        profile,
-        clones,
-        committee,
-        level,
-        shared,
-        more,
-        rest,
-        left - 1,
-    );
-    if found.is_some() {
-        return found;
-    }
-    // A voter who approves the member approves its clones, and fits no list that has one of them without it.
-    let others = rest.minus(clones_of(clones, member));
-    first_within(
-        profile, clones, committee, level, shared, within, others, left,
-    )
-}
-
-/// The violation with the whole group of these candidates, if it is large enough for the level.
-fn counted<A: Allocator + Copy>(
-    profile: &Profile<A>,
-    committee: CandSet,
-    property: Property,
-    level: u8,
-    shared: CandSet,
-    within: CandSet,
-) -> Option<Violation>
-    requires candidates { IsIncreasing 1 profile.now.m committee }
-    requires least { 1 ≤ level }
-    requires most { level ≤ greatest_level property committee }
-    requires shared { IsFirst property profile.now.m committee level shared }
-    requires within { IsSecond property profile.now.m level within }
-    ensures { result ≡ first_of property profile.now committee level ((shared, within) ∷ []) }
-{
-    let mut violation = Violation {
-        property,
-        committee,
-        level,
-        shared,
-        within,
-        voters: 0,
-    };
-    violation.voters = supporting_voters(profile, &violation);
-    is_enough(profile, committee, level, violation.voters).then_some(violation)
-}
-
-/// Whether so many voters are enough for the level: at least l · n / k of the n voters, for committees of k.
-fn is_enough<A: Allocator + Copy>(
-    profile: &Profile<A>,
-    committee: CandSet,
-    level: u8,
-    voters: u64,
-) -> bool
-    requires { voters ≤ most_voters }
-    ensures { result ≡ is_large profile.now committee level voters }
-{
-    let due = u64::from(level) * profile.voters();
-    voters * u64::from(committee.len()) >= due
-}
-
-/// How many voters approve all of these candidates and fewer members than the level.
-fn voters_below<A: Allocator + Copy>(
-    profile: &Profile<A>,
-    committee: CandSet,
-    level: u8,
-    shared: CandSet,
-) -> u64
-    ensures group { result ≡ sum (voters_below profile.now committee level shared) }
-    ensures most { result ≤ most_voters }
-    ensures valid { IsElection profile.now }
-{
-    voters_with(profile, |ballot| {
-        includes(ballot, shared) && ballot.common(committee).len() < level
-    })
-}
-
-/// How many voters approve all of these candidates and no member but those within and at most `left` of the pool.
-fn voters_around<A: Allocator + Copy>(
-    profile: &Profile<A>,
-    committee: CandSet,
-    shared: CandSet,
-    within: CandSet,
-    pool: CandSet,
-    left: u8,
-) -> u64
-    ensures group { result ≡ sum (voters_around profile.now committee shared within pool left) }
-    ensures most { result ≤ most_voters }
-    ensures valid { IsElection profile.now }
-{
-    voters_with(profile, |ballot| {
-        let approved = ballot.common(committee);
-        let more = approved.common(pool).len().min(left);
-        includes(ballot, shared) && approved.len() <= approved.common(within).len() + more
-    })
-}
-
 /// How many voters belong to the group of a violation.
 fn supporting_voters<A: Allocator + Copy>(profile: &Profile<A>, violation: &Violation) -> u64
     ensures group { result ≡ sum (group_of (is_in_group violation.now) profile.now.rows) }
@@ -417,7 +301,7 @@ fn supporting_voters<A: Allocator + Copy>(profile: &Profile<A>, violation: &Viol
     voters_with(profile, |ballot| violation.contains(ballot))
 }
 
-/// How many voters have a ballot that passes.
+/// How many voters have a ballot that passes the test.
 fn voters_with<A: Allocator + Copy, F: Fn(CandSet) -> bool>(profile: &Profile<A>, passes: F) -> u64
     requires { F.IsAlwaysCallable passes }
     ensures group { (test : List ℕ → Bool) → Computes (F.post passes) test

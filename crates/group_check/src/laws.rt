@@ -7,7 +7,7 @@ ghost use Rattle.group_check.specs.Report.{IsReport};
 
 use crate::property::{Property, Violation};
 
-/// A committee with EJR+ has extended justified representation, where there is a voter.
+/// If there is a voter, a committee with EJR+ has extended justified representation.
 pub fn extended_plus_is_extended()
     ensures { (e : Election) (committee : List ℕ) → IsElection e → 1 ≤ voter_count e.rows → IsIncreasing 1 e.m committee
         → HasProperty Property.EjrPlus e committee → HasProperty Property.Ejr e committee }

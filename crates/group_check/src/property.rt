@@ -64,8 +64,8 @@ pub struct Violation {
     pub level: u8,
     /// The l candidates that each of the group's voters approves; for `EjrPlus` one, outside the committee.
     pub shared: CandSet,
-    /// The l - 1 members of the committee in which all those lie that the group's voters approve. Empty unless the
-    /// property is `Pjr`.
+    /// For `Pjr`, l - 1 members of the committee, among them all members that the group's voters approve. Empty for the
+    /// other properties.
     pub within: CandSet,
     /// How many voters the group has.
     pub voters: u64,
@@ -85,7 +85,7 @@ impl Violation {
     }
 }
 
-/// Whether the set has all members of the other.
+/// Whether `set` has all members of `other`.
 pub(crate) fn includes(set: CandSet, other: CandSet) -> bool
     ensures { result ≡ includes set other }
 {

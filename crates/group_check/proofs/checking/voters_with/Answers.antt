@@ -1,4 +1,4 @@
-use Rattle.std.proofs.Common.{length, take, refl, sym, ap, ◌∙◌, arith}
+use Rattle.std.proofs.Common.{length, refl, sym, ap, ◌∙◌, arith}
 use Rattle.std.specs.Prelude.{sum_by}
 use Rattle.std.proofs.lemmas.List.{length_push}
 use Rattle.std.proofs.lemmas.List.Sums.{sum_by-take-le}
@@ -15,8 +15,7 @@ overflow_add-voters g c =
     let row : Row = (c.in-Some.ballot, c.in-Some.count) in
     let at = row_of_turn c.args.profile.now.rows (c.into_iter-ballot-iterator.ensures.into_iter_gives ∙ c.ballots-ballot-items.ensures.rows) c.loop-ballot.yielded c.loop-ballot.yielded_by row c.in-Some.ensures.steps in
     let bound = votes-bound everyone c.args.profile.now (length c.loop-ballot.yielded) row c.ballots-ballot-items.ensures.valid at in
-    let all = votes-yes everyone row refl in
-    omega (arith, bound, all, c.loop-ballot.invariant.few)
+    omega (arith, bound, votes-yes everyone row refl, c.loop-ballot.invariant.few)
 
 pub loop-ballot-preserved-then-passes : goal.loop-ballot-preserved-then-passes
 loop-ballot-preserved-then-passes g c =
@@ -24,17 +23,11 @@ loop-ballot-preserved-then-passes g c =
     let n = length c.loop-ballot.yielded in
     let row : Row = (c.in-Some.ballot, c.in-Some.count) in
     let at = row_of_turn rows (c.into_iter-ballot-iterator.ensures.into_iter_gives ∙ c.ballots-ballot-items.ensures.rows) c.loop-ballot.yielded c.loop-ballot.yielded_by row c.in-Some.ensures.steps in
-    let next = sym (length_push c.loop-ballot.yielded row) in
     record {
       counted = λ test is.
-          let more = votes-more test rows n row at in
-          let later = ap (λ n. sum_by (votes_passing test) (take n rows)) next in
-          let same = is row.0 c.passes.result c.passes.ensures in
-          omega (arith, later, more, c.loop-ballot.invariant.counted test is, votes-yes test row (sym same ∙ c.if-passes.true));
-      few =
-          let more = votes-more everyone rows n row at in
-          let later = ap (λ n. sum_by (votes_passing everyone) (take n rows)) next in
-          omega (arith, later, more, votes-yes everyone row refl, c.loop-ballot.invariant.few);
+          let passed = votes-yes test row (sym (is row.0 c.passes.result c.passes.ensures) ∙ c.if-passes.true) in
+          rw length_push (omega (arith, votes-more test rows n row at, c.loop-ballot.invariant.counted test is, passed));
+      few = rw length_push (omega (arith, votes-more everyone rows n row at, votes-yes everyone row refl, c.loop-ballot.invariant.few));
     }
 
 pub loop-ballot-preserved : goal.loop-ballot-preserved
@@ -43,17 +36,11 @@ loop-ballot-preserved g c =
     let n = length c.loop-ballot.yielded in
     let row : Row = (c.in-Some.ballot, c.in-Some.count) in
     let at = row_of_turn rows (c.into_iter-ballot-iterator.ensures.into_iter_gives ∙ c.ballots-ballot-items.ensures.rows) c.loop-ballot.yielded c.loop-ballot.yielded_by row c.in-Some.ensures.steps in
-    let next = sym (length_push c.loop-ballot.yielded row) in
     record {
       counted = λ test is.
-          let more = votes-more test rows n row at in
-          let later = ap (λ n. sum_by (votes_passing test) (take n rows)) next in
-          let same = is row.0 c.passes.result c.passes.ensures in
-          omega (arith, later, more, c.loop-ballot.invariant.counted test is, votes-none test row (sym same ∙ c.if-passes.false));
-      few =
-          let more = votes-more everyone rows n row at in
-          let later = ap (λ n. sum_by (votes_passing everyone) (take n rows)) next in
-          omega (arith, later, more, c.loop-ballot.invariant.few);
+          let failed = votes-none test row (sym (is row.0 c.passes.result c.passes.ensures) ∙ c.if-passes.false) in
+          rw length_push (omega (arith, votes-more test rows n row at, c.loop-ballot.invariant.counted test is, failed));
+      few = rw length_push (omega (arith, votes-more everyone rows n row at, votes-yes everyone row refl, c.loop-ballot.invariant.few));
     }
 
 pub returns-clause-group : goal.returns-clause-group
@@ -64,6 +51,3 @@ returns-clause-group g c = λ test is.
 pub returns-clause-most : goal.returns-clause-most
 returns-clause-most g c =
     omega (arith, c.loop-ballot.invariant.few, sum_by-take-le (votes_passing everyone) c.args.profile.now.rows (length c.loop-ballot.yielded), sum-votes-le everyone c.args.profile.now.rows, c.ballots-ballot-items.ensures.valid.voters)
-
-pub returns-clause-valid : goal.returns-clause-valid
-returns-clause-valid g c = c.ballots-ballot-items.ensures.valid

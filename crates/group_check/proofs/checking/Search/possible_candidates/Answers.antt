@@ -2,12 +2,12 @@ use Rattle.std.proofs.Common.{◌≡◌, ◌+◌, ◌-◌, ap, sym, ◌∙◌, a
 use Rattle.std.specs.List.{range_with_len}
 use Rattle.group_check.specs.Steps.Checking.{is_possible}
 use Rattle.group_check.proofs.BeginningLemmas.{possible_more}
-use Rattle.group_check.proofs.checking.possible_candidates.Goals as goal
-use Rattle.group_check.proofs.checking.possible_candidates.Goals.{then-is_possible, else-is_possible}
+use Rattle.group_check.proofs.checking.Search.possible_candidates.Goals as goal
+use Rattle.group_check.proofs.checking.Search.possible_candidates.Goals.{then-is_possible, else-is_possible}
 
 pub loop-candidate-preserved : goal.loop-candidate-preserved
 loop-candidate-preserved g c =
-    let test = is_possible c.args.property c.args.profile.now c.args.committee c.args.level in
+    let test = is_possible c.args.self.now.property c.args.self.now.profile.now c.args.self.now.committee c.args.self.now.level in
     let n = c.loop-candidate.candidate in
     let back : n + 1 - 1 ≡ n = omega arith in
     possible_more test n c.loop-candidate.pool c.if-is_possible.pool c.loop-candidate.auto.candidate c.loop-candidate.invariant
@@ -18,9 +18,9 @@ loop-candidate-preserved g c =
 
 pub returns-after-is_possible-clause-candidates : goal.returns-after-is_possible-clause-candidates
 returns-after-is_possible-clause-candidates g c =
-    let test = is_possible c.args.property c.args.profile.now c.args.committee c.args.level in
+    let test = is_possible c.args.self.now.property c.args.self.now.profile.now c.args.self.now.committee c.args.self.now.level in
     let n = c.loop-candidate.candidate in
-    let last : n ≡ c.args.profile.now.m = omega (arith, c.m-candidate-end.ensures.value) in
+    let last : n ≡ c.args.self.now.profile.now.m = omega (arith, c.m-candidate-end.ensures.value) in
     possible_more test n c.loop-candidate.pool c.if-is_possible.pool c.loop-candidate.auto.candidate c.loop-candidate.invariant
     (elim c.if-is_possible.branch [
       | then-is_possible w ↦ inl (sym c.is_possible.ensures ∙ w.if-is_possible.true, w.pool-is ∙ w.with-pool.ensures)
