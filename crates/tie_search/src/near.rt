@@ -1,14 +1,20 @@
 //! The search for a committee that is near each ballot, depth first, that goes into no set where a ballot needs more
 //! hits than it can have.
-ghost use Rattle.std.specs.Prelude.{◌≡◌, ◌-◌, ◌≤◌, IsTrue, MatchOption};
+ghost use Rattle.std.specs.Prelude.{◌≡◌, ℕ, ◌+◌, ◌-◌, ◌^◌, ◌≤◌, ◌&&◌, [], true, nat_le, length, slice_index, IsTrue, MatchOption};
 ghost use Rattle.ballot_base.specs.Clones.{AreClones};
+ghost use Rattle.ballot_base.specs.CandSet.{has_member};
+ghost use Rattle.ballot_base.specs.Limits.{most_candidates};
+ghost use Rattle.ballot_base.specs.Lists.{IsIncreasing};
 ghost use Rattle.tie_walk.specs.Values.{closeness, greatest_distance};
 ghost use Rattle.tie_search.specs.Completions.{IsOpen, IsOutOfReach, IsReaching};
-ghost use Rattle.tie_search.specs.Steps.Near.{AreChoices, IsNarrowed};
+ghost use Rattle.tie_search.specs.Steps.Near.{AreChoices, AreWeighted, IsNarrowed};
 
 use crate::needs::still_needed;
-use ballot_base::{CandSet, Clones, Profile};
+use crate::order::Order;
+use crate::search::excess;
+use ballot_base::{CandSet, Clones, PLACES, Profile};
 use std::alloc::Allocator;
+use tie_walk::add_to_members;
 
 /// What all steps of a search share: the ballots, who are clones on them, and how far a committee may be from each.
 #[derive(Drop)]
@@ -16,6 +22,15 @@ pub(crate) struct NearSearch<'a, A: Allocator + Copy> {
     pub(crate) profile: &'a Profile<A>,
     pub(crate) clones: &'a Clones,
     pub(crate) most: u8,
+}
+
+/// What all ballots still need, and what candidates can give of it: each ballot counts as much as its weight.
+#[derive(Drop)]
+struct WeightedNeeds {
+    total: u128,
+    // The weights of the ballots that approve a free candidate, at the candidate's number.
+    supports: [u128; PLACES],
+    order: Order,
 }
 
 impl<A: Allocator + Copy> NearSearch<'_, A> {
@@ -30,22 +45,114 @@ impl<A: Allocator + Copy> NearSearch<'_, A> {
             left (self.now.profile.now.m - self.now.most)) }
     {
         self.profile.m();
-        let (choices, mut rest) = choices(self.profile, set, free, left, self.most)?;
+        let (choices, open) = choices(self.profile, set, free, left, self.most)?;
         if left == 0 {
             return Some(set);
         }
-        while let Some(parts) = choices.common(rest).split_first() {
-            let next = parts.0;
+        let needs = self.weighted_needs(set, open, left);
+        let mut rest = self.narrowed(&needs, set, open, left)?;
+        while let Some(next) = best_of(choices.common(rest), &needs.supports) {
             let others = rest.without(next);
             let found = self.find_near(set.with(next), others, left - 1);
             if let Some(committee) = found {
                 return Some(committee);
             }
             // A committee with a clone of the candidate would be as near with the candidate in its place.
-            rest = others.minus(self.clones.class(next));
+            let untried = others.minus(self.clones.class(next));
+            rest = self.narrowed(&needs, set, untried, left)?;
         }
         None
     }
+
+    /// What the ballots still need. Each weighs as much as the square of its need: any weights are right, and these
+    /// soon show that a set has no near completion.
+    fn weighted_needs(&self, set: CandSet, free: CandSet, left: u8) -> WeightedNeeds
+        requires few { left ≤ most_candidates }
+        ensures weighted { AreWeighted self.now.profile.now.rows (length set + left) self.now.most set free result.total
+            result.supports }
+        ensures small { (n : ℕ) → slice_index result.supports n ≤ 2 ^ 116 }
+    {
+        let k = set.len() + left;
+        let mut total = 0;
+        let mut supports = [0; PLACES];
+        for (ballot, _voters) in self.profile.ballots() {
+            let needed = u128::from(still_needed(ballot, set, k, self.most));
+            if needed > 0 {
+                let weight = needed * needed;
+                total += weight * needed;
+                add_to_members(&mut supports, ballot.common(free), weight);
+            }
+        }
+        let order = Order::by_worth(free, &supports);
+        WeightedNeeds {
+            total,
+            supports,
+            order,
+        }
+    }
+
+    /// Those of the free candidates who can still join by the weighted needs. Returns nothing if no committee can be
+    /// completed.
+    fn narrowed(
+        &self,
+        needs: &WeightedNeeds,
+        set: CandSet,
+        free: CandSet,
+        left: u8,
+    ) -> Option<CandSet>
+        requires opened { IsOpen self.now.profile.now.m set free }
+        requires weighted { AreWeighted self.now.profile.now.rows (length set + left) self.now.most set free
+            needs.now.total needs.now.supports }
+        requires small { (n : ℕ) → slice_index needs.now.supports n ≤ 2 ^ 116 }
+        ensures { MatchOption result
+            (IsOutOfReach (closeness self.now.profile.now.m self.now.profile.now.rows) self.now.profile.now.m set free
+            left (self.now.profile.now.m - self.now.most))
+            (IsNarrowed (closeness self.now.profile.now.m self.now.profile.now.rows) self.now.profile.now.m set free
+            left (self.now.profile.now.m - self.now.most)) }
+    {
+        self.profile.m();
+        let threshold = needs.order.nth_worth(free, left, &needs.supports);
+        let greatest = u128::from(left) * threshold + excess(&needs.supports, free, threshold);
+        if greatest < needs.total {
+            return None;
+        }
+        // Whoever joins falls short of the threshold by no more than what is to spare.
+        let spare = greatest - needs.total;
+        Some(at_least(free, &needs.supports, threshold.saturating_sub(spare)))
+    }
+}
+
+/// The members whose worth is at least this.
+fn at_least(set: CandSet, worths: &[u128; PLACES], least: u128) -> CandSet
+    ensures members { (n : ℕ) → has_member result n ≡ (has_member set n && nat_le least (slice_index worths.now n)) }
+    ensures within { (m : ℕ) → IsIncreasing 1 m set → IsIncreasing 1 m result }
+{
+    set.valid();
+    let mut kept = CandSet::empty();
+    let mut left = set;
+    while let Some(parts) = left.split_first() {
+        if worths[usize::from(parts.0)] >= least {
+            kept = kept.with(parts.0);
+        }
+        left = parts.1;
+    }
+    kept
+}
+
+/// A member of the greatest worth.
+fn best_of(set: CandSet, worths: &[u128; PLACES]) -> Option<u8>
+    ensures { MatchOption result (set ≡ []) (λ best. (has_member set best ≡ true)
+        × ((n : ℕ) → has_member set n ≡ true → slice_index worths.now n ≤ slice_index worths.now best)) }
+{
+    set.valid();
+    let (mut best, mut left) = set.split_first()?;
+    while let Some(parts) = left.split_first() {
+        if worths[usize::from(parts.0)] > worths[usize::from(best)] {
+            best = parts.0;
+        }
+        left = parts.1;
+    }
+    Some(best)
 }
 
 /// Free candidates of whom one has to join the set, those on a ballot that needs more hits or all of them; and those of
@@ -64,7 +171,8 @@ fn choices<A: Allocator + Copy>(
         × IsNarrowed (closeness profile.now.m profile.now.rows) profile.now.m set free left (profile.now.m - most)
         both.1
         × (1 ≤ left → AreChoices (closeness profile.now.m profile.now.rows) profile.now.m set free left
-        (profile.now.m - most) both.0)) }
+        (profile.now.m - most) both.0)
+        × (left ≤ length free)) }
 {
     profile.m();
     if free.len() < left {

@@ -1,7 +1,9 @@
 -- Steps of the search for a committee that is near each ballot.
-use Rattle.std.specs.Prelude.{◌≡◌, ℕ, ◌≤◌, true, List}
+use Rattle.std.specs.Prelude.{◌≡◌, ℕ, ◌≤◌, true, List, slice_index}
+use Rattle.ballot_base.specs.Ballots.{Row}
 use Rattle.ballot_base.specs.CandSet.{has_member}
 use Rattle.tie_search.specs.Completions.{IsOpen, IsCompletion, IsReaching}
+use Rattle.tie_search.specs.Needs.{weighted_needs, weighted_support}
 
 -- free candidates of whom each committee has one that completes the set and reaches the value
 pub record AreChoices (value : List ℕ → ℕ) (m : ℕ) (set free : List ℕ) (left least : ℕ) (choices : List ℕ) : Type 0
@@ -17,3 +19,11 @@ pub record IsNarrowed (value : List ℕ → ℕ) (m : ℕ) (set free : List ℕ)
     pub among : (n : ℕ) → has_member rest n ≡ true → has_member free n ≡ true
     pub kept : (committee : List ℕ) → IsCompletion m set free left committee → least ≤ value committee
         → IsCompletion m set rest left committee
+
+-- by some weights of the rows: what all rows still need, and for each free candidate the weights of the rows that
+-- approve it
+pub record AreWeighted (rows : List Row) (k most : ℕ) (set free : List ℕ) (total : ℕ) (supports : List ℕ) : Type 0
+  where
+    pub weight : Row → ℕ
+    pub total_is : total ≡ weighted_needs weight k most set rows
+    pub supports_are : (n : ℕ) → has_member free n ≡ true → slice_index supports n ≡ weighted_support weight rows n
