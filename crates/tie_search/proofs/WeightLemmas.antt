@@ -1,17 +1,19 @@
 -- What ballots need, weighted, and the weights of the candidates who can join.
-use Rattle.std.proofs.Common.{◌≡◌, ℕ, zero, suc, ◌+◌, ◌-◌, ◌*◌, ◌<◌, ◌≤◌, ◌∙◌, ◌==◌, ◌&&◌, ◌||◌, Bool, true, false, cond, List, [], ◌∷◌, ◌++◌, refl, sym, ap, arith, inl, inr, length, filter, sum_by}
+use Rattle.std.proofs.Common.{◌≡◌, ℕ, zero, suc, ◌+◌, ◌-◌, ◌*◌, ◌<◌, ◌≤◌, ◌∙◌, ◌==◌, ◌&&◌, ◌||◌, Bool, true, false, cond, List, [], ◌∷◌, ◌++◌, refl, sym, ap, arith, inl, inr, length, filter, sum_by, take, get_or, slice_get, Some, max, ◌^◌, ◌/◌}
 use Rattle.std.specs.List.{AllByRecursion}
-use Rattle.std.proofs.Math.Nat.{mul-le-mul_left}
+use Rattle.std.proofs.Math.Nat.{mul-le-mul_left, zero-div}
 use Rattle.std.proofs.lemmas.Bool.{cases_eq}
-use Rattle.std.proofs.lemmas.List.Sums.{sum_by-cons}
-use Rattle.ballot_base.specs.CandSet.{has_member}
+use Rattle.std.proofs.lemmas.List.Sums.{sum_by-cons, sum_by_more}
+use Rattle.std.proofs.lemmas.Option.{get_or_from_slice_get, slice_get_within}
+use Rattle.ballot_base.specs.CandSet.{has_member, common_members}
 use Rattle.ballot_base.specs.Lists.{IsIncreasing}
-use Rattle.ballot_base.specs.Ballots.{Row, hits}
+use Rattle.ballot_base.specs.Ballots.{Row, Election, IsElection, hits, voter_count}
 use Rattle.ballot_base.proofs.Increasing.{has_member-filter, has_member_head, has_member_tail}
 use Rattle.tie_walk.specs.Sequences.{supporters}
 use Rattle.tie_walk.specs.Values.{greatest_distance}
 use Rattle.tie_search.specs.Completions.{IsOpen, IsCompletion}
 use Rattle.tie_search.specs.Needs.{hits_needed, weighted_needs, weighted_support}
+use Rattle.tie_search.specs.Steps.Near.{need_weight}
 use Rattle.tie_search.proofs.CompletionLemmas.{added, added-free, added-increasing, added-size, completion-members, hits-same}
 use Rattle.tie_search.proofs.NeedLemmas.{hits-append, needs-met}
 use Rattle.tie_search.proofs.PriceLemmas.{hits-turned}
@@ -74,6 +76,74 @@ module _ (weight : Row → ℕ) where
         sum_by-cons (λ (r : Row). weight r * (hits_needed (length r.0) k most - hits r.0 set)) row rows,
         sum_by-cons (λ (r : Row). weight r * hits r.0 xs) row rows,
       )
+
+-- ---- the rows so far
+
+module _ (weight : Row → ℕ) where
+  support-sum : (rows : List Row) (n : ℕ) → weighted_support weight rows n ≡ sum_by (λ (r : Row). cond (has_member r.0 n) (weight r) 0) rows
+  support-sum [] n = refl
+  support-sum (row ∷ rows) n =
+      omega (
+        arith,
+        support-cons weight row rows n,
+        support-sum rows n,
+        times (has_member row.0 n) (weight row),
+        sum_by-cons (λ (r : Row). cond (has_member r.0 n) (weight r) 0) row rows,
+      )
+    where
+      times : (b : Bool) (x : ℕ) → x * cond b 1 0 ≡ cond b x 0
+      times true x = omega arith
+      times false x = omega arith
+
+  -- a row more
+  pub needs-more : (k most : ℕ) (set : List ℕ) (rows : List Row) (i : ℕ) (row : Row) → slice_get rows i ≡ Some row
+      → weighted_needs weight k most set (take (i + 1) rows) ≡ weighted_needs weight k most set (take i rows) + weight row * (hits_needed (length row.0) k most - hits row.0 set)
+  needs-more k most set rows i row found =
+      let here : get_or rows i row ≡ row = get_or_from_slice_get rows i row row found in
+      let within : i < length rows = slice_get_within rows i row found in
+      rw here at (sum_by_more (λ (r : Row). weight r * (hits_needed (length r.0) k most - hits r.0 set)) rows i row within)
+
+  pub support-more : (rows : List Row) (i : ℕ) (row : Row) (n : ℕ) → slice_get rows i ≡ Some row
+      → weighted_support weight (take (i + 1) rows) n ≡ weighted_support weight (take i rows) n + cond (has_member row.0 n) (weight row) 0
+  support-more rows i row n found =
+      let here : get_or rows i row ≡ row = get_or_from_slice_get rows i row row found in
+      let within : i < length rows = slice_get_within rows i row found in
+      let more = rw here at (sum_by_more (λ (r : Row). cond (has_member r.0 n) (weight r) 0) rows i row within) in
+      omega (arith, more, support-sum (take (i + 1) rows) n, support-sum (take i rows) n)
+
+-- there are no more rows than voters
+rows-few : (rows : List Row) → AllByRecursion (λ (row : Row). 0 < row.1) rows → length rows ≤ voter_count rows
+rows-few [] counts = omega arith
+rows-few (row ∷ rows) counts = omega (arith, counts.0, rows-few rows counts.1, sum_by-cons (λ (r : Row). r.1) row rows)
+
+pub turns-few : (e : Election) (i : ℕ) (row : Row) → IsElection e → slice_get e.rows i ≡ Some row → i < 2 ^ 32
+turns-few e i row valid found =
+    omega (arith, slice_get_within e.rows i row found, rows-few e.rows valid.counts, valid.voters)
+
+-- ---- weights by needs
+
+-- how much a row weighs
+pub row_weight : ℕ → ℕ → List ℕ → List ℕ → Row → ℕ
+row_weight k most set free row =
+    need_weight (hits_needed (length row.0) k most - hits row.0 set) (max 1 (length (common_members row.0 free)))
+
+pub row_weight-is : (k most : ℕ) (set free : List ℕ) (row : Row)
+    → row_weight k most set free row ≡ need_weight (hits_needed (length row.0) k most - hits row.0 set) (max 1 (length (common_members row.0 free)))
+unfolding row_weight
+row_weight-is k most set free row = refl
+
+-- nothing, where nothing is needed
+pub weight-none : (approved : ℕ) → need_weight 0 approved ≡ 0
+unfolding need_weight
+weight-none approved = zero-div (approved * approved * approved)
+
+-- who is free and on the ballot
+pub free-common : (ballot free : List ℕ) (n : ℕ) → has_member free n ≡ true → has_member (common_members ballot free) n ≡ has_member ballot n
+free-common ballot free n is = has_member-filter (has_member free) ballot n ∙ ap (λ b. b && has_member ballot n) is
+
+pub part-most : (b : Bool) (n : ℕ) → cond b n 0 ≤ n
+part-most true n = omega arith
+part-most false n = omega arith
 
 -- ---- sums and thresholds
 

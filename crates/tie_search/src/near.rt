@@ -1,13 +1,13 @@
 //! The search for a committee that is near each ballot, depth first, that goes into no set where a ballot needs more
 //! hits than it can have.
-ghost use Rattle.std.specs.Prelude.{◌≡◌, ℕ, ◌+◌, ◌-◌, ◌^◌, ◌≤◌, ◌&&◌, [], true, nat_le, length, slice_index, IsTrue, MatchOption};
+ghost use Rattle.std.specs.Prelude.{◌≡◌, ℕ, ◌+◌, ◌-◌, ◌^◌, ◌≤◌, ◌&&◌, [], true, max, nat_le, length, slice_index, IsTrue, MatchOption};
 ghost use Rattle.ballot_base.specs.Clones.{AreClones};
 ghost use Rattle.ballot_base.specs.CandSet.{has_member};
 ghost use Rattle.ballot_base.specs.Limits.{most_candidates};
 ghost use Rattle.ballot_base.specs.Lists.{IsIncreasing};
 ghost use Rattle.tie_walk.specs.Values.{closeness, greatest_distance};
 ghost use Rattle.tie_search.specs.Completions.{IsOpen, IsOutOfReach, IsReaching};
-ghost use Rattle.tie_search.specs.Steps.Near.{AreChoices, AreWeighted, IsNarrowed};
+ghost use Rattle.tie_search.specs.Steps.Near.{AreChoices, AreWeighted, IsNarrowed, need_weight};
 
 use crate::needs::still_needed;
 use crate::order::Order;
@@ -15,6 +15,9 @@ use crate::search::excess;
 use ballot_base::{CandSet, Clones, PLACES, Profile};
 use std::alloc::Allocator;
 use tie_walk::add_to_members;
+
+/// What weights are multiplied by, so that few of them are rounded to 0.
+const WEIGHT_SCALE: u64 = 262_144;
 
 /// What all steps of a search share: the ballots, who are clones on them, and how far a committee may be from each.
 #[derive(Drop)]
@@ -45,12 +48,12 @@ impl<A: Allocator + Copy> NearSearch<'_, A> {
             left (self.now.profile.now.m - self.now.most)) }
     {
         self.profile.m();
-        let (choices, open) = choices(self.profile, set, free, left, self.most)?;
+        let (choices, eligible) = choices(self.profile, set, free, left, self.most)?;
         if left == 0 {
             return Some(set);
         }
-        let needs = self.weighted_needs(set, open, left);
-        let mut rest = self.narrowed(&needs, set, open, left)?;
+        let needs = self.weighted_needs(set, eligible, left);
+        let mut rest = self.narrowed(&needs, set, eligible, left)?;
         while let Some(next) = best_of(choices.common(rest), &needs.supports) {
             let others = rest.without(next);
             let found = self.find_near(set.with(next), others, left - 1);
@@ -64,8 +67,7 @@ impl<A: Allocator + Copy> NearSearch<'_, A> {
         None
     }
 
-    /// What the ballots still need. Each weighs as much as the square of its need: any weights are right, and these
-    /// soon show that a set has no near completion.
+    /// What the ballots still need, for a set and `left` of the free candidates.
     fn weighted_needs(&self, set: CandSet, free: CandSet, left: u8) -> WeightedNeeds
         requires few { left ≤ most_candidates }
         ensures weighted { AreWeighted self.now.profile.now.rows (length set + left) self.now.most set free result.total
@@ -76,11 +78,12 @@ impl<A: Allocator + Copy> NearSearch<'_, A> {
         let mut total = 0;
         let mut supports = [0; PLACES];
         for (ballot, _voters) in self.profile.ballots() {
-            let needed = u128::from(still_needed(ballot, set, k, self.most));
+            let needed = still_needed(ballot, set, k, self.most);
             if needed > 0 {
-                let weight = needed * needed;
-                total += weight * needed;
-                add_to_members(&mut supports, ballot.common(free), weight);
+                let approved = ballot.common(free);
+                let weight = u128::from(weight_of(needed, approved.len()));
+                total += weight * u128::from(needed);
+                add_to_members(&mut supports, approved, weight);
             }
         }
         let order = Order::by_worth(free, &supports);
@@ -120,6 +123,17 @@ impl<A: Allocator + Copy> NearSearch<'_, A> {
         let spare = greatest - needs.total;
         Some(at_least(free, &needs.supports, threshold.saturating_sub(spare)))
     }
+}
+
+/// How much a ballot weighs that needs hits and approves this many free candidates: its need, times the cube of the
+/// share of those candidates that it needs. Any weights are right; these soon show that a set has no near completion.
+fn weight_of(needed: u8, approved: u8) -> u64
+    ensures value { result ≡ need_weight needed (max 1 approved) }
+    ensures small { result ≤ 2 ^ 50 }
+{
+    let needed = u64::from(needed);
+    let approved = u64::from(approved.max(1));
+    needed * needed * needed * needed * WEIGHT_SCALE / (approved * approved * approved)
 }
 
 /// The members whose worth is at least this.
