@@ -1,8 +1,9 @@
 -- What ballots need, weighted, and the weights of the candidates who can join.
 use Rattle.std.proofs.Common.{◌≡◌, ℕ, zero, suc, ◌+◌, ◌-◌, ◌*◌, ◌<◌, ◌≤◌, ◌∙◌, ◌==◌, ◌&&◌, ◌||◌, Bool, true, false, cond, List, [], ◌∷◌, ◌++◌, refl, sym, ap, arith, inl, inr, length, filter, sum_by, take, get_or, slice_get, Some, max, ◌^◌, ◌/◌}
+use Rattle.std.specs.Prelude.{nat_le}
 use Rattle.std.specs.List.{AllByRecursion}
 use Rattle.std.proofs.Math.Nat.{mul-le-mul_left, zero-div}
-use Rattle.std.proofs.lemmas.Bool.{cases_eq}
+use Rattle.std.proofs.lemmas.Bool.{cases_eq, cases_lt, le-leb}
 use Rattle.std.proofs.lemmas.List.Sums.{sum_by-cons, sum_by_more}
 use Rattle.std.proofs.lemmas.Option.{get_or_from_slice_get, slice_get_within}
 use Rattle.ballot_base.specs.CandSet.{has_member, common_members}
@@ -10,12 +11,12 @@ use Rattle.ballot_base.specs.Lists.{IsIncreasing}
 use Rattle.ballot_base.specs.Ballots.{Row, Election, IsElection, hits, voter_count}
 use Rattle.ballot_base.proofs.Increasing.{has_member-filter, has_member_head, has_member_tail}
 use Rattle.tie_walk.specs.Sequences.{supporters}
-use Rattle.tie_walk.specs.Values.{greatest_distance}
-use Rattle.tie_search.specs.Completions.{IsOpen, IsCompletion}
+use Rattle.tie_walk.specs.Values.{closeness, greatest_distance}
+use Rattle.tie_search.specs.Completions.{IsOpen, IsCompletion, IsOutOfReach}
 use Rattle.tie_search.specs.Needs.{hits_needed, weighted_needs, weighted_support}
-use Rattle.tie_search.specs.Steps.Near.{need_weight}
-use Rattle.tie_search.proofs.CompletionLemmas.{added, added-free, added-increasing, added-size, completion-members, hits-same}
-use Rattle.tie_search.proofs.NeedLemmas.{hits-append, needs-met}
+use Rattle.tie_search.specs.Steps.Near.{AreWeighted, IsNarrowed, need_weight}
+use Rattle.tie_search.proofs.CompletionLemmas.{added, added-free, added-increasing, added-size, and-true, completion-members, hits-same}
+use Rattle.tie_search.proofs.NeedLemmas.{hits-append, needs-met, value-near}
 use Rattle.tie_search.proofs.PriceLemmas.{hits-turned}
 use Rattle.tie_search.proofs.SearchLemmas.{sum-part, sum-threshold}
 
@@ -235,3 +236,67 @@ module _ (weight : Row → ℕ) (m k most : ℕ) (rows : List Row) (set free : L
         ap (λ n. n * t) (added-size m set free left committee open' whole),
         sum-part (λ n. g n - t) (has_member committee) free,
       )
+
+-- ---- what weighted needs say of a set
+
+-- fewer are free
+pub weighted-fewer : (rows : List Row) (k most : ℕ) (set free rest : List ℕ) (total : ℕ) (supports : List ℕ) → AreWeighted rows k most set free total supports
+    → ((n : ℕ) → has_member rest n ≡ true → has_member free n ≡ true) → AreWeighted rows k most set rest total supports
+weighted-fewer rows k most set free rest total supports are among = record {
+  weight = are.weight;
+  total_is = are.total_is;
+  supports_are = λ n is. are.supports_are n (among n is);
+}
+
+module _ (m most : ℕ) (rows : List Row) (set free : List ℕ) (left total : ℕ) (supports : List ℕ) (ballots : AllByRecursion (λ (row : Row). IsIncreasing 1 m row.0) rows)
+    (open' : IsOpen m set free) (are : AreWeighted rows (length set + left) most set free total supports) (t greatest : ℕ)
+    (greatest_is : greatest ≡ left * t + sum_by (λ n. get_or supports n 0 - t) free) where
+  no-less : (n : ℕ) → has_member free n ≡ true → weighted_support are.weight rows n ≤ get_or supports n 0
+  no-less n is = omega (arith, are.supports_are n is)
+
+  -- the needs pass what any committee can give
+  pub weighted-none : greatest < total → IsOutOfReach (closeness m rows) m set free left (m - most)
+  weighted-none low committee whole = elim (cases_lt (closeness m rows committee) (m - most)) [
+    | inl under ↦ under
+    | inr reaches ↦ absurd (omega (
+      arith,
+      low,
+      greatest_is,
+      are.total_is,
+      needs-bound are.weight m (length set + left) most rows set free left committee ballots open' whole refl
+          (value-near m rows most committee ballots whole.candidates reaches) t (λ n. get_or supports n 0) no-less,
+    ))
+  ]
+
+  -- whoever joins has enough support
+  pub weighted-narrowed : total ≤ greatest → (kept : List ℕ) → ((n : ℕ) → has_member kept n ≡ (has_member free n && nat_le (t - (greatest - total)) (get_or supports n 0)))
+      → ((x : ℕ) → IsIncreasing 1 x free → IsIncreasing 1 x kept) → IsNarrowed (closeness m rows) m set free left (m - most) kept
+  weighted-narrowed enough kept kept_are rises = record {
+    opened = record {
+      set_within = open'.set_within;
+      free_within = rises m open'.free_within;
+      apart = λ n h. open'.apart n (in-free n h);
+    };
+    among = in-free;
+    kept = λ committee whole reaches. record {
+      candidates = whole.candidates;
+      whole = whole.whole;
+      within = λ n h. or-more (has_member set n) (has_member free n) (has_member kept n) (still committee whole reaches n h) (whole.within n h);
+      size = whole.size;
+    };
+  }
+    where
+      in-free : (n : ℕ) → has_member kept n ≡ true → has_member free n ≡ true
+      in-free n h = (and-true (has_member free n) (nat_le (t - (greatest - total)) (get_or supports n 0)) (sym (kept_are n) ∙ h)).0
+
+      or-more : (p q r : Bool) → (q ≡ true → r ≡ true) → (p || q) ≡ true → (p || r) ≡ true
+      or-more true q r h is = refl
+      or-more false q r h is = h is
+
+      still : (committee : List ℕ) → IsCompletion m set free left committee → m - most ≤ closeness m rows committee → (n : ℕ) → has_member committee n ≡ true → has_member free n ≡ true
+          → has_member kept n ≡ true
+      still committee whole reaches n in_ open_ =
+          let joined = member-bound are.weight m (length set + left) most rows set free left committee ballots open' whole refl
+          (value-near m rows most committee ballots whole.candidates reaches) t (λ x. get_or supports x 0) n no-less open_ in_ in
+          let high : t - (greatest - total) ≤ get_or supports n 0 = omega (arith, joined, enough, greatest_is, are.total_is) in
+          kept_are n ∙ ap (λ b. has_member free n && b) (le-leb (t - (greatest - total)) (get_or supports n 0) high) ∙ ap (λ b. b && true) open_
