@@ -1,4 +1,4 @@
-use Rattle.std.proofs.Common.{◌≡◌, ℕ, ◌≤◌, ◌<◌, ◌⊎◌, ◌||◌, ◌==◌, ◌∙◌, Bool, true, false, List, ◌∷◌, refl, sym, ap, inl, inr, arith, get_or}
+use Rattle.std.proofs.Common.{◌≡◌, ℕ, ◌≤◌, ◌⊎◌, ◌||◌, ◌==◌, ◌∙◌, Bool, true, false, List, ◌∷◌, refl, sym, ap, inl, inr, arith, get_or}
 use Rattle.std.proofs.lemmas.Bool.{cases_eq}
 use Rattle.ballot_base.specs.Limits.{most_candidates}
 use Rattle.ballot_base.specs.CandSet.{has_member}

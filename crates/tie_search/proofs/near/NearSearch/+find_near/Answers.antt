@@ -3,12 +3,11 @@ use Rattle.std.specs.List.{AllByRecursion}
 use Rattle.ballot_base.specs.Ballots.{Row}
 use Rattle.ballot_base.specs.CandSet.{has_member, other_members, with_member, without_member}
 use Rattle.ballot_base.specs.Clones.{clones_among}
-use Rattle.ballot_base.specs.Limits.{most_candidates}
 use Rattle.ballot_base.specs.Lists.{IsIncreasing}
 use Rattle.ballot_base.proofs.Committees.{length-increasing}
 use Rattle.tie_walk.specs.Values.{closeness}
 use Rattle.tie_search.specs.Completions.{IsOpen, IsOutOfReach}
-use Rattle.tie_search.specs.Steps.Near.{AreWeighted, IsNarrowed}
+use Rattle.tie_search.specs.Steps.Near.{IsNarrowed}
 use Rattle.tie_search.proofs.CompletionLemmas.{member-low, member-high, open-with, open-without, without-is, without-shorter}
 use Rattle.tie_search.proofs.SearchLemmas.{found-below, set-reaches}
 use Rattle.tie_search.proofs.CloneLemmas.{class-are, minus-is, minus-most, open-minus}

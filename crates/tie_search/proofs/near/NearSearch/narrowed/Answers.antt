@@ -1,4 +1,4 @@
-use Rattle.std.proofs.Common.{◌≡◌, ◌+◌, ◌-◌, ◌*◌, ◌∙◌, ap, sym, arith, get_or, sum_by}
+use Rattle.std.proofs.Common.{◌≡◌, ◌+◌, ◌-◌, ◌*◌, ap, arith, get_or, sum_by}
 use Rattle.tie_search.proofs.WeightLemmas.{weighted-narrowed, weighted-none}
 use Rattle.tie_search.proofs.near.NearSearch.narrowed.Goals as goal
 
