@@ -195,7 +195,7 @@ fn choices<A: Allocator + Copy>(
     let k = set.len() + left;
     let mut choices = free;
     let mut rest = free;
-    let mut fewest = u8::MAX;
+    let mut tightest = (u8::MAX, 0);
     for (ballot, _voters) in profile.ballots() {
         let needed = still_needed(ballot, set, k, most);
         let open = ballot.common(rest);
@@ -205,18 +205,20 @@ fn choices<A: Allocator + Copy>(
         if needed == left {
             rest = open;
         }
-        if is_tighter(needed, open.len(), fewest) {
+        let spare = open.len().saturating_sub(needed);
+        if is_tighter(needed, spare, tightest) {
             choices = open;
-            fewest = open.len().saturating_sub(needed);
+            tightest = (spare, needed);
         }
     }
     Some((choices, rest))
 }
 
-/// Whether a ballot needs a hit, and can miss fewer of its free candidates than any before. Any that needs a hit is
-/// right; the fewer it can miss, the fewer of them have to be tried.
-fn is_tighter(needed: u8, open: u8, fewest: u8) -> bool
+/// Whether a ballot needs a hit and can spare fewer of its free candidates than the tightest before, or as few and needs
+/// more hits. Any ballot that needs a hit is right; the tightest leaves the fewest candidates to be tried.
+fn is_tighter(needed: u8, spare: u8, tightest: (u8, u8)) -> bool
     ensures { IsTrue result → 1 ≤ needed }
 {
-    needed > 0 && open.saturating_sub(needed) < fewest
+    let (fewest, most_needed) = tightest;
+    needed > 0 && (spare < fewest || spare == fewest && needed > most_needed)
 }
