@@ -16,8 +16,8 @@ use ballot_base::{CandSet, Clones, PLACES, Profile};
 use std::alloc::Allocator;
 use tie_walk::add_to_members;
 
-/// What weights are multiplied by, so that few of them are rounded to 0.
-const WEIGHT_SCALE: u64 = 262_144;
+/// In how many parts the share of a ballot's candidates that it needs is counted.
+const SHARE_PARTS: u64 = 64;
 
 /// What all steps of a search share: the ballots, who are clones on them, and how far a committee may be from each.
 #[derive(Drop)]
@@ -132,8 +132,8 @@ fn weight_of(needed: u8, approved: u8) -> u64
     ensures small { result ≤ 2 ^ 50 }
 {
     let needed = u64::from(needed);
-    let approved = u64::from(approved.max(1));
-    needed * needed * needed * needed * WEIGHT_SCALE / (approved * approved * approved)
+    let share = needed * SHARE_PARTS / u64::from(approved.max(1));
+    needed * share * share * share
 }
 
 /// The members whose worth is at least this.

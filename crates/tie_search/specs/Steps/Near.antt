@@ -1,5 +1,5 @@
 -- Steps of the search for a committee that is near each ballot.
-use Rattle.std.specs.Prelude.{◌≡◌, ℕ, ◌*◌, ◌/◌, ◌^◌, ◌≤◌, true, List, slice_index}
+use Rattle.std.specs.Prelude.{◌≡◌, ℕ, ◌*◌, ◌/◌, ◌≤◌, true, List, slice_index}
 use Rattle.ballot_base.specs.Ballots.{Row}
 use Rattle.ballot_base.specs.CandSet.{has_member}
 use Rattle.tie_search.specs.Completions.{IsOpen, IsCompletion, IsReaching}
@@ -28,6 +28,11 @@ pub record AreWeighted (rows : List Row) (k most : ℕ) (set free : List ℕ) (t
     pub total_is : total ≡ weighted_needs weight k most set rows
     pub supports_are : (n : ℕ) → has_member free n ≡ true → slice_index supports n ≡ weighted_support weight rows n
 
+-- the share of these candidates that a ballot needs as hits, in 64ths
+abbrev pub need_share : ℕ → ℕ → ℕ
+need_share needed approved = needed * 64 / approved
+
 -- how much a ballot weighs that needs hits and approves this many free candidates
 unfoldable pub need_weight : ℕ → ℕ → ℕ
-need_weight needed approved = needed * needed * needed * needed * 2 ^ 18 / (approved * approved * approved)
+need_weight needed approved =
+    needed * need_share needed approved * need_share needed approved * need_share needed approved
