@@ -8,6 +8,7 @@ use Rattle.tie_walk.specs.Winners.{best_value}
 use Rattle.tie_search.specs.Needs.{hits_needed, weighted_needs, weighted_support}
 use Rattle.tie_search.specs.Completions.{IsOpen, IsCompletion, IsReaching, IsOutOfReach, IsWinnerFrom, is_reached, exact_bound}
 use Rattle.tie_search.specs.Prices.{kept, base, price}
+use Rattle.tie_search.specs.Steps.Near.{need_share, need_weight}
 use Rattle.tie_search.specs.Steps.Witness.{IsSetAndLater}
 use Rattle.tie_search.specs.Steps.Columns.{voter_ballot, given, total, voters_of}
 
@@ -151,6 +152,14 @@ support-three = refl
 
 support-nobody : weighted_support (λ row. length row.0) ((1 ∷ 2 ∷ 3 ∷ [], 1) ∷ (4 ∷ 5 ∷ [], 2) ∷ []) 6 ≡ 0
 support-nobody = refl
+
+-- a ballot that needs two of four free candidates
+share-half : need_share 2 4 ≡ 32
+share-half = refl
+
+weight-half : need_weight 2 4 ≡ 65536
+unfolding need_weight
+weight-half = refl
 
 -- ---- bounds of two of three candidates, where one voter approves 1 and 2, and one approves 3: with 1 and 2 the second
 -- voter is at the distance 3, with 3 in the committee no voter is farther than 2

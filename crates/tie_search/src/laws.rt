@@ -34,10 +34,10 @@ pub fn needs()
         ↔ AllByRecursion (λ row. hits_needed (length row.0) k most ≤ hits row.0 committee) rows }
 {}
 
-/// Weighted needs bound who can complete a set under minimax approval voting. For any weights of the rows and any
-/// threshold, a committee that is no farther than `most` from any ballot has added members whose rows weigh at least
-/// the weighted needs, so the needs are at most the threshold for each added member and what the free candidates exceed
-/// it by. The clause `members` adds what an added member falls short of the threshold by.
+/// Weighted needs bound the committees that complete a set, under minimax approval voting. Each row may have any weight.
+/// If no ballot is farther than `most` from a committee, the weighted needs are at most `left` times a threshold, plus
+/// what the supports of the free candidates exceed the threshold by. If n is an added member, the bound is lower by what
+/// the support of n is below the threshold.
 pub fn weighted_needs()
     ensures completions { (weight : Row → ℕ) (m k most : ℕ) (rows : List Row) (set free : List ℕ) (left threshold : ℕ)
         (committee : List ℕ) → AllByRecursion (λ row. IsIncreasing 1 m row.0) rows → IsOpen m set free

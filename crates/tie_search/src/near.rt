@@ -1,5 +1,5 @@
-//! The search for a committee that is near each ballot, depth first, that goes into no set where a ballot needs more
-//! hits than it can have.
+//! A depth-first search for a committee that is near each ballot. It enters no set in which a ballot needs more hits
+//! than it can have, and none in which the ballots together need more than the free candidates can give.
 ghost use Rattle.std.specs.Prelude.{◌≡◌, ℕ, ◌+◌, ◌-◌, ◌^◌, ◌≤◌, ◌&&◌, [], true, max, nat_le, length, slice_index, IsTrue, MatchOption};
 ghost use Rattle.ballot_base.specs.Clones.{AreClones};
 ghost use Rattle.ballot_base.specs.CandSet.{has_member};
@@ -16,7 +16,7 @@ use ballot_base::{CandSet, Clones, PLACES, Profile};
 use std::alloc::Allocator;
 use tie_walk::add_to_members;
 
-/// In how many parts the share of a ballot's candidates that it needs is counted.
+/// The denominator of shares in `weight_of`.
 const SHARE_PARTS: u64 = 64;
 
 /// What all steps of a search share: the ballots, who are clones on them, and how far a committee may be from each.
@@ -27,12 +27,14 @@ pub(crate) struct NearSearch<'a, A: Allocator + Copy> {
     pub(crate) most: u8,
 }
 
-/// What all ballots still need, and what candidates can give of it: each ballot counts as much as its weight.
+/// What all ballots still need, and what each free candidate can give. Each hit counts as much as the weight of the
+/// ballot.
 #[derive(Drop)]
 struct WeightedNeeds {
     total: u128,
-    // The weights of the ballots that approve a free candidate, at the candidate's number.
+    // At the number of each free candidate, the total weight of the ballots that approve it.
     supports: [u128; PLACES],
+    // The free candidates by support.
     order: Order,
 }
 
@@ -67,7 +69,7 @@ impl<A: Allocator + Copy> NearSearch<'_, A> {
         None
     }
 
-    /// What the ballots still need, for a set and `left` of the free candidates.
+    /// What the ballots still need, if `left` of the free candidates complete the set.
     fn weighted_needs(&self, set: CandSet, free: CandSet, left: u8) -> WeightedNeeds
         requires few { left ≤ most_candidates }
         ensures weighted { AreWeighted self.now.profile.now.rows (length set + left) self.now.most set free result.total
@@ -94,8 +96,8 @@ impl<A: Allocator + Copy> NearSearch<'_, A> {
         }
     }
 
-    /// Those of the free candidates who can still join by the weighted needs. Returns nothing if no committee can be
-    /// completed.
+    /// The free candidates that can still join, by the weighted needs. Returns `None` if no near committee completes the
+    /// set.
     fn narrowed(
         &self,
         needs: &WeightedNeeds,
@@ -119,14 +121,14 @@ impl<A: Allocator + Copy> NearSearch<'_, A> {
         if greatest < needs.total {
             return None;
         }
-        // Whoever joins falls short of the threshold by no more than what is to spare.
+        // The support of a candidate that joins is below the threshold by `spare` at most.
         let spare = greatest - needs.total;
         Some(at_least(free, &needs.supports, threshold.saturating_sub(spare)))
     }
 }
 
-/// How much a ballot weighs that needs hits and approves this many free candidates: its need, times the cube of the
-/// share of those candidates that it needs. Any weights are right; these soon show that a set has no near completion.
+/// The weight of a ballot that approves this many free candidates and needs some of them: its need, times the cube of
+/// the share of these candidates that it needs. Any weights are right; these refute a set early.
 fn weight_of(needed: u8, approved: u8) -> u64
     ensures value { result ≡ need_weight needed (max 1 approved) }
     ensures small { result ≤ 2 ^ 50 }
@@ -136,7 +138,7 @@ fn weight_of(needed: u8, approved: u8) -> u64
     needed * share * share * share
 }
 
-/// The members whose worth is at least this.
+/// The members whose worth is at least `least`.
 fn at_least(set: CandSet, worths: &[u128; PLACES], least: u128) -> CandSet
     ensures members { (n : ℕ) → has_member result n ≡ (has_member set n && nat_le least (slice_index worths.now n)) }
     ensures within { (m : ℕ) → IsIncreasing 1 m set → IsIncreasing 1 m result }
@@ -153,7 +155,7 @@ fn at_least(set: CandSet, worths: &[u128; PLACES], least: u128) -> CandSet
     kept
 }
 
-/// A member of the greatest worth.
+/// A member with the highest worth. Returns `None` for the empty set.
 fn best_of(set: CandSet, worths: &[u128; PLACES]) -> Option<u8>
     ensures { MatchOption result (set ≡ []) (λ best. (has_member set best ≡ true)
         × ((n : ℕ) → has_member set n ≡ true → slice_index worths.now n ≤ slice_index worths.now best)) }
@@ -169,8 +171,8 @@ fn best_of(set: CandSet, worths: &[u128; PLACES]) -> Option<u8>
     Some(best)
 }
 
-/// Free candidates of whom one has to join the set, those on a ballot that needs more hits or all of them; and those of
-/// whom all have to be who join it. Nothing where some ballot needs more hits than it can have.
+/// Two sets: branching candidates, at least one of which must join; and the candidates that are still eligible. Returns
+/// `None` if some ballot needs more hits than it can have.
 fn choices<A: Allocator + Copy>(
     profile: &Profile<A>,
     set: CandSet,
@@ -214,8 +216,8 @@ fn choices<A: Allocator + Copy>(
     Some((choices, rest))
 }
 
-/// Whether a ballot needs a hit and can spare fewer of its free candidates than the tightest before, or as few and needs
-/// more hits. Any ballot that needs a hit is right; the tightest leaves the fewest candidates to be tried.
+/// Whether a ballot needs a hit and is tighter than the tightest before: it can spare fewer of its free candidates, or
+/// equally few and it needs more hits. Any ballot that needs a hit is right; a tight one leaves few candidates to try.
 fn is_tighter(needed: u8, spare: u8, tightest: (u8, u8)) -> bool
     ensures { IsTrue result → 1 ≤ needed }
 {

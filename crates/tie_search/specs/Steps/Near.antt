@@ -20,19 +20,19 @@ pub record IsNarrowed (value : List ℕ → ℕ) (m : ℕ) (set free : List ℕ)
     pub kept : (committee : List ℕ) → IsCompletion m set free left committee → least ≤ value committee
         → IsCompletion m set rest left committee
 
--- by some weights of the rows: what all rows still need, and for each free candidate the weights of the rows that
--- approve it
+-- for some weights of the rows, `total` is their weighted need, and `supports` has the weighted support of each free
+-- candidate
 pub record AreWeighted (rows : List Row) (k most : ℕ) (set free : List ℕ) (total : ℕ) (supports : List ℕ) : Type 0
   where
     pub weight : Row → ℕ
     pub total_is : total ≡ weighted_needs weight k most set rows
     pub supports_are : (n : ℕ) → has_member free n ≡ true → slice_index supports n ≡ weighted_support weight rows n
 
--- the share of these candidates that a ballot needs as hits, in 64ths
+-- the share of the free candidates on a ballot that it needs, in 64ths
 abbrev pub need_share : ℕ → ℕ → ℕ
 need_share needed approved = needed * 64 / approved
 
--- how much a ballot weighs that needs hits and approves this many free candidates
+-- the weight of a ballot: its need, times the cube of the share
 unfoldable pub need_weight : ℕ → ℕ → ℕ
 need_weight needed approved =
     needed * need_share needed approved * need_share needed approved * need_share needed approved
