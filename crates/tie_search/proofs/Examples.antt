@@ -1,6 +1,7 @@
 -- The definitions of the search, worked out by hand. The value of a set is the sum of its numbers; of committees of two
 -- of the candidates 1 to 3 the best has 2 and 3.
-use Rattle.std.proofs.Common.{◌≡◌, true, false, [], ◌∷◌, refl, length, sum, lit≤, lit<, arith}
+use Rattle.std.proofs.Common.{◌≡◌, ℕ, true, false, List, [], ◌∷◌, refl, length, sum, lit≤, lit<, arith}
+use Rattle.ballot_base.specs.Ballots.{hits}
 use Rattle.ballot_base.specs.Lists.{lists_of}
 use Rattle.tie_walk.specs.Ceilings.{ceiling, closeness_upto}
 use Rattle.tie_walk.specs.Values.{closeness, distance}

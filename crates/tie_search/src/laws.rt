@@ -34,10 +34,10 @@ pub fn needs()
         ↔ AllByRecursion (λ row. hits_needed (length row.0) k most ≤ hits row.0 committee) rows }
 {}
 
-/// Weighted needs bound the committees that complete a set, under minimax approval voting. Each row may have any weight.
-/// If no ballot is farther than `most` from a committee, the weighted needs are at most `left` times a threshold, plus
-/// what the supports of the free candidates exceed the threshold by. If n is an added member, the bound is lower by what
-/// the support of n is below the threshold.
+/// Weighted needs bound the committees that complete a set, under minimax approval voting. Each row may have any
+/// weight. If no ballot is farther than `most` from a committee, the weighted needs are at most `left` times a
+/// threshold, plus what the supports of the free candidates exceed the threshold by. If n is an added member, the bound
+/// is lower by what the support of n is below the threshold.
 pub fn weighted_needs()
     ensures completions { (weight : Row → ℕ) (m k most : ℕ) (rows : List Row) (set free : List ℕ) (left threshold : ℕ)
         (committee : List ℕ) → AllByRecursion (λ row. IsIncreasing 1 m row.0) rows → IsOpen m set free

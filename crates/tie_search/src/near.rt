@@ -96,8 +96,8 @@ impl<A: Allocator + Copy> NearSearch<'_, A> {
         }
     }
 
-    /// The free candidates that can still join, by the weighted needs. Returns `None` if no near committee completes the
-    /// set.
+    /// The free candidates that can still join, by the weighted needs. Returns `None` if no near committee completes
+    /// the set.
     fn narrowed(
         &self,
         needs: &WeightedNeeds,
