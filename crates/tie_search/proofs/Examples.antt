@@ -140,7 +140,7 @@ needed-none_more : hits_needed 3 4 9 ≡ 0
 needed-none_more = refl
 
 -- one voter approves 1, 2 and 3 and two approve 4 and 5; a row weighs as much as its ballot has candidates. To be no
--- farther than 3 from a committee of three, the first row needs two hits, one beside the member 1, and the second one
+-- farther than 3 from a committee of three, the first row needs a hit beside the member 1, and the second row one hit
 weighted-three : weighted_needs (λ row. length row.0) 3 3 (1 ∷ []) ((1 ∷ 2 ∷ 3 ∷ [], 1) ∷ (4 ∷ 5 ∷ [], 2) ∷ []) ≡ 5
 weighted-three = refl
 

@@ -28,9 +28,13 @@ pub record AreWeighted (rows : List Row) (k most : ℕ) (set free : List ℕ) (t
     pub total_is : total ≡ weighted_needs weight k most set rows
     pub supports_are : (n : ℕ) → has_member free n ≡ true → slice_index supports n ≡ weighted_support weight rows n
 
--- the share of the free candidates on a ballot that it needs, in 64ths
+-- the denominator of shares
+abbrev pub share_parts : ℕ
+share_parts = 64
+
+-- the share of the free candidates on a ballot that it needs
 abbrev pub need_share : ℕ → ℕ → ℕ
-need_share needed approved = needed * 64 / approved
+need_share needed approved = needed * share_parts / approved
 
 -- the weight of a ballot: its need, times the cube of the share
 unfoldable pub need_weight : ℕ → ℕ → ℕ
