@@ -1,14 +1,15 @@
 -- The definitions of the search, worked out by hand. The value of a set is the sum of its numbers; of committees of two
 -- of the candidates 1 to 3 the best has 2 and 3.
-use Rattle.std.proofs.Common.{◌≡◌, ℕ, true, false, List, [], ◌∷◌, refl, sum, lit≤, lit<, arith}
+use Rattle.std.proofs.Common.{◌≡◌, ℕ, true, false, List, [], ◌∷◌, refl, length, sum, lit≤, lit<, arith}
 use Rattle.ballot_base.specs.Ballots.{hits}
 use Rattle.ballot_base.specs.Lists.{lists_of}
 use Rattle.tie_walk.specs.Ceilings.{ceiling, closeness_upto}
 use Rattle.tie_walk.specs.Values.{closeness, distance}
 use Rattle.tie_walk.specs.Winners.{best_value}
-use Rattle.tie_search.specs.Needs.{hits_needed}
+use Rattle.tie_search.specs.Needs.{hits_needed, weighted_needs, weighted_support}
 use Rattle.tie_search.specs.Completions.{IsOpen, IsCompletion, IsReaching, IsOutOfReach, IsWinnerFrom, is_reached, exact_bound}
 use Rattle.tie_search.specs.Prices.{kept, base, price}
+use Rattle.tie_search.specs.Steps.Near.{need_share, need_weight}
 use Rattle.tie_search.specs.Steps.Witness.{IsSetAndLater}
 use Rattle.tie_search.specs.Steps.Columns.{voter_ballot, given, total, voters_of}
 
@@ -137,6 +138,29 @@ needed-none = refl
 
 needed-none_more : hits_needed 3 4 9 ≡ 0
 needed-none_more = refl
+
+-- one voter approves 1, 2 and 3 and two approve 4 and 5; a row weighs as much as its ballot has candidates. To be no
+-- farther than 3 from a committee of three, the first row needs a hit beside the member 1, and the second row one hit
+weighted-three : weighted_needs (λ row. length row.0) 3 3 (1 ∷ []) ((1 ∷ 2 ∷ 3 ∷ [], 1) ∷ (4 ∷ 5 ∷ [], 2) ∷ []) ≡ 5
+weighted-three = refl
+
+-- nobody is in the set
+weighted-none : weighted_needs (λ row. length row.0) 3 3 [] ((1 ∷ 2 ∷ 3 ∷ [], 1) ∷ (4 ∷ 5 ∷ [], 2) ∷ []) ≡ 8
+weighted-none = refl
+
+support-three : weighted_support (λ row. length row.0) ((1 ∷ 2 ∷ 3 ∷ [], 1) ∷ (4 ∷ 5 ∷ [], 2) ∷ (3 ∷ [], 1) ∷ []) 3 ≡ 4
+support-three = refl
+
+support-nobody : weighted_support (λ row. length row.0) ((1 ∷ 2 ∷ 3 ∷ [], 1) ∷ (4 ∷ 5 ∷ [], 2) ∷ []) 6 ≡ 0
+support-nobody = refl
+
+-- a ballot that needs two of four free candidates
+share-half : need_share 2 4 ≡ 32
+share-half = refl
+
+weight-half : need_weight 2 4 ≡ 65536
+unfolding need_weight
+weight-half = refl
 
 -- ---- bounds of two of three candidates, where one voter approves 1 and 2, and one approves 3: with 1 and 2 the second
 -- voter is at the distance 3, with 3 in the committee no voter is farther than 2

@@ -9,5 +9,6 @@ pub mod PriceLemmas
 pub mod PricedLemmas
 pub mod ReachLemmas
 pub mod SearchLemmas
+pub mod WeightLemmas
 pub mod WitnessLemmas
 mod WholeLemmas

@@ -1,15 +1,15 @@
 //! Laws of the definitions. Each function does nothing, and its contract is the law.
-ghost use Rattle.std.specs.Prelude.{◌≡◌, ℕ, ◌+◌, ◌-◌, ◌*◌, ◌≤◌, ◌↔◌, List, None, Some, ◌⊎◌, length, sum_by};
+ghost use Rattle.std.specs.Prelude.{◌≡◌, true, ℕ, ◌+◌, ◌-◌, ◌*◌, ◌≤◌, ◌↔◌, List, None, Some, ◌⊎◌, length, sum_by};
 ghost use Rattle.std.specs.List.{AllByRecursion};
 ghost use Rattle.ballot_base.specs.Limits.{most_members};
 ghost use Rattle.ballot_base.specs.Ballots.{Row, hits};
 ghost use Rattle.ballot_base.specs.Increments.{increments};
 ghost use Rattle.ballot_base.specs.Lists.{IsIncreasing, IsLater};
-ghost use Rattle.ballot_base.specs.CandSet.{members_upto};
+ghost use Rattle.ballot_base.specs.CandSet.{has_member, members_upto};
 ghost use Rattle.tie_walk.specs.Ceilings.{Prefix, IsBound, IsExactAtBest, IsLive, gain_at, live_count};
 ghost use Rattle.tie_walk.specs.Values.{greatest_distance, thiele_value};
 ghost use Rattle.tie_walk.specs.Winners.{best_value, winners};
-ghost use Rattle.tie_search.specs.Needs.{hits_needed};
+ghost use Rattle.tie_search.specs.Needs.{hits_needed, weighted_needs, weighted_support};
 ghost use Rattle.tie_search.specs.Prices.{AreRounded, Priced, priced_rows, base, price};
 ghost use Rattle.tie_search.specs.Completions.{IsOpen, IsCompletion, IsWinnerFrom, exact_bound};
 
@@ -32,6 +32,24 @@ pub fn needs()
         → AllByRecursion (λ row. IsIncreasing 1 m row.0) rows → IsIncreasing 1 m committee → length committee ≡ k
         → (greatest_distance rows committee ≤ most)
         ↔ AllByRecursion (λ row. hits_needed (length row.0) k most ≤ hits row.0 committee) rows }
+{}
+
+/// Weighted needs bound the committees that complete a set, under minimax approval voting. Each row may have any
+/// weight. If no ballot is farther than `most` from a committee, the weighted needs are at most `left` times a
+/// threshold, plus what the supports of the free candidates exceed the threshold by. If n is an added member, the bound
+/// is lower by what the support of n is below the threshold.
+pub fn weighted_needs()
+    ensures completions { (weight : Row → ℕ) (m k most : ℕ) (rows : List Row) (set free : List ℕ) (left threshold : ℕ)
+        (committee : List ℕ) → AllByRecursion (λ row. IsIncreasing 1 m row.0) rows → IsOpen m set free
+        → IsCompletion m set free left committee → length set + left ≡ k → greatest_distance rows committee ≤ most
+        → weighted_needs weight k most set rows
+        ≤ left * threshold + sum_by (λ n. weighted_support weight rows n - threshold) free }
+    ensures members { (weight : Row → ℕ) (m k most : ℕ) (rows : List Row) (set free : List ℕ) (left threshold : ℕ)
+        (committee : List ℕ) (n : ℕ) → AllByRecursion (λ row. IsIncreasing 1 m row.0) rows → IsOpen m set free
+        → IsCompletion m set free left committee → length set + left ≡ k → greatest_distance rows committee ≤ most
+        → has_member free n ≡ true → has_member committee n ≡ true
+        → weighted_needs weight k most set rows + (threshold - weighted_support weight rows n)
+        ≤ left * threshold + sum_by (λ n. weighted_support weight rows n - threshold) free }
 {}
 
 /// Which prefixes a walk has to enter where bounds are exact at the greatest value. Without a start each begins some

@@ -1,14 +1,32 @@
-//! The search for a committee that is near each ballot, depth first, that goes into no set where a ballot needs more
-//! hits than it can have.
-ghost use Rattle.std.specs.Prelude.{◌≡◌, ◌-◌, ◌≤◌, IsTrue, MatchOption};
+//! A search for a committee that is near each ballot (minimax): depth first, giving up sets that cannot be completed.
+//!
+//! A ballot is no farther than a distance from a committee of k exactly if it has enough hits: half of what its size
+//! and k together exceed the distance by, rounded up (`laws::needs`). A set is given up if a ballot needs more hits
+//! than seats are left, or more than free candidates on it. If a ballot needs a hit from each seat left, all candidates
+//! not on it leave. One of the free candidates on the ballot that can spare the fewest must join: each in turn is
+//! searched below and then leaves, with its clones.
+//!
+//! All needs are also added up, each with a weight. A set is given up if the sum passes what the best free candidates
+//! can give, and a candidate leaves without whom the others fall short (`laws::weighted_needs`; Glover, Surrogate
+//! constraints, 1968). Any weights are right.
+ghost use Rattle.std.specs.Prelude.{◌≡◌, ℕ, ◌+◌, ◌-◌, ◌^◌, ◌≤◌, ◌&&◌, [], true, max, nat_le, length, slice_index, IsTrue, MatchOption};
 ghost use Rattle.ballot_base.specs.Clones.{AreClones};
+ghost use Rattle.ballot_base.specs.CandSet.{has_member};
+ghost use Rattle.ballot_base.specs.Limits.{most_candidates};
+ghost use Rattle.ballot_base.specs.Lists.{IsIncreasing};
 ghost use Rattle.tie_walk.specs.Values.{closeness, greatest_distance};
 ghost use Rattle.tie_search.specs.Completions.{IsOpen, IsOutOfReach, IsReaching};
-ghost use Rattle.tie_search.specs.Steps.Near.{AreChoices, IsNarrowed};
+ghost use Rattle.tie_search.specs.Steps.Near.{AreChoices, AreWeighted, IsNarrowed, need_weight};
 
 use crate::needs::still_needed;
-use ballot_base::{CandSet, Clones, Profile};
+use crate::order::Order;
+use crate::search::excess;
+use ballot_base::{CandSet, Clones, PLACES, Profile};
 use std::alloc::Allocator;
+use tie_walk::add_to_members;
+
+/// The denominator of shares in `weight_of`.
+const SHARE_PARTS: u64 = 64;
 
 /// What all steps of a search share: the ballots, who are clones on them, and how far a committee may be from each.
 #[derive(Drop)]
@@ -16,6 +34,17 @@ pub(crate) struct NearSearch<'a, A: Allocator + Copy> {
     pub(crate) profile: &'a Profile<A>,
     pub(crate) clones: &'a Clones,
     pub(crate) most: u8,
+}
+
+/// What all ballots still need, and what each free candidate can give. Each hit counts as much as the weight of the
+/// ballot.
+#[derive(Drop)]
+struct WeightedNeeds {
+    total: u128,
+    // At the number of each free candidate, the total weight of the ballots that approve it.
+    supports: [u128; PLACES],
+    // The free candidates by support.
+    order: Order,
 }
 
 impl<A: Allocator + Copy> NearSearch<'_, A> {
@@ -30,26 +59,129 @@ impl<A: Allocator + Copy> NearSearch<'_, A> {
             left (self.now.profile.now.m - self.now.most)) }
     {
         self.profile.m();
-        let (choices, mut rest) = choices(self.profile, set, free, left, self.most)?;
+        let (choices, eligible) = choices(self.profile, set, free, left, self.most)?;
         if left == 0 {
             return Some(set);
         }
-        while let Some(parts) = choices.common(rest).split_first() {
-            let next = parts.0;
+        let needs = self.weighted_needs(set, eligible, left);
+        let mut rest = self.narrowed(&needs, set, eligible, left)?;
+        while let Some(next) = best_of(choices.common(rest), &needs.supports) {
             let others = rest.without(next);
             let found = self.find_near(set.with(next), others, left - 1);
             if let Some(committee) = found {
                 return Some(committee);
             }
             // A committee with a clone of the candidate would be as near with the candidate in its place.
-            rest = others.minus(self.clones.class(next));
+            let untried = others.minus(self.clones.class(next));
+            rest = self.narrowed(&needs, set, untried, left)?;
         }
         None
     }
+
+    /// What the ballots still need, if `left` of the free candidates complete the set.
+    fn weighted_needs(&self, set: CandSet, free: CandSet, left: u8) -> WeightedNeeds
+        requires few { left ≤ most_candidates }
+        ensures weighted { AreWeighted self.now.profile.now.rows (length set + left) self.now.most set free result.total
+            result.supports }
+        ensures small { (n : ℕ) → slice_index result.supports n ≤ 2 ^ 116 }
+    {
+        let k = set.len() + left;
+        let mut total = 0;
+        let mut supports = [0; PLACES];
+        for (ballot, _voters) in self.profile.ballots() {
+            let needed = still_needed(ballot, set, k, self.most);
+            if needed > 0 {
+                let approved = ballot.common(free);
+                let weight = u128::from(weight_of(needed, approved.len()));
+                total += weight * u128::from(needed);
+                add_to_members(&mut supports, approved, weight);
+            }
+        }
+        let order = Order::by_worth(free, &supports);
+        WeightedNeeds {
+            total,
+            supports,
+            order,
+        }
+    }
+
+    /// The free candidates that can still join, by the weighted needs. Returns `None` if no near committee completes
+    /// the set.
+    fn narrowed(
+        &self,
+        needs: &WeightedNeeds,
+        set: CandSet,
+        free: CandSet,
+        left: u8,
+    ) -> Option<CandSet>
+        requires opened { IsOpen self.now.profile.now.m set free }
+        requires weighted { AreWeighted self.now.profile.now.rows (length set + left) self.now.most set free
+            needs.now.total needs.now.supports }
+        requires small { (n : ℕ) → slice_index needs.now.supports n ≤ 2 ^ 116 }
+        ensures { MatchOption result
+            (IsOutOfReach (closeness self.now.profile.now.m self.now.profile.now.rows) self.now.profile.now.m set free
+            left (self.now.profile.now.m - self.now.most))
+            (IsNarrowed (closeness self.now.profile.now.m self.now.profile.now.rows) self.now.profile.now.m set free
+            left (self.now.profile.now.m - self.now.most)) }
+    {
+        self.profile.m();
+        let threshold = needs.order.nth_worth(free, left, &needs.supports);
+        let greatest = u128::from(left) * threshold + excess(&needs.supports, free, threshold);
+        if greatest < needs.total {
+            return None;
+        }
+        // The support of a candidate that joins is below the threshold by `spare` at most.
+        let spare = greatest - needs.total;
+        Some(at_least(free, &needs.supports, threshold.saturating_sub(spare)))
+    }
 }
 
-/// Free candidates of whom one has to join the set, those on a ballot that needs more hits or all of them; and those of
-/// whom all have to be who join it. Nothing where some ballot needs more hits than it can have.
+/// The weight of a ballot that approves this many free candidates and needs some of them: its need, times the cube of
+/// the share of these candidates that it needs. Any weights are right; these refute a set early.
+fn weight_of(needed: u8, approved: u8) -> u64
+    ensures value { result ≡ need_weight needed (max 1 approved) }
+    ensures small { result ≤ 2 ^ 50 }
+{
+    let needed = u64::from(needed);
+    let share = needed * SHARE_PARTS / u64::from(approved.max(1));
+    needed * share * share * share
+}
+
+/// The members whose worth is at least `least`.
+fn at_least(set: CandSet, worths: &[u128; PLACES], least: u128) -> CandSet
+    ensures members { (n : ℕ) → has_member result n ≡ (has_member set n && nat_le least (slice_index worths.now n)) }
+    ensures within { (m : ℕ) → IsIncreasing 1 m set → IsIncreasing 1 m result }
+{
+    set.valid();
+    let mut kept = CandSet::empty();
+    let mut left = set;
+    while let Some(parts) = left.split_first() {
+        if worths[usize::from(parts.0)] >= least {
+            kept = kept.with(parts.0);
+        }
+        left = parts.1;
+    }
+    kept
+}
+
+/// A member with the highest worth. Returns `None` for the empty set.
+fn best_of(set: CandSet, worths: &[u128; PLACES]) -> Option<u8>
+    ensures { MatchOption result (set ≡ []) (λ best. (has_member set best ≡ true)
+        × ((n : ℕ) → has_member set n ≡ true → slice_index worths.now n ≤ slice_index worths.now best)) }
+{
+    set.valid();
+    let (mut best, mut left) = set.split_first()?;
+    while let Some(parts) = left.split_first() {
+        if worths[usize::from(parts.0)] > worths[usize::from(best)] {
+            best = parts.0;
+        }
+        left = parts.1;
+    }
+    Some(best)
+}
+
+/// Two sets: branching candidates, at least one of which must join; and the candidates that are still eligible. Returns
+/// `None` if some ballot needs more hits than it can have.
 fn choices<A: Allocator + Copy>(
     profile: &Profile<A>,
     set: CandSet,
@@ -64,7 +196,8 @@ fn choices<A: Allocator + Copy>(
         × IsNarrowed (closeness profile.now.m profile.now.rows) profile.now.m set free left (profile.now.m - most)
         both.1
         × (1 ≤ left → AreChoices (closeness profile.now.m profile.now.rows) profile.now.m set free left
-        (profile.now.m - most) both.0)) }
+        (profile.now.m - most) both.0)
+        × (left ≤ length free)) }
 {
     profile.m();
     if free.len() < left {
@@ -73,7 +206,7 @@ fn choices<A: Allocator + Copy>(
     let k = set.len() + left;
     let mut choices = free;
     let mut rest = free;
-    let mut fewest = u8::MAX;
+    let mut tightest = (u8::MAX, 0);
     for (ballot, _voters) in profile.ballots() {
         let needed = still_needed(ballot, set, k, most);
         let open = ballot.common(rest);
@@ -83,18 +216,20 @@ fn choices<A: Allocator + Copy>(
         if needed == left {
             rest = open;
         }
-        if is_tighter(needed, open.len(), fewest) {
+        let spare = open.len().saturating_sub(needed);
+        if is_tighter(needed, spare, tightest) {
             choices = open;
-            fewest = open.len().saturating_sub(needed);
+            tightest = (spare, needed);
         }
     }
     Some((choices, rest))
 }
 
-/// Whether a ballot needs a hit, and can miss fewer of its free candidates than any before. Any that needs a hit is
-/// right; the fewer it can miss, the fewer of them have to be tried.
-fn is_tighter(needed: u8, open: u8, fewest: u8) -> bool
+/// Whether a ballot needs a hit and is tighter than the tightest before: it can spare fewer of its free candidates, or
+/// equally few and it needs more hits. Any ballot that needs a hit is right; a tight one leaves few candidates to try.
+fn is_tighter(needed: u8, spare: u8, tightest: (u8, u8)) -> bool
     ensures { IsTrue result → 1 ≤ needed }
 {
-    needed > 0 && open.saturating_sub(needed) < fewest
+    let (fewest, most_needed) = tightest;
+    needed > 0 && (spare < fewest || spare == fewest && needed > most_needed)
 }

@@ -1,7 +1,9 @@
 -- Steps of the search for a committee that is near each ballot.
-use Rattle.std.specs.Prelude.{◌≡◌, ℕ, ◌≤◌, true, List}
+use Rattle.std.specs.Prelude.{◌≡◌, ℕ, ◌*◌, ◌/◌, ◌≤◌, true, List, slice_index}
+use Rattle.ballot_base.specs.Ballots.{Row}
 use Rattle.ballot_base.specs.CandSet.{has_member}
 use Rattle.tie_search.specs.Completions.{IsOpen, IsCompletion, IsReaching}
+use Rattle.tie_search.specs.Needs.{weighted_needs, weighted_support}
 
 -- free candidates of whom each committee has one that completes the set and reaches the value
 pub record AreChoices (value : List ℕ → ℕ) (m : ℕ) (set free : List ℕ) (left least : ℕ) (choices : List ℕ) : Type 0
@@ -17,3 +19,24 @@ pub record IsNarrowed (value : List ℕ → ℕ) (m : ℕ) (set free : List ℕ)
     pub among : (n : ℕ) → has_member rest n ≡ true → has_member free n ≡ true
     pub kept : (committee : List ℕ) → IsCompletion m set free left committee → least ≤ value committee
         → IsCompletion m set rest left committee
+
+-- for some weights of the rows, `total` is their weighted need, and `supports` has the weighted support of each free
+-- candidate
+pub record AreWeighted (rows : List Row) (k most : ℕ) (set free : List ℕ) (total : ℕ) (supports : List ℕ) : Type 0
+  where
+    pub weight : Row → ℕ
+    pub total_is : total ≡ weighted_needs weight k most set rows
+    pub supports_are : (n : ℕ) → has_member free n ≡ true → slice_index supports n ≡ weighted_support weight rows n
+
+-- the denominator of shares
+abbrev pub share_parts : ℕ
+share_parts = 64
+
+-- the share of the free candidates on a ballot that it needs
+abbrev pub need_share : ℕ → ℕ → ℕ
+need_share needed approved = needed * share_parts / approved
+
+-- the weight of a ballot: its need, times the cube of the share
+unfoldable pub need_weight : ℕ → ℕ → ℕ
+need_weight needed approved =
+    needed * need_share needed approved * need_share needed approved * need_share needed approved

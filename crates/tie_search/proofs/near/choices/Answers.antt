@@ -98,5 +98,9 @@ pub returns : goal.returns
 returns g c =
     let e = c.args.profile.now in
     let inv = c.loop-ballot.invariant in
-    let all = all_passed e.rows (c.into_iter-ballot-iterator.ensures.into_iter_gives ∙ c.ballots-ballot-items.ensures.rows) c.loop-ballot.yielded c.loop-ballot.yielded_by c.in-None.ensures.steps.0 in
-    (λ none. subst (λ rows. greatest_distance rows c.args.set ≤ c.args.most) all (inv.whole none), inv.narrowed, inv.choice)
+    let all = all_passed e.rows (c.into_iter-ballot-iterator.ensures.into_iter_gives ∙ c.ballots-ballot-items.ensures.rows) c.loop-ballot.yielded c.loop-ballot.yielded_by c.in-None.ensures.steps.0 in (
+      (λ none. subst (λ rows. greatest_distance rows c.args.set ≤ c.args.most) all (inv.whole none)),
+      inv.narrowed,
+      inv.choice,
+      omega (arith, c.len.ensures.count, c.if-len-left.false),
+    )

@@ -1,13 +1,33 @@
-use Rattle.std.proofs.Common.{◌-◌, ◌≤◌, ◌∙◌, arith, sym}
-use Rattle.ballot_base.specs.CandSet.{with_member, without_member}
+use Rattle.std.proofs.Common.{◌≡◌, ℕ, ◌+◌, ◌-◌, ◌≤◌, ◌∙◌, true, List, arith, sym, length}
+use Rattle.std.specs.List.{AllByRecursion}
+use Rattle.ballot_base.specs.Ballots.{Row}
+use Rattle.ballot_base.specs.CandSet.{has_member, other_members, with_member, without_member}
+use Rattle.ballot_base.specs.Clones.{clones_among}
+use Rattle.ballot_base.specs.Lists.{IsIncreasing}
+use Rattle.ballot_base.proofs.Committees.{length-increasing}
 use Rattle.tie_walk.specs.Values.{closeness}
-use Rattle.tie_search.specs.Completions.{IsOpen}
-use Rattle.tie_search.proofs.CompletionLemmas.{member-low, member-high, open-with, without-shorter}
+use Rattle.tie_search.specs.Completions.{IsOpen, IsOutOfReach}
+use Rattle.tie_search.specs.Steps.Near.{IsNarrowed}
+use Rattle.tie_search.proofs.CompletionLemmas.{member-low, member-high, open-with, open-without, without-is, without-shorter}
 use Rattle.tie_search.proofs.SearchLemmas.{found-below, set-reaches}
-use Rattle.tie_search.proofs.CloneLemmas.{class-are, minus-most}
+use Rattle.tie_search.proofs.CloneLemmas.{class-are, minus-is, minus-most, open-minus}
 use Rattle.tie_search.proofs.NearClones.{closeness-exchanged}
-use Rattle.tie_search.proofs.NeedLemmas.{all-tried, narrowed-clones, near-value, next-tried}
+use Rattle.tie_search.proofs.NeedLemmas.{all-tried, choice-left, fewer-shorter, narrowed-clones, narrowed-more, narrowed-out, near-value}
+use Rattle.tie_search.proofs.WeightLemmas.{weighted-fewer}
 use Rattle.tie_search.proofs.near.NearSearch.+find_near.Goals as goal
+
+-- a candidate was tried, and is struck out with its clones
+tried : (m most : ℕ) (rows : List Row) (set free rest clones : List ℕ) (left next : ℕ) → AllByRecursion (λ (row : Row). IsIncreasing 1 m row.0) rows
+    → IsNarrowed (closeness m rows) m set free left (m - most) rest → 1 ≤ left → has_member rest next ≡ true → (1 ≤ next → next ≤ m → clones ≡ clones_among m rows next)
+    → IsOutOfReach (closeness m rows) m (with_member set next) (without_member rest next) (left - 1) (m - most)
+    → IsNarrowed (closeness m rows) m set free left (m - most) (other_members (without_member rest next) clones)
+tried m most rows set free rest clones left next ballots narrowed some here clones_are none =
+    let low : 1 ≤ next = member-low 1 m rest next narrowed.opened.free_within here in
+    let high : next ≤ m = member-high 1 m rest next narrowed.opened.free_within here in
+    let are = class-are m rows next clones (clones_are low high) in
+    narrowed-clones (closeness m rows) m set free rest left (m - most) narrowed next clones some here
+    (λ committee d up is out clone. closeness-exchanged m committee next d up is out low high rows ballots (are d clone))
+    none
 
 pub returns-then-left-eq0 : goal.returns-then-left-eq0
 returns-then-left-eq0 g t c =
@@ -15,38 +35,60 @@ returns-then-left-eq0 g t c =
     set-reaches (closeness e.m e.rows) e.m c.args.set c.args.left (e.m - c.args.self.now.most) c.args.free c.if-left-eq0.true c.requires.opened
     (near-value e.m e.rows c.args.self.now.most c.args.set (c.in_ok-choices.ensures.0 c.if-left-eq0.true))
 
-pub loop-parts-init : goal.loop-parts-init
-loop-parts-init g t c = c.in_ok-choices.ensures.1
+pub weighted_needs-needs-requires : goal.weighted_needs-needs-requires
+weighted_needs-needs-requires g t c =
+    let m = c.args.self.now.profile.now.m in
+    record { few = omega (arith, c.in_ok-choices.ensures.3, length-increasing 1 m c.args.free c.requires.opened.free_within, c.m.ensures.valid.most) }
+
+pub narrowed-requires-clause-opened : goal.narrowed-requires-clause-opened
+narrowed-requires-clause-opened g t c = c.in_ok-choices.ensures.1.opened
+
+pub returns-in_err-rest : goal.returns-in_err-rest
+returns-in_err-rest g t c =
+    let e = c.args.self.now.profile.now in
+    rw c.from_residual-in_err-rest.ensures
+    (narrowed-out (closeness e.m e.rows) e.m c.args.set c.args.free c.in_ok-choices.eligible c.args.left (e.m - c.args.self.now.most) c.in_ok-choices.ensures.1 c.in_err-rest.ensures)
+
+pub loop-next-init : goal.loop-next-init
+loop-next-init g t c =
+    let e = c.args.self.now.profile.now in
+    let V = closeness e.m e.rows in
+    record {
+      narrowed = narrowed-more V e.m c.args.set c.args.free c.in_ok-choices.eligible c.args.left (e.m - c.args.self.now.most) c.in_ok-choices.ensures.1 c.in_ok-rest.rest c.in_ok-rest.ensures;
+      weighted = weighted-fewer e.rows (length c.args.set + c.args.left) c.args.self.now.most c.args.set c.in_ok-choices.eligible c.in_ok-rest.rest c.weighted_needs-needs.result.total
+          c.weighted_needs-needs.result.supports c.weighted_needs-needs.ensures.weighted c.in_ok-rest.ensures.among;
+    }
 
 pub with-requires-clause-low : goal.with-requires-clause-low
 with-requires-clause-low g t c =
-    member-low 1 c.args.self.now.profile.now.m c.loop-parts.rest c.in-Some.parts.0 c.loop-parts.invariant.opened.free_within
-    (next-tried c.in_ok-choices.choices c.loop-parts.rest c.common.result c.in-Some.parts.1 c.in-Some.parts.0 c.common.ensures c.in-Some.ensures)
+    member-low 1 c.args.self.now.profile.now.m c.loop-next.rest c.in-Some.next c.loop-next.invariant.narrowed.opened.free_within
+    (choice-left c.in_ok-choices.choices c.loop-next.rest c.common.result c.in-Some.next c.common.ensures c.in-Some.ensures.0)
 
 pub with-requires-clause-high : goal.with-requires-clause-high
 with-requires-clause-high g t c =
     omega (
       arith,
       c.m.ensures.valid.most,
-      member-high 1 c.args.self.now.profile.now.m c.loop-parts.rest c.in-Some.parts.0 c.loop-parts.invariant.opened.free_within
-          (next-tried c.in_ok-choices.choices c.loop-parts.rest c.common.result c.in-Some.parts.1 c.in-Some.parts.0 c.common.ensures c.in-Some.ensures),
+      member-high 1 c.args.self.now.profile.now.m c.loop-next.rest c.in-Some.next c.loop-next.invariant.narrowed.opened.free_within
+          (choice-left c.in_ok-choices.choices c.loop-next.rest c.common.result c.in-Some.next c.common.ensures c.in-Some.ensures.0),
     )
 
 pub find_near-found-requires : goal.find_near-found-requires
 find_near-found-requires g t c κs within =
-    let next = c.in-Some.parts.0 in
-    let opened : IsOpen c.args.self.now.profile.now.m (with_member c.args.set next) (without_member c.loop-parts.rest next) =
-    open-with c.args.self.now.profile.now.m c.args.set c.loop-parts.rest next c.loop-parts.invariant.opened
-    (next-tried c.in_ok-choices.choices c.loop-parts.rest c.common.result c.in-Some.parts.1 next c.common.ensures c.in-Some.ensures) in
+    let next = c.in-Some.next in
+    let opened : IsOpen c.args.self.now.profile.now.m (with_member c.args.set next) (without_member c.loop-next.rest next) =
+    open-with c.args.self.now.profile.now.m c.args.set c.loop-next.rest next c.loop-next.invariant.narrowed.opened
+    (choice-left c.in_ok-choices.choices c.loop-next.rest c.common.result next c.common.ensures c.in-Some.ensures.0) in
     (omega (arith, c.if-left-eq0.false, c.decreases), (within, (c.requires.clones, rw (c.with.ensures, c.without-others.ensures) opened)))
 
 pub returns-in-Some-found : goal.returns-in-Some-found
 returns-in-Some-found g t c =
     let e = c.args.self.now.profile.now in
-    let next = c.in-Some.parts.0 in
-    let left = next-tried c.in_ok-choices.choices c.loop-parts.rest c.common.result c.in-Some.parts.1 next c.common.ensures c.in-Some.ensures in
-    found-below (closeness e.m e.rows) e.m c.args.set c.args.left (e.m - c.args.self.now.most) c.args.free c.loop-parts.rest c.in-Some-found.committee next
-    (omega (arith, c.if-left-eq0.false)) c.requires.opened (c.loop-parts.invariant.among next left) c.loop-parts.invariant.among
+    let next = c.in-Some.next in
+    let here = choice-left c.in_ok-choices.choices c.loop-next.rest c.common.result next c.common.ensures c.in-Some.ensures.0 in
+    let narrowed = c.loop-next.invariant.narrowed in
+    found-below (closeness e.m e.rows) e.m c.args.set c.args.left (e.m - c.args.self.now.most) c.args.free c.loop-next.rest c.in-Some-found.committee next
+    (omega (arith, c.if-left-eq0.false)) c.requires.opened (narrowed.among next here) narrowed.among
     (rw (c.with.ensures, c.without-others.ensures) at c.in-Some-found.ensures)
 
 pub class-requires : goal.class-requires
@@ -54,34 +96,79 @@ class-requires g t c =
     omega (
       arith,
       c.m.ensures.valid.most,
-      member-high 1 c.args.self.now.profile.now.m c.loop-parts.rest c.in-Some.parts.0 c.loop-parts.invariant.opened.free_within
-          (next-tried c.in_ok-choices.choices c.loop-parts.rest c.common.result c.in-Some.parts.1 c.in-Some.parts.0 c.common.ensures c.in-Some.ensures),
+      member-high 1 c.args.self.now.profile.now.m c.loop-next.rest c.in-Some.next c.loop-next.invariant.narrowed.opened.free_within
+          (choice-left c.in_ok-choices.choices c.loop-next.rest c.common.result c.in-Some.next c.common.ensures c.in-Some.ensures.0),
     )
 
-pub loop-parts-smaller : goal.loop-parts-smaller
-loop-parts-smaller g t c =
-    let fewer = minus-most (without_member c.loop-parts.rest c.in-Some.parts.0) c.class.result in
-    let short = without-shorter c.loop-parts.rest c.in-Some.parts.0
-    (next-tried c.in_ok-choices.choices c.loop-parts.rest c.common.result c.in-Some.parts.1 c.in-Some.parts.0 c.common.ensures c.in-Some.ensures) in
-    rw (c.minus-rest.ensures, c.without-others.ensures) (omega (arith, fewer, short))
+pub narrowed-requires-in-Some-clause-opened : goal.narrowed-requires-in-Some-clause-opened
+narrowed-requires-in-Some-clause-opened g t c =
+    let m = c.args.self.now.profile.now.m in
+    let rest = c.loop-next.rest in
+    rw (c.minus-untried.ensures, c.without-others.ensures)
+    (open-minus m c.args.set (without_member rest c.in-Some.next) c.class.result (open-without m c.args.set rest c.in-Some.next c.loop-next.invariant.narrowed.opened))
 
-pub loop-parts-preserved : goal.loop-parts-preserved
-loop-parts-preserved g t c =
+pub narrowed-requires-in-Some-clause-weighted : goal.narrowed-requires-in-Some-clause-weighted
+narrowed-requires-in-Some-clause-weighted g t c =
     let e = c.args.self.now.profile.now in
-    let rest = c.loop-parts.rest in
-    let next = c.in-Some.parts.0 in
-    let here = next-tried c.in_ok-choices.choices rest c.common.result c.in-Some.parts.1 next c.common.ensures c.in-Some.ensures in
-    let low : 1 ≤ next = member-low 1 e.m rest next c.loop-parts.invariant.opened.free_within here in
-    let high : next ≤ e.m = member-high 1 e.m rest next c.loop-parts.invariant.opened.free_within here in
-    let are = class-are e.m e.rows next c.class.result (c.class.ensures ∙ c.requires.clones next low high) in
-    rw (c.minus-rest.ensures, c.without-others.ensures)
-    (narrowed-clones (closeness e.m e.rows) e.m c.args.set c.args.free rest c.args.left (e.m - c.args.self.now.most) c.loop-parts.invariant next c.class.result
-    (omega (arith, c.if-left-eq0.false)) here
-    (λ committee d up is out clone. closeness-exchanged e.m committee next d up is out low high e.rows c.m.ensures.valid.ballots (are d clone))
+    let rest = c.loop-next.rest in
+    let next = c.in-Some.next in
+    rw (c.minus-untried.ensures, c.without-others.ensures)
+    (weighted-fewer e.rows (length c.args.set + c.args.left) c.args.self.now.most c.args.set rest (other_members (without_member rest next) c.class.result) c.weighted_needs-needs.result.total
+    c.weighted_needs-needs.result.supports c.loop-next.invariant.weighted
+    (λ n is. without-is rest next n (minus-is (without_member rest next) c.class.result n is)))
+
+pub returns-in_err-rest-2 : goal.returns-in_err-rest-2
+returns-in_err-rest-2 g t c =
+    let e = c.args.self.now.profile.now in
+    let V = closeness e.m e.rows in
+    let rest = c.loop-next.rest in
+    let next = c.in-Some.next in
+    let untried = other_members (without_member rest next) c.class.result in
+    let here = choice-left c.in_ok-choices.choices rest c.common.result next c.common.ensures c.in-Some.ensures.0 in
+    let none : IsOutOfReach V e.m c.args.set untried c.args.left (e.m - c.args.self.now.most) = rw (c.minus-untried.ensures, c.without-others.ensures) at c.in_err-rest-2.ensures in
+    rw c.from_residual-in_err-rest-2.ensures
+    (narrowed-out V e.m c.args.set c.args.free untried c.args.left (e.m - c.args.self.now.most)
+    (tried e.m c.args.self.now.most e.rows c.args.set c.args.free rest c.class.result c.args.left next c.m.ensures.valid.ballots c.loop-next.invariant.narrowed
+    (omega (arith, c.if-left-eq0.false)) here (λ low high. c.class.ensures ∙ c.requires.clones next low high)
     (rw (c.with.ensures, c.without-others.ensures) at c.in_default-found.ensures))
+    none)
+
+pub loop-next-smaller : goal.loop-next-smaller
+loop-next-smaller g t c =
+    let m = c.args.self.now.profile.now.m in
+    let rest = c.loop-next.rest in
+    let next = c.in-Some.next in
+    let opened = open-minus m c.args.set (without_member rest next) c.class.result (open-without m c.args.set rest next c.loop-next.invariant.narrowed.opened) in
+    let now : IsNarrowed (closeness m c.args.self.now.profile.now.rows) m c.args.set (other_members (without_member rest next) c.class.result) c.args.left (m - c.args.self.now.most) c.in_ok-rest-2.rest =
+    rw (c.minus-untried.ensures, c.without-others.ensures) at c.in_ok-rest-2.ensures in
+    let short = fewer-shorter m c.in_ok-rest-2.rest (other_members (without_member rest next) c.class.result) now.opened.free_within opened.free_within now.among in
+    let fewer = minus-most (without_member rest next) c.class.result in
+    let less = without-shorter rest next (choice-left c.in_ok-choices.choices rest c.common.result next c.common.ensures c.in-Some.ensures.0) in
+    omega (arith, short, fewer, less)
+
+pub loop-next-preserved : goal.loop-next-preserved
+loop-next-preserved g t c =
+    let e = c.args.self.now.profile.now in
+    let V = closeness e.m e.rows in
+    let rest = c.loop-next.rest in
+    let next = c.in-Some.next in
+    let untried = other_members (without_member rest next) c.class.result in
+    let here = choice-left c.in_ok-choices.choices rest c.common.result next c.common.ensures c.in-Some.ensures.0 in
+    let now : IsNarrowed V e.m c.args.set untried c.args.left (e.m - c.args.self.now.most) c.in_ok-rest-2.rest =
+    rw (c.minus-untried.ensures, c.without-others.ensures) at c.in_ok-rest-2.ensures in
+    record {
+      narrowed = narrowed-more V e.m c.args.set c.args.free untried c.args.left (e.m - c.args.self.now.most)
+          (tried e.m c.args.self.now.most e.rows c.args.set c.args.free rest c.class.result c.args.left next c.m.ensures.valid.ballots c.loop-next.invariant.narrowed
+          (omega (arith, c.if-left-eq0.false)) here (λ low high. c.class.ensures ∙ c.requires.clones next low high)
+          (rw (c.with.ensures, c.without-others.ensures) at c.in_default-found.ensures))
+          c.in_ok-rest-2.rest now;
+      weighted = weighted-fewer e.rows (length c.args.set + c.args.left) c.args.self.now.most c.args.set rest c.in_ok-rest-2.rest c.weighted_needs-needs.result.total
+          c.weighted_needs-needs.result.supports c.loop-next.invariant.weighted
+          (λ n is. without-is rest next n (minus-is (without_member rest next) c.class.result n (now.among n is)));
+    }
 
 pub returns : goal.returns
 returns g t c =
     let e = c.args.self.now.profile.now in
-    all-tried (closeness e.m e.rows) e.m c.args.set c.args.free c.args.left (e.m - c.args.self.now.most) c.in_ok-choices.choices c.loop-parts.rest c.requires.opened
-    (c.in_ok-choices.ensures.2 (omega (arith, c.if-left-eq0.false))) c.loop-parts.invariant.kept (sym c.common.ensures ∙ c.in_default.ensures)
+    all-tried (closeness e.m e.rows) e.m c.args.set c.args.free c.args.left (e.m - c.args.self.now.most) c.in_ok-choices.choices c.loop-next.rest c.requires.opened
+    (c.in_ok-choices.ensures.2 (omega (arith, c.if-left-eq0.false))) c.loop-next.invariant.narrowed.kept (sym c.common.ensures ∙ c.in_default.ensures)

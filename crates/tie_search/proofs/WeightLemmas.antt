@@ -1,0 +1,302 @@
+-- What ballots need, weighted, and the weights of the candidates who can join.
+use Rattle.std.proofs.Common.{◌≡◌, ℕ, suc, ◌+◌, ◌-◌, ◌*◌, ◌<◌, ◌≤◌, ◌∙◌, ◌==◌, ◌&&◌, ◌||◌, Bool, true, false, cond, List, [], ◌∷◌, ◌++◌, refl, sym, ap, arith, inl, inr, length, sum_by, take, get_or, slice_get, Some, max, ◌^◌}
+use Rattle.std.specs.Prelude.{nat_le}
+use Rattle.std.specs.List.{AllByRecursion}
+use Rattle.std.proofs.Math.Nat.{mul-le-mul_left}
+use Rattle.std.proofs.lemmas.Bool.{cases_eq, cases_lt, le-leb}
+use Rattle.std.proofs.lemmas.List.Sums.{sum_by-cons, sum_by_more}
+use Rattle.std.proofs.lemmas.Option.{get_or_from_slice_get, slice_get_within}
+use Rattle.ballot_base.specs.CandSet.{has_member, common_members}
+use Rattle.ballot_base.specs.Lists.{IsIncreasing}
+use Rattle.ballot_base.specs.Ballots.{Row, Election, IsElection, hits, voter_count}
+use Rattle.ballot_base.proofs.Increasing.{has_member-filter, has_member_head, has_member_tail}
+use Rattle.tie_walk.specs.Sequences.{supporters}
+use Rattle.tie_walk.specs.Values.{closeness, greatest_distance}
+use Rattle.tie_search.specs.Completions.{IsOpen, IsCompletion, IsOutOfReach}
+use Rattle.tie_search.specs.Needs.{hits_needed, weighted_needs, weighted_support}
+use Rattle.tie_search.specs.Steps.Near.{AreWeighted, IsNarrowed, need_weight}
+use Rattle.tie_search.proofs.CompletionLemmas.{added, added-free, added-increasing, added-size, and-true, completion-members, hits-same}
+use Rattle.tie_search.proofs.NeedLemmas.{hits-append, needs-met, value-near}
+use Rattle.tie_search.proofs.PriceLemmas.{hits-turned}
+use Rattle.tie_search.proofs.SearchLemmas.{sum-part, sum-threshold}
+
+-- ---- hits by rows and by candidates
+
+module _ (weight : Row → ℕ) where
+  -- a row more
+  pub support-cons : (row : Row) (rows : List Row) (n : ℕ) → weighted_support weight (row ∷ rows) n ≡ weight row * cond (has_member row.0 n) 1 0 + weighted_support weight rows n
+  support-cons row rows n = by (has_member row.0 n)
+    where
+      by : (b : Bool) → sum_by weight (cond b (row ∷ supporters rows n) (supporters rows n)) ≡ weight row * cond b 1 0 + weighted_support weight rows n
+      by true = omega (arith, sum_by-cons weight row (supporters rows n))
+      by false = omega arith
+
+  supports-cons : (row : Row) (rows : List Row) (xs : List ℕ)
+      → sum_by (weighted_support weight (row ∷ rows)) xs ≡ weight row * sum_by (λ n. cond (has_member row.0 n) 1 0) xs + sum_by (weighted_support weight rows) xs
+  supports-cons row rows [] = omega arith
+  supports-cons row rows (n ∷ xs) =
+      let split : (a b c : ℕ) → a * (b + c) ≡ a * b + a * c = λ a b c. omega arith in
+      omega (
+        arith,
+        support-cons row rows n,
+        supports-cons row rows xs,
+        split (weight row) (cond (has_member row.0 n) 1 0) (sum_by (λ x. cond (has_member row.0 x) 1 0) xs),
+        ap (λ x. weight row * x) (sum_by-cons (λ x. cond (has_member row.0 x) 1 0) n xs),
+        sum_by-cons (weighted_support weight (row ∷ rows)) n xs,
+        sum_by-cons (weighted_support weight rows) n xs,
+      )
+
+  weighted-hits : (m : ℕ) (rows : List Row) (xs : List ℕ) → AllByRecursion (λ (row : Row). IsIncreasing 1 m row.0) rows → IsIncreasing 1 m xs
+      → sum_by (λ (row : Row). weight row * hits row.0 xs) rows ≡ sum_by (weighted_support weight rows) xs
+  weighted-hits m [] xs ballots up = none xs
+    where
+      none : (xs : List ℕ) → 0 ≡ sum_by (weighted_support weight []) xs
+      none [] = refl
+      none (x ∷ xs) = omega (arith, none xs, sum_by-cons (weighted_support weight []) x xs)
+  weighted-hits m (row ∷ rows) xs ballots up =
+      omega (
+        arith,
+        sum_by-cons (λ (r : Row). weight r * hits r.0 xs) row rows,
+        ap (λ h. weight row * h) (hits-turned m row.0 xs ballots.0 up),
+        weighted-hits m rows xs ballots.1 up,
+        supports-cons row rows xs,
+      )
+
+  -- those who join give each row what it needs
+  needs-given : (k most : ℕ) (set xs : List ℕ) (rows : List Row) → AllByRecursion (λ (row : Row). hits_needed (length row.0) k most ≤ hits row.0 set + hits row.0 xs) rows
+      → weighted_needs weight k most set rows ≤ sum_by (λ (row : Row). weight row * hits row.0 xs) rows
+  needs-given k most set xs [] met = omega arith
+  needs-given k most set xs (row ∷ rows) met =
+      let need = hits_needed (length row.0) k most - hits row.0 set in
+      let one : need ≤ hits row.0 xs = omega (arith, met.0) in
+      let product : weight row * need ≤ weight row * hits row.0 xs = mul-le-mul_left (weight row) one in
+      omega (
+        arith,
+        product,
+        needs-given k most set xs rows met.1,
+        sum_by-cons (λ (r : Row). weight r * (hits_needed (length r.0) k most - hits r.0 set)) row rows,
+        sum_by-cons (λ (r : Row). weight r * hits r.0 xs) row rows,
+      )
+
+-- ---- the rows so far
+
+module _ (weight : Row → ℕ) where
+  support-sum : (rows : List Row) (n : ℕ) → weighted_support weight rows n ≡ sum_by (λ (r : Row). cond (has_member r.0 n) (weight r) 0) rows
+  support-sum [] n = refl
+  support-sum (row ∷ rows) n =
+      omega (
+        arith,
+        support-cons weight row rows n,
+        support-sum rows n,
+        times (has_member row.0 n) (weight row),
+        sum_by-cons (λ (r : Row). cond (has_member r.0 n) (weight r) 0) row rows,
+      )
+    where
+      times : (b : Bool) (x : ℕ) → x * cond b 1 0 ≡ cond b x 0
+      times true x = omega arith
+      times false x = omega arith
+
+  -- a row more
+  pub needs-more : (k most : ℕ) (set : List ℕ) (rows : List Row) (i : ℕ) (row : Row) → slice_get rows i ≡ Some row
+      → weighted_needs weight k most set (take (i + 1) rows) ≡ weighted_needs weight k most set (take i rows) + weight row * (hits_needed (length row.0) k most - hits row.0 set)
+  needs-more k most set rows i row found =
+      let here : get_or rows i row ≡ row = get_or_from_slice_get rows i row row found in
+      let within : i < length rows = slice_get_within rows i row found in
+      rw here at (sum_by_more (λ (r : Row). weight r * (hits_needed (length r.0) k most - hits r.0 set)) rows i row within)
+
+  pub support-more : (rows : List Row) (i : ℕ) (row : Row) (n : ℕ) → slice_get rows i ≡ Some row
+      → weighted_support weight (take (i + 1) rows) n ≡ weighted_support weight (take i rows) n + cond (has_member row.0 n) (weight row) 0
+  support-more rows i row n found =
+      let here : get_or rows i row ≡ row = get_or_from_slice_get rows i row row found in
+      let within : i < length rows = slice_get_within rows i row found in
+      let more = rw here at (sum_by_more (λ (r : Row). cond (has_member r.0 n) (weight r) 0) rows i row within) in
+      omega (arith, more, support-sum (take (i + 1) rows) n, support-sum (take i rows) n)
+
+-- there are no more rows than voters
+rows-few : (rows : List Row) → AllByRecursion (λ (row : Row). 0 < row.1) rows → length rows ≤ voter_count rows
+rows-few [] counts = omega arith
+rows-few (row ∷ rows) counts = omega (arith, counts.0, rows-few rows counts.1, sum_by-cons (λ (r : Row). r.1) row rows)
+
+pub turns-few : (e : Election) (i : ℕ) (row : Row) → IsElection e → slice_get e.rows i ≡ Some row → i < 2 ^ 32
+turns-few e i row valid found =
+    omega (arith, slice_get_within e.rows i row found, rows-few e.rows valid.counts, valid.voters)
+
+-- ---- weights by needs
+
+-- how much a row weighs
+pub row_weight : ℕ → ℕ → List ℕ → List ℕ → Row → ℕ
+row_weight k most set free row =
+    need_weight (hits_needed (length row.0) k most - hits row.0 set) (max 1 (length (common_members row.0 free)))
+
+pub row_weight-is : (k most : ℕ) (set free : List ℕ) (row : Row)
+    → row_weight k most set free row ≡ need_weight (hits_needed (length row.0) k most - hits row.0 set) (max 1 (length (common_members row.0 free)))
+unfolding row_weight
+row_weight-is k most set free row = refl
+
+-- nothing, where nothing is needed
+pub weight-none : (approved : ℕ) → need_weight 0 approved ≡ 0
+unfolding need_weight
+weight-none approved = omega arith
+
+-- who is free and on the ballot
+pub free-common : (ballot free : List ℕ) (n : ℕ) → has_member free n ≡ true → has_member (common_members ballot free) n ≡ has_member ballot n
+free-common ballot free n is = has_member-filter (has_member free) ballot n ∙ ap (λ b. b && has_member ballot n) is
+
+pub part-most : (b : Bool) (n : ℕ) → cond b n 0 ≤ n
+part-most true n = omega arith
+part-most false n = omega arith
+
+-- ---- sums and thresholds
+
+-- a member of less worth than the threshold leaves that much less
+sum-member : (f g : ℕ → ℕ) (t n : ℕ) (xs : List ℕ) → ((x : ℕ) → has_member xs x ≡ true → f x ≤ g x) → has_member xs n ≡ true
+    → sum_by f xs + (t - g n) ≤ length xs * t + sum_by (λ x. g x - t) xs
+sum-member f g t n [] less here = absurd cc
+sum-member f g t n (x ∷ xs) less here = elim (cases_eq x n) [
+  | inl same ↦ omega (
+    arith,
+    ap g same,
+    sum-threshold f g t xs fewer,
+    less x (has_member_head x xs),
+    sum_by-cons f x xs,
+    sum_by-cons (λ y. g y - t) x xs,
+    times (length xs) t,
+  )
+  | inr other ↦ omega (
+    arith,
+    sum-member f g t n xs fewer (sym (has_member_tail x n xs other) ∙ here),
+    less x (has_member_head x xs),
+    sum_by-cons f x xs,
+    sum_by-cons (λ y. g y - t) x xs,
+    times (length xs) t,
+  )
+]
+  where
+    or-true : (p q : Bool) → q ≡ true → (p || q) ≡ true
+    or-true true q h = refl
+    or-true false q h = h
+
+    fewer : (y : ℕ) → has_member xs y ≡ true → f y ≤ g y
+    fewer y is = less y (or-true (x == y) (has_member xs y) is)
+
+    times : (n t : ℕ) → suc n * t ≡ n * t + t
+    times n t = omega arith
+
+-- ---- committees that are near
+
+module _ (weight : Row → ℕ) (m k most : ℕ) (rows : List Row) (set free : List ℕ) (left : ℕ) (committee : List ℕ) (ballots : AllByRecursion (λ (row : Row). IsIncreasing 1 m row.0) rows)
+    (open' : IsOpen m set free) (whole : IsCompletion m set free left committee) (size : length set + left ≡ k) (near : greatest_distance rows committee ≤ most) where
+  -- the weights of those who join are no less than the needs
+  needs-joined : weighted_needs weight k most set rows ≤ sum_by (weighted_support weight rows) (added m set free left committee open' whole)
+  needs-joined =
+      let more = added m set free left committee open' whole in
+      omega (
+        arith,
+        needs-given weight k most set more rows (split rows ((needs-met m k most rows committee ballots whole.candidates (whole.size ∙ size)).0 near)),
+        weighted-hits weight m rows more ballots (added-increasing m set free left committee open' whole),
+      )
+    where
+      split : (rows : List Row) → AllByRecursion (λ (row : Row). hits_needed (length row.0) k most ≤ hits row.0 committee) rows
+          → AllByRecursion (λ (row : Row). hits_needed (length row.0) k most ≤ hits row.0 set + hits row.0 (added m set free left committee open' whole)) rows
+      split [] met = tt
+      split (row ∷ rows) met =
+          let more = added m set free left committee open' whole in
+          let apart : (n : ℕ) → has_member more n ≡ true → has_member set n ≡ false = λ n h. open'.apart n (added-free m set free left committee open' whole n h) in (
+            omega (
+              arith,
+              met.0,
+              hits-same row.0 committee (set ++ more) (completion-members m set free left committee open' whole),
+              hits-append row.0 set more apart,
+            ),
+            split rows met.1,
+          )
+
+  pub needs-bound : (t : ℕ) (g : ℕ → ℕ) → ((n : ℕ) → has_member free n ≡ true → weighted_support weight rows n ≤ g n)
+      → weighted_needs weight k most set rows ≤ left * t + sum_by (λ n. g n - t) free
+  needs-bound t g less =
+      let more = added m set free left committee open' whole in
+      omega (
+        arith,
+        needs-joined,
+        sum-threshold (weighted_support weight rows) g t more (λ n is. less n (added-free m set free left committee open' whole n is)),
+        ap (λ n. n * t) (added-size m set free left committee open' whole),
+        sum-part (λ n. g n - t) (has_member committee) free,
+      )
+
+  pub member-bound : (t : ℕ) (g : ℕ → ℕ) (n : ℕ) → ((n : ℕ) → has_member free n ≡ true → weighted_support weight rows n ≤ g n)
+      → has_member free n ≡ true → has_member committee n ≡ true
+      → weighted_needs weight k most set rows + (t - g n) ≤ left * t + sum_by (λ n. g n - t) free
+  member-bound t g n less open_ in_ =
+      let more = added m set free left committee open' whole in
+      let here : has_member more n ≡ true = has_member-filter (has_member committee) free n ∙ ap (λ b. b && has_member free n) in_ ∙ open_ in
+      omega (
+        arith,
+        needs-joined,
+        sum-member (weighted_support weight rows) g t n more (λ n is. less n (added-free m set free left committee open' whole n is)) here,
+        ap (λ n. n * t) (added-size m set free left committee open' whole),
+        sum-part (λ n. g n - t) (has_member committee) free,
+      )
+
+-- ---- what weighted needs say of a set
+
+-- fewer are free
+pub weighted-fewer : (rows : List Row) (k most : ℕ) (set free rest : List ℕ) (total : ℕ) (supports : List ℕ) → AreWeighted rows k most set free total supports
+    → ((n : ℕ) → has_member rest n ≡ true → has_member free n ≡ true) → AreWeighted rows k most set rest total supports
+weighted-fewer rows k most set free rest total supports are among = record {
+  weight = are.weight;
+  total_is = are.total_is;
+  supports_are = λ n is. are.supports_are n (among n is);
+}
+
+module _ (m most : ℕ) (rows : List Row) (set free : List ℕ) (left total : ℕ) (supports : List ℕ) (ballots : AllByRecursion (λ (row : Row). IsIncreasing 1 m row.0) rows)
+    (open' : IsOpen m set free) (are : AreWeighted rows (length set + left) most set free total supports) (t greatest : ℕ)
+    (greatest_is : greatest ≡ left * t + sum_by (λ n. get_or supports n 0 - t) free) where
+  no-less : (n : ℕ) → has_member free n ≡ true → weighted_support are.weight rows n ≤ get_or supports n 0
+  no-less n is = omega (arith, are.supports_are n is)
+
+  -- the needs pass what any committee can give
+  pub weighted-none : greatest < total → IsOutOfReach (closeness m rows) m set free left (m - most)
+  weighted-none low committee whole = elim (cases_lt (closeness m rows committee) (m - most)) [
+    | inl under ↦ under
+    | inr reaches ↦ absurd (omega (
+      arith,
+      low,
+      greatest_is,
+      are.total_is,
+      needs-bound are.weight m (length set + left) most rows set free left committee ballots open' whole refl
+          (value-near m rows most committee ballots whole.candidates reaches) t (λ n. get_or supports n 0) no-less,
+    ))
+  ]
+
+  -- whoever joins has enough support
+  pub weighted-narrowed : total ≤ greatest → (kept : List ℕ) → ((n : ℕ) → has_member kept n ≡ (has_member free n && nat_le (t - (greatest - total)) (get_or supports n 0)))
+      → ((x : ℕ) → IsIncreasing 1 x free → IsIncreasing 1 x kept) → IsNarrowed (closeness m rows) m set free left (m - most) kept
+  weighted-narrowed enough kept kept_are rises = record {
+    opened = record {
+      set_within = open'.set_within;
+      free_within = rises m open'.free_within;
+      apart = λ n h. open'.apart n (in-free n h);
+    };
+    among = in-free;
+    kept = λ committee whole reaches. record {
+      candidates = whole.candidates;
+      whole = whole.whole;
+      within = λ n h. or-more (has_member set n) (has_member free n) (has_member kept n) (still committee whole reaches n h) (whole.within n h);
+      size = whole.size;
+    };
+  }
+    where
+      in-free : (n : ℕ) → has_member kept n ≡ true → has_member free n ≡ true
+      in-free n h = (and-true (has_member free n) (nat_le (t - (greatest - total)) (get_or supports n 0)) (sym (kept_are n) ∙ h)).0
+
+      or-more : (p q r : Bool) → (q ≡ true → r ≡ true) → (p || q) ≡ true → (p || r) ≡ true
+      or-more true q r h is = refl
+      or-more false q r h is = h is
+
+      still : (committee : List ℕ) → IsCompletion m set free left committee → m - most ≤ closeness m rows committee → (n : ℕ) → has_member committee n ≡ true → has_member free n ≡ true
+          → has_member kept n ≡ true
+      still committee whole reaches n in_ open_ =
+          let joined = member-bound are.weight m (length set + left) most rows set free left committee ballots open' whole refl
+          (value-near m rows most committee ballots whole.candidates reaches) t (λ x. get_or supports x 0) n no-less open_ in_ in
+          let high : t - (greatest - total) ≤ get_or supports n 0 = omega (arith, joined, enough, greatest_is, are.total_is) in
+          kept_are n ∙ ap (λ b. has_member free n && b) (le-leb (t - (greatest - total)) (get_or supports n 0) high) ∙ ap (λ b. b && true) open_

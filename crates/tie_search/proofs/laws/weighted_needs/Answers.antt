@@ -1,0 +1,12 @@
+use Rattle.std.proofs.Common.{arith}
+use Rattle.tie_search.specs.Needs.{weighted_support}
+use Rattle.tie_search.proofs.WeightLemmas.{member-bound, needs-bound}
+use Rattle.tie_search.proofs.laws.weighted_needs.Goals as goal
+
+pub returns-clause-completions : goal.returns-clause-completions
+returns-clause-completions c weight m k most rows set free left threshold committee ballots open' whole size near =
+    needs-bound weight m k most rows set free left committee ballots open' whole size near threshold (weighted_support weight rows) (λ n is. omega arith)
+
+pub returns-clause-members : goal.returns-clause-members
+returns-clause-members c weight m k most rows set free left threshold committee n ballots open' whole size near open_ in_ =
+    member-bound weight m k most rows set free left committee ballots open' whole size near threshold (weighted_support weight rows) n (λ n is. omega arith) open_ in_

@@ -1,0 +1,131 @@
+use Rattle.std.proofs.Common.{◌≡◌, ℕ, ◌+◌, ◌-◌, ◌*◌, ◌^◌, ◌≤◌, ◌∙◌, cond, sym, ap, subst, arith, get_or, length, max, replicate, take}
+use Rattle.std.proofs.Math.Nat.{mul-le-mul}
+use Rattle.std.proofs.lemmas.List.{length_push}
+use Rattle.ballot_base.specs.CandSet.{has_member, common_members}
+use Rattle.ballot_base.specs.Ballots.{Row, hits}
+use Rattle.ballot_base.proofs.Turns.{row_of_turn, all_passed}
+use Rattle.tie_walk.proofs.WorthLemmas.{no_total}
+use Rattle.tie_search.specs.Needs.{hits_needed, weighted_needs, weighted_support}
+use Rattle.tie_search.specs.Steps.Near.{need_weight}
+use Rattle.tie_search.proofs.WeightLemmas.{free-common, needs-more, part-most, row_weight, row_weight-is, support-more, turns-few, weight-none}
+use Rattle.tie_search.proofs.near.NearSearch.weighted_needs.Goals as goal
+
+pub loop-ballot-init : goal.loop-ballot-init
+loop-ballot-init g c = record {
+  summed = omega arith;
+  supported = λ n is. no_total 65 n;
+  turns = omega arith;
+  small_total = omega arith;
+  small = λ n. let e : get_or {A = ℕ} (replicate 65 0) n 0 ≡ 0 = no_total 65 n in omega (arith, e);
+}
+
+-- what a ballot adds to the whole
+product-most : (weight needed : ℕ) → weight ≤ 2 ^ 50 → needed ≤ 255 → weight * needed ≤ 2 ^ 58
+product-most weight needed small few =
+    let most : weight * needed ≤ 2 ^ 50 * 255 = mul-le-mul small few in
+    omega (arith, most)
+
+pub overflow_add-total : goal.overflow_add-total
+overflow_add-total g c =
+    let inv = c.loop-ballot.invariant in
+    let needed : c.from.result ≤ 255 = omega (arith, c.from.ensures) in
+    let most = product-most c.from-weight.result c.from.result (omega (arith, c.from-weight.ensures, c.weight_of.ensures.small)) needed in
+    omega (arith, most, inv.small_total, inv.turns)
+
+pub add_to_members-requires : goal.add_to_members-requires
+add_to_members-requires g c =
+    let inv = c.loop-ballot.invariant in
+    record { fits = λ n. omega (arith, inv.small n, inv.turns, c.from-weight.ensures, c.weight_of.ensures.small) }
+
+pub loop-ballot-preserved-then-needed-gt0 : goal.loop-ballot-preserved-then-needed-gt0
+loop-ballot-preserved-then-needed-gt0 g c =
+    let e = c.args.self.now.profile.now in
+    let k = length c.args.set + c.args.left in
+    let most = c.args.self.now.most in
+    let set = c.args.set in
+    let free = c.args.free in
+    let row : Row = (c.in-Some.ballot, c.in-Some._voters) in
+    let at = row_of_turn e.rows (c.into_iter-ballot-iterator.ensures.into_iter_gives ∙ c.ballots-ballot-items.ensures.rows) c.loop-ballot.yielded c.loop-ballot.yielded_by row c.in-Some.ensures.steps in
+    let i = length c.loop-ballot.yielded in
+    let next = sym (length_push c.loop-ballot.yielded row) in
+    let inv = c.loop-ballot.invariant in
+    let W : Row → ℕ = row_weight k most set free in
+    let need = hits_needed (length row.0) k most - hits row.0 set in
+    let needed : c.still_needed-needed.result ≡ need =
+    c.still_needed-needed.ensures ∙ ap (λ n. hits_needed (length row.0) (n + c.args.left) most - hits row.0 set) c.len.ensures.count in
+    let approved : c.len-then-needed-gt0.result ≡ length (common_members row.0 free) = c.len-then-needed-gt0.ensures.count ∙ ap length c.common-approved.ensures in
+    let weight : c.from-weight.result ≡ W row =
+    c.from-weight.ensures ∙ c.weight_of.ensures.value
+    ∙ ap (λ n. need_weight n (max 1 c.len-then-needed-gt0.result)) needed
+    ∙ ap (λ n. need_weight need (max 1 n)) approved
+    ∙ sym (row_weight-is k most set free row) in
+    let product : c.from-weight.result * c.from.result ≡ W row * need =
+    ap (λ n. n * c.from.result) weight ∙ ap (λ n. W row * n) (c.from.ensures ∙ needed) in
+    let few : c.from.result ≤ 255 = omega (arith, c.from.ensures) in
+    let slight : c.from-weight.result ≤ 2 ^ 50 = omega (arith, c.from-weight.ensures, c.weight_of.ensures.small) in
+    let added = product-most c.from-weight.result c.from.result slight few in
+    let turn = turns-few e i row c.ballots-ballot-items.ensures.valid at in
+    record {
+      summed = subst (λ n. c.loop-ballot.total + c.from-weight.result * c.from.result ≡ weighted_needs W k most set (take n e.rows)) next
+          (omega (arith, inv.summed, product, needs-more W k most set e.rows i row at));
+      supported = λ n is. subst (λ x. get_or c.add_to_members.new.totals n 0 ≡ weighted_support W (take x e.rows) n) next
+          (c.add_to_members.ensures n
+          ∙ ap (λ x. x + cond (has_member c.common-approved.result n) c.from-weight.result 0) (inv.supported n is)
+          ∙ ap (λ l. weighted_support W (take i e.rows) n + cond (has_member l n) c.from-weight.result 0) c.common-approved.ensures
+          ∙ ap (λ b. weighted_support W (take i e.rows) n + cond b c.from-weight.result 0) (free-common row.0 free n is)
+          ∙ ap (λ x. weighted_support W (take i e.rows) n + cond (has_member row.0 n) x 0) weight
+          ∙ sym (support-more W e.rows i row n at));
+      turns = omega (arith, turn, next);
+      small_total = omega (arith, added, inv.small_total, next);
+      small = λ n. omega (arith, slight, next, inv.small n, c.add_to_members.ensures n, part-most (has_member c.common-approved.result n) c.from-weight.result);
+    }
+
+pub loop-ballot-preserved : goal.loop-ballot-preserved
+loop-ballot-preserved g c =
+    let e = c.args.self.now.profile.now in
+    let k = length c.args.set + c.args.left in
+    let most = c.args.self.now.most in
+    let set = c.args.set in
+    let free = c.args.free in
+    let row : Row = (c.in-Some.ballot, c.in-Some._voters) in
+    let at = row_of_turn e.rows (c.into_iter-ballot-iterator.ensures.into_iter_gives ∙ c.ballots-ballot-items.ensures.rows) c.loop-ballot.yielded c.loop-ballot.yielded_by row c.in-Some.ensures.steps in
+    let i = length c.loop-ballot.yielded in
+    let next = sym (length_push c.loop-ballot.yielded row) in
+    let inv = c.loop-ballot.invariant in
+    let W : Row → ℕ = row_weight k most set free in
+    let need = hits_needed (length row.0) k most - hits row.0 set in
+    let needed : c.still_needed-needed.result ≡ need =
+    c.still_needed-needed.ensures ∙ ap (λ n. hits_needed (length row.0) (n + c.args.left) most - hits row.0 set) c.len.ensures.count in
+    let zero_need : need ≡ 0 = omega (arith, needed, c.if-needed-gt0.false) in
+    let weight : W row ≡ 0 =
+    row_weight-is k most set free row ∙ ap (λ n. need_weight n (max 1 (length (common_members row.0 free)))) zero_need ∙ weight-none (max 1 (length (common_members row.0 free))) in
+    let product : W row * need ≡ 0 = ap (λ n. n * need) weight ∙ none need in
+    let turn = turns-few e i row c.ballots-ballot-items.ensures.valid at in
+    record {
+      summed = subst (λ n. c.loop-ballot.total ≡ weighted_needs W k most set (take n e.rows)) next
+          (omega (arith, inv.summed, product, needs-more W k most set e.rows i row at));
+      supported = λ n is. subst (λ x. get_or c.loop-ballot.supports n 0 ≡ weighted_support W (take x e.rows) n) next
+          (omega (arith, inv.supported n is, weight, part-most (has_member row.0 n) (W row), support-more W e.rows i row n at));
+      turns = omega (arith, turn, next);
+      small_total = omega (arith, inv.small_total, next);
+      small = λ n. omega (arith, next, inv.small n);
+    }
+  where
+    none : (n : ℕ) → 0 * n ≡ 0
+    none n = omega arith
+
+pub returns-clause-weighted : goal.returns-clause-weighted
+returns-clause-weighted g c =
+    let e = c.args.self.now.profile.now in
+    let k = length c.args.set + c.args.left in
+    let W : Row → ℕ = row_weight k c.args.self.now.most c.args.set c.args.free in
+    let inv = c.loop-ballot.invariant in
+    let all = all_passed e.rows (c.into_iter-ballot-iterator.ensures.into_iter_gives ∙ c.ballots-ballot-items.ensures.rows) c.loop-ballot.yielded c.loop-ballot.yielded_by c.in-None.ensures.steps.0 in
+    record {
+      weight = W;
+      total_is = inv.summed ∙ ap (weighted_needs W k c.args.self.now.most c.args.set) all;
+      supports_are = λ n is. inv.supported n is ∙ ap (λ rows. weighted_support W rows n) all;
+    }
+
+pub returns-clause-small : goal.returns-clause-small
+returns-clause-small g c = let inv = c.loop-ballot.invariant in λ n. omega (arith, inv.small n, inv.turns)

@@ -1,0 +1,16 @@
+use Rattle.std.proofs.Common.{◌≡◌, ℕ, ◌+◌, ◌*◌, ◌^◌, ◌≤◌, true, length, take, get_or}
+use Rattle.ballot_base.specs.CandSet.{has_member}
+use Rattle.tie_search.specs.Needs.{weighted_needs, weighted_support}
+use Rattle.tie_search.proofs.WeightLemmas.{row_weight}
+use Rattle.tie_search.proofs.near.NearSearch.weighted_needs.Given as goal
+
+-- the needs of the rows so far, and their weights
+abbrev pub invariant-loop-ballot : goal.invariant-loop-ballot
+invariant-loop-ballot g l = record {
+  summed : l.total ≡ weighted_needs (row_weight (length l.set + l.left) l.self.most l.set l.free) (length l.set + l.left) l.self.most l.set (take (length l.yielded) l.self.profile.now.rows);
+  supported : (n : ℕ) → has_member l.free n ≡ true
+      → get_or l.supports n 0 ≡ weighted_support (row_weight (length l.set + l.left) l.self.most l.set l.free) (take (length l.yielded) l.self.profile.now.rows) n;
+  turns : length l.yielded ≤ 2 ^ 32;
+  small_total : l.total ≤ length l.yielded * 2 ^ 58;
+  small : (n : ℕ) → get_or l.supports n 0 ≤ length l.yielded * 2 ^ 50;
+}

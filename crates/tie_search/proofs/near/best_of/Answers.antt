@@ -1,0 +1,82 @@
+use Rattle.std.proofs.Common.{◌≡◌, ℕ, ◌≤◌, ◌⊎◌, ◌||◌, ◌==◌, ◌∙◌, Bool, true, false, List, ◌∷◌, refl, sym, ap, inl, inr, arith, get_or}
+use Rattle.std.proofs.lemmas.Bool.{cases_eq}
+use Rattle.ballot_base.specs.Limits.{most_candidates}
+use Rattle.ballot_base.specs.CandSet.{has_member}
+use Rattle.ballot_base.proofs.Increasing.{has_member_head, has_member_tail}
+use Rattle.tie_search.proofs.SearchLemmas.{rest-increasing}
+use Rattle.tie_search.proofs.near.best_of.Goals as goal
+
+first-is : (xs rest : List ℕ) (first : ℕ) → xs ≡ first ∷ rest → has_member xs first ≡ true
+first-is xs rest first is = ap (λ l. has_member l first) is ∙ has_member_head first rest
+
+rest-is : (xs rest : List ℕ) (first n : ℕ) → xs ≡ first ∷ rest → has_member rest n ≡ true → has_member xs n ≡ true
+rest-is xs rest first n is here = ap (λ l. has_member l n) is ∙ or-true (first == n) (has_member rest n) here
+  where
+    or-true : (p q : Bool) → q ≡ true → (p || q) ≡ true
+    or-true true q h = refl
+    or-true false q h = h
+
+-- a member is the first or one of the rest
+either : (xs rest : List ℕ) (first n : ℕ) → xs ≡ first ∷ rest → has_member xs n ≡ true → (has_member rest n ≡ true) ⊎ (n ≡ first)
+either xs rest first n is here = elim (cases_eq first n) [
+  | inl same ↦ inr (sym same)
+  | inr other ↦ inl (sym (has_member_tail first n rest other) ∙ ap (λ l. has_member l n) (sym is) ∙ here)
+]
+
+-- whoever was passed has no more worth than the new best
+passed : (worths xs rest : List ℕ) (first best new n : ℕ) → xs ≡ first ∷ rest → get_or worths first 0 ≤ get_or worths new 0 → get_or worths best 0 ≤ get_or worths new 0
+    → (has_member xs n ≡ true) ⊎ (get_or worths n 0 ≤ get_or worths best 0) → (has_member rest n ≡ true) ⊎ (get_or worths n 0 ≤ get_or worths new 0)
+passed worths xs rest first best new n is low high (inl left) = elim (either xs rest first n is left) [
+  | inl later ↦ inl later
+  | inr same ↦ inr (omega (arith, low, ap (λ x. get_or worths x 0) same))
+]
+passed worths xs rest first best new n is low high (inr under) = inr (omega (arith, under, high))
+
+pub loop-parts-init : goal.loop-parts-init
+loop-parts-init c =
+    let first = c.in_ok-best.best in
+    let rest = c.in_ok-best.left in
+    let up = rest-increasing most_candidates c.args.set rest first c.in_ok-best.ensures c.valid.ensures in
+    record {
+      rises = up.1;
+      high = up.0;
+      here = first-is c.args.set rest first c.in_ok-best.ensures;
+      among = λ n is. rest-is c.args.set rest first n c.in_ok-best.ensures is;
+      greatest = λ n is. elim (either c.args.set rest first n c.in_ok-best.ensures is) [
+        | inl later ↦ inl later
+        | inr same ↦ inr (omega (arith, ap (λ x. get_or c.args.worths.now x 0) same))
+      ];
+    }
+
+pub loop-parts-preserved-then-worths-from : goal.loop-parts-preserved-then-worths-from
+loop-parts-preserved-then-worths-from c =
+    let first = c.in-Some.parts.0 in
+    let rest = c.in-Some.parts.1 in
+    let left = c.loop-parts.left in
+    let inv = c.loop-parts.invariant in
+    let up = rest-increasing most_candidates left rest first c.in-Some.ensures inv.rises in
+    let worth = λ (n : ℕ). get_or c.args.worths.now n 0 in
+    record {
+      rises = up.1;
+      high = up.0;
+      here = inv.among first (first-is left rest first c.in-Some.ensures);
+      among = λ n is. inv.among n (rest-is left rest first n c.in-Some.ensures is);
+      greatest = λ n is. passed c.args.worths.now left rest first c.loop-parts.best first n c.in-Some.ensures (omega arith)
+          (omega (arith, c.if-worths-from.true, ap worth c.from.ensures, ap worth c.from-in-Some.ensures)) (inv.greatest n is);
+    }
+
+pub loop-parts-preserved : goal.loop-parts-preserved
+loop-parts-preserved c =
+    let first = c.in-Some.parts.0 in
+    let rest = c.in-Some.parts.1 in
+    let left = c.loop-parts.left in
+    let inv = c.loop-parts.invariant in
+    let worth = λ (n : ℕ). get_or c.args.worths.now n 0 in
+    record {
+      rises = (rest-increasing most_candidates left rest first c.in-Some.ensures inv.rises).1;
+      high = inv.high;
+      here = inv.here;
+      among = λ n is. inv.among n (rest-is left rest first n c.in-Some.ensures is);
+      greatest = λ n is. passed c.args.worths.now left rest first c.loop-parts.best c.loop-parts.best n c.in-Some.ensures
+          (omega (arith, c.if-worths-from.false, ap worth c.from.ensures, ap worth c.from-in-Some.ensures)) (omega arith) (inv.greatest n is);
+    }
