@@ -5,17 +5,17 @@ use Rattle.tie_walk.specs.Steps.Choices.{may_choose}
 use Rattle.tie_walk.proofs.StepLemmas.{filter-left}
 use Rattle.tie_families.specs.Steps.Levels.{is_first_open}
 use Rattle.tie_families.proofs.StepLemmas.{ties-are, passes-more}
-use Rattle.tie_families.proofs.levels.ties.Goals as goal
-use Rattle.tie_families.proofs.levels.ties.Goals.{then-may_choose+then-worths-from+then-is_first_open, else-may_choose, else-may_choose-via-then-may_choose+then-worths-from+else-is_first_open, else-may_choose-via-then-may_choose+else-worths-from, else-may_choose-via-else-may_choose}
+use Rattle.tie_families.proofs.levels.Levels.ties.Goals as goal
+use Rattle.tie_families.proofs.levels.Levels.ties.Goals.{then-may_choose+then-worths-from+then-is_first_open, else-may_choose, else-may_choose-via-then-may_choose+then-worths-from+else-is_first_open, else-may_choose-via-then-may_choose+else-worths-from, else-may_choose-via-else-may_choose}
 
 pub loop-c-preserved : goal.loop-c-preserved
-loop-c-preserved c =
+loop-c-preserved g c =
     let k = c.loop-c.c in
     let best = c.args.best in
-    let step = c.args.step in
+    let step = c.args.self.now.step in
     let set = c.args.set in
     let worths = c.args.worths.now in
-    let table = c.args.clones.now in
+    let table = c.args.self.now.clones.now in
     let test : ℕ → Bool = λ (d : ℕ). may_choose step set d && (get_or worths d 0 == best && is_first_open step (get_or table d []) set d) in
     elim c.if-may_choose.branch [
       | then-may_choose+then-worths-from+then-is_first_open w ↦
@@ -42,12 +42,13 @@ loop-c-preserved c =
     ]
 
 pub returns : goal.returns
-returns c weights rows are clones best =
-    let step = c.args.step in
+returns g c =
+    let s = c.args.self.now in
+    let e = s.profile.now in
     let set = c.args.set in
     let worths = c.args.worths.now in
-    let table = c.args.clones.now in
-    let all : c.loop-c.c - 1 ≡ c.args.m = omega arith in
-    let test : ℕ → Bool = λ (d : ℕ). may_choose step set d && (get_or worths d 0 == c.args.best && is_first_open step (get_or table d []) set d) in
+    let table = s.clones.now in
+    let all : c.loop-c.c - 1 ≡ e.m = omega (arith, c.m-c-end.ensures.value) in
+    let test : ℕ → Bool = λ (d : ℕ). may_choose s.step set d && (get_or worths d 0 == c.args.best && is_first_open s.step (get_or table d []) set d) in
     c.loop-c.invariant ∙ ap (λ n. filter test (range_with_len 1 n)) all
-    ∙ ties-are step weights c.args.m rows set (λ d. get_or worths d 0) c.args.best table are (λ d. omega (arith, c.fits-worths d)) best clones
+    ∙ ties-are s.step s.weights.now e.m e.rows set (λ d. get_or worths d 0) c.args.best table c.requires.worths (λ d. omega (arith, c.fits-worths d)) c.requires.best s.classes

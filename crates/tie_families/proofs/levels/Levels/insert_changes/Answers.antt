@@ -7,23 +7,23 @@ use Rattle.tie_walk.specs.Steps.Choices.{change}
 use Rattle.tie_families.specs.Steps.Levels.{end, chosen, family_changes}
 use Rattle.tie_families.proofs.SpanLemmas.{end-fits}
 use Rattle.tie_families.proofs.StepLemmas.{changes-none, changes-last, over-fails}
-use Rattle.tie_families.proofs.levels.insert_changes.Goals as goal
-use Rattle.tie_families.proofs.levels.insert_changes.Goals.{then-is_over, else-is_over}
+use Rattle.tie_families.proofs.levels.Levels.insert_changes.Goals as goal
+use Rattle.tie_families.proofs.levels.Levels.insert_changes.Goals.{then-is_over, else-is_over}
 
 pub chosen-requires : goal.chosen-requires
 chosen-requires g c =
-    let e = c.args.profile.now in
-    let is : end c.args.step c.args.weights.now e.m e.rows c.args.set ≡ Some c.in-Some.last = sym c.ties_and_end-tied.ensures.end ∙ c.in-Some.is in
-    omega (arith, end-fits c.args.step c.args.weights.now e.m e.rows c.args.set c.in-Some.last c.requires.set is, c.m.ensures.value)
+    let e = c.args.self.now.profile.now in
+    let is : end c.args.self.now.step c.args.self.now.weights.now e.m e.rows c.args.set ≡ Some c.in-Some.last = sym c.ties_and_end-tied.ensures.end ∙ c.in-Some.is in
+    omega (arith, end-fits c.args.self.now.step c.args.self.now.weights.now e.m e.rows c.args.set c.in-Some.last c.requires.set is, c.m.ensures.value)
 
 pub returns-in-Some : goal.returns-in-Some
 returns-in-Some g c =
-    let e = c.args.profile.now in
-    let step = c.args.step in
+    let e = c.args.self.now.profile.now in
+    let step = c.args.self.now.step in
     let size = c.args.size in
     let set = c.args.set in
     let last = c.in-Some.last in
-    let weights = c.args.weights.now in
+    let weights = c.args.self.now.weights.now in
     let keys = c.args.next.now.keys in
     let is : end step weights e.m e.rows set ≡ Some last = sym c.ties_and_end-tied.ensures.end ∙ c.in-Some.is in
     let many : c.chosen.result ≡ chosen step e.m last = c.chosen.ensures ∙ ap (λ n. chosen step n last) c.m.ensures.value in
@@ -35,10 +35,10 @@ returns-in-Some g c =
 
 pub returns : goal.returns
 returns g c =
-    let e = c.args.profile.now in
-    let step = c.args.step in
+    let e = c.args.self.now.profile.now in
+    let step = c.args.self.now.step in
     let set = c.args.set in
-    let weights = c.args.weights.now in
+    let weights = c.args.self.now.weights.now in
     let none : end step weights e.m e.rows set ≡ None = sym c.ties_and_end-tied.ensures.end ∙ c.in_default.is in
     let are : map (change step set) c.ties_and_end-tied.result.0 ≡ family_changes step weights e.m e.rows c.args.size set =
     ap (map (change step set)) (c.ties_and_end-tied.ensures.ties c.in_default.is) ∙ changes-none step weights e.m e.rows c.args.size set none in
