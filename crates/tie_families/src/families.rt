@@ -15,7 +15,7 @@ ghost use Rattle.tie_families.specs.Families.{Sequential, sequential_of, is_winn
 ghost use Rattle.tie_families.specs.Steps.Families.{AreApart, may_be_in};
 ghost use Rattle.ballot_base.specs.Clones.{AreClones};
 
-use crate::clones::{completed, is_between};
+use crate::clones::Classes;
 use crate::levels::{Spans, families_of};
 use ballot_base::{CandSet, Clones, Profile};
 use std::alloc::{AllocError, Allocator, Global};
@@ -30,9 +30,8 @@ use tie_walk::{SeqRule, Tally};
 pub struct Families<'a, A: Allocator + Copy = Global> {
     profile: &'a Profile<A>,
     rule: SeqRule,
-    m: u8,
     k: u8,
-    clones: Clones,
+    classes: Classes,
     leasts: Vec<CandSet, A>,
     mosts: Vec<CandSet, A>,
 }
@@ -45,7 +44,8 @@ impl<'a, A: Allocator + Copy> Model for Families<'a, A> {
 
     ghost view = { λ f. sequential_of f.profile.now f.rule f.k };
 
-    ghost invariant = { λ f. KeepsFamilies f.profile.now f.rule f.m f.k f.clones f.leasts.items f.mosts.items };
+    ghost invariant = { λ f. KeepsFamilies f.profile.now f.rule f.classes.m f.k f.classes.clones
+        f.leasts.items f.mosts.items };
 }
 
 impl<'a, A: Allocator + Copy + Drop> Families<'a, A> {
@@ -60,15 +60,16 @@ impl<'a, A: Allocator + Copy + Drop> Families<'a, A> {
         requires fits { k ≤ profile.now.m }
         ensures { IfOk result (λ families. families ≡ sequential_of profile.now rule k) }
     {
-        let m = profile.m();
-        let clones = Clones::of(profile);
-        let Spans { leasts, mosts } = families_of(alloc, profile, rule, k, &clones)?;
+        let classes = Classes {
+            m: profile.m(),
+            clones: Clones::of(profile),
+        };
+        let Spans { leasts, mosts } = families_of(alloc, profile, rule, k, &classes.clones)?;
         Ok(Families {
             profile,
             rule,
-            m,
             k,
-            clones,
+            classes,
             leasts,
             mosts,
         })
@@ -82,7 +83,7 @@ impl<'a, A: Allocator + Copy> Families<'a, A> {
         ensures { MatchOption result ⊤ (λ sets.
             sets.now ≡ sequential_winners self.now.rule self.now.election self.now.k) }
     {
-        if !are_apart(&self.clones, self.m) || !all_have(&self.leasts, self.k) {
+        if !self.classes.are_apart() || !all_have(&self.leasts, self.k) {
             return None;
         }
         Some(&self.leasts)
@@ -95,7 +96,43 @@ impl<'a, A: Allocator + Copy> Families<'a, A> {
         ensures some { 1 ≤ self.now.k }
         ensures fits { self.now.k ≤ self.now.election.m }
     {
-        (self.m, self.k)
+        (self.classes.m, self.k)
+    }
+
+    /// Whether some family has a committee that consists of `set` and of `left` candidates after `c`.
+    fn completes(&self, c: u8, set: CandSet, left: u8) -> bool
+        requires within { c ≤ self.now.election.m }
+        requires set { IsIncreasing 1 c set }
+        requires fits { left ≤ self.now.election.m - c }
+        ensures { result ≡ some_winner self.now c set left }
+    {
+        if self.k != set.len() + left {
+            return false;
+        }
+        for (least, most) in self.leasts.iter().zip(&self.mosts) {
+            if self.may_be_in(*least, *most, c, set) {
+                return true;
+            }
+        }
+        false
+    }
+
+    /// Whether the family of two sets has a committee that consists of `set` and of candidates after `c`. It has one if
+    /// the committee has room for the candidates after `c` that are needed to have as many of each class as `least`, and
+    /// those for whom `most` has room fill the committee.
+    fn may_be_in(&self, least: CandSet, most: CandSet, c: u8, set: CandSet) -> bool
+        requires least_set { IsIncreasing 1 self.now.election.m least }
+        requires most_set { IsIncreasing 1 self.now.election.m most }
+        requires within { c ≤ self.now.election.m }
+        requires set { IsIncreasing 1 c set }
+        requires size { length set ≤ self.now.k }
+        ensures { result ≡ may_be_in self.now.election.m self.now.election.rows c set (self.now.k - length set)
+            (least, most) }
+    {
+        let all = self.classes.completed(c, set, least);
+        all.len() <= self.k
+            && self.classes.is_between(least, most, all)
+            && self.k <= self.classes.completed(c, set, most).len()
     }
 }
 
@@ -111,24 +148,11 @@ impl<'a, A: Allocator + Copy> Tally for Families<'a, A> {
     }
 
     fn value(&self, set: CandSet) -> u128 {
-        let wins = set.len() == self.k
-            && is_in_some(&self.clones, self.m, &self.leasts, &self.mosts, set);
-        u128::from(wins)
+        u128::from(self.completes(self.m(), set, 0))
     }
 
     fn bound(&self, c: u8, set: CandSet, left: u8) -> u128 {
-        let k = self.k;
-        let may_win = set.len() + left == k
-            && may_be_in_some(
-                &self.clones,
-                self.m,
-                &self.leasts,
-                &self.mosts,
-                c,
-                set,
-                left,
-            );
-        u128::from(may_win)
+        u128::from(self.completes(c, set, left))
     }
 
     fn good_committee(&self, k: u8) -> Option<CandSet> {
@@ -137,22 +161,8 @@ impl<'a, A: Allocator + Copy> Tally for Families<'a, A> {
         }
         let least = *self.leasts.first()?;
         let most = *self.mosts.first()?;
-        filled(least, most, self.m, k)
+        filled(least, most, self.classes.m, k)
     }
-}
-
-/// Whether each candidate is its only clone.
-fn are_apart(clones: &Clones, m: u8) -> bool
-    requires { m ≤ most_candidates }
-    ensures { result ≡ true → AreApart m clones.now }
-{
-    for c in 1..m + 1 {
-        let class = clones.class(c);
-        if class.len() != 1 {
-            return false;
-        }
-    }
-    true
 }
 
 /// Whether each of the sets has k members.
@@ -165,83 +175,6 @@ fn all_have(sets: &[CandSet], k: u8) -> bool
         }
     }
     true
-}
-
-/// Whether some family has the committee.
-fn is_in_some(
-    clones: &Clones,
-    m: u8,
-    leasts: &[CandSet],
-    mosts: &[CandSet],
-    committee: CandSet,
-) -> bool
-    requires most { m ≤ most_candidates }
-    requires committee { IsIncreasing 1 m committee }
-    requires leasts { AllByRecursion (λ set. IsIncreasing 1 m set) leasts.now }
-    requires mosts { AllByRecursion (λ set. IsIncreasing 1 m set) mosts.now }
-    ensures { (rows : List Row) → AreClones m rows clones.now
-        → result ≡ list_any (λ family. is_between m rows family.0 family.1 committee) (zip leasts.now mosts.now) }
-{
-    for (least, most) in leasts.iter().zip(mosts) {
-        if is_between(clones, m, *least, *most, committee) {
-            return true;
-        }
-    }
-    false
-}
-
-/// Whether some family has a committee of the set and of `left` of the candidates after c.
-fn may_be_in_some(
-    clones: &Clones,
-    m: u8,
-    leasts: &[CandSet],
-    mosts: &[CandSet],
-    c: u8,
-    set: CandSet,
-    left: u8,
-) -> bool
-    requires most { m ≤ most_candidates }
-    requires within { c ≤ m }
-    requires set { IsIncreasing 1 c set }
-    requires fits { left ≤ m - c }
-    requires leasts { AllByRecursion (λ set. IsIncreasing 1 m set) leasts.now }
-    requires mosts { AllByRecursion (λ set. IsIncreasing 1 m set) mosts.now }
-    ensures { (rows : List Row) → AreClones m rows clones.now
-        → result ≡ list_any (may_be_in m rows c set left) (zip leasts.now mosts.now) }
-{
-    for (least, most) in leasts.iter().zip(mosts) {
-        if may_be_in(clones, m, *least, *most, c, set, left) {
-            return true;
-        }
-    }
-    false
-}
-
-/// Whether the family of two sets has a committee of this set and of `left` of the candidates after c. Those of them
-/// that are needed to have as many of each class as the least are no more than `left`, and those that the most has room
-/// for are no fewer.
-fn may_be_in(
-    clones: &Clones,
-    m: u8,
-    least: CandSet,
-    most: CandSet,
-    c: u8,
-    set: CandSet,
-    left: u8,
-) -> bool
-    requires candidates { m ≤ most_candidates }
-    requires least { IsIncreasing 1 m least }
-    requires most { IsIncreasing 1 m most }
-    requires within { c ≤ m }
-    requires set { IsIncreasing 1 c set }
-    requires fits { left ≤ m - c }
-    ensures { (rows : List Row) → AreClones m rows clones.now → result ≡ may_be_in m rows c set left (least, most) }
-{
-    let all = completed(clones, c, m, set, least);
-    let size = set.len() + left;
-    all.len() <= size
-        && is_between(clones, m, least, most, all)
-        && size <= completed(clones, c, m, set, most).len()
 }
 
 /// The least set of a family with the first of those whom the most has beside it, as many as make k members.

@@ -234,8 +234,8 @@ impl<A: Allocator + Copy + Drop> Levels<'_, A> {
     ) -> Result<Vec<CandSet, A>, AllocError>
         requires size { size < self.now.profile.now.m }
         requires sets { AllByRecursion (λ set. IsIncreasing 1 self.now.profile.now.m set) level.now }
-        ensures { IfOk result (λ next. IsNextFamilies
-            self.now.step self.now.weights.now self.now.profile.now.m self.now.profile.now.rows size level.now next.items) }
+        ensures { IfOk result (λ next. IsNextFamilies self.now.step self.now.weights.now
+            self.now.profile.now.m self.now.profile.now.rows size level.now next.items) }
     {
         let mut found = IndexSet::new(alloc);
         for set in level {

@@ -6,23 +6,23 @@ use Rattle.ballot_base.proofs.Increasing.{IsIncreasing-higher, IsIncreasing-with
 use Rattle.tie_families.specs.Clones.{clone_count}
 use Rattle.tie_families.specs.Steps.Tables.{completed_by}
 use Rattle.tie_families.proofs.TableLemmas.{own-count, completed-next, completed-with, completed-same}
-use Rattle.tie_families.proofs.clones.completed.Goals as goal
-use Rattle.tie_families.proofs.clones.completed.Goals.{then-len, else-len}
+use Rattle.tie_families.proofs.clones.Classes.completed.Goals as goal
+use Rattle.tie_families.proofs.clones.Classes.completed.Goals.{then-len, else-len}
 
 pub loop-x-init : goal.loop-x-init
 loop-x-init c =
     let none : c.args.c + 1 - (c.args.c + 1) ≡ 0 = omega arith in
     record {
-      candidates = IsIncreasing-higher 1 c.args.c c.args.m c.args.set c.requires.within c.requires.set;
+      candidates = IsIncreasing-higher 1 c.args.c c.args.self.now.m c.args.set c.requires.within c.requires.set;
       made = λ rows are. sym (ap (λ n. fold (completed_by rows c.args.other) c.args.set (range_with_len (c.args.c + 1) n)) none);
     }
 
 pub loop-x-preserved : goal.loop-x-preserved
 loop-x-preserved c =
-    let m = c.args.m in
+    let m = c.args.self.now.m in
     let x = c.loop-x.x in
     let old = c.loop-x.all in
-    let table = c.args.clones.now in
+    let table = c.args.self.now.clones in
     let low : c.args.c + 1 ≤ x = omega arith in
     elim c.if-len.branch [
       | then-len w ↦ record {
@@ -49,5 +49,5 @@ loop-x-preserved c =
 
 pub returns-clause-made : goal.returns-clause-made
 returns-clause-made c rows are =
-    let all : c.loop-x.x - (c.args.c + 1) ≡ c.args.m - c.args.c = omega arith in
+    let all : c.loop-x.x - (c.args.c + 1) ≡ c.args.self.now.m - c.args.c = omega arith in
     c.loop-x.invariant.made rows are ∙ ap (λ n. fold (completed_by rows c.args.other) c.args.set (range_with_len (c.args.c + 1) n)) all
