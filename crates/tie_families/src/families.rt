@@ -4,16 +4,12 @@
 //! the set lacks of the least set are added one after another, and have to fit; those for which the most set has room
 //! have to fill the committee (`proofs/CompletionLemmas.antt`). This is exact (`laws::exact_bounds`): `Winners` over it
 //! enters only prefixes with a winner below, and lists the union of the families in order, each committee once.
-ghost use Rattle.std.specs.Prelude.{◌≡◌, ℕ, ◌≤◌, ◌-◌, ◌==◌, ⊤, true, List, IfOk, MatchOption, length, if◌then◌else◌};
+ghost use Rattle.std.specs.Prelude.{◌≡◌, ◌≤◌, ◌-◌, ◌==◌, ⊤, IfOk, MatchOption, length, if◌then◌else◌};
+ghost use Rattle.std.specs.List.{list_all};
 ghost use Rattle.ballot_base.specs.Lists.{IsIncreasing};
-ghost use Rattle.std.specs.List.{AllByRecursion, list_all, list_any, zip};
-ghost use Rattle.ballot_base.specs.Limits.{most_candidates};
-ghost use Rattle.ballot_base.specs.Ballots.{Row};
 ghost use Rattle.tie_walk.specs.Sequences.{sequential_winners};
-ghost use Rattle.tie_families.specs.Clones.{is_between};
-ghost use Rattle.tie_families.specs.Families.{Sequential, sequential_of, is_winner, some_winner};
-ghost use Rattle.tie_families.specs.Steps.Families.{AreApart, may_be_in};
-ghost use Rattle.ballot_base.specs.Clones.{AreClones};
+ghost use Rattle.tie_families.specs.Families.{sequential_of, is_winner, some_winner};
+ghost use Rattle.tie_families.specs.Steps.Families.{may_be_in};
 
 use crate::clones::Classes;
 use crate::levels::{Spans, families_of};
@@ -22,10 +18,10 @@ use std::alloc::{AllocError, Allocator, Global};
 use std::marker::Model;
 use tie_walk::{SeqRule, Tally};
 
-/// The committees of k that some sequence of choices of a sequential rule makes, as families. A family is a pair of
-/// sets, and its committees are those of k that have at least as many of each class of clones as the one, and at most
-/// as many as the other. A committee has the value 1 where a family has it, and 0 where none has. Contracts see the
-/// election, the rule and k.
+/// The committees of size `k` that some sequence of choices of a sequential rule makes, as families. A family is a pair
+/// of sets. It has the committees of size `k` with at least as many members of each class of clones as its first set,
+/// and at most as many as its second. A committee has the value 1 if some family has it, and otherwise 0. Contracts see
+/// the election, the rule and `k`.
 #[derive(Drop)]
 pub struct Families<'a, A: Allocator + Copy = Global> {
     profile: &'a Profile<A>,
@@ -49,7 +45,7 @@ impl<'a, A: Allocator + Copy> Model for Families<'a, A> {
 }
 
 impl<'a, A: Allocator + Copy + Drop> Families<'a, A> {
-    /// The families of the winning committees of k. A failed allocation leaves nothing.
+    /// The families of the winning committees of size `k`. A failed allocation leaves nothing.
     pub fn new(
         alloc: A,
         profile: &'a Profile<A>,
@@ -77,8 +73,8 @@ impl<'a, A: Allocator + Copy + Drop> Families<'a, A> {
 }
 
 impl<'a, A: Allocator + Copy> Families<'a, A> {
-    /// The winners in order, where they lie so: where no candidate has a clone, and each family's
-    /// least set has k members.
+    /// The winners in order, if the families are single committees: no candidate has a clone, and every least set has
+    /// size `k`.
     pub(crate) fn in_order(&self) -> Option<&[CandSet]>
         ensures { MatchOption result ⊤ (λ sets.
             sets.now ≡ sequential_winners self.now.rule self.now.election self.now.k) }
@@ -118,8 +114,8 @@ impl<'a, A: Allocator + Copy> Families<'a, A> {
     }
 
     /// Whether the family of two sets has a committee that consists of `set` and of candidates after `c`. It has one if
-    /// the committee has room for the candidates after `c` that are needed to have as many of each class as `least`, and
-    /// those for whom `most` has room fill the committee.
+    /// two conditions hold: the candidates that `set` needs to have as many of each class as `least` fit in, and the
+    /// candidates for whom `most` has room fill the committee.
     fn may_be_in(&self, least: CandSet, most: CandSet, c: u8, set: CandSet) -> bool
         requires least_set { IsIncreasing 1 self.now.election.m least }
         requires most_set { IsIncreasing 1 self.now.election.m most }
@@ -133,6 +129,25 @@ impl<'a, A: Allocator + Copy> Families<'a, A> {
         all.len() <= self.k
             && self.classes.is_between(least, most, all)
             && self.k <= self.classes.completed(c, set, most).len()
+    }
+
+    /// A committee of the family of two sets: `least` and as many of the first candidates of `most` as fit in.
+    fn filled(&self, least: CandSet, most: CandSet) -> Option<CandSet>
+        requires least_set { IsIncreasing 1 self.now.election.m least }
+        requires most_set { IsIncreasing 1 self.now.election.m most }
+        ensures { MatchOption result ⊤ (λ filled.
+            IsIncreasing 1 self.now.election.m filled × (length filled ≡ self.now.k)) }
+    {
+        let k = self.k;
+        if least.len() > k {
+            return None;
+        }
+        let mut filled = least;
+        while filled.len() < k {
+            let (next, _others) = most.minus(filled).split_first()?;
+            filled = filled.with(next);
+        }
+        Some(filled)
     }
 }
 
@@ -161,7 +176,7 @@ impl<'a, A: Allocator + Copy> Tally for Families<'a, A> {
         }
         let least = *self.leasts.first()?;
         let most = *self.mosts.first()?;
-        filled(least, most, self.classes.m, k)
+        self.filled(least, most)
     }
 }
 
@@ -175,22 +190,4 @@ fn all_have(sets: &[CandSet], k: u8) -> bool
         }
     }
     true
-}
-
-/// The least set of a family with the first of those whom the most has beside it, as many as make k members.
-fn filled(least: CandSet, most: CandSet, m: u8, k: u8) -> Option<CandSet>
-    requires candidates { m ≤ most_candidates }
-    requires least { IsIncreasing 1 m least }
-    requires most { IsIncreasing 1 m most }
-    ensures { MatchOption result ⊤ (λ filled. IsIncreasing 1 m filled × (length filled ≡ k)) }
-{
-    if least.len() > k {
-        return None;
-    }
-    let mut filled = least;
-    while filled.len() < k {
-        let (next, _others) = most.minus(filled).split_first()?;
-        filled = filled.with(next);
-    }
-    Some(filled)
 }

@@ -33,14 +33,14 @@ use tie_walk::sequential::{Step, best_worth, hit_weights, put_in_order, worths};
 /// The families of a level that were found so far, each once.
 type FoundFamilies<A> = IndexSet<CandSet, BuildHasherDefault<FoldHasher>, A>;
 
-/// Families, each as the least and the most that its committees have of each class of clones.
+/// Families: each has a least and a most set, which bound the members of each class of clones in its committees.
 #[derive(Drop)]
 pub(crate) struct Spans<A: Allocator + Copy> {
     pub(crate) leasts: Vec<CandSet, A>,
     pub(crate) mosts: Vec<CandSet, A>,
 }
 
-/// Whether none of the candidates below c may be chosen whom the set of clones has.
+/// Whether none of the clones below `c` may be chosen.
 fn is_first_open(step: Step, clones: CandSet, set: CandSet, c: u8) -> bool
     ensures { result ≡ is_first_open step clones set c }
 {
@@ -52,7 +52,7 @@ fn is_first_open(step: Step, clones: CandSet, set: CandSet, c: u8) -> bool
     true
 }
 
-/// Whether nobody outside a set brings anything, where this is the best worth.
+/// Whether no candidate adds anything to a set, given the best worth.
 fn is_settled(step: Step, best: u128) -> bool
     ensures { result ≡ has_settled step best }
 {
@@ -99,7 +99,7 @@ fn chosen(step: Step, m: u8, set: CandSet) -> u8
     }
 }
 
-/// Adds the sets that each of these choices makes of a set, those that are not there yet.
+/// Adds the sets that these choices make of a set, one choice each, except those that were found before.
 fn insert_each<A: Allocator + Copy>(
     next: &mut FoundFamilies<A>,
     step: Step,
@@ -211,7 +211,7 @@ impl<A: Allocator + Copy> Levels<'_, A> {
         insert_each(next, self.step, set, tied)
     }
 
-    /// Where a family of the committees of size `k` ends on the other side: at its set if that has size `k`.
+    /// The other end of a family of committees of size `k`: its set if that has size `k`, and otherwise its `end`.
     fn other_end(&self, k: u8, set: CandSet) -> CandSet
         ensures { result ≡ other_end
             self.now.step self.now.weights.now self.now.profile.now.m self.now.profile.now.rows k set }
