@@ -29,13 +29,13 @@ nothing : nat_le 0 0 ≡ true
 nothing = refl
 
 -- nobody brings anything exactly where the greatest gain is 0
-pub settled-is : (step : Step) (weights : List ℕ) (m : ℕ) (rows : List Row) (set : List ℕ) (w : ℕ → ℕ) (best : ℕ) → ((c : ℕ) → w c ≡ worth step weights rows set c)
-    → best ≡ fold (better step) (worst step) (map w (open_candidates step m set)) → has_settled step best ≡ is_settled step weights m rows set
-settled-is Grow weights m rows set w best are is =
-    ap (λ n. n == 0) is ∙ sym (no_more (greatest w 0 (others m set))) ∙ sym (bounds-greatest w 0 0 (others m set))
+pub settled-is : (step : Step) (weights : List ℕ) (m : ℕ) (rows : List Row) (set : List ℕ) (best : ℕ) → best ≡ tied_worth step weights m rows set → is_settled step weights m rows set ≡ has_settled step best
+settled-is Grow weights m rows set best is =
+    let w : ℕ → ℕ = gain weights rows set in
+    sym (ap (λ n. n == 0) is ∙ sym (no_more (greatest w 0 (others m set))) ∙ sym (bounds-greatest w 0 0 (others m set))
     ∙ ap (λ b. b && list_all (λ c. nat_le (w c) 0) (others m set)) nothing
-    ∙ list_all-same (λ c. nat_le (w c) 0) (λ c. gain weights rows set c == 0) (others m set) (λ c. no_more (w c) ∙ ap (λ n. n == 0) (are c))
-settled-is Shrink weights m rows set w best are is = refl
+    ∙ list_all-same (λ c. nat_le (w c) 0) (λ c. w c == 0) (others m set) (λ c. no_more (w c)))
+settled-is Shrink weights m rows set best is = refl
 
 all_range : (P : ℕ → Type 0) (a n : ℕ) → ((c : ℕ) → a ≤ c → c < a + n → P c) → AllByRecursion P (range_with_len a n)
 all_range P a zero each = tt
@@ -49,8 +49,18 @@ and-assoc : (a b c : Bool) → (a && (b && c)) ≡ ((a && b) && c)
 and-assoc true b c = refl
 and-assoc false b c = refl
 
+worths-are : (f g : ℕ → ℕ) → ((c : ℕ) → f c ≡ g c) → (xs : List ℕ) → map f xs ≡ map g xs
+worths-are f g same [] = refl
+worths-are f g same (x ∷ xs) = ap (λ n. n ∷ map f xs) (same x) ∙ ap (λ l. g x ∷ l) (worths-are f g same xs)
+
+pub best-found : (step : Step) (weights : List ℕ) (m n : ℕ) (rows : List Row) (set : List ℕ) (w : ℕ → ℕ) (best : ℕ) → n ≡ m → ((c : ℕ) → w c ≡ worth step weights rows set c)
+    → best ≡ fold (better step) (worst step) (map w (open_candidates step n set)) → best ≡ tied_worth step weights m rows set
+best-found step weights m n rows set w best same are is =
+    is ∙ ap (λ k. fold (better step) (worst step) (map w (open_candidates step k set))) same
+    ∙ ap (fold (better step) (worst step)) (worths-are w (worth step weights rows set) are (open_candidates step m set))
+
 module _ (step : Step) (weights : List ℕ) (m : ℕ) (rows : List Row) (set : List ℕ) (w : ℕ → ℕ) (best : ℕ) where
-  choice-is : ((c : ℕ) → w c ≡ worth step weights rows set c) → ((c : ℕ) → w c ≤ 2 ^ 128 - 1) → best ≡ fold (better step) (worst step) (map w (open_candidates step m set))
+  choice-is : ((c : ℕ) → w c ≡ worth step weights rows set c) → ((c : ℕ) → w c ≤ 2 ^ 128 - 1) → best ≡ tied_worth step weights m rows set
       → (c : ℕ) → 1 ≤ c → c < 1 + m → (may_choose step set c && (w c == best)) ≡ is_choice step weights m rows set c
   choice-is are fit is c low high =
       let all = open_candidates step m set in
@@ -59,7 +69,7 @@ module _ (step : Step) (weights : List ℕ) (m : ℕ) (rows : List Row) (set : L
         | inl free ↦
             let inside : has_member all c ≡ true = member ∙ free in
             let here : (w c == best) ≡ list_all (λ d. is_no_better step (worth step weights rows set d) (worth step weights rows set c)) all =
-            ap (λ n. w c == n) is ∙ best-is step w all c inside (fit c)
+            ap (λ n. w c == n) (is ∙ ap (fold (better step) (worst step)) (sym (worths-are w (worth step weights rows set) are all))) ∙ best-is step w all c inside (fit c)
             ∙ list_all-same (λ d. is_no_better step (w d) (w c)) (λ d. is_no_better step (worth step weights rows set d) (worth step weights rows set c)) all
             (λ d. ap (λ n. is_no_better step n (w c)) (are d) ∙ ap (λ n. is_no_better step (worth step weights rows set d) n) (are c)) in
             ap (λ b. b && (w c == best)) (sym member) ∙ ap (λ b. has_member all c && b) here
@@ -69,7 +79,7 @@ module _ (step : Step) (weights : List ℕ) (m : ℕ) (rows : List Row) (set : L
       ]
 
   -- those whom the code finds are the first of the clones that tie
-  pub ties-are : (table : List (List ℕ)) → ((c : ℕ) → w c ≡ worth step weights rows set c) → ((c : ℕ) → w c ≤ 2 ^ 128 - 1) → best ≡ fold (better step) (worst step) (map w (open_candidates step m set))
+  pub ties-are : (table : List (List ℕ)) → ((c : ℕ) → w c ≡ worth step weights rows set c) → ((c : ℕ) → w c ≤ 2 ^ 128 - 1) → best ≡ tied_worth step weights m rows set
       → AreClones m rows table
       → filter (λ c. may_choose step set c && (w c == best && is_first_open step (get_or table c []) set c)) (range_with_len 1 m) ≡ ties step weights m rows set
   ties-are table are fit is clones =
@@ -93,10 +103,6 @@ some-more-than n most more = grind arith
 
 pub none-more : (n most : ℕ) → most ≤ n → nat_lt n most ≡ false
 none-more n most few = grind arith
-
-pub worths-are : (f g : ℕ → ℕ) → ((c : ℕ) → f c ≡ g c) → (xs : List ℕ) → map f xs ≡ map g xs
-worths-are f g same [] = refl
-worths-are f g same (x ∷ xs) = ap (λ n. n ∷ map f xs) (same x) ∙ ap (λ l. g x ∷ l) (worths-are f g same xs)
 
 pub end-settled : (step : Step) (weights : List ℕ) (m n : ℕ) (rows : List Row) (set : List ℕ) → n ≡ m → is_settled step weights m rows set ≡ true → Some (range_with_len 1 n) ≡ end step weights m rows set
 unfolding end

@@ -1,10 +1,10 @@
 -- The values and bounds of the families of winners.
-use Rattle.std.proofs.Common.{◌≡◌, ℕ, ◌+◌, ◌-◌, ◌≤◌, ◌∙◌, Bool, true, false, cond, List, ◌++◌, refl, sym, ap, subst, arith, inl, inr, length, length-append, Contains}
+use Rattle.std.proofs.Common.{◌≡◌, ℕ, ◌+◌, ◌-◌, ◌≤◌, ◌<◌, ◌∙◌, Bool, true, false, cond, List, ◌++◌, ◌||◌, append-nil, refl, sym, ap, subst, arith, inl, inr, length, length-append, Contains, get_or, []}
 use mir.Val.{bool_byte}
 use Rattle.std.specs.List.{list_any, zip, AllByRecursion}
 use Rattle.std.proofs.lemmas.Bool.{cases_Bool, both_ways}
 use Rattle.std.proofs.lemmas.List.Elements.{All-contains, All-from_recursion}
-use Rattle.ballot_base.specs.Lists.{IsIncreasing, increasing_lists}
+use Rattle.ballot_base.specs.Lists.{IsIncreasing, increasing_lists, lists_of}
 use Rattle.ballot_base.specs.Ballots.{Election}
 use Rattle.ballot_base.proofs.Committees.{increasing_lists-contains, chosen-from_contains}
 use Rattle.tie_walk.specs.Ceilings.{IsBound, IsExactAtBest}
@@ -17,7 +17,7 @@ use Rattle.tie_walk.proofs.Choices.{reached_from_made}
 use Rattle.tie_walk.proofs.SequenceLemmas.{grown_set-made, left_set-made, reached-sized}
 use Rattle.tie_families.specs.Clones.{is_between}
 use Rattle.tie_families.specs.Families.{Sequential, sequential_of, is_winner, some_winner}
-use Rattle.tie_families.specs.Steps.Families.{may_be_in}
+use Rattle.tie_families.specs.Steps.Families.{KeepsFamilies, may_be_in}
 use Rattle.tie_families.specs.Steps.Levels.{AreFamilies}
 use Rattle.tie_families.proofs.CompletionLemmas.{joined-increasing, may-is}
 use Rattle.tie_families.proofs.PairLemmas.{pairs-first}
@@ -37,13 +37,6 @@ winner-size RevSeqPav e k set fits wins =
     omega (arith, sized, fits)
 
 module _ (e : Election) (rule : SeqRule) (k : ℕ) (fits : k ≤ e.m) where
-  -- no other size wins
-  pub other-size : (set : List ℕ) → (length set ≡ k → ⊥) → is_winner (sequential_of e rule k) set ≡ false
-  other-size set other = elim (cases_Bool (is_sequential_winner rule e k set)) [
-    | inl wins ↦ absurd (other (winner-size rule e k set fits wins))
-    | inr loses ↦ loses
-  ]
-
   pub some-other : (c : ℕ) (set : List ℕ) (left : ℕ) → (length set + left ≡ k → ⊥) → some_winner (sequential_of e rule k) c set left ≡ false
   some-other c set left other = elim (cases_Bool (some_winner (sequential_of e rule k) c set left)) [
     | inl some ↦
@@ -84,27 +77,45 @@ module _ (e : Election) (rule : SeqRule) (k : ℕ) (fits : k ≤ e.m) where
           ]
         ]
 
--- the same, by other names for the number of candidates and the families
-module _ (e : Election) (rule : SeqRule) (k m : ℕ) (leasts mosts least_list most_list : List (List ℕ)) (is : m ≡ e.m) (fits : k ≤ m) (families : AreFamilies rule e k leasts mosts) (same : least_list ≡ leasts) (same' : most_list ≡ mosts) where
-  pairs-are : zip least_list most_list ≡ zip leasts mosts
-  pairs-are = ap (λ l. zip l most_list) same ∙ ap (zip leasts) same'
+-- the same, of what the families keep, where contracts see the election, the rule and k as one
+module _ {e : Election} {rule : SeqRule} {m k : ℕ} {clones leasts mosts : List (List ℕ)} (keeps : KeepsFamilies e rule m k clones leasts mosts) (s : Sequential) (is : sequential_of e rule k ≡ s) where
+  fits : k ≤ e.m
+  fits = omega (arith, keeps.fits, keeps.m_is)
 
-  pub value-wins : (set : List ℕ) → IsIncreasing 1 e.m set → length set ≡ k
-      → list_any (λ family. is_between m e.rows family.0 family.1 set) (zip least_list most_list) ≡ is_winner (sequential_of e rule k) set
-  value-wins set up size =
-      ap (λ n. list_any (λ family. is_between n e.rows family.0 family.1 set) (zip least_list most_list)) is
-      ∙ ap (list_any (λ family. is_between e.m e.rows family.0 family.1 set)) pairs-are ∙ sym (families.reached set up size)
+  pub never-completes : (c : ℕ) (set : List ℕ) (left : ℕ) → (length set + left ≡ k → ⊥) → some_winner s c set left ≡ false
+  never-completes c set left other = subst (λ (t : Sequential). some_winner t c set left ≡ false) is (some-other e rule k fits c set left other)
 
-  pub bound-wins : (c : ℕ) (set : List ℕ) (left : ℕ) → c ≤ e.m → IsIncreasing 1 c set → length set + left ≡ k
-      → list_any (may_be_in m e.rows c set left) (zip least_list most_list) ≡ some_winner (sequential_of e rule k) c set left
-  bound-wins c set left within up whole =
-      ap (λ n. list_any (may_be_in n e.rows c set left) (zip least_list most_list)) is ∙ ap (list_any (may_be_in e.m e.rows c set left)) pairs-are
-      ∙ some-is e rule k (omega (arith, fits, is)) leasts mosts families c set left within up whole
+  pub completes-is : (c : ℕ) (set : List ℕ) (left : ℕ) (least_list most_list : List (List ℕ)) → least_list ≡ leasts → most_list ≡ mosts → c ≤ s.election.m → IsIncreasing 1 c set → k ≡ length set + left
+      → list_any (may_be_in s.election.m s.election.rows c set (s.k - length set)) (zip least_list most_list) ≡ some_winner s c set left
+  completes-is c set left least_list most_list first second within up whole =
+      let left-is : k - length set ≡ left = omega (arith, whole) in
+      ap (list_any (may_be_in s.election.m s.election.rows c set (s.k - length set))) (ap (λ l. zip l most_list) first ∙ ap (zip leasts) second)
+      ∙ ap (λ (t : Sequential). list_any (may_be_in t.election.m t.election.rows c set (t.k - length set)) (zip leasts mosts)) (sym is)
+      ∙ ap (λ n. list_any (may_be_in e.m e.rows c set n) (zip leasts mosts)) left-is
+      ∙ some-is e rule k fits leasts mosts keeps.families c set left (omega (arith, within, ap (λ (t : Sequential). t.election.m) is)) up (sym whole)
+      ∙ ap {B = Bool} (λ (t : Sequential). some_winner t c set left) is
 
--- candidates, by other names for their number and the sets
-pub list-candidates : (m n : ℕ) (sets list : List (List ℕ)) → m ≡ n → list ≡ sets → AllByRecursion (λ set. IsIncreasing 1 n set) sets → AllByRecursion (λ set. IsIncreasing 1 m set) list
-list-candidates m n sets list is same all =
-    subst (λ l. AllByRecursion (λ set. IsIncreasing 1 m set) l) (sym same) (subst (λ x. AllByRecursion (λ set. IsIncreasing 1 x set) sets) (sym is) all)
+  -- a set of a family
+  set-of : (list sets : List (List ℕ)) (i : ℕ) (set : List ℕ) → list ≡ sets → AllByRecursion (λ x. IsIncreasing 1 e.m x) sets → i < length list → ((d : List ℕ) → set ≡ get_or list i d)
+      → IsIncreasing 1 s.election.m set
+  set-of list sets i set same all inside at =
+      subst (λ (t : Sequential). IsIncreasing 1 t.election.m set) is
+      (subst (IsIncreasing 1 e.m) (sym (at [])) (All-from_recursion (λ x. IsIncreasing 1 e.m x) list (subst (AllByRecursion (λ x. IsIncreasing 1 e.m x)) (sym same) all) i [] inside))
+
+  pub least-of : (list : List (List ℕ)) (i : ℕ) (set : List ℕ) → list ≡ leasts → i < length list → ((d : List ℕ) → set ≡ get_or list i d) → IsIncreasing 1 s.election.m set
+  least-of list i set same = set-of list leasts i set same keeps.families.least_sets
+
+  pub most-of : (list : List (List ℕ)) (i : ℕ) (set : List ℕ) → list ≡ mosts → i < length list → ((d : List ℕ) → set ≡ get_or list i d) → IsIncreasing 1 s.election.m set
+  most-of list i set same = set-of list mosts i set same keeps.families.most_sets
+
+-- a committee completes itself
+pub value-is : (s : Sequential) (set : List ℕ) → some_winner s s.election.m set 0 ≡ is_winner s set
+unfolding lists_of
+value-is s set = or-false (is_winner s (set ++ [])) ∙ ap (is_winner s) (append-nil set)
+  where
+    or-false : (b : Bool) → (b || false) ≡ b
+    or-false true = refl
+    or-false false = refl
 
 pub byte-is : (b : Bool) → bool_byte b ≡ cond b 1 0
 byte-is true = refl

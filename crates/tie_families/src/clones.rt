@@ -1,62 +1,81 @@
 //! Sets by the number of members that they have of each class of clones.
-ghost use Rattle.std.specs.Prelude.{◌≡◌, ◌≤◌, ℕ, List};
+ghost use Rattle.std.specs.Prelude.{◌≡◌, ◌≤◌, ℕ, List, true};
 ghost use Rattle.ballot_base.specs.Limits.{most_candidates};
 ghost use Rattle.ballot_base.specs.Lists.{IsIncreasing};
 ghost use Rattle.ballot_base.specs.Ballots.{Row};
-ghost use Rattle.tie_families.specs.Clones.{has_as_many, is_between};
 ghost use Rattle.ballot_base.specs.Clones.{AreClones};
+ghost use Rattle.tie_families.specs.Clones.{has_as_many, is_between};
+ghost use Rattle.tie_families.specs.Steps.Families.{AreApart};
 ghost use Rattle.tie_families.specs.Steps.Tables.{completed};
 
 use ballot_base::{CandSet, Clones};
 
-/// Whether a set has at least as many of each class of clones as another one.
-pub(crate) fn has_as_many(clones: &Clones, m: u8, set: CandSet, other: CandSet) -> bool
-    requires most { m ≤ most_candidates }
-    requires set { IsIncreasing 1 m set }
-    requires other { IsIncreasing 1 m other }
-    ensures { (rows : List Row) → AreClones m rows clones.now → result ≡ has_as_many m rows set other }
-{
-    for c in 1..m + 1 {
-        let class = clones.class(c);
-        if set.common(class).len() < other.common(class).len() {
-            return false;
-        }
-    }
-    true
+/// The classes of clones among the candidates 1 to `m`.
+#[derive(Drop)]
+pub(crate) struct Classes {
+    pub(crate) m: u8,
+    pub(crate) clones: Clones,
+    ghost most: { m ≤ most_candidates },
 }
 
-/// Whether a set has at least as many of each class of clones as one set, and at most as many as another.
-pub(crate) fn is_between(
-    clones: &Clones,
-    m: u8,
-    least: CandSet,
-    most: CandSet,
-    set: CandSet,
-) -> bool
-    requires most { m ≤ most_candidates }
-    requires least_set { IsIncreasing 1 m least }
-    requires most_set { IsIncreasing 1 m most }
-    requires set { IsIncreasing 1 m set }
-    ensures { (rows : List Row) → AreClones m rows clones.now → result ≡ is_between m rows least most set }
-{
-    has_as_many(clones, m, set, least) && has_as_many(clones, m, most, set)
-}
-
-/// The set, and those of the candidates after c that it lacks to have as many of each class as the other one.
-pub(crate) fn completed(clones: &Clones, c: u8, m: u8, set: CandSet, other: CandSet) -> CandSet
-    requires most { m ≤ most_candidates }
-    requires within { c ≤ m }
-    requires set { IsIncreasing 1 c set }
-    requires other { IsIncreasing 1 m other }
-    ensures candidates { IsIncreasing 1 m result }
-    ensures made { (rows : List Row) → AreClones m rows clones.now → result ≡ completed c m rows set other }
-{
-    let mut all = set;
-    for x in c + 1..m + 1 {
-        let class = clones.class(x);
-        if all.common(class).len() < other.common(class).len() {
-            all = all.with(x);
+impl Classes {
+    /// Whether each candidate is its only clone.
+    pub(crate) fn are_apart(&self) -> bool
+        ensures { result ≡ true → AreApart self.now.m self.now.clones }
+    {
+        for c in 1..self.m + 1 {
+            let class = self.clones.class(c);
+            if class.len() != 1 {
+                return false;
+            }
         }
+        true
     }
-    all
+
+    /// Whether a set has at least as many of each class as another one.
+    fn has_as_many(&self, set: CandSet, other: CandSet) -> bool
+        requires set { IsIncreasing 1 self.now.m set }
+        requires other { IsIncreasing 1 self.now.m other }
+        ensures { (rows : List Row) → AreClones self.now.m rows self.now.clones
+            → result ≡ has_as_many self.now.m rows set other }
+    {
+        for c in 1..self.m + 1 {
+            let class = self.clones.class(c);
+            if set.common(class).len() < other.common(class).len() {
+                return false;
+            }
+        }
+        true
+    }
+
+    /// Whether a set has at least as many of each class as one set, and at most as many as another.
+    pub(crate) fn is_between(&self, least: CandSet, most: CandSet, set: CandSet) -> bool
+        requires least_set { IsIncreasing 1 self.now.m least }
+        requires most_set { IsIncreasing 1 self.now.m most }
+        requires set { IsIncreasing 1 self.now.m set }
+        ensures { (rows : List Row) → AreClones self.now.m rows self.now.clones
+            → result ≡ is_between self.now.m rows least most set }
+    {
+        self.has_as_many(set, least) && self.has_as_many(most, set)
+    }
+
+    /// The set and, for each class of which it has fewer members than the other set, as many of the class's candidates
+    /// after `c` as it lacks.
+    pub(crate) fn completed(&self, c: u8, set: CandSet, other: CandSet) -> CandSet
+        requires within { c ≤ self.now.m }
+        requires set { IsIncreasing 1 c set }
+        requires other { IsIncreasing 1 self.now.m other }
+        ensures candidates { IsIncreasing 1 self.now.m result }
+        ensures made { (rows : List Row) → AreClones self.now.m rows self.now.clones
+            → result ≡ completed c self.now.m rows set other }
+    {
+        let mut all = set;
+        for x in c + 1..self.m + 1 {
+            let class = self.clones.class(x);
+            if all.common(class).len() < other.common(class).len() {
+                all = all.with(x);
+            }
+        }
+        all
+    }
 }

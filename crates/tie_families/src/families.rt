@@ -4,35 +4,30 @@
 //! the set lacks of the least set are added one after another, and have to fit; those for which the most set has room
 //! have to fill the committee (`proofs/CompletionLemmas.antt`). This is exact (`laws::exact_bounds`): `Winners` over it
 //! enters only prefixes with a winner below, and lists the union of the families in order, each committee once.
-ghost use Rattle.std.specs.Prelude.{◌≡◌, ℕ, ◌≤◌, ◌-◌, ◌==◌, ⊤, true, List, IfOk, MatchOption, length, if◌then◌else◌};
+ghost use Rattle.std.specs.Prelude.{◌≡◌, ◌≤◌, ◌-◌, ◌==◌, ⊤, IfOk, MatchOption, length, if◌then◌else◌};
+ghost use Rattle.std.specs.List.{list_all};
 ghost use Rattle.ballot_base.specs.Lists.{IsIncreasing};
-ghost use Rattle.std.specs.List.{AllByRecursion, list_all, list_any, zip};
-ghost use Rattle.ballot_base.specs.Limits.{most_candidates};
-ghost use Rattle.ballot_base.specs.Ballots.{Row};
 ghost use Rattle.tie_walk.specs.Sequences.{sequential_winners};
-ghost use Rattle.tie_families.specs.Clones.{is_between};
-ghost use Rattle.tie_families.specs.Families.{Sequential, sequential_of, is_winner, some_winner};
-ghost use Rattle.tie_families.specs.Steps.Families.{AreApart, may_be_in};
-ghost use Rattle.ballot_base.specs.Clones.{AreClones};
+ghost use Rattle.tie_families.specs.Families.{sequential_of, is_winner, some_winner};
+ghost use Rattle.tie_families.specs.Steps.Families.{may_be_in};
 
-use crate::clones::{completed, is_between};
+use crate::clones::Classes;
 use crate::levels::{Spans, families_of};
 use ballot_base::{CandSet, Clones, Profile};
 use std::alloc::{AllocError, Allocator, Global};
 use std::marker::Model;
 use tie_walk::{SeqRule, Tally};
 
-/// The committees of k that some sequence of choices of a sequential rule makes, as families. A family is a pair of
-/// sets, and its committees are those of k that have at least as many of each class of clones as the one, and at most
-/// as many as the other. A committee has the value 1 where a family has it, and 0 where none has. Contracts see the
-/// election, the rule and k.
+/// The committees of size `k` that some sequence of choices of a sequential rule makes, as families. A family is a pair
+/// of sets. It has the committees of size `k` with at least as many members of each class of clones as its first set,
+/// and at most as many as its second. A committee has the value 1 if some family has it, and otherwise 0. Contracts see
+/// the election, the rule and `k`.
 #[derive(Drop)]
 pub struct Families<'a, A: Allocator + Copy = Global> {
     profile: &'a Profile<A>,
     rule: SeqRule,
-    m: u8,
     k: u8,
-    clones: Clones,
+    classes: Classes,
     leasts: Vec<CandSet, A>,
     mosts: Vec<CandSet, A>,
 }
@@ -45,11 +40,12 @@ impl<'a, A: Allocator + Copy> Model for Families<'a, A> {
 
     ghost view = { λ f. sequential_of f.profile.now f.rule f.k };
 
-    ghost invariant = { λ f. KeepsFamilies f.profile.now f.rule f.m f.k f.clones f.leasts.items f.mosts.items };
+    ghost invariant = { λ f. KeepsFamilies f.profile.now f.rule f.classes.m f.k f.classes.clones
+        f.leasts.items f.mosts.items };
 }
 
 impl<'a, A: Allocator + Copy + Drop> Families<'a, A> {
-    /// The families of the winning committees of k. A failed allocation leaves nothing.
+    /// The families of the winning committees of size `k`. A failed allocation leaves nothing.
     pub fn new(
         alloc: A,
         profile: &'a Profile<A>,
@@ -60,15 +56,16 @@ impl<'a, A: Allocator + Copy + Drop> Families<'a, A> {
         requires fits { k ≤ profile.now.m }
         ensures { IfOk result (λ families. families ≡ sequential_of profile.now rule k) }
     {
-        let m = profile.m();
-        let clones = Clones::of(profile);
-        let Spans { leasts, mosts } = families_of(alloc, profile, rule, k, &clones)?;
+        let classes = Classes {
+            m: profile.m(),
+            clones: Clones::of(profile),
+        };
+        let Spans { leasts, mosts } = families_of(alloc, profile, rule, k, &classes.clones)?;
         Ok(Families {
             profile,
             rule,
-            m,
             k,
-            clones,
+            classes,
             leasts,
             mosts,
         })
@@ -76,13 +73,13 @@ impl<'a, A: Allocator + Copy + Drop> Families<'a, A> {
 }
 
 impl<'a, A: Allocator + Copy> Families<'a, A> {
-    /// The winners in order, where they lie so: where no candidate has a clone, and each family's
-    /// least set has k members.
+    /// The winners in order, if the families are single committees: no candidate has a clone, and every least set has
+    /// size `k`.
     pub(crate) fn in_order(&self) -> Option<&[CandSet]>
         ensures { MatchOption result ⊤ (λ sets.
             sets.now ≡ sequential_winners self.now.rule self.now.election self.now.k) }
     {
-        if !are_apart(&self.clones, self.m) || !all_have(&self.leasts, self.k) {
+        if !self.classes.are_apart() || !all_have(&self.leasts, self.k) {
             return None;
         }
         Some(&self.leasts)
@@ -95,7 +92,62 @@ impl<'a, A: Allocator + Copy> Families<'a, A> {
         ensures some { 1 ≤ self.now.k }
         ensures fits { self.now.k ≤ self.now.election.m }
     {
-        (self.m, self.k)
+        (self.classes.m, self.k)
+    }
+
+    /// Whether some family has a committee that consists of `set` and of `left` candidates after `c`.
+    fn completes(&self, c: u8, set: CandSet, left: u8) -> bool
+        requires within { c ≤ self.now.election.m }
+        requires set { IsIncreasing 1 c set }
+        requires fits { left ≤ self.now.election.m - c }
+        ensures { result ≡ some_winner self.now c set left }
+    {
+        if self.k != set.len() + left {
+            return false;
+        }
+        for (least, most) in self.leasts.iter().zip(&self.mosts) {
+            if self.may_be_in(*least, *most, c, set) {
+                return true;
+            }
+        }
+        false
+    }
+
+    /// Whether the family of two sets has a committee that consists of `set` and of candidates after `c`. It has one if
+    /// two conditions hold: the candidates that `set` needs to have as many of each class as `least` fit in, and the
+    /// candidates for whom `most` has room fill the committee.
+    fn may_be_in(&self, least: CandSet, most: CandSet, c: u8, set: CandSet) -> bool
+        requires least_set { IsIncreasing 1 self.now.election.m least }
+        requires most_set { IsIncreasing 1 self.now.election.m most }
+        requires within { c ≤ self.now.election.m }
+        requires set { IsIncreasing 1 c set }
+        requires size { length set ≤ self.now.k }
+        ensures { result ≡ may_be_in self.now.election.m self.now.election.rows c set (self.now.k - length set)
+            (least, most) }
+    {
+        let all = self.classes.completed(c, set, least);
+        all.len() <= self.k
+            && self.classes.is_between(least, most, all)
+            && self.k <= self.classes.completed(c, set, most).len()
+    }
+
+    /// A committee of the family of two sets: `least` and as many of the first candidates of `most` as fit in.
+    fn filled(&self, least: CandSet, most: CandSet) -> Option<CandSet>
+        requires least_set { IsIncreasing 1 self.now.election.m least }
+        requires most_set { IsIncreasing 1 self.now.election.m most }
+        ensures { MatchOption result ⊤ (λ filled.
+            IsIncreasing 1 self.now.election.m filled × (length filled ≡ self.now.k)) }
+    {
+        let k = self.k;
+        if least.len() > k {
+            return None;
+        }
+        let mut filled = least;
+        while filled.len() < k {
+            let (next, _others) = most.minus(filled).split_first()?;
+            filled = filled.with(next);
+        }
+        Some(filled)
     }
 }
 
@@ -111,24 +163,11 @@ impl<'a, A: Allocator + Copy> Tally for Families<'a, A> {
     }
 
     fn value(&self, set: CandSet) -> u128 {
-        let wins = set.len() == self.k
-            && is_in_some(&self.clones, self.m, &self.leasts, &self.mosts, set);
-        u128::from(wins)
+        u128::from(self.completes(self.m(), set, 0))
     }
 
     fn bound(&self, c: u8, set: CandSet, left: u8) -> u128 {
-        let k = self.k;
-        let may_win = set.len() + left == k
-            && may_be_in_some(
-                &self.clones,
-                self.m,
-                &self.leasts,
-                &self.mosts,
-                c,
-                set,
-                left,
-            );
-        u128::from(may_win)
+        u128::from(self.completes(c, set, left))
     }
 
     fn good_committee(&self, k: u8) -> Option<CandSet> {
@@ -137,22 +176,8 @@ impl<'a, A: Allocator + Copy> Tally for Families<'a, A> {
         }
         let least = *self.leasts.first()?;
         let most = *self.mosts.first()?;
-        filled(least, most, self.m, k)
+        self.filled(least, most)
     }
-}
-
-/// Whether each candidate is its only clone.
-fn are_apart(clones: &Clones, m: u8) -> bool
-    requires { m ≤ most_candidates }
-    ensures { result ≡ true → AreApart m clones.now }
-{
-    for c in 1..m + 1 {
-        let class = clones.class(c);
-        if class.len() != 1 {
-            return false;
-        }
-    }
-    true
 }
 
 /// Whether each of the sets has k members.
@@ -165,99 +190,4 @@ fn all_have(sets: &[CandSet], k: u8) -> bool
         }
     }
     true
-}
-
-/// Whether some family has the committee.
-fn is_in_some(
-    clones: &Clones,
-    m: u8,
-    leasts: &[CandSet],
-    mosts: &[CandSet],
-    committee: CandSet,
-) -> bool
-    requires most { m ≤ most_candidates }
-    requires committee { IsIncreasing 1 m committee }
-    requires leasts { AllByRecursion (λ set. IsIncreasing 1 m set) leasts.now }
-    requires mosts { AllByRecursion (λ set. IsIncreasing 1 m set) mosts.now }
-    ensures { (rows : List Row) → AreClones m rows clones.now
-        → result ≡ list_any (λ family. is_between m rows family.0 family.1 committee) (zip leasts.now mosts.now) }
-{
-    for (least, most) in leasts.iter().zip(mosts) {
-        if is_between(clones, m, *least, *most, committee) {
-            return true;
-        }
-    }
-    false
-}
-
-/// Whether some family has a committee of the set and of `left` of the candidates after c.
-fn may_be_in_some(
-    clones: &Clones,
-    m: u8,
-    leasts: &[CandSet],
-    mosts: &[CandSet],
-    c: u8,
-    set: CandSet,
-    left: u8,
-) -> bool
-    requires most { m ≤ most_candidates }
-    requires within { c ≤ m }
-    requires set { IsIncreasing 1 c set }
-    requires fits { left ≤ m - c }
-    requires leasts { AllByRecursion (λ set. IsIncreasing 1 m set) leasts.now }
-    requires mosts { AllByRecursion (λ set. IsIncreasing 1 m set) mosts.now }
-    ensures { (rows : List Row) → AreClones m rows clones.now
-        → result ≡ list_any (may_be_in m rows c set left) (zip leasts.now mosts.now) }
-{
-    for (least, most) in leasts.iter().zip(mosts) {
-        if may_be_in(clones, m, *least, *most, c, set, left) {
-            return true;
-        }
-    }
-    false
-}
-
-/// Whether the family of two sets has a committee of this set and of `left` of the candidates after c. Those of them
-/// that are needed to have as many of each class as the least are no more than `left`, and those that the most has room
-/// for are no fewer.
-fn may_be_in(
-    clones: &Clones,
-    m: u8,
-    least: CandSet,
-    most: CandSet,
-    c: u8,
-    set: CandSet,
-    left: u8,
-) -> bool
-    requires candidates { m ≤ most_candidates }
-    requires least { IsIncreasing 1 m least }
-    requires most { IsIncreasing 1 m most }
-    requires within { c ≤ m }
-    requires set { IsIncreasing 1 c set }
-    requires fits { left ≤ m - c }
-    ensures { (rows : List Row) → AreClones m rows clones.now → result ≡ may_be_in m rows c set left (least, most) }
-{
-    let all = completed(clones, c, m, set, least);
-    let size = set.len() + left;
-    all.len() <= size
-        && is_between(clones, m, least, most, all)
-        && size <= completed(clones, c, m, set, most).len()
-}
-
-/// The least set of a family with the first of those whom the most has beside it, as many as make k members.
-fn filled(least: CandSet, most: CandSet, m: u8, k: u8) -> Option<CandSet>
-    requires candidates { m ≤ most_candidates }
-    requires least { IsIncreasing 1 m least }
-    requires most { IsIncreasing 1 m most }
-    ensures { MatchOption result ⊤ (λ filled. IsIncreasing 1 m filled × (length filled ≡ k)) }
-{
-    if least.len() > k {
-        return None;
-    }
-    let mut filled = least;
-    while filled.len() < k {
-        let (next, _others) = most.minus(filled).split_first()?;
-        filled = filled.with(next);
-    }
-    Some(filled)
 }

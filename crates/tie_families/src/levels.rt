@@ -17,11 +17,9 @@ ghost use Rattle.std.specs.Prelude.{◌≡◌, ℕ, ◌^◌, ◌<◌, ◌≤◌,
 ghost use Rattle.std.specs.List.{AllByRecursion};
 ghost use Rattle.std.specs.Str.{bytes_eq};
 ghost use Rattle.indexmap.specs.IndexSet.{insert_all};
-ghost use Rattle.ballot_base.specs.Limits.{most_candidates};
 ghost use Rattle.ballot_base.specs.Lists.{IsIncreasing};
-ghost use Rattle.ballot_base.specs.Ballots.{Row};
 ghost use Rattle.tie_walk.specs.Sequences.{hit_weights};
-ghost use Rattle.tie_walk.specs.Steps.Choices.{change, worth, better, worst, open_candidates};
+ghost use Rattle.tie_walk.specs.Steps.Choices.{change, worth};
 ghost use Rattle.ballot_base.specs.Clones.{AreClones};
 ghost use Rattle.tie_families.specs.Steps.Levels.{is_first_open, has_settled, ties, tied_worth, shares_no_voter, end, chosen, family_changes, other_end, IsFalling, IsStrict, IsFamilyLevel, IsNextFamilies, AreFamilies};
 
@@ -35,14 +33,14 @@ use tie_walk::sequential::{Step, best_worth, hit_weights, put_in_order, worths};
 /// The families of a level that were found so far, each once.
 type FoundFamilies<A> = IndexSet<CandSet, BuildHasherDefault<FoldHasher>, A>;
 
-/// Families, each as the least and the most that its committees have of each class of clones.
+/// Families: each has a least and a most set, which bound the members of each class of clones in its committees.
 #[derive(Drop)]
 pub(crate) struct Spans<A: Allocator + Copy> {
     pub(crate) leasts: Vec<CandSet, A>,
     pub(crate) mosts: Vec<CandSet, A>,
 }
 
-/// Whether none of the candidates below c may be chosen whom the set of clones has.
+/// Whether none of the clones below `c` may be chosen.
 fn is_first_open(step: Step, clones: CandSet, set: CandSet, c: u8) -> bool
     ensures { result ≡ is_first_open step clones set c }
 {
@@ -54,7 +52,7 @@ fn is_first_open(step: Step, clones: CandSet, set: CandSet, c: u8) -> bool
     true
 }
 
-/// Whether nobody outside a set brings anything, where this is the best worth.
+/// Whether no candidate adds anything to a set, given the best worth.
 fn is_settled(step: Step, best: u128) -> bool
     ensures { result ≡ has_settled step best }
 {
@@ -62,33 +60,6 @@ fn is_settled(step: Step, best: u128) -> bool
         Step::Grow => best == 0,
         Step::Shrink => false,
     }
-}
-
-/// Those who are chosen next, where this is the best worth: of clones who tie, the first one.
-fn ties(
-    step: Step,
-    m: u8,
-    worths: &[u128; PLACES],
-    best: u128,
-    clones: &Clones,
-    set: CandSet,
-) -> CandSet
-    requires { m ≤ most_candidates }
-    ensures { (weights : List ℕ) (rows : List Row)
-        → ((c : ℕ) → slice_index worths.now c ≡ worth step weights rows set c) → AreClones m rows clones.now
-        → best ≡ fold (better step) (worst step) (map (λ c. slice_index worths.now c) (open_candidates step m set))
-        → result ≡ ties step weights m rows set }
-{
-    let mut ties = CandSet::empty();
-    for c in 1..m + 1 {
-        if step.may_choose(set, c)
-            && worths[usize::from(c)] == best
-            && is_first_open(step, clones.class(c), set, c)
-        {
-            ties = ties.with(c);
-        }
-    }
-    ties
 }
 
 /// Whether no voter approves two of the candidates.
@@ -117,52 +88,6 @@ fn after_all(step: Step, set: CandSet, choices: CandSet) -> CandSet
     after
 }
 
-/// The set that all choices lead to where they may be made in any order; who ties is known, and the best worth.
-fn end<A: Allocator + Copy>(
-    profile: &Profile<A>,
-    step: Step,
-    best: u128,
-    set: CandSet,
-    tied: CandSet,
-) -> Option<CandSet>
-    ensures { (weights : List ℕ) → best ≡ tied_worth step weights profile.now.m profile.now.rows set
-        → (has_settled step best ≡ false → tied ≡ ties step weights profile.now.m profile.now.rows set)
-        → result ≡ end step weights profile.now.m profile.now.rows set }
-{
-    if is_settled(step, best) {
-        return Some(CandSet::all(profile.m()));
-    }
-    if best > 0 && tied.len() >= 2 && shares_no_voter(profile, tied) {
-        return Some(after_all(step, set, tied));
-    }
-    None
-}
-
-/// The set that all choices lead to where they may be made in any order, and who is chosen next where there is none.
-fn ties_and_end<A: Allocator + Copy>(
-    profile: &Profile<A>,
-    step: Step,
-    weights: &[u128],
-    clones: &Clones,
-    set: CandSet,
-) -> (CandSet, Option<CandSet>)
-    requires weights { (j : ℕ) → slice_index weights.now j < 2 ^ 90 }
-    requires clones { AreClones profile.now.m profile.now.rows clones.now }
-    ensures ties { result.1 ≡ None → result.0 ≡ ties step weights.now profile.now.m profile.now.rows set }
-    ensures end { result.1 ≡ end step weights.now profile.now.m profile.now.rows set }
-{
-    let m = profile.m();
-    let totals = worths(profile, step, weights, set);
-    let best = best_worth(step, m, &totals, set);
-    let tied = if is_settled(step, best) {
-        CandSet::empty()
-    } else {
-        ties(step, m, &totals, best, clones, set)
-    };
-    let end = end(profile, step, best, set, tied);
-    (tied, end)
-}
-
 /// How many choices lead to a set.
 fn chosen(step: Step, m: u8, set: CandSet) -> u8
     requires { length set ≤ m }
@@ -174,33 +99,7 @@ fn chosen(step: Step, m: u8, set: CandSet) -> u8
     }
 }
 
-/// Adds the families that follow a set where so many choices were made, those that are not there yet.
-fn insert_changes<A: Allocator + Copy, B: Allocator + Copy>(
-    next: &mut FoundFamilies<A>,
-    profile: &Profile<B>,
-    step: Step,
-    weights: &[u128],
-    clones: &Clones,
-    size: u8,
-    set: CandSet,
-) -> Result<(), AllocError>
-    requires weights { (j : ℕ) → slice_index weights.now j < 2 ^ 90 }
-    requires clones { AreClones profile.now.m profile.now.rows clones.now }
-    requires set { IsIncreasing 1 profile.now.m set }
-    requires size { size < profile.now.m }
-    ensures { OnOk result (next.new.keys ≡ insert_all bytes_eq next.old.keys
-        (family_changes step weights.now profile.now.m profile.now.rows size set)) }
-{
-    let (tied, end) = ties_and_end(profile, step, weights, clones, set);
-    if let Some(last) = end {
-        let is_over = chosen(step, profile.m(), last) <= size + 1;
-        next.insert(if is_over { last } else { set })?;
-        return Ok(());
-    }
-    insert_each(next, step, set, tied)
-}
-
-/// Adds the sets that each of these choices makes of a set, those that are not there yet.
+/// Adds the sets that these choices make of a set, one choice each, except those that were found before.
 fn insert_each<A: Allocator + Copy>(
     next: &mut FoundFamilies<A>,
     step: Step,
@@ -218,104 +117,167 @@ fn insert_each<A: Allocator + Copy>(
     Ok(())
 }
 
-/// The families that follow those of a level where so many choices were made.
-fn next_level<A: Allocator + Copy + Drop, B: Allocator + Copy>(
-    alloc: A,
-    profile: &Profile<B>,
+/// A sequential rule on a profile, followed level by level: level `n` has the families that `n` choices make.
+#[derive(Drop)]
+struct Levels<'a, A: Allocator + Copy> {
+    profile: &'a Profile<A>,
+    clones: &'a Clones,
     step: Step,
-    weights: &[u128],
-    clones: &Clones,
-    size: u8,
-    level: &[CandSet],
-) -> Result<Vec<CandSet, A>, AllocError>
-    requires weights { (j : ℕ) → slice_index weights.now j < 2 ^ 90 }
-    requires clones { AreClones profile.now.m profile.now.rows clones.now }
-    requires size { size < profile.now.m }
-    requires sets { AllByRecursion (λ set. IsIncreasing 1 profile.now.m set) level.now }
-    ensures { IfOk result (λ next.
-        IsNextFamilies step weights.now profile.now.m profile.now.rows size level.now next.items) }
-{
-    let mut found = IndexSet::new(alloc);
-    for set in level {
-        insert_changes(&mut found, profile, step, weights, clones, size, *set)?;
-    }
-    let mut next = Vec::from_slice(alloc, found.as_slice())?;
-    put_in_order(&mut next);
-    Ok(next)
+    weights: &'a [u128],
+    ghost classes: { AreClones profile.now.m profile.now.rows clones.now },
+    ghost small: { (j : ℕ) → slice_index weights.now j < 2 ^ 90 },
+    ghost falling: { IsFalling weights.now },
+    ghost strict: { IsStrict weights.now },
 }
 
-/// The families that so many choices make.
-fn reached_families<A: Allocator + Copy + Drop, B: Allocator + Copy>(
-    alloc: A,
-    profile: &Profile<B>,
-    step: Step,
-    weights: &[u128],
-    clones: &Clones,
-    choices: u8,
-) -> Result<Vec<CandSet, A>, AllocError>
-    requires weights { (j : ℕ) → slice_index weights.now j < 2 ^ 90 }
-    requires falling { IsFalling weights.now }
-    requires strict { IsStrict weights.now }
-    requires clones { AreClones profile.now.m profile.now.rows clones.now }
-    requires fits { choices ≤ profile.now.m }
-    ensures { IfOk result (λ sets.
-        IsFamilyLevel step weights.now profile.now.m profile.now.rows choices sets.items) }
-{
-    let mut level = Vec::new(alloc);
-    level.push(step.start(profile.m()))?;
-    for done in 0..choices {
-        level = next_level(alloc, profile, step, weights, clones, done, &level)?;
+impl<A: Allocator + Copy> Levels<'_, A> {
+    /// The candidates who may be chosen next, given the worth of each candidate and the best worth. Of clones who tie,
+    /// only the first is among them.
+    fn ties(&self, worths: &[u128; PLACES], best: u128, set: CandSet) -> CandSet
+        requires worths { (c : ℕ)
+            → slice_index worths.now c ≡ worth self.now.step self.now.weights.now self.now.profile.now.rows set c }
+        requires best { best ≡ tied_worth
+            self.now.step self.now.weights.now self.now.profile.now.m self.now.profile.now.rows set }
+        ensures { result ≡ ties
+            self.now.step self.now.weights.now self.now.profile.now.m self.now.profile.now.rows set }
+    {
+        let mut ties = CandSet::empty();
+        for c in 1..self.profile.m() + 1 {
+            if self.step.may_choose(set, c)
+                && worths[usize::from(c)] == best
+                && is_first_open(self.step, self.clones.class(c), set, c)
+            {
+                ties = ties.with(c);
+            }
+        }
+        ties
     }
-    Ok(level)
+
+    /// The set that all choices lead to if they may be made in any order, given the best worth and the candidates who
+    /// tie for it.
+    fn end(&self, best: u128, set: CandSet, tied: CandSet) -> Option<CandSet>
+        requires best { best ≡ tied_worth
+            self.now.step self.now.weights.now self.now.profile.now.m self.now.profile.now.rows set }
+        requires tied { has_settled self.now.step best ≡ false → tied ≡ ties
+            self.now.step self.now.weights.now self.now.profile.now.m self.now.profile.now.rows set }
+        ensures { result ≡ end
+            self.now.step self.now.weights.now self.now.profile.now.m self.now.profile.now.rows set }
+    {
+        if is_settled(self.step, best) {
+            return Some(CandSet::all(self.profile.m()));
+        }
+        if best > 0 && tied.len() >= 2 && shares_no_voter(self.profile, tied) {
+            return Some(after_all(self.step, set, tied));
+        }
+        None
+    }
+
+    /// The set that all choices lead to if they may be made in any order. If there is no such set, the candidates who
+    /// may be chosen next are returned as well.
+    fn ties_and_end(&self, set: CandSet) -> (CandSet, Option<CandSet>)
+        ensures ties { result.1 ≡ None → result.0 ≡ ties
+            self.now.step self.now.weights.now self.now.profile.now.m self.now.profile.now.rows set }
+        ensures end { result.1 ≡ end
+            self.now.step self.now.weights.now self.now.profile.now.m self.now.profile.now.rows set }
+    {
+        let totals = worths(self.profile, self.step, self.weights, set);
+        let best = best_worth(self.step, self.profile.m(), &totals, set);
+        let tied = if is_settled(self.step, best) {
+            CandSet::empty()
+        } else {
+            self.ties(&totals, best, set)
+        };
+        (tied, self.end(best, set, tied))
+    }
+
+    /// Adds the families that follow a set of level `size`, except those that were found before.
+    fn insert_changes(
+        &self,
+        next: &mut FoundFamilies<A>,
+        size: u8,
+        set: CandSet,
+    ) -> Result<(), AllocError>
+        requires set { IsIncreasing 1 self.now.profile.now.m set }
+        requires size { size < self.now.profile.now.m }
+        ensures { OnOk result (next.new.keys ≡ insert_all bytes_eq next.old.keys (family_changes
+            self.now.step self.now.weights.now self.now.profile.now.m self.now.profile.now.rows size set)) }
+    {
+        let (tied, end) = self.ties_and_end(set);
+        if let Some(last) = end {
+            let is_over = chosen(self.step, self.profile.m(), last) <= size + 1;
+            next.insert(if is_over { last } else { set })?;
+            return Ok(());
+        }
+        insert_each(next, self.step, set, tied)
+    }
+
+    /// The other end of a family of committees of size `k`: its set if that has size `k`, and otherwise its `end`.
+    fn other_end(&self, k: u8, set: CandSet) -> CandSet
+        ensures { result ≡ other_end
+            self.now.step self.now.weights.now self.now.profile.now.m self.now.profile.now.rows k set }
+    {
+        if set.len() == k {
+            return set;
+        }
+        let (_ties, end) = self.ties_and_end(set);
+        end.unwrap_or(set)
+    }
 }
 
-/// Where a family of the committees of k ends on the other side: at its set, where that has k members.
-fn other_end<A: Allocator + Copy>(
+impl<A: Allocator + Copy + Drop> Levels<'_, A> {
+    /// The level after level `size`.
+    fn next_level(
+        &self,
+        alloc: A,
+        size: u8,
+        level: &[CandSet],
+    ) -> Result<Vec<CandSet, A>, AllocError>
+        requires size { size < self.now.profile.now.m }
+        requires sets { AllByRecursion (λ set. IsIncreasing 1 self.now.profile.now.m set) level.now }
+        ensures { IfOk result (λ next. IsNextFamilies self.now.step self.now.weights.now
+            self.now.profile.now.m self.now.profile.now.rows size level.now next.items) }
+    {
+        let mut found = IndexSet::new(alloc);
+        for set in level {
+            self.insert_changes(&mut found, size, *set)?;
+        }
+        let mut next = Vec::from_slice(alloc, found.as_slice())?;
+        put_in_order(&mut next);
+        Ok(next)
+    }
+
+    /// The level after this many choices.
+    fn reached_families(&self, alloc: A, choices: u8) -> Result<Vec<CandSet, A>, AllocError>
+        requires { choices ≤ self.now.profile.now.m }
+        ensures { IfOk result (λ sets. IsFamilyLevel
+            self.now.step self.now.weights.now self.now.profile.now.m self.now.profile.now.rows choices sets.items) }
+    {
+        let mut level = Vec::new(alloc);
+        level.push(self.step.start(self.profile.m()))?;
+        for done in 0..choices {
+            level = self.next_level(alloc, done, &level)?;
+        }
+        Ok(level)
+    }
+
+    /// The other ends of families, in order.
+    fn other_ends(&self, alloc: A, k: u8, sets: &[CandSet]) -> Result<Vec<CandSet, A>, AllocError>
+        ensures { IfOk result (λ ends. ends.items ≡ map (other_end
+            self.now.step self.now.weights.now self.now.profile.now.m self.now.profile.now.rows k) sets.now) }
+    {
+        let mut ends = Vec::with_capacity(alloc, sets.len())?;
+        for set in sets {
+            ends.push(self.other_end(k, *set))?;
+        }
+        Ok(ends)
+    }
+}
+
+/// The families of the committees of size `k` that some sequence of choices makes. They are in lexicographic order if
+/// every least set has size `k`.
+pub(crate) fn families_of<A: Allocator + Copy + Drop>(
+    alloc: A,
     profile: &Profile<A>,
-    step: Step,
-    weights: &[u128],
-    clones: &Clones,
-    k: u8,
-    set: CandSet,
-) -> CandSet
-    requires weights { (j : ℕ) → slice_index weights.now j < 2 ^ 90 }
-    requires clones { AreClones profile.now.m profile.now.rows clones.now }
-    ensures { result ≡ other_end step weights.now profile.now.m profile.now.rows k set }
-{
-    if set.len() == k {
-        return set;
-    }
-    let (_ties, end) = ties_and_end(profile, step, weights, clones, set);
-    end.unwrap_or(set)
-}
-
-/// The other ends of families, in order.
-fn other_ends<A: Allocator + Copy + Drop, B: Allocator + Copy>(
-    alloc: A,
-    profile: &Profile<B>,
-    step: Step,
-    weights: &[u128],
-    clones: &Clones,
-    k: u8,
-    sets: &[CandSet],
-) -> Result<Vec<CandSet, A>, AllocError>
-    requires weights { (j : ℕ) → slice_index weights.now j < 2 ^ 90 }
-    requires clones { AreClones profile.now.m profile.now.rows clones.now }
-    ensures { IfOk result (λ ends.
-        ends.items ≡ map (other_end step weights.now profile.now.m profile.now.rows k) sets.now) }
-{
-    let mut ends = Vec::with_capacity(alloc, sets.len())?;
-    for set in sets {
-        ends.push(other_end(profile, step, weights, clones, k, *set))?;
-    }
-    Ok(ends)
-}
-
-/// The families of the committees of k that some sequence of choices makes, in lexicographic order where each has a
-/// least set of k members.
-pub(crate) fn families_of<A: Allocator + Copy + Drop, B: Allocator + Copy>(
-    alloc: A,
-    profile: &Profile<B>,
     rule: SeqRule,
     k: u8,
     clones: &Clones,
@@ -326,11 +288,15 @@ pub(crate) fn families_of<A: Allocator + Copy + Drop, B: Allocator + Copy>(
 {
     let m = profile.m();
     let weights = hit_weights(rule, m);
-    let weights = &weights[..usize::from(m)];
-    let choices = rule.choices(m, k);
     let step = rule.step();
-    let sets = reached_families(alloc, profile, step, weights, clones, choices)?;
-    let ends = other_ends(alloc, profile, step, weights, clones, k, &sets)?;
+    let levels = Levels {
+        profile,
+        clones,
+        step,
+        weights: &weights[..usize::from(m)],
+    };
+    let sets = levels.reached_families(alloc, rule.choices(m, k))?;
+    let ends = levels.other_ends(alloc, k, &sets)?;
     Ok(match step {
         Step::Grow => Spans {
             leasts: sets,

@@ -7,29 +7,16 @@ use Rattle.tie_families.proofs.FamilyLemmas.{hit_weights-strict, last-families, 
 use Rattle.tie_families.proofs.levels.families_of.Goals as goal
 use Rattle.tie_families.proofs.levels.families_of.Goals.{in-Grow, in-Shrink}
 
-pub reached_families-requires-clause-weights : goal.reached_families-requires-clause-weights
-reached_families-requires-clause-weights g c =
+pub invariant_of-levels : goal.invariant_of-levels
+invariant_of-levels g c =
     let m = c.m-m.result in
     let are : take c.from.result c.hit_weights-weights.result ≡ hit_weights c.args.rule m = ap (λ n. take n c.hit_weights-weights.result) c.from.ensures ∙ c.hit_weights-weights.ensures in
-    λ j. omega (arith, ap (λ l. get_or l j 0) are, hit_weights-small c.args.rule m j (omega (arith, c.m-m.ensures.value, c.m-m.ensures.valid.most)))
-
-pub reached_families-requires-clause-falling : goal.reached_families-requires-clause-falling
-reached_families-requires-clause-falling g c =
-    let m = c.m-m.result in
-    let are : take c.from.result c.hit_weights-weights.result ≡ hit_weights c.args.rule m = ap (λ n. take n c.hit_weights-weights.result) c.from.ensures ∙ c.hit_weights-weights.ensures in
-    subst IsFalling (sym are) (hit_weights-fall c.args.rule m)
-
-pub reached_families-requires-clause-strict : goal.reached_families-requires-clause-strict
-reached_families-requires-clause-strict g c =
-    let m = c.m-m.result in
-    let are : take c.from.result c.hit_weights-weights.result ≡ hit_weights c.args.rule m = ap (λ n. take n c.hit_weights-weights.result) c.from.ensures ∙ c.hit_weights-weights.ensures in
-    subst IsStrict (sym are) (hit_weights-strict c.args.rule m)
-
-pub other_ends-requires-clause-weights : goal.other_ends-requires-clause-weights
-other_ends-requires-clause-weights g c =
-    let m = c.m-m.result in
-    let are : take c.from.result c.hit_weights-weights.result ≡ hit_weights c.args.rule m = ap (λ n. take n c.hit_weights-weights.result) c.from.ensures ∙ c.hit_weights-weights.ensures in
-    λ j. omega (arith, ap (λ l. get_or l j 0) are, hit_weights-small c.args.rule m j (omega (arith, c.m-m.ensures.value, c.m-m.ensures.valid.most)))
+    record {
+      classes = c.requires.clones;
+      small = λ j. omega (arith, ap (λ l. get_or l j 0) are, hit_weights-small c.args.rule m j (omega (arith, c.m-m.ensures.value, c.m-m.ensures.valid.most)));
+      falling = subst IsFalling (sym are) (hit_weights-fall c.args.rule m);
+      strict = subst IsStrict (sym are) (hit_weights-strict c.args.rule m);
+    }
 
 pub returns : goal.returns
 returns g c =
@@ -42,8 +29,8 @@ returns g c =
     let ends = c.in_ok-ends.ends.items in
     let ends-are : ends ≡ map (other_end step weights e.m e.rows c.args.k) sets = c.in_ok-ends.ensures ∙ ap (map (other_end step weights e.m e.rows c.args.k)) c.deref.ensures.value in
     let all : AreFamilies rule e c.args.k (leasts_of step sets ends) (mosts_of step sets ends) =
-    last-families rule e c.args.k c.m-m.result c.choices-choices.result step (take c.m-m.result table) weights sets ends
-    c.requires.fits c.m-m.ensures.valid.ballots c.m-m.ensures.value c.step-step.ensures c.choices-choices.ensures c.hit_weights-weights.ensures (ap (λ n. take n table) c.from.ensures) c.in_ok-sets.ensures ends-are in
+    last-families rule e c.args.k c.m-m.result c.choices.result step (take c.m-m.result table) weights sets ends
+    c.requires.fits c.m-m.ensures.valid.ballots c.m-m.ensures.value c.step-step.ensures c.choices.ensures c.hit_weights-weights.ensures (ap (λ n. take n table) c.from.ensures) c.in_ok-sets.ensures ends-are in
     elim c.match-step.branch [
       | in-Grow w ↦ rw w.result-is (subst (λ s. AreFamilies rule e c.args.k (leasts_of s sets ends) (mosts_of s sets ends)) w.in-Grow.is all)
       | in-Shrink w ↦ rw w.result-is (subst (λ s. AreFamilies rule e c.args.k (leasts_of s sets ends) (mosts_of s sets ends)) w.in-Shrink.is all)
