@@ -21,7 +21,7 @@ use Rattle.tie_walk.specs.Sequences.{gain, weight, supporters}
 use Rattle.tie_walk.specs.Values.{Thiele}
 use Rattle.tie_search.proofs.PriceLemmas.{hits-turned}
 use Rattle.tie_search.proofs.SearchLemmas.{rest-increasing}
-use Rattle.tie_search.specs.Steps.Columns.{block_voters, total, voter_ballot, given, word_before, IsBlock, AreByHits, AreColumns, AreColumnsOf, AreRising, voters_of}
+use Rattle.tie_search.specs.Steps.Columns.{block_voters, total, shared, voter_ballot, given, word_before, IsBlock, AreByHits, AreColumns, AreColumnsOf, AreRising, voters_of}
 
 -- ---- sums over the first numbers
 
@@ -72,6 +72,11 @@ total-add f (suc a) b =
       total-add (λ i. f (suc i)) a b,
       total-same (λ i. f (suc (a + i))) (λ i. f (suc a + i)) b (λ i low. ap f (let z : suc (a + i) ≡ suc a + i = omega arith in z)),
     )
+
+-- a number more
+pub total-last : (f : ℕ → ℕ) (n : ℕ) → total f (n + 1) ≡ total f n + f n
+unfolding total
+total-last f n = omega (arith, total-add f n 1, ap f (let z : n + 0 ≡ n = omega arith in z))
 
 -- the sum over all voters, and over so many places that all have one
 pub total-voters : (f : List ℕ → ℕ) → f [] ≡ 0 → (ballots : List (List ℕ)) (n : ℕ) → length ballots ≤ n
@@ -205,14 +210,14 @@ module _ (ballot_at : ℕ → List ℕ) (block : List ℕ) (holds : IsBlock ball
       nothing true x = ap (λ b. cond b (get_or weights x 0) 0) (le-ltb x 0 (omega arith))
 
   -- the voters with one number of hits more
-  pub given-more : (words : List ℕ) (h levels : ℕ) → AreByHits ballot_at set levels words → h < levels → get_or block c 0 < 2 ^ 64
+  pub given-more : (words : List ℕ) (h levels : ℕ) → AreByHits ballot_at set levels words → h < levels
       → total (λ i. given_below weights set c (h + 1) (ballot_at i)) block_voters
-      ≡ total (λ i. given_below weights set c h (ballot_at i)) block_voters + get_or weights h 0 * count_ones (bit_and (get_or block c 0) (get_or words h 0))
-  given-more words h levels counted low fits =
+      ≡ total (λ i. given_below weights set c h (ballot_at i)) block_voters + get_or weights h 0 * shared (get_or block c 0) (get_or words h 0)
+  given-more words h levels counted low =
       total-same (λ i. given_below weights set c (h + 1) (ballot_at i)) (λ i. given_below weights set c h (ballot_at i) + get_or weights h 0 * common i) block_voters here
       ∙ total-plus (λ i. given_below weights set c h (ballot_at i)) (λ i. get_or weights h 0 * common i) block_voters
       ∙ ap (λ n. total (λ i. given_below weights set c h (ballot_at i)) block_voters + n)
-      (total-times (get_or weights h 0) common block_voters ∙ ap (λ n. get_or weights h 0 * n) (sym (ones-common (get_or block c 0) (get_or words h 0) fits)))
+      (total-times (get_or weights h 0) common block_voters)
     where
       common : ℕ → ℕ
       common i = min (bit_at (get_or block c 0) i) (bit_at (get_or words h 0) i)
@@ -223,16 +228,29 @@ module _ (ballot_at : ℕ → List ℕ) (block : List ℕ) (holds : IsBlock ball
           ∙ ap (λ n. given_below weights set c h (ballot_at i) + get_or weights h 0 * n)
           (sym (ap (λ n. min n (bit_at (get_or words h 0) i)) (holds.approves c i within) ∙ ap (λ n. min (cond (has_member (ballot_at i) c) 1 0) n) (counted h i low within)))
 
-  pub given-whole : (levels : ℕ) → ((j : ℕ) → levels ≤ j → get_or weights j 0 ≡ 0)
+  -- the voters with so many hits and fewer
+  pub given-sum : (words : List ℕ) (levels n : ℕ) → AreByHits ballot_at set levels words → n ≤ levels
+      → total (λ h. get_or weights h 0 * shared (get_or block c 0) (get_or words h 0)) n
+      ≡ total (λ i. given_below weights set c n (ballot_at i)) block_voters
+  given-sum words levels zero counted most =
+      total-zero (λ h. get_or weights h 0 * shared (get_or block c 0) (get_or words h 0)) ∙ sym given-begin
+  given-sum words levels (suc n) counted most =
+      let f : ℕ → ℕ = λ h. get_or weights h 0 * shared (get_or block c 0) (get_or words h 0) in
+      ap (total f) (sym (add-one n)) ∙ total-last f n
+      ∙ ap (λ x. x + f n) (given-sum words levels n counted (omega (arith, most)))
+      ∙ sym (given-more words n levels counted (omega (arith, most)))
+      ∙ ap (λ h. total (λ i. given_below weights set c h (ballot_at i)) block_voters) (add-one n)
+
+  pub given-whole : (levels : ℕ) → ((i : ℕ) → levels ≤ hits (ballot_at i) set → get_or weights (hits (ballot_at i) set) 0 ≡ 0)
       → total (λ i. given_below weights set c levels (ballot_at i)) block_voters ≡ total (λ i. given weights set c (ballot_at i)) block_voters
   given-whole levels end =
       total-same (λ i. given_below weights set c levels (ballot_at i)) (λ i. given weights set c (ballot_at i)) block_voters
-      (λ i low. ap (λ n. cond (has_member (ballot_at i) c) n 0) (all (hits (ballot_at i) set)))
+      (λ i low. ap (λ n. cond (has_member (ballot_at i) c) n 0) (all (hits (ballot_at i) set) (end i)))
     where
-      all : (x : ℕ) → cond (nat_lt x levels) (get_or weights x 0) 0 ≡ get_or weights x 0
-      all x = elim (cases_lt x levels) [
+      all : (x : ℕ) → (levels ≤ x → get_or weights x 0 ≡ 0) → cond (nat_lt x levels) (get_or weights x 0) 0 ≡ get_or weights x 0
+      all x none = elim (cases_lt x levels) [
         | inl below ↦ ap (λ b. cond b (get_or weights x 0) 0) (lt-ltb x levels below)
-        | inr above ↦ ap (λ b. cond b (get_or weights x 0) 0) (le-ltb x levels above) ∙ sym (end x above)
+        | inr above ↦ ap (λ b. cond b (get_or weights x 0) 0) (le-ltb x levels above) ∙ sym (none above)
       ]
 
 -- ---- voters one after another

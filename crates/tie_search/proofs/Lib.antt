@@ -2,6 +2,7 @@ pub mod CloneLemmas
 pub mod ColumnLemmas
 pub mod CompletionLemmas
 mod Examples
+pub mod KeptLemmas
 pub mod LiveLemmas
 mod NearClones
 pub mod NeedLemmas

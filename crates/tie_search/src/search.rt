@@ -92,8 +92,9 @@ impl<A: Allocator + Copy> Search<'_, A> {
         ) {
             let next = order.first_of(rest)?;
             let others = rest.without(next);
-            let more = value + gains[usize::from(next)];
-            let found = self.descend(set.with(next), more, others, left - 1);
+            let gain = gains[usize::from(next)];
+            let kept = promising(&gains, &order, others, left - 1, needed.saturating_sub(gain));
+            let found = self.descend(set.with(next), value + gain, kept, left - 1);
             if let Some(committee) = found {
                 return Some(committee);
             }
@@ -124,9 +125,8 @@ impl<A: Allocator + Copy> Search<'_, A> {
         ensures small { (n : ℕ) → slice_index result n ≤ 2 ^ 116 }
     {
         self.tally.valid();
-        free.valid();
         match &self.aids.columns {
-            Some(columns) => widened(&columns.gains(set)),
+            Some(columns) => widened(&columns.gains_of(set, free)),
             None => self.tally.value_and_gains(set, free).1,
         }
     }
@@ -197,6 +197,48 @@ pub(crate) fn may_reach(
 {
     let more = excess(gains, free, threshold);
     left <= free.len() && needed <= u128::from(left) * threshold + more
+}
+
+/// Those of the free candidates who can be among `left` of them whose gains make up what is needed. A set gains by a
+/// candidate no more after others joined it, so nobody else completes the set with the gains known here.
+fn promising(
+    gains: &[u128; PLACES],
+    order: &Order,
+    free: CandSet,
+    left: u8,
+    needed: u128,
+) -> CandSet
+    requires small { (n : ℕ) → slice_index gains.now n ≤ 2 ^ 116 }
+    ensures within { (m : ℕ) → IsIncreasing 1 m free → IsIncreasing 1 m result }
+    ensures among { (n : ℕ) → has_member result n ≡ true → has_member free n ≡ true }
+    ensures kept { (n : ℕ) → has_member free n ≡ true
+        → ((t : ℕ) → needed ≤ slice_index gains.now n + (left - 1) * t
+            + sum_by (λ x. slice_index gains.now x - t) free)
+        → has_member result n ≡ true }
+{
+    let others = left.saturating_sub(1);
+    let threshold = order.threshold(free, others, gains);
+    let most = u128::from(others) * threshold + excess(gains, free, threshold);
+    at_least(gains, free, needed.saturating_sub(most))
+}
+
+/// The candidates whose worth is at least this.
+fn at_least(worths: &[u128; PLACES], candidates: CandSet, least: u128) -> CandSet
+    ensures within { (m : ℕ) → IsIncreasing 1 m candidates → IsIncreasing 1 m result }
+    ensures among { (n : ℕ) → has_member result n ≡ true → has_member candidates n ≡ true }
+    ensures kept { (n : ℕ) → has_member candidates n ≡ true → least ≤ slice_index worths.now n
+        → has_member result n ≡ true }
+{
+    candidates.valid();
+    let mut kept = candidates;
+    let mut left = candidates;
+    while let Some(parts) = left.split_first() {
+        if worths[usize::from(parts.0)] < least {
+            kept = kept.without(parts.0);
+        }
+        left = parts.1;
+    }
+    kept
 }
 
 /// What the worths of the candidates exceed the threshold by, together.

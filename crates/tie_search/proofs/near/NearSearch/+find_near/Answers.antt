@@ -2,7 +2,7 @@ use Rattle.std.proofs.Common.{◌-◌, ◌≤◌, ◌∙◌, arith, sym}
 use Rattle.ballot_base.specs.CandSet.{with_member, without_member}
 use Rattle.tie_walk.specs.Values.{closeness}
 use Rattle.tie_search.specs.Completions.{IsOpen}
-use Rattle.tie_search.proofs.CompletionLemmas.{member-low, member-high, open-with, without-shorter}
+use Rattle.tie_search.proofs.CompletionLemmas.{member-low, member-high, open-with, without-is, without-shorter}
 use Rattle.tie_search.proofs.SearchLemmas.{found-below, set-reaches}
 use Rattle.tie_search.proofs.CloneLemmas.{class-are, minus-most}
 use Rattle.tie_search.proofs.NearClones.{closeness-exchanged}
@@ -45,8 +45,9 @@ returns-in-Some-found g t c =
     let e = c.args.self.now.profile.now in
     let next = c.in-Some.parts.0 in
     let left = next-tried c.in_ok-choices.choices c.loop-parts.rest c.common.result c.in-Some.parts.1 next c.common.ensures c.in-Some.ensures in
-    found-below (closeness e.m e.rows) e.m c.args.set c.args.left (e.m - c.args.self.now.most) c.args.free c.loop-parts.rest c.in-Some-found.committee next
-    (omega (arith, c.if-left-eq0.false)) c.requires.opened (c.loop-parts.invariant.among next left) c.loop-parts.invariant.among
+    found-below (closeness e.m e.rows) e.m c.args.set c.args.left (e.m - c.args.self.now.most) c.args.free (without_member c.loop-parts.rest next) c.in-Some-found.committee next
+    (omega (arith, c.if-left-eq0.false)) c.requires.opened (c.loop-parts.invariant.among next left)
+    (λ n is. c.loop-parts.invariant.among n (without-is c.loop-parts.rest next n is))
     (rw (c.with.ensures, c.without-others.ensures) at c.in-Some-found.ensures)
 
 pub class-requires : goal.class-requires
