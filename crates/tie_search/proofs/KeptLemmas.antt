@@ -30,9 +30,9 @@ module _ (value : List ℕ → ℕ) (falls : IsSubmodular value) (same : (xs ys 
   push-twice set x n =
       push-same value falls same (set ++ x ∷ []) n
       ∙ same (with_member (set ++ x ∷ []) n) (with_member (with_member set x) n) (λ y.
-          has_member-with_member (set ++ x ∷ []) n y
-          ∙ ap (λ b. (n == y) || b) (list_any-append (λ z. z == y) set (x ∷ []) ∙ swap (has_member set y) (x == y) ∙ sym (has_member-with_member set x y))
-          ∙ sym (has_member-with_member (with_member set x) n y))
+      has_member-with_member (set ++ x ∷ []) n y
+      ∙ ap (λ b. (n == y) || b) (list_any-append (λ z. z == y) set (x ∷ []) ∙ swap (has_member set y) (x == y) ∙ sym (has_member-with_member set x y))
+      ∙ sym (has_member-with_member (with_member set x) n y))
     where
       swap : (p q : Bool) → (p || (q || false)) ≡ (q || p)
       swap true true = refl
@@ -77,8 +77,8 @@ module _ (tally : Thiele) (set rest : List ℕ) (i left least : ℕ) (gains kept
     (open' : IsOpen tally.election.m set rest) (here : has_member rest i ≡ true)
     (are : (n : ℕ) → has_member rest n ≡ true → get_or gains n 0 ≡ gain (increments tally.rule tally.k) tally.election.rows set n)
     (keeps : (n : ℕ) → has_member (without_member rest i) n ≡ true
-        → ((t : ℕ) → least - tally_value tally set - get_or gains i 0 ≤ get_or gains n 0 + (left - 1) * t + sum_by (λ x. get_or gains x 0 - t) (without_member rest i))
-        → has_member kept n ≡ true) where
+    → ((t : ℕ) → least - tally_value tally set - get_or gains i 0 ≤ get_or gains n 0 + (left - 1) * t + sum_by (λ x. get_or gains x 0 - t) (without_member rest i))
+    → has_member kept n ≡ true) where
   -- each committee that reaches the value is one of those who are kept
   pub kept-left : AreLeft (tally_value tally) tally.election.m (with_member set i) left least (without_member rest i) kept
   kept-left committee whole reaches = record {

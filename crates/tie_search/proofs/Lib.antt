@@ -1,5 +1,6 @@
 pub mod CloneLemmas
 pub mod ColumnLemmas
+pub mod CoverLemmas
 pub mod CompletionLemmas
 mod Examples
 pub mod KeptLemmas

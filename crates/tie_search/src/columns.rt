@@ -2,16 +2,18 @@
 //!
 //! Words that hold the voters with each number of hits are made member by member: those who approve the member move on
 //! by one hit. The gain of a candidate is the sum, over numbers of hits, of the weight times the bits that word and
-//! column share. There are no columns for more than 8,192 voters, more than two voters a row, or weights of 2^44 and
-//! more; then gains come from one pass over the rows.
+//! column share. Only the candidates that are asked for are counted.
+//!
+//! There are no columns for more than 8,192 voters, more than two voters a row, or weights of 2^44 and more; then gains
+//! come from one pass over the rows.
 ghost use Rattle.std.specs.Prelude.{◌≡◌, ℕ, ◌+◌, ◌-◌, ◌*◌, ◌^◌, ◌<◌, ◌≤◌, ◌==◌, ◌&&◌, true, List, [], ◌∷◌, ◌++◌, length, replicate, slice_index, slice_index_or, MatchOption, ⊤, if◌then◌else◌};
 ghost use Rattle.std.specs.Int.{bit_at};
 ghost use Rattle.ballot_base.specs.Limits.{most_candidates, most_members};
 ghost use Rattle.ballot_base.specs.Lists.{IsIncreasing};
-ghost use Rattle.ballot_base.specs.Ballots.{voter_count};
+ghost use Rattle.ballot_base.specs.Ballots.{hits, voter_count};
 ghost use Rattle.ballot_base.specs.CandSet.{has_member};
 ghost use Rattle.tie_walk.specs.Values.{thiele_of};
-ghost use Rattle.tie_search.specs.Steps.Columns.{block_voters, most_blocks, total, shared, given, IsBlock, AreByHits, AreColumns, AreColumnsOf, AreRising, AreWeights, voters_of, voter_ballot, word_before};
+ghost use Rattle.tie_search.specs.Steps.Columns.{block_voters, most_blocks, total, shared, given, approves_some, IsBlock, AreByHits, AreColumns, AreColumnsOf, AreRising, AreWeights, voters_of, voter_ballot, word_before};
 
 use crate::weights::{Weights, small_weights};
 use ballot_base::{CandSet, Increments, PLACES, Profile, ThieleRule};
@@ -67,6 +69,14 @@ fn by_hits(block: &Block, set: CandSet, levels: usize) -> Block
         left = parts.1;
     }
     words
+}
+
+/// Who of a block approve no member of the set.
+fn uncovered(block: &Block, set: CandSet) -> u64
+    ensures { (ballot_at : ℕ → List ℕ) → IsBlock ballot_at block.now → (i : ℕ) → i < block_voters
+        → bit_at result i ≡ (if hits (ballot_at i) set == 0 then 1 else 0) }
+{
+    by_hits(block, set, 1)[0]
 }
 
 /// What the voters of a column give: for each number of hits, the weight times the bits that word and column share.
@@ -200,6 +210,19 @@ impl Columns {
             self.add_block(&mut gains, b, set, among);
         }
         gains
+    }
+
+    /// How many voters approve a member of the set.
+    pub(crate) fn covered(&self, set: CandSet) -> usize
+        requires used { self.now.used ≤ most_blocks }
+        ensures { (ballots : List (List ℕ)) → AreColumns ballots self.now.blocks → AreRising ballots
+            → result ≡ total (λ v. approves_some set (voter_ballot ballots v)) (self.now.used * block_voters) }
+    {
+        let mut covered = 0;
+        for b in 0..self.used {
+            covered += BLOCK_VOTERS - uncovered(&self.blocks[b], set).count_ones() as usize;
+        }
+        covered
     }
 
     /// Adds to the gains of the candidates of `among` what the voters of a block give. No voter has more hits than the

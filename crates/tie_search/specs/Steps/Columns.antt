@@ -39,6 +39,10 @@ shared word other = total (λ i. min (bit_at word i) (bit_at other i)) block_vot
 abbrev pub given : List ℕ → List ℕ → ℕ → List ℕ → ℕ
 given weights set c ballot = if has_member ballot c then slice_index weights (hits ballot set) else 0
 
+-- 1 for a ballot that approves a member of the set, and 0 for the others
+abbrev pub approves_some : List ℕ → List ℕ → ℕ
+approves_some set ballot = min (hits ballot set) 1
+
 -- a block holds who approves each candidate, of so many voters with these ballots
 pub record IsBlock (ballot_at : ℕ → List ℕ) (block : List ℕ) : Type 0 where
   pub rises : (i : ℕ) → IsIncreasing 1 most_candidates (ballot_at i)

@@ -11,7 +11,7 @@ few weight word voters small fits =
     omega (arith, product)
 
 pub loop-h-init : goal.loop-h-init
-loop-h-init c = record { summed = sym (total-zero (λ h. get_or c.args.weights.now h 0 * shared c.args.column (get_or c.args.words.now h 0))); most = omega arith; }
+loop-h-init c = record { summed = sym (total-zero (λ h. get_or c.args.weights.now h 0 * shared c.args.column (get_or c.args.words.now h 0))); most = omega arith }
 
 pub loop-h-preserved : goal.loop-h-preserved
 loop-h-preserved c =

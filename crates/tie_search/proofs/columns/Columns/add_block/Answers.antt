@@ -101,6 +101,6 @@ returns-clause-sum c ballot_at block n in_ =
     given-sum ballot_at (get_or c.args.self.now.blocks c.args.b []) block weights c.args.set n c.by_hits-words.result levels levels (c.by_hits-words.ensures ballot_at block) (omega arith) in
     let whole : total (λ i. given_below weights c.args.set n levels (ballot_at i)) block_voters ≡ total (λ i. given weights c.args.set n (ballot_at i)) block_voters =
     given-whole ballot_at (get_or c.args.self.now.blocks c.args.b []) block weights c.args.set n levels (λ i high.
-        c.requires.weights.end (hits (ballot_at i) c.args.set)
-        (omega (arith, high, c.min-levels.ensures, c.len.ensures.count, hits-most 1 most_candidates 1 most_candidates (ballot_at i) c.args.set (block.rises i) c.valid.ensures))) in
+    c.requires.weights.end (hits (ballot_at i) c.args.set)
+    (omega (arith, high, c.min-levels.ensures, c.len.ensures.count, hits-most 1 most_candidates 1 most_candidates (ballot_at i) c.args.set (block.rises i) c.valid.ensures))) in
     omega (arith, made, summed, whole, ap (λ l. cond (has_member l n) part 0) c.in_default.ensures, ap (λ b. cond b part 0) in_)

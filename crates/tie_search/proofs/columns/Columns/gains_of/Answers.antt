@@ -1,16 +1,8 @@
-use Rattle.std.proofs.Common.{◌≡◌, ℕ, ◌+◌, ◌*◌, ◌<◌, ◌∙◌, List, [], sym, ap, arith, get_or, replicate}
+use Rattle.std.proofs.Common.{◌≡◌, ℕ, ◌+◌, ◌*◌, ◌∙◌, sym, ap, arith, get_or, replicate}
 use Rattle.tie_walk.proofs.WorthLemmas.{no_total}
-use Rattle.tie_search.specs.Steps.Columns.{block_voters, most_blocks, total, given, voter_ballot, AreColumns, AreRising, IsBlock}
-use Rattle.tie_search.proofs.ColumnLemmas.{total-add, total-zero}
+use Rattle.tie_search.specs.Steps.Columns.{block_voters, total, given, voter_ballot}
+use Rattle.tie_search.proofs.ColumnLemmas.{block-at, total-add, total-zero}
 use Rattle.tie_search.proofs.columns.Columns.gains_of.Goals as goal
-
--- one block of all
-block-at : (ballots blocks : List (List ℕ)) (b : ℕ) → b < most_blocks → AreColumns ballots blocks → AreRising ballots
-    → IsBlock (λ i. voter_ballot ballots (b * block_voters + i)) (get_or blocks b [])
-block-at ballots blocks b low held up = record {
-  rises = λ i. up (b * block_voters + i);
-  approves = λ c i within. held b c i low within;
-}
 
 pub loop-b-init : goal.loop-b-init
 loop-b-init c = record {
