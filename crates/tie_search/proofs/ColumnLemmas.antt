@@ -1,7 +1,6 @@
 -- Sums over the voters of a block, bit by bit.
-use Rattle.std.proofs.Common.{◌≡◌, ℕ, zero, suc, ◌+◌, ◌*◌, ◌/◌, ◌%◌, ◌^◌, ◌<◌, ◌≤◌, ◌==◌, ◌∙◌, Bool, true, false, cond, min, nat_lt, ◌&&◌, set, take, drop, replicate, slice_get, Some, List, [], ◌∷◌, ◌++◌, refl, sym, ap, subst, arith, inl, inr, length, sum_by, get_or, add-one, length-append, bit_and}
+use Rattle.std.proofs.Common.{◌≡◌, ℕ, zero, suc, ◌+◌, ◌-◌, ◌*◌, ◌/◌, ◌%◌, ◌^◌, ◌<◌, ◌≤◌, ◌==◌, ◌∙◌, Bool, true, false, cond, min, nat_lt, ◌&&◌, set, take, drop, replicate, slice_get, Some, List, [], ◌∷◌, ◌++◌, refl, sym, ap, subst, arith, inl, inr, length, sum_by, get_or, add-one, length-append, bit_and}
 use Rattle.std.specs.Int.{bit_at}
-use Rattle.std.specs.Int.Bits.{and_zero_r}
 use Rattle.std.specs.Int.Count.{ones-ones}
 use Rattle.std.specs.Int.RustNames.{count_ones}
 use Rattle.std.proofs.lemmas.Bool.{cases_eq, cases_lt, cases_order, eq-eqb, ne_eqb, lt-ltb, le-ltb}
@@ -21,7 +20,7 @@ use Rattle.tie_walk.specs.Sequences.{gain, weight, supporters}
 use Rattle.tie_walk.specs.Values.{Thiele}
 use Rattle.tie_search.proofs.PriceLemmas.{hits-turned}
 use Rattle.tie_search.proofs.SearchLemmas.{rest-increasing}
-use Rattle.tie_search.specs.Steps.Columns.{block_voters, total, voter_ballot, given, word_before, IsBlock, AreByHits, AreColumns, AreColumnsOf, AreRising, voters_of}
+use Rattle.tie_search.specs.Steps.Columns.{block_voters, most_blocks, total, shared, voter_ballot, given, approves_some, word_before, IsBlock, AreByHits, AreColumns, AreColumnsOf, AreRising, voters_of}
 
 -- ---- sums over the first numbers
 
@@ -59,6 +58,11 @@ total-most f most (suc n) small =
     let spread : suc n * most ≡ n * most + most = omega arith in
     omega (arith, spread, small 0, total-most (λ i. f (suc i)) most n (λ i. small (suc i)))
 
+pub total-ones : (n : ℕ) → total (λ i. 1) n ≡ n
+unfolding total
+total-ones zero = refl
+total-ones (suc n) = omega (arith, total-ones n)
+
 pub total-add : (f : ℕ → ℕ) (a b : ℕ) → total f (a + b) ≡ total f a + total (λ i. f (a + i)) b
 unfolding total
 total-add f zero b =
@@ -72,6 +76,11 @@ total-add f (suc a) b =
       total-add (λ i. f (suc i)) a b,
       total-same (λ i. f (suc (a + i))) (λ i. f (suc a + i)) b (λ i low. ap f (let z : suc (a + i) ≡ suc a + i = omega arith in z)),
     )
+
+-- a number more
+pub total-last : (f : ℕ → ℕ) (n : ℕ) → total f (n + 1) ≡ total f n + f n
+unfolding total
+total-last f n = omega (arith, total-add f n 1, ap f (let z : n + 0 ≡ n = omega arith in z))
 
 -- the sum over all voters, and over so many places that all have one
 pub total-voters : (f : List ℕ → ℕ) → f [] ≡ 0 → (ballots : List (List ℕ)) (n : ℕ) → length ballots ≤ n
@@ -121,9 +130,6 @@ pub ones-common : (a b : ℕ) → a < 2 ^ 64 → count_ones (bit_and a b) ≡ to
 ones-common a b small =
     ones-total (bit_and a b) (omega (arith, and_le_l a b, small))
     ∙ total-same (bit_at (bit_and a b)) (λ i. min (bit_at a i) (bit_at b i)) block_voters (λ i low. bit_at_and a b i)
-
-pub ones-none : (a : ℕ) → count_ones (bit_and a 0) ≡ 0
-ones-none a = ap count_ones (and_zero_r a) ∙ ones_bit 0 (omega arith)
 
 -- ---- hits
 
@@ -205,14 +211,14 @@ module _ (ballot_at : ℕ → List ℕ) (block : List ℕ) (holds : IsBlock ball
       nothing true x = ap (λ b. cond b (get_or weights x 0) 0) (le-ltb x 0 (omega arith))
 
   -- the voters with one number of hits more
-  pub given-more : (words : List ℕ) (h levels : ℕ) → AreByHits ballot_at set levels words → h < levels → get_or block c 0 < 2 ^ 64
+  pub given-more : (words : List ℕ) (h levels : ℕ) → AreByHits ballot_at set levels words → h < levels
       → total (λ i. given_below weights set c (h + 1) (ballot_at i)) block_voters
-      ≡ total (λ i. given_below weights set c h (ballot_at i)) block_voters + get_or weights h 0 * count_ones (bit_and (get_or block c 0) (get_or words h 0))
-  given-more words h levels counted low fits =
+      ≡ total (λ i. given_below weights set c h (ballot_at i)) block_voters + get_or weights h 0 * shared (get_or block c 0) (get_or words h 0)
+  given-more words h levels counted low =
       total-same (λ i. given_below weights set c (h + 1) (ballot_at i)) (λ i. given_below weights set c h (ballot_at i) + get_or weights h 0 * common i) block_voters here
       ∙ total-plus (λ i. given_below weights set c h (ballot_at i)) (λ i. get_or weights h 0 * common i) block_voters
       ∙ ap (λ n. total (λ i. given_below weights set c h (ballot_at i)) block_voters + n)
-      (total-times (get_or weights h 0) common block_voters ∙ ap (λ n. get_or weights h 0 * n) (sym (ones-common (get_or block c 0) (get_or words h 0) fits)))
+      (total-times (get_or weights h 0) common block_voters)
     where
       common : ℕ → ℕ
       common i = min (bit_at (get_or block c 0) i) (bit_at (get_or words h 0) i)
@@ -223,17 +229,46 @@ module _ (ballot_at : ℕ → List ℕ) (block : List ℕ) (holds : IsBlock ball
           ∙ ap (λ n. given_below weights set c h (ballot_at i) + get_or weights h 0 * n)
           (sym (ap (λ n. min n (bit_at (get_or words h 0) i)) (holds.approves c i within) ∙ ap (λ n. min (cond (has_member (ballot_at i) c) 1 0) n) (counted h i low within)))
 
-  pub given-whole : (levels : ℕ) → ((j : ℕ) → levels ≤ j → get_or weights j 0 ≡ 0)
+  -- the voters with so many hits and fewer
+  pub given-sum : (words : List ℕ) (levels n : ℕ) → AreByHits ballot_at set levels words → n ≤ levels
+      → total (λ h. get_or weights h 0 * shared (get_or block c 0) (get_or words h 0)) n
+      ≡ total (λ i. given_below weights set c n (ballot_at i)) block_voters
+  given-sum words levels zero counted most =
+      total-zero (λ h. get_or weights h 0 * shared (get_or block c 0) (get_or words h 0)) ∙ sym given-begin
+  given-sum words levels (suc n) counted most =
+      let f : ℕ → ℕ = λ h. get_or weights h 0 * shared (get_or block c 0) (get_or words h 0) in
+      ap (total f) (sym (add-one n)) ∙ total-last f n
+      ∙ ap (λ x. x + f n) (given-sum words levels n counted (omega (arith, most)))
+      ∙ sym (given-more words n levels counted (omega (arith, most)))
+      ∙ ap (λ h. total (λ i. given_below weights set c h (ballot_at i)) block_voters) (add-one n)
+
+  pub given-whole : (levels : ℕ) → ((i : ℕ) → levels ≤ hits (ballot_at i) set → get_or weights (hits (ballot_at i) set) 0 ≡ 0)
       → total (λ i. given_below weights set c levels (ballot_at i)) block_voters ≡ total (λ i. given weights set c (ballot_at i)) block_voters
   given-whole levels end =
       total-same (λ i. given_below weights set c levels (ballot_at i)) (λ i. given weights set c (ballot_at i)) block_voters
-      (λ i low. ap (λ n. cond (has_member (ballot_at i) c) n 0) (all (hits (ballot_at i) set)))
+      (λ i low. ap (λ n. cond (has_member (ballot_at i) c) n 0) (all (hits (ballot_at i) set) (end i)))
     where
-      all : (x : ℕ) → cond (nat_lt x levels) (get_or weights x 0) 0 ≡ get_or weights x 0
-      all x = elim (cases_lt x levels) [
+      all : (x : ℕ) → (levels ≤ x → get_or weights x 0 ≡ 0) → cond (nat_lt x levels) (get_or weights x 0) 0 ≡ get_or weights x 0
+      all x none = elim (cases_lt x levels) [
         | inl below ↦ ap (λ b. cond b (get_or weights x 0) 0) (lt-ltb x levels below)
-        | inr above ↦ ap (λ b. cond b (get_or weights x 0) 0) (le-ltb x levels above) ∙ sym (end x above)
+        | inr above ↦ ap (λ b. cond b (get_or weights x 0) 0) (le-ltb x levels above) ∙ sym (none above)
       ]
+
+-- a voter has no hit, or approves a member
+either : (x : ℕ) → cond (x == 0) 1 0 + min x 1 ≡ 1
+either zero = refl
+either (suc x) = omega (arith, ap (λ b. cond {A = ℕ} b 1 0) (ne_eqb (suc x) 0 (λ e. absurd (omega (arith, e)))))
+
+-- the voters of a block who approve a member are those who have some hit
+pub zeros-some : (word : ℕ) (set : List ℕ) (ballot_at : ℕ → List ℕ) → word < 2 ^ 64
+    → ((i : ℕ) → i < block_voters → bit_at word i ≡ cond (hits (ballot_at i) set == 0) 1 0)
+    → 64 - count_ones word ≡ total (λ i. approves_some set (ballot_at i)) block_voters
+zeros-some word set ballot_at fits none =
+    let all : total (λ i. bit_at word i + approves_some set (ballot_at i)) block_voters ≡ block_voters =
+    total-same (λ i. bit_at word i + approves_some set (ballot_at i)) (λ i. 1) block_voters
+    (λ i low. ap (λ n. n + approves_some set (ballot_at i)) (none i low) ∙ either (hits (ballot_at i) set))
+    ∙ total-ones block_voters in
+    omega (arith, ones-total word fits, all, total-plus (bit_at word) (λ i. approves_some set (ballot_at i)) block_voters)
 
 -- ---- voters one after another
 
@@ -369,3 +404,11 @@ voters-part rows i row at =
       length-append (voters_of (take (i + 1) rows)) (voters_of (drop (i + 1) rows)),
       voters-length rows,
     )
+
+-- one block of all
+pub block-at : (ballots blocks : List (List ℕ)) (b : ℕ) → b < most_blocks → AreColumns ballots blocks → AreRising ballots
+    → IsBlock (λ i. voter_ballot ballots (b * block_voters + i)) (get_or blocks b [])
+block-at ballots blocks b low held up = record {
+  rises = λ i. up (b * block_voters + i);
+  approves = λ c i within. held b c i low within;
+}

@@ -1,7 +1,9 @@
 pub mod CloneLemmas
 pub mod ColumnLemmas
+pub mod CoverLemmas
 pub mod CompletionLemmas
 mod Examples
+pub mod KeptLemmas
 pub mod LiveLemmas
 mod NearClones
 pub mod NeedLemmas

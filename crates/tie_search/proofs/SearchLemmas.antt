@@ -17,7 +17,7 @@ use Rattle.tie_walk.proofs.Gains.{thiele-gain, thiele-most}
 use Rattle.tie_walk.proofs.TableLemmas.{increments_sum-most, sum-take-le}
 use Rattle.tie_walk.proofs.Submodular.{gains-bound, thiele_rule-submodular}
 use Rattle.tie_search.specs.Completions.{IsOpen, IsCompletion, IsReaching, IsOutOfReach, tally_value}
-use Rattle.tie_search.proofs.CompletionLemmas.{added, added-free, added-size, completion-few, completion-members, completion-whole, completion-self, completion-with, completion-without, completion-back, without-is, thiele-same}
+use Rattle.tie_search.proofs.CompletionLemmas.{added, added-free, added-size, completion-few, completion-members, completion-whole, completion-self, completion-with, completion-without, completion-back, thiele-same}
 
 -- ---- sums
 
@@ -71,7 +71,7 @@ append-none [] = refl
 append-none (x ∷ xs) = ap (λ l. x ∷ l) (append-none xs)
 
 module _ (value : List ℕ → ℕ) (falls : IsSubmodular value) (same : (xs ys : List ℕ) → ((n : ℕ) → has_member xs n ≡ has_member ys n) → value xs ≡ value ys) where
-  push-same : (set : List ℕ) (n : ℕ) → value (set ++ n ∷ []) ≡ value (with_member set n)
+  pub push-same : (set : List ℕ) (n : ℕ) → value (set ++ n ∷ []) ≡ value (with_member set n)
   push-same set n = same (set ++ n ∷ []) (with_member set n) (λ x.
       list_any-append (λ y. y == x) set (n ∷ []) ∙ swap (has_member set x) (n == x) ∙ sym (has_member-with_member set n x))
     where
@@ -142,11 +142,11 @@ module _ (value : List ℕ → ℕ) (m : ℕ) (set : List ℕ) (left least : ℕ
       by false out now = completion-without m set rest left n open' here committee now out
 
   -- a committee that was found below
-  pub found-below : (free rest committee : List ℕ) (n : ℕ) → 1 ≤ left → IsOpen m set free → has_member free n ≡ true
-      → ((x : ℕ) → has_member rest x ≡ true → has_member free x ≡ true)
-      → IsReaching value m (with_member set n) (without_member rest n) (left - 1) least committee → IsReaching value m set free left least committee
-  found-below free rest committee n some open' here among below = record {
-    completes = completion-back m set free left n open' here (without_member rest n) committee some (λ x is. among x (without-is rest n x is)) below.completes;
+  pub found-below : (free kept committee : List ℕ) (n : ℕ) → 1 ≤ left → IsOpen m set free → has_member free n ≡ true
+      → ((x : ℕ) → has_member kept x ≡ true → has_member free x ≡ true)
+      → IsReaching value m (with_member set n) kept (left - 1) least committee → IsReaching value m set free left least committee
+  found-below free kept committee n some open' here among below = record {
+    completes = completion-back m set free left n open' here kept committee some among below.completes;
     reaches = below.reaches;
   }
 

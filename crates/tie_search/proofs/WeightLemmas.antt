@@ -1,9 +1,8 @@
 -- What ballots need, weighted, and the weights of the candidates who can join.
 use Rattle.std.proofs.Common.{◌≡◌, ℕ, suc, ◌+◌, ◌-◌, ◌*◌, ◌<◌, ◌≤◌, ◌∙◌, ◌==◌, ◌&&◌, ◌||◌, Bool, true, false, cond, List, [], ◌∷◌, ◌++◌, refl, sym, ap, arith, inl, inr, length, sum_by, take, get_or, slice_get, Some, max, ◌^◌}
-use Rattle.std.specs.Prelude.{nat_le}
 use Rattle.std.specs.List.{AllByRecursion}
 use Rattle.std.proofs.Math.Nat.{mul-le-mul_left}
-use Rattle.std.proofs.lemmas.Bool.{cases_eq, cases_lt, le-leb}
+use Rattle.std.proofs.lemmas.Bool.{cases_eq, cases_lt}
 use Rattle.std.proofs.lemmas.List.Sums.{sum_by-cons, sum_by_more}
 use Rattle.std.proofs.lemmas.Option.{get_or_from_slice_get, slice_get_within}
 use Rattle.ballot_base.specs.CandSet.{has_member, common_members}
@@ -15,7 +14,7 @@ use Rattle.tie_walk.specs.Values.{closeness, greatest_distance}
 use Rattle.tie_search.specs.Completions.{IsOpen, IsCompletion, IsOutOfReach}
 use Rattle.tie_search.specs.Needs.{hits_needed, weighted_needs, weighted_support}
 use Rattle.tie_search.specs.Steps.Near.{AreWeighted, IsNarrowed, need_weight}
-use Rattle.tie_search.proofs.CompletionLemmas.{added, added-free, added-increasing, added-size, and-true, completion-members, hits-same}
+use Rattle.tie_search.proofs.CompletionLemmas.{added, added-free, added-increasing, added-size, completion-members, hits-same}
 use Rattle.tie_search.proofs.NeedLemmas.{hits-append, needs-met, value-near}
 use Rattle.tie_search.proofs.PriceLemmas.{hits-turned}
 use Rattle.tie_search.proofs.SearchLemmas.{sum-part, sum-threshold}
@@ -269,15 +268,15 @@ module _ (m most : ℕ) (rows : List Row) (set free : List ℕ) (left total : �
   ]
 
   -- whoever joins has enough support
-  pub weighted-narrowed : total ≤ greatest → (kept : List ℕ) → ((n : ℕ) → has_member kept n ≡ (has_member free n && nat_le (t - (greatest - total)) (get_or supports n 0)))
-      → ((x : ℕ) → IsIncreasing 1 x free → IsIncreasing 1 x kept) → IsNarrowed (closeness m rows) m set free left (m - most) kept
-  weighted-narrowed enough kept kept_are rises = record {
+  pub weighted-narrowed : total ≤ greatest → (kept : List ℕ) → ((x : ℕ) → IsIncreasing 1 x free → IsIncreasing 1 x kept) → ((n : ℕ) → has_member kept n ≡ true → has_member free n ≡ true)
+      → ((n : ℕ) → has_member free n ≡ true → t - (greatest - total) ≤ get_or supports n 0 → has_member kept n ≡ true) → IsNarrowed (closeness m rows) m set free left (m - most) kept
+  weighted-narrowed enough kept rises among stays = record {
     opened = record {
       set_within = open'.set_within;
       free_within = rises m open'.free_within;
-      apart = λ n h. open'.apart n (in-free n h);
+      apart = λ n h. open'.apart n (among n h);
     };
-    among = in-free;
+    among = among;
     kept = λ committee whole reaches. record {
       candidates = whole.candidates;
       whole = whole.whole;
@@ -286,9 +285,6 @@ module _ (m most : ℕ) (rows : List Row) (set free : List ℕ) (left total : �
     };
   }
     where
-      in-free : (n : ℕ) → has_member kept n ≡ true → has_member free n ≡ true
-      in-free n h = (and-true (has_member free n) (nat_le (t - (greatest - total)) (get_or supports n 0)) (sym (kept_are n) ∙ h)).0
-
       or-more : (p q r : Bool) → (q ≡ true → r ≡ true) → (p || q) ≡ true → (p || r) ≡ true
       or-more true q r h is = refl
       or-more false q r h is = h is
@@ -299,4 +295,4 @@ module _ (m most : ℕ) (rows : List Row) (set free : List ℕ) (left total : �
           let joined = member-bound are.weight m (length set + left) most rows set free left committee ballots open' whole refl
           (value-near m rows most committee ballots whole.candidates reaches) t (λ x. get_or supports x 0) n no-less open_ in_ in
           let high : t - (greatest - total) ≤ get_or supports n 0 = omega (arith, joined, enough, greatest_is, are.total_is) in
-          kept_are n ∙ ap (λ b. has_member free n && b) (le-leb (t - (greatest - total)) (get_or supports n 0) high) ∙ ap (λ b. b && true) open_
+          stays n open_ high

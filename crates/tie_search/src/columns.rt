@@ -2,18 +2,18 @@
 //!
 //! Words that hold the voters with each number of hits are made member by member: those who approve the member move on
 //! by one hit. The gain of a candidate is the sum, over numbers of hits, of the weight times the bits that word and
-//! column share. There are no columns for more than 8,192 voters, more than two voters a row, or weights of 2^44 and
-//! more; then gains come from one pass over the rows.
-ghost use Rattle.std.specs.Prelude.{◌≡◌, ℕ, ◌+◌, ◌-◌, ◌*◌, ◌^◌, ◌<◌, ◌≤◌, ◌==◌, ◌&&◌, List, [], ◌∷◌, ◌++◌, length, replicate, slice_index, MatchOption, ⊤, if◌then◌else◌};
+//! column share. Only the candidates that are asked for are counted.
+//!
+//! There are no columns for more than 8,192 voters, more than two voters a row, or weights of 2^44 and more; then gains
+//! come from one pass over the rows.
+ghost use Rattle.std.specs.Prelude.{◌≡◌, ℕ, ◌+◌, ◌-◌, ◌*◌, ◌^◌, ◌<◌, ◌≤◌, ◌==◌, ◌&&◌, true, List, [], ◌∷◌, ◌++◌, length, replicate, slice_index, slice_index_or, MatchOption, ⊤, if◌then◌else◌};
 ghost use Rattle.std.specs.Int.{bit_at};
-ghost use Rattle.std.specs.Int.Bits.{bit_and};
-ghost use Rattle.std.specs.Int.RustNames.{count_ones};
 ghost use Rattle.ballot_base.specs.Limits.{most_candidates, most_members};
 ghost use Rattle.ballot_base.specs.Lists.{IsIncreasing};
-ghost use Rattle.ballot_base.specs.Ballots.{voter_count};
+ghost use Rattle.ballot_base.specs.Ballots.{hits, voter_count};
 ghost use Rattle.ballot_base.specs.CandSet.{has_member};
 ghost use Rattle.tie_walk.specs.Values.{thiele_of};
-ghost use Rattle.tie_search.specs.Steps.Columns.{block_voters, most_blocks, total, given, IsBlock, AreByHits, AreColumns, AreColumnsOf, AreRising, AreWeights, voters_of, voter_ballot, word_before};
+ghost use Rattle.tie_search.specs.Steps.Columns.{block_voters, most_blocks, total, shared, given, approves_some, IsBlock, AreByHits, AreColumns, AreColumnsOf, AreRising, AreWeights, voters_of, voter_ballot, word_before};
 
 use crate::weights::{Weights, small_weights};
 use ballot_base::{CandSet, Increments, PLACES, Profile, ThieleRule};
@@ -71,35 +71,27 @@ fn by_hits(block: &Block, set: CandSet, levels: usize) -> Block
     words
 }
 
-/// Adds to the gain of each candidate what those of the voters who approve it give.
-fn add_votes(gains: &mut Block, block: &Block, voters: u64, weight: u64)
-    requires small { weight < 2 ^ 44 }
-    requires fits { (c : ℕ) → slice_index gains.old c < 2 ^ 63 + 2 ^ 62 }
-    ensures sum { (c : ℕ) → c ≤ most_candidates → slice_index gains.new c
-        ≡ slice_index gains.old c + weight * count_ones (bit_and (slice_index block.now c) voters) }
-    ensures most { (c : ℕ) → slice_index gains.new c ≤ slice_index gains.old c + 2 ^ 50 }
+/// Who of a block approve no member of the set.
+fn uncovered(block: &Block, set: CandSet) -> u64
+    ensures { (ballot_at : ℕ → List ℕ) → IsBlock ballot_at block.now → (i : ℕ) → i < block_voters
+        → bit_at result i ≡ (if hits (ballot_at i) set == 0 then 1 else 0) }
 {
-    if voters == 0 {
-        return;
-    }
-    for c in 0..PLACES {
-        gains[c] += weight * u64::from((block[c] & voters).count_ones());
-    }
+    by_hits(block, set, 1)[0]
 }
 
-/// Adds to the gain of each candidate what the voters of a block give.
-fn add_block(gains: &mut Block, block: &Block, weights: &Weights, levels: usize, set: CandSet)
-    requires weights { AreWeights weights.now levels }
-    requires fits { (c : ℕ) → slice_index gains.old c < 2 ^ 63 }
-    ensures sum { (ballot_at : ℕ → List ℕ) → IsBlock ballot_at block.now → (c : ℕ) → c ≤ most_candidates
-        → slice_index gains.new c
-        ≡ slice_index gains.old c + total (λ i. given weights.now set c (ballot_at i)) block_voters }
-    ensures most { (c : ℕ) → slice_index gains.new c ≤ slice_index gains.old c + levels * 2 ^ 50 }
+/// What the voters of a column give: for each number of hits, the weight times the bits that word and column share.
+fn given_by(words: &Block, column: u64, weights: &Weights, levels: usize) -> u64
+    requires few { levels ≤ most_members }
+    requires small { (h : ℕ) → slice_index weights.now h < 2 ^ 44 }
+    ensures sum { result
+        ≡ total (λ h. slice_index weights.now h * shared column (slice_index words.now h)) levels }
+    ensures most { result ≤ levels * 2 ^ 50 }
 {
-    let words = by_hits(block, set, levels);
+    let mut sum = 0;
     for h in 0..levels {
-        add_votes(gains, block, words[h], weights[h]);
+        sum += weights[h] * u64::from((column & words[h]).count_ones());
     }
+    sum
 }
 
 /// The block with a voter at a place: the bit of the place is set for each candidate whom the ballot approves.
@@ -205,18 +197,55 @@ impl Columns {
         })
     }
 
-    /// What the set gains by each candidate, at the candidate's number.
-    pub(crate) fn gains(&self, set: CandSet) -> Block
+    /// What the set gains by each candidate of `among`, at the candidate's number.
+    pub(crate) fn gains_of(&self, set: CandSet, among: CandSet) -> Block
         requires used { self.now.used ≤ most_blocks }
         requires weights { AreWeights self.now.weights self.now.levels }
         ensures { (ballots : List (List ℕ)) → AreColumns ballots self.now.blocks → AreRising ballots
-            → (c : ℕ) → c ≤ most_candidates → slice_index result c
+            → (c : ℕ) → has_member among c ≡ true → slice_index result c
             ≡ total (λ v. given self.now.weights set c (voter_ballot ballots v)) (self.now.used * block_voters) }
     {
         let mut gains = [0; PLACES];
         for b in 0..self.used {
-            add_block(&mut gains, &self.blocks[b], &self.weights, self.levels, set);
+            self.add_block(&mut gains, b, set, among);
         }
         gains
+    }
+
+    /// How many voters approve a member of the set.
+    pub(crate) fn covered(&self, set: CandSet) -> usize
+        requires used { self.now.used ≤ most_blocks }
+        ensures { (ballots : List (List ℕ)) → AreColumns ballots self.now.blocks → AreRising ballots
+            → result ≡ total (λ v. approves_some set (voter_ballot ballots v)) (self.now.used * block_voters) }
+    {
+        let mut covered = 0;
+        for b in 0..self.used {
+            covered += BLOCK_VOTERS - uncovered(&self.blocks[b], set).count_ones() as usize;
+        }
+        covered
+    }
+
+    /// Adds to the gains of the candidates of `among` what the voters of a block give. No voter has more hits than the
+    /// set has members.
+    fn add_block(&self, gains: &mut Block, b: usize, set: CandSet, among: CandSet)
+        requires block { b < most_blocks }
+        requires weights { AreWeights self.now.weights self.now.levels }
+        requires fits { (c : ℕ) → slice_index gains.old c < 2 ^ 63 }
+        ensures sum { (ballot_at : ℕ → List ℕ) → IsBlock ballot_at (slice_index_or self.now.blocks b [])
+            → (c : ℕ) → has_member among c ≡ true → slice_index gains.new c
+            ≡ slice_index gains.old c + total (λ i. given self.now.weights set c (ballot_at i)) block_voters }
+        ensures most { (c : ℕ) → slice_index gains.new c ≤ slice_index gains.old c + most_members * 2 ^ 50 }
+    {
+        set.valid();
+        among.valid();
+        let block = &self.blocks[b];
+        let levels = self.levels.min(usize::from(set.len()) + 1);
+        let words = by_hits(block, set, levels);
+        let mut left = among;
+        while let Some(parts) = left.split_first() {
+            let c = usize::from(parts.0);
+            gains[c] += given_by(&words, block[c], &self.weights, levels);
+            left = parts.1;
+        }
     }
 }

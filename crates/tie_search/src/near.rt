@@ -20,7 +20,7 @@ ghost use Rattle.tie_search.specs.Steps.Near.{AreChoices, AreWeighted, IsNarrowe
 
 use crate::needs::still_needed;
 use crate::order::Order;
-use crate::search::excess;
+use crate::search::{at_least, excess};
 use ballot_base::{CandSet, Clones, PLACES, Profile};
 use std::alloc::Allocator;
 use tie_walk::add_to_members;
@@ -132,7 +132,7 @@ impl<A: Allocator + Copy> NearSearch<'_, A> {
         }
         // The support of a candidate that joins is below the threshold by `spare` at most.
         let spare = greatest - needs.total;
-        Some(at_least(free, &needs.supports, threshold.saturating_sub(spare)))
+        Some(at_least(&needs.supports, free, threshold.saturating_sub(spare)))
     }
 }
 
@@ -145,23 +145,6 @@ fn weight_of(needed: u8, approved: u8) -> u64
     let needed = u64::from(needed);
     let share = needed * SHARE_PARTS / u64::from(approved.max(1));
     needed * share * share * share
-}
-
-/// The members whose worth is at least `least`.
-fn at_least(set: CandSet, worths: &[u128; PLACES], least: u128) -> CandSet
-    ensures members { (n : ℕ) → has_member result n ≡ (has_member set n && nat_le least (slice_index worths.now n)) }
-    ensures within { (m : ℕ) → IsIncreasing 1 m set → IsIncreasing 1 m result }
-{
-    set.valid();
-    let mut kept = CandSet::empty();
-    let mut left = set;
-    while let Some(parts) = left.split_first() {
-        if worths[usize::from(parts.0)] >= least {
-            kept = kept.with(parts.0);
-        }
-        left = parts.1;
-    }
-    kept
 }
 
 /// A member with the highest worth. Returns `None` for the empty set.

@@ -6,6 +6,10 @@
 //! too low (Nemhauser and Wolsey, Maximizing submodular set functions, 1981). The gain of a candidate is added to the
 //! value, so no value is computed anew. Under `cc` a search also ends if all free candidates together add too little.
 //!
+//! After a candidate has joined, the others stay free only if they can still be in a committee that reaches the value.
+//! The gains from before are enough to decide this, since gains only fall as a set grows (`proofs/KeptLemmas.antt`). So
+//! few candidates are counted for each set.
+//!
 //! A candidate who was tried leaves with all its clones: put in a clone's place, it makes a committee of the same
 //! value, and all committees with it were searched (`proofs/CloneLemmas.antt`).
 //!
@@ -92,8 +96,15 @@ impl<A: Allocator + Copy> Search<'_, A> {
         ) {
             let next = order.first_of(rest)?;
             let others = rest.without(next);
-            let more = value + gains[usize::from(next)];
-            let found = self.descend(set.with(next), more, others, left - 1);
+            let gain = gains[usize::from(next)];
+            let kept = promising(
+                &gains,
+                &order,
+                others,
+                left - 1,
+                needed.saturating_sub(gain),
+            );
+            let found = self.descend(set.with(next), value + gain, kept, left - 1);
             if let Some(committee) = found {
                 return Some(committee);
             }
@@ -124,9 +135,8 @@ impl<A: Allocator + Copy> Search<'_, A> {
         ensures small { (n : ℕ) → slice_index result n ≤ 2 ^ 116 }
     {
         self.tally.valid();
-        free.valid();
         match &self.aids.columns {
-            Some(columns) => widened(&columns.gains(set)),
+            Some(columns) => widened(&columns.gains_of(set, free)),
             None => self.tally.value_and_gains(set, free).1,
         }
     }
@@ -134,16 +144,30 @@ impl<A: Allocator + Copy> Search<'_, A> {
     /// Whether all the free candidates together could lift the set to the value. Asked only if just a voter's first hit
     /// counts, as the answer is soon no then; under other rules it is yes.
     fn may_suffice(&self, set: CandSet, free: CandSet) -> bool
-        requires { IsOpen self.now.tally.now.election.m set free }
+        requires aids { IsAided self.now.tally.now self.now.aids.now }
+        requires opened { IsOpen self.now.tally.now.election.m set free }
         ensures { result ≡ false → (left : ℕ)
             → IsOutOfReach (tally_value self.now.tally.now) self.now.tally.now.election.m set free left self.now.least }
     {
-        self.tally.valid();
-        if !matches!(self.tally.rule(), ThieleRule::Cc) {
-            return true;
+        match self.tally.rule() {
+            ThieleRule::Cc => self.most_covered(together(set, free)) >= self.least,
+            _ => true,
         }
-        let value = self.tally.value(together(set, free));
-        value >= self.least
+    }
+
+    /// An upper bound on the value of the set if only a voter's first hit counts: the number of voters who approve a
+    /// member.
+    fn most_covered(&self, set: CandSet) -> u128
+        requires aids { IsAided self.now.tally.now self.now.aids.now }
+        requires rule { self.now.tally.now.rule ≡ ThieleRule.Cc }
+        requires candidates { IsIncreasing 1 self.now.tally.now.election.m set }
+        ensures { tally_value self.now.tally.now set ≤ result }
+    {
+        self.tally.valid();
+        match &self.aids.columns {
+            Some(columns) => columns.covered(set) as u128,
+            None => self.tally.value(set),
+        }
     }
 
     /// Whether the prices, if they are kept, allow a committee of the set and `left` of the free candidates.
@@ -197,6 +221,48 @@ pub(crate) fn may_reach(
 {
     let more = excess(gains, free, threshold);
     left <= free.len() && needed <= u128::from(left) * threshold + more
+}
+
+/// The free candidates that can be among `left` of them whose gains add up to what is needed. Gains only fall as a set
+/// grows, so any other candidate can be left out.
+fn promising(
+    gains: &[u128; PLACES],
+    order: &Order,
+    free: CandSet,
+    left: u8,
+    needed: u128,
+) -> CandSet
+    requires small { (n : ℕ) → slice_index gains.now n ≤ 2 ^ 116 }
+    ensures within { (m : ℕ) → IsIncreasing 1 m free → IsIncreasing 1 m result }
+    ensures among { (n : ℕ) → has_member result n ≡ true → has_member free n ≡ true }
+    ensures kept { (n : ℕ) → has_member free n ≡ true
+        → ((t : ℕ) → needed ≤ slice_index gains.now n + (left - 1) * t
+        + sum_by (λ x. slice_index gains.now x - t) free)
+        → has_member result n ≡ true }
+{
+    let others = left.saturating_sub(1);
+    let threshold = order.threshold(free, others, gains);
+    let most = u128::from(others) * threshold + excess(gains, free, threshold);
+    at_least(gains, free, needed.saturating_sub(most))
+}
+
+/// The candidates whose worth is at least `least`.
+pub(crate) fn at_least(worths: &[u128; PLACES], candidates: CandSet, least: u128) -> CandSet
+    ensures within { (m : ℕ) → IsIncreasing 1 m candidates → IsIncreasing 1 m result }
+    ensures among { (n : ℕ) → has_member result n ≡ true → has_member candidates n ≡ true }
+    ensures kept { (n : ℕ) → has_member candidates n ≡ true → least ≤ slice_index worths.now n
+        → has_member result n ≡ true }
+{
+    candidates.valid();
+    let mut kept = candidates;
+    let mut left = candidates;
+    while let Some(parts) = left.split_first() {
+        if worths[usize::from(parts.0)] < least {
+            kept = kept.without(parts.0);
+        }
+        left = parts.1;
+    }
+    kept
 }
 
 /// What the worths of the candidates exceed the threshold by, together.

@@ -1,5 +1,5 @@
 -- The ballots of all voters, candidate by candidate, as bits.
-use Rattle.std.specs.Prelude.{ℕ, zero, suc, ◌≡◌, ◌+◌, ◌*◌, ◌<◌, ◌≤◌, ◌==◌, ◌^◌, List, [], ◌∷◌, ◌++◌, length, replicate, slice_index, get_or, if◌then◌else◌}
+use Rattle.std.specs.Prelude.{ℕ, zero, suc, ◌≡◌, ◌+◌, ◌*◌, ◌<◌, ◌≤◌, ◌==◌, ◌^◌, List, [], ◌∷◌, ◌++◌, length, replicate, slice_index, get_or, min, if◌then◌else◌}
 use Rattle.std.specs.Int.{bit_at}
 use Rattle.ballot_base.specs.Limits.{most_candidates, most_members}
 use Rattle.ballot_base.specs.Lists.{IsIncreasing}
@@ -31,9 +31,17 @@ unfoldable pub total : (ℕ → ℕ) → ℕ → ℕ
 total f zero = 0
 total f (suc n) = f 0 + total (λ i. f (suc i)) n
 
+-- how many voters of a block two words share
+abbrev pub shared : ℕ → ℕ → ℕ
+shared word other = total (λ i. min (bit_at word i) (bit_at other i)) block_voters
+
 -- what a voter gives for a candidate who joins the set
 abbrev pub given : List ℕ → List ℕ → ℕ → List ℕ → ℕ
 given weights set c ballot = if has_member ballot c then slice_index weights (hits ballot set) else 0
+
+-- 1 for a ballot that approves a member of the set, and 0 for the others
+abbrev pub approves_some : List ℕ → List ℕ → ℕ
+approves_some set ballot = min (hits ballot set) 1
 
 -- a block holds who approves each candidate, of so many voters with these ballots
 pub record IsBlock (ballot_at : ℕ → List ℕ) (block : List ℕ) : Type 0 where

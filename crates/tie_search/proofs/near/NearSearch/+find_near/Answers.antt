@@ -87,8 +87,8 @@ returns-in-Some-found g t c =
     let next = c.in-Some.next in
     let here = choice-left c.in_ok-choices.choices c.loop-next.rest c.common.result next c.common.ensures c.in-Some.ensures.0 in
     let narrowed = c.loop-next.invariant.narrowed in
-    found-below (closeness e.m e.rows) e.m c.args.set c.args.left (e.m - c.args.self.now.most) c.args.free c.loop-next.rest c.in-Some-found.committee next
-    (omega (arith, c.if-left-eq0.false)) c.requires.opened (narrowed.among next here) narrowed.among
+    found-below (closeness e.m e.rows) e.m c.args.set c.args.left (e.m - c.args.self.now.most) c.args.free (without_member c.loop-next.rest next) c.in-Some-found.committee next
+    (omega (arith, c.if-left-eq0.false)) c.requires.opened (narrowed.among next here) (λ n is. narrowed.among n (without-is c.loop-next.rest next n is))
     (rw (c.with.ensures, c.without-others.ensures) at c.in-Some-found.ensures)
 
 pub class-requires : goal.class-requires

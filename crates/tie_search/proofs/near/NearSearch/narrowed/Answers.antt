@@ -22,4 +22,4 @@ returns g c =
     omega (arith, ap (λ n. n * t) c.from.ensures, c.excess.ensures.sum) in
     weighted-narrowed e.m c.args.self.now.most e.rows c.args.set c.args.free c.args.left total supports c.m.ensures.valid.ballots c.requires.opened c.requires.weighted
     t (c.from.result * t + c.excess.result) greatest c.if-greatest-needs.false c.at_least.result
-    (rw c.saturating_sub.ensures at c.at_least.ensures.members) c.at_least.ensures.within
+    c.at_least.ensures.within c.at_least.ensures.among (rw c.saturating_sub.ensures at c.at_least.ensures.kept)

@@ -1,13 +1,15 @@
-use Rattle.std.proofs.Common.{◌≡◌, ◌+◌, ◌≤◌, ◌∙◌, true, ap, arith, get_or}
+use Rattle.std.proofs.Common.{◌≡◌, ◌+◌, ◌-◌, ◌≤◌, ◌∙◌, true, ap, arith, get_or}
 use Rattle.ballot_base.specs.Increments.{increments}
 use Rattle.ballot_base.specs.CandSet.{has_member, other_members, with_member, without_member}
 use Rattle.tie_walk.specs.Sequences.{gain}
 use Rattle.tie_search.proofs.WholeLemmas.{value-with}
-use Rattle.tie_search.specs.Completions.{IsOpen, tally_value}
+use Rattle.tie_search.specs.Completions.{IsOpen, IsOutOfReach, tally_value}
 use Rattle.tie_search.proofs.CompletionLemmas.{member-low, member-high, open-with, open-without, without-is, without-shorter}
 use Rattle.tie_search.proofs.SearchLemmas.{AreLeft, found-below, node-none, none-left, not-true, set-short, value-most}
 use Rattle.tie_search.proofs.CloneLemmas.{class-are, clones-out, minus-is, minus-most, open-minus}
+use Rattle.tie_search.proofs.KeptLemmas.{kept-left, open-among}
 use Rattle.tie_search.proofs.search.Search.+descend.Goals as goal
+use Rattle.tie_search.proofs.search.Search.+descend.Goals.{After-class}
 
 pub returns-then-value-self : goal.returns-then-value-self
 returns-then-value-self g t c =
@@ -42,8 +44,8 @@ bounds-gains-from g t c =
       c.from.ensures,
     )
 
-pub overflow_add-more : goal.overflow_add-more
-overflow_add-more g t c =
+pub overflow_add-value : goal.overflow_add-value
+overflow_add-value g t c =
     omega (
       arith,
       c.requires.value,
@@ -53,10 +55,15 @@ overflow_add-more g t c =
 
 pub descend-found-requires : goal.descend-found-requires
 descend-found-requires g t c κs within =
+    let m = c.args.self.now.tally.now.election.m in
     let rest = c.loop-set.rest in
     let next = c.in_ok-next.next in
-    let opened : IsOpen c.args.self.now.tally.now.election.m (with_member c.args.set next) (without_member rest next) =
-    open-with c.args.self.now.tally.now.election.m c.args.set rest next c.loop-set.invariant.opened c.in_ok-next.ensures in
+    let opened : IsOpen m (with_member c.args.set next) (without_member rest next) =
+    open-with m c.args.set rest next c.loop-set.invariant.opened c.in_ok-next.ensures in
+    let fewer : IsOpen m (with_member c.args.set next) c.promising-kept.result =
+    open-among m (with_member c.args.set next) (without_member rest next) c.promising-kept.result opened
+    (c.promising-kept.ensures.within m (rw c.without-others.ensures opened.free_within))
+    (rw c.without-others.ensures at c.promising-kept.ensures.among) in
     let free : has_member c.args.free next ≡ true = c.loop-set.invariant.among next c.in_ok-next.ensures in
     let gained : tally_value c.args.self.now.tally.now (with_member c.args.set next) ≡ tally_value c.args.self.now.tally.now c.args.set + gain (increments c.args.self.now.tally.now.rule c.args.self.now.tally.now.k) c.args.self.now.tally.now.election.rows c.args.set next =
     value-with c.args.self.now.tally.now c.args.set next c.valid.ensures.election (c.requires.opened.apart next free) in
@@ -64,7 +71,7 @@ descend-found-requires g t c κs within =
     ap (λ n. get_or c.gains_at-gains.result n 0) c.from.ensures ∙ c.gains_at-gains.ensures.gains next free in
     let value : c.args.value + get_or c.gains_at-gains.result c.from.result 0 ≡ tally_value c.args.self.now.tally.now (with_member c.args.set next) =
     omega (arith, gained, same, c.requires.value) in
-    (omega (arith, c.if-left-eq0.false, c.decreases), (within, (c.requires.aids, (rw (c.with.ensures, c.without-others.ensures) opened, rw c.with.ensures value))))
+    (omega (arith, c.if-left-eq0.false, c.decreases), (within, (c.requires.aids, (rw c.with.ensures fewer, rw c.with.ensures value))))
 
 pub class-requires : goal.class-requires
 class-requires g t c =
@@ -79,28 +86,52 @@ may_complete-requires-clause-opened g t c =
     rw (c.minus-rest.ensures, c.without-others.ensures) (open-minus c.args.self.now.tally.now.election.m c.args.set (without_member c.loop-set.rest c.in_ok-next.next) c.class.result
     (open-without c.args.self.now.tally.now.election.m c.args.set c.loop-set.rest c.in_ok-next.next c.loop-set.invariant.opened))
 
-pub returns-then-not-may_complete : goal.returns-then-not-may_complete
-returns-then-not-may_complete g t c =
+-- the candidate who was tried leaves, with its clones
+left-out : (g : _) (t : _) (c : After-class g t) → AreLeft (tally_value c.args.self.now.tally.now) c.args.self.now.tally.now.election.m c.args.set c.args.left c.args.self.now.least c.args.free
+    (other_members (without_member c.loop-set.rest c.in_ok-next.next) c.class.result)
+left-out g t c =
+    let tally = c.args.self.now.tally.now in
+    let m = tally.election.m in
+    let set = c.args.set in
+    let least = c.args.self.now.least in
     let rest = c.loop-set.rest in
     let next = c.in_ok-next.next in
+    let gains = c.gains_at-gains.result in
     let opened = c.loop-set.invariant.opened in
-    let m = c.args.self.now.tally.now.election.m in
     let low : 1 ≤ next = member-low 1 m rest next opened.free_within c.in_ok-next.ensures in
     let high : next ≤ m = member-high 1 m rest next opened.free_within c.in_ok-next.ensures in
-    let are = class-are m c.args.self.now.tally.now.election.rows next c.class.result
-    (c.class.ensures ∙ c.requires.aids.clones next low high) in
-    let left_out : AreLeft (tally_value c.args.self.now.tally.now) m c.args.set c.args.left c.args.self.now.least c.args.free (other_members (without_member rest next) c.class.result) =
-    clones-out c.args.self.now.tally.now c.args.set c.args.left c.args.self.now.least c.args.free rest c.class.result next c.valid.ensures.election
-    (omega (arith, c.if-left-eq0.false)) opened c.in_ok-next.ensures are c.loop-set.invariant.kept
-    (rw (c.with.ensures, c.without-others.ensures) at c.in_default.ensures) in
-    none-left (tally_value c.args.self.now.tally.now) c.args.self.now.tally.now.election.m c.args.set c.args.left c.args.self.now.least c.args.free (other_members (without_member rest next) c.class.result) left_out
+    let are = class-are m tally.election.rows next c.class.result (c.class.ensures ∙ c.requires.aids.clones next low high) in
+    let kept : AreLeft (tally_value tally) m (with_member set next) (c.args.left - 1) least (without_member rest next) c.promising-kept.result =
+    kept-left tally set rest next (c.args.left - 1) least gains c.promising-kept.result c.valid.ensures.election c.valid.ensures.size opened c.in_ok-next.ensures
+    (λ n here. c.gains_at-gains.ensures.gains n (c.loop-set.invariant.among n here))
+    (λ n here reaches. c.promising-kept.ensures.kept n (rw c.without-others.ensures here) (λ s. rw c.without-others.ensures (omega (
+      arith,
+      reaches s,
+      c.saturating_sub.ensures,
+      c.saturating_sub-needed.ensures,
+      c.requires.value,
+      ap (λ n. get_or gains n 0) c.from.ensures,
+    )))) in
+    let none : IsOutOfReach (tally_value tally) m (with_member set next) (without_member rest next) (c.args.left - 1) least =
+    none-left (tally_value tally) m (with_member set next) (c.args.left - 1) least (without_member rest next) c.promising-kept.result kept
+    (rw c.with.ensures at c.in_default.ensures) in
+    clones-out tally set c.args.left least c.args.free rest c.class.result next c.valid.ensures.election
+    (omega (arith, c.if-left-eq0.false)) opened c.in_ok-next.ensures are c.loop-set.invariant.kept none
+
+pub returns-then-not-may_complete : goal.returns-then-not-may_complete
+returns-then-not-may_complete g t c =
+    none-left (tally_value c.args.self.now.tally.now) c.args.self.now.tally.now.election.m c.args.set c.args.left c.args.self.now.least c.args.free (other_members (without_member c.loop-set.rest c.in_ok-next.next) c.class.result)
+    (left-out g t (goal.at.returns-then-not-may_complete g t c).After-class)
     (rw (c.minus-rest.ensures, c.without-others.ensures) at (c.may_complete.ensures c.if-not-may_complete.true))
 
 pub returns-in-Some : goal.returns-in-Some
 returns-in-Some g t c =
-    found-below (tally_value c.args.self.now.tally.now) c.args.self.now.tally.now.election.m c.args.set c.args.left c.args.self.now.least c.args.free c.loop-set.rest c.in-Some.committee c.in_ok-next.next
-    (omega (arith, c.if-left-eq0.false)) c.requires.opened (c.loop-set.invariant.among c.in_ok-next.next c.in_ok-next.ensures) c.loop-set.invariant.among
-    (rw (c.with.ensures, c.without-others.ensures) at c.in-Some.ensures)
+    let rest = c.loop-set.rest in
+    let next = c.in_ok-next.next in
+    found-below (tally_value c.args.self.now.tally.now) c.args.self.now.tally.now.election.m c.args.set c.args.left c.args.self.now.least c.args.free c.promising-kept.result c.in-Some.committee next
+    (omega (arith, c.if-left-eq0.false)) c.requires.opened (c.loop-set.invariant.among next c.in_ok-next.ensures)
+    (λ n is. c.loop-set.invariant.among n (without-is rest next n (rw c.without-others.ensures at (c.promising-kept.ensures.among n is))))
+    (rw c.with.ensures at c.in-Some.ensures)
 
 pub loop-set-smaller : goal.loop-set-smaller
 loop-set-smaller g t c =
@@ -110,22 +141,13 @@ loop-set-smaller g t c =
 
 pub loop-set-preserved : goal.loop-set-preserved
 loop-set-preserved g t c =
+    let m = c.args.self.now.tally.now.election.m in
     let rest = c.loop-set.rest in
     let next = c.in_ok-next.next in
-    let opened = c.loop-set.invariant.opened in
-    let m = c.args.self.now.tally.now.election.m in
-    let low : 1 ≤ next = member-low 1 m rest next opened.free_within c.in_ok-next.ensures in
-    let high : next ≤ m = member-high 1 m rest next opened.free_within c.in_ok-next.ensures in
-    let are = class-are m c.args.self.now.tally.now.election.rows next c.class.result
-    (c.class.ensures ∙ c.requires.aids.clones next low high) in
-    let left_out : AreLeft (tally_value c.args.self.now.tally.now) m c.args.set c.args.left c.args.self.now.least c.args.free (other_members (without_member rest next) c.class.result) =
-    clones-out c.args.self.now.tally.now c.args.set c.args.left c.args.self.now.least c.args.free rest c.class.result next c.valid.ensures.election
-    (omega (arith, c.if-left-eq0.false)) opened c.in_ok-next.ensures are c.loop-set.invariant.kept
-    (rw (c.with.ensures, c.without-others.ensures) at c.in_default.ensures) in
     rw (c.minus-rest.ensures, c.without-others.ensures) record {
-      opened = open-minus m c.args.set (without_member rest next) c.class.result (open-without m c.args.set rest next opened);
+      opened = open-minus m c.args.set (without_member rest next) c.class.result (open-without m c.args.set rest next c.loop-set.invariant.opened);
       among = λ n h. c.loop-set.invariant.among n (without-is rest next n (minus-is (without_member rest next) c.class.result n h));
-      kept = left_out;
+      kept = left-out g t (goal.at.loop-set-preserved g t c).After-class;
     }
 
 pub returns : goal.returns

@@ -1,7 +1,5 @@
 use Rattle.std.proofs.Common.{◌∙◌}
-use Rattle.ballot_base.specs.Limits.{most_candidates}
 use Rattle.tie_search.specs.Steps.Columns.{AreColumnsOf, voters_of}
-use Rattle.tie_search.proofs.CompletionLemmas.{member-high}
 use Rattle.tie_search.proofs.ColumnLemmas.{columns-gain, voters-rising}
 use Rattle.tie_search.proofs.search.Search.gains_at.Goals as goal
 
@@ -10,6 +8,6 @@ returns-in-Some-clause-gains g c n here =
     let tally = c.args.self.now.tally.now in
     let kept : AreColumnsOf tally c.in-Some.columns.blocks c.in-Some.columns.used c.in-Some.columns.weights c.in-Some.columns.levels = rw c.in-Some.is at c.requires.aids.columns in
     c.widened.ensures.same n
-    ∙ c.gains.ensures (voters_of tally.election.rows) kept.columns (voters-rising tally.election.m tally.election.rows c.valid.ensures.election.most c.valid.ensures.election.ballots)
-    n (member-high 1 most_candidates c.args.free n c.valid-2.ensures here)
+    ∙ c.gains_of.ensures (voters_of tally.election.rows) kept.columns (voters-rising tally.election.m tally.election.rows c.valid.ensures.election.most c.valid.ensures.election.ballots)
+    n here
     ∙ columns-gain tally c.in-Some.columns.blocks c.in-Some.columns.used c.in-Some.columns.levels c.in-Some.columns.weights c.args.set n kept

@@ -1,12 +1,12 @@
-use Rattle.std.proofs.Common.{◌≡◌, ℕ, ◌*◌, ◌^◌, ◌≤◌, List, get_or}
-use Rattle.ballot_base.specs.Limits.{most_candidates}
+use Rattle.std.proofs.Common.{◌≡◌, ℕ, ◌*◌, ◌^◌, ◌≤◌, true, List, get_or}
+use Rattle.ballot_base.specs.CandSet.{has_member}
 use Rattle.tie_search.specs.Steps.Columns.{block_voters, total, given, voter_ballot, AreColumns, AreRising}
-use Rattle.tie_search.proofs.columns.Columns.gains.Given as goal
+use Rattle.tie_search.proofs.columns.Columns.gains_of.Given as goal
 
 -- the voters of the blocks so far are counted
 abbrev pub invariant-loop-b : goal.invariant-loop-b
 invariant-loop-b l = record {
-  summed : (ballots : List (List ℕ)) → AreColumns ballots l.self.blocks → AreRising ballots → (c : ℕ) → c ≤ most_candidates
+  summed : (ballots : List (List ℕ)) → AreColumns ballots l.self.blocks → AreRising ballots → (c : ℕ) → has_member l.fn.among c ≡ true
       → get_or l.gains c 0 ≡ total (λ v. given l.self.weights l.fn.set c (voter_ballot ballots v)) (l.b * block_voters);
   most : (c : ℕ) → get_or l.gains c 0 ≤ l.b * 2 ^ 56;
 }

@@ -1,0 +1,11 @@
+use Rattle.std.proofs.Common.{◌≡◌, ℕ, ◌*◌, ◌≤◌, List}
+use Rattle.tie_search.specs.Steps.Columns.{block_voters, total, approves_some, voter_ballot, AreColumns, AreRising}
+use Rattle.tie_search.proofs.columns.Columns.covered.Given as goal
+
+-- the voters of the blocks so far are counted
+abbrev pub invariant-loop-b : goal.invariant-loop-b
+invariant-loop-b l = record {
+  summed : (ballots : List (List ℕ)) → AreColumns ballots l.self.blocks → AreRising ballots
+      → l.covered ≡ total (λ v. approves_some l.fn.set (voter_ballot ballots v)) (l.b * block_voters);
+  most : l.covered ≤ l.b * block_voters;
+}

@@ -1,0 +1,15 @@
+use Rattle.std.proofs.Common.{arith}
+use Rattle.tie_search.specs.Steps.Columns.{AreColumnsOf, voters_of}
+use Rattle.tie_search.proofs.ColumnLemmas.{voters-rising}
+use Rattle.tie_search.proofs.CoverLemmas.{columns-cover}
+use Rattle.tie_search.proofs.search.Search.most_covered.Goals as goal
+
+pub returns-in-Some : goal.returns-in-Some
+returns-in-Some g c =
+    let tally = c.args.self.now.tally.now in
+    let kept : AreColumnsOf tally c.in-Some.columns.blocks c.in-Some.columns.used c.in-Some.columns.weights c.in-Some.columns.levels = rw c.in-Some.is at c.requires.aids.columns in
+    omega (
+      arith,
+      columns-cover tally c.in-Some.columns.blocks c.in-Some.columns.used c.in-Some.columns.levels c.in-Some.columns.weights c.args.set kept c.valid.ensures.size c.requires.rule,
+      c.covered.ensures (voters_of tally.election.rows) kept.columns (voters-rising tally.election.m tally.election.rows c.valid.ensures.election.most c.valid.ensures.election.ballots),
+    )
