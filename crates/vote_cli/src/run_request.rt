@@ -14,6 +14,7 @@ use crate::device::{Sink, Source};
 use crate::input::read_to_end;
 use crate::names::Names;
 use crate::refusal::{Refusal, refusal_of};
+use crate::share_text::Sharing;
 use crate::status::Status;
 use ballot_base::{BallotHashing, Profile};
 use preflib_text::{LineReader, Pick};
@@ -67,7 +68,12 @@ fn answer<A: Allocator + Copy + Drop, R: Source, W: Sink>(
     match request.task() {
         Task::OfVotes(votes, method, seats, page) => {
             let names = Names::<A>::numbers(request.names());
-            answer_share(out, votes.as_slice(), *method, *seats, page, &names)
+            let sharing = Sharing {
+                method: *method,
+                seats: *seats,
+                page,
+            };
+            answer_share(out, votes.as_slice(), &sharing, &names)
         }
         Task::OfBallots(question) => {
             let profile = read_ballots(alloc, hashing, &request.pick(), reader)?;
