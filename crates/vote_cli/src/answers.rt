@@ -24,7 +24,7 @@ use crate::status::Status;
 use ballot_base::Profile;
 use group_check::{Property, find_violation};
 use request_words::{Question, Rule};
-use seat_share::{Method, ShareFault, Shares};
+use seat_share::{ShareFault, Shares};
 use std::alloc::Allocator;
 use tie_families::{Families, FamilyWinners};
 
@@ -109,16 +109,16 @@ fn answer_check<A: Allocator + Copy, W: Sink>(
 /// The fair allocations later than a start that has a number of seats for each party.
 fn shares_from(
     votes: &[u64],
-    method: Method,
-    seats: u16,
+    sharing: &Sharing<'_>,
     start: Option<&[u16]>,
 ) -> Result<Shares, RequestFault>
     ensures ok { let after = option_copied start.entry in IfOk result (λ shares.
-        IsSharedOut method seats after votes.now shares × (has_other_length (length votes.now) after ≡ false)) }
-    ensures err { IfErr result (λ fault. IsShareRefusal seats
+        IsSharedOut sharing.now.method sharing.now.seats after votes.now shares
+        × (has_other_length (length votes.now) after ≡ false)) }
+    ensures err { IfErr result (λ fault. IsShareRefusal sharing.now.seats
         (not (has_other_length (length votes.now) (option_copied start.entry))) votes.now (request_fault_word fault)) }
 {
-    match Shares::new(votes, method, seats, start) {
+    match Shares::new(votes, sharing.method, sharing.seats, start) {
         Ok(shares) => Ok(shares),
         Err(ShareFault::AfterLength) => Err(RequestFault::AfterMisfit),
         Err(fault) => Err(RequestFault::Share(fault)),
@@ -133,18 +133,13 @@ fn shares_of(votes: &[u64], sharing: &Sharing<'_>) -> Result<Shares, RequestFaul
     ensures err { let starts = may_start (has_seats_for (length votes.now)) (paging_of sharing.now.page.now).after in
         IfErr result (λ fault. IsShareRefusal sharing.now.seats starts votes.now (request_fault_word fault)) }
 {
-    let Sharing {
-        method,
-        seats,
-        page,
-    } = *sharing;
-    let Some(list) = &page.after else {
-        return shares_from(votes, method, seats, None);
+    let Some(list) = &sharing.page.after else {
+        return shares_from(votes, sharing, None);
     };
     match seats_start(list) {
-        Some(start) => shares_from(votes, method, seats, Some(start.as_slice())),
+        Some(start) => shares_from(votes, sharing, Some(start.as_slice())),
         None => {
-            shares_from(votes, method, seats, None)?;
+            shares_from(votes, sharing, None)?;
             Err(RequestFault::AfterMisfit)
         }
     }

@@ -103,8 +103,9 @@ pub fn run<A: Allocator + Copy + Drop, R: Source, W: Sink, E: Sink>(
     out: &mut W,
     err: &mut E,
 ) -> Status
-    ensures { LeavesRun (reader_state R.remaining R.has_failed R.given) (writer_state W.contents W.has_failed)
-        (writer_state E.contents E.has_failed) request.now reader.old reader.new out.old out.new err.old err.new result }
+    ensures { LeavesRun (reader_state R.remaining R.has_failed R.given)
+        (writer_state W.contents W.has_failed) (writer_state E.contents E.has_failed)
+        request.now reader.old reader.new out.old out.new err.old err.new result }
 {
     let storage = Storage {
         alloc,
@@ -122,8 +123,9 @@ pub fn run_with_hashing<A: Allocator + Copy + Drop, R: Source, W: Sink, E: Sink>
     out: &mut W,
     err: &mut E,
 ) -> Status
-    ensures { LeavesRun (reader_state R.remaining R.has_failed R.given) (writer_state W.contents W.has_failed)
-        (writer_state E.contents E.has_failed) request.now reader.old reader.new out.old out.new err.old err.new result }
+    ensures { LeavesRun (reader_state R.remaining R.has_failed R.given)
+        (writer_state W.contents W.has_failed) (writer_state E.contents E.has_failed)
+        request.now reader.old reader.new out.old out.new err.old err.new result }
 {
     match answer(storage, request, reader, out) {
         Ok(outcome) => outcome.status(),
