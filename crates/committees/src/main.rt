@@ -6,7 +6,7 @@ use std::hash::RandomState;
 use std::io::Read;
 use std::process::ExitCode;
 use std::{env, io};
-use vote_cli::{BallotHashing, LineFault, Request, Told, read_request, run_with_hashing};
+use vote_cli::{BallotHashing, LineFault, Request, Storage, Told, read_request, run_with_hashing};
 
 /// The status of words that were refused.
 const WORDS_REFUSED: u8 = 2;
@@ -75,15 +75,11 @@ fn answer_over<R: Read + Drop>(rt: &HostRuntime, request: &Request, reader: R) -
     let mut reader = Told::new(reader);
     let mut out = Told::new(rt.stdout());
     let mut err = Told::new(rt.stderr());
-    let hashing = hashing(rt);
-    let status = run_with_hashing(
-        rt.alloc(),
-        hashing,
-        request,
-        &mut reader,
-        &mut out,
-        &mut err,
-    );
+    let storage = Storage {
+        alloc: rt.alloc(),
+        hashing: hashing(rt),
+    };
+    let status = run_with_hashing(storage, request, &mut reader, &mut out, &mut err);
     ExitCode::from(status.code())
 }
 

@@ -1,5 +1,5 @@
 -- The text of lists of numbers, and of listings, in the parts that are printed one after the other.
-use Rattle.std.proofs.Common.{◌≡◌, ℕ, zero, suc, ◌-◌, ◌≤◌, Bool, true, false, List, [], ◌∷◌, ◌++◌, Option, Some, None, refl, sym, ap, ap₂, ◌∙◌, append_assoc, append-nil, length, take, drop, get_or, arith}
+use Rattle.std.proofs.Common.{◌≡◌, ℕ, zero, suc, ◌-◌, ◌≤◌, Bool, true, false, List, [], ◌∷◌, ◌++◌, Option, Some, None, refl, sym, ap, ◌∙◌, append_assoc, append-nil, length, take, drop, get_or, arith}
 use Rattle.std.specs.Prelude.{decimal, codes, flat_map, nat_lt, option_map}
 use Rattle.std.proofs.lemmas.Bool.{lt-ltb, le-ltb, ltb-true, ltb-false}
 use Rattle.std.proofs.lemmas.List.{take_all}
@@ -66,25 +66,23 @@ last_listed line_of room answers none = ap (λ r. answers_text line_of r answers
 pub winners_parts : (names : Naming) (value : List ℕ → ℕ) (rule : ScoredRule) (candidates m size best : ℕ) (after : Option (List ℕ)) (limit : Option ℕ) (left : List (List ℕ)) → m ≡ candidates → best ≡ best_value value m size
     → left ≡ later_than after (winners value m size)
     → listing_text (committee_line names) (scored_header rule candidates size (best_value value candidates size)) (record { after = after; limit = limit }) (winners value candidates size)
-    ≡ scored_header rule m size best ++ answers_text (committee_line names) limit left
-winners_parts names value rule candidates m size best after limit left same is those =
-    ap (λ n. listing_text (committee_line names) (scored_header rule n size (best_value value n size)) (record { after = after; limit = limit }) (winners value n size)) (sym same)
-    ∙ ap₂ (λ n sets. scored_header rule m size n ++ answers_text (committee_line names) limit sets) (sym is) (sym those)
+    ≡ scored_header rule candidates size best ++ answers_text (committee_line names) limit left
+winners_parts names value rule candidates m size best after limit left same is those = rw (is, those, same) refl
 
 -- the text of an election by each kind of rule
 module _ (names : Naming) (page : Paging) (rule : ScoredRule) (size : ℕ) (e : Election) where
+  -- what is printed by a value
+  abbrev text_by : (List ℕ → ℕ) → List ℕ
+  text_by value = listing_text (committee_line names) (scored_header rule e.m size (best_value value e.m size)) page (winners value e.m size)
+
   pub thiele_text : (thiele : ThieleRule) (tally : Tally) → rule ≡ Thiele thiele → tally ≡ thiele_of e thiele size
-      → listing_text (committee_line names) (scored_header (Thiele thiele) tally.election.m size (best_value (thiele_value (increments tally.rule tally.k) tally.election.rows) tally.election.m size)) page
-      (winners (thiele_value (increments tally.rule tally.k) tally.election.rows) tally.election.m size)
-      ≡ elect_text (Scored rule) size page names e
+      → text_by (thiele_value (increments tally.rule tally.k) tally.election.rows) ≡ elect_text (Scored rule) size page names e
   thiele_text thiele tally is same = rw (is, same) refl
 
   pub satisfaction_text : (tally : Election) → rule ≡ Satisfaction → tally ≡ e
-      → listing_text (committee_line names) (scored_header rule tally.m size (best_value (satisfaction_value tally.m tally.rows) tally.m size)) page (winners (satisfaction_value tally.m tally.rows) tally.m size)
-      ≡ elect_text (Scored rule) size page names e
+      → text_by (satisfaction_value tally.m tally.rows) ≡ elect_text (Scored rule) size page names e
   satisfaction_text tally is same = rw (is, same) refl
 
   pub minimax_text : (tally : Election) → rule ≡ Minimax → tally ≡ e
-      → listing_text (committee_line names) (scored_header rule tally.m size (best_value (closeness tally.m tally.rows) tally.m size)) page (winners (closeness tally.m tally.rows) tally.m size)
-      ≡ elect_text (Scored rule) size page names e
+      → text_by (closeness tally.m tally.rows) ≡ elect_text (Scored rule) size page names e
   minimax_text tally is same = rw (is, same) refl

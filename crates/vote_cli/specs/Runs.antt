@@ -111,3 +111,12 @@ module _ (asked : Asked) (read_old read_new : ReaderState) (out_old out_new err_
   Ends NoMemory = EndsWithoutMemory
   Ends DeviceFailed = EndsUnread ⊎ EndsUnwritten
   Ends status = EndsAnswered status
+
+-- ---- a whole run, where these functions give the states of its reader, its writer and its writer of errors
+module _ {R W E : Type 0} (read : R → ReaderState) (out : W → WriterState) (err : E → WriterState) where
+  -- The run ends with the answer to the request and the bytes, or with what stopped it: the status says which. With
+  -- votes in the request the reader is left alone.
+  pub record LeavesRun (asked : Asked) (read_old read_new : R) (out_old out_new : W) (err_old err_new : E)
+      (status : Status) : Type 0 where
+    pub ends : Ends asked (read read_old) (read read_new) (out out_old) (out out_new) (err err_old) (err err_new) status
+    pub alone : has_votes asked.demand ≡ true → read_new ≡ read_old

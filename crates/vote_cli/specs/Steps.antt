@@ -5,3 +5,4 @@ pub mod Printing
 pub mod Refusals
 pub mod RequestFaults
 pub mod Sharing
+pub mod Starts

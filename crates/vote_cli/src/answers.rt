@@ -1,10 +1,10 @@
 //! The answers to what a request asks for, about ballots that were read.
-ghost use Rattle.std.specs.Prelude.{◌≡◌, ◌≢◌, ◌≤◌, [], Err, IfErr, IfOk, false, length, not, true};
-ghost use Rattle.ballot_base.specs.Limits.{most_members};
+ghost use Rattle.std.specs.Prelude.{◌≡◌, ◌≢◌, [], Err, IfErr, IfOk, false, length, not, true};
 ghost use Rattle.std.specs.Option.{option_copied};
 ghost use Rattle.request_words.specs.Request.{IsInRange, paging_of, question_of};
 ghost use Rattle.seat_share.specs.Faults.{has_other_length};
-ghost use Rattle.vote_cli.specs.Answer.{IsAnswerAbout, IsCheckAnswer, ballots_answer, election_answer, share_answer};
+ghost use Rattle.vote_cli.specs.Answer.{IsAnswerAbout, IsCheckAnswer, answered, ballots_answer, share_answer};
+ghost use Rattle.vote_cli.specs.ElectText.{elect_text};
 ghost use Rattle.vote_cli.specs.Starts.{has_seats_for, may_start};
 ghost use Rattle.vote_cli.specs.Steps.Refusals.{WritesRight, IsWritten, TellsOfWrites, outcome_status};
 ghost use Rattle.vote_cli.specs.Steps.RequestFaults.{request_fault_word};
@@ -13,18 +13,18 @@ ghost use Rattle.vote_cli.specs.Steps.Sharing.{IsShareRefusal, IsSharedOut};
 use crate::check_text::{write_holds, write_violation};
 use crate::committee::committee_of;
 use crate::device::Sink;
-use crate::elect_text::{write_scored, write_sequential};
+use crate::elect_text::Listing;
 use crate::names::Names;
 use crate::parties::votes_of;
 use crate::printing::WriteFailed;
 use crate::refusal::{Refusal, RequestFault};
-use crate::share_text::write_shares;
-use crate::starts::{committee_start, seats_start};
+use crate::share_text::Sharing;
+use crate::starts::seats_start;
 use crate::status::Status;
 use ballot_base::Profile;
 use group_check::{Property, find_violation};
-use request_words::{Page, Question, Rule};
-use seat_share::{Method, ShareFault, Shares};
+use request_words::{Question, Rule};
+use seat_share::{ShareFault, Shares};
 use std::alloc::Allocator;
 use tie_families::{Families, FamilyWinners};
 
@@ -48,42 +48,26 @@ impl Outcome {
     }
 }
 
-/// Writes the winners of an election, those of them that are asked for.
+/// Writes the winners of an election that are listed.
 fn answer_election<A: Allocator + Copy + Drop, W: Sink>(
     alloc: A,
     out: &mut W,
-    profile: &Profile<A>,
     rule: Rule,
-    size: u8,
-    page: &Page,
-    with_names: bool,
+    listing: &Listing<'_, A>,
 ) -> Result<Outcome, Refusal>
-    requires least { 1 ≤ size }
-    requires most { size ≤ most_members }
-    ensures answer { WritesRight (λ answer. answer
-        ≡ election_answer rule size (paging_of page.now) with_names profile.now)
+    ensures answer { WritesRight (λ answer. answer ≡ answered (elect_text rule listing.now.size
+        (record { after = listing.now.after; limit = listing.now.limit }) listing.now.names listing.now.profile.now))
         (W.contents out.old) (W.contents out.new) result }
     ensures writes { TellsOfWrites (W.has_failed out.old) (W.has_failed out.new) result }
     ensures unread { result ≢ Err Refusal.ReadFailed }
 {
-    if size > profile.m() {
-        return Err(Refusal::Request(RequestFault::SizeTooLarge));
-    }
-    let after = match committee_start(page, profile.m(), size) {
-        Ok(after) => after,
-        Err(fault) => return Err(Refusal::Request(fault)),
-    };
-    let names = Names::of(profile, with_names);
     match rule {
-        Rule::Scored(rule) => written(
-            write_scored(out, profile, rule, size, after, page.limit, &names),
-            Outcome::Answered,
-        ),
-        Rule::Sequential(rule) => match Families::new(alloc, profile, rule, size) {
+        Rule::Scored(rule) => written(listing.write_scored(out, rule), Outcome::Answered),
+        Rule::Sequential(rule) => match Families::new(alloc, listing.profile, rule, listing.size) {
             Ok(families) => {
-                let winners = FamilyWinners::new(&families, after);
+                let winners = FamilyWinners::new(&families, listing.after);
                 written(
-                    write_sequential(out, winners, rule, size, page.limit, &names),
+                    listing.write_sequential(out, winners, rule),
                     Outcome::Answered,
                 )
             }
@@ -125,16 +109,16 @@ fn answer_check<A: Allocator + Copy, W: Sink>(
 /// The fair allocations later than a start that has a number of seats for each party.
 fn shares_from(
     votes: &[u64],
-    method: Method,
-    seats: u16,
+    sharing: &Sharing<'_>,
     start: Option<&[u16]>,
 ) -> Result<Shares, RequestFault>
     ensures ok { let after = option_copied start.entry in IfOk result (λ shares.
-        IsSharedOut method seats after votes.now shares × (has_other_length (length votes.now) after ≡ false)) }
-    ensures err { IfErr result (λ fault. IsShareRefusal seats
+        IsSharedOut sharing.now.method sharing.now.seats after votes.now shares
+        × (has_other_length (length votes.now) after ≡ false)) }
+    ensures err { IfErr result (λ fault. IsShareRefusal sharing.now.seats
         (not (has_other_length (length votes.now) (option_copied start.entry))) votes.now (request_fault_word fault)) }
 {
-    match Shares::new(votes, method, seats, start) {
+    match Shares::new(votes, sharing.method, sharing.seats, start) {
         Ok(shares) => Ok(shares),
         Err(ShareFault::AfterLength) => Err(RequestFault::AfterMisfit),
         Err(fault) => Err(RequestFault::Share(fault)),
@@ -142,19 +126,20 @@ fn shares_from(
 }
 
 /// The fair allocations that are asked for. A fault of the votes comes before a start that does not fit.
-fn shares_of(votes: &[u64], method: Method, seats: u16, page: &Page) -> Result<Shares, RequestFault>
-    ensures ok { let after = (paging_of page.now).after in IfOk result (λ shares.
-        IsSharedOut method seats after votes.now shares × (may_start (has_seats_for (length votes.now)) after ≡ true)) }
-    ensures err { let starts = may_start (has_seats_for (length votes.now)) (paging_of page.now).after in
-        IfErr result (λ fault. IsShareRefusal seats starts votes.now (request_fault_word fault)) }
+fn shares_of(votes: &[u64], sharing: &Sharing<'_>) -> Result<Shares, RequestFault>
+    ensures ok { let after = (paging_of sharing.now.page.now).after in IfOk result (λ shares.
+        IsSharedOut sharing.now.method sharing.now.seats after votes.now shares
+        × (may_start (has_seats_for (length votes.now)) after ≡ true)) }
+    ensures err { let starts = may_start (has_seats_for (length votes.now)) (paging_of sharing.now.page.now).after in
+        IfErr result (λ fault. IsShareRefusal sharing.now.seats starts votes.now (request_fault_word fault)) }
 {
-    let Some(list) = &page.after else {
-        return shares_from(votes, method, seats, None);
+    let Some(list) = &sharing.page.after else {
+        return shares_from(votes, sharing, None);
     };
     match seats_start(list) {
-        Some(start) => shares_from(votes, method, seats, Some(start.as_slice())),
+        Some(start) => shares_from(votes, sharing, Some(start.as_slice())),
         None => {
-            shares_from(votes, method, seats, None)?;
+            shares_from(votes, sharing, None)?;
             Err(RequestFault::AfterMisfit)
         }
     }
@@ -164,22 +149,18 @@ fn shares_of(votes: &[u64], method: Method, seats: u16, page: &Page) -> Result<S
 pub(crate) fn answer_share<A: Allocator + Copy, W: Sink>(
     out: &mut W,
     votes: &[u64],
-    method: Method,
-    seats: u16,
-    page: &Page,
+    sharing: &Sharing<'_>,
     names: &Names<'_, A>,
 ) -> Result<Outcome, Refusal>
-    ensures answer { WritesRight (λ answer. answer ≡ share_answer method seats (paging_of page.now) names.now votes.now)
+    ensures answer { WritesRight (λ answer. answer
+        ≡ share_answer sharing.now.method sharing.now.seats (paging_of sharing.now.page.now) names.now votes.now)
         (W.contents out.old) (W.contents out.new) result }
     ensures writes { TellsOfWrites (W.has_failed out.old) (W.has_failed out.new) result }
     ensures unread { result ≢ Err Refusal.ReadFailed }
     ensures memory { result ≢ Err Refusal.Memory }
 {
-    match shares_of(votes, method, seats, page) {
-        Ok(shares) => written(
-            write_shares(out, shares, method, seats, page.limit, names),
-            Outcome::Answered,
-        ),
+    match shares_of(votes, sharing) {
+        Ok(shares) => written(sharing.write_shares(out, shares, names), Outcome::Answered),
         Err(fault) => Err(Refusal::Request(fault)),
     }
 }
@@ -188,13 +169,11 @@ pub(crate) fn answer_share<A: Allocator + Copy, W: Sink>(
 fn answer_share_of_ballots<A: Allocator + Copy, W: Sink>(
     out: &mut W,
     profile: &Profile<A>,
-    method: Method,
-    seats: u16,
-    page: &Page,
+    sharing: &Sharing<'_>,
     with_names: bool,
 ) -> Result<Outcome, Refusal>
     ensures answer { WritesRight (λ answer. answer
-        ≡ ballots_answer method seats (paging_of page.now) with_names profile.now)
+        ≡ ballots_answer sharing.now.method sharing.now.seats (paging_of sharing.now.page.now) with_names profile.now)
         (W.contents out.old) (W.contents out.new) result }
     ensures writes { TellsOfWrites (W.has_failed out.old) (W.has_failed out.new) result }
     ensures unread { result ≢ Err Refusal.ReadFailed }
@@ -203,7 +182,7 @@ fn answer_share_of_ballots<A: Allocator + Copy, W: Sink>(
     match votes_of(profile) {
         Some(votes) => {
             let names = Names::of(profile, with_names);
-            answer_share(out, votes.as_slice(), method, seats, page, &names)
+            answer_share(out, votes.as_slice(), sharing, &names)
         }
         None => Err(Refusal::Request(RequestFault::ManyApproved)),
     }
@@ -225,13 +204,21 @@ pub(crate) fn answer_about_ballots<A: Allocator + Copy + Drop, W: Sink>(
 {
     match question {
         Question::Elect(rule, size, page) => {
-            answer_election(alloc, out, profile, *rule, *size, page, with_names)
+            match Listing::new(profile, *size, page, with_names) {
+                Ok(listing) => answer_election(alloc, out, *rule, &listing),
+                Err(fault) => Err(Refusal::Request(fault)),
+            }
         }
         Question::Check(property, committee) => {
             answer_check(out, profile, *property, committee.as_slice(), with_names)
         }
         Question::Share(method, seats, page) => {
-            answer_share_of_ballots(out, profile, *method, *seats, page, with_names)
+            let sharing = Sharing {
+                method: *method,
+                seats: *seats,
+                page,
+            };
+            answer_share_of_ballots(out, profile, &sharing, with_names)
         }
     }
 }

@@ -1,19 +1,25 @@
 //! The text of an election's winners.
-ghost use Rattle.std.specs.Prelude.{◌≡◌, ◌≤◌, ◌++◌, is_ok};
-ghost use Rattle.ballot_base.specs.Limits.{most_candidates, most_members};
+ghost use Rattle.std.specs.Prelude.{◌≡◌, ◌≤◌, ◌++◌, IfErr, IfOk, is_ok};
+ghost use Rattle.ballot_base.specs.Limits.{most_members};
+ghost use Rattle.request_words.specs.Request.{paging_of};
 ghost use Rattle.tie_walk.specs.Winners.{IsStart, best_value, winners};
+ghost use Rattle.vote_cli.specs.Answer.{answered, election_answer, request_refused};
 ghost use Rattle.vote_cli.specs.ElectText.{best_text, elect_text, rule_lines, score_text, scored_header};
 ghost use Rattle.vote_cli.specs.Listing.{answers_text, committee_line, listing_text};
 ghost use Rattle.vote_cli.specs.Steps.Printing.{Prints, Sends};
+ghost use Rattle.vote_cli.specs.Steps.RequestFaults.{request_fault_word};
+ghost use Rattle.vote_cli.specs.Steps.Starts.{IsStart-prop};
 ghost use Rattle.vote_cli.specs.Text.{line};
 
 use crate::device::Sink;
 use crate::listing::print_listing;
 use crate::names::Names;
 use crate::printing::{Printer, WriteFailed};
+use crate::refusal::RequestFault;
+use crate::starts::committee_start;
 use ballot_base::{CandSet, Increments, Profile, ThieleRule, common_multiple};
 use itoa::Buffer;
-use request_words::{Rule, ScoredRule};
+use request_words::{Page, Rule, ScoredRule};
 use std::alloc::Allocator;
 use tie_families::FamilyWinners;
 use tie_search::{ExactTally, MinimaxSearch, ThieleSearch};
@@ -40,36 +46,6 @@ fn print_score<W: Sink>(
     printer.print_all(&pieces)
 }
 
-/// Prints the best value of the committees of `size` of `m` candidates, on a line.
-fn print_best<W: Sink>(
-    printer: &mut Printer<'_, W>,
-    rule: ScoredRule,
-    m: u8,
-    size: u8,
-    best: u128,
-) -> Result<(), WriteFailed>
-    requires some { 1 ≤ size }
-    requires fits { size ≤ m }
-    requires size { size ≤ most_members }
-    requires candidates { m ≤ most_candidates }
-    ensures { Prints W.contents W.has_failed printer.old printer.new (is_ok result)
-        (line (best_text rule m size best)) }
-{
-    match rule {
-        ScoredRule::Thiele(thiele) => print_score(
-            printer,
-            best,
-            Increments::of(thiele, size).denom,
-        ),
-        ScoredRule::Satisfaction => print_score(printer, best, common_multiple(m)),
-        ScoredRule::Minimax => {
-            let mut digits = Buffer::new();
-            let distance = digits.format(u128::from(m).saturating_sub(best));
-            printer.print_all(&[b"distance ", distance.as_bytes(), b"\n"])
-        }
-    }
-}
-
 /// Prints the lines of the rule and the size.
 fn print_rule<W: Sink>(
     printer: &mut Printer<'_, W>,
@@ -89,123 +65,162 @@ fn print_rule<W: Sink>(
     printer.print_all(&pieces)
 }
 
-/// Prints the lines before the winners.
-fn print_header<W: Sink>(
-    printer: &mut Printer<'_, W>,
-    rule: ScoredRule,
-    m: u8,
-    size: u8,
-    best: u128,
-) -> Result<(), WriteFailed>
-    requires some { 1 ≤ size }
-    requires fits { size ≤ m }
-    requires size { size ≤ most_members }
-    requires candidates { m ≤ most_candidates }
-    ensures { Prints W.contents W.has_failed printer.old printer.new (is_ok result) (scored_header rule m size best) }
-{
-    print_rule(printer, Rule::Scored(rule), size)?;
-    print_best(printer, rule, m, size, best)
+/// An election, and what is listed of its winners: all later than `after`, or the first `limit` of them.
+#[derive(Drop)]
+pub(crate) struct Listing<'a, A: Allocator + Copy> {
+    pub(crate) profile: &'a Profile<A>,
+    pub(crate) size: u8,
+    pub(crate) after: Option<CandSet>,
+    pub(crate) limit: Option<u32>,
+    pub(crate) names: Names<'a, A>,
+    ghost least: { 1 ≤ size },
+    ghost most: { size ≤ most_members },
+    ghost fits: { size ≤ profile.now.m },
+    ghost start: { IsStart profile.now.m size after } by { IsStart-prop profile.now.m size after },
 }
 
-/// Writes the answer of a tally, and flushes the writer.
-fn write_by<W: Sink, N: Allocator + Copy, T: Tally>(
-    out: &mut W,
-    tally: &T,
-    rule: ScoredRule,
-    size: u8,
-    after: Option<CandSet>,
-    limit: Option<u32>,
-    names: &Names<'_, N>,
-) -> Result<(), WriteFailed>
-    requires some { 1 ≤ size }
-    requires fits { size ≤ T.candidates tally.now }
-    requires most { size ≤ most_members }
-    requires start { IsStart (T.candidates tally.now) size after }
-    ensures { let value = T.value_of tally.now in let m = T.candidates tally.now in
-        Sends W.contents W.has_failed out.old out.new (is_ok result)
-        (listing_text (committee_line names.now) (scored_header rule m size (best_value value m size))
-        (record { after = after; limit = limit }) (winners value m size)) }
-{
-    let m = tally.m();
-    let winners = Winners::new(tally, m, size, after);
-    let mut printer = Printer::new(out);
-    print_header(&mut printer, rule, m, size, winners.best())?;
-    print_listing(&mut printer, names, limit, winners)
-}
-
-/// Writes the answer of a Thiele rule, and flushes the writer. The bounds of approval voting are exact without a
-/// search.
-fn write_thiele<W: Sink, A: Allocator + Copy>(
-    out: &mut W,
-    profile: &Profile<A>,
-    thiele: ThieleRule,
-    size: u8,
-    after: Option<CandSet>,
-    limit: Option<u32>,
-    names: &Names<'_, A>,
-) -> Result<(), WriteFailed>
-    requires some { 1 ≤ size }
-    requires fits { size ≤ profile.now.m }
-    requires most { size ≤ most_members }
-    requires start { IsStart profile.now.m size after }
-    ensures { Sends W.contents W.has_failed out.old out.new (is_ok result)
-        (elect_text (Rule.Scored (ScoredRule.Thiele thiele)) size (record { after = after; limit = limit }) names.now
-        profile.now) }
-{
-    let rule = ScoredRule::Thiele(thiele);
-    if thiele == ThieleRule::Av {
-        let tally = ThieleTally::new(profile, thiele, size);
-        return write_by(out, &tally, rule, size, after, limit, names);
+impl<'a, A: Allocator + Copy + Drop> Listing<'a, A> {
+    /// The listing that a request asks for, if committees of the size exist and the start of the page is one of them.
+    pub(crate) fn new(
+        profile: &'a Profile<A>,
+        size: u8,
+        page: &Page,
+        with_names: bool,
+    ) -> Result<Listing<'a, A>, RequestFault>
+        requires least { 1 ≤ size }
+        requires most { size ≤ most_members }
+        ensures ok { IfOk result (λ listing. (rule : Rule)
+            → election_answer rule size (paging_of page.now) with_names profile.now
+            ≡ answered (elect_text rule listing.size (record { after = listing.after; limit = listing.limit })
+            listing.names listing.profile.now)) }
+        ensures err { IfErr result (λ fault. (rule : Rule)
+            → election_answer rule size (paging_of page.now) with_names profile.now
+            ≡ request_refused (request_fault_word fault)) }
+    {
+        if size > profile.m() {
+            return Err(RequestFault::SizeTooLarge);
+        }
+        let after = committee_start(page, profile.m(), size)?;
+        Ok(Listing {
+            profile,
+            size,
+            after,
+            limit: page.limit,
+            names: Names::of(profile, with_names),
+        })
     }
-    let tally = ExactTally::new(ThieleSearch::new(profile, thiele, size), size);
-    write_by(out, &tally, rule, size, after, limit, names)
-}
 
-/// Writes the answer of a rule with a value, and flushes the writer.
-pub(crate) fn write_scored<W: Sink, A: Allocator + Copy>(
-    out: &mut W,
-    profile: &Profile<A>,
-    rule: ScoredRule,
-    size: u8,
-    after: Option<CandSet>,
-    limit: Option<u32>,
-    names: &Names<'_, A>,
-) -> Result<(), WriteFailed>
-    requires some { 1 ≤ size }
-    requires fits { size ≤ profile.now.m }
-    requires most { size ≤ most_members }
-    requires start { IsStart profile.now.m size after }
-    ensures { Sends W.contents W.has_failed out.old out.new (is_ok result)
-        (elect_text (Rule.Scored rule) size (record { after = after; limit = limit }) names.now profile.now) }
-{
-    match rule {
-        ScoredRule::Thiele(thiele) => {
-            write_thiele(out, profile, thiele, size, after, limit, names)
-        }
-        ScoredRule::Satisfaction => {
-            let tally = SavTally::new(profile);
-            write_by(out, &tally, rule, size, after, limit, names)
-        }
-        ScoredRule::Minimax => {
-            let tally = ExactTally::new(MinimaxSearch::new(profile), size);
-            write_by(out, &tally, rule, size, after, limit, names)
+    /// Prints the best value of a committee, on a line.
+    fn print_best<W: Sink>(
+        &self,
+        printer: &mut Printer<'_, W>,
+        rule: ScoredRule,
+        best: u128,
+    ) -> Result<(), WriteFailed>
+        ensures { Prints W.contents W.has_failed printer.old printer.new (is_ok result)
+            (line (best_text rule self.now.profile.now.m self.now.size best)) }
+    {
+        let m = self.profile.m();
+        match rule {
+            ScoredRule::Thiele(thiele) => {
+                let increments = Increments::of(thiele, self.size);
+                print_score(printer, best, increments.denom)
+            }
+            ScoredRule::Satisfaction => print_score(printer, best, common_multiple(m)),
+            ScoredRule::Minimax => {
+                let mut digits = Buffer::new();
+                let distance = digits.format(u128::from(m).saturating_sub(best));
+                printer.print_all(&[b"distance ", distance.as_bytes(), b"\n"])
+            }
         }
     }
-}
 
-/// Writes the answer of a sequential rule, of which these winners are asked for, and flushes the writer.
-pub(crate) fn write_sequential<W: Sink, A: Allocator + Copy + Drop>(
-    out: &mut W,
-    winners: FamilyWinners<'_, A>,
-    rule: SeqRule,
-    size: u8,
-    limit: Option<u32>,
-    names: &Names<'_, A>,
-) -> Result<(), WriteFailed>
-    ensures { Sends W.contents W.has_failed out.old out.new (is_ok result)
-        (rule_lines (Rule.Sequential rule) size ++ answers_text (committee_line names.now) limit winners.entry) }
-{
-    let mut printer = Printer::new(out);
-    print_rule(&mut printer, Rule::Sequential(rule), size)?;
-    print_listing(&mut printer, names, limit, winners)
+    /// Prints the lines before the winners.
+    fn print_header<W: Sink>(
+        &self,
+        printer: &mut Printer<'_, W>,
+        rule: ScoredRule,
+        best: u128,
+    ) -> Result<(), WriteFailed>
+        ensures { Prints W.contents W.has_failed printer.old printer.new (is_ok result)
+            (scored_header rule self.now.profile.now.m self.now.size best) }
+    {
+        print_rule(printer, Rule::Scored(rule), self.size)?;
+        self.print_best(printer, rule, best)
+    }
+
+    /// Writes the answer of a tally, and flushes the writer.
+    fn write_by<W: Sink, T: Tally>(
+        &self,
+        out: &mut W,
+        tally: &T,
+        rule: ScoredRule,
+    ) -> Result<(), WriteFailed>
+        requires { T.candidates tally.now ≡ self.now.profile.now.m }
+        ensures { let value = T.value_of tally.now in let m = self.now.profile.now.m in let size = self.now.size in
+            Sends W.contents W.has_failed out.old out.new (is_ok result)
+            (listing_text (committee_line self.now.names) (scored_header rule m size (best_value value m size))
+            (record { after = self.now.after; limit = self.now.limit }) (winners value m size)) }
+    {
+        let winners = Winners::new(tally, self.profile.m(), self.size, self.after);
+        let mut printer = Printer::new(out);
+        self.print_header(&mut printer, rule, winners.best())?;
+        print_listing(&mut printer, &self.names, self.limit, winners)
+    }
+
+    /// Writes the answer of a Thiele rule, and flushes the writer. The bounds of approval voting are exact without a
+    /// search.
+    fn write_thiele<W: Sink>(&self, out: &mut W, thiele: ThieleRule) -> Result<(), WriteFailed>
+        ensures { Sends W.contents W.has_failed out.old out.new (is_ok result)
+            (elect_text (Rule.Scored (ScoredRule.Thiele thiele)) self.now.size
+            (record { after = self.now.after; limit = self.now.limit }) self.now.names self.now.profile.now) }
+    {
+        let rule = ScoredRule::Thiele(thiele);
+        if thiele == ThieleRule::Av {
+            let tally = ThieleTally::new(self.profile, thiele, self.size);
+            return self.write_by(out, &tally, rule);
+        }
+        let search = ThieleSearch::new(self.profile, thiele, self.size);
+        let tally = ExactTally::new(search, self.size);
+        self.write_by(out, &tally, rule)
+    }
+
+    /// Writes the answer of a rule with a value, and flushes the writer.
+    pub(crate) fn write_scored<W: Sink>(
+        &self,
+        out: &mut W,
+        rule: ScoredRule,
+    ) -> Result<(), WriteFailed>
+        ensures { Sends W.contents W.has_failed out.old out.new (is_ok result)
+            (elect_text (Rule.Scored rule) self.now.size (record { after = self.now.after; limit = self.now.limit })
+            self.now.names self.now.profile.now) }
+    {
+        match rule {
+            ScoredRule::Thiele(thiele) => self.write_thiele(out, thiele),
+            ScoredRule::Satisfaction => {
+                let tally = SavTally::new(self.profile);
+                self.write_by(out, &tally, rule)
+            }
+            ScoredRule::Minimax => {
+                let tally = ExactTally::new(MinimaxSearch::new(self.profile), self.size);
+                self.write_by(out, &tally, rule)
+            }
+        }
+    }
+
+    /// Writes the answer of a sequential rule that has these winners after the start, and flushes the writer.
+    pub(crate) fn write_sequential<W: Sink>(
+        &self,
+        out: &mut W,
+        winners: FamilyWinners<'_, A>,
+        rule: SeqRule,
+    ) -> Result<(), WriteFailed>
+        ensures { Sends W.contents W.has_failed out.old out.new (is_ok result)
+            (rule_lines (Rule.Sequential rule) self.now.size
+            ++ answers_text (committee_line self.now.names) self.now.limit winners.entry) }
+    {
+        let mut printer = Printer::new(out);
+        print_rule(&mut printer, Rule::Sequential(rule), self.size)?;
+        print_listing(&mut printer, &self.names, self.limit, winners)
+    }
 }

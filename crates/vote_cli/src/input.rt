@@ -7,7 +7,7 @@ ghost use Rattle.vote_cli.specs.Steps.Refusals.{IsUnread, ReadsOn};
 
 use crate::device::Source;
 use crate::refusal::Refusal;
-use ballot_base::BallotHashing;
+use crate::storage::Storage;
 use preflib_text::{FaultName, LineReader, Pick};
 use std::alloc::Allocator;
 
@@ -33,8 +33,7 @@ fn feed_piece<A: Allocator + Copy + Drop>(
 /// Feeds the whole input, in pieces. After a fault of the input it is still read to its end. More bytes than a `u64`
 /// can count are a failed read.
 pub(crate) fn read_to_end<A: Allocator + Copy + Drop, R: Source>(
-    alloc: A,
-    hashing: BallotHashing,
+    storage: Storage<A>,
     pick: &Pick,
     reader: &mut R,
 ) -> Result<LineReader<A>, Refusal>
@@ -45,7 +44,7 @@ pub(crate) fn read_to_end<A: Allocator + Copy + Drop, R: Source>(
         (reader_state R.remaining R.has_failed R.given reader.new) result }
     ensures unread { IfErr result IsUnread }
 {
-    let Ok(mut lines) = LineReader::with_hashing(alloc, *pick, hashing) else {
+    let Ok(mut lines) = LineReader::with_hashing(storage.alloc, *pick, storage.hashing) else {
         return Err(Refusal::Memory);
     };
     let mut piece = [0; PIECE];

@@ -23,6 +23,7 @@ pub mod run_request;
 mod share_text;
 mod starts;
 pub mod status;
+pub mod storage;
 
 pub use ballot_base::BallotHashing;
 pub use device::{Device, Sink, Source, Told};
@@ -31,3 +32,4 @@ pub use request_words::{
 };
 pub use run_request::{run, run_with_hashing};
 pub use status::Status;
+pub use storage::Storage;

@@ -1,11 +1,11 @@
 //! A whole run, from the bytes of the input to the bytes of the answer.
 //!
-//! Each function of `answers` says by `WritesRight` what it wrote. This module joins that to what was read, and `Ends`
-//! (`specs/Runs.antt`) says what a run leaves on its devices.
+//! Each function of `answers` says by `WritesRight` what it wrote. This module joins that to what was read, and
+//! `LeavesRun` (`specs/Runs.antt`) says what a run leaves on its devices.
 ghost use Rattle.std.specs.Prelude.{◌≡◌, ◌≢◌, Err, IfSome, true};
 ghost use Rattle.preflib_text.specs.Approvals.{HasNumber};
 ghost use Rattle.vote_cli.specs.Device.{reader_state, writer_state};
-ghost use Rattle.vote_cli.specs.Runs.{Ends, IsRight, Reports, has_votes};
+ghost use Rattle.vote_cli.specs.Runs.{IsRight, LeavesRun, Reports, has_votes};
 ghost use Rattle.vote_cli.specs.Steps.Refusals.{WritesRight, ReadsBallots, ReadsOn};
 ghost use Rattle.vote_cli.specs.Steps.Refusals.{TellsOfReads, TellsOfWrites, error_of, status_of};
 
@@ -14,7 +14,9 @@ use crate::device::{Sink, Source};
 use crate::input::read_to_end;
 use crate::names::Names;
 use crate::refusal::{Refusal, refusal_of};
+use crate::share_text::Sharing;
 use crate::status::Status;
+use crate::storage::Storage;
 use ballot_base::{BallotHashing, Profile};
 use preflib_text::{LineReader, Pick};
 use request_words::{Request, Task};
@@ -34,8 +36,7 @@ fn ballots_of<A: Allocator + Copy + Drop>(lines: LineReader<A>) -> Result<Profil
 
 /// Reads the ballots of the whole input.
 fn read_ballots<A: Allocator + Copy + Drop, R: Source>(
-    alloc: A,
-    hashing: BallotHashing,
+    storage: Storage<A>,
     pick: &Pick,
     reader: &mut R,
 ) -> Result<Profile<A>, Refusal>
@@ -45,14 +46,13 @@ fn read_ballots<A: Allocator + Copy + Drop, R: Source>(
         (reader_state R.remaining R.has_failed R.given reader.new) result }
     ensures unwritten { result ≢ Err Refusal.WriteFailed }
 {
-    let lines = read_to_end(alloc, hashing, pick, reader)?;
+    let lines = read_to_end(storage, pick, reader)?;
     ballots_of(lines)
 }
 
 /// Writes the answer if there is one. The input is read only if its ballots are asked about.
 fn answer<A: Allocator + Copy + Drop, R: Source, W: Sink>(
-    alloc: A,
-    hashing: BallotHashing,
+    storage: Storage<A>,
     request: &Request,
     reader: &mut R,
     out: &mut W,
@@ -67,11 +67,16 @@ fn answer<A: Allocator + Copy + Drop, R: Source, W: Sink>(
     match request.task() {
         Task::OfVotes(votes, method, seats, page) => {
             let names = Names::<A>::numbers(request.names());
-            answer_share(out, votes.as_slice(), *method, *seats, page, &names)
+            let sharing = Sharing {
+                method: *method,
+                seats: *seats,
+                page,
+            };
+            answer_share(out, votes.as_slice(), &sharing, &names)
         }
         Task::OfBallots(question) => {
-            let profile = read_ballots(alloc, hashing, &request.pick(), reader)?;
-            answer_about_ballots(alloc, out, &profile, question, request.names())
+            let profile = read_ballots(storage, &request.pick(), reader)?;
+            answer_about_ballots(storage.alloc, out, &profile, question, request.names())
         }
     }
 }
@@ -98,35 +103,31 @@ pub fn run<A: Allocator + Copy + Drop, R: Source, W: Sink, E: Sink>(
     out: &mut W,
     err: &mut E,
 ) -> Status
-    // With the answer of the request and the bytes, or with what stopped it: the status says which.
-    ensures ends { Ends request.now (reader_state R.remaining R.has_failed R.given reader.old)
-        (reader_state R.remaining R.has_failed R.given reader.new)
-        (writer_state W.contents W.has_failed out.old) (writer_state W.contents W.has_failed out.new)
-        (writer_state E.contents E.has_failed err.old) (writer_state E.contents E.has_failed err.new) result }
-    // With votes in the request the reader is left alone.
-    ensures votes { has_votes request.now.demand ≡ true → reader.new ≡ reader.old }
+    ensures { LeavesRun (reader_state R.remaining R.has_failed R.given)
+        (writer_state W.contents W.has_failed) (writer_state E.contents E.has_failed)
+        request.now reader.old reader.new out.old out.new err.old err.new result }
 {
-    run_with_hashing(alloc, BallotHashing::fixed(), request, reader, out, err)
+    let storage = Storage {
+        alloc,
+        hashing: BallotHashing::fixed(),
+    };
+    run_with_hashing(storage, request, reader, out, err)
 }
 
-/// The same with ballots that are hashed by these numbers. They change the time that ballots take, and nothing else.
+/// Answers a request like `run`, but keeps ballots by the hashing of `storage`. It changes the time that ballots take,
+/// and nothing else.
 pub fn run_with_hashing<A: Allocator + Copy + Drop, R: Source, W: Sink, E: Sink>(
-    alloc: A,
-    hashing: BallotHashing,
+    storage: Storage<A>,
     request: &Request,
     reader: &mut R,
     out: &mut W,
     err: &mut E,
 ) -> Status
-    // With the answer of the request and the bytes, or with what stopped it: the status says which.
-    ensures ends { Ends request.now (reader_state R.remaining R.has_failed R.given reader.old)
-        (reader_state R.remaining R.has_failed R.given reader.new)
-        (writer_state W.contents W.has_failed out.old) (writer_state W.contents W.has_failed out.new)
-        (writer_state E.contents E.has_failed err.old) (writer_state E.contents E.has_failed err.new) result }
-    // With votes in the request the reader is left alone.
-    ensures votes { has_votes request.now.demand ≡ true → reader.new ≡ reader.old }
+    ensures { LeavesRun (reader_state R.remaining R.has_failed R.given)
+        (writer_state W.contents W.has_failed) (writer_state E.contents E.has_failed)
+        request.now reader.old reader.new out.old out.new err.old err.new result }
 {
-    match answer(alloc, hashing, request, reader, out) {
+    match answer(storage, request, reader, out) {
         Ok(outcome) => outcome.status(),
         Err(refusal) => refuse(err, refusal),
     }

@@ -9,6 +9,7 @@ use crate::listing::print_listing;
 use crate::names::Names;
 use crate::printing::{Printer, WriteFailed};
 use itoa::Buffer;
+use request_words::Page;
 use seat_share::{Method, Shares};
 use std::alloc::Allocator;
 
@@ -31,19 +32,28 @@ fn print_header<W: Sink>(
     printer.print_all(&pieces)
 }
 
-/// Writes the answer of a method, of which these allocations are asked for, and flushes the writer.
-pub(crate) fn write_shares<W: Sink, N: Allocator + Copy>(
-    out: &mut W,
-    shares: Shares,
-    method: Method,
-    seats: u16,
-    limit: Option<u32>,
-    names: &Names<'_, N>,
-) -> Result<(), WriteFailed>
-    ensures { Sends W.contents W.has_failed out.old out.new (is_ok result)
-        (share_header method seats ++ answers_text (allocation_line names.now) limit shares) }
-{
-    let mut printer = Printer::new(out);
-    print_header(&mut printer, method, seats)?;
-    print_listing(&mut printer, names, limit, shares)
+/// A method that shares out seats, and the page of the fair allocations that is asked for.
+#[derive(Drop)]
+pub(crate) struct Sharing<'a> {
+    pub(crate) method: Method,
+    pub(crate) seats: u16,
+    pub(crate) page: &'a Page,
+}
+
+impl Sharing<'_> {
+    /// Writes the answer that has these allocations after the start, and flushes the writer.
+    pub(crate) fn write_shares<W: Sink, N: Allocator + Copy>(
+        &self,
+        out: &mut W,
+        shares: Shares,
+        names: &Names<'_, N>,
+    ) -> Result<(), WriteFailed>
+        ensures { Sends W.contents W.has_failed out.old out.new (is_ok result)
+            (share_header self.now.method self.now.seats
+            ++ answers_text (allocation_line names.now) self.now.page.now.limit shares) }
+    {
+        let mut printer = Printer::new(out);
+        print_header(&mut printer, self.method, self.seats)?;
+        print_listing(&mut printer, names, self.page.limit, shares)
+    }
 }

@@ -3,7 +3,7 @@ use super::support::{ANSWER, THREE, request};
 use std::alloc::Global;
 use std::hash::RandomState;
 use std::process::Abort;
-use vote_cli::{BallotHashing, Device, Status, Told, run, run_with_hashing};
+use vote_cli::{BallotHashing, Device, Status, Storage, Told, run, run_with_hashing};
 
 /// Asserts that a run over `THREE` answers, with these numbers of the hash where there are some.
 fn assert_answers(rt: &impl Abort, alloc: Global, hashing: Option<BallotHashing>) {
@@ -14,7 +14,8 @@ fn assert_answers(rt: &impl Abort, alloc: Global, hashing: Option<BallotHashing>
     let mut err = Told::new(Vec::new(alloc));
     let status = match hashing {
         Some(hashing) => {
-            run_with_hashing(alloc, hashing, &request, &mut reader, &mut out, &mut err)
+            let storage = Storage { alloc, hashing };
+            run_with_hashing(storage, &request, &mut reader, &mut out, &mut err)
         }
         None => run(alloc, &request, &mut reader, &mut out, &mut err),
     };

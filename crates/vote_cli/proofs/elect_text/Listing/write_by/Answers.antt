@@ -1,18 +1,20 @@
 use Rattle.std.proofs.Common.{rules, ◌∙◌}
 use Rattle.vote_cli.proofs.TextLemmas.{winners_parts}
 use Rattle.vote_cli.proofs.PrintingLemmas.{breaks_off, goes_on, Sends-by, Sends-cut}
-use Rattle.vote_cli.proofs.elect_text.write_by.Goals as goal
+use Rattle.vote_cli.proofs.elect_text.Listing.write_by.Goals as goal
 
 pub returns-in_err-print_header : goal.returns-in_err-print_header
 returns-in_err-print_header g c =
-    let parts = winners_parts c.args.names.now (g.T.Tally.value_of c.args.tally.now) c.args.rule (g.T.Tally.candidates c.args.tally.now) c.m-m.result c.args.size c.best.result c.args.after c.args.limit c.new-winners.result.left
-    c.m-m.ensures.value (c.best.ensures ∙ c.new-winners.ensures.best) c.new-winners.ensures.left in
+    let s = c.args.self.now in
+    let parts = winners_parts s.names (g.T.Tally.value_of c.args.tally.now) c.args.rule s.profile.now.m c.m.result s.size c.best.result s.after s.limit c.new-winners.result.left
+    c.m.ensures.value (c.best.ensures ∙ c.new-winners.ensures.best) c.new-winners.ensures.left in
     Sends-cut c.new-printer.ensures.writer c.new-printer.ensures.nothing _ c.from_residual.ensures.0 (search rules)
     (breaks_off _ c.print_header.result _ c.from_residual.result c.in_err-print_header.was c.from_residual.ensures.0 parts c.print_header.ensures)
 
 pub returns : goal.returns
 returns g c =
-    let parts = winners_parts c.args.names.now (g.T.Tally.value_of c.args.tally.now) c.args.rule (g.T.Tally.candidates c.args.tally.now) c.m-m.result c.args.size c.best.result c.args.after c.args.limit c.new-winners.result.left
-    c.m-m.ensures.value (c.best.ensures ∙ c.new-winners.ensures.best) c.new-winners.ensures.left in
+    let s = c.args.self.now in
+    let parts = winners_parts s.names (g.T.Tally.value_of c.args.tally.now) c.args.rule s.profile.now.m c.m.result s.size c.best.result s.after s.limit c.new-winners.result.left
+    c.m.ensures.value (c.best.ensures ∙ c.new-winners.ensures.best) c.new-winners.ensures.left in
     Sends-by c.new-printer.ensures.writer c.new-printer.ensures.nothing c.print_listing.ensures.nothing (search rules)
     (goes_on c.print_header.result _ c.in_ok-print_header.was parts c.print_header.ensures c.print_listing.ensures.printed)

@@ -1,0 +1,10 @@
+-- That a start fits.
+use Rattle.std.specs.Prelude.{ℕ, List, Option, Some, None}
+use Rattle.std.specs.Coded.{Coded-set, Unit-prop, coded_ℕ, ×_prop}
+use Rattle.group_check.specs.Steps.Checking.{IsIncreasing-prop}
+use Rattle.tie_walk.specs.Winners.{IsStart}
+
+-- that a start fits has one proof at most
+pub IsStart-prop : (m k : ℕ) (start : Option (List ℕ)) → IsProp (IsStart m k start)
+IsStart-prop m k None = Unit-prop
+IsStart-prop m k (Some set) = ×_prop (IsIncreasing-prop 1 m set) (Coded-set coded_ℕ _ _)

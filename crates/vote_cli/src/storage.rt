@@ -1,0 +1,12 @@
+//! Where ballots are kept, and how they are found there.
+
+use ballot_base::BallotHashing;
+
+/// Where ballots are kept: the memory that they take, and the parameters of the hash by which equal ballots are found.
+#[derive(Clone, Copy)]
+pub struct Storage<A> {
+    /// What gives memory.
+    pub alloc: A,
+    /// The parameters of the hash.
+    pub hashing: BallotHashing,
+}
