@@ -1,6 +1,6 @@
 -- The definitions of the search, worked out by hand. The value of a set is the sum of its numbers; of committees of two
 -- of the candidates 1 to 3 the best has 2 and 3.
-use Rattle.std.proofs.Common.{◌≡◌, ℕ, true, false, List, [], ◌∷◌, refl, length, sum, lit≤, lit<, arith}
+use Rattle.std.proofs.Common.{◌≡◌, ◌*◌, ◌^◌, ℕ, true, false, List, [], ◌∷◌, refl, length, sum, lit≤, lit<, arith}
 use Rattle.ballot_base.specs.Ballots.{hits}
 use Rattle.ballot_base.specs.Lists.{lists_of}
 use Rattle.tie_walk.specs.Ceilings.{ceiling, closeness_upto}
@@ -9,7 +9,7 @@ use Rattle.tie_walk.specs.Winners.{best_value}
 use Rattle.tie_search.specs.Needs.{hits_needed, weighted_needs, weighted_support}
 use Rattle.tie_search.specs.Completions.{IsOpen, IsCompletion, IsReaching, IsOutOfReach, IsWinnerFrom, is_reached, exact_bound}
 use Rattle.tie_search.specs.Prices.{kept, base, price}
-use Rattle.tie_search.specs.Steps.Near.{need_share, need_weight}
+use Rattle.tie_search.specs.Steps.Near.{need_weight}
 use Rattle.tie_search.specs.Steps.Witness.{IsSetAndLater}
 use Rattle.tie_search.specs.Steps.Columns.{voter_ballot, given, total, voters_of}
 
@@ -154,11 +154,8 @@ support-three = refl
 support-nobody : weighted_support (λ row. length row.0) ((1 ∷ 2 ∷ 3 ∷ [], 1) ∷ (4 ∷ 5 ∷ [], 2) ∷ []) 6 ≡ 0
 support-nobody = refl
 
--- a ballot that needs two of four free candidates
-share-half : need_share 2 4 ≡ 32
-share-half = refl
-
-weight-half : need_weight 2 4 ≡ 65536
+-- a ballot that needs two of four free candidates, whose share is 256 parts each
+weight-half : need_weight 256 2 ≡ 2 * 512 ^ 3
 unfolding need_weight
 weight-half = refl
 

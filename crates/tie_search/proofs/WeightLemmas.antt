@@ -1,5 +1,5 @@
 -- What ballots need, weighted, and the weights of the candidates who can join.
-use Rattle.std.proofs.Common.{◌≡◌, ℕ, suc, ◌+◌, ◌-◌, ◌*◌, ◌<◌, ◌≤◌, ◌∙◌, ◌==◌, ◌&&◌, ◌||◌, Bool, true, false, cond, List, [], ◌∷◌, ◌++◌, refl, sym, ap, arith, inl, inr, length, sum_by, take, get_or, slice_get, Some, max, ◌^◌}
+use Rattle.std.proofs.Common.{◌≡◌, ℕ, suc, ◌+◌, ◌-◌, ◌*◌, ◌<◌, ◌≤◌, ◌∙◌, ◌==◌, ◌&&◌, ◌||◌, Bool, true, false, cond, List, [], ◌∷◌, ◌++◌, refl, sym, ap, arith, inl, inr, length, sum_by, take, get_or, slice_get, Some, ◌^◌}
 use Rattle.std.specs.List.{AllByRecursion}
 use Rattle.std.proofs.Math.Nat.{mul-le-mul_left}
 use Rattle.std.proofs.lemmas.Bool.{cases_eq, cases_lt}
@@ -123,19 +123,19 @@ turns-few e i row valid found =
 -- ---- weights by needs
 
 -- how much a row weighs
-pub row_weight : ℕ → ℕ → List ℕ → List ℕ → Row → ℕ
-row_weight k most set free row =
-    need_weight (hits_needed (length row.0) k most - hits row.0 set) (max 1 (length (common_members row.0 free)))
+pub row_weight : List ℕ → ℕ → ℕ → List ℕ → List ℕ → Row → ℕ
+row_weight shares k most set free row =
+    need_weight (get_or shares (length (common_members row.0 free)) 0) (hits_needed (length row.0) k most - hits row.0 set)
 
-pub row_weight-is : (k most : ℕ) (set free : List ℕ) (row : Row)
-    → row_weight k most set free row ≡ need_weight (hits_needed (length row.0) k most - hits row.0 set) (max 1 (length (common_members row.0 free)))
+pub row_weight-is : (shares : List ℕ) (k most : ℕ) (set free : List ℕ) (row : Row)
+    → row_weight shares k most set free row ≡ need_weight (get_or shares (length (common_members row.0 free)) 0) (hits_needed (length row.0) k most - hits row.0 set)
 unfolding row_weight
-row_weight-is k most set free row = refl
+row_weight-is shares k most set free row = refl
 
 -- nothing, where nothing is needed
-pub weight-none : (approved : ℕ) → need_weight 0 approved ≡ 0
+pub weight-none : (share : ℕ) → need_weight share 0 ≡ 0
 unfolding need_weight
-weight-none approved = omega arith
+weight-none share = omega arith
 
 -- who is free and on the ballot
 pub free-common : (ballot free : List ℕ) (n : ℕ) → has_member free n ≡ true → has_member (common_members ballot free) n ≡ has_member ballot n

@@ -3,29 +3,33 @@ ghost use Rattle.std.specs.Prelude.{◌≡◌};
 ghost use Rattle.tie_walk.specs.Ceilings.{closeness_upto};
 ghost use Rattle.tie_walk.specs.Values.{closeness};
 
-use crate::near::NearSearch;
+use crate::near::{NearSearch, Shares, equal_shares};
 use crate::searchable::Searchable;
 use ballot_base::{CandSet, Clones, Profile};
 use std::alloc::{Allocator, Global};
 use std::marker::Model;
 use tie_walk::{MinimaxTally, Tally};
 
-/// The values under minimax approval voting, and who are clones. Contracts see the election.
+/// The values under minimax approval voting, and what a search among them is helped by. Contracts see the election.
 #[derive(Drop)]
 pub struct MinimaxSearch<'a, A: Allocator + Copy = Global> {
     profile: &'a Profile<A>,
     clones: Clones,
+    shares: Shares,
 }
 
 impl<'a, A: Allocator + Copy> Model for MinimaxSearch<'a, A> {
+    ghost use Rattle.std.specs.Prelude.{ℕ, ◌≤◌, slice_index};
     ghost use Rattle.ballot_base.specs.Ballots.{Election};
     ghost use Rattle.ballot_base.specs.Clones.{AreClones};
+    ghost use Rattle.tie_search.specs.Steps.Near.{share_parts};
 
     ghost Value = { Election };
 
     ghost view = { λ t. t.profile.now };
 
-    ghost invariant = { λ t. AreClones t.profile.now.m t.profile.now.rows t.clones };
+    ghost invariant = { λ t. AreClones t.profile.now.m t.profile.now.rows t.clones
+        × ((n : ℕ) → slice_index t.shares n ≤ share_parts) };
 }
 
 impl<'a, A: Allocator + Copy> MinimaxSearch<'a, A> {
@@ -33,8 +37,11 @@ impl<'a, A: Allocator + Copy> MinimaxSearch<'a, A> {
     pub fn new(profile: &'a Profile<A>) -> MinimaxSearch<'a, A>
         ensures { result ≡ profile.now }
     {
-        let clones = Clones::of(profile);
-        MinimaxSearch { profile, clones }
+        MinimaxSearch {
+            profile,
+            clones: Clones::of(profile),
+            shares: equal_shares(),
+        }
     }
 }
 
@@ -67,6 +74,7 @@ impl<'a, A: Allocator + Copy> Searchable for MinimaxSearch<'a, A> {
         let search = NearSearch {
             profile: self.profile,
             clones: &self.clones,
+            shares: &self.shares,
             most: m - least as u8,
         };
         search.find_near(set, free, left)

@@ -16,7 +16,7 @@ ghost use Rattle.ballot_base.specs.Limits.{most_candidates};
 ghost use Rattle.ballot_base.specs.Lists.{IsIncreasing};
 ghost use Rattle.tie_walk.specs.Values.{closeness, greatest_distance};
 ghost use Rattle.tie_search.specs.Completions.{IsOpen, IsOutOfReach, IsReaching};
-ghost use Rattle.tie_search.specs.Steps.Near.{AreChoices, AreWeighted, IsNarrowed, need_weight};
+ghost use Rattle.tie_search.specs.Steps.Near.{AreChoices, AreWeighted, IsNarrowed, need_weight, share_parts};
 
 use crate::needs::still_needed;
 use crate::order::Order;
@@ -25,14 +25,31 @@ use ballot_base::{CandSet, Clones, PLACES, Profile};
 use std::alloc::Allocator;
 use tie_walk::add_to_members;
 
-/// The denominator of shares in `weight_of`.
-const SHARE_PARTS: u64 = 64;
+/// The denominator of shares.
+const SHARE_PARTS: u64 = 1024;
 
-/// What all steps of a search share: the ballots, who are clones on them, and how far a committee may be from each.
+/// At each number of candidates, the share of one of them, in parts of `SHARE_PARTS`. A look-up is quicker than a
+/// division for each ballot.
+pub(crate) type Shares = [u64; PLACES];
+
+/// The share of one candidate among others. Any shares would be right.
+pub(crate) fn equal_shares() -> Shares
+    ensures { (n : ℕ) → slice_index result n ≤ share_parts }
+{
+    let mut shares = [SHARE_PARTS; PLACES];
+    for n in 1..PLACES {
+        shares[n] = SHARE_PARTS / n as u64;
+    }
+    shares
+}
+
+/// What all steps of a search share: the ballots, who are clones on them, the shares that weights are made of, and how
+/// far a committee may be from each ballot.
 #[derive(Drop)]
 pub(crate) struct NearSearch<'a, A: Allocator + Copy> {
     pub(crate) profile: &'a Profile<A>,
     pub(crate) clones: &'a Clones,
+    pub(crate) shares: &'a Shares,
     pub(crate) most: u8,
 }
 
@@ -51,6 +68,7 @@ impl<A: Allocator + Copy> NearSearch<'_, A> {
     /// A committee of the set and of `left` of the free candidates that is near, if there is one.
     pub(crate) fn find_near(&self, set: CandSet, free: CandSet, left: u8) -> Option<CandSet>
         requires clones { AreClones self.now.profile.now.m self.now.profile.now.rows self.now.clones.now }
+        requires shares { (n : ℕ) → slice_index self.now.shares.now n ≤ share_parts }
         requires opened { IsOpen self.now.profile.now.m set free }
         ensures { MatchOption result
             (IsOutOfReach (closeness self.now.profile.now.m self.now.profile.now.rows) self.now.profile.now.m set free
@@ -81,6 +99,7 @@ impl<A: Allocator + Copy> NearSearch<'_, A> {
     /// What the ballots still need, if `left` of the free candidates complete the set.
     fn weighted_needs(&self, set: CandSet, free: CandSet, left: u8) -> WeightedNeeds
         requires few { left ≤ most_candidates }
+        requires shares { (n : ℕ) → slice_index self.now.shares.now n ≤ share_parts }
         ensures weighted { AreWeighted self.now.profile.now.rows (length set + left) self.now.most set free result.total
             result.supports }
         ensures small { (n : ℕ) → slice_index result.supports n ≤ 2 ^ 116 }
@@ -92,7 +111,7 @@ impl<A: Allocator + Copy> NearSearch<'_, A> {
             let needed = still_needed(ballot, set, k, self.most);
             if needed > 0 {
                 let approved = ballot.common(free);
-                let weight = u128::from(weight_of(needed, approved.len()));
+                let weight = u128::from(weight_of(self.shares, needed, approved.len()));
                 total += weight * u128::from(needed);
                 add_to_members(&mut supports, approved, weight);
             }
@@ -138,12 +157,14 @@ impl<A: Allocator + Copy> NearSearch<'_, A> {
 
 /// The weight of a ballot that approves this many free candidates and needs some of them: its need, times the cube of
 /// the share of these candidates that it needs. Any weights are right; these refute a set early.
-fn weight_of(needed: u8, approved: u8) -> u64
-    ensures value { result ≡ need_weight needed (max 1 approved) }
-    ensures small { result ≤ 2 ^ 50 }
+fn weight_of(shares: &Shares, needed: u8, approved: u8) -> u64
+    requires approved { approved ≤ most_candidates }
+    requires shares { (n : ℕ) → slice_index shares.now n ≤ share_parts }
+    ensures value { result ≡ need_weight (slice_index shares.now approved) needed }
+    ensures small { result ≤ 2 ^ 62 }
 {
     let needed = u64::from(needed);
-    let share = needed * SHARE_PARTS / u64::from(approved.max(1));
+    let share = needed * shares[usize::from(approved)];
     needed * share * share * share
 }
 

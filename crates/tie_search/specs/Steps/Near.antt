@@ -1,5 +1,5 @@
 -- Steps of the search for a committee that is near each ballot.
-use Rattle.std.specs.Prelude.{◌≡◌, ℕ, ◌*◌, ◌/◌, ◌≤◌, true, List, slice_index}
+use Rattle.std.specs.Prelude.{◌≡◌, ℕ, ◌*◌, ◌≤◌, true, List, slice_index}
 use Rattle.ballot_base.specs.Ballots.{Row}
 use Rattle.ballot_base.specs.CandSet.{has_member}
 use Rattle.tie_search.specs.Completions.{IsOpen, IsCompletion, IsReaching}
@@ -30,13 +30,8 @@ pub record AreWeighted (rows : List Row) (k most : ℕ) (set free : List ℕ) (t
 
 -- the denominator of shares
 abbrev pub share_parts : ℕ
-share_parts = 64
+share_parts = 1024
 
--- the share of the free candidates on a ballot that it needs
-abbrev pub need_share : ℕ → ℕ → ℕ
-need_share needed approved = needed * share_parts / approved
-
--- the weight of a ballot: its need, times the cube of the share
+-- the weight of a ballot: its need, times the cube of its share, which is the need times that of one candidate
 unfoldable pub need_weight : ℕ → ℕ → ℕ
-need_weight needed approved =
-    needed * need_share needed approved * need_share needed approved * need_share needed approved
+need_weight share needed = needed * (needed * share) * (needed * share) * (needed * share)

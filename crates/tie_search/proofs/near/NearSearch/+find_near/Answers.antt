@@ -38,7 +38,10 @@ returns-then-left-eq0 g t c =
 pub weighted_needs-needs-requires : goal.weighted_needs-needs-requires
 weighted_needs-needs-requires g t c =
     let m = c.args.self.now.profile.now.m in
-    record { few = omega (arith, c.in_ok-choices.ensures.3, length-increasing 1 m c.args.free c.requires.opened.free_within, c.m.ensures.valid.most) }
+    record {
+      few = omega (arith, c.in_ok-choices.ensures.3, length-increasing 1 m c.args.free c.requires.opened.free_within, c.m.ensures.valid.most);
+      shares = c.requires.shares;
+    }
 
 pub narrowed-requires-clause-opened : goal.narrowed-requires-clause-opened
 narrowed-requires-clause-opened g t c = c.in_ok-choices.ensures.1.opened
@@ -79,7 +82,7 @@ find_near-found-requires g t c κs within =
     let opened : IsOpen c.args.self.now.profile.now.m (with_member c.args.set next) (without_member c.loop-next.rest next) =
     open-with c.args.self.now.profile.now.m c.args.set c.loop-next.rest next c.loop-next.invariant.narrowed.opened
     (choice-left c.in_ok-choices.choices c.loop-next.rest c.common.result next c.common.ensures c.in-Some.ensures.0) in
-    (omega (arith, c.if-left-eq0.false, c.decreases), (within, (c.requires.clones, rw (c.with.ensures, c.without-others.ensures) opened)))
+    (omega (arith, c.if-left-eq0.false, c.decreases), (within, (c.requires.clones, (c.requires.shares, rw (c.with.ensures, c.without-others.ensures) opened))))
 
 pub returns-in-Some-found : goal.returns-in-Some-found
 returns-in-Some-found g t c =

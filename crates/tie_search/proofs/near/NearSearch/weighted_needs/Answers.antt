@@ -1,4 +1,4 @@
-use Rattle.std.proofs.Common.{◌≡◌, ℕ, ◌+◌, ◌-◌, ◌*◌, ◌^◌, ◌≤◌, ◌∙◌, cond, sym, ap, subst, arith, get_or, length, max, replicate, take}
+use Rattle.std.proofs.Common.{◌≡◌, ℕ, ◌+◌, ◌-◌, ◌*◌, ◌^◌, ◌≤◌, ◌∙◌, cond, sym, ap, subst, arith, get_or, length, replicate, take}
 use Rattle.std.proofs.Math.Nat.{mul-le-mul}
 use Rattle.std.proofs.lemmas.List.{length_push}
 use Rattle.ballot_base.specs.CandSet.{has_member, common_members}
@@ -20,9 +20,9 @@ loop-ballot-init g c = record {
 }
 
 -- what a ballot adds to the whole
-product-most : (weight needed : ℕ) → weight ≤ 2 ^ 50 → needed ≤ 255 → weight * needed ≤ 2 ^ 58
+product-most : (weight needed : ℕ) → weight ≤ 2 ^ 62 → needed ≤ 255 → weight * needed ≤ 2 ^ 70
 product-most weight needed small few =
-    let most : weight * needed ≤ 2 ^ 50 * 255 = mul-le-mul small few in
+    let most : weight * needed ≤ 2 ^ 62 * 255 = mul-le-mul small few in
     omega (arith, most)
 
 pub overflow_add-total : goal.overflow_add-total
@@ -49,20 +49,20 @@ loop-ballot-preserved-then-needed-gt0 g c =
     let i = length c.loop-ballot.yielded in
     let next = sym (length_push c.loop-ballot.yielded row) in
     let inv = c.loop-ballot.invariant in
-    let W : Row → ℕ = row_weight k most set free in
+    let W : Row → ℕ = row_weight c.args.self.now.shares.now k most set free in
     let need = hits_needed (length row.0) k most - hits row.0 set in
     let needed : c.still_needed-needed.result ≡ need =
     c.still_needed-needed.ensures ∙ ap (λ n. hits_needed (length row.0) (n + c.args.left) most - hits row.0 set) c.len.ensures.count in
     let approved : c.len-then-needed-gt0.result ≡ length (common_members row.0 free) = c.len-then-needed-gt0.ensures.count ∙ ap length c.common-approved.ensures in
     let weight : c.from-weight.result ≡ W row =
     c.from-weight.ensures ∙ c.weight_of.ensures.value
-    ∙ ap (λ n. need_weight n (max 1 c.len-then-needed-gt0.result)) needed
-    ∙ ap (λ n. need_weight need (max 1 n)) approved
-    ∙ sym (row_weight-is k most set free row) in
+    ∙ ap (λ n. need_weight (get_or c.args.self.now.shares.now c.len-then-needed-gt0.result 0) n) needed
+    ∙ ap (λ n. need_weight (get_or c.args.self.now.shares.now n 0) need) approved
+    ∙ sym (row_weight-is c.args.self.now.shares.now k most set free row) in
     let product : c.from-weight.result * c.from.result ≡ W row * need =
     ap (λ n. n * c.from.result) weight ∙ ap (λ n. W row * n) (c.from.ensures ∙ needed) in
     let few : c.from.result ≤ 255 = omega (arith, c.from.ensures) in
-    let slight : c.from-weight.result ≤ 2 ^ 50 = omega (arith, c.from-weight.ensures, c.weight_of.ensures.small) in
+    let slight : c.from-weight.result ≤ 2 ^ 62 = omega (arith, c.from-weight.ensures, c.weight_of.ensures.small) in
     let added = product-most c.from-weight.result c.from.result slight few in
     let turn = turns-few e i row c.ballots-ballot-items.ensures.valid at in
     record {
@@ -92,13 +92,14 @@ loop-ballot-preserved g c =
     let i = length c.loop-ballot.yielded in
     let next = sym (length_push c.loop-ballot.yielded row) in
     let inv = c.loop-ballot.invariant in
-    let W : Row → ℕ = row_weight k most set free in
+    let W : Row → ℕ = row_weight c.args.self.now.shares.now k most set free in
     let need = hits_needed (length row.0) k most - hits row.0 set in
     let needed : c.still_needed-needed.result ≡ need =
     c.still_needed-needed.ensures ∙ ap (λ n. hits_needed (length row.0) (n + c.args.left) most - hits row.0 set) c.len.ensures.count in
     let zero_need : need ≡ 0 = omega (arith, needed, c.if-needed-gt0.false) in
     let weight : W row ≡ 0 =
-    row_weight-is k most set free row ∙ ap (λ n. need_weight n (max 1 (length (common_members row.0 free)))) zero_need ∙ weight-none (max 1 (length (common_members row.0 free))) in
+    row_weight-is c.args.self.now.shares.now k most set free row ∙ ap (λ n. need_weight (get_or c.args.self.now.shares.now (length (common_members row.0 free)) 0) n) zero_need
+    ∙ weight-none (get_or c.args.self.now.shares.now (length (common_members row.0 free)) 0) in
     let product : W row * need ≡ 0 = ap (λ n. n * need) weight ∙ none need in
     let turn = turns-few e i row c.ballots-ballot-items.ensures.valid at in
     record {
@@ -118,7 +119,7 @@ pub returns-clause-weighted : goal.returns-clause-weighted
 returns-clause-weighted g c =
     let e = c.args.self.now.profile.now in
     let k = length c.args.set + c.args.left in
-    let W : Row → ℕ = row_weight k c.args.self.now.most c.args.set c.args.free in
+    let W : Row → ℕ = row_weight c.args.self.now.shares.now k c.args.self.now.most c.args.set c.args.free in
     let inv = c.loop-ballot.invariant in
     let all = all_passed e.rows (c.into_iter-ballot-iterator.ensures.into_iter_gives ∙ c.ballots-ballot-items.ensures.rows) c.loop-ballot.yielded c.loop-ballot.yielded_by c.in-None.ensures.steps.0 in
     record {

@@ -1,0 +1,32 @@
+use Rattle.std.proofs.Common.{ℕ, ◌≤◌, ◌/◌, ◌<◌, List, refl, ap, arith, inl, inr, get_or, length, replicate, set, get_or-set_same, get_or-set_other, rules, zero, suc}
+use Rattle.std.proofs.Math.Nat.{div-le_self}
+use Rattle.std.proofs.lemmas.Bool.{cases_eq}
+use Rattle.tie_search.proofs.near.equal_shares.Goals as goal
+
+-- none of the same numbers is more
+no_more : (n i x most : ℕ) → x ≤ most → get_or {A = ℕ} (replicate n x) i 0 ≤ most
+no_more zero i x most small = omega arith
+no_more (suc n) zero x most small = small
+no_more (suc n) (suc i) x most small = no_more n i x most small
+
+one-more : (shares : List ℕ) (j n most : ℕ) → j < length shares → ((i : ℕ) → get_or shares i 0 ≤ most) → n ≤ most → (i : ℕ) → get_or (set shares j n) i 0 ≤ most
+one-more shares j n most inside few low i = elim (cases_eq i j) [
+  | inl same ↦ omega (arith, low, ap (λ k. get_or (set shares j n) k 0) same, get_or-set_same shares j n 0 inside)
+  | inr other ↦ omega (arith, few i, get_or-set_other shares j i n 0 other)
+]
+
+pub loop-n-init : goal.loop-n-init
+loop-n-init c = record {
+  long = refl;
+  small = λ i. no_more 65 i 1024 1024 (omega arith);
+}
+
+pub loop-n-preserved : goal.loop-n-preserved
+loop-n-preserved c = record {
+  long = search rules;
+  small = one-more c.loop-n.shares c.loop-n.n (1024 / c.loop-n.n) 1024 (omega (arith, c.loop-n-test.true, c.loop-n.invariant.long)) c.loop-n.invariant.small
+      (let less = div-le_self 1024 c.loop-n.n in omega (arith, less));
+}
+
+pub returns : goal.returns
+returns c = c.loop-n.invariant.small
