@@ -8,7 +8,12 @@ use tie_walk::MinimaxTally;
 /// Asserts that the search and a walk with plain bounds find the same winners of each size.
 fn assert_all_sizes(rt: &impl Abort, profile: &Profile) {
     for k in 1..profile.m() + 1 {
-        assert_searched(rt, &MinimaxTally::new(profile), MinimaxSearch::new(profile), k);
+        assert_searched(
+            rt,
+            &MinimaxTally::new(profile),
+            MinimaxSearch::new(profile),
+            k,
+        );
     }
 }
 

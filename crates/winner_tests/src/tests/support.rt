@@ -122,7 +122,12 @@ pub(super) fn assert_same_winners<P: Tally, S: Tally>(
 
 /// Asserts that the search begins with a winner, and that it and the walk with plain bounds find the same winners, all
 /// of them and those later than the first committee.
-pub(super) fn assert_searched<P: Tally, S: Searchable + Drop>(rt: &impl Abort, plain: &P, search: S, k: u8)
+pub(super) fn assert_searched<P: Tally, S: Searchable + Drop>(
+    rt: &impl Abort,
+    plain: &P,
+    search: S,
+    k: u8,
+)
     requires candidates { P.candidates plain.now ≡ S.candidates search }
     requires some { 1 ≤ k }
     requires fits { k ≤ P.candidates plain.now }
