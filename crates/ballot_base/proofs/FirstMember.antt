@@ -18,7 +18,7 @@ use Rattle.ballot_base.specs.CandSet.{has_member, without_member}
 use Rattle.ballot_base.specs.Steps.Bits.{members_among, members, bits_of}
 use Rattle.ballot_base.specs.Steps.Bits.{bits_of_members_among, bits_of_members}
 use Rattle.ballot_base.proofs.Increasing.{IsIncreasing-lower, has_member-below, has_member_head}
-use Rattle.ballot_base.proofs.Members.{members_among_yes, members_among_no, members_among_none, IsIncreasing-members_among, IsIncreasing-members, has_member-members, members_none}
+use Rattle.ballot_base.proofs.Members.{members_among_yes, members_among_no, members_among_none, IsIncreasing-members_among, IsIncreasing-members, has_member-members, members_none, members_without}
 
 -- ---- how many
 ones_bit : (b : ℕ) → b < 2 → count_ones b ≡ b
@@ -97,6 +97,17 @@ pub split_members : (bits : ℕ) → bits < 2 ^ most_candidates → (bits ≡ 0 
 split_members bits h ne =
     let z = bit_at-trailing_zeros w64 bits (omega arith) (omega arith) in
     least_at bits (trailing_zeros w64 bits) (members bits) h (lowest_below bits h ne) refl z.1 z.2
+
+-- the least member, and the word of the others
+pub next_members : (bits : ℕ) → bits < 2 ^ most_candidates → (bits ≡ 0 → ⊥)
+    → members bits ≡ (trailing_zeros w64 bits + 1) ∷ members (bit_and bits (2 ^ 64 - 1 - 1 * 2 ^ trailing_zeros w64 bits % 2 ^ 64))
+next_members bits h ne =
+    let t = trailing_zeros w64 bits in
+    let back : t + 1 - 1 ≡ t = omega arith in
+    let low = lowest_below bits h ne in
+    let rest : members (bit_and bits (2 ^ 64 - 1 - 1 * 2 ^ t % 2 ^ 64)) ≡ without_member (members bits) (t + 1) =
+    subst (λ k. members (bit_and bits (2 ^ 64 - 1 - 1 * 2 ^ k % 2 ^ 64)) ≡ without_member (members bits) (t + 1)) back (members_without bits (t + 1) (omega arith) (omega arith)) in
+    split_members bits h ne ∙ ap (λ set. (t + 1) ∷ set) (sym rest)
 
 -- ---- the order
 -- what a list that begins with a number compares as, against a list of larger numbers

@@ -4,7 +4,7 @@ use Rattle.std.proofs.lemmas.Map.Views.{any-filter_same}
 use Rattle.std.proofs.lemmas.Bool.{eq-eqb, eqb-true, ne_eqb, lt-ltb, le-ltb, cases_order, cases_lt, or_left}
 use Rattle.std.proofs.lemmas.List.{drop_more}
 use Rattle.ballot_base.specs.Lists.{IsIncreasing}
-use Rattle.ballot_base.specs.CandSet.{has_member, with_member}
+use Rattle.ballot_base.specs.CandSet.{has_member, with_member, either_members}
 
 pub IsIncreasing-lower : (low first last : ℕ) (xs : List ℕ) → low ≤ first → IsIncreasing first last xs → IsIncreasing low last xs
 IsIncreasing-lower low first last [] h i = i
@@ -108,6 +108,26 @@ IsIncreasing-with_member first last (x ∷ xs) n l h i =
         | inr more ↦ rw (with_member-gt x xs n more) (i.0, i.1, IsIncreasing-with_member (x + 1) last xs n (omega arith) h i.2)
       ]
     ]
+
+-- what two sets have together
+or_moved : (a b c : Bool) → ((a || b) || c) ≡ (b || (a || c))
+or_moved true true c = refl
+or_moved true false c = refl
+or_moved false b c = refl
+
+or_none : (a : Bool) → a ≡ (a || false)
+or_none true = refl
+or_none false = refl
+
+pub has_member-either : (set other : List ℕ) (n : ℕ) → has_member (either_members set other) n ≡ (has_member set n || has_member other n)
+has_member-either set [] n = or_none (has_member set n)
+has_member-either set (x ∷ xs) n =
+    has_member-either (with_member set x) xs n ∙ ap (λ b. b || has_member xs n) (has_member-with_member set x n) ∙ or_moved (x == n) (has_member set n) (has_member xs n)
+
+pub IsIncreasing-either : (first last : ℕ) (set other : List ℕ) → IsIncreasing first last set → IsIncreasing first last other → IsIncreasing first last (either_members set other)
+IsIncreasing-either first last set [] i j = i
+IsIncreasing-either first last set (x ∷ xs) i j =
+    IsIncreasing-either first last (with_member set x) xs (IsIncreasing-with_member first last set x j.0 j.1 i) (IsIncreasing-lower first (x + 1) last xs (omega (arith, j.0)) j.2)
 
 -- one more number, above all the others
 pub with_member-above : (first last : ℕ) (set : List ℕ) (n : ℕ) → IsIncreasing first last set → last < n → with_member set n ≡ set ++ n ∷ []

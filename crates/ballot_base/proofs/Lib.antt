@@ -2,6 +2,7 @@ pub mod CloneLemmas
 pub mod Committees
 pub mod Examples
 pub mod FirstMember
+pub mod Included
 pub mod Increasing
 pub mod Later
 pub mod LeastMultiples

@@ -1,17 +1,18 @@
 -- The members of a word: an increasing list, in which a number stands where its bit is 1.
-use Rattle.std.proofs.Common.{◌≡◌, ℕ, zero, suc, ◌+◌, ◌-◌, ◌*◌, ◌/◌, ◌%◌, ◌^◌, ◌<◌, ◌≤◌, ◌==◌, ◌&&◌, ◌⊎◌, not, min, bit_and, bit_or, w64, false, List, [], ◌∷◌, refl, sym, ap, ◌∙◌, subst, arith, inl, inr}
+use Rattle.std.proofs.Common.{◌≡◌, ℕ, zero, suc, ◌+◌, ◌-◌, ◌*◌, ◌/◌, ◌%◌, ◌^◌, ◌<◌, ◌≤◌, ◌==◌, ◌&&◌, ◌||◌, ◌⊎◌, not, min, max, bit_and, bit_or, w64, false, List, [], ◌∷◌, refl, sym, ap, ◌∙◌, subst, arith, inl, inr}
 use Rattle.std.specs.Int.{bit_at}
 use Rattle.std.proofs.lemmas.Bool.{eq-eqb, eqb-true, ne_eqb, cases_eq, cases_lt, or_left, and_left, and_right, not_from_true}
 use Rattle.std.proofs.lemmas.Bool.Decides.{same_from_decides}
 use Rattle.std.specs.Str.{bytes_eq}
 use Rattle.std.specs.Cmp.Lexicographic.{bytes_decides}
 use Rattle.std.proofs.lemmas.Nat.{pow_below, one_shl, or_lt, and_le_l}
-use Rattle.std.proofs.lemmas.Nat.Bits.{bit_at-lt, bit_at_and, bit_at_set_same, bit_at_set_other, bit_at_clear_same, bit_at_clear_other, bit_at_not, shr_and_one}
+use Rattle.std.proofs.lemmas.Nat.Bits.{bit_at-lt, bit_at_and, bit_at_or, bit_at_set_same, bit_at_set_other, bit_at_clear_same, bit_at_clear_other, bit_at_not, shr_and_one}
 use Rattle.ballot_base.specs.Limits.{most_candidates}
 use Rattle.ballot_base.specs.Lists.{IsIncreasing}
-use Rattle.ballot_base.specs.CandSet.{has_member, with_member, without_member, common_members, other_members}
+use Rattle.ballot_base.specs.CandSet.{has_member, with_member, without_member, common_members, either_members, other_members, includes}
 use Rattle.ballot_base.specs.Steps.Bits.{members_among, members, bits_of, bits_of_members}
-use Rattle.ballot_base.proofs.Increasing.{IsIncreasing-lower, has_member-below, has_member-above, has_member_head, has_member_tail, same_increasing, has_member-filter, IsIncreasing-filter, has_member-with_member, IsIncreasing-with_member}
+use Rattle.ballot_base.proofs.Increasing.{IsIncreasing-lower, has_member-below, has_member-above, has_member_head, has_member_tail, same_increasing, has_member-filter, IsIncreasing-filter, has_member-with_member, IsIncreasing-with_member, has_member-either, IsIncreasing-either}
+use Rattle.ballot_base.proofs.Included.{kept_whole}
 
 -- the members from a number on, by its bit
 pub members_among_yes : (first count bits : ℕ) → bit_at bits (first - 1) ≡ 1 → members_among first (suc count) bits ≡ first ∷ members_among (first + 1) count bits
@@ -148,6 +149,26 @@ members_common bits other =
     (IsIncreasing-filter (has_member (members other)) 1 most_candidates (members bits) (IsIncreasing-members bits))
     (λ k kl kh. rw (has_member-filter (has_member (members other)) (members bits) k, has_member-members other k kl kh, has_member-members bits k kl kh, bit_at_and bits other (k - 1))
     (both_set (bit_at bits (k - 1)) (bit_at other (k - 1)) (bit_at-lt bits (k - 1)) (bit_at-lt other (k - 1))))
+
+some_set : (a b : ℕ) → a < 2 → b < 2 → (max a b == 1) ≡ ((a == 1) || (b == 1))
+some_set zero zero h k = refl
+some_set zero (suc zero) h k = refl
+some_set (suc zero) zero h k = refl
+some_set (suc zero) (suc zero) h k = refl
+some_set (suc (suc a)) b h k = absurd (omega arith)
+some_set a (suc (suc b)) h k = absurd (omega arith)
+
+pub members_either : (bits other : ℕ) → members (bit_or bits other) ≡ either_members (members bits) (members other)
+members_either bits other =
+    same_members (bit_or bits other) (either_members (members bits) (members other))
+    (IsIncreasing-either 1 most_candidates (members bits) (members other) (IsIncreasing-members bits) (IsIncreasing-members other))
+    (λ k kl kh. rw (has_member-either (members bits) (members other) k, has_member-members other k kl kh, has_member-members bits k kl kh, bit_at_or bits other (k - 1))
+    (some_set (bit_at bits (k - 1)) (bit_at other (k - 1)) (bit_at-lt bits (k - 1)) (bit_at-lt other (k - 1))))
+
+pub members_included : (bits other : ℕ) → other < 2 ^ most_candidates → (bit_and other bits == other) ≡ includes (members bits) (members other)
+members_included bits other small =
+    eqb-members (bit_and other bits) other (bound_of_and other bits small) small ∙ ap (λ set. bytes_eq set (members other)) (members_common other bits)
+    ∙ kept_whole (has_member (members bits)) (members other)
 
 one_set : (a b : ℕ) → a < 2 → b < 2 → (min a (1 - b) == 1) ≡ (not (b == 1) && (a == 1))
 one_set zero zero h k = refl

@@ -292,6 +292,21 @@ members_up_to n h =
     stacked (2 ^ n - 1) (2 ^ n - 1) 0 1 n (omega arith) (omega arith) (λ k l u. refl) (λ k l u. absurd (omega arith)) (λ k l u. bit_at_ones n (k - 1) (omega arith)) (λ k l u. bit_at_ones_above n (k - 1) (omega arith))
     ∙ ap (λ s. s ++ range_with_len 1 n) (members_among_none 1 (2 ^ n - 1))
 
+pub bound_of_up_to : (n : ℕ) → n ≤ most_candidates → 2 ^ n - 1 < 2 ^ most_candidates
+bound_of_up_to n h = omega (arith, pow_mono {i = n} {j = most_candidates} h, pow_pos n)
+
+pub members_after : (c m : ℕ) → c ≤ m → m ≤ most_candidates → members (bit_and (2 ^ m - 1) (2 ^ 64 - 1 - (2 ^ c - 1))) ≡ range_with_len (c + 1) (m - c)
+members_after c m within most =
+    let word : ℕ = bit_and (2 ^ m - 1) (2 ^ 64 - 1 - (2 ^ c - 1)) in
+    let small : 2 ^ c - 1 < 2 ^ 64 = bound_of_up_to c (omega (arith, within, most)) in
+    let bit : (n : ℕ) → 1 ≤ n → n ≤ most_candidates → bit_at word (n - 1) ≡ min (bit_at (2 ^ m - 1) (n - 1)) (1 - bit_at (2 ^ c - 1) (n - 1)) =
+    λ n low high. bit_at_and (2 ^ m - 1) (2 ^ 64 - 1 - (2 ^ c - 1)) (n - 1) ∙ ap (λ b. min (bit_at (2 ^ m - 1) (n - 1)) b) (bit_at_not w64 (2 ^ c - 1) (n - 1) small (omega arith)) in
+    stacked word word 0 (c + 1) (m - c) (omega arith) (omega (arith, within, most)) (λ k l u. refl)
+    (λ k l u. omega (arith, bit k (omega arith) (omega (arith, within, most)), bit_at_ones c (k - 1) (omega arith)))
+    (λ k l u. omega (arith, bit k (omega arith) (omega (arith, within, most)), bit_at_ones m (k - 1) (omega (arith, within)), bit_at_ones_above c (k - 1) (omega arith)))
+    (λ k l u. omega (arith, bit k (omega arith) u, bit_at_ones_above m (k - 1) (omega (arith, within))))
+    ∙ ap (λ s. s ++ range_with_len (c + 1) (m - c)) (members_among_none 1 word)
+
 -- the members that are at most c
 pub members_upto_word : (bits word c : ℕ) → word ≡ 2 ^ c - 1 → members (bit_and bits word) ≡ members_upto (members bits) c
 members_upto_word bits word c is =
@@ -303,6 +318,3 @@ members_upto_word bits word c is =
           ∙ sym (and_left (nat_le n c) (has_member (members bits) n) (lt-leb n c above))
       | inr within ↦ rw (le-leb n c within) (ap (λ b. b == 1) (below_in bits c (n - 1) (omega arith)) ∙ sym (has_member-members bits n low high))
     ])))
-
-pub bound_of_up_to : (n : ℕ) → n ≤ most_candidates → 2 ^ n - 1 < 2 ^ most_candidates
-bound_of_up_to n h = omega (arith, pow_mono {i = n} {j = most_candidates} h, pow_pos n)

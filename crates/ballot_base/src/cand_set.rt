@@ -1,12 +1,14 @@
 //! A set of candidates, in one word.
-ghost use Rattle.std.specs.Prelude.{◌≡◌, ℕ, ◌-◌, ◌^◌, ◌<◌, ◌≤◌, ◌↔◌, List, [], ◌∷◌, length, IsTrue, MatchOption, SomeIff};
+ghost use Rattle.std.specs.Prelude.{◌≡◌, ℕ, ◌+◌, ◌-◌, ◌^◌, ◌<◌, ◌≤◌, ◌↔◌, List, [], ◌∷◌, length, IsTrue, MatchOption, SomeIff};
 ghost use Rattle.std.specs.Int.{bit_at};
 ghost use Rattle.std.specs.List.{range_with_len};
+ghost use Rattle.std.specs.Iterator.{YieldsFirst, item_count};
 ghost use Rattle.std.specs.Cmp.Lexicographic.{slice_cmp};
 ghost use Rattle.std.specs.Ordering.{nat_cmp};
 ghost use Rattle.ballot_base.specs.Limits.{most_candidates};
 ghost use Rattle.ballot_base.specs.Lists.{IsIncreasing};
-ghost use Rattle.ballot_base.specs.CandSet.{has_member, with_member, without_member, common_members, other_members, members_upto};
+ghost use Rattle.ballot_base.specs.CandSet.{has_member, with_member, without_member, members_upto};
+ghost use Rattle.ballot_base.specs.CandSet.{common_members, either_members, other_members, includes};
 ghost use Rattle.ballot_base.specs.Steps.Subsets.{IsLastSet, IsNextSet};
 
 use crate::limits::MOST_CANDIDATES;
@@ -59,6 +61,39 @@ impl Eq for CandSet {
     ghost laws = { nat_list_eq_equiv };
 }
 
+impl PartialOrd for CandSet {
+    ghost use Rattle.std.specs.Prelude.{Some};
+    ghost use Rattle.std.specs.Cmp.Lexicographic.{slice_cmp, texts_po};
+    ghost use Rattle.std.specs.Ordering.{nat_cmp};
+
+    ghost partial_cmp = { λ set other. Some (slice_cmp nat_cmp set other) };
+
+    ghost laws = { texts_po };
+
+    fn partial_cmp(&self, other: &CandSet) -> Option<Ordering> {
+        Some(self.cmp(other))
+    }
+}
+
+/// The order of `cmp_lex`.
+impl Ord for CandSet {
+    ghost use Rattle.std.specs.Prelude.{refl};
+    ghost use Rattle.std.specs.Cmp.Lexicographic.{slice_cmp, nat_list_cmp_total, texts_ties};
+    ghost use Rattle.std.specs.Ordering.{nat_cmp};
+
+    ghost cmp = { slice_cmp nat_cmp };
+
+    ghost total = { nat_list_cmp_total };
+
+    ghost matches_partial_cmp = { λ set other. refl };
+
+    ghost matches_eq = { texts_ties };
+
+    fn cmp(&self, other: &CandSet) -> Ordering {
+        self.cmp_lex(*other)
+    }
+}
+
 impl Hash for CandSet {
     ghost use Rattle.std.specs.Hash.{u64 as word_input};
     ghost use Rattle.std.proofs.Common.{ap};
@@ -75,13 +110,7 @@ impl Hash for CandSet {
 
 impl fmt::Debug for CandSet {
     fn fmt<W: fmt::Write>(&self, f: &mut fmt::Formatter<W>) -> fmt::Result {
-        let mut members = f.debug_set();
-        for n in 1..=MOST_CANDIDATES {
-            if self.has(n) {
-                members.entry(&n);
-            }
-        }
-        members.finish()
+        f.debug_set().entries(self.members()).finish()
     }
 }
 
@@ -100,6 +129,17 @@ impl CandSet {
     {
         CandSet {
             bits: numbers_to(m),
+        }
+    }
+
+    /// The set of the candidates c + 1 to m.
+    pub fn after(c: u8, m: u8) -> CandSet
+        requires within { c ≤ m }
+        requires most { m ≤ most_candidates }
+        ensures { result ≡ range_with_len (c + 1) (m - c) }
+    {
+        CandSet {
+            bits: numbers_to(m) & !numbers_to(c),
         }
     }
 
@@ -166,6 +206,15 @@ impl CandSet {
         }
     }
 
+    /// The members of either set, or of both.
+    pub fn union(self, other: CandSet) -> CandSet
+        ensures { result ≡ either_members self other }
+    {
+        CandSet {
+            bits: self.bits | other.bits,
+        }
+    }
+
     /// The members that are not in the other set.
     pub fn minus(self, other: CandSet) -> CandSet
         ensures { result ≡ other_members self other }
@@ -185,10 +234,18 @@ impl CandSet {
         }
     }
 
+    /// Whether all members of the other set are members of this one.
+    pub fn includes(self, other: CandSet) -> bool
+        ensures { result ≡ includes self other }
+    {
+        other.bits & self.bits == other.bits
+    }
+
     /// How many members there are.
     pub fn len(self) -> u8
         ensures count { result ≡ length self }
         ensures most { result ≤ most_candidates }
+        ensures valid { IsIncreasing 1 most_candidates self }
     {
         self.bits.count_ones() as u8
     }
@@ -198,6 +255,14 @@ impl CandSet {
         ensures { IsTrue result ↔ (self ≡ []) }
     {
         self.bits == 0
+    }
+
+    /// The members, in increasing order.
+    pub fn members(self) -> Members
+        ensures items { result ≡ self }
+        ensures valid { IsIncreasing 1 most_candidates self }
+    {
+        Members { bits: self.bits }
     }
 
     /// The least member and the set of the others, or nothing of the empty set.
@@ -255,6 +320,41 @@ impl CandSet {
         Some(CandSet {
             bits: below & numbers_to(last - 1) | run,
         })
+    }
+}
+
+/// The members of a set, in increasing order. Contracts see the list of those still to come.
+#[derive(Drop)]
+pub struct Members {
+    bits: u64,
+}
+
+impl Model for Members {
+    ghost use Rattle.std.specs.Prelude.{ℕ, ◌^◌, ◌<◌, List};
+    ghost use Rattle.ballot_base.specs.Limits.{most_candidates};
+    ghost use Rattle.ballot_base.specs.Steps.Bits.{members};
+
+    ghost Value = { List ℕ };
+
+    ghost view = { λ iterator. members iterator.bits };
+
+    ghost invariant = { λ iterator. iterator.bits < 2 ^ most_candidates };
+}
+
+impl Iterator for Members {
+    type Item = u8;
+
+    ghost next_gives = { YieldsFirst (λ (members : List ℕ). members) };
+
+    ghost remaining = { item_count (λ (members : List ℕ). members) };
+
+    fn next(&mut self) -> Option<u8> {
+        if self.bits == 0 {
+            return None;
+        }
+        let bit = self.bits.trailing_zeros() as u8;
+        self.bits &= !(1 << bit);
+        Some(bit + 1)
     }
 }
 

@@ -11,3 +11,6 @@ returns-clause-count c = rw (← c.self.view_is) (length-members c.self.inside.b
 pub returns-clause-most : goal.returns-clause-most
 returns-clause-most c =
     omega (arith, length-members c.self.inside.bits c.self.invariant, length-increasing 1 most_candidates _ (IsIncreasing-members c.self.inside.bits))
+
+pub returns-clause-valid : goal.returns-clause-valid
+returns-clause-valid c = rw (← c.self.view_is) (IsIncreasing-members c.self.inside.bits)

@@ -1,0 +1,39 @@
+-- Whether a filter keeps all of a list.
+use Rattle.std.proofs.Common.{◌≡◌, ℕ, ◌≤◌, ◌==◌, ◌&&◌, Bool, true, false, cond, List, [], ◌∷◌, refl, sym, ap, ◌∙◌, arith, length, filter}
+use Rattle.std.specs.List.{list_all}
+use Rattle.std.specs.Str.{bytes_eq}
+use Rattle.std.proofs.lemmas.Bool.{and_parts, eq-eqb, ne_eqb}
+use Rattle.std.proofs.lemmas.Slice.Eq.{bytes_eq-Decides}
+use Rattle.std.proofs.lemmas.List.Sums.{length-filter, count_by-le-length}
+
+-- all pass where a filter keeps as many as there are
+pub kept_all : (p : ℕ → Bool) (xs : List ℕ) → (length (filter p xs) == length xs) ≡ list_all p xs
+kept_all p [] = refl
+kept_all p (x ∷ xs) =
+    let few = count_by-le-length p xs in
+    let kept = length-filter p xs in
+    cases (p x) (kept_all p xs) (omega (arith, few, kept))
+  where
+    cases : (b : Bool) → (length (filter p xs) == length xs) ≡ list_all p xs → length (filter p xs) ≤ length xs
+        → (length (cond b (x ∷ filter p xs) (filter p xs)) == length (x ∷ xs)) ≡ (b && list_all p xs)
+    cases true more few = grind (arith, more)
+    cases false more few = ne_eqb (length (filter p xs)) (length (x ∷ xs)) (λ e. omega (arith, e, few))
+
+same_answers : (a b : Bool) → (a ≡ true → b ≡ true) → (b ≡ true → a ≡ true) → a ≡ b
+same_answers true b h k = sym (h refl)
+same_answers false true h k = k refl
+same_answers false false h k = refl
+
+keeps_all : (p : ℕ → Bool) (xs : List ℕ) → list_all p xs ≡ true → filter p xs ≡ xs
+keeps_all p [] h = refl
+keeps_all p (x ∷ xs) h =
+    let parts = and_parts (p x) (list_all p xs) h in
+    rw parts.0 (ap (λ s. x ∷ s) (keeps_all p xs parts.1))
+
+-- all pass where a filter keeps the set as it is
+pub kept_whole : (p : ℕ → Bool) (xs : List ℕ) → bytes_eq (filter p xs) xs ≡ list_all p xs
+kept_whole p xs =
+    let decides = bytes_eq-Decides (filter p xs) xs in
+    same_answers (bytes_eq (filter p xs) xs) (list_all p xs)
+    (λ h. sym (kept_all p xs) ∙ eq-eqb (length (filter p xs)) (length xs) (ap length (decides.0 h)))
+    (λ h. decides.1 (keeps_all p xs h))
