@@ -1,5 +1,5 @@
 -- Each definition, computed on a small example.
-use Rattle.std.proofs.Common.{◌≡◌, ◌-◌, List, [], ◌∷◌, refl, lit≤, replicate}
+use Rattle.std.proofs.Common.{◌≡◌, ◌-◌, List, [], ◌∷◌, refl, lit≤, replicate, arith}
 use Rattle.ballot_base.specs.Limits.{most_candidates, most_members}
 use Rattle.ballot_base.specs.Ballots.{Row, election}
 use Rattle.ballot_base.specs.CommonMultiple.{common_multiple}
@@ -98,9 +98,24 @@ parts_of_two = refl
 worths_of_two : sum_of_worths (3 ∷ 4 ∷ 9 ∷ []) (5 ∷ 7 ∷ 1 ∷ []) 1 ≡ 43
 worths_of_two = refl
 
-is_thiele : IsThiele Cc 2 1 (1 ∷ replicate (most_members - 1) 0) (0 ∷ replicate most_candidates 1)
+is_thiele : IsThiele (election 2 ([] ∷ [] ∷ []) ((1 ∷ [], 3) ∷ [])) 2 Cc 2 1 (1 ∷ replicate (most_members - 1) 0) (0 ∷ replicate most_candidates 1)
 unfolding prefix_sums increments
-is_thiele = record { size = lit≤ tt; denom_is = refl; weights_are = refl; sums_are = refl }
+is_thiele = record {
+  election = record {
+    least = lit≤ tt;
+    most = lit≤ tt;
+    names = refl;
+    ballots = ((lit≤ tt, lit≤ tt, tt), tt);
+    distinct = λ i j d l h. absurd (omega arith);
+    counts = (lit≤ tt, tt);
+    voters = lit≤ tt;
+  };
+  m_is = refl;
+  size = lit≤ tt;
+  denom_is = refl;
+  weights_are = refl;
+  sums_are = refl;
+}
 
 -- of a ballot of two, each has half of 6; of a ballot of one, all of it
 score_of_two : score (0 ∷ 6 ∷ 3 ∷ []) two_and_one 2 ≡ 6

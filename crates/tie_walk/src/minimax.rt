@@ -138,8 +138,6 @@ fn last_close(ballot: CandSet, set: CandSet, most: u8, c: u8, end: u8) -> Option
 fn distance(ballot: CandSet, committee: CandSet) -> u8
     ensures { result ≡ distance ballot committee }
 {
-    ballot.valid();
-    committee.valid();
     let common = ballot.common(committee).len();
     ballot.len() - common + (committee.len() - common)
 }

@@ -28,6 +28,8 @@ const SMALL: u128 = 1 << 31;
 #[derive(Drop)]
 pub struct ThieleTally<'a, A: Allocator + Copy = Global> {
     profile: &'a Profile<A>,
+    // The number of candidates.
+    m: u8,
     rule: ThieleRule,
     k: u8,
     denom: u128,
@@ -45,7 +47,7 @@ impl<'a, A: Allocator + Copy> Model for ThieleTally<'a, A> {
 
     ghost view = { λ t. thiele_of t.profile.now t.rule t.k };
 
-    ghost invariant = { λ t. IsThiele t.rule t.k t.denom t.weights t.sums };
+    ghost invariant = { λ t. IsThiele t.profile.now t.m t.rule t.k t.denom t.weights t.sums };
 }
 
 impl<'a, A: Allocator + Copy> ThieleTally<'a, A> {
@@ -58,13 +60,12 @@ impl<'a, A: Allocator + Copy> ThieleTally<'a, A> {
         ensures tight { let tallies = ⟦<ThieleTally<'a, A> as Tally>⟧ in result.rule ≡ ThieleRule.Av
             → IsTight (tallies.value_of result) (tallies.bound_of result) (tallies.candidates result) result.k }
     {
-        // The ballots of a profile are sets of its candidates.
-        profile.m();
         let increments = Increments::of(rule, k);
         let weights = increments.w;
         let sums = prefix_sums(weights);
         ThieleTally {
             profile,
+            m: profile.m(),
             rule,
             k,
             denom: increments.denom,
@@ -94,13 +95,12 @@ impl<'a, A: Allocator + Copy> ThieleTally<'a, A> {
             ≡ gain (increments self.now.rule self.now.k) self.now.election.rows set n }
         ensures small { (n : ℕ) → slice_index result.1 n ≤ 2 ^ 116 }
     {
-        let m = self.profile.m();
         if self.sums[PLACES - 1] >= SMALL {
             let value = sum_of_hits(self.profile, &self.sums, set);
             return (value, worths(self.profile, Step::Grow, &self.weights, set));
         }
         let (counts, gains) = hits_and_gains(self.profile, &self.weights, set, others);
-        let value = sum_of_worths(&counts, &self.sums, m);
+        let value = sum_of_worths(&counts, &self.sums, self.m);
         (value, widened(&gains))
     }
 
@@ -113,9 +113,7 @@ impl<'a, A: Allocator + Copy> ThieleTally<'a, A> {
             ≡ gain (increments self.now.rule self.now.k) self.now.election.rows set n }
         ensures small { (n : ℕ) → slice_index result.1 n ≤ 2 ^ 116 }
     {
-        let m = self.profile.m();
-        let others = those_after(c, m);
-        self.value_and_gains(set, others)
+        self.value_and_gains(set, CandSet::after(c, self.m))
     }
 
     /// Does nothing. Its contract says what is true of each tally.
@@ -123,7 +121,7 @@ impl<'a, A: Allocator + Copy> ThieleTally<'a, A> {
         ensures election { IsElection self.now.election }
         ensures size { self.now.k ≤ most_members }
     {
-        let _m = self.profile.m();
+        let _m = self.m;
     }
 }
 
@@ -136,7 +134,7 @@ impl<'a, A: Allocator + Copy> Tally for ThieleTally<'a, A> {
         ceiling (thiele_value (increments tally.rule tally.k) tally.election.rows) tally.election.m c set left };
 
     fn m(&self) -> u8 {
-        self.profile.m()
+        self.m
     }
 
     fn value(&self, set: CandSet) -> u128 {
@@ -148,20 +146,19 @@ impl<'a, A: Allocator + Copy> Tally for ThieleTally<'a, A> {
             return self.value(set);
         }
         let (value, gains) = self.gains_after(c, set);
-        value + greatest_sum(&gains, c, self.profile.m(), left)
+        value + greatest_sum(&gains, c, self.m, left)
     }
 
     fn reach(&self, c: u8, set: CandSet, left: u8, best: u128) -> Option<u8> {
-        let m = self.profile.m();
         if left == 0 {
             return if self.value(set) < best {
                 None
             } else {
-                Some(m)
+                Some(self.m)
             };
         }
         let (value, gains) = self.gains_after(c, set);
-        last_reaching(&gains, c, m, left, best.saturating_sub(value))
+        last_reaching(&gains, c, self.m, left, best.saturating_sub(value))
     }
 }
 
@@ -211,11 +208,7 @@ pub fn those_after(c: u8, m: u8) -> CandSet
     ensures within { IsIncreasing (c + 1) m result }
     ensures all { (n : ℕ) → c < n → n ≤ m → has_member result n ≡ true }
 {
-    let mut others = CandSet::empty();
-    for n in c..m {
-        others = others.with(n + 1);
-    }
-    others
+    CandSet::after(c, m)
 }
 
 /// How many voters have each number of hits, and what the set gains by each of the others; 0 by all else.
@@ -242,20 +235,17 @@ fn hits_and_gains<A: Allocator + Copy>(
     (counts, gains)
 }
 
-/// Adds to the total of each member.
-fn add_votes(totals: &mut [u64; PLACES], members: CandSet, votes: u64)
+/// Adds to the total of each member of a set.
+fn add_votes(totals: &mut [u64; PLACES], set: CandSet, votes: u64)
     requires fits { (c : ℕ) → slice_index totals.old c + votes < 2 ^ 64 }
     ensures { (c : ℕ) → slice_index totals.new c
-        ≡ slice_index totals.old c + (if has_member members c then votes else 0) }
+        ≡ slice_index totals.old c + (if has_member set c then votes else 0) }
 {
     if votes == 0 {
         return;
     }
-    members.valid();
-    let mut left = members;
-    while let Some(parts) = left.split_first() {
-        totals[usize::from(parts.0)] += votes;
-        left = parts.1;
+    for member in set.members() {
+        totals[usize::from(member)] += votes;
     }
 }
 

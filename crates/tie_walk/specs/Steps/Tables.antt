@@ -2,7 +2,7 @@
 use Rattle.std.specs.Prelude.{◌≡◌, ℕ, ◌+◌, ◌*◌, ◌/◌, ◌≤◌, List, ◌∷◌, length, map, sum, sum_by, take, slice_index}
 use Rattle.std.specs.List.{range_with_len}
 use Rattle.ballot_base.specs.Limits.{most_candidates, most_members}
-use Rattle.ballot_base.specs.Ballots.{Row, Election}
+use Rattle.ballot_base.specs.Ballots.{Row, Election, IsElection}
 use Rattle.ballot_base.specs.CommonMultiple.{common_multiple}
 use Rattle.ballot_base.specs.Increments.{increments, denominator}
 use Rattle.ballot_base.specs.declared.increments.ThieleRule.{ThieleRule}
@@ -43,7 +43,9 @@ pub record IsNear (rows : List Row) (set : List ℕ) (most c end last : ℕ) : T
   pub near : greatest_distance_upto last rows set ≤ most
 
 -- what is true of each tally of a Thiele rule
-pub record IsThiele (rule : ThieleRule) (k denom : ℕ) (weights sums : List ℕ) : Type 0 where
+pub record IsThiele (e : Election) (m : ℕ) (rule : ThieleRule) (k denom : ℕ) (weights sums : List ℕ) : Type 0 where
+  pub election : IsElection e
+  pub m_is : m ≡ e.m
   pub size : k ≤ most_members
   pub denom_is : denom ≡ denominator rule k
   pub weights_are : weights ≡ increments rule k

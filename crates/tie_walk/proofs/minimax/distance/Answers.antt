@@ -14,7 +14,7 @@ overflow_sub-result-2 c =
       c.len-common.ensures.count,
       ap length c.common.ensures,
       c.len-2.ensures.count,
-      common-least_right 1 most_candidates c.args.ballot c.args.committee c.valid.ensures c.valid-2.ensures,
+      common-least_right 1 most_candidates c.args.ballot c.args.committee c.len.ensures.valid c.len-2.ensures.valid,
     )
 
 pub overflow_add-result : goal.overflow_add-result
@@ -23,8 +23,8 @@ overflow_add-result c =
       arith,
       c.len.ensures.count,
       c.len-2.ensures.count,
-      length-increasing 1 most_candidates c.args.ballot c.valid.ensures,
-      length-increasing 1 most_candidates c.args.committee c.valid-2.ensures,
+      length-increasing 1 most_candidates c.args.ballot c.len.ensures.valid,
+      length-increasing 1 most_candidates c.args.committee c.len-2.ensures.valid,
     )
 
 pub returns : goal.returns
@@ -36,6 +36,6 @@ returns c =
       c.len.ensures.count,
       c.len-2.ensures.count,
       common-least c.args.ballot c.args.committee,
-      common-least_right 1 most_candidates c.args.ballot c.args.committee c.valid.ensures c.valid-2.ensures,
-      distance-sizes 1 most_candidates c.args.ballot c.args.committee c.valid.ensures c.valid-2.ensures,
+      common-least_right 1 most_candidates c.args.ballot c.args.committee c.len.ensures.valid c.len-2.ensures.valid,
+      distance-sizes 1 most_candidates c.args.ballot c.args.committee c.len.ensures.valid c.len-2.ensures.valid,
     )

@@ -21,7 +21,7 @@ pub returns-then-self-ge-SMALL-clause-small : goal.returns-then-self-ge-SMALL-cl
 returns-then-self-ge-SMALL-clause-small g c n =
     let t = c.self.inside in
     let small : (i : ℕ) → get_or t.weights i 0 ≤ 2 ^ 84 = λ i. weights-small t.rule t.k t.weights i c.self.invariant.size c.self.invariant.weights_are in
-    omega (arith, c.worths.ensures n, gain-most t.profile.now t.weights c.args.set n (2 ^ 84) c.m-m.ensures.valid small)
+    omega (arith, c.worths.ensures n, gain-most t.profile.now t.weights c.args.set n (2 ^ 84) c.self.invariant.election small)
 
 pub hits_and_gains-requires : goal.hits_and_gains-requires
 hits_and_gains-requires g c =
@@ -31,7 +31,7 @@ hits_and_gains-requires g c =
 pub sum_of_worths-value-requires-clause-fits : goal.sum_of_worths-value-requires-clause-fits
 sum_of_worths-value-requires-clause-fits g c =
     let t = c.self.inside in
-    hits-fit t.profile.now c.m-m.ensures.valid c.args.set c.hits_and_gains.result.0 t.sums c.m-m.result c.m-m.ensures.value c.hits_and_gains.ensures.counts
+    hits-fit t.profile.now c.self.invariant.election c.args.set c.hits_and_gains.result.0 t.sums c.self.inside.m c.self.invariant.m_is c.hits_and_gains.ensures.counts
     (λ x. sums-most t.rule t.k t.sums x c.self.invariant.size c.self.invariant.sums_are)
 
 pub returns-clause-value : goal.returns-clause-value
@@ -39,7 +39,7 @@ returns-clause-value g c =
     let t = c.self.inside in
     let same : thiele_of t.profile.now t.rule t.k ≡ c.args.self.now = c.self.view_is in
     c.sum_of_worths-value.ensures
-    ∙ hits-value t.profile.now c.m-m.ensures.valid c.args.set c.hits_and_gains.result.0 t.sums c.m-m.result c.m-m.ensures.value c.hits_and_gains.ensures.counts (increments t.rule t.k) c.self.invariant.sums_are
+    ∙ hits-value t.profile.now c.self.invariant.election c.args.set c.hits_and_gains.result.0 t.sums c.self.inside.m c.self.invariant.m_is c.hits_and_gains.ensures.counts (increments t.rule t.k) c.self.invariant.sums_are
     ∙ ap (λ (x : Thiele). thiele_value (increments x.rule x.k) x.election.rows c.args.set) same
 
 pub returns-clause-gains : goal.returns-clause-gains
@@ -61,7 +61,7 @@ returns-clause-small g c n =
       c.widened.ensures.same n,
       c.hits_and_gains.ensures.gains n,
       part-most (has_member c.args.others n) (gain t.weights t.profile.now.rows c.args.set n),
-      gain-most t.profile.now t.weights c.args.set n (2 ^ 84) c.m-m.ensures.valid small,
+      gain-most t.profile.now t.weights c.args.set n (2 ^ 84) c.self.invariant.election small,
     )
   where
     part-most : (b : Bool) (n : ℕ) → cond b n 0 ≤ n

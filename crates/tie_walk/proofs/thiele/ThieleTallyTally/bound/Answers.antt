@@ -41,7 +41,7 @@ overflow_add-result g c =
     let value : c.gains_after-value.result.0 ≡ thiele_value (increments t.rule t.k) e.rows c.args.set =
     c.gains_after-value.ensures.value ∙ ap (λ (x : Thiele). thiele_value (increments x.rule x.k) x.election.rows c.args.set) (sym same) in
     let fits : c.gains_after-value.result.0 + c.greatest_sum.result < 2 ^ 128 =
-    thiele-fits e t.rule t.k c.args.c c.args.left c.gains_after-value.result.0 c.greatest_sum.result c.args.set c.m.ensures.valid c.self.invariant.size
+    thiele-fits e t.rule t.k c.args.c c.args.left c.gains_after-value.result.0 c.greatest_sum.result c.args.set c.self.invariant.election c.self.invariant.size
     (omega (arith, size, c.requires.fits)) value (c.greatest_sum.ensures.most (2 ^ 116) c.gains_after-value.ensures.small) in
     omega arith
 
@@ -58,10 +58,10 @@ returns-clause-value g c =
     let gains : (n : ℕ) → c.args.c < n → n ≤ e.m → get_or gains' n 0 ≡ gain w e.rows c.args.set n = λ n low high.
     c.gains_after-value.ensures.gains n low (omega (arith, high, size)) ∙ ap (λ (x : Thiele). gain (increments x.rule x.k) x.election.rows c.args.set n) (sym same) in
     let more : c.greatest_sum.result ≡ greatest_sum (λ n. get_or gains' n 0) (c.args.c + 1) e.m c.args.left =
-    c.greatest_sum.ensures.value ∙ ap (λ n. greatest_sum (λ x. get_or gains' x 0) (c.args.c + 1) n c.args.left) c.m.ensures.value in
+    c.greatest_sum.ensures.value ∙ ap (λ n. greatest_sum (λ x. get_or gains' x 0) (c.args.c + 1) n c.args.left) c.self.invariant.m_is in
     let whole : c.gains_after-value.result.0 + c.greatest_sum.result ≡ ceiling (thiele_value w e.rows) e.m c.args.c c.args.set c.args.left =
     ap (λ n. n + c.greatest_sum.result) value ∙ ap (λ n. thiele_value w e.rows c.args.set + n) more
-    ∙ thiele-ceiling e w gains' c.args.c c.args.left c.args.set c.m.ensures.valid c.requires.candidates gains in
+    ∙ thiele-ceiling e w gains' c.args.c c.args.left c.args.set c.self.invariant.election c.requires.candidates gains in
     whole ∙ ap (λ (x : Thiele). ceiling (thiele_value (increments x.rule x.k) x.election.rows) x.election.m c.args.c c.args.set c.args.left) same
 
 pub returns-clause-law : goal.returns-clause-law

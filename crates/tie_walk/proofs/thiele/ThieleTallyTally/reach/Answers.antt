@@ -34,7 +34,7 @@ returns-else-value-best g c =
     let t : Thiele = c.args.self.now in
     let value = thiele_value (increments t.rule t.k) t.election.rows in
     let few = subst (λ (x : Thiele). x.k ≤ most_members) c.self.view_is c.self.invariant.size in
-    let size : c.m-m.result ≡ t.election.m = c.m-m.ensures.value ∙ ap (λ (x : Thiele). x.election.m) c.self.view_is in
+    let size : c.self.inside.m ≡ t.election.m = c.self.invariant.m_is ∙ ap (λ (x : Thiele). x.election.m) c.self.view_is in
     let law : IsBound value t.election.m c.args.c c.args.set c.args.left (ceiling value t.election.m c.args.c c.args.set c.args.left) =
     ceiling-bounds value (thiele_rule-submodular t.rule t.k t.election.rows few) t.election.m c.args.c c.args.set c.args.left c.requires.candidates in
     let same : (n : ℕ) → c.args.c ≤ n → ceiling value t.election.m n c.args.set c.args.left ≡ value c.args.set = λ n low.
@@ -51,8 +51,8 @@ returns g c =
     let gains = c.gains_after-value.result.1 in
     let least = c.saturating_sub.result in
     let few = subst (λ (x : Thiele). x.k ≤ most_members) c.self.view_is c.self.invariant.size in
-    let valid = subst (λ (x : Thiele). IsElection x.election) c.self.view_is c.m-m.ensures.valid in
-    let size : c.m-m.result ≡ t.election.m = c.m-m.ensures.value ∙ ap (λ (x : Thiele). x.election.m) c.self.view_is in
+    let valid = subst (λ (x : Thiele). IsElection x.election) c.self.view_is c.self.invariant.election in
+    let size : c.self.inside.m ≡ t.election.m = c.self.invariant.m_is ∙ ap (λ (x : Thiele). x.election.m) c.self.view_is in
     let higher = λ (n : ℕ) (low : c.args.c ≤ n). IsIncreasing-higher 1 c.args.c n c.args.set low c.requires.candidates in
     let law : IsBound value t.election.m c.args.c c.args.set c.args.left (ceiling value t.election.m c.args.c c.args.set c.args.left) =
     ceiling-bounds value (thiele_rule-submodular t.rule t.k t.election.rows few) t.election.m c.args.c c.args.set c.args.left c.requires.candidates in
