@@ -78,12 +78,9 @@ fn shares_no_voter<A: Allocator + Copy>(profile: &Profile<A>, candidates: CandSe
 fn after_all(step: Step, set: CandSet, choices: CandSet) -> CandSet
     ensures { result ≡ fold (change step) set choices }
 {
-    choices.valid();
     let mut after = set;
-    let mut left = choices;
-    while let Some(parts) = left.split_first() {
-        after = step.change(after, parts.0);
-        left = parts.1;
+    for candidate in choices.members() {
+        after = step.change(after, candidate);
     }
     after
 }
@@ -108,11 +105,8 @@ fn insert_each<A: Allocator + Copy>(
 ) -> Result<(), AllocError>
     ensures { OnOk result (next.new.keys ≡ insert_all bytes_eq next.old.keys (map (change step set) choices)) }
 {
-    choices.valid();
-    let mut left = choices;
-    while let Some(parts) = left.split_first() {
-        next.insert(step.change(set, parts.0))?;
-        left = parts.1;
+    for candidate in choices.members() {
+        next.insert(step.change(set, candidate))?;
     }
     Ok(())
 }
