@@ -5,14 +5,14 @@ use Rattle.std.specs.List.{list_all, list_any}
 use Rattle.std.proofs.lemmas.Bool.{and_from, and_parts, or_left, le-leb, leb-true, lt-ltb, ltb-true, eq-eqb, eqb-true}
 use Rattle.std.proofs.lemmas.Nat.{mul-le}
 use Rattle.ballot_base.specs.Lists.{IsIncreasing, increasing_lists}
-use Rattle.ballot_base.specs.CandSet.{has_member, common_members}
+use Rattle.ballot_base.specs.CandSet.{has_member, common_members, includes}
 use Rattle.ballot_base.specs.Ballots.{Election, hits, voter_count}
 use Rattle.ballot_base.proofs.Committees.{increasing_lists-contains}
 use Rattle.group_check.specs.declared.property.Property.{Property}
 use Rattle.group_check.specs.declared.property.Property.TheVariants.{Jr, Pjr, Ejr, EjrPlus}
 use Rattle.group_check.specs.declared.property.Violation.{Violation}
 use Rattle.group_check.specs.Groups.{IsGroup, member_ballots, common_candidates, represented, is_cohesive, is_outside, all_below, Breaks, SomeGroupBreaks}
-use Rattle.group_check.specs.Report.{includes, fits_pair, is_in_group, group_of, pair_group, lists_within, lists_shared, pairs_at, pair_breaks, violation_of, first_violation}
+use Rattle.group_check.specs.Report.{fits_pair, is_in_group, group_of, pair_group, lists_within, lists_shared, pairs_at, pair_breaks, violation_of, first_violation}
 use Rattle.group_check.specs.Steps.Checking.{greatest_level, IsFirst, IsSecond, is_large}
 use Rattle.group_check.proofs.TestLemmas.{list_all-weaker, list_all-both, is_some-find, found_passes, list_any-filter, list_any-contains, list_any-map, list_any-flat_map}
 use Rattle.group_check.proofs.SetLemmas.{all_pass, widened}

@@ -9,7 +9,7 @@ use Rattle.std.proofs.lemmas.List.{append_assoc}
 use Rattle.std.proofs.lemmas.List.Sums.{length-filter, count_by-le-length}
 use Rattle.std.proofs.lemmas.List.Elements.{filter-append}
 use Rattle.ballot_base.specs.Lists.{IsIncreasing}
-use Rattle.ballot_base.specs.CandSet.{has_member, with_member, common_members, other_members}
+use Rattle.ballot_base.specs.CandSet.{has_member, with_member, common_members, other_members, includes}
 use Rattle.ballot_base.specs.Ballots.{Row, Election}
 use Rattle.ballot_base.specs.Clones.{are_clones, clones_among}
 use Rattle.ballot_base.proofs.CloneLemmas.{clones-same, clones_among-are}
@@ -18,7 +18,7 @@ use Rattle.group_check.specs.declared.property.Property.{Property}
 use Rattle.group_check.specs.declared.property.Property.TheVariants.{Jr, Pjr, Ejr, EjrPlus}
 use Rattle.group_check.specs.declared.property.Violation.{Violation}
 use Rattle.group_check.specs.Groups.{breaks}
-use Rattle.group_check.specs.Report.{includes, violation_of, fits_pair, lists_within, pair_breaks}
+use Rattle.group_check.specs.Report.{violation_of, fits_pair, lists_within, pair_breaks}
 use Rattle.group_check.specs.Steps.Checking.{first_of, first_of_lists, pairs_of, sublists, completions, is_enough_within}
 use Rattle.group_check.proofs.SetLemmas.{all_pass, or_mono, passes_at}
 use Rattle.group_check.proofs.TestLemmas.{list_all-weaker}

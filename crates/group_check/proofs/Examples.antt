@@ -2,9 +2,10 @@
 use Rattle.std.proofs.Common.{◌≡◌, zero, suc, [], ◌∷◌, true, false, Some, None, refl, lit≤, arith}
 use Rattle.ballot_base.specs.Lists.{lists_of}
 use Rattle.ballot_base.specs.Ballots.{Election, election}
+use Rattle.ballot_base.specs.CandSet.{includes}
 use Rattle.group_check.specs.declared.property.Property.TheVariants.{Jr, Pjr, Ejr, EjrPlus}
 use Rattle.group_check.specs.Groups.{IsGroup, member_ballots, common_candidates, represented, is_large_enough, is_outside, is_cohesive, all_below, breaks, Breaks, SomeGroupBreaks, HasProperty}
-use Rattle.group_check.specs.Report.{includes, fits_pair, is_in_group, group_of, pair_group, lists_within, lists_shared, pairs_at, pair_breaks, violation_of, first_violation, IsReport}
+use Rattle.group_check.specs.Report.{fits_pair, is_in_group, group_of, pair_group, lists_within, lists_shared, pairs_at, pair_breaks, violation_of, first_violation, IsReport}
 use Rattle.group_check.specs.Steps.Checking.{greatest_level, shared_size, may_share, is_possible, IsChoice, IsFirst, IsSecond, Computes, first_of, first_of_lists, pairs_of, sublists, completions, is_large, is_below, is_around, is_enough_within, voters_below, voters_around, possible_candidates}
 use Rattle.group_check.proofs.BreakLemmas.{no_group, above_greatest}
 
@@ -206,12 +207,6 @@ pair_has_plus (suc (suc zero)) least most some = no_group EjrPlus pair (1 ∷ 2 
 pair_has_plus (suc (suc (suc level))) least most some = omega (arith, most)
 
 -- ---- T and U
-included : includes (1 ∷ 2 ∷ 3 ∷ []) (1 ∷ 3 ∷ []) ≡ true
-included = refl
-
-not_included : includes (1 ∷ 2 ∷ []) (1 ∷ 3 ∷ []) ≡ false
-not_included = refl
-
 one_and_two_fit : fits_pair Pjr (3 ∷ 4 ∷ []) 2 (1 ∷ 2 ∷ [], 3 ∷ []) (1 ∷ 2 ∷ 3 ∷ []) ≡ true
 one_and_two_fit = refl
 

@@ -4,9 +4,8 @@ use Rattle.std.specs.List.{list_all, range_with_len, AllByRecursion}
 use Rattle.std.proofs.lemmas.Bool.{cases_lt}
 use Rattle.std.proofs.lemmas.List.Elements.{filter-append}
 use Rattle.ballot_base.specs.Lists.{IsIncreasing, lists_of, increasing_lists}
-use Rattle.ballot_base.specs.CandSet.{has_member}
+use Rattle.ballot_base.specs.CandSet.{has_member, includes}
 use Rattle.ballot_base.proofs.Increasing.{IsIncreasing-filter, has_member-filter, has_member-below, has_member-above, same_increasing}
-use Rattle.group_check.specs.Report.{includes}
 use Rattle.group_check.specs.Steps.Checking.{sublists}
 use Rattle.group_check.proofs.SetLemmas.{IsIncreasing-range}
 use Rattle.group_check.proofs.GroupLemmas.{has_member-range}

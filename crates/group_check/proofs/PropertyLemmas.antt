@@ -1,11 +1,11 @@
 -- Which ballots support T and U.
 use Rattle.std.proofs.Common.{◌≡◌, ℕ, ◌&&◌, ◌⊎◌, Bool, true, List, inl, inr, sym, ap, ◌∙◌}
 use Rattle.std.specs.Prelude.{nat_lt}
-use Rattle.ballot_base.specs.CandSet.{common_members}
+use Rattle.ballot_base.specs.CandSet.{common_members, includes}
 use Rattle.ballot_base.specs.Ballots.{hits}
 use Rattle.group_check.specs.declared.property.Property.{Property}
 use Rattle.group_check.specs.declared.property.Property.TheVariants.{Jr, Pjr, Ejr, EjrPlus}
-use Rattle.group_check.specs.Report.{includes, fits_pair}
+use Rattle.group_check.specs.Report.{fits_pair}
 
 when_inside : (inside answer below : Bool) → inside ≡ true → answer ≡ below → answer ≡ (inside && below)
 when_inside inside answer below e h = h ∙ ap (λ b. b && below) (sym e)

@@ -1,9 +1,7 @@
 -- Sets of candidates: how many members there are, and sets of a given size.
 use Rattle.std.proofs.Common.{◌≡◌, ℕ, zero, suc, ◌+◌, ◌≤◌, ◌==◌, ◌&&◌, ◌||◌, Bool, true, false, cond, List, [], ◌∷◌, refl, sym, ap, ◌∙◌, arith, inl, inr, length, filter, take}
 use Rattle.std.specs.List.{list_all, range_with_len}
-use Rattle.std.proofs.lemmas.Bool.{and_from, and_parts, eqb-true, eq-eqb, cases_order, cases_lt, ne_eqb, or_right}
-use Rattle.std.specs.Str.{bytes_eq}
-use Rattle.std.proofs.lemmas.Slice.Eq.{bytes_eq-Decides}
+use Rattle.std.proofs.lemmas.Bool.{and_from, and_parts, eqb-true, cases_order, cases_lt, or_right}
 use Rattle.std.proofs.lemmas.List.Sums.{length-filter, count_by-le-length}
 use Rattle.ballot_base.specs.Lists.{IsIncreasing}
 use Rattle.ballot_base.specs.CandSet.{has_member, common_members}
@@ -137,40 +135,6 @@ widened first last size p (x ∷ xs) i few many =
           | inl more ↦ (x ∷ xs, widened_whole first last s p (x ∷ xs) i (omega (arith, more, many)))
           | inr less ↦ let rest = later s few less in (rest.0, widened_later first last s p x xs rest.0 i.0 e rest.1)
         ]
-
--- ---- counted by a filter
-
--- all pass where a filter keeps as many as there are
-pub kept_all : (p : ℕ → Bool) (xs : List ℕ) → (length (filter p xs) == length xs) ≡ list_all p xs
-kept_all p [] = refl
-kept_all p (x ∷ xs) =
-    let few = count_by-le-length p xs in
-    let kept = length-filter p xs in
-    cases (p x) (kept_all p xs) (omega (arith, few, kept))
-  where
-    cases : (b : Bool) → (length (filter p xs) == length xs) ≡ list_all p xs → length (filter p xs) ≤ length xs
-        → (length (cond b (x ∷ filter p xs) (filter p xs)) == length (x ∷ xs)) ≡ (b && list_all p xs)
-    cases true more few = grind (arith, more)
-    cases false more few = ne_eqb (length (filter p xs)) (length (x ∷ xs)) (λ e. omega (arith, e, few))
-
-same_answers : (a b : Bool) → (a ≡ true → b ≡ true) → (b ≡ true → a ≡ true) → a ≡ b
-same_answers true b h k = sym (h refl)
-same_answers false true h k = k refl
-same_answers false false h k = refl
-
-keeps_all : (p : ℕ → Bool) (xs : List ℕ) → list_all p xs ≡ true → filter p xs ≡ xs
-keeps_all p [] h = refl
-keeps_all p (x ∷ xs) h =
-    let parts = and_parts (p x) (list_all p xs) h in
-    rw parts.0 (ap (λ s. x ∷ s) (keeps_all p xs parts.1))
-
--- all pass where a filter keeps the set as it is
-pub kept_whole : (p : ℕ → Bool) (xs : List ℕ) → bytes_eq (filter p xs) xs ≡ list_all p xs
-kept_whole p xs =
-    let decides = bytes_eq-Decides (filter p xs) xs in
-    same_answers (bytes_eq (filter p xs) xs) (list_all p xs)
-    (λ h. sym (kept_all p xs) ∙ eq-eqb (length (filter p xs)) (length xs) (ap length (decides.0 h)))
-    (λ h. decides.1 (keeps_all p xs h))
 
 pub length-common_members : (ballot committee : List ℕ) → length (common_members ballot committee) ≡ hits ballot committee
 length-common_members ballot committee = length-filter (has_member committee) ballot

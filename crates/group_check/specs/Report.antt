@@ -5,16 +5,12 @@
 use Rattle.std.specs.Prelude.{◌≡◌, ℕ, ◌-◌, ◌<◌, ◌≤◌, ◌&&◌, Bool, List, [], ◌∷◌, length, map, filter, find, flat_map, sum, nat_lt, Option, Some, option_map, if◌then◌else◌}
 use Rattle.std.specs.List.{list_all}
 use Rattle.ballot_base.specs.Lists.{increasing_lists}
-use Rattle.ballot_base.specs.CandSet.{has_member, common_members}
+use Rattle.ballot_base.specs.CandSet.{common_members, includes}
 use Rattle.ballot_base.specs.Ballots.{Row, Election, hits}
 use Rattle.group_check.specs.declared.property.Property.{Property}
 use Rattle.group_check.specs.declared.property.Property.TheVariants.{Jr, Pjr, Ejr, EjrPlus}
 use Rattle.group_check.specs.declared.property.Violation.{Violation}
 use Rattle.group_check.specs.Groups.{breaks, Breaks, SomeGroupBreaks, is_outside}
-
--- whether the set has all members of the other
-abbrev pub includes : List ℕ → List ℕ → Bool
-includes set other = list_all (has_member set) other
 
 -- whether a ballot belongs to the group of T and U: it approves all of T, and
 -- - for PJR, the members of the committee that it approves lie in U

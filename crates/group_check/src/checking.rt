@@ -5,11 +5,13 @@ ghost use Rattle.ballot_base.specs.Limits.{most_candidates, most_members, most_v
 ghost use Rattle.ballot_base.specs.Lists.{IsIncreasing};
 ghost use Rattle.ballot_base.specs.Ballots.{IsElection};
 ghost use Rattle.ballot_base.specs.Clones.{AreClones};
+ghost use Rattle.ballot_base.specs.CandSet.{includes};
+ghost use Rattle.ballot_base.specs.Steps.Lists.{IsIncreasing-prop};
 ghost use Rattle.group_check.specs.Groups.{HasProperty};
-ghost use Rattle.group_check.specs.Report.{IsReport, first_violation, includes, lists_within, is_in_group, group_of};
-ghost use Rattle.group_check.specs.Steps.Checking.{IsIncreasing-prop, greatest_level, shared_size, may_share, IsFirst, IsSecond, Computes, pairs_of, first_of, first_of_lists, completions, is_possible, possible_candidates, voters_below, voters_around, is_enough_within, is_large};
+ghost use Rattle.group_check.specs.Report.{IsReport, first_violation, lists_within, is_in_group, group_of};
+ghost use Rattle.group_check.specs.Steps.Checking.{greatest_level, shared_size, may_share, IsFirst, IsSecond, Computes, pairs_of, first_of, first_of_lists, completions, is_possible, possible_candidates, voters_below, voters_around, is_enough_within, is_large};
 
-use crate::property::{Property, Violation, includes};
+use crate::property::{Property, Violation};
 use ballot_base::{CandSet, Clones, Profile};
 use std::alloc::Allocator;
 
@@ -256,7 +258,7 @@ impl<A: Allocator + Copy> Search<'_, A> {
     {
         voters_with(self.profile, |ballot| {
             ballot.has(candidate)
-                && includes(ballot, shared)
+                && ballot.includes(shared)
                 && ballot.common(self.committee).len() < self.level
         })
     }
@@ -272,7 +274,7 @@ impl<A: Allocator + Copy> Search<'_, A> {
         voters_with(self.profile, |ballot| {
             let approved = ballot.common(committee);
             let more = approved.common(pool).len().min(left);
-            includes(ballot, shared) && approved.len() <= approved.common(within).len() + more
+            ballot.includes(shared) && approved.len() <= approved.common(within).len() + more
         })
     }
 }

@@ -1,7 +1,7 @@
 //! Properties of committees, and violations of them.
 ghost use Rattle.std.specs.Prelude.{◌≡◌};
 ghost use Rattle.group_check.specs.Names.{property_name, property_named};
-ghost use Rattle.group_check.specs.Report.{is_in_group, includes};
+ghost use Rattle.group_check.specs.Report.{is_in_group};
 
 use ballot_base::CandSet;
 
@@ -79,15 +79,8 @@ impl Violation {
         let approved = ballot.common(self.committee);
         let is_below = match self.property {
             Property::Jr | Property::Ejr | Property::EjrPlus => approved.len() < self.level,
-            Property::Pjr => includes(self.within, approved),
+            Property::Pjr => self.within.includes(approved),
         };
-        includes(ballot, self.shared) && is_below
+        ballot.includes(self.shared) && is_below
     }
-}
-
-/// Whether `set` has all members of `other`.
-pub(crate) fn includes(set: CandSet, other: CandSet) -> bool
-    ensures { result ≡ includes set other }
-{
-    other.common(set) == other
 }

@@ -1,16 +1,14 @@
 -- What the steps of the search for a violation give.
 use Rattle.std.specs.Prelude.{◌≡◌, ℕ, zero, suc, ◌+◌, ◌-◌, ◌*◌, ◌&&◌, ◌++◌, Bool, true, List, [], ◌∷◌, ⊤, IsTrue, length, map, filter, flat_map, find, sum, nat_le, nat_lt, Option, option_map, min}
-use Rattle.std.specs.Coded.{Unit-prop, le_prop}
-use mathlib.Core.HLevel.{×₃_prop}
 use Rattle.std.specs.List.{list_all, range_with_len}
 use Rattle.ballot_base.specs.Lists.{IsIncreasing}
-use Rattle.ballot_base.specs.CandSet.{common_members}
+use Rattle.ballot_base.specs.CandSet.{common_members, includes}
 use Rattle.ballot_base.specs.Ballots.{Election, voter_count}
 use Rattle.group_check.specs.declared.property.Property.{Property}
 use Rattle.group_check.specs.declared.property.Property.TheVariants.{Jr, Pjr, Ejr, EjrPlus}
 use Rattle.group_check.specs.declared.property.Violation.{Violation}
 use Rattle.group_check.specs.Groups.{is_outside}
-use Rattle.group_check.specs.Report.{includes, group_of, pair_group, lists_within, pair_breaks, violation_of}
+use Rattle.group_check.specs.Report.{group_of, pair_group, lists_within, pair_breaks, violation_of}
 
 -- the greatest level at which a group can break the property
 abbrev pub greatest_level : Property → List ℕ → ℕ
@@ -18,11 +16,6 @@ greatest_level Jr committee = 1
 greatest_level Pjr committee = length committee
 greatest_level Ejr committee = length committee
 greatest_level EjrPlus committee = length committee
-
--- that a list is increasing has one proof at most
-pub IsIncreasing-prop : (first last : ℕ) (set : List ℕ) → IsProp (IsIncreasing first last set)
-IsIncreasing-prop first last [] = Unit-prop
-IsIncreasing-prop first last (n ∷ rest) = ×₃_prop le_prop le_prop (IsIncreasing-prop (n + 1) last rest)
 
 -- a list of `size` of the candidates 1 to m
 abbrev pub IsChoice : ℕ → ℕ → List ℕ → Type 0

@@ -1,7 +1,7 @@
 -- That a start fits.
 use Rattle.std.specs.Prelude.{ℕ, List, Option, Some, None}
 use Rattle.std.specs.Coded.{Coded-set, Unit-prop, coded_ℕ, ×_prop}
-use Rattle.group_check.specs.Steps.Checking.{IsIncreasing-prop}
+use Rattle.ballot_base.specs.Steps.Lists.{IsIncreasing-prop}
 use Rattle.tie_walk.specs.Winners.{IsStart}
 
 -- that a start fits has one proof at most

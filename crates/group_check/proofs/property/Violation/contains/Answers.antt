@@ -1,6 +1,6 @@
 use Rattle.std.proofs.Common.{ap, sym, ◌∙◌, length}
 use Rattle.std.specs.Prelude.{nat_lt}
-use Rattle.group_check.specs.Report.{includes}
+use Rattle.ballot_base.specs.CandSet.{includes}
 use Rattle.group_check.proofs.SetLemmas.{length-common_members}
 use Rattle.group_check.proofs.PropertyLemmas.{fits_by_hits, fits_by_members}
 use Rattle.group_check.proofs.property.Violation.contains.Goals as goal
