@@ -106,16 +106,14 @@ fn print_listed_name<W: Sink, A: Allocator + Copy>(
 fn print_member_names<W: Sink, A: Allocator + Copy>(
     printer: &mut Printer<'_, W>,
     profile: Option<&Profile<A>>,
-    members: CandSet,
+    set: CandSet,
 ) -> Result<(), WriteFailed>
     ensures { Prints W.contents W.has_failed printer.old printer.new (is_ok result)
-        (names_text (names_in profile.entry) members) }
+        (names_text (names_in profile.entry) set) }
 {
-    let mut rest = members;
     let mut is_first = true;
-    while let Some(parts) = rest.split_first() {
-        print_listed_name(printer, profile, usize::from(parts.0), is_first)?;
-        rest = parts.1;
+    for member in set.members() {
+        print_listed_name(printer, profile, usize::from(member), is_first)?;
         is_first = false;
     }
     Ok(())

@@ -31,14 +31,12 @@ fn print_next<W: Sink, N: Integer>(printer: &mut Printer<'_, W>, n: N) -> Result
 /// Prints the members, with a comma before each.
 fn print_other_members<W: Sink>(
     printer: &mut Printer<'_, W>,
-    members: CandSet,
+    set: CandSet,
 ) -> Result<(), WriteFailed>
-    ensures { Prints W.contents W.has_failed printer.old printer.new (is_ok result) (following_text members) }
+    ensures { Prints W.contents W.has_failed printer.old printer.new (is_ok result) (following_text set) }
 {
-    let mut rest = members;
-    while let Some(parts) = rest.split_first() {
-        print_next(printer, parts.0)?;
-        rest = parts.1;
+    for member in set.members() {
+        print_next(printer, member)?;
     }
     Ok(())
 }
@@ -46,11 +44,11 @@ fn print_other_members<W: Sink>(
 /// Prints the members, with commas between them.
 pub(crate) fn print_members<W: Sink>(
     printer: &mut Printer<'_, W>,
-    members: CandSet,
+    set: CandSet,
 ) -> Result<(), WriteFailed>
-    ensures { Prints W.contents W.has_failed printer.old printer.new (is_ok result) (numbers_text members) }
+    ensures { Prints W.contents W.has_failed printer.old printer.new (is_ok result) (numbers_text set) }
 {
-    let Some(parts) = members.split_first() else {
+    let Some(parts) = set.split_first() else {
         return Ok(());
     };
     print_number(printer, parts.0)?;

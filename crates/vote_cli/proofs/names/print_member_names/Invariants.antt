@@ -1,14 +1,11 @@
-use Rattle.std.proofs.Common.{◌≡◌, ℕ, ◌++◌, List, true, length}
+use Rattle.std.proofs.Common.{◌≡◌, ℕ, ◌++◌, List, true}
 use Rattle.vote_cli.specs.Names.{names_text}
 use Rattle.vote_cli.specs.Steps.Names.{listed_names, names_in}
 use Rattle.vote_cli.specs.Steps.Printing.{Prints}
 use Rattle.vote_cli.proofs.names.print_member_names.Given as goal
 
 -- the names so far were printed, and those of the rest are left
-abbrev pub invariant-loop-parts : goal.invariant-loop-parts
-invariant-loop-parts g l = (done : List ℕ)
+abbrev pub invariant-loop-member : goal.invariant-loop-member
+invariant-loop-member g l = (done : List ℕ)
     × Prints g.W.Sink.contents g.W.Device.has_failed l.initial.printer l.printer true done
-    × (done ++ listed_names l.is_first (names_in l.fn.profile) l.rest ≡ names_text (names_in l.fn.profile) l.fn.members)
-
-abbrev pub decreases-loop-parts : goal.decreases-loop-parts
-decreases-loop-parts g l = length l.rest
+    × (done ++ listed_names l.is_first (names_in l.fn.profile) l.member-iterator ≡ names_text (names_in l.fn.profile) l.fn.set)

@@ -1,13 +1,10 @@
-use Rattle.std.proofs.Common.{◌≡◌, ℕ, ◌++◌, List, true, length}
+use Rattle.std.proofs.Common.{◌≡◌, ℕ, ◌++◌, List, true}
 use Rattle.vote_cli.specs.Steps.Printing.{Prints}
 use Rattle.vote_cli.specs.Steps.Numbers.{following_text}
 use Rattle.vote_cli.proofs.numbers.print_other_members.Given as goal
 
 -- the members so far were printed, and the rest is left
-abbrev pub invariant-loop-parts : goal.invariant-loop-parts
-invariant-loop-parts g l = (done : List ℕ)
+abbrev pub invariant-loop-member : goal.invariant-loop-member
+invariant-loop-member g l = (done : List ℕ)
     × Prints g.W.Sink.contents g.W.Device.has_failed l.initial.printer l.printer true done
-    × (done ++ following_text l.rest ≡ following_text l.fn.members)
-
-abbrev pub decreases-loop-parts : goal.decreases-loop-parts
-decreases-loop-parts g l = length l.rest
+    × (done ++ following_text l.member-iterator ≡ following_text l.fn.set)
