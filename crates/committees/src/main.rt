@@ -6,16 +6,13 @@ use std::hash::RandomState;
 use std::io::Read;
 use std::process::ExitCode;
 use std::{env, io};
-use vote_cli::{BallotHashing, LineFault, Request, Storage, Told, read_request, run_with_hashing};
+use vote_cli::status::{OUT_OF_MEMORY, WRITE_FAILED};
+use vote_cli::{
+    BallotHashing, LineFault, Request, Status, Storage, Told, read_request, run_with_hashing,
+};
 
-/// The status of words that were refused.
+/// The status of words that were refused. No run ends with it.
 const WORDS_REFUSED: u8 = 2;
-
-/// The status where memory runs out.
-const NO_MEMORY: u8 = 5;
-
-/// The status of a failed open, read or write.
-const DEVICE_FAILED: u8 = 6;
 
 fn main(rt: HostRuntime) -> ExitCode {
     match words(&rt) {
@@ -40,7 +37,7 @@ fn answer(rt: &HostRuntime, words: &[String]) -> ExitCode {
         Ok(request) => answer_request(rt, &request),
         Err(LineFault::Help(text)) => match rt.print(text) {
             Ok(()) => ExitCode::SUCCESS,
-            Err(_) => end(rt, DEVICE_FAILED, "committees: write failed"),
+            Err(_) => end(rt, Status::DeviceFailed.code(), WRITE_FAILED),
         },
         Err(LineFault::Usage(text)) => {
             let _ = rt.eprint(text);
@@ -65,7 +62,7 @@ fn answer_request(rt: &HostRuntime, request: &Request) -> ExitCode {
         None => answer_over(rt, request, rt.stdin()),
         Some(path) => match File::open(rt, path) {
             Ok(file) => answer_over(rt, request, file),
-            Err(_) => end(rt, DEVICE_FAILED, "committees: open failed"),
+            Err(_) => end(rt, Status::DeviceFailed.code(), "committees: open failed"),
         },
     }
 }
@@ -93,7 +90,7 @@ fn hashing(rt: &HostRuntime) -> BallotHashing {
 }
 
 fn no_memory(rt: &HostRuntime) -> ExitCode {
-    end(rt, NO_MEMORY, "committees: memory")
+    end(rt, Status::NoMemory.code(), OUT_OF_MEMORY)
 }
 
 /// Ends with this status, and a line on standard error.

@@ -1,9 +1,12 @@
 -- The names of types of files and of faults, as bytes.
-use Rattle.std.specs.Prelude.{ℕ, List, [], ◌∷◌, Option, find, codes}
+use Rattle.std.specs.Prelude.{ℕ, List, [], ◌∷◌, ◌++◌, Option, Some, None, find, codes, decimal}
 use Rattle.std.specs.Str.{bytes_eq, str_eq_ignore_ascii_case}
 use Rattle.preflib_text.specs.declared.pick.Kind.{Kind}
 use Rattle.preflib_text.specs.declared.pick.Kind.TheVariants.{Cat, Soc, Soi, Toc, Toi}
+use Rattle.ballot_base.specs.declared.profile.AddFault.{AddFault}
+use Rattle.ballot_base.specs.declared.profile.AddFault.TheVariants as add
 use Rattle.preflib_text.specs.declared.fault.FaultName.{FaultName}
+use Rattle.preflib_text.specs.declared.fault.ReadFault.{ReadFault}
 use Rattle.preflib_text.specs.declared.fault.FaultName.TheVariants.{LongLine, BadNumber, TooManyCandidates, ConflictingKey, NoAlternatives}
 use Rattle.preflib_text.specs.declared.fault.FaultName.TheVariants.{NoKind, BadKind, BadBallot, BadCount, NoSuchCandidate}
 use Rattle.preflib_text.specs.declared.fault.FaultName.TheVariants.{RepeatedCandidate, NotStrict, Incomplete, TooManyClasses, NoVoters}
@@ -56,3 +59,17 @@ faults =
 -- the fault of a name
 abbrev pub fault_named : List ℕ → Option FaultName
 fault_named name = find (λ fault. bytes_eq name (fault_name fault)) faults
+
+-- where a fault is
+abbrev pub line_text : Option ℕ → List ℕ
+line_text None = []
+line_text (Some number) = codes "line " ++ decimal number ++ codes ": "
+
+-- a fault as a text: its line if it has one, and its name
+abbrev pub read_fault_text : ReadFault → List ℕ
+read_fault_text fault = line_text fault.line ++ fault_name fault.name
+
+-- the fault of a line whose ballot or name was not added
+abbrev pub added_fault : AddFault → FaultName
+added_fault add.TooManyVoters = TooManyVoters
+added_fault add.Memory = Memory

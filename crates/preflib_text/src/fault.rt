@@ -1,6 +1,12 @@
 //! Why a file is refused.
-ghost use Rattle.std.specs.Prelude.{◌≡◌};
-ghost use Rattle.preflib_text.specs.Names.{fault_name, fault_named};
+ghost use Rattle.std.specs.Prelude.{◌≡◌, Some};
+ghost use Rattle.preflib_text.specs.Names.{added_fault, fault_name, read_fault_text};
+ghost use Rattle.preflib_text.specs.declared.fault.FaultName.TheVariants.{Memory};
+
+use ballot_base::AddFault;
+use std::alloc::AllocError;
+use std::error::Error;
+use std::fmt;
 
 /// What is wrong with a file.
 #[derive(Clone, Copy, Debug, PartialEq, Eq)]
@@ -45,29 +51,7 @@ pub enum FaultName {
 }
 
 impl FaultName {
-    /// All faults.
-    pub const ALL: [FaultName; 18] = [
-        FaultName::LongLine,
-        FaultName::BadNumber,
-        FaultName::TooManyCandidates,
-        FaultName::ConflictingKey,
-        FaultName::NoAlternatives,
-        FaultName::NoKind,
-        FaultName::BadKind,
-        FaultName::BadBallot,
-        FaultName::BadCount,
-        FaultName::NoSuchCandidate,
-        FaultName::RepeatedCandidate,
-        FaultName::NotStrict,
-        FaultName::Incomplete,
-        FaultName::TooManyClasses,
-        FaultName::NoVoters,
-        FaultName::TooManyVoters,
-        FaultName::PickMisfit,
-        FaultName::Memory,
-    ];
-
-    /// Their names, in the same order.
+    /// The names of all faults, in their order.
     pub const NAMES: [&'static str; 18] = [
         "LongLine",
         "BadNumber",
@@ -95,15 +79,34 @@ impl FaultName {
     {
         FaultName::NAMES[self as usize]
     }
+}
 
-    /// The fault that has this name, if one has; upper and lower case differ.
-    pub fn named(name: &str) -> Option<FaultName>
-        ensures { result ≡ fault_named name.now }
-    {
-        FaultName::ALL
-            .iter()
-            .copied()
-            .find(|fault| name == fault.name())
+impl fmt::Display for FaultName {
+    ghost output = { λ fault. Some (fault_name fault) };
+
+    fn fmt<W: fmt::Write>(&self, f: &mut fmt::Formatter<W>) -> fmt::Result {
+        f.write_str(self.name())
+    }
+}
+
+impl Error for FaultName {}
+
+impl From<AllocError> for FaultName {
+    ghost from_gives = { λ _ fault. fault ≡ Memory };
+
+    fn from(_error: AllocError) -> FaultName {
+        FaultName::Memory
+    }
+}
+
+impl From<AddFault> for FaultName {
+    ghost from_gives = { λ refused fault. fault ≡ added_fault refused };
+
+    fn from(refused: AddFault) -> FaultName {
+        match refused {
+            AddFault::TooManyVoters => FaultName::TooManyVoters,
+            AddFault::Memory => FaultName::Memory,
+        }
     }
 }
 
@@ -114,3 +117,16 @@ pub struct ReadFault {
     pub name: FaultName,
     pub line: Option<u64>,
 }
+
+impl fmt::Display for ReadFault {
+    ghost output = { λ fault. Some (read_fault_text fault) };
+
+    fn fmt<W: fmt::Write>(&self, f: &mut fmt::Formatter<W>) -> fmt::Result {
+        if let Some(line) = self.line {
+            write!(f, "line {line}: ")?;
+        }
+        f.write_str(self.name.name())
+    }
+}
+
+impl Error for ReadFault {}

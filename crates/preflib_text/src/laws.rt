@@ -5,15 +5,14 @@ ghost use Rattle.preflib_text.specs.Limits.{most_line_bytes};
 ghost use Rattle.preflib_text.specs.Lines.{lines_of, pieces_of, without_return};
 ghost use Rattle.preflib_text.specs.Reading.{Reads, RunsShort};
 ghost use Rattle.preflib_text.specs.Pieces.{LacksMemory, Tells, ended_lines, unfinished_line, is_too_long};
-ghost use Rattle.preflib_text.specs.Names.{kind_name, kind_named, kinds, fault_name, fault_named, faults};
+ghost use Rattle.preflib_text.specs.Names.{kind_name, kind_named, kinds, fault_name, fault_named};
 
 use crate::fault::{FaultName, ReadFault};
 use crate::pick::{Kind, Pick};
 
-/// `ALL` has each type and each fault, and no two of them share a name.
+/// `Kind::ALL` has each type. No two types share a name, and no two faults.
 pub fn names()
     ensures kinds { Kind.ALL ≡ kinds }
-    ensures faults { FaultName.ALL ≡ faults }
     ensures kind { (kind : Kind) → kind_named (kind_name kind) ≡ Some kind }
     ensures fault { (fault : FaultName) → fault_named (fault_name fault) ≡ Some fault }
 {}

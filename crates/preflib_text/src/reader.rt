@@ -16,7 +16,7 @@ use crate::fault::{FaultName, ReadFault};
 use crate::lines::{first_line, without_mark};
 use crate::notes::{Effect, Notes, Vote};
 use crate::pick::Pick;
-use ballot_base::{AddFault, MOST_CANDIDATES, Profile, ProfileBuilder};
+use ballot_base::{MOST_CANDIDATES, Profile, ProfileBuilder};
 use std::alloc::Allocator;
 
 /// Adds a ballot.
@@ -28,11 +28,8 @@ fn add_ballot<A: Allocator + Copy + Drop>(
     requires count { 1 ≤ ballot.count }
     ensures { DoneOrRefused result builder.old builder.new (Casts None ballot.approved ballot.count) }
 {
-    match builder.add(ballot.approved, ballot.count) {
-        Ok(()) => Ok(()),
-        Err(AddFault::TooManyVoters) => Err(FaultName::TooManyVoters),
-        Err(AddFault::Memory) => Err(FaultName::Memory),
-    }
+    builder.add(ballot.approved, ballot.count)?;
+    Ok(())
 }
 
 /// Adds a ballot. The first one settles the number of candidates.
@@ -62,10 +59,8 @@ fn set_name<A: Allocator + Copy + Drop>(
     requires { MayCome builder.old (Names number name.now) }
     ensures { DoneOrRefused result builder.old builder.new (Names number name.now) }
 {
-    match builder.set_name(number, name) {
-        Ok(()) => Ok(()),
-        Err(_) => Err(FaultName::Memory),
-    }
+    builder.set_name(number, name)?;
+    Ok(())
 }
 
 /// Does to the profile what a line does.
@@ -98,13 +93,10 @@ pub(crate) fn finish<A: Allocator + Copy + Drop>(
             line: None,
         });
     }
-    match builder.finish() {
-        Ok(profile) => Ok(profile),
-        Err(_) => Err(ReadFault {
-            name: FaultName::NoVoters,
-            line: None,
-        }),
-    }
+    builder.finish().map_err(|_refused| ReadFault {
+        name: FaultName::NoVoters,
+        line: None,
+    })
 }
 
 /// Reads a line, and does to the profile what it does.

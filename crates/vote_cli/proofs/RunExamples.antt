@@ -29,7 +29,7 @@ use Rattle.vote_cli.specs.declared.printing.Printer.{Printer}
 use Rattle.vote_cli.specs.Steps.Printing.{Prints, Sends}
 use Rattle.vote_cli.specs.Answer.{Answer, answered, violated, refused, request_refused, election_answer, IsCheckAnswer, may_be_checked, share_answer, share_answer_by, ballots_answer, IsAnswer}
 use Rattle.vote_cli.specs.Runs.{Ends, FailsToRead, IsAllRead, IsRight, IsTooLong, ReadsInput, ReadsSoundly, Reports, has_votes, input_for, memory_line, read_failed_line, write_failed_line}
-use Rattle.vote_cli.specs.Steps.Refusals.{IsRefusal, IsUnread, status_of, error_of, ReadsBallots, TellsOfReads, TellsOfWrites, ReadsOn, WritesRight, IsWritten, outcome_status}
+use Rattle.vote_cli.specs.Steps.Refusals.{IsRefusal, IsUnread, status_of, error_of, ReadsBallots, TellsOfReads, TellsOfWrites, ReadsOn, WritesRight, outcome_status}
 use Rattle.vote_cli.specs.Steps.RequestFaults.{request_fault_word}
 use Rattle.ballot_base.specs.Lists.{IsIncreasing}
 use Rattle.group_check.specs.declared.property.Property.TheVariants.{Jr}
@@ -479,5 +479,5 @@ concluded = (right_answer, refl)
 concluded_whole : WritesRight (λ answer. answer ≡ answered (codes "a")) (Some []) (Some (codes "a")) (Ok outcome.Answered)
 concluded_whole = (codes "a", refl, refl)
 
-written_whole : (IsWritten outcome.Answered (Ok (record {})) (Ok outcome.Answered)) × (IsWritten outcome.Violated (Err (record {})) (Err refusal.WriteFailed)) × (outcome_status outcome.Violated ≡ Violated)
-written_whole = (refl, refl, refl)
+statuses_of_outcomes : (outcome_status outcome.Answered ≡ Answered) × (outcome_status outcome.Violated ≡ Violated)
+statuses_of_outcomes = (refl, refl)

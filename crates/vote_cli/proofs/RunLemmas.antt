@@ -37,7 +37,7 @@ use Rattle.vote_cli.specs.Runs.{Ends, IsRight, IsTooLong, ReadsSoundly, Reports,
 use Rattle.vote_cli.specs.Steps.Printing.{Passes}
 use Rattle.vote_cli.proofs.PrintingLemmas.{alone}
 use Rattle.vote_cli.proofs.StartLemmas.{may_be_checked-true}
-use Rattle.vote_cli.specs.Steps.Refusals.{WritesRight, IsRefusal, IsWritten, ReadsBallots, ReadsOn, TellsOfReads, TellsOfWrites, error_of, status_of, outcome_status}
+use Rattle.vote_cli.specs.Steps.Refusals.{WritesRight, IsRefusal, ReadsBallots, ReadsOn, TellsOfReads, TellsOfWrites, error_of, status_of, outcome_status}
 
 -- a writer of errors that was not called
 Reports-nothing : (err : WriterState) → Reports err err []
@@ -48,21 +48,18 @@ Passes-all : {old new : Option (List ℕ)} {had_failed has_failed : Bool} {text 
 Passes-all {old} {new} h = subst (Appends old new) (sym (append-nil h.sent) ∙ ap (λ rest. h.sent ++ rest) (sym (h.whole refl).0) ∙ h.order) h.took
 
 module _ (IsRight : Answer → Type 0) {old new : Option (List ℕ)} {had_failed has_failed : Bool} where
-  -- the text of a right answer was printed
-  pub writes_answered : (text : List ℕ) (printed : Result (Unit {0}) Broken) (result : Result Outcome Refusal) → IsRight (answered text)
-      → IsWritten outcome.Answered printed result → Passes (alone old had_failed) (alone new has_failed) (is_ok printed) text → WritesRight IsRight old new result
-  writes_answered text (Ok done) result right written prints =
-      subst (WritesRight IsRight old new) (sym written) (text, right, Passes-all prints)
-  writes_answered text (Err broken) result right written prints =
-      subst (WritesRight IsRight old new) (sym written) (answered text, right, (prints.sent, prints.rest, prints.order, prints.took))
+  -- the text of a right answer was not printed whole
+  pub writes_part : (answer : Answer) {whole : Bool} (result : Result Outcome Refusal) → IsRight answer
+      → IsErr result × IsErrAnd result (λ refusal. refusal ≡ WriteFailed) → Passes (alone old had_failed) (alone new has_failed) whole answer.text → WritesRight IsRight old new result
+  writes_part answer (Ok ended) right failed prints = absurd (true≢false (sym failed.0))
+  writes_part answer (Err refusal) right failed prints =
+      subst (λ r. WritesRight IsRight old new (Err r)) (sym failed.1) (answer, right, (prints.sent, prints.rest, prints.order, prints.took))
 
-  -- the text of a right report was printed
-  pub writes_violated : (text : List ℕ) (printed : Result (Unit {0}) Broken) (result : Result Outcome Refusal) → IsRight (violated text)
-      → IsWritten outcome.Violated printed result → Passes (alone old had_failed) (alone new has_failed) (is_ok printed) text → WritesRight IsRight old new result
-  writes_violated text (Ok done) result right written prints =
-      subst (WritesRight IsRight old new) (sym written) (text, right, Passes-all prints)
-  writes_violated text (Err broken) result right written prints =
-      subst (WritesRight IsRight old new) (sym written) (violated text, right, (prints.sent, prints.rest, prints.order, prints.took))
+-- a text was printed whole
+pub writes_whole : {old new : Option (List ℕ)} {had_failed has_failed : Bool} (text : List ℕ) (printed : Result (Unit {0}) Broken) (done : Unit {0}) → printed ≡ Ok done
+    → Passes (alone old had_failed) (alone new has_failed) (is_ok printed) text → Appends old new text
+writes_whole {old} {new} {had_failed} {has_failed} text printed done was prints =
+    Passes-all (subst (λ p. Passes (alone old had_failed) (alone new has_failed) (is_ok p) text) was prints)
 
 -- the answers about a committee that is the list's, among m candidates
 pub check_holds : (property : Property) (with_names : Bool) (e : Election) (m : ℕ) (list committee : List ℕ) → m ≡ e.m → committee ≡ list → IsIncreasing 1 m list → length list ≤ most_members

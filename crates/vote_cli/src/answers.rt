@@ -6,7 +6,7 @@ ghost use Rattle.seat_share.specs.Faults.{has_other_length};
 ghost use Rattle.vote_cli.specs.Answer.{IsAnswerAbout, IsCheckAnswer, answered, ballots_answer, share_answer};
 ghost use Rattle.vote_cli.specs.ElectText.{elect_text};
 ghost use Rattle.vote_cli.specs.Starts.{has_seats_for, may_start};
-ghost use Rattle.vote_cli.specs.Steps.Refusals.{WritesRight, IsWritten, TellsOfWrites, outcome_status};
+ghost use Rattle.vote_cli.specs.Steps.Refusals.{WritesRight, TellsOfWrites, outcome_status};
 ghost use Rattle.vote_cli.specs.Steps.RequestFaults.{request_fault_word};
 ghost use Rattle.vote_cli.specs.Steps.Sharing.{IsShareRefusal, IsSharedOut};
 
@@ -16,7 +16,6 @@ use crate::device::Sink;
 use crate::elect_text::Listing;
 use crate::names::Names;
 use crate::parties::votes_of;
-use crate::printing::WriteFailed;
 use crate::refusal::{Refusal, RequestFault};
 use crate::share_text::Sharing;
 use crate::starts::seats_start;
@@ -24,7 +23,7 @@ use crate::status::Status;
 use ballot_base::Profile;
 use group_check::{Property, find_violation};
 use request_words::{Question, Rule};
-use seat_share::{ShareFault, Shares};
+use seat_share::Shares;
 use std::alloc::Allocator;
 use tie_families::{Families, FamilyWinners};
 
@@ -62,18 +61,14 @@ fn answer_election<A: Allocator + Copy + Drop, W: Sink>(
     ensures unread { result ≢ Err Refusal.ReadFailed }
 {
     match rule {
-        Rule::Scored(rule) => written(listing.write_scored(out, rule), Outcome::Answered),
-        Rule::Sequential(rule) => match Families::new(alloc, listing.profile, rule, listing.size) {
-            Ok(families) => {
-                let winners = FamilyWinners::new(&families, listing.after);
-                written(
-                    listing.write_sequential(out, winners, rule),
-                    Outcome::Answered,
-                )
-            }
-            Err(_) => Err(Refusal::Memory),
-        },
+        Rule::Scored(rule) => listing.write_scored(out, rule)?,
+        Rule::Sequential(rule) => {
+            let families = Families::new(alloc, listing.profile, rule, listing.size)?;
+            let winners = FamilyWinners::new(&families, listing.after);
+            listing.write_sequential(out, winners, rule)?;
+        }
     }
+    Ok(Outcome::Answered)
 }
 
 /// Writes whether the committee of a list has a property, or the report that shows that it has not.
@@ -94,16 +89,13 @@ fn answer_check<A: Allocator + Copy, W: Sink>(
     let Some(committee) = committee_of(list, profile.m()) else {
         return Err(Refusal::Request(RequestFault::CommitteeMisfit));
     };
-    match find_violation(profile, committee, property) {
-        None => written(write_holds(out), Outcome::Answered),
-        Some(violation) => {
-            let names = Names::of(profile, with_names);
-            written(
-                write_violation(out, &names, profile, &violation),
-                Outcome::Violated,
-            )
-        }
-    }
+    let Some(violation) = find_violation(profile, committee, property) else {
+        write_holds(out)?;
+        return Ok(Outcome::Answered);
+    };
+    let names = Names::of(profile, with_names);
+    write_violation(out, &names, profile, &violation)?;
+    Ok(Outcome::Violated)
 }
 
 /// The fair allocations later than a start that has a number of seats for each party.
@@ -118,11 +110,7 @@ fn shares_from(
     ensures err { IfErr result (λ fault. IsShareRefusal sharing.now.seats
         (not (has_other_length (length votes.now) (option_copied start.entry))) votes.now (request_fault_word fault)) }
 {
-    match Shares::new(votes, sharing.method, sharing.seats, start) {
-        Ok(shares) => Ok(shares),
-        Err(ShareFault::AfterLength) => Err(RequestFault::AfterMisfit),
-        Err(fault) => Err(RequestFault::Share(fault)),
-    }
+    Ok(Shares::new(votes, sharing.method, sharing.seats, start)?)
 }
 
 /// The fair allocations that are asked for. A fault of the votes comes before a start that does not fit.
@@ -159,10 +147,9 @@ pub(crate) fn answer_share<A: Allocator + Copy, W: Sink>(
     ensures unread { result ≢ Err Refusal.ReadFailed }
     ensures memory { result ≢ Err Refusal.Memory }
 {
-    match shares_of(votes, sharing) {
-        Ok(shares) => written(sharing.write_shares(out, shares, names), Outcome::Answered),
-        Err(fault) => Err(Refusal::Request(fault)),
-    }
+    let shares = shares_of(votes, sharing)?;
+    sharing.write_shares(out, shares, names)?;
+    Ok(Outcome::Answered)
 }
 
 /// The same, where each voter counts for the one party that the ballot approves.
@@ -179,13 +166,11 @@ fn answer_share_of_ballots<A: Allocator + Copy, W: Sink>(
     ensures unread { result ≢ Err Refusal.ReadFailed }
     ensures memory { result ≢ Err Refusal.Memory }
 {
-    match votes_of(profile) {
-        Some(votes) => {
-            let names = Names::of(profile, with_names);
-            answer_share(out, votes.as_slice(), sharing, &names)
-        }
-        None => Err(Refusal::Request(RequestFault::ManyApproved)),
-    }
+    let Some(votes) = votes_of(profile) else {
+        return Err(Refusal::Request(RequestFault::ManyApproved));
+    };
+    let names = Names::of(profile, with_names);
+    answer_share(out, votes.as_slice(), sharing, &names)
 }
 
 /// Writes the answer to what is asked about these ballots.
@@ -204,10 +189,8 @@ pub(crate) fn answer_about_ballots<A: Allocator + Copy + Drop, W: Sink>(
 {
     match question {
         Question::Elect(rule, size, page) => {
-            match Listing::new(profile, *size, page, with_names) {
-                Ok(listing) => answer_election(alloc, out, *rule, &listing),
-                Err(fault) => Err(Refusal::Request(fault)),
-            }
+            let listing = Listing::new(profile, *size, page, with_names)?;
+            answer_election(alloc, out, *rule, &listing)
         }
         Question::Check(property, committee) => {
             answer_check(out, profile, *property, committee.as_slice(), with_names)
@@ -220,15 +203,5 @@ pub(crate) fn answer_about_ballots<A: Allocator + Copy + Drop, W: Sink>(
             };
             answer_share_of_ballots(out, profile, &sharing, with_names)
         }
-    }
-}
-
-/// What a run ends with where this was printed: the outcome, or a failed write.
-fn written(printed: Result<(), WriteFailed>, outcome: Outcome) -> Result<Outcome, Refusal>
-    ensures { IsWritten outcome printed result }
-{
-    match printed {
-        Ok(()) => Ok(outcome),
-        Err(_) => Err(Refusal::WriteFailed),
     }
 }

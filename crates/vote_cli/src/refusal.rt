@@ -1,16 +1,17 @@
 //! Why a run ends without an answer, or with only a beginning of one.
 ghost use Rattle.std.specs.Prelude.{◌≡◌, ◌++◌, [], codes, is_ok};
 ghost use Rattle.vote_cli.specs.Steps.RequestFaults.{request_fault_word};
-ghost use Rattle.vote_cli.specs.Steps.Refusals.{IsRefusal, error_of, status_of};
+ghost use Rattle.vote_cli.specs.Steps.Refusals.{error_of, status_of};
 ghost use Rattle.vote_cli.specs.Steps.Printing.{Sends};
 ghost use Rattle.vote_cli.specs.Text.{line};
 
 use crate::device::Sink;
 use crate::fault_text::write_fault;
-use crate::printing::{WriteFailed, write_pieces, write_whole};
-use crate::status::Status;
+use crate::printing::{WriteFailed, write_pieces};
+use crate::status::{OUT_OF_MEMORY, Status, WRITE_FAILED};
 use preflib_text::{FaultName, ReadFault};
 use seat_share::ShareFault;
+use std::alloc::AllocError;
 
 /// Why a request does not fit the input, or its votes.
 #[derive(Clone, Copy, Debug, PartialEq, Eq)]
@@ -37,6 +38,21 @@ impl RequestFault {
             RequestFault::CommitteeMisfit => b"CommitteeMisfit",
             RequestFault::ManyApproved => b"ManyApproved",
             RequestFault::Share(fault) => fault.name().as_bytes(),
+        }
+    }
+}
+
+/// A start of another length is a misfit, as one that is no allocation.
+impl From<ShareFault> for RequestFault {
+    ghost use Rattle.vote_cli.specs.Steps.RequestFaults.{misfit_of};
+    ghost use Rattle.std.specs.Prelude.{◌≡◌};
+
+    ghost from_gives = { λ refused fault. fault ≡ misfit_of refused };
+
+    fn from(refused: ShareFault) -> RequestFault {
+        match refused {
+            ShareFault::AfterLength => RequestFault::AfterMisfit,
+            _ => RequestFault::Share(refused),
         }
     }
 }
@@ -75,9 +91,9 @@ impl Refusal {
         match self {
             Refusal::Input(fault) => write_fault(err, fault),
             Refusal::Request(fault) => write_request_fault(err, fault),
-            Refusal::Memory => write_whole(err, b"committees: memory\n"),
-            Refusal::ReadFailed => write_whole(err, b"committees: read failed\n"),
-            Refusal::WriteFailed => write_whole(err, b"committees: write failed\n"),
+            Refusal::Memory => write_pieces(err, &[OUT_OF_MEMORY.as_bytes(), b"\n"]),
+            Refusal::ReadFailed => write_pieces(err, &[b"committees: read failed\n"]),
+            Refusal::WriteFailed => write_pieces(err, &[WRITE_FAILED.as_bytes(), b"\n"]),
         }
     }
 }
@@ -90,12 +106,49 @@ fn write_request_fault<E: Sink>(err: &mut E, fault: RequestFault) -> Result<(), 
     write_pieces(err, &[b"committees: request: ", fault.word(), b"\n"])
 }
 
-/// The refusal of an input with a fault.
-pub(crate) fn refusal_of(fault: ReadFault) -> Refusal
-    ensures { IsRefusal fault result }
-{
-    match fault.name {
-        FaultName::Memory => Refusal::Memory,
-        _ => Refusal::Input(fault),
+/// An input for which memory ran out has no fault of its own.
+impl From<ReadFault> for Refusal {
+    ghost use Rattle.vote_cli.specs.Steps.Refusals.{IsRefusal};
+
+    ghost from_gives = { IsRefusal };
+
+    fn from(fault: ReadFault) -> Refusal {
+        match fault.name {
+            FaultName::Memory => Refusal::Memory,
+            _ => Refusal::Input(fault),
+        }
+    }
+}
+
+impl From<RequestFault> for Refusal {
+    ghost use Rattle.std.specs.Prelude.{◌≡◌};
+    ghost use Rattle.vote_cli.specs.declared.refusal.Refusal.TheVariants.{Request};
+
+    ghost from_gives = { λ fault refusal. refusal ≡ Request fault };
+
+    fn from(fault: RequestFault) -> Refusal {
+        Refusal::Request(fault)
+    }
+}
+
+impl From<AllocError> for Refusal {
+    ghost use Rattle.std.specs.Prelude.{◌≡◌};
+    ghost use Rattle.vote_cli.specs.declared.refusal.Refusal.TheVariants.{Memory};
+
+    ghost from_gives = { λ _ refusal. refusal ≡ Memory };
+
+    fn from(_error: AllocError) -> Refusal {
+        Refusal::Memory
+    }
+}
+
+impl From<WriteFailed> for Refusal {
+    ghost use Rattle.std.specs.Prelude.{◌≡◌};
+    ghost use Rattle.vote_cli.specs.declared.refusal.Refusal.TheVariants.{WriteFailed as FailedWrite};
+
+    ghost from_gives = { λ _ refusal. refusal ≡ FailedWrite };
+
+    fn from(_failed: WriteFailed) -> Refusal {
+        Refusal::WriteFailed
     }
 }

@@ -13,7 +13,7 @@ use crate::answers::{Outcome, answer_about_ballots, answer_share};
 use crate::device::{Sink, Source};
 use crate::input::read_to_end;
 use crate::names::Names;
-use crate::refusal::{Refusal, refusal_of};
+use crate::refusal::Refusal;
 use crate::share_text::Sharing;
 use crate::status::Status;
 use crate::storage::Storage;
@@ -28,10 +28,7 @@ fn ballots_of<A: Allocator + Copy + Drop>(lines: LineReader<A>) -> Result<Profil
     ensures unread { result ≢ Err Refusal.ReadFailed }
     ensures unwritten { result ≢ Err Refusal.WriteFailed }
 {
-    match lines.finish() {
-        Ok(profile) => Ok(profile),
-        Err(fault) => Err(refusal_of(fault)),
-    }
+    Ok(lines.finish()?)
 }
 
 /// Reads the ballots of the whole input.

@@ -2,6 +2,12 @@
 ghost use Rattle.std.specs.Prelude.{◌≡◌};
 ghost use Rattle.vote_cli.specs.Status.{code_of};
 
+/// The line on standard error if memory runs out, without its end.
+pub const OUT_OF_MEMORY: &str = "committees: memory";
+
+/// The line on standard error if a write fails, without its end.
+pub const WRITE_FAILED: &str = "committees: write failed";
+
 /// How a run ended.
 #[derive(Clone, Copy, Debug, PartialEq, Eq)]
 pub enum Status {

@@ -4,7 +4,7 @@ ghost use Rattle.preflib_text.specs.Approvals.{HasNumber};
 ghost use Rattle.preflib_text.specs.Limits.{word_limit};
 
 use super::support::{
-    FaultText, MANY, assert_holds, assert_outcome, in_pieces, outcome, reading_as,
+    MANY, assert_holds, assert_outcome, in_pieces, outcome, reading_as,
 };
 use preflib_text::{LineReader, Pick};
 use refusing_heap::Refusing;
@@ -56,7 +56,7 @@ fn feed(rt: &impl Abort, text: &mut String, reader: &mut LineReader<&Refusing>, 
 {
     match reader.feed(piece) {
         Ok(()) => write!(text, "{}; ", reader.held()).expect(rt, "memory"),
-        Err(fault) => write!(text, "{}; ", FaultText(fault)).expect(rt, "memory"),
+        Err(fault) => write!(text, "{fault}; ").expect(rt, "memory"),
     }
 }
 

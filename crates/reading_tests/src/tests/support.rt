@@ -62,19 +62,6 @@ impl fmt::Display for Members {
     }
 }
 
-/// A fault as a text: its line where it has one, and its name.
-#[derive(Clone, Copy)]
-pub(super) struct FaultText(pub(super) ReadFault);
-
-impl fmt::Display for FaultText {
-    fn fmt<W: fmt::Write>(&self, f: &mut fmt::Formatter<W>) -> fmt::Result {
-        if let Some(line) = self.0.line {
-            write!(f, "line {line}: ")?;
-        }
-        f.write_str(self.0.name.name())
-    }
-}
-
 /// A name, or the list of its bytes where they are no text.
 #[derive(Clone, Copy)]
 struct NameText<'a>(&'a [u8]);
@@ -116,7 +103,7 @@ pub(super) fn outcome<A: Allocator + Copy + Drop>(
 ) -> String {
     match &read {
         Ok(profile) => format!(in alloc; "{}", ProfileText(profile)).expect(rt, "a profile"),
-        Err(fault) => format!(in alloc; "{}", FaultText(*fault)).expect(rt, "a fault"),
+        Err(fault) => format!(in alloc; "{}", fault).expect(rt, "a fault"),
     }
 }
 

@@ -8,7 +8,6 @@ use Rattle.vote_cli.specs.declared.answers.Outcome.{Outcome}
 use Rattle.vote_cli.specs.declared.answers.Outcome.TheVariants as outcome
 use Rattle.vote_cli.specs.declared.refusal.Refusal.{Refusal}
 use Rattle.vote_cli.specs.declared.refusal.Refusal.TheVariants.{Input, Request, Memory, ReadFailed, WriteFailed}
-use Rattle.vote_cli.specs.declared.printing.WriteFailed.{WriteFailed as Broken}
 use Rattle.vote_cli.specs.Device.{AppendsBeginning, ReaderState}
 use Rattle.vote_cli.specs.Runs.{FailsToRead, IsAllRead, ReadsInput, ReadsSoundly, has_votes}
 use Rattle.vote_cli.specs.Runs.{memory_line, read_failed_line, write_failed_line}
@@ -93,8 +92,3 @@ WritesRight IsRight old new (Err Memory) = Appends old new []
 WritesRight IsRight old new (Err ReadFailed) = Appends old new []
 WritesRight IsRight old new (Err WriteFailed) =
     (answer : Answer) × IsRight answer × AppendsBeginning old new answer.text
-
--- what was printed whole ends with this outcome, and what was not is a failed write
-abbrev pub IsWritten : Outcome → Result (Unit {0}) Broken → Result Outcome Refusal → Type 0
-IsWritten ended (Ok done) result = result ≡ Ok ended
-IsWritten ended (Err broken) result = result ≡ Err WriteFailed
