@@ -6,10 +6,10 @@
 //! not on it leave. One of the free candidates on the ballot that can spare the fewest must join: each in turn is
 //! searched below and then leaves, with its clones.
 //!
-//! Most searches end after a few sets, so a quick search comes first, which does no more than that and enters only so
-//! many sets. If these do not decide, a thorough search begins again. It also adds up all needs, each with a weight. A
-//! set is given up if the sum passes what the best free candidates can give, and a candidate leaves without whom the
-//! others fall short (`laws::weighted_needs`; Glover, Surrogate constraints, 1968). Any weights are right.
+//! Most searches end after a few sets, so a quick search comes first. It does no more than that, and gives up after a
+//! limited number of sets. A thorough search then begins anew. It also adds up all needs, each with a weight. A set is
+//! given up if the sum passes what the best free candidates can give, and a candidate leaves without whom the others
+//! fall short (`laws::weighted_needs`; Glover, Surrogate constraints, 1968). Any weights are right.
 ghost use Rattle.std.specs.Prelude.{◌≡◌, ℕ, ⊤, ◌+◌, ◌-◌, ◌^◌, ◌≤◌, ◌&&◌, [], true, max, nat_le, length};
 ghost use Rattle.std.specs.Prelude.{slice_index, IsTrue, MatchOption};
 ghost use Rattle.ballot_base.specs.Clones.{AreClones};
@@ -27,9 +27,12 @@ use ballot_base::{CandSet, Clones, PLACES, Profile};
 use std::alloc::Allocator;
 use tie_walk::add_to_members;
 
-/// How many sets a quick search enters. Any number is right; with this one, few searches that end soon become thorough,
-/// and the others lose little.
-const PATIENCE: u16 = 1024;
+/// The most sets that a quick search may enter. Any limit is right.
+const MOST_PATIENCE: usize = 8192;
+
+/// For each ballot, how many sets a quick search may enter if it is among all committees. Such searches are few, so more
+/// can be spent on each.
+const FIRST_PATIENCE: usize = 32;
 
 /// The denominator of shares.
 const SHARE_PARTS: u64 = 1024;
@@ -82,20 +85,31 @@ impl<A: Allocator + Copy> NearSearch<'_, A> {
             (IsReaching (closeness self.now.profile.now.m self.now.profile.now.rows) self.now.profile.now.m set free
             left (self.now.profile.now.m - self.now.most)) }
     {
-        let mut patience = PATIENCE;
+        let mut patience = self.patience(set);
         match self.find_quickly(set, free, left, &mut patience) {
             Some(answer) => answer,
             None => self.find_thoroughly(set, free, left),
         }
     }
 
-    /// What `find_near` returns, or `None` if that takes more patience than there is: one for each set.
+    /// How many sets a quick search may enter. A thorough search goes through all ballots for each set, a quick one only
+    /// until a ballot shows that the set is to be given up: the more ballots, the more a quick search may enter.
+    fn patience(&self, set: CandSet) -> usize {
+        let ballots = self.profile.rows().min(MOST_PATIENCE);
+        if set.is_empty() {
+            return MOST_PATIENCE.min(FIRST_PATIENCE * ballots);
+        }
+        ballots
+    }
+
+    /// Finds what `find_near` returns. Gives up and returns `None` if it would enter more sets than `patience`, from
+    /// which each set takes one.
     fn find_quickly(
         &self,
         set: CandSet,
         free: CandSet,
         left: u8,
-        patience: &mut u16,
+        patience: &mut usize,
     ) -> Option<Option<CandSet>>
         requires clones { AreClones self.now.profile.now.m self.now.profile.now.rows self.now.clones.now }
         requires opened { IsOpen self.now.profile.now.m set free }
@@ -128,7 +142,7 @@ impl<A: Allocator + Copy> NearSearch<'_, A> {
         Some(None)
     }
 
-    /// What `find_near` returns, by weighted needs.
+    /// Finds what `find_near` returns, by weighted needs as well.
     fn find_thoroughly(&self, set: CandSet, free: CandSet, left: u8) -> Option<CandSet>
         requires clones { AreClones self.now.profile.now.m self.now.profile.now.rows self.now.clones.now }
         requires shares { (n : ℕ) → slice_index self.now.shares.now n ≤ share_parts }
