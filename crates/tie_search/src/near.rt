@@ -6,10 +6,12 @@
 //! not on it leave. One of the free candidates on the ballot that can spare the fewest must join: each in turn is
 //! searched below and then leaves, with its clones.
 //!
-//! All needs are also added up, each with a weight. A set is given up if the sum passes what the best free candidates
-//! can give, and a candidate leaves without whom the others fall short (`laws::weighted_needs`; Glover, Surrogate
-//! constraints, 1968). Any weights are right.
-ghost use Rattle.std.specs.Prelude.{◌≡◌, ℕ, ◌+◌, ◌-◌, ◌^◌, ◌≤◌, ◌&&◌, [], true, max, nat_le, length, slice_index, IsTrue, MatchOption};
+//! Most searches end after a few sets, so a quick search comes first. It does no more than that, and gives up after a
+//! limited number of sets. A thorough search then begins anew. It also adds up all needs, each with a weight. A set is
+//! given up if the sum passes what the best free candidates can give, and a candidate leaves without whom the others
+//! fall short (`laws::weighted_needs`; Glover, Surrogate constraints, 1968). Any weights are right.
+ghost use Rattle.std.specs.Prelude.{◌≡◌, ℕ, ⊤, ◌+◌, ◌-◌, ◌^◌, ◌≤◌, ◌&&◌, [], true, max, nat_le, length};
+ghost use Rattle.std.specs.Prelude.{slice_index, IsTrue, MatchOption};
 ghost use Rattle.ballot_base.specs.Clones.{AreClones};
 ghost use Rattle.ballot_base.specs.CandSet.{has_member};
 ghost use Rattle.ballot_base.specs.Limits.{most_candidates};
@@ -19,11 +21,18 @@ ghost use Rattle.tie_search.specs.Completions.{IsOpen, IsOutOfReach, IsReaching}
 ghost use Rattle.tie_search.specs.Steps.Near.{AreChoices, AreWeighted, IsNarrowed, need_weight, share_parts};
 
 use crate::needs::still_needed;
-use crate::order::Order;
+use crate::order::{Order, first_member};
 use crate::search::{at_least, excess};
 use ballot_base::{CandSet, Clones, PLACES, Profile};
 use std::alloc::Allocator;
 use tie_walk::add_to_members;
+
+/// The most sets that a quick search may enter. Any limit is right.
+const MOST_PATIENCE: usize = 8192;
+
+/// For each ballot, how many sets a quick search may enter if it is among all committees. Such searches are few, so more
+/// can be spent on each.
+const FIRST_PATIENCE: usize = 32;
 
 /// The denominator of shares.
 const SHARE_PARTS: u64 = 1024;
@@ -76,8 +85,76 @@ impl<A: Allocator + Copy> NearSearch<'_, A> {
             (IsReaching (closeness self.now.profile.now.m self.now.profile.now.rows) self.now.profile.now.m set free
             left (self.now.profile.now.m - self.now.most)) }
     {
+        let mut patience = self.patience(set);
+        match self.find_quickly(set, free, left, &mut patience) {
+            Some(answer) => answer,
+            None => self.find_thoroughly(set, free, left),
+        }
+    }
+
+    /// How many sets a quick search may enter. A thorough search goes through all ballots for each set, a quick one only
+    /// until a ballot shows that the set is to be given up: the more ballots, the more a quick search may enter.
+    fn patience(&self, set: CandSet) -> usize {
+        let ballots = self.profile.rows().min(MOST_PATIENCE);
+        if set.is_empty() {
+            return MOST_PATIENCE.min(FIRST_PATIENCE * ballots);
+        }
+        ballots
+    }
+
+    /// Finds what `find_near` returns. Gives up and returns `None` if it would enter more sets than `patience`, from
+    /// which each set takes one.
+    fn find_quickly(
+        &self,
+        set: CandSet,
+        free: CandSet,
+        left: u8,
+        patience: &mut usize,
+    ) -> Option<Option<CandSet>>
+        requires clones { AreClones self.now.profile.now.m self.now.profile.now.rows self.now.clones.now }
+        requires opened { IsOpen self.now.profile.now.m set free }
+        ensures { MatchOption result ⊤ (λ answer. MatchOption answer
+            (IsOutOfReach (closeness self.now.profile.now.m self.now.profile.now.rows) self.now.profile.now.m set free
+            left (self.now.profile.now.m - self.now.most))
+            (IsReaching (closeness self.now.profile.now.m self.now.profile.now.rows) self.now.profile.now.m set free
+            left (self.now.profile.now.m - self.now.most))) }
+    {
+        if *patience == 0 {
+            return None;
+        }
+        *patience -= 1;
         self.profile.m();
-        let (choices, eligible) = choices(self.profile, set, free, left, self.most)?;
+        let Some((choices, mut rest)) = self.choices(set, free, left, false) else {
+            return Some(None);
+        };
+        if left == 0 {
+            return Some(Some(set));
+        }
+        while let Some(next) = first_member(choices.common(rest)) {
+            let others = rest.without(next);
+            let found = self.find_quickly(set.with(next), others, left - 1, patience)?;
+            if let Some(committee) = found {
+                return Some(Some(committee));
+            }
+            // A committee with a clone of the candidate would be as near with the candidate in its place.
+            rest = others.minus(self.clones.class(next));
+        }
+        Some(None)
+    }
+
+    /// Finds what `find_near` returns, by weighted needs as well.
+    fn find_thoroughly(&self, set: CandSet, free: CandSet, left: u8) -> Option<CandSet>
+        requires clones { AreClones self.now.profile.now.m self.now.profile.now.rows self.now.clones.now }
+        requires shares { (n : ℕ) → slice_index self.now.shares.now n ≤ share_parts }
+        requires opened { IsOpen self.now.profile.now.m set free }
+        ensures { MatchOption result
+            (IsOutOfReach (closeness self.now.profile.now.m self.now.profile.now.rows) self.now.profile.now.m set free
+            left (self.now.profile.now.m - self.now.most))
+            (IsReaching (closeness self.now.profile.now.m self.now.profile.now.rows) self.now.profile.now.m set free
+            left (self.now.profile.now.m - self.now.most)) }
+    {
+        self.profile.m();
+        let (choices, eligible) = self.choices(set, free, left, true)?;
         if left == 0 {
             return Some(set);
         }
@@ -85,15 +162,62 @@ impl<A: Allocator + Copy> NearSearch<'_, A> {
         let mut rest = self.narrowed(&needs, set, eligible, left)?;
         while let Some(next) = best_of(choices.common(rest), &needs.supports) {
             let others = rest.without(next);
-            let found = self.find_near(set.with(next), others, left - 1);
+            let found = self.find_thoroughly(set.with(next), others, left - 1);
             if let Some(committee) = found {
                 return Some(committee);
             }
-            // A committee with a clone of the candidate would be as near with the candidate in its place.
+            // A clone leaves as well, as in `find_quickly`.
             let untried = others.minus(self.clones.class(next));
             rest = self.narrowed(&needs, set, untried, left)?;
         }
         None
+    }
+
+    /// Two sets: branching candidates, at least one of which must join; and the candidates that are still eligible.
+    /// Returns `None` if some ballot needs more hits than it can have. If `by_need`, of ballots that can spare equally
+    /// few the one that needs most decides, and otherwise the first.
+    fn choices(
+        &self,
+        set: CandSet,
+        free: CandSet,
+        left: u8,
+        by_need: bool,
+    ) -> Option<(CandSet, CandSet)>
+        requires { IsOpen self.now.profile.now.m set free }
+        ensures { MatchOption result
+            (IsOutOfReach (closeness self.now.profile.now.m self.now.profile.now.rows) self.now.profile.now.m set free
+            left (self.now.profile.now.m - self.now.most))
+            (λ both. (left ≡ 0 → greatest_distance self.now.profile.now.rows set ≤ self.now.most)
+            × IsNarrowed (closeness self.now.profile.now.m self.now.profile.now.rows) self.now.profile.now.m set free
+            left (self.now.profile.now.m - self.now.most) both.1
+            × (1 ≤ left → AreChoices (closeness self.now.profile.now.m self.now.profile.now.rows)
+            self.now.profile.now.m set free left (self.now.profile.now.m - self.now.most) both.0)
+            × (left ≤ length free)) }
+    {
+        self.profile.m();
+        if free.len() < left {
+            return None;
+        }
+        let k = set.len() + left;
+        let mut choices = free;
+        let mut rest = free;
+        let mut tightest = (u8::MAX, 0);
+        for (ballot, _voters) in self.profile.ballots() {
+            let needed = still_needed(ballot, set, k, self.most);
+            let open = ballot.common(rest);
+            if needed > left.min(open.len()) {
+                return None;
+            }
+            if needed == left {
+                rest = open;
+            }
+            let spare = open.len().saturating_sub(needed);
+            if is_tighter(needed, spare, tightest, by_need) {
+                choices = open;
+                tightest = (spare, needed);
+            }
+        }
+        Some((choices, rest))
     }
 
     /// What the ballots still need, if `left` of the free candidates complete the set.
@@ -184,56 +308,12 @@ fn best_of(set: CandSet, worths: &[u128; PLACES]) -> Option<u8>
     Some(best)
 }
 
-/// Two sets: branching candidates, at least one of which must join; and the candidates that are still eligible. Returns
-/// `None` if some ballot needs more hits than it can have.
-fn choices<A: Allocator + Copy>(
-    profile: &Profile<A>,
-    set: CandSet,
-    free: CandSet,
-    left: u8,
-    most: u8,
-) -> Option<(CandSet, CandSet)>
-    requires { IsOpen profile.now.m set free }
-    ensures { MatchOption result
-        (IsOutOfReach (closeness profile.now.m profile.now.rows) profile.now.m set free left (profile.now.m - most))
-        (λ both. (left ≡ 0 → greatest_distance profile.now.rows set ≤ most)
-        × IsNarrowed (closeness profile.now.m profile.now.rows) profile.now.m set free left (profile.now.m - most)
-        both.1
-        × (1 ≤ left → AreChoices (closeness profile.now.m profile.now.rows) profile.now.m set free left
-        (profile.now.m - most) both.0)
-        × (left ≤ length free)) }
-{
-    profile.m();
-    if free.len() < left {
-        return None;
-    }
-    let k = set.len() + left;
-    let mut choices = free;
-    let mut rest = free;
-    let mut tightest = (u8::MAX, 0);
-    for (ballot, _voters) in profile.ballots() {
-        let needed = still_needed(ballot, set, k, most);
-        let open = ballot.common(rest);
-        if needed > left.min(open.len()) {
-            return None;
-        }
-        if needed == left {
-            rest = open;
-        }
-        let spare = open.len().saturating_sub(needed);
-        if is_tighter(needed, spare, tightest) {
-            choices = open;
-            tightest = (spare, needed);
-        }
-    }
-    Some((choices, rest))
-}
-
 /// Whether a ballot needs a hit and is tighter than the tightest before: it can spare fewer of its free candidates, or
-/// equally few and it needs more hits. Any ballot that needs a hit is right; a tight one leaves few candidates to try.
-fn is_tighter(needed: u8, spare: u8, tightest: (u8, u8)) -> bool
+/// `by_need` counts, and it can spare equally few and needs more hits. Any ballot that needs a hit is right; a tight
+/// one leaves few candidates to try.
+fn is_tighter(needed: u8, spare: u8, tightest: (u8, u8), by_need: bool) -> bool
     ensures { IsTrue result → 1 ≤ needed }
 {
     let (fewest, most_needed) = tightest;
-    needed > 0 && (spare < fewest || spare == fewest && needed > most_needed)
+    needed > 0 && (spare < fewest || by_need && spare == fewest && needed > most_needed)
 }

@@ -1,0 +1,84 @@
+use Rattle.std.proofs.Common.{◌-◌, ◌≤◌, ◌∙◌, arith, sym}
+use Rattle.ballot_base.specs.CandSet.{with_member, without_member}
+use Rattle.tie_walk.specs.Values.{closeness}
+use Rattle.tie_search.specs.Completions.{IsOpen}
+use Rattle.tie_search.proofs.CompletionLemmas.{member-low, member-high, open-with, without-is, without-shorter}
+use Rattle.tie_search.proofs.SearchLemmas.{found-below, set-reaches}
+use Rattle.tie_search.proofs.CloneLemmas.{class-are, minus-most}
+use Rattle.tie_search.proofs.NearClones.{closeness-exchanged}
+use Rattle.tie_search.proofs.NeedLemmas.{all-tried, choice-left, narrowed-clones, near-value}
+use Rattle.tie_search.proofs.near.NearSearch.+find_quickly.Goals as goal
+
+pub returns-then-left-eq0 : goal.returns-then-left-eq0
+returns-then-left-eq0 g t c =
+    let e = c.args.self.now.profile.now in
+    set-reaches (closeness e.m e.rows) e.m c.args.set c.args.left (e.m - c.args.self.now.most) c.args.free c.if-left-eq0.true c.requires.opened
+    (near-value e.m e.rows c.args.self.now.most c.args.set (c.in-Some.ensures.0 c.if-left-eq0.true))
+
+pub with-requires-clause-low : goal.with-requires-clause-low
+with-requires-clause-low g t c =
+    member-low 1 c.args.self.now.profile.now.m c.loop-next.rest c.in-Some-first_member.next c.loop-next.invariant.opened.free_within
+    (choice-left _ c.loop-next.rest c.common.result c.in-Some-first_member.next c.common.ensures c.in-Some-first_member.ensures)
+
+pub with-requires-clause-high : goal.with-requires-clause-high
+with-requires-clause-high g t c =
+    omega (
+      arith,
+      c.m.ensures.valid.most,
+      member-high 1 c.args.self.now.profile.now.m c.loop-next.rest c.in-Some-first_member.next c.loop-next.invariant.opened.free_within
+          (choice-left _ c.loop-next.rest c.common.result c.in-Some-first_member.next c.common.ensures c.in-Some-first_member.ensures),
+    )
+
+pub find_quickly-requires : goal.find_quickly-requires
+find_quickly-requires g t c κs within =
+    let next = c.in-Some-first_member.next in
+    let opened : IsOpen c.args.self.now.profile.now.m (with_member c.args.set next) (without_member c.loop-next.rest next) =
+    open-with c.args.self.now.profile.now.m c.args.set c.loop-next.rest next c.loop-next.invariant.opened
+    (choice-left _ c.loop-next.rest c.common.result next c.common.ensures c.in-Some-first_member.ensures) in
+    (omega (arith, c.if-left-eq0.false, c.decreases), (within, (c.requires.clones, rw (c.with.ensures, c.without-others.ensures) opened)))
+
+pub returns-in-Some-found : goal.returns-in-Some-found
+returns-in-Some-found g t c =
+    let e = c.args.self.now.profile.now in
+    let next = c.in-Some-first_member.next in
+    let here = choice-left _ c.loop-next.rest c.common.result next c.common.ensures c.in-Some-first_member.ensures in
+    found-below (closeness e.m e.rows) e.m c.args.set c.args.left (e.m - c.args.self.now.most) c.args.free (without_member c.loop-next.rest next) c.in-Some-found.committee next
+    (omega (arith, c.if-left-eq0.false)) c.requires.opened (c.loop-next.invariant.among next here) (λ n is. c.loop-next.invariant.among n (without-is c.loop-next.rest next n is))
+    (rw (c.with.ensures, c.without-others.ensures, c.in-Some-found.is) at c.in_ok-found.ensures)
+
+pub class-requires : goal.class-requires
+class-requires g t c =
+    omega (
+      arith,
+      c.m.ensures.valid.most,
+      member-high 1 c.args.self.now.profile.now.m c.loop-next.rest c.in-Some-first_member.next c.loop-next.invariant.opened.free_within
+          (choice-left _ c.loop-next.rest c.common.result c.in-Some-first_member.next c.common.ensures c.in-Some-first_member.ensures),
+    )
+
+pub loop-next-smaller : goal.loop-next-smaller
+loop-next-smaller g t c =
+    let fewer = minus-most (without_member c.loop-next.rest c.in-Some-first_member.next) c.class.result in
+    let short = without-shorter c.loop-next.rest c.in-Some-first_member.next
+    (choice-left _ c.loop-next.rest c.common.result c.in-Some-first_member.next c.common.ensures c.in-Some-first_member.ensures) in
+    rw (c.minus-rest.ensures, c.without-others.ensures) (omega (arith, fewer, short))
+
+pub loop-next-preserved : goal.loop-next-preserved
+loop-next-preserved g t c =
+    let e = c.args.self.now.profile.now in
+    let rest = c.loop-next.rest in
+    let next = c.in-Some-first_member.next in
+    let here = choice-left _ rest c.common.result next c.common.ensures c.in-Some-first_member.ensures in
+    let low : 1 ≤ next = member-low 1 e.m rest next c.loop-next.invariant.opened.free_within here in
+    let high : next ≤ e.m = member-high 1 e.m rest next c.loop-next.invariant.opened.free_within here in
+    let are = class-are e.m e.rows next c.class.result (c.class.ensures ∙ c.requires.clones next low high) in
+    rw (c.minus-rest.ensures, c.without-others.ensures)
+    (narrowed-clones (closeness e.m e.rows) e.m c.args.set c.args.free rest c.args.left (e.m - c.args.self.now.most) c.loop-next.invariant next c.class.result
+    (omega (arith, c.if-left-eq0.false)) here
+    (λ committee d up is out clone. closeness-exchanged e.m committee next d up is out low high e.rows c.m.ensures.valid.ballots (are d clone))
+    (rw (c.with.ensures, c.without-others.ensures, c.in_default-found.is) at c.in_ok-found.ensures))
+
+pub returns : goal.returns
+returns g t c =
+    let e = c.args.self.now.profile.now in
+    all-tried (closeness e.m e.rows) e.m c.args.set c.args.free c.args.left (e.m - c.args.self.now.most) _ c.loop-next.rest c.requires.opened
+    (c.in-Some.ensures.2 (omega (arith, c.if-left-eq0.false))) c.loop-next.invariant.kept (sym c.common.ensures ∙ c.in_default-first_member.ensures)

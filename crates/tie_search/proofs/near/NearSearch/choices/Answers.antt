@@ -1,0 +1,106 @@
+use Rattle.std.proofs.Common.{◌≡◌, ◌-◌, ◌+◌, ◌≤◌, arith, ap, sym, subst, ◌∙◌, length, take}
+use Rattle.ballot_base.specs.CandSet.{common_members}
+use Rattle.std.proofs.lemmas.List.{length_push}
+use Rattle.ballot_base.specs.Ballots.{Row, hits}
+use Rattle.tie_walk.specs.Values.{closeness, greatest_distance}
+use Rattle.tie_walk.proofs.RowSums.{length-common}
+use Rattle.ballot_base.proofs.Turns.{row_of_turn, all_passed}
+use Rattle.tie_search.specs.Needs.{hits_needed}
+use Rattle.tie_search.specs.Steps.Near.{AreChoices, IsNarrowed}
+use Rattle.tie_search.proofs.NeedLemmas.{choice-of_all, choice-of_ballot, hopeless, narrowed-choice, narrowed-more, narrowed-none, narrowed-out, narrowed-to_ballot, near-more, too-few}
+use Rattle.tie_search.proofs.near.NearSearch.choices.Goals as goal
+use Rattle.tie_search.proofs.near.NearSearch.choices.Goals.{then-needed-left, else-needed-left}
+
+pub returns-then-len-left : goal.returns-then-len-left
+returns-then-len-left g c =
+    let e = c.args.self.now.profile.now in
+    too-few (closeness e.m e.rows) e.m c.args.set c.args.free c.args.left (e.m - c.args.self.now.most) c.requires (omega (arith, c.len.ensures.count, c.if-len-left.true))
+
+pub loop-ballot-init : goal.loop-ballot-init
+loop-ballot-init g c =
+    let e = c.args.self.now.profile.now in
+    record {
+      whole = λ none. omega arith;
+      narrowed = narrowed-none (closeness e.m e.rows) e.m c.args.set c.args.free c.args.left (e.m - c.args.self.now.most) c.requires;
+      choice = λ some. choice-of_all (closeness e.m e.rows) e.m c.args.set c.args.free c.args.left (e.m - c.args.self.now.most) c.requires some;
+    }
+
+pub returns-then-needed-min : goal.returns-then-needed-min
+returns-then-needed-min g c =
+    let e = c.args.self.now.profile.now in
+    let V = closeness e.m e.rows in
+    let row : Row = (c.in-Some.ballot, c.in-Some._voters) in
+    let at = row_of_turn c.args.self.now.profile.now.rows (c.into_iter-ballot-iterator.ensures.into_iter_gives ∙ c.ballots-ballot-items.ensures.rows) c.loop-ballot.yielded c.loop-ballot.yielded_by row c.in-Some.ensures.steps in
+    let rest = c.loop-ballot.rest in
+    let needed : c.still_needed-needed.result ≡ hits_needed (length row.0) (length c.args.set + c.args.left) c.args.self.now.most - hits row.0 c.args.set =
+    c.still_needed-needed.ensures ∙ ap (λ n. hits_needed (length row.0) (n + c.args.left) c.args.self.now.most - hits row.0 c.args.set) c.len-2.ensures.count in
+    narrowed-out V e.m c.args.set c.args.free rest c.args.left (e.m - c.args.self.now.most) c.loop-ballot.invariant.narrowed
+    (hopeless e.m e.rows c.args.self.now.most c.args.set rest c.args.left c.m.ensures.valid.ballots c.loop-ballot.invariant.narrowed.opened (length c.loop-ballot.yielded) row at
+    (omega (arith, needed, c.if-needed-min.true, c.min.ensures, c.len-in-loop-ballot.ensures.count, ap length c.common-open.ensures, length-common row.0 rest)))
+
+pub loop-ballot-preserved-then-is_tighter : goal.loop-ballot-preserved-then-is_tighter
+loop-ballot-preserved-then-is_tighter g c =
+    let e = c.args.self.now.profile.now in
+    let V = closeness e.m e.rows in
+    let row : Row = (c.in-Some.ballot, c.in-Some._voters) in
+    let at = row_of_turn c.args.self.now.profile.now.rows (c.into_iter-ballot-iterator.ensures.into_iter_gives ∙ c.ballots-ballot-items.ensures.rows) c.loop-ballot.yielded c.loop-ballot.yielded_by row c.in-Some.ensures.steps in
+    let next = sym (length_push c.loop-ballot.yielded row) in
+    let rest = c.loop-ballot.rest in
+    let inv = c.loop-ballot.invariant in
+    let needed : c.still_needed-needed.result ≡ hits_needed (length row.0) (length c.args.set + c.args.left) c.args.self.now.most - hits row.0 c.args.set =
+    c.still_needed-needed.ensures ∙ ap (λ n. hits_needed (length row.0) (n + c.args.left) c.args.self.now.most - hits row.0 c.args.set) c.len-2.ensures.count in
+    record {
+      whole = λ none.
+          subst (λ n. greatest_distance (take n e.rows) c.args.set ≤ c.args.self.now.most) next (near-more e.m c.args.self.now.most (length c.args.set + c.args.left) e.rows c.args.set (length c.loop-ballot.yielded) row c.m.ensures.valid.ballots c.requires.set_within at
+          (omega (arith, none)) (omega (arith, needed, none, c.if-needed-min.false, c.min.ensures)) (inv.whole none));
+      narrowed = elim c.if-needed-left.branch [
+        | then-needed-left w ↦
+            subst (λ s. IsNarrowed V e.m c.args.set c.args.free c.args.left (e.m - c.args.self.now.most) s) (sym (w.rest-is ∙ c.common-open.ensures))
+            (narrowed-more V e.m c.args.set c.args.free rest c.args.left (e.m - c.args.self.now.most) inv.narrowed (common_members row.0 rest)
+            (narrowed-to_ballot e.m e.rows c.args.self.now.most c.args.set rest c.args.left c.m.ensures.valid.ballots inv.narrowed.opened (length c.loop-ballot.yielded) row at
+            (omega (arith, needed, w.if-needed-left.true))))
+        | else-needed-left w ↦ subst (λ s. IsNarrowed V e.m c.args.set c.args.free c.args.left (e.m - c.args.self.now.most) s) (sym w.rest-is) inv.narrowed
+      ];
+      choice = λ some.
+          subst (λ s. AreChoices V e.m c.args.set c.args.free c.args.left (e.m - c.args.self.now.most) s) (sym c.common-open.ensures)
+          (narrowed-choice V e.m c.args.set c.args.free rest c.args.left (e.m - c.args.self.now.most) inv.narrowed (common_members row.0 rest)
+          (choice-of_ballot e.m e.rows c.args.self.now.most c.args.set rest c.args.left c.m.ensures.valid.ballots inv.narrowed.opened (length c.loop-ballot.yielded) row at
+          (omega (arith, needed, c.is_tighter.ensures c.if-is_tighter.true))));
+    }
+
+pub loop-ballot-preserved : goal.loop-ballot-preserved
+loop-ballot-preserved g c =
+    let e = c.args.self.now.profile.now in
+    let V = closeness e.m e.rows in
+    let row : Row = (c.in-Some.ballot, c.in-Some._voters) in
+    let at = row_of_turn c.args.self.now.profile.now.rows (c.into_iter-ballot-iterator.ensures.into_iter_gives ∙ c.ballots-ballot-items.ensures.rows) c.loop-ballot.yielded c.loop-ballot.yielded_by row c.in-Some.ensures.steps in
+    let next = sym (length_push c.loop-ballot.yielded row) in
+    let rest = c.loop-ballot.rest in
+    let inv = c.loop-ballot.invariant in
+    let needed : c.still_needed-needed.result ≡ hits_needed (length row.0) (length c.args.set + c.args.left) c.args.self.now.most - hits row.0 c.args.set =
+    c.still_needed-needed.ensures ∙ ap (λ n. hits_needed (length row.0) (n + c.args.left) c.args.self.now.most - hits row.0 c.args.set) c.len-2.ensures.count in
+    record {
+      whole = λ none.
+          subst (λ n. greatest_distance (take n e.rows) c.args.set ≤ c.args.self.now.most) next (near-more e.m c.args.self.now.most (length c.args.set + c.args.left) e.rows c.args.set (length c.loop-ballot.yielded) row c.m.ensures.valid.ballots c.requires.set_within at
+          (omega (arith, none)) (omega (arith, needed, none, c.if-needed-min.false, c.min.ensures)) (inv.whole none));
+      narrowed = elim c.if-needed-left.branch [
+        | then-needed-left w ↦
+            subst (λ s. IsNarrowed V e.m c.args.set c.args.free c.args.left (e.m - c.args.self.now.most) s) (sym (w.rest-is ∙ c.common-open.ensures))
+            (narrowed-more V e.m c.args.set c.args.free rest c.args.left (e.m - c.args.self.now.most) inv.narrowed (common_members row.0 rest)
+            (narrowed-to_ballot e.m e.rows c.args.self.now.most c.args.set rest c.args.left c.m.ensures.valid.ballots inv.narrowed.opened (length c.loop-ballot.yielded) row at
+            (omega (arith, needed, w.if-needed-left.true))))
+        | else-needed-left w ↦ subst (λ s. IsNarrowed V e.m c.args.set c.args.free c.args.left (e.m - c.args.self.now.most) s) (sym w.rest-is) inv.narrowed
+      ];
+      choice = inv.choice;
+    }
+
+pub returns : goal.returns
+returns g c =
+    let e = c.args.self.now.profile.now in
+    let inv = c.loop-ballot.invariant in
+    let all = all_passed e.rows (c.into_iter-ballot-iterator.ensures.into_iter_gives ∙ c.ballots-ballot-items.ensures.rows) c.loop-ballot.yielded c.loop-ballot.yielded_by c.in-None.ensures.steps.0 in (
+      (λ none. subst (λ rows. greatest_distance rows c.args.set ≤ c.args.self.now.most) all (inv.whole none)),
+      inv.narrowed,
+      inv.choice,
+      omega (arith, c.len.ensures.count, c.if-len-left.false),
+    )
