@@ -18,7 +18,9 @@ pub fn write(mut words: impl Iterator<Item = String>, out: &mut impl Write) -> i
     let kind = words.next().expect("a kind");
     if let "independent" | "resampled" | "square" | "popular" = kind.as_str() {
         let mut number = || words.next().and_then(|n| n.parse().ok()).expect("a number");
-        return write_voters(&kind, number(), number(), out);
+        let (candidates, voters) = (number(), number());
+        let seed = words.next().map_or(0, |n| n.parse().expect("a seed"));
+        return write_voters(&kind, candidates, voters, seed, out);
     }
     if let "colliding" | "scattered" = kind.as_str() {
         let count = words.next().and_then(|n| n.parse().ok()).expect("a number");
@@ -39,11 +41,11 @@ pub fn write(mut words: impl Iterator<Item = String>, out: &mut impl Write) -> i
     Ok(())
 }
 
-/// Writes a `cat` file: `generate MODEL CANDIDATES VOTERS`. Voters approve a fifth of the candidates: drawn independently,
+/// Writes a `cat` file: `generate MODEL CANDIDATES VOTERS [SEED]`. Voters approve a fifth of the candidates: drawn independently,
 /// resampled round one ballot, those nearest to them in a square, or drawn where some candidates are more popular.
-fn write_voters(model: &str, candidates: u64, voters: u64, out: &mut impl Write) -> io::Result<()> {
+fn write_voters(model: &str, candidates: u64, voters: u64, seed: u64, out: &mut impl Write) -> io::Result<()> {
     write!(out, "# DATA TYPE: cat\n# NUMBER ALTERNATIVES: {candidates}\n")?;
-    let mut random = Random(candidates ^ voters << 8);
+    let mut random = Random(candidates ^ voters << 8 ^ seed << 40);
     let some = candidates.div_ceil(5);
     let places: Vec<(u64, u64)> = (0..candidates).map(|_| (random.below(1000), random.below(1000))).collect();
     for _ in 0..voters {

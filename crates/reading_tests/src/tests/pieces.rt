@@ -3,9 +3,7 @@ ghost use Rattle.std.specs.Prelude.{◌≡◌, ◌+◌, ◌++◌, ◌<◌, lengt
 ghost use Rattle.preflib_text.specs.Approvals.{HasNumber};
 ghost use Rattle.preflib_text.specs.Limits.{word_limit};
 
-use super::support::{
-    MANY, assert_holds, assert_outcome, in_pieces, outcome, reading_as,
-};
+use super::support::{MANY, assert_holds, assert_outcome, in_pieces, outcome, reading_as};
 use preflib_text::{LineReader, Pick};
 use refusing_heap::Refusing;
 use std::alloc::Global;
