@@ -27,11 +27,11 @@ use ballot_base::{CandSet, Clones, PLACES, Profile};
 use std::alloc::Allocator;
 use tie_walk::add_to_members;
 
-/// The most sets that a quick search may enter. Any limit is right.
+/// The most sets that a quick search may enter beside one for each seat. Any limit is right.
 const MOST_PATIENCE: usize = 8192;
 
-/// For each ballot, how many sets a quick search may enter if it is among all committees. Such searches are few, so more
-/// can be spent on each.
+/// For each ballot, how many sets a quick search among all committees may enter. Such searches are few, so more can be
+/// spent on each.
 const FIRST_PATIENCE: usize = 32;
 
 /// The denominator of shares.
@@ -85,21 +85,23 @@ impl<A: Allocator + Copy> NearSearch<'_, A> {
             (IsReaching (closeness self.now.profile.now.m self.now.profile.now.rows) self.now.profile.now.m set free
             left (self.now.profile.now.m - self.now.most)) }
     {
-        let mut patience = self.patience(set);
+        let mut patience = self.patience(set, left);
         match self.find_quickly(set, free, left, &mut patience) {
             Some(answer) => answer,
             None => self.find_thoroughly(set, free, left),
         }
     }
 
-    /// How many sets a quick search may enter. A thorough search goes through all ballots for each set, a quick one only
-    /// until a ballot shows that the set is to be given up: the more ballots, the more a quick search may enter.
-    fn patience(&self, set: CandSet) -> usize {
+    /// How many sets a quick search may enter: enough to go straight to a committee, and one more for each ballot. A
+    /// thorough search goes through all ballots for each set, a quick one mostly until an early ballot fails.
+    fn patience(&self, set: CandSet, left: u8) -> usize {
         let ballots = self.profile.rows().min(MOST_PATIENCE);
-        if set.is_empty() {
-            return MOST_PATIENCE.min(FIRST_PATIENCE * ballots);
-        }
-        ballots
+        let spare = if set.is_empty() {
+            MOST_PATIENCE.min(FIRST_PATIENCE * ballots)
+        } else {
+            ballots
+        };
+        spare + usize::from(left)
     }
 
     /// Finds what `find_near` returns. Gives up and returns `None` if it would enter more sets than `patience`, from
