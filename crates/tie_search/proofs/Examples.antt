@@ -1,6 +1,6 @@
 -- The definitions of the search, worked out by hand. The value of a set is the sum of its numbers; of committees of two
 -- of the candidates 1 to 3 the best has 2 and 3.
-use Rattle.std.proofs.Common.{◌≡◌, ◌*◌, ◌^◌, ℕ, true, false, List, [], ◌∷◌, refl, length, sum, lit≤, lit<, arith}
+use Rattle.std.proofs.Common.{◌≡◌, ◌*◌, ◌^◌, ℕ, zero, suc, true, false, List, [], ◌∷◌, refl, length, sum, lit≤, lit<, arith}
 use Rattle.ballot_base.specs.Ballots.{hits}
 use Rattle.ballot_base.specs.Lists.{lists_of}
 use Rattle.tie_walk.specs.Ceilings.{ceiling, closeness_upto}
@@ -8,6 +8,7 @@ use Rattle.tie_walk.specs.Values.{closeness, distance}
 use Rattle.tie_walk.specs.Winners.{best_value}
 use Rattle.tie_search.specs.Needs.{hits_needed, weighted_needs, weighted_support}
 use Rattle.tie_search.specs.Completions.{IsOpen, IsCompletion, IsReaching, IsOutOfReach, IsWinnerFrom, is_reached, exact_bound}
+use Rattle.tie_search.specs.Pairs.{IsMajorant, all_kept, all_overlap, all_worth, pair_sum, row_sum, worth_beside}
 use Rattle.tie_search.specs.Prices.{kept, base, price}
 use Rattle.tie_search.specs.Steps.Near.{need_weight}
 use Rattle.tie_search.specs.Steps.Witness.{IsSetAndLater}
@@ -158,6 +159,43 @@ support-nobody = refl
 weight-half : need_weight 256 2 ≡ 2 * 512 ^ 3
 unfolding need_weight
 weight-half = refl
+
+-- ---- pairs of members: under proportional approval voting, in sixths, a voter gives 6, 9 and 11 for one, two and three
+-- hits
+
+-- 7 h - h * h is 6 at one hit, 10 at two and 12 at three
+majorant-three : IsMajorant (6 ∷ 3 ∷ 2 ∷ []) 1 1 0 3 0 7 1
+majorant-three zero few = lit≤ tt
+majorant-three (suc zero) few = lit≤ tt
+majorant-three (suc (suc zero)) few = lit≤ tt
+majorant-three (suc (suc (suc zero))) few = lit≤ tt
+majorant-three (suc (suc (suc (suc h)))) few = absurd (omega (arith, few))
+
+-- two voters approve 1 and 2, with the worth 7 and the overlap 1, and one voter approves 2
+kept-pairs : all_kept (λ row. length row.0) ((1 ∷ 2 ∷ [], 2) ∷ (2 ∷ [], 1) ∷ []) ≡ 5
+kept-pairs = refl
+
+worth-pairs : all_worth (λ row. 7) ((1 ∷ 2 ∷ [], 2) ∷ (2 ∷ [], 1) ∷ []) 2 ≡ 21
+worth-pairs = refl
+
+overlap-pairs : all_overlap (λ row. 1) ((1 ∷ 2 ∷ [], 2) ∷ (2 ∷ [], 1) ∷ []) 1 2 ≡ 2
+overlap-pairs = refl
+
+-- 2 with itself is on all three ballots
+overlap-self : all_overlap (λ row. 1) ((1 ∷ 2 ∷ [], 2) ∷ (2 ∷ [], 1) ∷ []) 2 2 ≡ 3
+overlap-self = refl
+
+-- 1 with itself 2, 2 with itself 3, and both pairs of the two 2 each
+pairs-both : pair_sum (all_overlap (λ row. 1) ((1 ∷ 2 ∷ [], 2) ∷ (2 ∷ [], 1) ∷ [])) (1 ∷ 2 ∷ []) ≡ 9
+pairs-both = refl
+
+-- with two seats left, the worth 20 of a candidate, raised by 10, is less by twice an overlap of 3
+beside-two : worth_beside (λ n. 20) (λ i j. 3) 2 10 1 2 ≡ 24
+beside-two = refl
+
+-- 24 for the candidate itself, the threshold 22 for one of the others, and 2 that each of the two is above it
+sum-row : row_sum (λ n. 20) (λ i j. 3) (1 ∷ 2 ∷ 3 ∷ []) 2 10 22 1 ≡ 50
+sum-row = refl
 
 -- ---- bounds of two of three candidates, where one voter approves 1 and 2, and one approves 3: with 1 and 2 the second
 -- voter is at the distance 3, with 3 in the committee no voter is farther than 2

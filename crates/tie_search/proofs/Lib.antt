@@ -7,6 +7,10 @@ pub mod KeptLemmas
 pub mod LiveLemmas
 mod NearClones
 pub mod NeedLemmas
+pub mod OverlapLemmas
+pub mod PairLemmas
+pub mod PairNodes
+pub mod PairTotals
 pub mod PriceLemmas
 pub mod PricedLemmas
 pub mod ReachLemmas

@@ -148,7 +148,7 @@ part-most false n = omega arith
 -- ---- sums and thresholds
 
 -- a member of less worth than the threshold leaves that much less
-sum-member : (f g : ℕ → ℕ) (t n : ℕ) (xs : List ℕ) → ((x : ℕ) → has_member xs x ≡ true → f x ≤ g x) → has_member xs n ≡ true
+pub sum-member : (f g : ℕ → ℕ) (t n : ℕ) (xs : List ℕ) → ((x : ℕ) → has_member xs x ≡ true → f x ≤ g x) → has_member xs n ≡ true
     → sum_by f xs + (t - g n) ≤ length xs * t + sum_by (λ x. g x - t) xs
 sum-member f g t n [] less here = absurd cc
 sum-member f g t n (x ∷ xs) less here = elim (cases_eq x n) [

@@ -1,4 +1,5 @@
 pub mod Completions
 pub mod Needs
+pub mod Pairs
 pub mod Prices
 pub mod Steps

@@ -1,5 +1,6 @@
 pub mod Columns
 pub mod Near
+pub mod Paired
 pub mod Priced
 pub mod Searched
 pub mod Witness

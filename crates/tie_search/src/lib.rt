@@ -13,11 +13,13 @@
 mod columns;
 pub mod exact;
 pub mod laws;
+mod majorant;
 pub mod minimax;
 mod multipliers;
 mod near;
 mod needs;
 mod order;
+mod pairs;
 mod prices;
 mod search;
 pub mod searchable;

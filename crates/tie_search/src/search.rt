@@ -23,29 +23,38 @@ ghost use Rattle.ballot_base.specs.CandSet.{has_member};
 ghost use Rattle.ballot_base.specs.Lists.{IsIncreasing};
 ghost use Rattle.ballot_base.specs.Increments.{increments};
 ghost use Rattle.tie_walk.specs.Sequences.{gain};
+ghost use Rattle.tie_search.specs.Steps.Near.{IsNarrowed};
 ghost use Rattle.tie_search.specs.Steps.Searched.{IsAided, KeepsColumns};
 ghost use Rattle.tie_search.specs.Steps.Priced.{IsPriced};
 ghost use Rattle.tie_search.specs.Completions.{IsOpen, IsOutOfReach, IsReaching, tally_value};
 
 use crate::columns::Columns;
+use crate::majorant::HitSums;
 use crate::order::Order;
+use crate::pairs::PairSearch;
 use crate::prices::{Prices, SCALE};
-use ballot_base::{CandSet, Clones, PLACES, ThieleRule};
+use ballot_base::{CandSet, Clones, PLACES, Profile, ThieleRule};
 use std::alloc::Allocator;
 use tie_walk::{Tally, ThieleTally, widened};
 
-/// What a search is helped by: who are clones; and columns and prices, if they are worth their making.
+/// With fewer seats left than this, a search counts gains sooner than pairs.
+const FEWEST_SEATS: u8 = 4;
+
+/// What a search is helped by: who are clones; columns and prices, if they are worth their making; and what hits give,
+/// for majorants.
 #[derive(Drop)]
 pub(crate) struct Aids {
     pub(crate) clones: Clones,
     pub(crate) columns: Option<Columns>,
     pub(crate) prices: Option<Prices>,
+    pub(crate) sums: Option<HitSums>,
 }
 
 /// A search for a committee whose value is at least `least`.
 /// (Nemhauser and Wolsey, Maximizing submodular set functions)
 #[derive(Drop)]
 pub(crate) struct Search<'a, A: Allocator + Copy> {
+    pub(crate) profile: &'a Profile<A>,
     pub(crate) tally: &'a ThieleTally<'a, A>,
     pub(crate) aids: &'a Aids,
     pub(crate) least: u128,
@@ -54,6 +63,7 @@ pub(crate) struct Search<'a, A: Allocator + Copy> {
 impl<A: Allocator + Copy> Search<'_, A> {
     /// Finds such a committee of the set and `left` of the free candidates. None if there is no such committee.
     pub(crate) fn find(&self, set: CandSet, free: CandSet, left: u8) -> Option<CandSet>
+        requires ballots { self.now.profile.now ≡ self.now.tally.now.election }
         requires aids { IsAided self.now.tally.now self.now.aids.now }
         requires opened { IsOpen self.now.tally.now.election.m set free }
         ensures { MatchOption result
@@ -69,6 +79,7 @@ impl<A: Allocator + Copy> Search<'_, A> {
 
     /// Like `find`, but the value of the set is known, and the free candidates together may suffice.
     fn descend(&self, set: CandSet, value: u128, free: CandSet, left: u8) -> Option<CandSet>
+        requires ballots { self.now.profile.now ≡ self.now.tally.now.election }
         requires aids { IsAided self.now.tally.now self.now.aids.now }
         requires opened { IsOpen self.now.tally.now.election.m set free }
         requires value { value ≡ tally_value self.now.tally.now set }
@@ -83,10 +94,11 @@ impl<A: Allocator + Copy> Search<'_, A> {
         if !self.may_afford(set, free, left) {
             return None;
         }
+        let eligible = self.narrowed(set, free, left)?;
         let needed = self.least.saturating_sub(value);
-        let gains = self.gains_at(set, free);
-        let order = Order::by_worth(free, &gains);
-        let mut rest = free;
+        let gains = self.gains_at(set, eligible);
+        let mut order = Order::by_worth(eligible, &gains);
+        let mut rest = eligible;
         while may_reach(
             &gains,
             rest,
@@ -109,12 +121,54 @@ impl<A: Allocator + Copy> Search<'_, A> {
                 return Some(committee);
             }
             // A committee with a clone of the candidate would be worth the same with the candidate in its place.
-            rest = others.minus(self.aids.clones.class(next));
-            if !self.may_complete(set, rest, left) {
-                return None;
+            let untried = others.minus(self.aids.clones.class(next));
+            rest = self.untried_eligible(set, untried, left)?;
+            if sees_pairs(left) {
+                order = Order::by_worth(rest, &gains);
             }
         }
         None
+    }
+
+    /// The candidates that can still join, of those that were not tried. Returns `None` if no completion with them
+    /// reaches the value.
+    fn untried_eligible(&self, set: CandSet, untried: CandSet, left: u8) -> Option<CandSet>
+        requires ballots { self.now.profile.now ≡ self.now.tally.now.election }
+        requires aids { IsAided self.now.tally.now self.now.aids.now }
+        requires opened { IsOpen self.now.tally.now.election.m set untried }
+        ensures { MatchOption result
+            (IsOutOfReach (tally_value self.now.tally.now) self.now.tally.now.election.m set untried left
+            self.now.least)
+            (IsNarrowed (tally_value self.now.tally.now) self.now.tally.now.election.m set untried left
+            self.now.least) }
+    {
+        if !self.may_complete(set, untried, left) {
+            return None;
+        }
+        self.narrowed(set, untried, left)
+    }
+
+    /// The free candidates that can still join, by pairs. Returns `None` if no completion of the set reaches the value.
+    fn narrowed(&self, set: CandSet, free: CandSet, left: u8) -> Option<CandSet>
+        requires ballots { self.now.profile.now ≡ self.now.tally.now.election }
+        requires aids { IsAided self.now.tally.now self.now.aids.now }
+        requires opened { IsOpen self.now.tally.now.election.m set free }
+        ensures { MatchOption result
+            (IsOutOfReach (tally_value self.now.tally.now) self.now.tally.now.election.m set free left self.now.least)
+            (IsNarrowed (tally_value self.now.tally.now) self.now.tally.now.election.m set free left self.now.least) }
+    {
+        let Some(given) = &self.aids.sums else {
+            return Some(free);
+        };
+        if !sees_pairs(left) {
+            return Some(free);
+        }
+        let pairs = PairSearch {
+            profile: self.profile,
+            given,
+            least: self.least,
+        };
+        pairs.narrowed(set, free, left)
     }
 
     /// Whether the tests that count no gains leave a committee of the set and `left` of the free candidates possible.
@@ -187,6 +241,13 @@ impl<A: Allocator + Copy> Search<'_, A> {
         let needed = units.saturating_mul(u128::from(SCALE)).saturating_sub(paid);
         may_reach(&prices.worths, free, left, threshold, needed)
     }
+}
+
+/// Whether enough seats are left for pairs to be worth their counting.
+fn sees_pairs(left: u8) -> bool
+    ensures { IsTrue result → 2 ≤ left }
+{
+    left >= FEWEST_SEATS
 }
 
 /// The members of either set.

@@ -6,6 +6,7 @@ ghost use Rattle.tie_walk.specs.Ceilings.{ceiling};
 ghost use Rattle.tie_search.specs.Completions.{tally_value};
 
 use crate::columns::Columns;
+use crate::majorant::HitSums;
 use crate::prices::Prices;
 use crate::search::{Aids, Search};
 use crate::searchable::Searchable;
@@ -18,11 +19,13 @@ use tie_walk::{Tally, ThieleTally};
 /// helped by. Contracts see the election, the rule and k.
 #[derive(Drop)]
 pub struct ThieleSearch<'a, A: Allocator + Copy = Global> {
+    profile: &'a Profile<A>,
     values: ThieleTally<'a, A>,
     aids: Aids,
 }
 
 impl<'a, A: Allocator + Copy> Model for ThieleSearch<'a, A> {
+    ghost use Rattle.std.specs.Prelude.{◌≡◌};
     ghost use Rattle.tie_walk.specs.Values.{Thiele};
     ghost use Rattle.tie_search.specs.Steps.Searched.{IsAided};
 
@@ -30,7 +33,7 @@ impl<'a, A: Allocator + Copy> Model for ThieleSearch<'a, A> {
 
     ghost view = { λ t. t.values };
 
-    ghost invariant = { λ t. IsAided t.values t.aids };
+    ghost invariant = { λ t. (t.profile.now ≡ t.values.election) × IsAided t.values t.aids };
 }
 
 impl<'a, A: Allocator + Copy> ThieleSearch<'a, A> {
@@ -46,8 +49,13 @@ impl<'a, A: Allocator + Copy> ThieleSearch<'a, A> {
             clones: Clones::of(profile),
             columns: Columns::of(profile, rule, k),
             prices: Prices::of(profile, &values, rule, k),
+            sums: HitSums::of(rule, k),
         };
-        ThieleSearch { values, aids }
+        ThieleSearch {
+            profile,
+            values,
+            aids,
+        }
     }
 }
 
@@ -87,6 +95,7 @@ impl<'a, A: Allocator + Copy> Tally for ThieleSearch<'a, A> {
 impl<'a, A: Allocator + Copy> Searchable for ThieleSearch<'a, A> {
     fn find(&self, set: CandSet, free: CandSet, left: u8, least: u128) -> Option<CandSet> {
         let search = Search {
+            profile: self.profile,
             tally: &self.values,
             aids: &self.aids,
             least,

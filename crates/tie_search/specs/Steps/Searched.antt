@@ -7,6 +7,7 @@ use Rattle.tie_walk.specs.Winners.{best_value}
 use Rattle.tie_search.specs.declared.columns.Columns.{Columns}
 use Rattle.tie_search.specs.declared.search.Aids.{Aids}
 use Rattle.tie_search.specs.Steps.Columns.{AreColumnsOf}
+use Rattle.tie_search.specs.Steps.Paired.{HasSums}
 use Rattle.tie_search.specs.Steps.Priced.{IsPriced}
 
 -- the columns are those of the election, where they are kept
@@ -19,6 +20,7 @@ pub record IsAided (tally : Thiele) (aids : Aids) : Type 0 where
   pub clones : AreClones tally.election.m tally.election.rows aids.clones
   pub columns : KeepsColumns tally aids.columns
   pub prices : IsPriced tally aids.prices
+  pub sums : HasSums tally aids.sums
 
 -- what is true of each tally by search: its committee has the greatest value
 pub record IsSearched (value : List ℕ → ℕ) (m k best : ℕ) (committee : List ℕ) : Type 0 where

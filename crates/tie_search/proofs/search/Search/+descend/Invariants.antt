@@ -11,7 +11,7 @@ decreases-descend g l = l.left
 abbrev pub invariant-loop-set : goal.invariant-loop-set
 invariant-loop-set g l = record {
   opened : IsOpen l.self.tally.now.election.m l.set l.rest;
-  among : (n : ℕ) → has_member l.rest n ≡ true → has_member l.fn.free n ≡ true;
+  among : (n : ℕ) → has_member l.rest n ≡ true → has_member l.initial.rest n ≡ true;
   kept : AreLeft (tally_value l.self.tally.now) l.self.tally.now.election.m l.set l.left l.self.least l.fn.free l.rest;
 }
 

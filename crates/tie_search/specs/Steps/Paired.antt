@@ -1,0 +1,48 @@
+-- What a search keeps for pairs of members, and what it adds up over the voters.
+use Rattle.std.specs.Prelude.{ℕ, ◌≡◌, ◌+◌, ◌*◌, ◌≤◌, ◌^◌, List, sum, sum_by, take, slice_index, Option, MatchOption, ⊤}
+use Rattle.ballot_base.specs.Limits.{most_candidates}
+use Rattle.ballot_base.specs.Ballots.{Row}
+use Rattle.ballot_base.specs.CandSet.{common_members}
+use Rattle.ballot_base.specs.Increments.{increments}
+use Rattle.tie_walk.specs.Values.{Thiele, thiele_value}
+use Rattle.tie_search.specs.Completions.{IsCompletion}
+use Rattle.tie_search.specs.Pairs.{pair_sum, row_sum}
+use Rattle.tie_search.specs.declared.majorant.HitSums.{HitSums}
+
+-- the sums are what each number of hits gives, times the scale, in units, rounded up or higher
+pub record AreSums (weights : List ℕ) (scale unit : ℕ) (sums : List ℕ) : Type 0 where
+  pub some : 1 ≤ unit
+  pub up : (h : ℕ) → h ≤ most_candidates → scale * sum (take h weights) ≤ unit * slice_index sums h
+  pub small : (h : ℕ) → slice_index sums h ≤ 2 ^ 26
+
+-- how many places a row of the table has
+abbrev pub row_places : ℕ
+row_places = 65
+
+-- the overlap of two candidates, in a table of rows
+abbrev pub overlap_at : List ℕ → ℕ → ℕ → ℕ
+overlap_at table i j = slice_index table (row_places * i + j)
+
+-- no committee that completes the set is worth more than what is kept and the worths of those who join, less their
+-- overlaps
+abbrev pub AreTotals : List ℕ → ℕ → ℕ → ℕ → List Row → List ℕ → List ℕ → ℕ → ℕ → List ℕ → List ℕ → Type 0
+AreTotals weights scale unit m rows set free left kept worths table =
+    (committee : List ℕ) → IsCompletion m set free left committee
+    → scale * thiele_value weights rows committee + unit * pair_sum (overlap_at table) (common_members free committee)
+    ≤ unit * (kept + sum_by (slice_index worths) (common_members free committee))
+
+-- no total is too large
+pub record AreSmall (kept : ℕ) (worths table : List ℕ) : Type 0 where
+  pub kept_small : kept ≤ 2 ^ 71
+  pub worths_small : (n : ℕ) → slice_index worths n ≤ 2 ^ 66
+  pub overlaps_small : (i j : ℕ) → j ≤ most_candidates → overlap_at table i j ≤ 2 ^ 58
+
+-- the row sum of a candidate, by some threshold
+abbrev pub IsRowSum : List ℕ → List ℕ → List ℕ → ℕ → ℕ → ℕ → ℕ → Type 0
+IsRowSum worths table free left raise i sum =
+    (threshold : ℕ) × (sum ≡ row_sum (slice_index worths) (overlap_at table) free left raise threshold i)
+
+-- the sums are those of the rule, where they are kept
+abbrev pub HasSums : Thiele → Option HitSums → Type 0
+HasSums tally sums = MatchOption sums ⊤ (λ given.
+    AreSums (increments tally.rule tally.k) given.scale given.unit given.sums)

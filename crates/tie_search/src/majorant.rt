@@ -1,0 +1,105 @@
+//! Concave quadratic majorants of what a voter gives.
+//!
+//! For h hits after the first ones, a voter gives at most `kept + worth * h - overlap * h * h`. Since h * h is the
+//! number of ordered pairs of members whom the voter approves, majorants see where members overlap. Any `worth` and
+//! `overlap` are right, as `kept` is made as high as it must be.
+ghost use Rattle.std.specs.Prelude.{◌≡◌, ℕ, ◌+◌, ◌*◌, ◌^◌, ◌≤◌, slice_index, MatchOption, ⊤};
+ghost use Rattle.ballot_base.specs.Limits.{most_candidates, most_members};
+ghost use Rattle.ballot_base.specs.Increments.{increments};
+ghost use Rattle.tie_search.specs.Steps.Paired.{AreSums};
+
+use ballot_base::{Increments, PLACES, ThieleRule};
+
+/// How many units the first hit gives, about. With so many, rounding matters little.
+const UNITS: u128 = 1 << 20;
+
+/// More units than this fit no sum over all voters.
+const MOST_UNITS: u128 = 1 << 26;
+
+/// What each number of hits gives in all: times the scale, in units, rounded up.
+#[derive(Drop)]
+pub(crate) struct HitSums {
+    pub(crate) scale: u128,
+    pub(crate) unit: u128,
+    pub(crate) sums: [u64; PLACES],
+}
+
+impl HitSums {
+    /// The sums under a rule. None if they would be too large, which no rule has.
+    pub(crate) fn of(rule: ThieleRule, k: u8) -> Option<HitSums>
+        requires some { 1 ≤ k }
+        requires size { k ≤ most_members }
+        ensures { MatchOption result ⊤ (λ given. AreSums (increments rule k) given.scale given.unit given.sums) }
+    {
+        let weights = Increments::of(rule, k).w;
+        let scale = (UNITS / weights[0].max(1)).max(1);
+        let unit = weights[0].div_ceil(UNITS).max(1);
+        let mut sums = [0; PLACES];
+        let mut given: u128 = 0;
+        for hits in 0..PLACES {
+            let units = (given * scale).div_ceil(unit);
+            if units > MOST_UNITS {
+                return None;
+            }
+            sums[hits] = units as u64;
+            if hits < weights.len() {
+                given += weights[hits];
+            }
+        }
+        Some(HitSums { scale, unit, sums })
+    }
+}
+
+/// What a voter gives at most for h hits more: `kept + worth * h - overlap * h * h`.
+#[derive(Clone, Copy)]
+pub(crate) struct Majorant {
+    pub(crate) kept: u64,
+    pub(crate) worth: u64,
+    pub(crate) overlap: u64,
+}
+
+impl Majorant {
+    /// A majorant for up to `most` hits after the first `before`. It is exact at `touch` hits more, and at one more
+    /// than these, as far as that can be.
+    pub(crate) fn at(sums: &[u64; PLACES], before: u8, most: u8, touch: u8) -> Majorant
+        requires small { (n : ℕ) → slice_index sums.now n ≤ 2 ^ 26 }
+        requires fits { before + most ≤ most_candidates }
+        requires touch { touch ≤ most }
+        ensures bounds { (h : ℕ) → h ≤ most → slice_index sums.now (before + h) + result.overlap * (h * h)
+            ≤ result.kept + result.worth * h }
+        ensures small_kept { result.kept ≤ 2 ^ 39 }
+        ensures small_worth { result.worth ≤ 2 ^ 34 }
+        ensures small_overlap { result.overlap ≤ 2 ^ 26 }
+    {
+        let first = usize::from(before);
+        let at = first + usize::from(touch);
+        let step = if touch < most {
+            sums[at + 1].saturating_sub(sums[at])
+        } else {
+            0
+        };
+        let rise = sums[first + usize::from(most)].saturating_sub(sums[at]);
+        let overlap = bend(step, rise, u64::from(most - touch));
+        let worth = step + overlap * (2 * u64::from(touch) + 1);
+        let mut kept = 0;
+        for hits in 0..usize::from(most) + 1 {
+            let given = sums[first + hits] + overlap * (hits * hits) as u64;
+            kept = given.saturating_sub(worth * hits as u64).max(kept);
+        }
+        Majorant {
+            kept,
+            worth,
+            overlap,
+        }
+    }
+}
+
+/// How much an increment falls by, in half a step, if the first is `step` and all `run` of them rise by `rise`.
+fn bend(step: u64, rise: u64, run: u64) -> u64
+    ensures { result ≤ step }
+{
+    if run < 2 {
+        return 0;
+    }
+    step.saturating_sub(rise / run) / (run - 1)
+}

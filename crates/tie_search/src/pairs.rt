@@ -1,0 +1,253 @@
+//! A bound that sees which candidates share voters.
+//!
+//! Majorants (module `majorant`) are summed over the ballots. No completion of a set is worth more than what all voters
+//! keep and the worths of the added members, less the overlaps of all pairs of them (`laws::pairs`). Row sums bound that
+//! in turn by a sum over the members (`laws::row_sums`; Gallo, Hammer and Simeone, Quadratic knapsack problems, 1980). A
+//! candidate leaves without whom the others fall short.
+ghost use Rattle.std.specs.Prelude.{◌≡◌, ℕ, ◌+◌, ◌-◌, ◌*◌, ◌^◌, ◌<◌, ◌≤◌, ◌==◌, true, List, length, slice_index, MatchOption, if◌then◌else◌};
+ghost use Rattle.ballot_base.specs.CandSet.{has_member};
+ghost use Rattle.ballot_base.specs.Limits.{most_candidates};
+ghost use Rattle.ballot_base.specs.Lists.{IsIncreasing};
+ghost use Rattle.tie_walk.specs.Values.{thiele_value};
+ghost use Rattle.tie_search.specs.Completions.{IsOpen, IsOutOfReach};
+ghost use Rattle.tie_search.specs.Pairs.{worth_beside};
+ghost use Rattle.tie_search.specs.Steps.Near.{IsNarrowed};
+ghost use Rattle.tie_search.specs.Steps.Paired.{AreSmall, AreSums, AreTotals, IsRowSum, overlap_at};
+
+use crate::majorant::{HitSums, Majorant};
+use crate::order::Order;
+use crate::search::{at_least, excess};
+use ballot_base::{CandSet, PLACES, Profile};
+use std::alloc::Allocator;
+use tie_walk::add_to_members;
+
+/// How many places a table of all pairs has.
+const TABLE_PLACES: usize = 4225;
+
+/// A number for each ordered pair of candidates, row by row.
+type Table = [u64; TABLE_PLACES];
+
+/// What a search looks for by pairs: the ballots, what hits give, and the value that a committee has to reach.
+#[derive(Drop)]
+pub(crate) struct PairSearch<'a, A: Allocator + Copy> {
+    pub(crate) profile: &'a Profile<A>,
+    pub(crate) given: &'a HitSums,
+    pub(crate) least: u128,
+}
+
+/// The majorants of all voters, added up.
+#[derive(Drop)]
+struct Totals {
+    kept: u128,
+    // At the number of each free candidate, the worths of all voters who approve it.
+    worths: [u128; PLACES],
+    // For each pair of free candidates, the overlaps of all voters who approve both.
+    overlaps: Table,
+}
+
+impl<A: Allocator + Copy> PairSearch<'_, A> {
+    /// The free candidates that can still join. Returns `None` if no completion of the set reaches the value.
+    pub(crate) fn narrowed(&self, set: CandSet, free: CandSet, left: u8) -> Option<CandSet>
+        requires opened { IsOpen self.now.profile.now.m set free }
+        requires several { 2 ≤ left }
+        requires small { (n : ℕ) → slice_index self.now.given.now.sums n ≤ 2 ^ 26 }
+        requires unit { 1 ≤ self.now.given.now.unit }
+        ensures { (weights : List ℕ)
+            → AreSums weights self.now.given.now.scale self.now.given.now.unit self.now.given.now.sums
+            → MatchOption result (IsOutOfReach (thiele_value weights self.now.profile.now.rows)
+            self.now.profile.now.m set free left self.now.least)
+            (IsNarrowed (thiele_value weights self.now.profile.now.rows) self.now.profile.now.m set free left
+            self.now.least) }
+    {
+        self.profile.m();
+        if free.len() < left {
+            return None;
+        }
+        let totals = self.totals(set, free, left);
+        let factor = 2 * u128::from(left - 1);
+        let raise = factor * u128::from(totals.greatest_overlap());
+        let sums = totals.row_sums(free, left, raise);
+        let threshold = Order::by_worth(free, &sums).nth_worth(free, left, &sums);
+        let most = factor * totals.kept
+            + u128::from(left) * threshold
+            + excess(&sums, free, threshold);
+        let due = self
+            .units()
+            .saturating_mul(factor)
+            .saturating_add(u128::from(left) * u128::from(left) * raise);
+        if most < due {
+            return None;
+        }
+        // The row sum of a candidate that joins is below the threshold by the difference at most.
+        Some(at_least(&sums, free, threshold.saturating_sub(most - due)))
+    }
+
+    /// The value that a committee has to reach, in units.
+    fn units(&self) -> u128
+        requires unit { 1 ≤ self.now.given.now.unit }
+        ensures { (value : ℕ) → self.now.given.now.scale * self.now.least ≤ self.now.given.now.unit * value
+            → result ≤ value }
+    {
+        self.least
+            .saturating_mul(self.given.scale)
+            .div_ceil(self.given.unit)
+    }
+
+    /// What the majorants of all voters add up to, if `left` of the free candidates complete the set.
+    fn totals(&self, set: CandSet, free: CandSet, left: u8) -> Totals
+        requires opened { IsOpen self.now.profile.now.m set free }
+        requires some { 1 ≤ length free }
+        requires small { (n : ℕ) → slice_index self.now.given.now.sums n ≤ 2 ^ 26 }
+        ensures totals { (weights : List ℕ)
+            → AreSums weights self.now.given.now.scale self.now.given.now.unit self.now.given.now.sums
+            → AreTotals weights self.now.given.now.scale self.now.given.now.unit self.now.profile.now.m
+            self.now.profile.now.rows set free left result.kept result.worths result.overlaps }
+        ensures small { AreSmall result.kept result.worths result.overlaps }
+    {
+        self.profile.m();
+        let mut kept = 0;
+        let mut worths = [0; PLACES];
+        let mut overlaps = [0; TABLE_PLACES];
+        for (ballot, voters) in self.profile.ballots() {
+            let open = ballot.common(free);
+            let most = left.min(open.len());
+            let touch = touch_point(open.len(), most, left, free.len());
+            let before = ballot.common(set).len();
+            let majorant = Majorant::at(&self.given.sums, before, most, touch);
+            let count = u128::from(voters);
+            kept += count * u128::from(majorant.kept);
+            add_to_members(&mut worths, open, count * u128::from(majorant.worth));
+            if majorant.overlap > 0 {
+                add_pairs(&mut overlaps, open, voters * majorant.overlap);
+            }
+        }
+        Totals {
+            kept,
+            worths,
+            overlaps,
+        }
+    }
+}
+
+impl Totals {
+    /// The greatest overlap of two candidates.
+    fn greatest_overlap(&self) -> u64
+        requires small { AreSmall self.now.kept self.now.worths self.now.overlaps }
+        ensures most { (i j : ℕ) → i ≤ most_candidates → j ≤ most_candidates
+            → overlap_at self.now.overlaps i j ≤ result }
+        ensures small { result ≤ 2 ^ 58 }
+    {
+        let mut greatest = 0;
+        for place in 0..TABLE_PLACES {
+            greatest = self.overlaps[place].max(greatest);
+        }
+        greatest
+    }
+
+    /// The row sum of each free candidate, at its number.
+    fn row_sums(&self, free: CandSet, left: u8, raise: u128) -> [u128; PLACES]
+        requires several { 2 ≤ left }
+        requires small { AreSmall self.now.kept self.now.worths self.now.overlaps }
+        requires raise { raise ≤ 2 ^ 67 }
+        requires enough { (i j : ℕ) → i ≤ most_candidates → j ≤ most_candidates
+            → 2 * (left - 1) * overlap_at self.now.overlaps i j ≤ raise }
+        ensures sums { (i : ℕ) → has_member free i ≡ true
+            → IsRowSum self.now.worths self.now.overlaps free left raise i (slice_index result i) }
+        ensures small { (i : ℕ) → slice_index result i ≤ 2 ^ 80 }
+    {
+        free.valid();
+        let mut sums = [0; PLACES];
+        let mut rest = free;
+        while let Some(parts) = rest.split_first() {
+            sums[usize::from(parts.0)] = self.row_sum(free, left, raise, parts.0);
+            rest = parts.1;
+        }
+        sums
+    }
+
+    /// The row sum of a free candidate.
+    fn row_sum(&self, free: CandSet, left: u8, raise: u128, i: u8) -> u128
+        requires several { 2 ≤ left }
+        requires small { AreSmall self.now.kept self.now.worths self.now.overlaps }
+        requires raise { raise ≤ 2 ^ 67 }
+        requires enough { (i j : ℕ) → i ≤ most_candidates → j ≤ most_candidates
+            → 2 * (left - 1) * overlap_at self.now.overlaps i j ≤ raise }
+        requires member { has_member free i ≡ true }
+        ensures sum { IsRowSum self.now.worths self.now.overlaps free left raise i result }
+        ensures small { result ≤ 2 ^ 80 }
+    {
+        free.valid();
+        let beside = self.worths_beside(free, left, raise, i);
+        let others = free.without(i);
+        let threshold = Order::by_worth(others, &beside).nth_worth(others, left - 1, &beside);
+        u128::from(left - 2) * self.worths[usize::from(i)]
+            + beside[usize::from(i)]
+            + u128::from(left - 1) * threshold
+            + excess(&beside, others, threshold)
+    }
+
+    /// The worth of each free candidate beside the candidate i, at its number.
+    fn worths_beside(&self, free: CandSet, left: u8, raise: u128, i: u8) -> [u128; PLACES]
+        requires several { 2 ≤ left }
+        requires small { AreSmall self.now.kept self.now.worths self.now.overlaps }
+        requires raise { raise ≤ 2 ^ 67 }
+        requires enough { (i j : ℕ) → i ≤ most_candidates → j ≤ most_candidates
+            → 2 * (left - 1) * overlap_at self.now.overlaps i j ≤ raise }
+        requires within { i ≤ most_candidates }
+        ensures beside { (j : ℕ) → has_member free j ≡ true → slice_index result j
+            ≡ worth_beside (slice_index self.now.worths) (overlap_at self.now.overlaps) left raise i j }
+        ensures small { (j : ℕ) → slice_index result j ≤ 2 ^ 68 }
+    {
+        free.valid();
+        let factor = 2 * u128::from(left - 1);
+        let row = PLACES * usize::from(i);
+        let mut beside = [0; PLACES];
+        let mut rest = free;
+        while let Some(parts) = rest.split_first() {
+            let j = usize::from(parts.0);
+            beside[j] = self.worths[j] + raise - factor * u128::from(self.overlaps[row + j]);
+            rest = parts.1;
+        }
+        beside
+    }
+}
+
+/// Where a majorant is exact: at the mean number of hits among `left` of the free candidates, of which a ballot has
+/// `open`; at most at `most`.
+fn touch_point(open: u8, most: u8, left: u8, free: u8) -> u8
+    requires some { 1 ≤ free }
+    ensures { result ≤ most }
+{
+    let mean = usize::from(open) * usize::from(left) / usize::from(free);
+    mean.min(usize::from(most)) as u8
+}
+
+/// Adds to the number of each ordered pair of members, also of a member with itself.
+fn add_pairs(table: &mut Table, members: CandSet, amount: u64)
+    requires fits { (i j : ℕ) → j ≤ most_candidates → overlap_at table.old i j + amount < 2 ^ 64 }
+    ensures { (i j : ℕ) → j ≤ most_candidates → overlap_at table.new i j ≡ overlap_at table.old i j
+        + (if has_member members i then (if has_member members j then amount else 0) else 0) }
+{
+    members.valid();
+    let mut left = members;
+    while let Some(parts) = left.split_first() {
+        add_to_row(table, parts.0, members, amount);
+        left = parts.1;
+    }
+}
+
+/// Adds to the numbers of the members in one row.
+fn add_to_row(table: &mut Table, row: u8, members: CandSet, amount: u64)
+    requires within { row ≤ most_candidates }
+    requires fits { (j : ℕ) → j ≤ most_candidates → overlap_at table.old row j + amount < 2 ^ 64 }
+    ensures { (i j : ℕ) → j ≤ most_candidates → overlap_at table.new i j ≡ overlap_at table.old i j
+        + (if i == row then (if has_member members j then amount else 0) else 0) }
+{
+    members.valid();
+    let start = PLACES * usize::from(row);
+    let mut left = members;
+    while let Some(parts) = left.split_first() {
+        table[start + usize::from(parts.0)] += amount;
+        left = parts.1;
+    }
+}
