@@ -116,7 +116,7 @@ impl Group {
             Property::Pjr => is_cohesive && represented < level,
             Property::Ejr => is_cohesive && self.most_hits < level,
             Property::EjrPlus => {
-                is_large && !self.common.minus(committee).is_empty() && self.most_hits < level
+                is_large && !committee.includes(self.common) && self.most_hits < level
             }
         }
     }
@@ -200,7 +200,7 @@ fn first_at(
             violation.voters = group_of(profile, committee, Members::Reported(&violation)).voters;
             let due = profile.voters().saturating_mul(u64::from(level));
             let has = violation.voters.saturating_mul(u64::from(committee.len()));
-            if may_share && within.minus(committee).is_empty() && has >= due {
+            if may_share && committee.includes(within) && has >= due {
                 return Some(violation);
             }
         }
@@ -229,7 +229,7 @@ fn shows_itself(profile: &Profile, violation: &Violation) -> bool {
     let committee = violation.committee;
     let group = group_of(profile, committee, Members::Reported(violation));
     group.voters == violation.voters
-        && group.common.common(violation.shared) == violation.shared
+        && group.common.includes(violation.shared)
         && group.breaks(
             committee,
             profile.voters(),
@@ -262,7 +262,6 @@ fn violation(
     committee: CandSet,
     property: Property,
 ) -> Option<Violation> {
-    committee.valid();
     assert!(rt;
         !committee.is_empty() && committee.len() <= MOST_MEMBERS && profile.m() == MOST_CANDIDATES
     );
@@ -329,7 +328,7 @@ fn assert_lacks(rt: &impl Abort, profile: &Profile, is_violated: bool) {
 /// approve one member each, and forty who approve one candidate each.
 #[test]
 fn many_lists(rt: HostRuntime) {
-    let others = CandSet::all(40).minus(CandSet::all(20));
+    let others = CandSet::after(20, 40);
     for (voters, alike, is_violated) in [(20, others, true), (40, CandSet::empty(), false)] {
         let profile = large_election(&rt, rt.alloc(), voters, alike);
         assert_lacks(&rt, &profile, is_violated);
@@ -338,13 +337,13 @@ fn many_lists(rt: HostRuntime) {
 
 /// The candidates of these spans, each from its first to its last.
 fn spanned(spans: &[(u8, u8)]) -> CandSet {
-    let all = CandSet::all(MOST_CANDIDATES);
-    let mut missed = all;
+    let mut all = CandSet::empty();
     for (first, last) in spans.iter().copied() {
-        let before = CandSet::all(first.saturating_sub(1).min(MOST_CANDIDATES));
-        missed = missed.minus(CandSet::all(last.min(MOST_CANDIDATES)).minus(before));
+        let last = last.min(MOST_CANDIDATES);
+        let before = first.saturating_sub(1).min(last);
+        all = all.union(CandSet::after(before, last));
     }
-    all.minus(missed)
+    all
 }
 
 /// An election of one voter a ballot.

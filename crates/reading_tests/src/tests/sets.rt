@@ -24,6 +24,32 @@ fn sets_of_lists(rt: HostRuntime) {
     }
 }
 
+/// Lists of two sets, what either has, whether the first has all members of the second, and whether it comes before.
+static PAIRS: [(&[u8], &[u8], &str); 4] = [
+    (&[1, 3], &[2, 3], "{1, 2, 3} false true"),
+    (&[1, 2, 64], &[2, 64], "{1, 2, 64} true true"),
+    (&[2], &[1, 2], "{1, 2} false false"),
+    (&[7], &[7], "{7} true false"),
+];
+
+#[test]
+fn pairs_of_sets(rt: HostRuntime) {
+    for (list, others, wanted) in &PAIRS {
+        let set = CandSet::of_list(list).expect(&rt, wanted);
+        let other = CandSet::of_list(others).expect(&rt, wanted);
+        let either = set.union(other);
+        let is_superset = set.includes(other);
+        let is_before = set < other;
+        let text = format!(in rt.alloc(); "{either:?} {is_superset} {is_before}").expect(
+            &rt, wanted,
+        );
+        assert!(rt; text.as_str() == *wanted, "{list:?} {others:?}: {text}");
+    }
+    let last = CandSet::after(61, MOST_CANDIDATES);
+    let text = format!(in rt.alloc(); "{last:?}").expect(&rt, "the last three");
+    assert!(rt; text.as_str() == "{62, 63, 64}", "{text}");
+}
+
 /// Asserts which sets come, one after the other.
 fn assert_sets(rt: &impl Abort, alloc: Global, sets: KSets, wanted: &str) {
     let mut text = String::new(alloc);

@@ -21,7 +21,6 @@ fn assert_after(rt: &impl Abort, alloc: Global, profile: &Profile, start: &[u8],
     requires { profile.now.m ≡ most_candidates }
 {
     let start = CandSet::of_list(start).expect(rt, "a start");
-    start.valid();
     if start.len() != 2 {
         panic!(rt; "a start is a pair");
     }
