@@ -1,9 +1,9 @@
 //! A bound that sees which candidates share voters.
 //!
 //! Majorants (module `majorant`) are summed over the ballots. No completion of a set is worth more than what all voters
-//! keep and the worths of the added members, less the overlaps of all pairs of them (`laws::pairs`). Row sums bound that
-//! in turn by a sum over the members (`laws::row_sums`; Gallo, Hammer and Simeone, Quadratic knapsack problems, 1980). A
-//! candidate leaves without whom the others fall short.
+//! keep and the worths of the added members, less the overlaps of all pairs of them (`laws::pairs`). Row sums bound
+//! this in turn by a sum over the members (`laws::row_sums`; Gallo, Hammer and Simeone, Quadratic knapsack problems,
+//! 1980). A candidate leaves if the others fall short with it.
 ghost use Rattle.std.specs.Prelude.{◌≡◌, ℕ, ◌+◌, ◌-◌, ◌*◌, ◌^◌, ◌<◌, ◌≤◌, ◌==◌, true, List, length, slice_index, MatchOption, if◌then◌else◌};
 ghost use Rattle.ballot_base.specs.CandSet.{has_member};
 ghost use Rattle.ballot_base.specs.Limits.{most_candidates};

@@ -13,6 +13,9 @@
 //! A candidate who was tried leaves with all its clones: put in a clone's place, it makes a committee of the same
 //! value, and all committees with it were searched (`proofs/CloneLemmas.antt`).
 //!
+//! While enough seats are left, a bound by pairs of candidates comes before the gains are counted, and again after each
+//! candidate that was tried (module `pairs`). It counts a voter who approves two members less than twice.
+//!
 //! The bound needs no sorting in its proof. For any threshold, an added member brings at most the threshold and what
 //! its gain exceeds it by (`laws::thresholds`). The last of the `left` highest gains makes the bound lowest.
 ghost use Rattle.std.specs.Prelude.{◌≡◌, ℕ, ◌+◌, ◌-◌, ◌*◌, ◌^◌, ◌<◌, ◌≤◌, ◌↔◌, ◌||◌, true, false, List, MatchOption, IsTrue, length, slice_index, sum_by};
