@@ -1,5 +1,5 @@
 -- The bound of a node of the search, and what a node that was searched leaves.
-use Rattle.std.proofs.Common.{◌≡◌, ℕ, suc, ◌+◌, ◌-◌, ◌*◌, ◌^◌, ◌<◌, ◌≤◌, ◌==◌, ◌||◌, ◌∙◌, Bool, true, false, cond, List, [], ◌∷◌, ◌++◌, refl, sym, ap, arith, inl, inr, length, filter, get_or, sum_by}
+use Rattle.std.proofs.Common.{◌≡◌, ℕ, zero, suc, ◌+◌, ◌-◌, ◌*◌, ◌^◌, ◌<◌, ◌≤◌, ◌==◌, ◌||◌, ◌∙◌, Bool, true, false, cond, List, [], ◌∷◌, ◌++◌, refl, sym, ap, arith, inl, inr, length, filter, get_or, replicate, sum_by}
 use Rattle.std.specs.Prelude.{IsTrue}
 use Rattle.std.proofs.lemmas.Bool.{cases_lt}
 use Rattle.std.proofs.lemmas.List.Folds.{list_any-append}
@@ -164,3 +164,9 @@ module _ (value : List ℕ → ℕ) (m : ℕ) (set : List ℕ) (left least : ℕ
 pub not-true : (b : Bool) → b ≡ false → IsTrue b → ⊥
 not-true true e h = absurd cc
 not-true false e h = absurd cc
+
+-- none of the same numbers is more
+pub replicate-most : (n i x most : ℕ) → x ≤ most → get_or {A = ℕ} (replicate n x) i 0 ≤ most
+replicate-most zero i x most small = omega arith
+replicate-most (suc n) zero x most small = small
+replicate-most (suc n) (suc i) x most small = replicate-most n i x most small

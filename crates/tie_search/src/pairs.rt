@@ -15,7 +15,7 @@ ghost use Rattle.tie_search.specs.Steps.Near.{IsNarrowed};
 ghost use Rattle.tie_search.specs.Steps.Paired.{AreSmall, AreSums, AreTotals, IsRowSum, overlap_at};
 
 use crate::majorant::{HitSums, Majorant};
-use crate::order::Order;
+use crate::order::nth_greatest;
 use crate::search::{at_least, excess};
 use ballot_base::{CandSet, PLACES, Profile};
 use std::alloc::Allocator;
@@ -67,7 +67,7 @@ impl<A: Allocator + Copy> PairSearch<'_, A> {
         let factor = 2 * u128::from(left - 1);
         let raise = factor * u128::from(totals.greatest_overlap());
         let sums = totals.row_sums(free, left, raise);
-        let threshold = Order::by_worth(free, &sums).nth_worth(free, left, &sums);
+        let threshold = nth_greatest(&sums, free, left);
         let most = factor * totals.kept
             + u128::from(left) * threshold
             + excess(&sums, free, threshold);
@@ -179,7 +179,7 @@ impl Totals {
         free.valid();
         let beside = self.worths_beside(free, left, raise, i);
         let others = free.without(i);
-        let threshold = Order::by_worth(others, &beside).nth_worth(others, left - 1, &beside);
+        let threshold = nth_greatest(&beside, others, left - 1);
         u128::from(left - 2) * self.worths[usize::from(i)]
             + beside[usize::from(i)]
             + u128::from(left - 1) * threshold

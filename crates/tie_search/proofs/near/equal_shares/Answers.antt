@@ -1,13 +1,8 @@
-use Rattle.std.proofs.Common.{ℕ, ◌≤◌, ◌/◌, ◌<◌, List, refl, ap, arith, inl, inr, get_or, length, replicate, set, get_or-set_same, get_or-set_other, rules, zero, suc}
+use Rattle.std.proofs.Common.{ℕ, ◌≤◌, ◌/◌, ◌<◌, List, refl, ap, arith, inl, inr, get_or, length, set, get_or-set_same, get_or-set_other, rules}
 use Rattle.std.proofs.Math.Nat.{div-le_self}
 use Rattle.std.proofs.lemmas.Bool.{cases_eq}
+use Rattle.tie_search.proofs.SearchLemmas.{replicate-most}
 use Rattle.tie_search.proofs.near.equal_shares.Goals as goal
-
--- none of the same numbers is more
-no_more : (n i x most : ℕ) → x ≤ most → get_or {A = ℕ} (replicate n x) i 0 ≤ most
-no_more zero i x most small = omega arith
-no_more (suc n) zero x most small = small
-no_more (suc n) (suc i) x most small = no_more n i x most small
 
 one-more : (shares : List ℕ) (j n most : ℕ) → j < length shares → ((i : ℕ) → get_or shares i 0 ≤ most) → n ≤ most → (i : ℕ) → get_or (set shares j n) i 0 ≤ most
 one-more shares j n most inside few low i = elim (cases_eq i j) [
@@ -18,7 +13,7 @@ one-more shares j n most inside few low i = elim (cases_eq i j) [
 pub loop-n-init : goal.loop-n-init
 loop-n-init c = record {
   long = refl;
-  small = λ i. no_more 65 i 1024 1024 (omega arith);
+  small = λ i. replicate-most 65 i 1024 1024 (omega arith);
 }
 
 pub loop-n-preserved : goal.loop-n-preserved

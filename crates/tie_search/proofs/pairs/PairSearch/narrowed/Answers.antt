@@ -38,14 +38,14 @@ pub overflow_mul-most-2 : goal.overflow_mul-most-2
 overflow_mul-most-2 g c =
     omega (
       arith,
-      threshold-fits c.from-2.result c.nth_worth-threshold.result (omega (arith, c.from-2.ensures, c.ranges.left)) (c.nth_worth-threshold.ensures (2 ^ 80) c.row_sums-sums.ensures.small),
+      threshold-fits c.from-2.result c.nth_greatest-threshold.result (omega (arith, c.from-2.ensures, c.ranges.left)) (c.nth_greatest-threshold.ensures (2 ^ 80) c.row_sums-sums.ensures.small),
     )
 
 pub overflow_add-most : goal.overflow_add-most
 overflow_add-most g c =
     omega (
       arith,
-      threshold-fits c.from-2.result c.nth_worth-threshold.result (omega (arith, c.from-2.ensures, c.ranges.left)) (c.nth_worth-threshold.ensures (2 ^ 80) c.row_sums-sums.ensures.small),
+      threshold-fits c.from-2.result c.nth_greatest-threshold.result (omega (arith, c.from-2.ensures, c.ranges.left)) (c.nth_greatest-threshold.ensures (2 ^ 80) c.row_sums-sums.ensures.small),
       kept-fits c.from-factor.result c.totals-totals.result.kept (omega (arith, c.from-factor.ensures, c.ranges.left)) c.totals-totals.ensures.small.kept_small,
     )
 
@@ -53,7 +53,7 @@ pub overflow_add-most-2 : goal.overflow_add-most-2
 overflow_add-most-2 g c =
     omega (
       arith,
-      threshold-fits c.from-2.result c.nth_worth-threshold.result (omega (arith, c.from-2.ensures, c.ranges.left)) (c.nth_worth-threshold.ensures (2 ^ 80) c.row_sums-sums.ensures.small),
+      threshold-fits c.from-2.result c.nth_greatest-threshold.result (omega (arith, c.from-2.ensures, c.ranges.left)) (c.nth_greatest-threshold.ensures (2 ^ 80) c.row_sums-sums.ensures.small),
       kept-fits c.from-factor.result c.totals-totals.result.kept (omega (arith, c.from-factor.ensures, c.ranges.left)) c.totals-totals.ensures.small.kept_small,
       c.excess.ensures.small,
     )
@@ -68,13 +68,13 @@ overflow_mul-from-2 g c =
 
 -- the bound of all completions
 greatest-is : (g : _) (c : After-excess g)
-    → 2 * c.from-factor.result * c.totals-totals.result.kept + c.from-2.result * c.nth_worth-threshold.result + c.excess.result
-    ≡ 2 * (c.args.left - 1) * c.totals-totals.result.kept + c.args.left * c.nth_worth-threshold.result + sum_by (λ n. get_or c.row_sums-sums.result n 0 - c.nth_worth-threshold.result) c.args.free
+    → 2 * c.from-factor.result * c.totals-totals.result.kept + c.from-2.result * c.nth_greatest-threshold.result + c.excess.result
+    ≡ 2 * (c.args.left - 1) * c.totals-totals.result.kept + c.args.left * c.nth_greatest-threshold.result + sum_by (λ n. get_or c.row_sums-sums.result n 0 - c.nth_greatest-threshold.result) c.args.free
 greatest-is g c =
     omega (
       arith,
       ap (λ n. 2 * n * c.totals-totals.result.kept) c.from-factor.ensures,
-      ap (λ n. n * c.nth_worth-threshold.result) c.from-2.ensures,
+      ap (λ n. n * c.nth_greatest-threshold.result) c.from-2.ensures,
       c.excess.ensures.sum,
     )
 
@@ -105,7 +105,7 @@ returns-then-most-due g c weights are =
     let e = self.profile.now in
     let totals = c.totals-totals.result in
     let sums = c.row_sums-sums.result in
-    let t = c.nth_worth-threshold.result in
+    let t = c.nth_greatest-threshold.result in
     let raise = 2 * c.from-factor.result * c.from.result in
     pairs-none weights self.given.now.scale self.given.now.unit e.m e.rows c.args.set c.args.free c.args.left totals.kept totals.worths totals.overlaps c.requires.opened c.m.ensures.valid.most c.requires.several c.requires.unit
     (c.totals-totals.ensures.totals weights are) self.least c.units.result raise c.units.ensures (raise-enough g (goal.at.returns-then-most-due g c).After-excess)
@@ -118,7 +118,7 @@ returns g c weights are =
     let e = self.profile.now in
     let totals = c.totals-totals.result in
     let sums = c.row_sums-sums.result in
-    let t = c.nth_worth-threshold.result in
+    let t = c.nth_greatest-threshold.result in
     let raise = 2 * c.from-factor.result * c.from.result in
     pairs-narrowed weights self.given.now.scale self.given.now.unit e.m e.rows c.args.set c.args.free c.args.left totals.kept totals.worths totals.overlaps c.requires.opened c.m.ensures.valid.most c.requires.several c.requires.unit
     (c.totals-totals.ensures.totals weights are) self.least c.units.result raise c.units.ensures (raise-enough g (goal.at.returns g c).After-excess)

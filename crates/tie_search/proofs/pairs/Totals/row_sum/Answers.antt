@@ -39,7 +39,7 @@ pub overflow_mul-result-2 : goal.overflow_mul-result-2
 overflow_mul-result-2 c =
     omega (
       arith,
-      few-small c.from-4.result c.nth_worth-threshold.result (omega (arith, c.from-4.ensures, c.ranges.left)) (c.nth_worth-threshold.ensures (2 ^ 68) c.worths_beside-beside.ensures.small),
+      few-small c.from-4.result c.nth_greatest-threshold.result (omega (arith, c.from-4.ensures, c.ranges.left)) (c.nth_greatest-threshold.ensures (2 ^ 68) c.worths_beside-beside.ensures.small),
     )
 
 pub overflow_add-result-2 : goal.overflow_add-result-2
@@ -47,7 +47,7 @@ overflow_add-result-2 c =
     omega (
       arith,
       few-small c.from.result (get_or c.args.self.now.worths c.from-2.result 0) (omega (arith, c.from.ensures, c.ranges.left)) (omega (arith, c.requires.small.worths_small c.from-2.result)),
-      few-small c.from-4.result c.nth_worth-threshold.result (omega (arith, c.from-4.ensures, c.ranges.left)) (c.nth_worth-threshold.ensures (2 ^ 68) c.worths_beside-beside.ensures.small),
+      few-small c.from-4.result c.nth_greatest-threshold.result (omega (arith, c.from-4.ensures, c.ranges.left)) (c.nth_greatest-threshold.ensures (2 ^ 68) c.worths_beside-beside.ensures.small),
       c.worths_beside-beside.ensures.small c.from-3.result,
     )
 
@@ -56,7 +56,7 @@ overflow_add-result-3 c =
     omega (
       arith,
       few-small c.from.result (get_or c.args.self.now.worths c.from-2.result 0) (omega (arith, c.from.ensures, c.ranges.left)) (omega (arith, c.requires.small.worths_small c.from-2.result)),
-      few-small c.from-4.result c.nth_worth-threshold.result (omega (arith, c.from-4.ensures, c.ranges.left)) (c.nth_worth-threshold.ensures (2 ^ 68) c.worths_beside-beside.ensures.small),
+      few-small c.from-4.result c.nth_greatest-threshold.result (omega (arith, c.from-4.ensures, c.ranges.left)) (c.nth_greatest-threshold.ensures (2 ^ 68) c.worths_beside-beside.ensures.small),
       c.worths_beside-beside.ensures.small c.from-3.result,
       c.excess.ensures.small,
     )
@@ -66,17 +66,17 @@ returns-clause-small c =
     omega (
       arith,
       few-small c.from.result (get_or c.args.self.now.worths c.from-2.result 0) (omega (arith, c.from.ensures, c.ranges.left)) (omega (arith, c.requires.small.worths_small c.from-2.result)),
-      few-small c.from-4.result c.nth_worth-threshold.result (omega (arith, c.from-4.ensures, c.ranges.left)) (c.nth_worth-threshold.ensures (2 ^ 68) c.worths_beside-beside.ensures.small),
+      few-small c.from-4.result c.nth_greatest-threshold.result (omega (arith, c.from-4.ensures, c.ranges.left)) (c.nth_greatest-threshold.ensures (2 ^ 68) c.worths_beside-beside.ensures.small),
       c.worths_beside-beside.ensures.small c.from-3.result,
       c.excess.ensures.sum,
-      ap (λ l. sum_by (λ n. get_or c.worths_beside-beside.result n 0 - c.nth_worth-threshold.result) l) c.without-others.ensures,
-      rest-small c.worths_beside-beside.result c.nth_worth-threshold.result c.args.i c.args.free c.valid.ensures c.worths_beside-beside.ensures.small,
+      ap (λ l. sum_by (λ n. get_or c.worths_beside-beside.result n 0 - c.nth_greatest-threshold.result) l) c.without-others.ensures,
+      rest-small c.worths_beside-beside.result c.nth_greatest-threshold.result c.args.i c.args.free c.valid.ensures c.worths_beside-beside.ensures.small,
     )
 
 pub returns-clause-sum : goal.returns-clause-sum
 returns-clause-sum c =
     let beside = c.worths_beside-beside.result in
-    let t = c.nth_worth-threshold.result in
+    let t = c.nth_greatest-threshold.result in
     let others = without_member c.args.free c.args.i in
     let exact : ℕ → ℕ = worth_beside (slice_index c.args.self.now.worths) (overlap_at c.args.self.now.overlaps) c.args.left c.args.raise c.args.i in
     let more : sum_by (λ n. get_or beside n 0 - t) others ≡ sum_by (λ n. exact n - t) others =
