@@ -40,9 +40,6 @@ use ballot_base::{CandSet, Clones, PLACES, Profile, ThieleRule};
 use std::alloc::Allocator;
 use tie_walk::{Tally, ThieleTally, widened};
 
-/// With fewer seats left than this, a search counts gains sooner than pairs.
-const FEWEST_SEATS: u8 = 4;
-
 /// What a search is helped by: who are clones; columns and prices, if they are worth their making; and what hits give,
 /// for majorants.
 #[derive(Drop)]
@@ -126,7 +123,7 @@ impl<A: Allocator + Copy> Search<'_, A> {
             // A committee with a clone of the candidate would be worth the same with the candidate in its place.
             let untried = others.minus(self.aids.clones.class(next));
             rest = self.untried_eligible(set, untried, left)?;
-            if sees_pairs(left) {
+            if self.sees_pairs(left) {
                 order = Order::by_worth(rest, &gains);
             }
         }
@@ -151,6 +148,13 @@ impl<A: Allocator + Copy> Search<'_, A> {
         self.narrowed(set, untried, left)
     }
 
+    /// Whether enough seats are left for pairs to be worth their counting.
+    fn sees_pairs(&self, left: u8) -> bool
+        ensures { IsTrue result → 2 ≤ left }
+    {
+        left >= fewest_seats(self.tally.rule())
+    }
+
     /// The free candidates that can still join, by pairs. Returns `None` if no completion of the set reaches the value.
     fn narrowed(&self, set: CandSet, free: CandSet, left: u8) -> Option<CandSet>
         requires ballots { self.now.profile.now ≡ self.now.tally.now.election }
@@ -163,7 +167,7 @@ impl<A: Allocator + Copy> Search<'_, A> {
         let Some(given) = &self.aids.sums else {
             return Some(free);
         };
-        if !sees_pairs(left) {
+        if !self.sees_pairs(left) {
             return Some(free);
         }
         let pairs = PairSearch {
@@ -246,11 +250,15 @@ impl<A: Allocator + Copy> Search<'_, A> {
     }
 }
 
-/// Whether enough seats are left for pairs to be worth their counting.
-fn sees_pairs(left: u8) -> bool
-    ensures { IsTrue result → 2 ≤ left }
+/// With fewer seats left than this, counting gains is quicker than counting pairs.
+fn fewest_seats(rule: ThieleRule) -> u8
+    ensures { 2 ≤ result }
 {
-    left >= FEWEST_SEATS
+    match rule {
+        ThieleRule::Av | ThieleRule::Pav | ThieleRule::Geom2 | ThieleRule::Geom3 => 5,
+        ThieleRule::Geom4 => 6,
+        ThieleRule::Cc => 7,
+    }
 }
 
 /// The members of either set.
