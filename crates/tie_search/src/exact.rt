@@ -133,7 +133,8 @@ impl<S: Searchable> ExactTally<S> {
         end
     }
 
-    /// The end of a range of places from c on at which the bounds of the set reach `best`: c only if that of c does not.
+    /// The end of a range of places from c on at which the bounds of the set reach `best`: c only if that of c does
+    /// not.
     fn reaching_upto(&self, c: u8, set: CandSet, left: u8, best: u128) -> u8
         requires within { c ≤ S.candidates self.now.search }
         requires candidates { IsIncreasing 1 c set }

@@ -51,7 +51,8 @@ impl Prices {
     ) -> Option<Prices>
         requires some { 1 ≤ k }
         requires size { k ≤ most_members }
-        ensures { MatchOption result ⊤ (λ prices. ArePrices (thiele_of profile.now rule k) prices.unit prices.base prices.worths) }
+        ensures { MatchOption result ⊤ (λ prices.
+            ArePrices (thiele_of profile.now rule k) prices.unit prices.base prices.worths) }
     {
         if profile.rows() > MOST_ROWS {
             return None;

@@ -188,7 +188,8 @@ impl<A: Allocator + Copy> Search<'_, A> {
         self.may_suffice(set, free) && self.may_afford(set, free, left)
     }
 
-    /// What the set gains by each of the free candidates, at the candidate's number: from the columns, if they are kept.
+    /// What the set gains by each of the free candidates, at the candidate's number: from the columns, if they are
+    /// kept.
     fn gains_at(&self, set: CandSet, free: CandSet) -> [u128; PLACES]
         requires aids { IsAided self.now.tally.now self.now.aids.now }
         ensures gains { (n : ℕ) → has_member free n ≡ true → slice_index result n
@@ -277,8 +278,8 @@ fn together(set: CandSet, other: CandSet) -> CandSet
     both
 }
 
-/// Whether at least `left` candidates are free, and the greatest of their gains make up what is needed. Any threshold is
-/// right; the last of the `left` greatest gains makes the bound the lowest.
+/// Whether at least `left` candidates are free, and the greatest of their gains make up what is needed. Any threshold
+/// is right; the last of the `left` greatest gains makes the bound the lowest.
 pub(crate) fn may_reach(
     gains: &[u128; PLACES],
     free: CandSet,
