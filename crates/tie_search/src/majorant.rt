@@ -96,10 +96,13 @@ impl Majorant {
 
 /// How much an increment falls by, in half a step, if the first is `step` and all `run` of them rise by `rise`.
 fn bend(step: u64, rise: u64, run: u64) -> u64
+    requires small { step ≤ 2 ^ 26 }
+    requires run { run ≤ most_candidates }
     ensures { result ≤ step }
 {
     if run < 2 {
         return 0;
     }
-    step.saturating_sub(rise / run) / (run - 1)
+    let fall = (step * run).saturating_sub(rise) / (run * (run - 1));
+    fall.min(step)
 }

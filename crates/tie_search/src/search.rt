@@ -251,14 +251,14 @@ impl<A: Allocator + Copy> Search<'_, A> {
     }
 }
 
-/// With fewer seats left than this, counting gains is quicker than counting pairs.
+/// With fewer seats left than this, counting gains is quicker than counting pairs. Under `cc` it always is.
 fn fewest_seats(rule: ThieleRule) -> u8
     ensures { 2 ≤ result }
 {
     match rule {
         ThieleRule::Av | ThieleRule::Pav | ThieleRule::Geom2 | ThieleRule::Geom3 => 5,
         ThieleRule::Geom4 => 6,
-        ThieleRule::Cc => 7,
+        ThieleRule::Cc => u8::MAX,
     }
 }
 
