@@ -13,10 +13,11 @@ ghost use Rattle.tie_search.specs.Steps.Priced.{ArePrices, scale, most_rows, pri
 
 use crate::multipliers::chosen;
 use crate::order::Order;
+use crate::search::excess;
 use crate::weights::{Weights, rounded_weights};
 use ballot_base::{CandSet, Increments, PLACES, Profile, ThieleRule};
 use std::alloc::Allocator;
-use tie_walk::{ThieleTally, add_to_members, those_after};
+use tie_walk::{Tally, ThieleTally, add_to_members, those_after};
 
 /// What hits give is multiplied by this, so that there are multipliers between two increments.
 pub(crate) const SCALE: u64 = 4096;
@@ -68,6 +69,22 @@ impl Prices {
             order: Order::by_worth(candidates, &worths),
             committee,
         })
+    }
+
+    /// Whether no committee of k can be worth a hundredth more than the good one. Few sets pass the prices then.
+    pub(crate) fn are_tight<A: Allocator + Copy>(&self, values: &ThieleTally<A>, k: u8) -> bool
+        requires small { (n : ℕ) → slice_index self.now.worths n ≤ 2 ^ 116 }
+    {
+        if self.committee.len() != k {
+            return false;
+        }
+        let m = values.m();
+        let candidates = CandSet::all(m);
+        let threshold = self.order.nth_worth(candidates, k, &self.worths);
+        let paid = u128::from(k) * threshold + excess(&self.worths, candidates, threshold);
+        let most = (self.base.saturating_add(paid) / u128::from(SCALE)).saturating_mul(self.unit);
+        let good = values.value(self.committee.upto(m));
+        most <= good.saturating_add(good / 100)
     }
 }
 

@@ -45,11 +45,17 @@ impl<'a, A: Allocator + Copy> ThieleSearch<'a, A> {
         ensures { result ≡ thiele_of profile.now rule k }
     {
         let values = ThieleTally::new(profile, rule, k);
+        let prices = Prices::of(profile, &values, rule, k);
+        // If prices leave little room, few sets pass them, and pairs are not worth their counting.
+        let is_tight = match &prices {
+            Some(prices) => prices.are_tight(&values, k),
+            None => false,
+        };
         let aids = Aids {
             clones: Clones::of(profile),
             columns: Columns::of(profile, rule, k),
-            prices: Prices::of(profile, &values, rule, k),
-            sums: HitSums::of(rule, k),
+            prices,
+            sums: if is_tight { None } else { HitSums::of(rule, k) },
         };
         ThieleSearch {
             profile,
