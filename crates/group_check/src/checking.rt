@@ -279,8 +279,8 @@ impl<A: Allocator + Copy> Search<'_, A> {
     }
 }
 
-/// Whether there are at most `FEW_LISTS` lists of `size` members of a committee of k. Either answer would be correct: it
-/// only decides whether one more test is worth its time.
+/// Whether there are at most `FEW_LISTS` lists of `size` members of a committee of k. Either answer would be correct:
+/// it only decides whether one more test is worth its time.
 fn has_few_lists(k: u8, size: u8) -> bool
     requires most { k ≤ most_candidates }
     requires fits { size ≤ k }
