@@ -3,7 +3,7 @@ use Rattle.std.proofs.lemmas.Bool.{or_right}
 use Rattle.std.proofs.Common.{◌≡◌, ℕ, zero, suc, ◌+◌, ◌-◌, ◌<◌, ◌≤◌, ◌==◌, ◌++◌, Bool, true, false, List, [], ◌∷◌, None, refl, sym, ap, ◌∙◌, arith, length, map}
 use Rattle.std.specs.Prelude.{find}
 use Rattle.std.specs.List.{AllByRecursion}
-use Rattle.std.proofs.lemmas.List.{append_assoc, append-nil, map-append}
+use Rattle.std.proofs.lemmas.List.{append_assoc, append-nil, length-append, map-append}
 use Rattle.ballot_base.specs.Lists.{IsIncreasing}
 use Rattle.ballot_base.specs.CandSet.{has_member, with_member}
 use Rattle.ballot_base.proofs.Increasing.{IsIncreasing-lower, with_member-gt}
@@ -43,6 +43,11 @@ with_member-end first last [] x rest i = refl
 with_member-end first last (y ∷ ys) x rest i =
     let above = at_least (y + 1) last ys x rest i.2 in
     with_member-gt y ys x (omega (arith, above)) ∙ ap (λ s. y ∷ s) (with_member-end (y + 1) last ys x rest i.2)
+
+-- and makes it longer by one
+pub with_member-length : (first last : ℕ) (front : List ℕ) (x : ℕ) (rest : List ℕ) → IsIncreasing first last (front ++ x ∷ rest)
+    → length (with_member front x) ≡ length front + 1
+with_member-length first last front x rest i = ap length (with_member-end first last front x rest i) ∙ length-append front (x ∷ [])
 
 pub IsIncreasing-with : (first last : ℕ) (front : List ℕ) (x : ℕ) (rest : List ℕ) → IsIncreasing first last (front ++ x ∷ rest) → IsIncreasing first last (with_member front x ++ rest)
 IsIncreasing-with first last front x rest i =

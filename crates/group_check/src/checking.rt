@@ -1,5 +1,5 @@
 //! The search for a violation.
-ghost use Rattle.std.specs.Prelude.{◌≡◌, ◌≢◌, ℕ, ◌+◌, ◌-◌, ◌≤◌, ◌↔◌, ◌++◌, Bool, List, [], ◌∷◌, None, IfSome, IsTrue, length, sum, find};
+ghost use Rattle.std.specs.Prelude.{◌≡◌, ◌≢◌, ℕ, ◌+◌, ◌-◌, ◌<◌, ◌≤◌, ◌↔◌, ◌++◌, Bool, List, [], ◌∷◌, None, IfSome, IsTrue, length, sum, find};
 ghost use Rattle.std.specs.List.{list_all};
 ghost use Rattle.ballot_base.specs.Limits.{most_candidates, most_members, most_voters};
 ghost use Rattle.ballot_base.specs.Lists.{IsIncreasing};
@@ -134,12 +134,9 @@ impl<A: Allocator + Copy> Search<'_, A> {
             → first_violation self.now.property self.now.profile.now self.now.committee self.now.level ≡ None }
     {
         let nobody = CandSet::empty();
-        let size = self.level - 1;
         self.property == Property::Pjr
-            && has_few_lists(self.committee.len(), size)
-            && self
-                .first_within(nobody, nobody, self.committee, size)
-                .is_none()
+            && has_few_lists(self.committee.len(), self.level - 1)
+            && self.first_within(nobody, nobody, self.committee).is_none()
     }
 
     /// The first violation that shares these candidates and `left` candidates of the pool, all of which come after
@@ -181,43 +178,38 @@ impl<A: Allocator + Copy> Search<'_, A> {
         if self.property != Property::Pjr {
             return self.counted(shared, nobody);
         }
-        let within = self.first_within(shared, nobody, self.committee, self.level - 1)?;
+        let within = self.first_within(shared, nobody, self.committee)?;
         self.counted(shared, within)
     }
 
-    /// The first list U that consists of these members and `left` members of the pool, all of which come after them,
-    /// and that has enough voters who approve all of `shared`.
-    fn first_within(
-        &self,
-        shared: CandSet,
-        within: CandSet,
-        pool: CandSet,
-        left: u8,
-    ) -> Option<CandSet>
+    /// The first list U that consists of these members and of members of the pool, all of which come after them, and
+    /// that has enough voters who approve all of `shared`.
+    fn first_within(&self, shared: CandSet, within: CandSet, pool: CandSet) -> Option<CandSet>
         requires members { IsTrue (includes self.now.committee pool) }
         requires order { IsIncreasing 1 self.now.profile.now.m (within ++ pool) }
+        requires size { length within < self.now.level }
         ensures { result ≡ find (is_enough_within self.now.profile.now self.now.committee self.now.level shared)
-            (completions within pool left) }
+            (completions within pool (self.now.level - 1 - length within)) }
     {
+        let left = self.level - 1 - within.len();
         if pool.len() < left {
             return None;
         }
         // A list that begins with these members has at most this many voters.
-        if !self.is_enough(self.voters_around(shared, within, pool, left)) {
+        if !self.is_enough(self.voters_around(shared, within, pool)) {
             return None;
         }
         if left == 0 {
             return Some(within);
         }
         let (member, rest) = pool.split_first()?;
-        let more = within.with(member);
-        let found = self.first_within(shared, more, rest, left - 1);
+        let found = self.first_within(shared, within.with(member), rest);
         if found.is_some() {
             return found;
         }
         // A voter who approves the member approves its clones too, and so fits no list that has a clone without it.
         let others = rest.minus(self.clones.class(member));
-        self.first_within(shared, within, others, left)
+        self.first_within(shared, within, others)
     }
 
     /// The violation with the whole group of these lists, if the group is large enough for the level.
@@ -263,14 +255,17 @@ impl<A: Allocator + Copy> Search<'_, A> {
         })
     }
 
-    /// How many voters approve all of `shared`, and no members but those of `within` and at most `left` of the pool.
-    fn voters_around(&self, shared: CandSet, within: CandSet, pool: CandSet, left: u8) -> u64
-        ensures group { result
-            ≡ sum (voters_around self.now.profile.now self.now.committee shared within pool left) }
+    /// How many voters approve all of `shared`, and no members but those of `within` and as many of the pool as a list
+    /// U that begins with `within` can have.
+    fn voters_around(&self, shared: CandSet, within: CandSet, pool: CandSet) -> u64
+        requires { length within < self.now.level }
+        ensures group { let left = self.now.level - 1 - length within in
+            result ≡ sum (voters_around self.now.profile.now self.now.committee shared within pool left) }
         ensures most { result ≤ most_voters }
         ensures valid { IsElection self.now.profile.now }
     {
         let committee = self.committee;
+        let left = self.level - 1 - within.len();
         voters_with(self.profile, |ballot| {
             let approved = ballot.common(committee);
             let more = approved.common(pool).len().min(left);

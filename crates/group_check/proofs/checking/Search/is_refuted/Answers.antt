@@ -1,4 +1,5 @@
-use Rattle.std.proofs.Common.{◌≡◌, true, false, sym, ◌∙◌, rules}
+use Rattle.std.proofs.Common.{◌≡◌, ◌-◌, true, false, sym, ◌∙◌, rules}
+use Rattle.std.proofs.Math.Nat.{sub-zero}
 use Rattle.ballot_base.specs.CandSet.{has_member}
 use denote.Enum.Bare.{same_true}
 use Rattle.group_check.specs.contracts.property.Property.{the_type}
@@ -20,4 +21,4 @@ returns-then-has_few_lists g c h =
     ] in
     rw is
     (none_at_all e c.args.self.now.committee c.args.self.now.level c.args.self.now.candidates
-    (sym (rw c.empty-nobody.ensures at c.first_within.ensures) ∙ nothing_there c.first_within.result c.is_none.result c.is_none.ensures h))
+    (sym (rw (c.empty-nobody.ensures, sub-zero (c.args.self.now.level - 1)) at c.first_within.ensures) ∙ nothing_there c.first_within.result c.is_none.result c.is_none.ensures h))
