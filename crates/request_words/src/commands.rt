@@ -16,6 +16,12 @@ use preflib_text::Kind;
 use seat_share::{MOST_SEATS, Method};
 use std::alloc::{AllocError, Global};
 
+// The help of `--size` spells out the limit.
+const _: () = prove!(MOST_MEMBERS == 40);
+
+// The help of `--seats` spells out the limit.
+const _: () = prove!(MOST_SEATS == 10000);
+
 /// The program with its commands.
 pub(crate) fn program<'a>(alloc: Global) -> Result<Command<'a>, AllocError>
     ensures { IfOk result IsProgram }
