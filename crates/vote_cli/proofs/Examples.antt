@@ -16,7 +16,7 @@ use Rattle.request_words.specs.Request.{whole}
 use Rattle.vote_cli.specs.Listing.{allocation_line, answers_text, committee_line, has_more, last_line, listing_text, within_limit}
 use Rattle.vote_cli.specs.Names.{beside, called, candidates_text, joined, name_or_number, names_text, naming}
 use Rattle.vote_cli.specs.Starts.{has_seats_for, may_start}
-use Rattle.vote_cli.specs.Steps.Names.{IsName, listed_name, listed_names, names_in, seated_name}
+use Rattle.vote_cli.specs.Steps.Names.{IsName, listed_name, listed_names, names_in}
 use Rattle.vote_cli.specs.RuleValues.{value_by}
 use Rattle.vote_cli.specs.Steps.Numbers.{following_text}
 use Rattle.vote_cli.specs.Text.{line, numbers_text}
@@ -96,9 +96,6 @@ named_candidates = (refl, refl)
 
 names_in_a_row : (listed_name false red_and_blue 3 ≡ codes "; Blue") × (listed_names true red_and_blue (1 ∷ 3 ∷ []) ≡ codes "Red; Blue")
 names_in_a_row = (refl, refl)
-
-names_of_parties : (seated_name false true red_and_blue 3 ≡ codes "Blue") × (seated_name true false red_and_blue 3 ≡ [])
-names_of_parties = (refl, refl)
 
 -- without a profile no candidate has a name
 found_names : (names_in None ≡ []) × (names_in (Some (record { ref_ptr = (0, 0); now = three })) ≡ [] ∷ [] ∷ [] ∷ [])

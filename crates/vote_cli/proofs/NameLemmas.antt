@@ -1,12 +1,12 @@
 -- Names in the parts that are printed one after the other.
-use Rattle.std.proofs.Common.{◌≡◌, ℕ, ◌+◌, ◌-◌, ◌<◌, ◌≤◌, Bool, true, false, ◌&&◌, cond, List, [], ◌∷◌, ◌++◌, Result, Ok, refl, sym, ap, subst, ◌∙◌, append_assoc, append-nil, arith, length, filter, drop, get_or}
-use Rattle.std.specs.Prelude.{◌==◌, IfOk, codes, nat_lt, slice_index}
+use Rattle.std.proofs.Common.{◌≡◌, ℕ, ◌+◌, ◌-◌, ◌<◌, ◌≤◌, Bool, true, false, cond, List, [], ◌∷◌, ◌++◌, refl, sym, ap, ◌∙◌, append_assoc, append-nil, arith, length, filter, drop, get_or}
+use Rattle.std.specs.Prelude.{codes, nat_lt, slice_index}
 use Rattle.std.specs.List.{range_with_len}
 use Rattle.std.proofs.lemmas.List.{at_drop_more, drop_all}
 use Rattle.std.proofs.lemmas.List.FromFn.{get_or-range_with_len, length-range_with_len}
-use Rattle.std.proofs.lemmas.Bool.{lt-ltb, le-ltb, eqb-true, eqb-false}
+use Rattle.std.proofs.lemmas.Bool.{lt-ltb, le-ltb}
 use Rattle.vote_cli.specs.Names.{called, names_text}
-use Rattle.vote_cli.specs.Steps.Names.{listed_name, listed_names, seated_name}
+use Rattle.vote_cli.specs.Steps.Names.{listed_name, listed_names}
 
 -- the names after the first, each with `; ` before it
 others_listed : (names : List (List ℕ)) (n : ℕ) (rest : List ℕ) → listed_names false names (n ∷ rest) ≡ codes "; " ++ names_text names (n ∷ rest)
@@ -46,31 +46,19 @@ seated_next seats i within =
     ∙ ap (λ n. filter test (n ∷ drop (i + 1) all)) here
     ∙ ap (λ k. cond (nat_lt 0 (slice_index seats k)) ((i + 1) ∷ seated_from seats (i + 1)) (seated_from seats (i + 1))) (let e : i + 1 - 1 ≡ i = omega arith in e)
 
--- the names from a party on are its own, if it has a seat, and those of the parties after it
-pub seated_step : (is_first : Bool) (names : List (List ℕ)) (seats : List ℕ) (i : ℕ) → i < length seats
-    → listed_names is_first names (seated_from seats i)
-    ≡ seated_name (slice_index seats i == 0) is_first names (i + 1) ++ listed_names (is_first && (slice_index seats i == 0)) names (seated_from seats (i + 1))
-seated_step is_first names seats i within = by is_first (slice_index seats i == 0) refl
-  where
-    none : true ≡ (slice_index seats i == 0) → nat_lt 0 (slice_index seats i) ≡ false
-    none is = le-ltb 0 (slice_index seats i) (omega (arith, eqb-true (slice_index seats i) 0 (sym is)))
+-- the names from a party with a seat on are its own, and those of the parties after it
+pub seated_here : (is_first : Bool) (names : List (List ℕ)) (seats : List ℕ) (i : ℕ) → i < length seats → (slice_index seats i ≡ 0 → ⊥)
+    → listed_names is_first names (seated_from seats i) ≡ listed_name is_first names (i + 1) ++ listed_names false names (seated_from seats (i + 1))
+seated_here is_first names seats i within some =
+    ap (listed_names is_first names) (seated_next seats i within ∙ ap (λ b. cond b ((i + 1) ∷ seated_from seats (i + 1)) (seated_from seats (i + 1))) (lt-ltb 0 (slice_index seats i) (omega (arith, some))))
 
-    some : false ≡ (slice_index seats i == 0) → nat_lt 0 (slice_index seats i) ≡ true
-    some is = lt-ltb 0 (slice_index seats i) (let other : slice_index seats i ≡ 0 → ⊥ = eqb-false (slice_index seats i) 0 (sym is) in omega (arith, other))
-
-    by : (f t : Bool) → t ≡ (slice_index seats i == 0)
-        → listed_names f names (seated_from seats i) ≡ seated_name t f names (i + 1) ++ listed_names (f && t) names (seated_from seats (i + 1))
-    by true true is = ap (listed_names true names) (seated_next seats i within ∙ ap (λ b. cond b ((i + 1) ∷ seated_from seats (i + 1)) (seated_from seats (i + 1))) (none is))
-    by false true is = ap (listed_names false names) (seated_next seats i within ∙ ap (λ b. cond b ((i + 1) ∷ seated_from seats (i + 1)) (seated_from seats (i + 1))) (none is))
-    by true false is = ap (listed_names true names) (seated_next seats i within ∙ ap (λ b. cond b ((i + 1) ∷ seated_from seats (i + 1)) (seated_from seats (i + 1))) (some is))
-    by false false is = ap (listed_names false names) (seated_next seats i within ∙ ap (λ b. cond b ((i + 1) ∷ seated_from seats (i + 1)) (seated_from seats (i + 1))) (some is))
+-- a party without a seat is passed over
+pub seated_past : (seats : List ℕ) (i : ℕ) → i < length seats → slice_index seats i ≡ 0 → seated_from seats i ≡ seated_from seats (i + 1)
+seated_past seats i within none =
+    seated_next seats i within ∙ ap (λ b. cond b ((i + 1) ∷ seated_from seats (i + 1)) (seated_from seats (i + 1))) (le-ltb 0 (slice_index seats i) (omega (arith, none)))
 
 -- after the last party there is none
 pub seated_end : (is_first : Bool) (names : List (List ℕ)) (seats : List ℕ) (i : ℕ) → length seats ≤ i → listed_names is_first names (seated_from seats i) ≡ []
 seated_end is_first names seats i past =
     ap (λ parties. listed_names is_first names (filter (λ party. nat_lt 0 (slice_index seats (party - 1))) parties))
     (drop_all i (range_with_len 1 (length seats)) (let e : length (range_with_len 1 (length seats)) ≤ i = omega (arith, past, length-range_with_len 1 (length seats)) in e))
-
--- what holds of the value that a call gave
-pub of_ok : {V E : Type 0} (P : V → Type 0) (r : Result V E) (v : V) → r ≡ Ok v → IfOk r P → P v
-of_ok P r v was h = subst (λ s. IfOk s P) was h

@@ -10,7 +10,7 @@ ghost use Rattle.vote_cli.specs.Steps.Refusals.{WritesRight, TellsOfWrites, outc
 ghost use Rattle.vote_cli.specs.Steps.RequestFaults.{request_fault_word};
 ghost use Rattle.vote_cli.specs.Steps.Sharing.{IsShareRefusal, IsSharedOut};
 
-use crate::check_text::{write_holds, write_violation};
+use crate::check_text::{Report, write_holds};
 use crate::committee::committee_of;
 use crate::device::Sink;
 use crate::elect_text::Listing;
@@ -93,8 +93,12 @@ fn answer_check<A: Allocator + Copy, W: Sink>(
         write_holds(out)?;
         return Ok(Outcome::Answered);
     };
-    let names = Names::of(profile, with_names);
-    write_violation(out, &names, profile, &violation)?;
+    let report = Report {
+        violation: &violation,
+        profile,
+        names: Names::of(profile, with_names),
+    };
+    report.write(out)?;
     Ok(Outcome::Violated)
 }
 

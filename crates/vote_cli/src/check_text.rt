@@ -1,5 +1,6 @@
 //! The text of a check: that the property holds, or the report of a violation.
-ghost use Rattle.std.specs.Prelude.{◌≡◌, ◌++◌, [], ◌∷◌, is_ok};
+ghost use Rattle.std.specs.Prelude.{◌++◌, is_ok};
+ghost use Rattle.ballot_base.specs.Ballots.{voter_count};
 ghost use Rattle.vote_cli.specs.Steps.Printing.{Prints, Sends};
 ghost use Rattle.vote_cli.specs.Names.{candidates_text};
 ghost use Rattle.vote_cli.specs.Text.{line};
@@ -23,153 +24,125 @@ pub(crate) fn write_holds<W: Sink>(out: &mut W) -> Result<(), WriteFailed>
     printer.finish()
 }
 
-/// Prints the candidates after these words, on a line, with their names beside them where they are wanted.
-fn print_set<W: Sink, A: Allocator + Copy>(
-    printer: &mut Printer<'_, W>,
-    names: &Names<'_, A>,
-    words: &[u8],
-    candidates: CandSet,
-) -> Result<(), WriteFailed>
-    ensures { Prints W.contents W.has_failed printer.old printer.new (is_ok result)
-        (line (words.now ++ candidates_text names.now candidates)) }
-{
-    printer.print(words)?;
-    print_candidates(printer, names, candidates)?;
-    printer.print(b"\n")
+/// What the report of a violation is about: the violation, the ballots, and the names of the candidates.
+#[derive(Drop)]
+pub(crate) struct Report<'a, A: Allocator + Copy> {
+    pub(crate) violation: &'a Violation,
+    pub(crate) profile: &'a Profile<A>,
+    pub(crate) names: Names<'a, A>,
 }
 
-/// Prints the line that a report of proportional justified representation alone has.
-fn print_within<W: Sink, A: Allocator + Copy>(
-    printer: &mut Printer<'_, W>,
-    names: &Names<'_, A>,
-    property: Property,
-    within: CandSet,
-) -> Result<(), WriteFailed>
-    ensures { Prints W.contents W.has_failed printer.old printer.new (is_ok result)
-        (within_text names.now property within) }
-{
-    match property {
-        Property::Jr | Property::Ejr | Property::EjrPlus => Ok(()),
-        Property::Pjr if within.is_empty() => printer.print(b"within -\n"),
-        Property::Pjr => print_set(printer, names, b"within ", within),
+impl<A: Allocator + Copy> Report<'_, A> {
+    /// Prints the candidates after these words, on a line, with their names beside them if they are wanted.
+    fn print_set<W: Sink>(
+        &self,
+        printer: &mut Printer<'_, W>,
+        words: &[u8],
+        candidates: CandSet,
+    ) -> Result<(), WriteFailed>
+        ensures { Prints W.contents W.has_failed printer.old printer.new (is_ok result)
+            (line (words.now ++ candidates_text self.now.names candidates)) }
+    {
+        printer.print(words)?;
+        print_candidates(printer, &self.names, candidates)?;
+        printer.print(b"\n")
     }
-}
 
-/// Prints the lines of the property and the level.
-fn print_level<W: Sink>(
-    printer: &mut Printer<'_, W>,
-    property: Property,
-    level: u8,
-) -> Result<(), WriteFailed>
-    ensures { Prints W.contents W.has_failed printer.old printer.new (is_ok result) (level_text property level) }
-{
-    let mut digits = Buffer::new();
-    let pieces = [
-        b"violated ".as_slice(),
-        property.name().as_bytes(),
-        b"\nlevel ",
-        digits.format(level).as_bytes(),
-        b"\n",
-    ];
-    printer.print_all(&pieces)
-}
+    /// Prints the lines of the property and the level.
+    fn print_level<W: Sink>(&self, printer: &mut Printer<'_, W>) -> Result<(), WriteFailed>
+        ensures { Prints W.contents W.has_failed printer.old printer.new (is_ok result)
+            (level_text self.now.violation.now.property self.now.violation.now.level) }
+    {
+        let mut digits = Buffer::new();
+        let pieces = [
+            b"violated ".as_slice(),
+            self.violation.property.name().as_bytes(),
+            b"\nlevel ",
+            digits.format(self.violation.level).as_bytes(),
+            b"\n",
+        ];
+        printer.print_all(&pieces)
+    }
 
-/// Prints the lines before the voters.
-fn print_claim<W: Sink, A: Allocator + Copy>(
-    printer: &mut Printer<'_, W>,
-    names: &Names<'_, A>,
-    violation: &Violation,
-) -> Result<(), WriteFailed>
-    ensures { Prints W.contents W.has_failed printer.old printer.new (is_ok result)
-        (claim_text names.now violation.now) }
-{
-    print_level(printer, violation.property, violation.level)?;
-    print_set(printer, names, b"candidates ", violation.shared)?;
-    print_within(printer, names, violation.property, violation.within)
-}
+    /// Prints the line that only a report of proportional justified representation has.
+    fn print_within<W: Sink>(&self, printer: &mut Printer<'_, W>) -> Result<(), WriteFailed>
+        ensures { Prints W.contents W.has_failed printer.old printer.new (is_ok result)
+            (within_text self.now.names self.now.violation.now.property self.now.violation.now.within) }
+    {
+        let within = self.violation.within;
+        match self.violation.property {
+            Property::Jr | Property::Ejr | Property::EjrPlus => Ok(()),
+            Property::Pjr if within.is_empty() => printer.print(b"within -\n"),
+            Property::Pjr => self.print_set(printer, b"within ", within),
+        }
+    }
 
-/// Prints the line of the voters of the group, and of all voters.
-fn print_voters<W: Sink>(
-    printer: &mut Printer<'_, W>,
-    voters: u64,
-    total: u64,
-) -> Result<(), WriteFailed>
-    ensures { Prints W.contents W.has_failed printer.old printer.new (is_ok result) (voters_text voters total) }
-{
-    let mut voters_digits = Buffer::new();
-    let mut total_digits = Buffer::new();
-    let pieces = [
-        b"voters ".as_slice(),
-        voters_digits.format(voters).as_bytes(),
-        b" of ",
-        total_digits.format(total).as_bytes(),
-        b"\n",
-    ];
-    printer.print_all(&pieces)
-}
+    /// Prints the lines before the voters.
+    fn print_claim<W: Sink>(&self, printer: &mut Printer<'_, W>) -> Result<(), WriteFailed>
+        ensures { Prints W.contents W.has_failed printer.old printer.new (is_ok result)
+            (claim_text self.now.names self.now.violation.now) }
+    {
+        self.print_level(printer)?;
+        self.print_set(printer, b"candidates ", self.violation.shared)?;
+        self.print_within(printer)
+    }
 
-/// Prints a ballot after the number of its voters, on a line.
-fn print_ballot<W: Sink, A: Allocator + Copy>(
-    printer: &mut Printer<'_, W>,
-    names: &Names<'_, A>,
-    ballot: CandSet,
-    count: u64,
-) -> Result<(), WriteFailed>
-    ensures { Prints W.contents W.has_failed printer.old printer.new (is_ok result)
-        (row_text names.now (ballot, count)) }
-{
-    let mut digits = Buffer::new();
-    printer.print(digits.format(count).as_bytes())?;
-    print_set(printer, names, b": ", ballot)
-}
+    /// Prints the line of the voters of the group, and of all voters.
+    fn print_voters<W: Sink>(&self, printer: &mut Printer<'_, W>) -> Result<(), WriteFailed>
+        ensures { let total = voter_count self.now.profile.now.rows in
+            Prints W.contents W.has_failed printer.old printer.new (is_ok result)
+            (voters_text self.now.violation.now.voters total) }
+    {
+        let mut voters_digits = Buffer::new();
+        let mut total_digits = Buffer::new();
+        let pieces = [
+            b"voters ".as_slice(),
+            voters_digits.format(self.violation.voters).as_bytes(),
+            b" of ",
+            total_digits.format(self.profile.voters()).as_bytes(),
+            b"\n",
+        ];
+        printer.print_all(&pieces)
+    }
 
-/// Prints the line of a ballot, if its voters are in the group.
-fn print_if_in_group<W: Sink, A: Allocator + Copy>(
-    printer: &mut Printer<'_, W>,
-    names: &Names<'_, A>,
-    violation: &Violation,
-    ballot: CandSet,
-    count: u64,
-) -> Result<(), WriteFailed>
-    ensures { Prints W.contents W.has_failed printer.old printer.new (is_ok result)
-        (group_text names.now violation.now ((ballot, count) ∷ [])) }
-{
-    if violation.contains(ballot) {
-        print_ballot(printer, names, ballot, count)
-    } else {
+    /// Prints a ballot after the number of its voters, on a line.
+    fn print_ballot<W: Sink>(
+        &self,
+        printer: &mut Printer<'_, W>,
+        ballot: CandSet,
+        count: u64,
+    ) -> Result<(), WriteFailed>
+        ensures { Prints W.contents W.has_failed printer.old printer.new (is_ok result)
+            (row_text self.now.names (ballot, count)) }
+    {
+        let mut digits = Buffer::new();
+        printer.print(digits.format(count).as_bytes())?;
+        self.print_set(printer, b": ", ballot)
+    }
+
+    /// Prints the ballots of the group.
+    fn print_group<W: Sink>(&self, printer: &mut Printer<'_, W>) -> Result<(), WriteFailed>
+        ensures { Prints W.contents W.has_failed printer.old printer.new (is_ok result)
+            (group_text self.now.names self.now.violation.now self.now.profile.now.rows) }
+    {
+        for (ballot, count) in self.profile.ballots() {
+            if !self.violation.contains(ballot) {
+                continue;
+            }
+            self.print_ballot(printer, ballot, count)?;
+        }
         Ok(())
     }
-}
 
-/// Prints the ballots of the group.
-fn print_group<W: Sink, A: Allocator + Copy>(
-    printer: &mut Printer<'_, W>,
-    names: &Names<'_, A>,
-    profile: &Profile<A>,
-    violation: &Violation,
-) -> Result<(), WriteFailed>
-    ensures { Prints W.contents W.has_failed printer.old printer.new (is_ok result)
-        (group_text names.now violation.now profile.now.rows) }
-{
-    for (ballot, count) in profile.ballots() {
-        print_if_in_group(printer, names, violation, ballot, count)?;
+    /// Writes the report, and flushes the writer.
+    pub(crate) fn write<W: Sink>(&self, out: &mut W) -> Result<(), WriteFailed>
+        ensures { Sends W.contents W.has_failed out.old out.new (is_ok result)
+            (violation_text self.now.names self.now.violation.now self.now.profile.now) }
+    {
+        let mut printer = Printer::new(out);
+        self.print_claim(&mut printer)?;
+        self.print_voters(&mut printer)?;
+        self.print_group(&mut printer)?;
+        printer.finish()
     }
-    Ok(())
-}
-
-/// Writes the report of a violation, and flushes the writer.
-pub(crate) fn write_violation<W: Sink, A: Allocator + Copy>(
-    out: &mut W,
-    names: &Names<'_, A>,
-    profile: &Profile<A>,
-    violation: &Violation,
-) -> Result<(), WriteFailed>
-    ensures { Sends W.contents W.has_failed out.old out.new (is_ok result)
-        (violation_text names.now violation.now profile.now) }
-{
-    let mut printer = Printer::new(out);
-    print_claim(&mut printer, names, violation)?;
-    print_voters(&mut printer, violation.voters, profile.voters())?;
-    print_group(&mut printer, names, profile, violation)?;
-    printer.finish()
 }

@@ -1,8 +1,8 @@
 //! The names that stand beside the numbers of candidates and parties.
-ghost use Rattle.std.specs.Prelude.{◌≡◌, ◌==◌, ◌&&◌, [], IfOk, MatchOption, None, Some, is_ok};
+ghost use Rattle.std.specs.Prelude.{◌≡◌, [], MatchOption, None, Some, is_ok};
 ghost use Rattle.vote_cli.specs.Names.{beside, called, candidates_text, names_text, naming};
 ghost use Rattle.vote_cli.specs.Parties.{seated_parties};
-ghost use Rattle.vote_cli.specs.Steps.Names.{IsName, listed_name, names_in, seated_name};
+ghost use Rattle.vote_cli.specs.Steps.Names.{IsName, listed_name, names_in};
 ghost use Rattle.vote_cli.specs.Steps.Printing.{Prints};
 
 use crate::device::Sink;
@@ -119,25 +119,6 @@ fn print_member_names<W: Sink, A: Allocator + Copy>(
     Ok(())
 }
 
-/// Prints the name of a party in a row of names, if it has seats. Answers whether the next name is the first.
-fn print_if_seated<W: Sink, A: Allocator + Copy>(
-    printer: &mut Printer<'_, W>,
-    profile: Option<&Profile<A>>,
-    party: usize,
-    seats: u16,
-    is_first: bool,
-) -> Result<bool, WriteFailed>
-    ensures printed { Prints W.contents W.has_failed printer.old printer.new (is_ok result)
-        (seated_name (seats == 0) is_first (names_in profile.entry) party) }
-    ensures first { IfOk result (λ next. next ≡ (is_first && (seats == 0))) }
-{
-    if seats == 0 {
-        return Ok(is_first);
-    }
-    print_listed_name(printer, profile, party, is_first)?;
-    Ok(false)
-}
-
 /// Prints the names of the parties with a seat.
 fn print_seated_names<W: Sink, A: Allocator + Copy>(
     printer: &mut Printer<'_, W>,
@@ -149,7 +130,11 @@ fn print_seated_names<W: Sink, A: Allocator + Copy>(
 {
     let mut is_first = true;
     for i in 0..seats.len() {
-        is_first = print_if_seated(printer, profile, i + 1, seats[i], is_first)?;
+        if seats[i] == 0 {
+            continue;
+        }
+        print_listed_name(printer, profile, i + 1, is_first)?;
+        is_first = false;
     }
     Ok(())
 }

@@ -19,11 +19,6 @@ abbrev pub listed_names : Bool → List (List ℕ) → List ℕ → List ℕ
 listed_names is_first names [] = []
 listed_names is_first names (n ∷ rest) = listed_name is_first names n ++ listed_names false names rest
 
--- the same of a party, unless it has no seat
-abbrev pub seated_name : Bool → Bool → List (List ℕ) → ℕ → List ℕ
-seated_name true is_first names n = []
-seated_name false is_first names n = listed_name is_first names n
-
 -- the name of a candidate, where there is one
 abbrev pub IsName : List (List ℕ) → ℕ → Option (Bor (List ℕ)) → Type 0
 IsName names n None = called names n ≡ decimal n

@@ -26,18 +26,18 @@ returns-in_default-find_violation-clause-answer g c = (
   writes_whole holds_text c.write_holds.result c.in_ok-write_holds.field-0 c.in_ok-write_holds.was c.write_holds.ensures,
 )
 
-pub returns-in_err-write_violation-clause-answer :
-    goal.returns-in_err-write_violation-clause-answer
-returns-in_err-write_violation-clause-answer g c =
+pub returns-in_err-write-clause-answer :
+    goal.returns-in_err-write-clause-answer
+returns-in_err-write-clause-answer g c =
     let report = c.in-Some-find_violation.violation in
-    writes_part (IsCheckAnswer c.args.property c.args.list.now c.args.with_names c.args.profile.now) (violated (violation_text c.of-names.result report c.args.profile.now)) c.from_residual-in_err-write_violation.result
-    (check_violated c.args.property c.args.with_names c.args.profile.now c.m.result c.args.list.now c.in-Some.committee report c.of-names.result c.of-names.ensures c.m.ensures.value c.in-Some.ensures.some c.in-Some.ensures.fits.0 c.in-Some.ensures.fits.1 c.in-Some-find_violation.ensures.some)
-    c.from_residual-in_err-write_violation.ensures c.write_violation.ensures
+    writes_part (IsCheckAnswer c.args.property c.args.list.now c.args.with_names c.args.profile.now) (violated (violation_text c.of.result report c.args.profile.now)) c.from_residual-in_err-write.result
+    (check_violated c.args.property c.args.with_names c.args.profile.now c.m.result c.args.list.now c.in-Some.committee report c.of.result c.of.ensures c.m.ensures.value c.in-Some.ensures.some c.in-Some.ensures.fits.0 c.in-Some.ensures.fits.1 c.in-Some-find_violation.ensures.some)
+    c.from_residual-in_err-write.ensures c.write.ensures
 
 pub returns-clause-answer : goal.returns-clause-answer
 returns-clause-answer g c =
     let report = c.in-Some-find_violation.violation in (
-      violation_text c.of-names.result report c.args.profile.now,
-      check_violated c.args.property c.args.with_names c.args.profile.now c.m.result c.args.list.now c.in-Some.committee report c.of-names.result c.of-names.ensures c.m.ensures.value c.in-Some.ensures.some c.in-Some.ensures.fits.0 c.in-Some.ensures.fits.1 c.in-Some-find_violation.ensures.some,
-      writes_whole _ c.write_violation.result c.in_ok-write_violation.field-0 c.in_ok-write_violation.was c.write_violation.ensures,
+      violation_text c.of.result report c.args.profile.now,
+      check_violated c.args.property c.args.with_names c.args.profile.now c.m.result c.args.list.now c.in-Some.committee report c.of.result c.of.ensures c.m.ensures.value c.in-Some.ensures.some c.in-Some.ensures.fits.0 c.in-Some.ensures.fits.1 c.in-Some-find_violation.ensures.some,
+      writes_whole _ c.write.result c.in_ok-write.field-0 c.in_ok-write.was c.write.ensures,
     )

@@ -4,16 +4,16 @@ use Rattle.vote_cli.specs.Names.{candidates_text}
 use Rattle.vote_cli.specs.Text.{line}
 use Rattle.vote_cli.proofs.PrintingLemmas.{breaks_off, goes_on}
 use Rattle.vote_cli.proofs.ReportLemmas.{row_parts}
-use Rattle.vote_cli.proofs.check_text.print_ballot.Goals as goal
+use Rattle.vote_cli.proofs.check_text.Report.print_ballot.Goals as goal
 
 pub returns-in_err-print : goal.returns-in_err-print
 returns-in_err-print g c =
-    let list = line (codes ": " ++ candidates_text c.args.names.now c.args.ballot) in
+    let list = line (codes ": " ++ candidates_text c.args.self.now.names c.args.ballot) in
     breaks_off list c.print.result _ c.from_residual.result c.in_err-print.was c.from_residual.ensures.0
-    (row_parts c.args.names.now c.args.ballot c.args.count ∙ ap (λ digits. digits ++ list) (sym (c.as_bytes.ensures.value ∙ c.format.ensures.text))) c.print.ensures
+    (row_parts c.args.self.now.names c.args.ballot c.args.count ∙ ap (λ digits. digits ++ list) (sym (c.as_bytes.ensures.value ∙ c.format.ensures.text))) c.print.ensures
 
 pub returns : goal.returns
 returns g c =
-    let list = line (codes ": " ++ candidates_text c.args.names.now c.args.ballot) in
-    goes_on c.print.result _ c.in_ok-print.was (row_parts c.args.names.now c.args.ballot c.args.count ∙ ap (λ digits. digits ++ list) (sym (c.as_bytes.ensures.value ∙ c.format.ensures.text)))
+    let list = line (codes ": " ++ candidates_text c.args.self.now.names c.args.ballot) in
+    goes_on c.print.result _ c.in_ok-print.was (row_parts c.args.self.now.names c.args.ballot c.args.count ∙ ap (λ digits. digits ++ list) (sym (c.as_bytes.ensures.value ∙ c.format.ensures.text)))
     c.print.ensures c.print_set.ensures
