@@ -71,37 +71,6 @@ fn answer_election<A: Allocator + Copy + Drop, W: Sink>(
     Ok(Outcome::Answered)
 }
 
-/// Writes whether the committee of a list has a property, or the report that shows that it has not.
-fn answer_check<A: Allocator + Copy, W: Sink>(
-    out: &mut W,
-    profile: &Profile<A>,
-    property: Property,
-    list: &[u64],
-    with_names: bool,
-) -> Result<Outcome, Refusal>
-    requires some { list.now ≢ [] }
-    ensures answer { WritesRight (IsCheckAnswer property list.now with_names profile.now)
-        (W.contents out.old) (W.contents out.new) result }
-    ensures writes { TellsOfWrites (W.has_failed out.old) (W.has_failed out.new) result }
-    ensures unread { result ≢ Err Refusal.ReadFailed }
-    ensures memory { result ≢ Err Refusal.Memory }
-{
-    let Some(committee) = committee_of(list, profile.m()) else {
-        return Err(Refusal::Request(RequestFault::CommitteeMisfit));
-    };
-    let Some(violation) = find_violation(profile, committee, property) else {
-        write_holds(out)?;
-        return Ok(Outcome::Answered);
-    };
-    let report = Report {
-        violation: &violation,
-        profile,
-        names: Names::of(profile, with_names),
-    };
-    report.write(out)?;
-    Ok(Outcome::Violated)
-}
-
 /// The fair allocations later than a start that has a number of seats for each party.
 fn shares_from(
     votes: &[u64],
@@ -156,56 +125,89 @@ pub(crate) fn answer_share<A: Allocator + Copy, W: Sink>(
     Ok(Outcome::Answered)
 }
 
-/// The same, where each voter counts for the one party that the ballot approves.
-fn answer_share_of_ballots<A: Allocator + Copy, W: Sink>(
-    out: &mut W,
-    profile: &Profile<A>,
-    sharing: &Sharing<'_>,
-    with_names: bool,
-) -> Result<Outcome, Refusal>
-    ensures answer { WritesRight (λ answer. answer
-        ≡ ballots_answer sharing.now.method sharing.now.seats (paging_of sharing.now.page.now) with_names profile.now)
-        (W.contents out.old) (W.contents out.new) result }
-    ensures writes { TellsOfWrites (W.has_failed out.old) (W.has_failed out.new) result }
-    ensures unread { result ≢ Err Refusal.ReadFailed }
-    ensures memory { result ≢ Err Refusal.Memory }
-{
-    let Some(votes) = votes_of(profile) else {
-        return Err(Refusal::Request(RequestFault::ManyApproved));
-    };
-    let names = Names::of(profile, with_names);
-    answer_share(out, votes.as_slice(), sharing, &names)
+/// Ballots that were read, and whether the names of their candidates are printed.
+#[derive(Drop)]
+pub(crate) struct Ballots<'a, A: Allocator + Copy> {
+    pub(crate) profile: &'a Profile<A>,
+    pub(crate) with_names: bool,
 }
 
-/// Writes the answer to what is asked about these ballots.
-pub(crate) fn answer_about_ballots<A: Allocator + Copy + Drop, W: Sink>(
-    alloc: A,
-    out: &mut W,
-    profile: &Profile<A>,
-    question: &Question,
-    with_names: bool,
-) -> Result<Outcome, Refusal>
-    requires asked { IsInRange (question_of question.now) }
-    ensures answer { WritesRight (IsAnswerAbout with_names (question_of question.now) profile.now)
-        (W.contents out.old) (W.contents out.new) result }
-    ensures writes { TellsOfWrites (W.has_failed out.old) (W.has_failed out.new) result }
-    ensures unread { result ≢ Err Refusal.ReadFailed }
-{
-    match question {
-        Question::Elect(rule, size, page) => {
-            let listing = Listing::new(profile, *size, page, with_names)?;
-            answer_election(alloc, out, *rule, &listing)
-        }
-        Question::Check(property, committee) => {
-            answer_check(out, profile, *property, committee.as_slice(), with_names)
-        }
-        Question::Share(method, seats, page) => {
-            let sharing = Sharing {
-                method: *method,
-                seats: *seats,
-                page,
-            };
-            answer_share_of_ballots(out, profile, &sharing, with_names)
+impl<A: Allocator + Copy + Drop> Ballots<'_, A> {
+    /// Writes whether the committee of a list has a property, or the report that shows that it has not.
+    fn answer_check<W: Sink>(
+        &self,
+        out: &mut W,
+        property: Property,
+        list: &[u64],
+    ) -> Result<Outcome, Refusal>
+        requires some { list.now ≢ [] }
+        ensures answer { WritesRight (IsCheckAnswer property list.now self.now.with_names self.now.profile.now)
+            (W.contents out.old) (W.contents out.new) result }
+        ensures writes { TellsOfWrites (W.has_failed out.old) (W.has_failed out.new) result }
+        ensures unread { result ≢ Err Refusal.ReadFailed }
+        ensures memory { result ≢ Err Refusal.Memory }
+    {
+        let Some(committee) = committee_of(list, self.profile.m()) else {
+            return Err(Refusal::Request(RequestFault::CommitteeMisfit));
+        };
+        let Some(violation) = find_violation(self.profile, committee, property) else {
+            write_holds(out)?;
+            return Ok(Outcome::Answered);
+        };
+        let report = Report {
+            violation: &violation,
+            profile: self.profile,
+            names: Names::of(self.profile, self.with_names),
+        };
+        report.write(out)?;
+        Ok(Outcome::Violated)
+    }
+
+    /// Writes the fair allocations that are asked for. Each voter counts for the one party that the ballot approves.
+    fn answer_share<W: Sink>(&self, out: &mut W, sharing: &Sharing<'_>) -> Result<Outcome, Refusal>
+        ensures answer { let asked = sharing.now in
+            WritesRight (λ answer. answer ≡ ballots_answer asked.method asked.seats (paging_of asked.page.now)
+            self.now.with_names self.now.profile.now) (W.contents out.old) (W.contents out.new) result }
+        ensures writes { TellsOfWrites (W.has_failed out.old) (W.has_failed out.new) result }
+        ensures unread { result ≢ Err Refusal.ReadFailed }
+        ensures memory { result ≢ Err Refusal.Memory }
+    {
+        let Some(votes) = votes_of(self.profile) else {
+            return Err(Refusal::Request(RequestFault::ManyApproved));
+        };
+        let names = Names::of(self.profile, self.with_names);
+        answer_share(out, votes.as_slice(), sharing, &names)
+    }
+
+    /// Writes the answer to what is asked about these ballots.
+    pub(crate) fn answer<W: Sink>(
+        &self,
+        alloc: A,
+        out: &mut W,
+        question: &Question,
+    ) -> Result<Outcome, Refusal>
+        requires asked { IsInRange (question_of question.now) }
+        ensures answer { WritesRight (IsAnswerAbout self.now.with_names (question_of question.now) self.now.profile.now)
+            (W.contents out.old) (W.contents out.new) result }
+        ensures writes { TellsOfWrites (W.has_failed out.old) (W.has_failed out.new) result }
+        ensures unread { result ≢ Err Refusal.ReadFailed }
+    {
+        match question {
+            Question::Elect(rule, size, page) => {
+                let listing = Listing::new(self.profile, *size, page, self.with_names)?;
+                answer_election(alloc, out, *rule, &listing)
+            }
+            Question::Check(property, committee) => {
+                self.answer_check(out, *property, committee.as_slice())
+            }
+            Question::Share(method, seats, page) => {
+                let sharing = Sharing {
+                    method: *method,
+                    seats: *seats,
+                    page,
+                };
+                self.answer_share(out, &sharing)
+            }
         }
     }
 }

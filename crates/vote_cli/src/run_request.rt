@@ -9,7 +9,7 @@ ghost use Rattle.vote_cli.specs.Runs.{IsRight, LeavesRun, Reports, has_votes};
 ghost use Rattle.vote_cli.specs.Steps.Refusals.{WritesRight, ReadsBallots, ReadsOn};
 ghost use Rattle.vote_cli.specs.Steps.Refusals.{TellsOfReads, TellsOfWrites, error_of, status_of};
 
-use crate::answers::{Outcome, answer_about_ballots, answer_share};
+use crate::answers::{Ballots, Outcome, answer_share};
 use crate::device::{Sink, Source};
 use crate::input::read_to_end;
 use crate::names::Names;
@@ -73,7 +73,11 @@ fn answer<A: Allocator + Copy + Drop, R: Source, W: Sink>(
         }
         Task::OfBallots(question) => {
             let profile = read_ballots(storage, &request.pick(), reader)?;
-            answer_about_ballots(storage.alloc, out, &profile, question, request.names())
+            let ballots = Ballots {
+                profile: &profile,
+                with_names: request.names(),
+            };
+            ballots.answer(storage.alloc, out, question)
         }
     }
 }

@@ -16,5 +16,5 @@ pub returns-in_ok-profile-in-OfBallots-clause-answer :
     goal.returns-in_ok-profile-in-OfBallots-clause-answer
 returns-in_ok-profile-in-OfBallots-clause-answer g c =
     writes_over c.args.request.now (question_of c.in-OfBallots.question) (ap demand_of (sym c.in-OfBallots.is) ∙ c.task.ensures.value) c.pick.result c.pick.ensures.value
-    c.names-in-OfBallots.result c.names-in-OfBallots.ensures (reader_state g.R.Source.remaining g.R.Device.has_failed g.R.Source.given c.args.reader.now) _ _ c.read_ballots.result c.answer_about_ballots.result c.read_ballots.ensures.input
-    c.in_ok-profile-in-OfBallots.profile c.in_ok-profile-in-OfBallots.was c.answer_about_ballots.ensures.answer
+    c.names-in-OfBallots.result c.names-in-OfBallots.ensures (reader_state g.R.Source.remaining g.R.Device.has_failed g.R.Source.given c.args.reader.now) _ _ c.read_ballots.result c.answer.result c.read_ballots.ensures.input
+    c.in_ok-profile-in-OfBallots.profile c.in_ok-profile-in-OfBallots.was c.answer.ensures.answer
