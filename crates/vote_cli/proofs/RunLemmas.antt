@@ -28,6 +28,8 @@ use Rattle.vote_cli.specs.declared.refusal.Refusal.TheVariants.{Input, Request, 
 use Rattle.vote_cli.specs.declared.status.Status.{Status}
 use Rattle.vote_cli.specs.declared.status.Status.TheVariants as status
 use Rattle.request_words.specs.Request.{Asked, Paging, Question, of_ballots}
+use Rattle.request_words.specs.declared.request.Rule.{Rule}
+use Rattle.vote_cli.specs.ElectText.{elect_text}
 use Rattle.vote_cli.specs.FaultText.{fault_text}
 use Rattle.vote_cli.specs.Device.{ReaderState, WriterState}
 use Rattle.vote_cli.specs.Names.{Naming, naming}
@@ -60,6 +62,13 @@ pub writes_whole : {old new : Option (List ℕ)} {had_failed has_failed : Bool} 
     → Passes (alone old had_failed) (alone new has_failed) (is_ok printed) text → Appends old new text
 writes_whole {old} {new} {had_failed} {has_failed} text printed done was prints =
     Passes-all (subst (λ p. Passes (alone old had_failed) (alone new has_failed) (is_ok p) text) was prints)
+
+-- the text of an election by a rule was not printed whole
+pub election_part : (asked rule : Rule) (size : ℕ) (page : Paging) (names : Naming) (e : Election) {printed : List ℕ} {old new : Option (List ℕ)} {had_failed has_failed whole : Bool} (result : Result Outcome Refusal)
+    → asked ≡ rule → printed ≡ elect_text rule size page names e → IsErr result × IsErrAnd result (λ refusal. refusal ≡ WriteFailed) → Passes (alone old had_failed) (alone new has_failed) whole printed
+    → WritesRight (λ answer. answer ≡ answered (elect_text asked size page names e)) old new result
+election_part asked rule size page names e {printed} result is same failed prints =
+    writes_part (λ answer. answer ≡ answered (elect_text asked size page names e)) (answered printed) result (ap answered (same ∙ ap (λ r. elect_text r size page names e) (sym is))) failed prints
 
 -- the answers about a committee that is the list's, among m candidates
 pub check_holds : (property : Property) (with_names : Bool) (e : Election) (m : ℕ) (list committee : List ℕ) → m ≡ e.m → committee ≡ list → IsIncreasing 1 m list → length list ≤ most_members

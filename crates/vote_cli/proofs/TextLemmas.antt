@@ -70,19 +70,19 @@ pub winners_parts : (names : Naming) (value : List ℕ → ℕ) (rule : ScoredRu
 winners_parts names value rule candidates m size best after limit left same is those = rw (is, those, same) refl
 
 -- the text of an election by each kind of rule
-module _ (names : Naming) (page : Paging) (rule : ScoredRule) (size : ℕ) (e : Election) where
+module _ (names : Naming) (page : Paging) (size : ℕ) (e : Election) where
   -- what is printed by a value
-  abbrev text_by : (List ℕ → ℕ) → List ℕ
-  text_by value = listing_text (committee_line names) (scored_header rule e.m size (best_value value e.m size)) page (winners value e.m size)
+  abbrev text_by : ScoredRule → (List ℕ → ℕ) → List ℕ
+  text_by rule value = listing_text (committee_line names) (scored_header rule e.m size (best_value value e.m size)) page (winners value e.m size)
 
-  pub thiele_text : (thiele : ThieleRule) (tally : Tally) → rule ≡ Thiele thiele → tally ≡ thiele_of e thiele size
-      → text_by (thiele_value (increments tally.rule tally.k) tally.election.rows) ≡ elect_text (Scored rule) size page names e
-  thiele_text thiele tally is same = rw (is, same) refl
+  pub thiele_text : (rule : ThieleRule) (tally : Tally) → tally ≡ thiele_of e rule size
+      → text_by (Thiele rule) (thiele_value (increments tally.rule tally.k) tally.election.rows) ≡ elect_text (Scored (Thiele rule)) size page names e
+  thiele_text rule tally same = rw same refl
 
-  pub satisfaction_text : (tally : Election) → rule ≡ Satisfaction → tally ≡ e
-      → text_by (satisfaction_value tally.m tally.rows) ≡ elect_text (Scored rule) size page names e
-  satisfaction_text tally is same = rw (is, same) refl
+  pub satisfaction_text : (tally : Election) → tally ≡ e
+      → text_by Satisfaction (satisfaction_value tally.m tally.rows) ≡ elect_text (Scored Satisfaction) size page names e
+  satisfaction_text tally same = rw same refl
 
-  pub minimax_text : (tally : Election) → rule ≡ Minimax → tally ≡ e
-      → text_by (closeness tally.m tally.rows) ≡ elect_text (Scored rule) size page names e
-  minimax_text tally is same = rw (is, same) refl
+  pub minimax_text : (tally : Election) → tally ≡ e
+      → text_by Minimax (closeness tally.m tally.rows) ≡ elect_text (Scored Minimax) size page names e
+  minimax_text tally same = rw same refl

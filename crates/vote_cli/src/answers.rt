@@ -3,8 +3,7 @@ ghost use Rattle.std.specs.Prelude.{◌≡◌, ◌≢◌, [], Err, IfErr, IfOk, 
 ghost use Rattle.std.specs.Option.{option_copied};
 ghost use Rattle.request_words.specs.Request.{IsInRange, paging_of, question_of};
 ghost use Rattle.seat_share.specs.Faults.{has_other_length};
-ghost use Rattle.vote_cli.specs.Answer.{IsAnswerAbout, IsCheckAnswer, answered, ballots_answer, share_answer};
-ghost use Rattle.vote_cli.specs.ElectText.{elect_text};
+ghost use Rattle.vote_cli.specs.Answer.{IsAnswerAbout, IsCheckAnswer, ballots_answer, share_answer};
 ghost use Rattle.vote_cli.specs.Starts.{has_seats_for, may_start};
 ghost use Rattle.vote_cli.specs.Steps.Refusals.{WritesRight, TellsOfWrites, outcome_status};
 ghost use Rattle.vote_cli.specs.Steps.RequestFaults.{request_fault_word};
@@ -14,6 +13,7 @@ use crate::check_text::{Report, write_holds};
 use crate::committee::committee_of;
 use crate::device::Sink;
 use crate::elect_text::Listing;
+use crate::election::answer_election;
 use crate::names::Names;
 use crate::parties::votes_of;
 use crate::refusal::{Refusal, RequestFault};
@@ -22,10 +22,9 @@ use crate::starts::seats_start;
 use crate::status::Status;
 use ballot_base::Profile;
 use group_check::{Property, find_violation};
-use request_words::{Question, Rule};
+use request_words::Question;
 use seat_share::Shares;
 use std::alloc::Allocator;
-use tie_families::{Families, FamilyWinners};
 
 /// What an answer that was written says.
 #[derive(Clone, Copy, Debug, PartialEq, Eq)]
@@ -45,30 +44,6 @@ impl Outcome {
             Outcome::Violated => Status::Violated,
         }
     }
-}
-
-/// Writes the winners of an election that are listed.
-fn answer_election<A: Allocator + Copy + Drop, W: Sink>(
-    alloc: A,
-    out: &mut W,
-    rule: Rule,
-    listing: &Listing<'_, A>,
-) -> Result<Outcome, Refusal>
-    ensures answer { WritesRight (λ answer. answer ≡ answered (elect_text rule listing.now.size
-        (record { after = listing.now.after; limit = listing.now.limit }) listing.now.names listing.now.profile.now))
-        (W.contents out.old) (W.contents out.new) result }
-    ensures writes { TellsOfWrites (W.has_failed out.old) (W.has_failed out.new) result }
-    ensures unread { result ≢ Err Refusal.ReadFailed }
-{
-    match rule {
-        Rule::Scored(rule) => listing.write_scored(out, rule)?,
-        Rule::Sequential(rule) => {
-            let families = Families::new(alloc, listing.profile, rule, listing.size)?;
-            let winners = FamilyWinners::new(&families, listing.after);
-            listing.write_sequential(out, winners, rule)?;
-        }
-    }
-    Ok(Outcome::Answered)
 }
 
 /// The fair allocations later than a start that has a number of seats for each party.

@@ -17,13 +17,12 @@ use crate::names::Names;
 use crate::printing::{Printer, WriteFailed};
 use crate::refusal::RequestFault;
 use crate::starts::committee_start;
-use ballot_base::{CandSet, Increments, Profile, ThieleRule, common_multiple};
+use ballot_base::{CandSet, Increments, Profile, common_multiple};
 use itoa::Buffer;
 use request_words::{Page, Rule, ScoredRule};
 use std::alloc::Allocator;
 use tie_families::FamilyWinners;
-use tie_search::{ExactTally, MinimaxSearch, ThieleSearch};
-use tie_walk::{SavTally, SeqRule, Tally, ThieleTally, Winners};
+use tie_walk::{SeqRule, Tally, Winners};
 
 /// Prints a score over its denominator, on a line.
 fn print_score<W: Sink>(
@@ -149,8 +148,8 @@ impl<'a, A: Allocator + Copy + Drop> Listing<'a, A> {
         self.print_best(printer, rule, best)
     }
 
-    /// Writes the answer of a tally, and flushes the writer.
-    fn write_by<W: Sink, T: Tally>(
+    /// Writes the answer of a rule with a value, which the tally computes, and flushes the writer.
+    pub(crate) fn write_scored<W: Sink, T: Tally>(
         &self,
         out: &mut W,
         tally: &T,
@@ -166,46 +165,6 @@ impl<'a, A: Allocator + Copy + Drop> Listing<'a, A> {
         let mut printer = Printer::new(out);
         self.print_header(&mut printer, rule, winners.best())?;
         print_listing(&mut printer, &self.names, self.limit, winners)
-    }
-
-    /// Writes the answer of a Thiele rule, and flushes the writer. The bounds of approval voting are exact without a
-    /// search.
-    fn write_thiele<W: Sink>(&self, out: &mut W, thiele: ThieleRule) -> Result<(), WriteFailed>
-        ensures { Sends W.contents W.has_failed out.old out.new (is_ok result)
-            (elect_text (Rule.Scored (ScoredRule.Thiele thiele)) self.now.size
-            (record { after = self.now.after; limit = self.now.limit }) self.now.names self.now.profile.now) }
-    {
-        let rule = ScoredRule::Thiele(thiele);
-        if thiele == ThieleRule::Av {
-            let tally = ThieleTally::new(self.profile, thiele, self.size);
-            return self.write_by(out, &tally, rule);
-        }
-        let search = ThieleSearch::new(self.profile, thiele, self.size);
-        let tally = ExactTally::new(search, self.size);
-        self.write_by(out, &tally, rule)
-    }
-
-    /// Writes the answer of a rule with a value, and flushes the writer.
-    pub(crate) fn write_scored<W: Sink>(
-        &self,
-        out: &mut W,
-        rule: ScoredRule,
-    ) -> Result<(), WriteFailed>
-        ensures { Sends W.contents W.has_failed out.old out.new (is_ok result)
-            (elect_text (Rule.Scored rule) self.now.size (record { after = self.now.after; limit = self.now.limit })
-            self.now.names self.now.profile.now) }
-    {
-        match rule {
-            ScoredRule::Thiele(thiele) => self.write_thiele(out, thiele),
-            ScoredRule::Satisfaction => {
-                let tally = SavTally::new(self.profile);
-                self.write_by(out, &tally, rule)
-            }
-            ScoredRule::Minimax => {
-                let tally = ExactTally::new(MinimaxSearch::new(self.profile), self.size);
-                self.write_by(out, &tally, rule)
-            }
-        }
     }
 
     /// Writes the answer of a sequential rule that has these winners after the start, and flushes the writer.

@@ -1,8 +1,8 @@
 //! The library behind the program `committees`: from a request and an input to an answer, a status and an error line.
 //!
-//! `run_request` has the whole run: `input` reads the ballots, `answers` has a function for each question, and
-//! `refusal` names what stops a run. `listing` prints the answers of an election or of seats, `check_text` the report
-//! of a check, both through the `Printer` of `printing`.
+//! `run_request` has the whole run: `input` reads the ballots, `answers` has a function for each question, `election`
+//! chooses the algorithm of a rule, and `refusal` names what stops a run. `listing` prints the answers of an election
+//! or of seats, `check_text` the report of a check, both through the `Printer` of `printing`.
 #![tactic(auto)]
 
 mod answers;
@@ -10,6 +10,7 @@ mod check_text;
 mod committee;
 pub mod device;
 mod elect_text;
+mod election;
 mod fault_text;
 mod input;
 pub mod laws;

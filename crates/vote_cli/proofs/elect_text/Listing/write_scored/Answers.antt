@@ -1,28 +1,20 @@
-use Rattle.std.proofs.Common.{subst, sym, ap, is_ok, ◌∙◌}
-use Rattle.ballot_base.specs.Ballots.{Election}
-use Rattle.tie_search.specs.Completions.{Exact}
-use Rattle.request_words.specs.declared.request.ScoredRule.{ScoredRule}
-use Rattle.request_words.specs.declared.request.Rule.TheVariants.{Scored}
-use Rattle.vote_cli.specs.ElectText.{elect_text}
-use Rattle.vote_cli.specs.Steps.Printing.{Sends}
-use Rattle.vote_cli.proofs.TextLemmas.{minimax_text, satisfaction_text}
+use Rattle.std.proofs.Common.{rules, ◌∙◌}
+use Rattle.vote_cli.proofs.TextLemmas.{winners_parts}
+use Rattle.vote_cli.proofs.PrintingLemmas.{breaks_off, goes_on, Sends-by, Sends-cut}
 use Rattle.vote_cli.proofs.elect_text.Listing.write_scored.Goals as goal
 
-pub returns-in-Thiele : goal.returns-in-Thiele
-returns-in-Thiele g c =
+pub returns-in_err-print_header : goal.returns-in_err-print_header
+returns-in_err-print_header g c =
     let s = c.args.self.now in
-    subst (λ (rule : ScoredRule). Sends g.W.Sink.contents g.W.Device.has_failed c.args.out.now c.write_thiele.new.out (is_ok c.write_thiele.result)
-    (elect_text (Scored rule) s.size (record { after = s.after; limit = s.limit }) s.names s.profile.now)) (sym c.in-Thiele.is) c.write_thiele.ensures
+    let parts = winners_parts s.names (g.T.Tally.value_of c.args.tally.now) c.args.rule s.profile.now.m c.m.result s.size c.best.result s.after s.limit c.new-winners.result.left
+    c.m.ensures.value (c.best.ensures ∙ c.new-winners.ensures.best) c.new-winners.ensures.left in
+    Sends-cut c.new-printer.ensures.writer c.new-printer.ensures.nothing _ c.from_residual.ensures.0 (search rules)
+    (breaks_off _ c.print_header.result _ c.from_residual.result c.in_err-print_header.was c.from_residual.ensures.0 parts c.print_header.ensures)
 
-pub returns-in-Satisfaction : goal.returns-in-Satisfaction
-returns-in-Satisfaction g c =
+pub returns : goal.returns
+returns g c =
     let s = c.args.self.now in
-    subst (Sends g.W.Sink.contents g.W.Device.has_failed c.args.out.now c.write_by.new.out _)
-    (satisfaction_text s.names (record { after = s.after; limit = s.limit }) c.args.rule s.size s.profile.now c.new-tally.result c.in-Satisfaction.is c.new-tally.ensures.tally) c.write_by.ensures
-
-pub returns-in-Minimax : goal.returns-in-Minimax
-returns-in-Minimax g c =
-    let s = c.args.self.now in
-    subst (Sends g.W.Sink.contents g.W.Device.has_failed c.args.out.now c.write_by-in-Minimax.new.out _)
-    (minimax_text s.names (record { after = s.after; limit = s.limit }) c.args.rule s.size s.profile.now c.new-tally-in-Minimax.result.search c.in-Minimax.is
-    (ap (λ (x : Exact Election). x.search) c.new-tally-in-Minimax.ensures ∙ c.new.ensures)) c.write_by-in-Minimax.ensures
+    let parts = winners_parts s.names (g.T.Tally.value_of c.args.tally.now) c.args.rule s.profile.now.m c.m.result s.size c.best.result s.after s.limit c.new-winners.result.left
+    c.m.ensures.value (c.best.ensures ∙ c.new-winners.ensures.best) c.new-winners.ensures.left in
+    Sends-by c.new-printer.ensures.writer c.new-printer.ensures.nothing c.print_listing.ensures.nothing (search rules)
+    (goes_on c.print_header.result _ c.in_ok-print_header.was parts c.print_header.ensures c.print_listing.ensures.printed)
