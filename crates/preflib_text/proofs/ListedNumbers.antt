@@ -1,5 +1,5 @@
 -- Short numbers with a mark right after them, and marks at the front of a text.
-use Rattle.std.proofs.Common.{◌≡◌, ℕ, ◌+◌, ◌<◌, ◌≤◌, length, List, ◌∷◌, Option, Some, None, refl, sym, ap, ◌∙◌, arith}
+use Rattle.std.proofs.Common.{◌≡◌, ℕ, ◌<◌, ◌≤◌, length, List, ◌∷◌, Option, Some, None, refl, sym, ap, ◌∙◌, arith}
 use Rattle.std.specs.Option.{option_map}
 use Rattle.ballot_base.specs.Limits.{most_voters}
 use Rattle.preflib_text.specs.declared.ballot.Token.TheVariants.{Number, Comma, Open, Close}

@@ -1,4 +1,4 @@
-use Rattle.std.proofs.Common.{◌≡◌, ℕ, ◌+◌, ◌∷◌, ◌∙◌, ap, sym, refl, cond, Bool, Some, rules, arith, length}
+use Rattle.std.proofs.Common.{◌+◌, ◌∷◌, ◌∙◌, ap, sym, refl, cond, Bool, Some, rules, arith, length}
 use Rattle.preflib_text.specs.Steps.Tokens.{tokens_after}
 use Rattle.preflib_text.specs.Steps.Marks.{takes, with_end}
 use Rattle.preflib_text.specs.declared.approvals.Marks.{Marks}
