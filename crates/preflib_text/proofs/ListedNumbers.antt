@@ -14,11 +14,13 @@ number_first : (n : ℕ) (text after : List ℕ) → n ≤ 99 → tokens_of text
 number_first n text after small is ended shorter =
     (Number n, ap (λ (k : ℕ). Number k) (uncapped n (omega arith)), is ∙ ended, shorter)
 
+-- a number of one or two digits with a comma right after it
 pub comma_after : (n : ℕ) (text rest : List ℕ) → n ≤ 99 → tokens_of text ≡ tokens_after (Some n) (44 ∷ rest)
     → length (44 ∷ rest) < length text → IsListedNumber text n rest
 unfolding tokens_after
 comma_after n text rest small is shorter = (number_first n text (44 ∷ rest) small is refl shorter, (Comma, refl, refl, omega arith))
 
+-- the same with a closing brace
 pub brace_after : (n : ℕ) (text rest : List ℕ) → n ≤ 99 → tokens_of text ≡ tokens_after (Some n) (125 ∷ rest)
     → length (125 ∷ rest) < length text → IsLastNumber text n rest
 unfolding tokens_after

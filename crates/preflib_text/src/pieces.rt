@@ -169,7 +169,7 @@ impl<A: Allocator + Copy + Drop> Progress<A> {
         self.hold(rest)
     }
 
-    /// The fault that was answered, else the first one of a piece.
+    /// The fault that was returned before; failing that, the first one of a piece.
     #[tactic(auto, unfolding(crate::specs::Steps::Pieces::Agrees))]
     fn fault_after(
         &mut self,
