@@ -1,5 +1,5 @@
 -- A token more, and the marks.
-use Rattle.std.proofs.Common.{◌≡◌, ℕ, ◌+◌, ◌<◌, ◌≤◌, cond, Bool, true, false, is_some, List, [], ◌∷◌, Option, Some, None, refl, sym, ap, ◌∙◌, arith, inl, inr}
+use Rattle.std.proofs.Common.{◌≡◌, ℕ, ◌+◌, ◌<◌, ◌≤◌, cond, Bool, true, false, is_some, length, List, [], ◌∷◌, Option, Some, None, refl, sym, ap, ◌∙◌, arith, inl, inr}
 use Rattle.std.specs.Option.{option_map, option_and_then}
 use Rattle.std.proofs.lemmas.Bool.{cases_lt, lt-ltb, ne_eqb}
 use Rattle.std.proofs.lemmas.Bool.Decides.{nat_tests}
@@ -15,9 +15,10 @@ use Rattle.preflib_text.specs.declared.ballot.OrderPlace.{OrderPlace}
 use Rattle.preflib_text.specs.declared.ballot.OrderPlace.TheVariants.{Order, Class, Between, Opened, Inner, Listed}
 use Rattle.preflib_text.specs.Lines.{onto_first}
 use Rattle.preflib_text.specs.Reading.{or_else}
-use Rattle.preflib_text.specs.Steps.Tokens.{capped, capped_token, tokens_of, IsFirstToken, IsListedNumber, next_place, is_end, order_at}
+use Rattle.preflib_text.specs.Steps.Tokens.{capped, capped_token, tokens_of, IsFirstToken, IsListedNumber, IsLastNumber, next_place, is_end, order_at}
 use Rattle.preflib_text.specs.Steps.Marks.{wrong_with, takes, is_past, with_new, with_number, with_end, with_classes, with_read, marks_at, IsReadOn}
 use Rattle.preflib_text.proofs.BallotRead.{some, map_some}
+use Rattle.preflib_text.proofs.ListedNumbers.{open_first}
 
 -- ---- numbers that are capped
 
@@ -252,6 +253,38 @@ module _ (m : ℕ) (way : Taking) where
         classes = omega (arith, more.classes, ap (λ (x : Marks). x.classes) is, listed.0.3);
         numbers = omega (arith, more.numbers, ap (λ (x : Marks). x.before + x.numbers) is, listed.0.3);
       }
+
+  -- numbers between braces
+  pub member_read : (place : OrderPlace) (n : ℕ) (text rest : List ℕ) (marks after : Marks) → m ≤ most_candidates → next_place place (Number 0) ≡ Some Listed → IsListedNumber text n rest → after ≡ with_number m way marks n → IsReadOn m way place text marks Inner rest after
+  member_read Opened n text rest marks after h inside listed is = listed_read Opened Inner n text rest marks after h listed refl is
+  member_read Inner n text rest marks after h inside listed is = listed_read Inner Inner n text rest marks after h listed refl is
+  member_read place n text rest marks after h inside listed is = absurd (cc)
+
+  last_read : (place : OrderPlace) (n : ℕ) (text rest : List ℕ) (marks after : Marks) → m ≤ most_candidates → next_place place (Number n) ≡ Some Listed → with_read m way place (Number n) marks ≡ with_number m way marks n → IsLastNumber text n rest → after ≡ with_end (with_number m way marks n) → IsReadOn m way place text marks Between rest after
+  last_read place n text rest marks after h to same last is =
+      let listed = with_number m way marks n in
+      read_then place Listed Between text (125 ∷ rest) rest marks listed after
+      (token_read place Listed (Number n) text (125 ∷ rest) marks listed h last.0 to (sym same))
+      (token_read Listed Between Close (125 ∷ rest) rest listed after h last.1 refl is)
+
+  pub last_member_read : (place : OrderPlace) (n : ℕ) (text rest : List ℕ) (marks after : Marks) → m ≤ most_candidates → next_place place (Number 0) ≡ Some Listed → IsLastNumber text n rest → after ≡ with_end (with_number m way marks n) → IsReadOn m way place text marks Between rest after
+  last_member_read Opened n text rest marks after h inside last is = last_read Opened n text rest marks after h refl refl last is
+  last_member_read Inner n text rest marks after h inside last is = last_read Inner n text rest marks after h refl refl last is
+  last_member_read place n text rest marks after h inside last is = absurd (cc)
+
+  pub braces_read : (place : OrderPlace) (text inside rest : List ℕ) (marks after : Marks) → m ≤ most_candidates → text ≡ 123 ∷ inside → IsReadOn m way Opened inside marks place rest after → IsReadOn m way Class text marks place rest after
+  braces_read place text inside rest marks after h brace read =
+      read_then Class Opened place text inside rest marks marks after
+      (token_read Class Opened Open text inside marks marks h (open_first text inside brace) refl refl) read
+
+  -- the same order at another place
+  pub passed_read : (place next : OrderPlace) (text rest : List ℕ) (marks : Marks) → order_at next (tokens_of rest) ≡ order_at place (tokens_of text) → length rest ≤ length text → IsReadOn m way place text marks next rest marks
+  passed_read place next text rest marks same shorter = record {
+    same = ap (λ (o : Option (List (List ℕ))). marked marks o) same;
+    shorter = shorter;
+    classes = omega (arith, shorter);
+    numbers = omega (arith, shorter);
+  }
 
   -- a number with which nothing is wrong
   pub new_number : (marks next : Marks) (taken : Bool) (n : ℕ) → is_some (wrong_with m marks n) ≡ false → taken ≡ takes way marks.classes marks.before → next ≡ with_new marks taken n → next ≡ with_number m way marks n

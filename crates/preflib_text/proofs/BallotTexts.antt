@@ -1,12 +1,12 @@
 -- The tokens of texts that are joined, and the text of the first token.
-use Rattle.std.proofs.Common.{◌≡◌, ℕ, ◌+◌, ◌-◌, ◌*◌, ◌≤◌, ◌⊎◌, Bool, true, false, cond, leb, eqb, List, [], ◌∷◌, ◌++◌, Option, Some, None, refl, sym, ap, subst, ◌∙◌, arith, inl, inr}
+use Rattle.std.proofs.Common.{◌≡◌, ℕ, ◌+◌, ◌-◌, ◌*◌, ◌≤◌, ◌⊎◌, length, Bool, true, false, cond, leb, eqb, List, [], ◌∷◌, ◌++◌, Option, Some, None, refl, sym, ap, subst, ◌∙◌, arith, inl, inr}
 use Rattle.std.specs.Prelude.{⊤}
 use Rattle.std.specs.List.{list_all}
 use Rattle.std.specs.Char.{is_ascii_digit, digit_value}
 use Rattle.std.specs.Str.{all_ascii_digits}
 use Rattle.std.specs.Str.Parse.{digits_value, digits_value_after}
 use Rattle.std.proofs.lemmas.Bool.{and_parts, and_from, leb-true, lt-ltb, le-ltb, eqb-true, or_cases, cond_both}
-use Rattle.preflib_text.specs.Lines.{is_blank}
+use Rattle.preflib_text.specs.Lines.{is_blank, trim_start}
 use Rattle.preflib_text.specs.Ballot.{IsBlanks, IsDigits, IsNumber}
 use Rattle.preflib_text.specs.Steps.Tokens.{token_of, number_before, with_digit, tokens_after, tokens_of}
 use Rattle.preflib_text.specs.declared.ballot.Token.{Token}
@@ -49,6 +49,25 @@ tokens-blanks_before [] text blanks = refl
 tokens-blanks_before (b ∷ before) text blanks =
     let both = and_parts (is_blank b) (list_all is_blank before) blanks in
     rw (blank_no_digit b both.0, both.0) (tokens-blanks_before before text both.1)
+
+-- a text without the blanks before it
+pub tokens-trim_start : (text : List ℕ) → tokens_of (trim_start text) ≡ tokens_of text
+unfolding trim_start
+tokens-trim_start [] = refl
+tokens-trim_start (b ∷ text) = by (is_blank b) refl (tokens-trim_start text)
+  where
+    by : (t : Bool) → is_blank b ≡ t → tokens_of (trim_start text) ≡ tokens_of text → tokens_of (cond t (trim_start text) (b ∷ text)) ≡ tokens_of (b ∷ text)
+    by true blank same = same ∙ sym (tokens-blanks_before (b ∷ []) text (rw blank refl))
+    by false blank same = refl
+
+pub trim_start-shorter : (text : List ℕ) → length (trim_start text) ≤ length text
+unfolding trim_start
+trim_start-shorter [] = omega arith
+trim_start-shorter (b ∷ text) = by (is_blank b) (trim_start-shorter text)
+  where
+    by : (t : Bool) → length (trim_start text) ≤ length text → length (cond t (trim_start text) (b ∷ text)) ≤ length (b ∷ text)
+    by true shorter = omega (arith, shorter)
+    by false shorter = omega arith
 
 -- blanks alone after a number
 tokens-blanks : (first : Option ℕ) (behind : List ℕ) → IsBlanks behind → tokens_after first behind ≡ number_before first []

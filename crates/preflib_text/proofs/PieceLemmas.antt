@@ -17,9 +17,9 @@ use Rattle.preflib_text.specs.Lines.{lines_of, pieces_of, without_return, withou
 use Rattle.preflib_text.specs.Reading.{Cast, IsReading, Reads, RunsShort, FaultyLine, faulty_line, fault_of_line, or_else, fault_if, first_fault, first_faulty_line, is_growth, line_fault, at_end, at_line, end_fault, outcome_by, election_in}
 use Rattle.preflib_text.specs.Pieces.{unfinished, ended, ended_lines, unfinished_line, is_too_long, known_fault, Tells, LacksMemory, IsLate, feeding, IsTrue}
 use Rattle.preflib_text.specs.Steps.Tokens.{ballot_of}
-use Rattle.preflib_text.specs.Steps.Notes.{IsSound, Refuses, effect_takes, fresh_notes, line_error, line_notes, line_effect, effect_error, end_error}
+use Rattle.preflib_text.specs.Steps.Notes.{Refuses, effect_takes, fresh_notes, line_error, line_notes, line_effect, effect_error, end_error}
 use Rattle.preflib_text.specs.Steps.After.{IsAfter, IsFine}
-use Rattle.preflib_text.specs.Steps.Pieces.{line_room, unmarked, line_with, IsRead, IsRefused, IsFed, Agrees}
+use Rattle.preflib_text.specs.Steps.Pieces.{line_room, unmarked, line_with, IsReady, IsRead, IsRefused, IsFed, Agrees}
 use Rattle.preflib_text.proofs.BallotLines.{ballot_of_reads, one_reading}
 use Rattle.preflib_text.proofs.After.{is_after-none, is_fine-none, is_fine-more, fault_at_end, line_error-is, after-line, end_error-is, election_in-is, none_faulty, is_growth-is, or_else-assoc, or_else-first}
 use Rattle.preflib_text.proofs.ReadLemmas.{reads_fault, reads_election}
@@ -433,14 +433,12 @@ module _ (pick : Pick) (bytes : List ℕ) (notes : Notes) (e : Election) (number
 
   -- ---- what the next line asks for
 
-  pub sound : IsSound notes
-  sound = is.after.told.sound
-
-  pub opened : notes.has_ballot ≡ false → (e.m ≡ most_candidates) × (e.rows ≡ [])
-  opened none = ((is.after.opened none).0, (is.after.opened none).1)
-
-  pub begun : notes.has_ballot ≡ true → notes.alternatives ≡ Some e.m
-  begun some = let (m, number_is, profile, rows) = is.after.begun some in number_is ∙ ap (λ (f : Election). Some f.m) (sym profile)
+  pub ready : IsReady notes e
+  ready = record {
+    sound = is.after.told.sound;
+    opened = λ none. ((is.after.opened none).0, (is.after.opened none).1);
+    begun = λ some. let (m, number_is, profile, rows) = is.after.begun some in number_is ∙ ap (λ (f : Election). Some f.m) (sym profile);
+  }
 
   -- ---- the end of the input
 

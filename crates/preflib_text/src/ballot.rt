@@ -1,24 +1,26 @@
 //! Reading one line of a ballot, token by token: a count, a colon and an order. Each token has to fit its place in the
 //! order (`OrderPlace`).
 //!
-//! Most numbers of a ballot have one or two digits, and a comma right after them. `listed_number` reads both tokens at
-//! once; `proofs/ListedNumbers.antt` shows that the outcome is that of the two tokens.
-ghost use Rattle.std.specs.Prelude.{◌≡◌, ℕ, ◌+◌, ◌*◌, ◌^◌, ◌<◌, ◌≤◌, length, List, [], ◌∷◌, Some, None, MatchOption};
-ghost use Rattle.std.specs.Prelude.{IfOk, IfErr, IfSome};
+//! Most numbers of a ballot have one or two digits, and a comma or a brace right beside them. `OrderPlace::read_on` and
+//! `listed_number` read them together; `IsReadOn` says that the outcome is that of the single tokens.
+ghost use Rattle.std.specs.Prelude.{◌≡◌, ℕ, ◌+◌, ◌-◌, ◌*◌, ◌^◌, ◌<◌, ◌≤◌, true, length, List, [], ◌∷◌};
+ghost use Rattle.std.specs.Prelude.{Some, None, MatchOption, IfOk, IfErr, IfSome, if◌then◌else◌};
+ghost use Rattle.std.specs.Char.{is_ascii_digit};
 ghost use Rattle.std.specs.Option.{option_map, option_and_then};
 ghost use Rattle.ballot_base.specs.Limits.{most_candidates, most_voters};
 ghost use Rattle.ballot_base.specs.Lists.{IsIncreasing};
 ghost use Rattle.preflib_text.specs.Limits.{word_limit};
 ghost use Rattle.preflib_text.specs.Ballot.{IsBallotLine};
 ghost use Rattle.preflib_text.specs.Approvals.{HasNumber};
-ghost use Rattle.preflib_text.specs.Steps.Tokens.{token_of, tokens_after, tokens_of, capped, IsFirstToken, IsListedNumber};
+ghost use Rattle.preflib_text.specs.Steps.Tokens.{token_of, tokens_after, tokens_of, capped, IsFirstToken};
 ghost use Rattle.preflib_text.specs.Steps.Tokens.{next_place, is_end, order_at, ballot_of};
-ghost use Rattle.preflib_text.specs.Steps.Marks.{no_marks, with_classes, with_read, IsReadOn};
+ghost use Rattle.preflib_text.specs.Steps.Marks.{no_marks, takes, is_past, with_classes, with_read, IsReadOn};
 ghost use Rattle.preflib_text.specs.Steps.Answers.{HasMarks, IsGoodBallot, IsBallotFault};
 
 use crate::approvals::{Marks, Taking};
 use crate::fault::FaultName;
 use crate::limits::ABOVE;
+use crate::lines::trim_start;
 use crate::pick::{Kind, Way};
 use ballot_base::CandSet;
 
@@ -127,18 +129,89 @@ impl OrderPlace {
         }
     }
 
-    /// Reads the common numbers that come at this place, and is at the same place in what is left of the text.
-    fn read_on<'a>(self, text: &'a [u8], marks: &mut Marks, m: u8, taking: Taking) -> &'a [u8]
+    /// Reads the common numbers that come at this place. Returns the place after them, and what is left of the text.
+    fn read_on<'a>(
+        self,
+        text: &'a [u8],
+        marks: &mut Marks,
+        m: u8,
+        taking: Taking,
+    ) -> (OrderPlace, &'a [u8])
         requires candidates { m ≤ most_candidates }
         requires classes { marks.old.classes + length text.now + 1 < word_limit }
         requires numbers { marks.old.before + marks.old.numbers + length text.now + 1 < word_limit }
-        ensures { IsReadOn m taking self text.now marks.old self result.now marks.new }
+        ensures { IsReadOn m taking self text.now marks.old result.0 result.1.now marks.new }
     {
-        match self {
-            OrderPlace::Inner => read_members(text, marks, m, taking),
-            OrderPlace::Class => read_classes(text, marks, m, taking),
-            _ => text,
+        let (place, rest) = match self {
+            OrderPlace::Opened | OrderPlace::Inner => self.read_braces(text, marks, m, taking),
+            _ => (self, text),
+        };
+        match place {
+            OrderPlace::Class => read_classes(rest, marks, m, taking),
+            _ => (place, rest),
         }
+    }
+
+    /// Reads on between braces like `read_members`, on marks of its own, which the compiler keeps in registers.
+    #[inline(never)]
+    fn read_braces<'a>(
+        self,
+        text: &'a [u8],
+        marks: &mut Marks,
+        m: u8,
+        taking: Taking,
+    ) -> (OrderPlace, &'a [u8])
+        requires candidates { m ≤ most_candidates }
+        requires classes { marks.old.classes + length text.now + 1 < word_limit }
+        requires numbers { marks.old.before + marks.old.numbers + length text.now + 1 < word_limit }
+        requires inside { next_place self (Token.Number 0) ≡ Some OrderPlace.Listed }
+        ensures { IsReadOn m taking self text.now marks.old result.0 result.1.now marks.new }
+    {
+        let mut read = *marks;
+        let taken = read.takes(taking);
+        let (place, rest) = self.read_members(text, &mut read, m, taken);
+        *marks = read;
+        (place, rest)
+    }
+
+    /// Reads numbers between braces, taken or not, that have a comma or the closing brace right after each, as long as
+    /// nothing is wrong with them. A comma right after the closing brace is read, too. Returns the place after them,
+    /// and what is left of the text.
+    #[inline(always)]
+    fn read_members<'a>(
+        self,
+        text: &'a [u8],
+        marks: &mut Marks,
+        m: u8,
+        taken: bool,
+    ) -> (OrderPlace, &'a [u8])
+        requires candidates { m ≤ most_candidates }
+        requires classes { marks.old.classes + length text.now + 1 < word_limit }
+        requires numbers { marks.old.before + marks.old.numbers + length text.now + 1 < word_limit }
+        requires inside { next_place self (Token.Number 0) ≡ Some OrderPlace.Listed }
+        ensures read { (taking : Taking) → taken ≡ takes taking marks.old.classes marks.old.before
+            → IsReadOn m taking self text.now marks.old result.0 result.1.now marks.new }
+        ensures classes { marks.old.classes ≤ marks.new.classes }
+        ensures before { marks.old.before ≤ marks.new.before }
+    {
+        let mut place = self;
+        let mut rest = text;
+        while let Some((n, after)) = short_number(rest) {
+            let Some((is_last, after)) = past_delimiter(after) else {
+                break;
+            };
+            if marks.wrong_with(m, n).is_some() {
+                break;
+            }
+            marks.add_new(n, taken);
+            if is_last {
+                marks.end_class();
+                return after_class(after);
+            }
+            place = OrderPlace::Inner;
+            rest = after;
+        }
+        (place, rest)
     }
 
     /// Whether an order may end here.
@@ -213,92 +286,132 @@ fn next_token(text: &[u8]) -> Option<(Token, &[u8])>
     None
 }
 
-/// The value of a digit at the front of a text, and the text after it.
+/// The number of two digits.
+fn two_digits(tens: u8, ones: u8) -> u64
+    requires tens { is_ascii_digit tens ≡ true }
+    requires ones { is_ascii_digit ones ≡ true }
+    ensures { result ≡ 10 * (tens - 48) + (ones - 48) }
+{
+    u64::from(10 * (tens - b'0') + (ones - b'0'))
+}
+
+/// The one or two digits at the front of a text, as a number, and the text after them.
 #[tactic(auto, unfolding(crate::specs::Steps::Tokens::tokens_after))]
-fn first_digit(text: &[u8]) -> Option<(u64, &[u8])>
-    ensures first { IfSome result (λ x. tokens_of text.now ≡ tokens_after (Some x.0) x.1.now) }
-    ensures next { IfSome result (λ x. (n : ℕ) → tokens_after (Some n) text.now
-        ≡ tokens_after (Some (10 * n + x.0)) x.1.now) }
-    ensures value { IfSome result (λ x. x.0 ≤ 9) }
+fn short_number(text: &[u8]) -> Option<(u64, &[u8])>
+    ensures tokens { IfSome result (λ x. tokens_of text.now ≡ tokens_after (Some x.0) x.1.now) }
+    ensures small { IfSome result (λ x. x.0 ≤ 99) }
     ensures shorter { IfSome result (λ x. length x.1.now < length text.now) }
 {
     match text {
-        [digit @ b'0'..=b'9', rest @ ..] => Some((u64::from(*digit - b'0'), rest)),
-        _ => None,
-    }
-}
-
-/// The text after a comma at its front.
-fn after_comma(text: &[u8]) -> Option<&[u8]>
-    ensures { IfSome result (λ rest. text.now ≡ 44 ∷ rest.now) }
-{
-    match text {
-        [b',', rest @ ..] => Some(rest),
+        [tens @ b'0'..=b'9', ones @ b'0'..=b'9', rest @ ..] => {
+            Some((two_digits(*tens, *ones), rest))
+        }
+        [ones @ b'0'..=b'9', rest @ ..] => Some((u64::from(*ones - b'0'), rest)),
         _ => None,
     }
 }
 
 /// The number at the front of a text that has one or two digits and a comma right after them, and the text after the
 /// comma. Most numbers of a ballot are such.
+#[tactic(auto, unfolding(crate::specs::Steps::Tokens::tokens_after))]
 fn listed_number(text: &[u8]) -> Option<(u64, &[u8])>
-    ensures { IfSome result (λ x. IsListedNumber text.now x.0 x.1.now) }
+    ensures tokens { IfSome result (λ x. tokens_of text.now ≡ tokens_after (Some x.0) (44 ∷ x.1.now)) }
+    ensures small { IfSome result (λ x. x.0 ≤ 99) }
+    ensures shorter { IfSome result (λ x. length (44 ∷ x.1.now) < length text.now) }
 {
-    let (first, after) = first_digit(text)?;
-    if let Some((second, after)) = first_digit(after) {
-        let rest = after_comma(after)?;
-        return Some((10 * first + second, rest));
+    match text {
+        [tens @ b'0'..=b'9', ones @ b'0'..=b'9', b',', rest @ ..] => {
+            Some((two_digits(*tens, *ones), rest))
+        }
+        [ones @ b'0'..=b'9', b',', rest @ ..] => Some((u64::from(*ones - b'0'), rest)),
+        _ => None,
     }
-    let rest = after_comma(after)?;
-    Some((first, rest))
 }
 
-/// Reads numbers between braces that have a comma right after each, as long as nothing is wrong with them. What is left
-/// of the text comes after a comma between braces, too.
-#[inline(never)]
-fn read_members<'a>(text: &'a [u8], marks: &mut Marks, m: u8, taking: Taking) -> &'a [u8]
-    requires candidates { m ≤ most_candidates }
-    requires classes { marks.old.classes + length text.now + 1 < word_limit }
-    requires numbers { marks.old.before + marks.old.numbers + length text.now + 1 < word_limit }
-    ensures { IsReadOn m taking OrderPlace.Inner text.now marks.old OrderPlace.Inner result.now marks.new }
+/// The text after this byte at its front.
+fn after_byte(text: &[u8], byte: u8) -> Option<&[u8]>
+    ensures { IfSome result (λ rest. text.now ≡ byte ∷ rest.now) }
 {
-    let mut read = *marks;
-    let taken = read.takes(taking);
-    let mut rest = text;
-    while let Some((n, after)) = listed_number(rest) {
-        if read.wrong_with(m, n).is_some() {
-            break;
-        }
-        read.add_new(n, taken);
-        rest = after;
+    match text {
+        [first, rest @ ..] if *first == byte => Some(rest),
+        _ => None,
     }
-    *marks = read;
-    rest
+}
+
+/// Whether the comma or closing brace at the front of a text is a brace, and the text after it.
+fn past_delimiter(text: &[u8]) -> Option<(bool, &[u8])>
+    ensures { IfSome result (λ x. text.now ≡ (if x.0 then 125 else 44) ∷ x.1.now) }
+{
+    match text {
+        [b',', rest @ ..] => Some((false, rest)),
+        [b'}', rest @ ..] => Some((true, rest)),
+        _ => None,
+    }
+}
+
+/// The place after a class, or after the comma right behind it, and the text from there on.
+fn after_class(text: &[u8]) -> (OrderPlace, &[u8])
+    ensures order { order_at result.0 (tokens_of result.1.now) ≡ order_at OrderPlace.Between (tokens_of text.now) }
+    ensures shorter { length result.1.now ≤ length text.now }
+{
+    match after_byte(text, b',') {
+        Some(rest) => (OrderPlace::Class, rest),
+        None => (OrderPlace::Between, text),
+    }
 }
 
 /// Reads classes of one number that have a comma right after each, as long as nothing is wrong with them, once no class
 /// is taken any more. What is left of the text comes after a comma between classes, too.
-#[inline(never)]
-fn read_classes<'a>(text: &'a [u8], marks: &mut Marks, m: u8, taking: Taking) -> &'a [u8]
+#[inline(always)]
+fn read_singles<'a>(text: &'a [u8], marks: &mut Marks, m: u8, _taking: Taking) -> &'a [u8]
     requires candidates { m ≤ most_candidates }
     requires classes { marks.old.classes + length text.now + 1 < word_limit }
     requires numbers { marks.old.before + marks.old.numbers + length text.now + 1 < word_limit }
-    ensures { IsReadOn m taking OrderPlace.Class text.now marks.old OrderPlace.Class result.now marks.new }
+    requires past { is_past _taking marks.old.classes marks.old.before ≡ true }
+    ensures read { IsReadOn m _taking OrderPlace.Class text.now marks.old OrderPlace.Class result.now marks.new }
+    ensures past { is_past _taking marks.new.classes marks.new.before ≡ true }
 {
-    if !marks.is_past(taking) {
-        return text;
-    }
-    let mut read = *marks;
     let mut rest = text;
     while let Some((n, after)) = listed_number(rest) {
-        if read.wrong_with(m, n).is_some() {
+        if marks.wrong_with(m, n).is_some() {
             break;
         }
-        read.add_new(n, false);
-        read.end_class();
+        marks.add_new(n, false);
+        marks.end_class();
         rest = after;
     }
-    *marks = read;
     rest
+}
+
+/// Reads classes without blanks that have a comma right after each, as long as nothing is wrong with them, once no
+/// class is taken any more. Returns the place after them, and what is left of the text.
+#[inline(never)]
+fn read_classes<'a>(
+    text: &'a [u8],
+    marks: &mut Marks,
+    m: u8,
+    taking: Taking,
+) -> (OrderPlace, &'a [u8])
+    requires candidates { m ≤ most_candidates }
+    requires classes { marks.old.classes + length text.now + 1 < word_limit }
+    requires numbers { marks.old.before + marks.old.numbers + length text.now + 1 < word_limit }
+    ensures { IsReadOn m taking OrderPlace.Class text.now marks.old result.0 result.1.now marks.new }
+{
+    if !marks.is_past(taking) {
+        return (OrderPlace::Class, text);
+    }
+    let mut read = *marks;
+    let mut place = OrderPlace::Class;
+    let mut rest = read_singles(text, &mut read, m, taking);
+    while let Some(inside) = after_byte(rest, b'{') {
+        (place, rest) = OrderPlace::Opened.read_members(inside, &mut read, m, false);
+        let OrderPlace::Class = place else {
+            break;
+        };
+        rest = read_singles(rest, &mut read, m, taking);
+    }
+    *marks = read;
+    (place, rest)
 }
 
 /// The marks of the classes of an order.
@@ -308,14 +421,14 @@ fn read_order(text: &[u8], m: u8, taking: Taking) -> Option<Marks>
 {
     let mut marks = Marks::new();
     let mut place = OrderPlace::Order;
-    let mut rest = text;
+    let mut rest = trim_start(text);
     loop {
         if let Some((n, after)) = listed_number(rest) {
             place = place.after_listed(n, &mut marks, m, taking)?;
-            rest = place.read_on(after, &mut marks, m, taking);
+            (place, rest) = place.read_on(after, &mut marks, m, taking);
         } else if let Some((token, after)) = next_token(rest) {
             place = place.after(token, &mut marks, m, taking)?;
-            rest = after;
+            (place, rest) = place.read_on(after, &mut marks, m, taking);
         } else {
             return place.is_end().then_some(marks);
         }

@@ -3,16 +3,15 @@
 ghost use Rattle.std.specs.Prelude.{◌≡◌, ◌⊎◌, ℕ, ◌^◌, ◌<◌, ◌≤◌, ◌+◌, true, false, List, [], ◌∷◌, ◌++◌, length, Some};
 ghost use Rattle.std.specs.Prelude.{None, Result, Ok, Err, MatchResult, IfSome, IfOk, IfErr, OnOk};
 ghost use Rattle.std.specs.Vec.{vec_capacity, vec_len};
-ghost use Rattle.ballot_base.specs.Limits.{most_candidates};
 ghost use Rattle.preflib_text.specs.Limits.{most_line_bytes, word_limit};
 ghost use Rattle.preflib_text.specs.Lines.{lines_of};
 ghost use Rattle.preflib_text.specs.Approvals.{HasNumber};
 ghost use Rattle.preflib_text.specs.Reading.{Reads, at_end, at_line};
 ghost use Rattle.preflib_text.specs.Pieces.{ended_lines, unfinished_line, is_too_long, LacksMemory, IsLate, feeding};
 ghost use Rattle.preflib_text.specs.Pieces.{IsTrue};
-ghost use Rattle.preflib_text.specs.Steps.Notes.{IsSound};
 ghost use Rattle.preflib_text.specs.Steps.After.{IsAfter, IsFine};
-ghost use Rattle.preflib_text.specs.Steps.Pieces.{line_room, unmarked, line_with, IsRead, IsRefused, IsFed, Agrees};
+ghost use Rattle.preflib_text.specs.Steps.Pieces.{line_room, unmarked, line_with, IsReady, IsRead, IsRefused};
+ghost use Rattle.preflib_text.specs.Steps.Pieces.{IsFed, Agrees};
 
 use crate::fault::{FaultName, ReadFault};
 use crate::limits::MOST_LINE_BYTES;
@@ -31,11 +30,20 @@ const LINE_ROOM: usize = MOST_LINE_BYTES + 4;
 
 /// What the lines that have ended have told.
 #[derive(Drop)]
-struct Progress<A: Allocator + Copy> {
+struct EndedLines<A: Allocator + Copy> {
     builder: ProfileBuilder<A>,
     notes: Notes,
     /// How many lines have ended.
     number: u64,
+}
+
+/// What is kept of the bytes that were fed.
+#[derive(Drop)]
+struct Progress<A: Allocator + Copy> {
+    ended: EndedLines<A>,
+    /// The bytes since the last LF.
+    held: Vec<u8, A>,
+    ghost room: { line_room ≤ vec_capacity held },
 }
 
 /// The bytes of a line after so many others, without a mark before the first.
@@ -49,15 +57,11 @@ fn unmarked(number: u64, bytes: &[u8]) -> &[u8]
     }
 }
 
-impl<A: Allocator + Copy + Drop> Progress<A> {
+impl<A: Allocator + Copy + Drop> EndedLines<A> {
     /// Reads the next line, which has these bytes before its LF or before the end.
     fn take(&mut self, pick: &Pick, bytes: &[u8]) -> Result<(), ReadFault>
         requires way { HasNumber pick.now.way }
-        requires notes { IsSound self.old.notes }
-        requires opened { self.old.notes.has_ballot ≡ false
-            → (self.old.builder.m ≡ most_candidates) × (self.old.builder.rows ≡ []) }
-        requires begun { self.old.notes.has_ballot ≡ true
-            → self.old.notes.alternatives ≡ Some self.old.builder.m }
+        requires ready { IsReady self.old.notes self.old.builder }
         requires number { self.old.number + 1 < word_limit }
         ensures ok { OnOk result (IsRead pick.now self.old.notes self.old.builder
             (line_with self.old.number bytes.now) self.new.notes self.new.builder) }
@@ -72,129 +76,124 @@ impl<A: Allocator + Copy + Drop> Progress<A> {
             Err(name) => Err(fault_of_line(self.number, name)),
         }
     }
+
+    /// Reads the last line, if it has no end.
+    fn end_input(&mut self, held: &[u8], pick: &Pick, _fed: &Trace) -> Result<(), ReadFault>
+        requires way { HasNumber pick.now.way }
+        requires fed { IsFed pick.now _fed.now.bytes self.old.notes self.old.builder self.old.number held.now }
+        requires length { length _fed.now.bytes < word_limit }
+        ensures ok { OnOk result (IsFine pick.now (lines_of _fed.now.bytes)
+            × IsAfter pick.now (lines_of _fed.now.bytes) self.new.notes self.new.builder) }
+        ensures err { IfErr result (λ fault. Reads _fed.now.bytes pick.now (Err fault)
+            ⊎ LacksMemory (lines_of _fed.now.bytes) pick.now fault) }
+        ensures late { IfErr result (λ fault. IsLate (ended_lines _fed.now.bytes) fault) }
+    {
+        if unmarked(self.number, held).is_empty() {
+            return Ok(());
+        }
+        self.take(pick, held)
+    }
 }
 
-/// Keeps bytes of a line that has not ended.
-fn hold<A: Allocator + Copy>(
-    held: &mut Vec<u8, A>,
-    number: u64,
-    bytes: &[u8],
-) -> Result<(), ReadFault>
-    requires number { number + 1 < word_limit }
-    requires room { line_room ≤ vec_capacity held.old }
-    requires held { length held.old.items ≤ line_room }
-    ensures ok { OnOk result ((held.new.items ≡ held.old.items ++ bytes.now)
-        × (is_too_long (unmarked number (held.old.items ++ bytes.now)) ≡ false)) }
-    ensures err { IfErr result (λ fault. (is_too_long (unmarked number (held.old.items ++ bytes.now)) ≡ true)
-        × (fault ≡ at_line (number + 1) FaultName.LongLine)) }
-    ensures room { line_room ≤ vec_capacity held.new }
-{
-    if bytes.len() > LINE_ROOM - held.len() {
-        return Err(fault_of_line(number + 1, FaultName::LongLine));
+impl<A: Allocator + Copy + Drop> Progress<A> {
+    /// Keeps bytes of a line that has not ended.
+    fn hold(&mut self, bytes: &[u8]) -> Result<(), ReadFault>
+        requires number { self.old.ended.number + 1 < word_limit }
+        requires held { length self.old.held.items ≤ line_room }
+        ensures ok { OnOk result ((self.new.held.items ≡ self.old.held.items ++ bytes.now)
+            × (is_too_long (unmarked self.old.ended.number (self.old.held.items ++ bytes.now)) ≡ false)) }
+        ensures err { IfErr result (λ fault.
+            (is_too_long (unmarked self.old.ended.number (self.old.held.items ++ bytes.now)) ≡ true)
+            × (fault ≡ at_line (self.old.ended.number + 1) FaultName.LongLine)) }
+        ensures ended { self.new.ended ≡ self.old.ended }
+    {
+        let number = self.ended.number;
+        if bytes.len() > LINE_ROOM - self.held.len() {
+            return Err(fault_of_line(number + 1, FaultName::LongLine));
+        }
+        let Ok(()) = self.held.extend_from_slice(bytes) else {
+            unreachable!();
+        };
+        if without_return(unmarked(number, &self.held)).len() > MOST_LINE_BYTES {
+            return Err(fault_of_line(number + 1, FaultName::LongLine));
+        }
+        Ok(())
     }
-    let Ok(()) = held.extend_from_slice(bytes) else {
-        unreachable!();
-    };
-    if without_return(unmarked(number, held)).len() > MOST_LINE_BYTES {
-        return Err(fault_of_line(number + 1, FaultName::LongLine));
-    }
-    Ok(())
-}
 
-/// Reads the line that ends after these bytes. A line that lies whole in a piece is read where it lies.
-fn end_line<A: Allocator + Copy + Drop>(
-    progress: &mut Progress<A>,
-    held: &mut Vec<u8, A>,
-    pick: &Pick,
-    bytes: &[u8],
-) -> Result<(), ReadFault>
-    requires way { HasNumber pick.now.way }
-    requires notes { IsSound progress.old.notes }
-    requires opened { progress.old.notes.has_ballot ≡ false
-        → (progress.old.builder.m ≡ most_candidates) × (progress.old.builder.rows ≡ []) }
-    requires begun { progress.old.notes.has_ballot ≡ true
-        → progress.old.notes.alternatives ≡ Some progress.old.builder.m }
-    requires number { progress.old.number + 1 < word_limit }
-    requires room { line_room ≤ vec_capacity held.old }
-    requires held { length held.old.items ≤ line_room }
-    ensures ok { OnOk result (IsRead pick.now progress.old.notes progress.old.builder
-        (line_with progress.old.number (held.old.items ++ bytes.now)) progress.new.notes progress.new.builder) }
-    ensures number { OnOk result (progress.new.number ≡ progress.old.number + 1) }
-    ensures held { OnOk result (held.new.items ≡ []) }
-    ensures err { IfErr result (λ fault. IsRefused pick.now progress.old.notes progress.old.builder
-        (line_with progress.old.number (held.old.items ++ bytes.now)) (progress.old.number + 1) fault) }
-    ensures room { line_room ≤ vec_capacity held.new }
-{
-    if held.is_empty() {
-        return progress.take(pick, bytes);
-    }
-    if let Err(fault) = hold(held, progress.number, bytes) {
-        return Err(fault);
-    }
-    let taken = progress.take(pick, held);
-    held.clear();
-    taken
-}
-
-/// Reads the lines that end in a piece, and keeps what comes of the next one.
-fn feed_lines<A: Allocator + Copy + Drop>(
-    progress: &mut Progress<A>,
-    held: &mut Vec<u8, A>,
-    pick: &Pick,
-    _fed: &Trace,
-    bytes: &[u8],
-) -> Result<(), ReadFault>
-    requires way { HasNumber pick.now.way }
-    requires fed { IsFed pick.now _fed.now.bytes progress.old.notes progress.old.builder progress.old.number
-        held.old.items }
-    requires length { length _fed.now.bytes + length bytes.now < word_limit }
-    requires room { line_room ≤ vec_capacity held.old }
-    ensures ok { OnOk result (IsFed pick.now (_fed.now.bytes ++ bytes.now) progress.new.notes progress.new.builder
-        progress.new.number held.new.items) }
-    ensures err { IfErr result (λ fault. IsTrue (feeding pick.now (_fed.now.bytes ++ bytes.now) (Some fault))) }
-    ensures late { IfErr result (λ fault. IsLate (ended_lines _fed.now.bytes) fault) }
-    ensures room { line_room ≤ vec_capacity held.new }
-{
-    let mut rest = bytes;
-    while let Some(at) = rest.find_byte(b'\n') {
-        if let Err(fault) = end_line(progress, held, pick, &rest[..at]) {
+    /// Reads the line that ends after these bytes. A line that lies whole in a piece is read where it lies.
+    fn end_line(&mut self, pick: &Pick, bytes: &[u8]) -> Result<(), ReadFault>
+        requires way { HasNumber pick.now.way }
+        requires ready { IsReady self.old.ended.notes self.old.ended.builder }
+        requires number { self.old.ended.number + 1 < word_limit }
+        requires held { length self.old.held.items ≤ line_room }
+        ensures ok { OnOk result (IsRead pick.now self.old.ended.notes self.old.ended.builder
+            (line_with self.old.ended.number (self.old.held.items ++ bytes.now))
+            self.new.ended.notes self.new.ended.builder) }
+        ensures number { OnOk result (self.new.ended.number ≡ self.old.ended.number + 1) }
+        ensures held { OnOk result (self.new.held.items ≡ []) }
+        ensures err { IfErr result (λ fault. IsRefused pick.now self.old.ended.notes self.old.ended.builder
+            (line_with self.old.ended.number (self.old.held.items ++ bytes.now)) (self.old.ended.number + 1) fault) }
+    {
+        if self.held.is_empty() {
+            return self.ended.take(pick, bytes);
+        }
+        if let Err(fault) = self.hold(bytes) {
             return Err(fault);
         }
-        rest = &rest[at + 1..];
+        let taken = self.ended.take(pick, &self.held);
+        self.held.clear();
+        taken
     }
-    if rest.is_empty() {
-        return Ok(());
-    }
-    hold(held, progress.number, rest)
-}
 
-/// The fault that was answered, else the first one of a piece.
-#[tactic(auto, unfolding(crate::specs::Steps::Pieces::Agrees))]
-fn fault_after<A: Allocator + Copy + Drop>(
-    fault: Option<ReadFault>,
-    progress: &mut Progress<A>,
-    held: &mut Vec<u8, A>,
-    pick: &Pick,
-    fed: &Trace,
-    bytes: &[u8],
-) -> Option<ReadFault>
-    requires way { HasNumber pick.now.way }
-    requires fed { Agrees pick.now fed.now.bytes fault progress.old.notes progress.old.builder progress.old.number
-        held.old.items }
-    requires length { length fed.now.bytes + length bytes.now < word_limit }
-    requires room { line_room ≤ vec_capacity held.old }
-    ensures agrees { Agrees pick.now (fed.now.bytes ++ bytes.now) result progress.new.notes progress.new.builder
-        progress.new.number held.new.items }
-    ensures again { IfSome fault (λ before. result ≡ Some before) }
-    ensures late { fault ≡ None → IfSome result (λ after. IsLate (ended_lines fed.now.bytes) after) }
-    ensures room { line_room ≤ vec_capacity held.new }
-{
-    if fault.is_some() {
-        return fault;
+    /// Reads the lines that end in a piece, and keeps what comes of the next one.
+    fn feed_lines(&mut self, pick: &Pick, _fed: &Trace, bytes: &[u8]) -> Result<(), ReadFault>
+        requires way { HasNumber pick.now.way }
+        requires fed { IsFed pick.now _fed.now.bytes self.old.ended.notes self.old.ended.builder self.old.ended.number
+            self.old.held.items }
+        requires length { length _fed.now.bytes + length bytes.now < word_limit }
+        ensures ok { OnOk result (IsFed pick.now (_fed.now.bytes ++ bytes.now) self.new.ended.notes
+            self.new.ended.builder self.new.ended.number self.new.held.items) }
+        ensures err { IfErr result (λ fault. IsTrue (feeding pick.now (_fed.now.bytes ++ bytes.now) (Some fault))) }
+        ensures late { IfErr result (λ fault. IsLate (ended_lines _fed.now.bytes) fault) }
+    {
+        let mut rest = bytes;
+        while let Some(at) = rest.find_byte(b'\n') {
+            if let Err(fault) = self.end_line(pick, &rest[..at]) {
+                return Err(fault);
+            }
+            rest = &rest[at + 1..];
+        }
+        if rest.is_empty() {
+            return Ok(());
+        }
+        self.hold(rest)
     }
-    match feed_lines(progress, held, pick, fed, bytes) {
-        Ok(()) => None,
-        Err(after) => Some(after),
+
+    /// The fault that was returned before; failing that, the first one of a piece.
+    #[tactic(auto, unfolding(crate::specs::Steps::Pieces::Agrees))]
+    fn fault_after(
+        &mut self,
+        fault: Option<ReadFault>,
+        pick: &Pick,
+        fed: &Trace,
+        bytes: &[u8],
+    ) -> Option<ReadFault>
+        requires way { HasNumber pick.now.way }
+        requires fed { Agrees pick.now fed.now.bytes fault self.old.ended.notes self.old.ended.builder
+            self.old.ended.number self.old.held.items }
+        requires length { length fed.now.bytes + length bytes.now < word_limit }
+        ensures agrees { Agrees pick.now (fed.now.bytes ++ bytes.now) result self.new.ended.notes
+            self.new.ended.builder self.new.ended.number self.new.held.items }
+        ensures again { IfSome fault (λ before. result ≡ Some before) }
+        ensures late { fault ≡ None → IfSome result (λ after. IsLate (ended_lines fed.now.bytes) after) }
+    {
+        if fault.is_some() {
+            return fault;
+        }
+        match self.feed_lines(pick, fed, bytes) {
+            Ok(()) => None,
+            Err(after) => Some(after),
+        }
     }
 }
 
@@ -208,51 +207,30 @@ fn answer_of(fault: Option<ReadFault>) -> Result<(), ReadFault>
     }
 }
 
-/// Reads the last line, where it has no end.
-fn end_input<A: Allocator + Copy + Drop>(
-    progress: &mut Progress<A>,
-    held: &[u8],
-    pick: &Pick,
-    _fed: &Trace,
-) -> Result<(), ReadFault>
-    requires way { HasNumber pick.now.way }
-    requires fed { IsFed pick.now _fed.now.bytes progress.old.notes progress.old.builder progress.old.number held.now }
-    requires length { length _fed.now.bytes < word_limit }
-    ensures ok { OnOk result (IsFine pick.now (lines_of _fed.now.bytes)
-        × IsAfter pick.now (lines_of _fed.now.bytes) progress.new.notes progress.new.builder) }
-    ensures err { IfErr result (λ fault. Reads _fed.now.bytes pick.now (Err fault)
-        ⊎ LacksMemory (lines_of _fed.now.bytes) pick.now fault) }
-    ensures late { IfErr result (λ fault. IsLate (ended_lines _fed.now.bytes) fault) }
-{
-    if unmarked(progress.number, held).is_empty() {
-        return Ok(());
-    }
-    progress.take(pick, held)
-}
-
 /// The profile of all lines, or their first fault.
 fn finish_lines<A: Allocator + Copy + Drop>(
-    mut progress: Progress<A>,
-    held: &[u8],
+    progress: Progress<A>,
     pick: &Pick,
     fed: &Trace,
 ) -> Result<Profile<A>, ReadFault>
     requires way { HasNumber pick.now.way }
-    requires fed { IsFed pick.now fed.now.bytes progress.notes progress.builder progress.number held.now }
+    requires fed { IsFed pick.now fed.now.bytes progress.ended.notes progress.ended.builder progress.ended.number
+        progress.held.items }
     requires length { length fed.now.bytes < word_limit }
     ensures ok { IfOk result (λ profile. Reads fed.now.bytes pick.now (Ok profile)) }
     ensures err { IfErr result (λ fault. Reads fed.now.bytes pick.now (Err fault)
         ⊎ LacksMemory (lines_of fed.now.bytes) pick.now fault) }
     ensures late { IfErr result (λ fault. IsLate (ended_lines fed.now.bytes) fault) }
 {
-    if let Err(fault) = end_input(&mut progress, held, pick, fed) {
+    let Progress { mut ended, held } = progress;
+    if let Err(fault) = ended.end_input(&held, pick, fed) {
         return Err(fault);
     }
-    let Progress {
+    let EndedLines {
         builder,
         notes,
         number: _,
-    } = progress;
+    } = ended;
     finish(builder, &notes)
 }
 
@@ -264,27 +242,24 @@ fn finish_lines<A: Allocator + Copy + Drop>(
 pub struct LineReader<A: Allocator + Copy = Global> {
     pick: Pick,
     progress: Progress<A>,
-    /// The bytes since the last LF.
-    held: Vec<u8, A>,
     fault: Option<ReadFault>,
     fed: Trace,
 }
 
 impl<A: Allocator + Copy> Model for LineReader<A> {
-    ghost use Rattle.std.specs.Prelude.{◌<◌, ◌≤◌, length};
-    ghost use Rattle.std.specs.Vec.{vec_capacity};
+    ghost use Rattle.std.specs.Prelude.{◌<◌, length};
     ghost use Rattle.preflib_text.specs.Limits.{word_limit};
     ghost use Rattle.preflib_text.specs.Approvals.{HasNumber};
     ghost use Rattle.preflib_text.specs.Pieces.{Feeding, feeding};
-    ghost use Rattle.preflib_text.specs.Steps.Pieces.{line_room, Agrees};
+    ghost use Rattle.preflib_text.specs.Steps.Pieces.{Agrees};
 
     ghost Value = { Feeding };
 
     ghost view = { λ r. feeding r.pick r.fed.bytes r.fault };
 
     ghost invariant = { λ r. HasNumber r.pick.way × (length r.fed.bytes < word_limit)
-        × (line_room ≤ vec_capacity r.held)
-        × Agrees r.pick r.fed.bytes r.fault r.progress.notes r.progress.builder r.progress.number r.held.items };
+        × Agrees r.pick r.fed.bytes r.fault r.progress.ended.notes r.progress.ended.builder r.progress.ended.number
+        r.progress.held.items };
 }
 
 impl<A: Allocator + Copy + Drop> LineReader<A> {
@@ -320,14 +295,17 @@ impl<A: Allocator + Copy + Drop> LineReader<A> {
             return Err(memory);
         };
         let notes = Notes::new(&pick);
-        Ok(LineReader {
-            pick,
-            progress: Progress {
+        let progress = Progress {
+            ended: EndedLines {
                 builder,
                 notes,
                 number: 0,
             },
             held,
+        };
+        Ok(LineReader {
+            pick,
+            progress,
             fault: None,
             fed: Trace::new(),
         })
@@ -347,14 +325,9 @@ impl<A: Allocator + Copy + Drop> LineReader<A> {
         ensures every { IfErr result (λ fault. (more : List ℕ) → Reads (self.new.fed ++ more) self.new.pick (Err fault)
             ⊎ LacksMemory (lines_of (self.new.fed ++ more)) self.new.pick fault) }
     {
-        self.fault = fault_after(
-            self.fault,
-            &mut self.progress,
-            &mut self.held,
-            &self.pick,
-            &self.fed,
-            bytes,
-        );
+        self.fault = self
+            .progress
+            .fault_after(self.fault, &self.pick, &self.fed, bytes);
         self.fed.add(bytes);
         answer_of(self.fault)
     }
@@ -369,7 +342,7 @@ impl<A: Allocator + Copy + Drop> LineReader<A> {
         if self.fault.is_some() {
             return 0;
         }
-        unmarked(self.progress.number, &self.held).len()
+        unmarked(self.progress.ended.number, &self.progress.held).len()
     }
 
     /// What all bytes hold: the profile, or the first fault. Memory is taken where the last line has no end, for a name
@@ -384,6 +357,6 @@ impl<A: Allocator + Copy + Drop> LineReader<A> {
         if let Some(fault) = self.fault {
             return Err(fault);
         }
-        finish_lines(self.progress, &self.held, &self.pick, &self.fed)
+        finish_lines(self.progress, &self.pick, &self.fed)
     }
 }

@@ -1,6 +1,7 @@
 -- What is kept of the bytes that were fed.
-use Rattle.std.specs.Prelude.{◌≡◌, ℕ, ◌+◌, ◌==◌, false, List, Option, Some, None, length}
+use Rattle.std.specs.Prelude.{◌≡◌, ℕ, ◌+◌, ◌==◌, true, false, List, [], Option, Some, None, length}
 use Rattle.std.specs.Prelude.{if◌then◌else◌}
+use Rattle.ballot_base.specs.Limits.{most_candidates}
 use Rattle.ballot_base.specs.Ballots.{Election}
 use Rattle.preflib_text.specs.declared.pick.Pick.{Pick}
 use Rattle.preflib_text.specs.declared.fault.FaultName.{FaultName}
@@ -11,7 +12,7 @@ use Rattle.preflib_text.specs.Lines.{without_mark, without_return}
 use Rattle.preflib_text.specs.Reading.{or_else, at_line}
 use Rattle.preflib_text.specs.Pieces.{ended_lines, unfinished, unfinished_line, is_too_long, feeding, IsTrue}
 use Rattle.preflib_text.specs.Steps.Notes.{line_error, line_notes, line_effect, effect_error, effect_takes, with_effect}
-use Rattle.preflib_text.specs.Steps.Notes.{Refuses}
+use Rattle.preflib_text.specs.Steps.Notes.{Refuses, IsSound}
 use Rattle.preflib_text.specs.Steps.After.{IsAfter, IsFine}
 
 -- the room for a line: the longest, a CR at its end and a mark before it
@@ -24,6 +25,12 @@ unmarked number bytes = if number == 0 then without_mark bytes else bytes
 
 abbrev pub line_with : ℕ → List ℕ → List ℕ
 line_with number bytes = without_return (unmarked number bytes)
+
+-- notes and a profile to which a line may come
+pub record IsReady (notes : Notes) (e : Election) : Type 0 where
+  pub sound : IsSound notes
+  pub opened : notes.has_ballot ≡ false → (e.m ≡ most_candidates) × (e.rows ≡ [])
+  pub begun : notes.has_ballot ≡ true → notes.alternatives ≡ Some e.m
 
 -- a line was read
 pub record IsRead (pick : Pick) (notes : Notes) (e : Election) (line : List ℕ) (next_notes : Notes) (next : Election)

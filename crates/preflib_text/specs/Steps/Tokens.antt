@@ -55,6 +55,10 @@ IsFirstToken text read rest = (token : Token) × (read ≡ capped_token token)
 abbrev pub IsListedNumber : List ℕ → ℕ → List ℕ → Type 0
 IsListedNumber text n rest = IsFirstToken text (Number n) (44 ∷ rest) × IsFirstToken (44 ∷ rest) Comma rest
 
+-- the same with a closing brace in place of the comma
+abbrev pub IsLastNumber : List ℕ → ℕ → List ℕ → Type 0
+IsLastNumber text n rest = IsFirstToken text (Number n) (125 ∷ rest) × IsFirstToken (125 ∷ rest) Close rest
+
 -- where a token leads, if it may come
 abbrev pub next_place : OrderPlace → Token → Option OrderPlace
 next_place Order (Number n) = Some Between

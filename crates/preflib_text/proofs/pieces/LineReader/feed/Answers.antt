@@ -23,6 +23,6 @@ returns-clause-nothing g c none =
     let next = c.fault_after-self-inside.result in
     let same : before ++ c.args.bytes.now ≡ before = ap (λ l. before ++ l) none ∙ append-nil before in
     let holds = agrees_true pick (before ++ c.args.bytes.now) next _ _ _ _ c.fault_after-self-inside.ensures.agrees in
-    let fault : next ≡ c.self.inside.fault = nothing_new pick before c.self.inside.fault next _ _ _ _ c.self.invariant.3
+    let fault : next ≡ c.self.inside.fault = nothing_new pick before c.self.inside.fault next _ _ _ _ c.self.invariant.2
     (subst (λ l. IsTrue (feeding pick l next)) same holds) c.fault_after-self-inside.ensures.again c.fault_after-self-inside.ensures.late in
     ap (λ l. feeding pick l next) (c.add.ensures ∙ same) ∙ ap (feeding pick before) fault ∙ c.self.view_is

@@ -8,7 +8,6 @@ invariant_of-result g c =
     let none = ap length c.new.ensures in (
       c.requires,
       omega (arith, none),
-      c.in-Ok-with_capacity.ensures.capacity,
       agrees_none _ _ _ _ _ _ (subst (λ l. IsFed c.args.pick l c.new-notes.result c.in-Ok.builder 0 c.in-Ok-with_capacity.held.items) (sym c.new.ensures)
           (nothing_fed c.args.pick c.new-notes.result c.in-Ok.builder 0 c.in-Ok-with_capacity.held.items c.new-notes.ensures c.in-Ok.ensures refl c.in-Ok-with_capacity.ensures.items)),
     )

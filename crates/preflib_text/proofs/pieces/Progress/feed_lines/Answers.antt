@@ -1,19 +1,13 @@
 use Rattle.std.proofs.Common.{◌≡◌, ℕ, ◌≤◌, ◌==◌, false, List, [], ◌∷◌, sym, ◌∙◌, length, refl, arith}
 use Rattle.std.proofs.lemmas.List.{length-append}
-use Rattle.preflib_text.proofs.PieceLemmas.{loop_count, loop_refused, loop_next, loop_kept, loop_long, sound, opened, begun, room_left, held_short, on_ok, on_err}
-use Rattle.preflib_text.proofs.pieces.feed_lines.Goals as goal
+use Rattle.preflib_text.proofs.PieceLemmas.{loop_count, loop_refused, loop_next, loop_kept, loop_long, ready, room_left, held_short, on_ok, on_err}
+use Rattle.preflib_text.proofs.pieces.Progress.feed_lines.Goals as goal
 
 pub loop-at-init : goal.loop-at-init
-loop-at-init g c = ((c.args._fed.now.bytes, refl, c.requires.fed), c.requires.room, omega arith)
+loop-at-init g c = ((c.args._fed.now.bytes, refl, c.requires.fed), omega arith)
 
-pub end_line-requires-clause-notes : goal.end_line-requires-clause-notes
-end_line-requires-clause-notes g c = sound _ _ _ _ _ _ c.loop-at.invariant.0.2
-
-pub end_line-requires-clause-opened : goal.end_line-requires-clause-opened
-end_line-requires-clause-opened g c = opened _ _ _ _ _ _ c.loop-at.invariant.0.2
-
-pub end_line-requires-clause-begun : goal.end_line-requires-clause-begun
-end_line-requires-clause-begun g c = begun _ _ _ _ _ _ c.loop-at.invariant.0.2
+pub end_line-requires-clause-ready : goal.end_line-requires-clause-ready
+end_line-requires-clause-ready g c = ready _ _ _ _ _ _ c.loop-at.invariant.0.2
 
 pub end_line-requires-clause-number : goal.end_line-requires-clause-number
 end_line-requires-clause-number g c =
@@ -22,7 +16,7 @@ end_line-requires-clause-number g c =
     omega (arith, count, whole, c.requires.length, c.in-Some.ensures.0.high)
 
 pub end_line-requires-clause-held : goal.end_line-requires-clause-held
-end_line-requires-clause-held g c = room_left c.loop-at.progress.number c.loop-at.held.items (held_short _ _ _ _ _ _ c.loop-at.invariant.0.2)
+end_line-requires-clause-held g c = room_left c.loop-at.self.ended.number c.loop-at.self.held.items (held_short _ _ _ _ _ _ c.loop-at.invariant.0.2)
 
 pub returns-in-Err-clause-err : goal.returns-in-Err-clause-err
 returns-in-Err-clause-err g c =
@@ -37,8 +31,7 @@ overflow_add-rest g c =
 pub loop-at-preserved : goal.loop-at-preserved
 loop-at-preserved g c = (
   loop_next _ _ _ _ _ _ _ _ c.loop-at.invariant.0.1 c.loop-at.invariant.0.2 c.in-Some.at c.in-Some.ensures.0.high c.in-Some.ensures.1 c.in-Some.ensures.0.before _ _ _ _ c.in_default-end_line.ensures.ok c.in_default-end_line.ensures.number c.in_default-end_line.ensures.held,
-  c.in_default-end_line.ensures.room,
-  omega (arith, c.loop-at.invariant.2, c.in_default-end_line.ensures.number),
+  omega (arith, c.loop-at.invariant.1, c.in_default-end_line.ensures.number),
 )
 
 some_bytes : (bytes : List ℕ) → (length bytes == 0) ≡ false → 1 ≤ length bytes
@@ -53,10 +46,10 @@ hold-requires-clause-number g c =
     omega (arith, count, whole, c.requires.length, some)
 
 pub hold-requires-clause-held : goal.hold-requires-clause-held
-hold-requires-clause-held g c = room_left c.loop-at.progress.number c.loop-at.held.items (held_short _ _ _ _ _ _ c.loop-at.invariant.0.2)
+hold-requires-clause-held g c = room_left c.loop-at.self.ended.number c.loop-at.self.held.items (held_short _ _ _ _ _ _ c.loop-at.invariant.0.2)
 
 pub returns-clause-ok : goal.returns-clause-ok
-returns-clause-ok g c = on_ok c.hold.result _ _ c.hold.ensures.ok (λ h. loop_kept _ _ _ _ _ _ _ _ c.loop-at.invariant.0.1 c.loop-at.invariant.0.2 c.in_default.ensures _ h.0 h.1)
+returns-clause-ok g c = on_ok c.hold.result _ _ c.hold.ensures.ok (λ h. rw c.hold.ensures.ended (loop_kept _ _ _ _ _ _ _ _ c.loop-at.invariant.0.1 c.loop-at.invariant.0.2 c.in_default.ensures _ h.0 h.1))
 
 pub returns-clause-err : goal.returns-clause-err
 returns-clause-err g c = on_err c.hold.result _ _ c.hold.ensures.err (λ fault h. loop_long _ _ _ _ _ _ _ _ c.loop-at.invariant.0.1 c.loop-at.invariant.0.2 c.in_default.ensures fault h.0 h.1)

@@ -1,7 +1,0 @@
-use Rattle.std.proofs.Common.{◌++◌}
-use Rattle.preflib_text.proofs.PieceLemmas.{long_refusal}
-use Rattle.preflib_text.proofs.pieces.end_line.Goals as goal
-
-pub returns-in-Err-clause-err : goal.returns-in-Err-clause-err
-returns-in-Err-clause-err g c =
-    long_refusal c.args.pick.now c.args.progress.now.notes c.args.progress.now.builder c.args.progress.now.number (c.args.held.now.items ++ c.args.bytes.now) c.in-Err.fault c.in-Err.ensures.err.0 c.in-Err.ensures.err.1
