@@ -1,6 +1,7 @@
 pub mod CloneLemmas
 pub mod ColumnLemmas
 pub mod CoverLemmas
+mod FoundLemmas
 pub mod CompletionLemmas
 mod Examples
 pub mod KeptLemmas

@@ -1,4 +1,5 @@
 pub mod Columns
+pub mod Found
 pub mod Near
 pub mod Paired
 pub mod Priced

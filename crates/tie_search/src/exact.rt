@@ -7,14 +7,15 @@
 //! Both are tested by their members and value, so no proof rests on what the cell holds. A committee with the greatest
 //! value shows that the bounds reach it up to the first member outside the set (module `witness`). So `reach` searches
 //! once for many places, and if most committees tie, not at all.
-ghost use Rattle.std.specs.Prelude.{◌≡◌, ℕ, ◌+◌, ◌-◌, ◌≤◌, [], false, MatchOption, length};
+ghost use Rattle.std.specs.Prelude.{◌≡◌, ℕ, ◌+◌, ◌-◌, ◌<◌, ◌≤◌, [], false, MatchOption, length};
 ghost use Rattle.ballot_base.specs.Lists.{IsIncreasing};
 ghost use Rattle.tie_walk.specs.Ceilings.{IsBound};
 ghost use Rattle.tie_walk.specs.Winners.{best_value};
 ghost use Rattle.tie_search.specs.Completions.{is_reached, exact_bound};
 ghost use Rattle.tie_search.specs.Steps.Searched.{IsBetter};
-ghost use Rattle.tie_search.specs.Steps.Witness.{IsReachedTo, IsWitnessed};
+ghost use Rattle.tie_search.specs.Steps.Witness.{IsReachedTo, IsSetAndLater, IsWitnessed};
 
+use crate::found::Tied;
 use crate::searchable::Searchable;
 use crate::witness::{with_last, witnessed_upto};
 use ballot_base::CandSet;
@@ -30,9 +31,9 @@ use tie_walk::{Tally, those_after};
 pub struct ExactTally<S: Searchable> {
     search: S,
     k: u8,
-    // The greatest value of a committee of k, and a committee that has it.
+    // The greatest value of a committee of k, and committees that have it.
     best: u128,
-    committee: CandSet,
+    tied: Tied,
     // What a search found last. It is tried first, since the walk goes on to it.
     found: Cell<CandSet>,
 }
@@ -45,7 +46,7 @@ impl<S: Searchable> Model for ExactTally<S> {
 
     ghost view = { λ t. record { search = t.search; k = t.k } };
 
-    ghost invariant = { λ t. IsSearched (S.value_of t.search) (S.candidates t.search) t.k t.best t.committee };
+    ghost invariant = { λ t. IsSearched (S.value_of t.search) (S.candidates t.search) t.k t.best t.tied };
 }
 
 impl<S: Searchable> ExactTally<S> {
@@ -55,13 +56,13 @@ impl<S: Searchable> ExactTally<S> {
         requires fits { k ≤ S.candidates search }
         ensures { result ≡ record { search = search; k = k } }
     {
-        let committee = best_committee(&search, k);
-        let best = search.value(committee);
+        let tied = search.tied(k);
+        let committee = tied.committees[0];
         ExactTally {
+            best: search.value(committee),
             search,
             k,
-            best,
-            committee,
+            tied,
             found: Cell::new(committee),
         }
     }
@@ -78,6 +79,7 @@ impl<S: Searchable> ExactTally<S> {
         requires within { c ≤ S.candidates self.now.search }
         requires candidates { IsIncreasing 1 c set }
         requires fits { left ≤ S.candidates self.now.search - c }
+        requires size { length set + left ≡ self.now.k }
         ensures { result ≡ is_reached (S.value_of self.now.search) (S.candidates self.now.search) c set left
             (best_value (S.value_of self.now.search) (S.candidates self.now.search) self.now.k) }
     {
@@ -90,12 +92,22 @@ impl<S: Searchable> ExactTally<S> {
         requires within { c ≤ S.candidates self.now.search }
         requires candidates { IsIncreasing 1 c set }
         requires fits { left ≤ S.candidates self.now.search - c }
+        requires size { length set + left ≡ self.now.k }
         ensures witnessed { IsWitnessed (S.value_of self.now.search) (S.candidates self.now.search) set left
             (best_value (S.value_of self.now.search) (S.candidates self.now.search) self.now.k) c result }
         ensures none { result ≡ c → is_reached (S.value_of self.now.search) (S.candidates self.now.search) c set left
             (best_value (S.value_of self.now.search) (S.candidates self.now.search) self.now.k) ≡ false }
     {
         let m = self.search.m();
+        if self.tied.are_all {
+            for i in 0..self.tied.len {
+                let end = self.witnessed(self.tied.committees[i], c, set, left);
+                if end > c {
+                    return end;
+                }
+            }
+            return c;
+        }
         let known = self.witnessed(self.found.get(), c, set, left);
         if known > c {
             return known;
@@ -120,8 +132,11 @@ impl<S: Searchable> ExactTally<S> {
         requires within { c ≤ S.candidates self.now.search }
         requires candidates { IsIncreasing 1 c set }
         requires fits { left ≤ S.candidates self.now.search - c }
-        ensures { IsWitnessed (S.value_of self.now.search) (S.candidates self.now.search) set left
+        ensures witnessed { IsWitnessed (S.value_of self.now.search) (S.candidates self.now.search) set left
             (best_value (S.value_of self.now.search) (S.candidates self.now.search) self.now.k) c result }
+        ensures missed { result ≡ c → IsSetAndLater (S.candidates self.now.search) c set left committee
+            → S.value_of self.now.search committee
+            < best_value (S.value_of self.now.search) (S.candidates self.now.search) self.now.k }
     {
         let m = self.search.m();
         committee.valid();
@@ -194,12 +209,12 @@ impl<S: Searchable> Tally for ExactTally<S> {
         if k != self.k {
             return None;
         }
-        Some(self.committee)
+        Some(self.tied.committees[0])
     }
 }
 
 /// A committee of size k with the greatest value.
-fn best_committee<S: Searchable>(search: &S, k: u8) -> CandSet
+pub(crate) fn best_committee<S: Searchable>(search: &S, k: u8) -> CandSet
     requires some { 1 ≤ k }
     requires fits { k ≤ S.candidates search.now }
     ensures candidates { IsIncreasing 1 (S.candidates search.now) result }

@@ -12,6 +12,7 @@
 
 mod columns;
 pub mod exact;
+pub mod found;
 pub mod laws;
 mod majorant;
 pub mod minimax;
@@ -28,6 +29,7 @@ mod weights;
 mod witness;
 
 pub use exact::ExactTally;
+pub use found::{MOST_TIED, Tied};
 pub use minimax::MinimaxSearch;
 pub use searchable::Searchable;
 pub use thiele::ThieleSearch;

@@ -3,6 +3,8 @@ ghost use Rattle.std.specs.Prelude.{◌≡◌};
 ghost use Rattle.tie_walk.specs.Ceilings.{closeness_upto};
 ghost use Rattle.tie_walk.specs.Values.{closeness};
 
+use crate::exact::best_committee;
+use crate::found::Tied;
 use crate::near::{NearSearch, Shares, equal_shares};
 use crate::searchable::Searchable;
 use ballot_base::{CandSet, Clones, Profile};
@@ -78,5 +80,10 @@ impl<'a, A: Allocator + Copy> Searchable for MinimaxSearch<'a, A> {
             most: m - least as u8,
         };
         search.find_near(set, free, left)
+    }
+
+    // Under this rule committees tie by thousands, so one of them is enough.
+    fn tied(&self, k: u8) -> Tied {
+        Tied::one(best_committee(self, k))
     }
 }
