@@ -7,17 +7,17 @@
 //! Both are tested by their members and value, so no proof rests on what the cell holds. A committee with the greatest
 //! value shows that the bounds reach it up to the first member outside the set (module `witness`). So `reach` searches
 //! once for many places, and if most committees tie, not at all.
-ghost use Rattle.std.specs.Prelude.{◌≡◌, ℕ, ◌+◌, ◌-◌, ◌<◌, ◌≤◌, [], false, MatchOption, length};
+ghost use Rattle.std.specs.Prelude.{◌≡◌, ℕ, ◌+◌, ◌-◌, ◌≤◌, [], false, MatchOption, length};
 ghost use Rattle.ballot_base.specs.Lists.{IsIncreasing};
 ghost use Rattle.tie_walk.specs.Ceilings.{IsBound};
 ghost use Rattle.tie_walk.specs.Winners.{best_value};
 ghost use Rattle.tie_search.specs.Completions.{is_reached, exact_bound};
 ghost use Rattle.tie_search.specs.Steps.Searched.{IsBetter};
-ghost use Rattle.tie_search.specs.Steps.Witness.{IsReachedTo, IsSetAndLater, IsWitnessed};
+ghost use Rattle.tie_search.specs.Steps.Witness.{IsReachedTo, IsWitnessed};
 
 use crate::found::Tied;
 use crate::searchable::Searchable;
-use crate::witness::{with_last, witnessed_upto};
+use crate::witness::{listed_upto, with_last, witnessed_upto};
 use ballot_base::CandSet;
 use std::cell::Cell;
 use std::marker::Model;
@@ -56,8 +56,11 @@ impl<S: Searchable> ExactTally<S> {
         requires fits { k ≤ S.candidates search }
         ensures { result ≡ record { search = search; k = k } }
     {
-        let tied = search.tied(k);
-        let committee = tied.committees[0];
+        let tied = match search.tied(k) {
+            Some(tied) => tied,
+            None => Tied::one(best_committee(&search, k)),
+        };
+        let committee = tied.first();
         ExactTally {
             best: search.value(committee),
             search,
@@ -100,13 +103,7 @@ impl<S: Searchable> ExactTally<S> {
     {
         let m = self.search.m();
         if self.tied.are_all {
-            for i in 0..self.tied.len {
-                let end = self.witnessed(self.tied.committees[i], c, set, left);
-                if end > c {
-                    return end;
-                }
-            }
-            return c;
+            return listed_upto(&self.tied, m, c, set, left);
         }
         let known = self.witnessed(self.found.get(), c, set, left);
         if known > c {
@@ -132,11 +129,8 @@ impl<S: Searchable> ExactTally<S> {
         requires within { c ≤ S.candidates self.now.search }
         requires candidates { IsIncreasing 1 c set }
         requires fits { left ≤ S.candidates self.now.search - c }
-        ensures witnessed { IsWitnessed (S.value_of self.now.search) (S.candidates self.now.search) set left
+        ensures { IsWitnessed (S.value_of self.now.search) (S.candidates self.now.search) set left
             (best_value (S.value_of self.now.search) (S.candidates self.now.search) self.now.k) c result }
-        ensures missed { result ≡ c → IsSetAndLater (S.candidates self.now.search) c set left committee
-            → S.value_of self.now.search committee
-            < best_value (S.value_of self.now.search) (S.candidates self.now.search) self.now.k }
     {
         let m = self.search.m();
         committee.valid();
@@ -209,12 +203,12 @@ impl<S: Searchable> Tally for ExactTally<S> {
         if k != self.k {
             return None;
         }
-        Some(self.tied.committees[0])
+        Some(self.tied.first())
     }
 }
 
 /// A committee of size k with the greatest value.
-pub(crate) fn best_committee<S: Searchable>(search: &S, k: u8) -> CandSet
+fn best_committee<S: Searchable>(search: &S, k: u8) -> CandSet
     requires some { 1 ≤ k }
     requires fits { k ≤ S.candidates search.now }
     ensures candidates { IsIncreasing 1 (S.candidates search.now) result }

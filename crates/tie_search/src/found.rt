@@ -3,10 +3,10 @@
 //! A search for all tied committees begins with the value of a good one. A committee of a greater value takes the place
 //! of all that were listed, and from then on this value is looked for. If more tie than can be listed, only greater
 //! values still count.
-ghost use Rattle.std.specs.Prelude.{◌≡◌, ℕ, ◌^◌, ◌<◌, ◌≤◌, [], List, false, true, slice_index_or};
+ghost use Rattle.std.specs.Prelude.{◌≡◌, ℕ, ◌^◌, ◌<◌, ◌≤◌, [], List, false, true, slice_index_or, MatchOption};
 ghost use Rattle.ballot_base.specs.CandSet.{has_member};
 ghost use Rattle.tie_search.specs.Steps.Found.{Advances, AreListed, IsListed, IsSettled};
-ghost use Rattle.tie_search.specs.Tied.{most_tied};
+ghost use Rattle.tie_search.specs.Tied.{IsAmong, most_tied};
 
 use ballot_base::CandSet;
 
@@ -34,6 +34,14 @@ impl Tied {
             len: 1,
             are_all: false,
         }
+    }
+
+    /// The first of the committees.
+    pub fn first(&self) -> CandSet
+        requires some { 1 ≤ self.now.len }
+        ensures { IsAmong self.now.committees self.now.len result }
+    {
+        self.committees[0]
     }
 }
 
@@ -111,6 +119,17 @@ impl Found {
         };
         self.committees[0] = committee;
         self.len = 1;
+    }
+
+    /// The committee that was listed first.
+    pub(crate) fn first(&self) -> Option<CandSet>
+        requires few { self.now.len ≤ most_tied }
+        ensures { MatchOption result (self.now.len ≡ 0) (λ committee. IsListed self.now committee) }
+    {
+        if self.len == 0 {
+            return None;
+        }
+        Some(self.committees[0])
     }
 
     /// Whether a committee that counts has all members of the set.

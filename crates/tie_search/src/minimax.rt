@@ -3,7 +3,6 @@ ghost use Rattle.std.specs.Prelude.{◌≡◌};
 ghost use Rattle.tie_walk.specs.Ceilings.{closeness_upto};
 ghost use Rattle.tie_walk.specs.Values.{closeness};
 
-use crate::exact::best_committee;
 use crate::found::Tied;
 use crate::near::{NearSearch, Shares, equal_shares};
 use crate::searchable::Searchable;
@@ -82,8 +81,8 @@ impl<'a, A: Allocator + Copy> Searchable for MinimaxSearch<'a, A> {
         search.find_near(set, free, left)
     }
 
-    // Under this rule committees tie by thousands, so one of them is enough.
-    fn tied(&self, k: u8) -> Tied {
-        Tied::one(best_committee(self, k))
+    // Under this rule committees tie by thousands.
+    fn tied(&self, _k: u8) -> Option<Tied> {
+        None
     }
 }

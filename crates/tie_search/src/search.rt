@@ -124,10 +124,7 @@ impl<A: Allocator + Copy> Search<'_, A> {
     {
         let mut found = Found::nothing(Wanted::One, self.least);
         self.descend(&mut found, self.node(set, free, left));
-        if found.len == 0 {
-            return None;
-        }
-        Some(found.committees[0])
+        found.first()
     }
 
     /// Lists the committees of k that have the greatest value, which is at least `least`.

@@ -1,5 +1,5 @@
 //! Values whose committees can be searched for.
-ghost use Rattle.std.specs.Prelude.{ℕ, ◌≤◌, MatchOption};
+ghost use Rattle.std.specs.Prelude.{ℕ, ◌≤◌, MatchOption, ⊤};
 ghost use Rattle.tie_search.specs.Completions.{IsOpen, IsOutOfReach, IsReaching};
 ghost use Rattle.tie_search.specs.Tied.{AreTied};
 
@@ -17,9 +17,9 @@ pub trait Searchable: Tally {
             (IsOutOfReach (Self.value_of self.now) (Self.candidates self.now) set free left least)
             (IsReaching (Self.value_of self.now) (Self.candidates self.now) set free left least) };
 
-    /// Lists committees of k with the greatest value: all of them, if they are known to be few.
-    fn tied(&self, k: u8) -> Tied
+    /// Lists committees of k with the greatest value, or leaves this to `find` if too many tie under most elections.
+    fn tied(&self, k: u8) -> Option<Tied>
         requires some { 1 ≤ k }
         requires fits { k ≤ Self.candidates self.now }
-        ensures { AreTied (Self.value_of self.now) (Self.candidates self.now) k result };
+        ensures { MatchOption result ⊤ (AreTied (Self.value_of self.now) (Self.candidates self.now) k) };
 }

@@ -2,6 +2,7 @@
 ghost use Rattle.std.specs.Prelude.{◌≡◌, ℕ, ◌≤◌};
 ghost use Rattle.ballot_base.specs.Limits.{most_members};
 ghost use Rattle.tie_walk.specs.Values.{thiele_of};
+ghost use Rattle.tie_walk.specs.Winners.{best_value};
 ghost use Rattle.tie_walk.specs.Ceilings.{ceiling};
 ghost use Rattle.tie_search.specs.Completions.{tally_value};
 ghost use Rattle.tie_search.specs.Steps.Searched.{IsAided};
@@ -61,6 +62,18 @@ impl<'a, A: Allocator + Copy> ThieleSearch<'a, A> {
         }
     }
 
+    /// The value of a good committee of k, 0 if none is known.
+    fn good_value(&self, k: u8) -> u128
+        requires some { 1 ≤ k }
+        requires fits { k ≤ self.now.election.m }
+        ensures { result ≤ best_value (tally_value self.now) self.now.election.m k }
+    {
+        match self.good_committee(k) {
+            Some(committee) => self.value(committee),
+            None => 0,
+        }
+    }
+
     /// A search for committees of at least this value.
     fn search(&self, least: u128) -> Search<'_, A>
         ensures ballots { result.profile.now ≡ result.tally.now.election }
@@ -115,11 +128,7 @@ impl<'a, A: Allocator + Copy> Searchable for ThieleSearch<'a, A> {
         self.search(least).find(set, free, left)
     }
 
-    fn tied(&self, k: u8) -> Tied {
-        let least = match self.good_committee(k) {
-            Some(committee) => self.values.value(committee),
-            None => 0,
-        };
-        self.search(least).tied(k)
+    fn tied(&self, k: u8) -> Option<Tied> {
+        Some(self.search(self.good_value(k)).tied(k))
     }
 }
