@@ -38,7 +38,7 @@ use crate::pairs::PairSearch;
 use crate::prices::{Prices, SCALE};
 use ballot_base::{CandSet, Clones, PLACES, Profile, ThieleRule};
 use std::alloc::Allocator;
-use tie_walk::{Tally, ThieleTally, widened};
+use tie_walk::{Tally, ThieleTally};
 
 /// What a search is helped by: who are clones; columns and prices, if they are worth their making; and what hits give,
 /// for majorants.
@@ -198,7 +198,7 @@ impl<A: Allocator + Copy> Search<'_, A> {
     {
         self.tally.valid();
         match &self.aids.columns {
-            Some(columns) => widened(&columns.gains_of(set, free)),
+            Some(columns) => columns.gains_of(set, free),
             None => self.tally.value_and_gains(set, free).1,
         }
     }

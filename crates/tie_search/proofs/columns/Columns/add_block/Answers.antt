@@ -86,7 +86,7 @@ loop-parts-preserved c =
       made = λ n. one-added gains left rest at c.given_by.result is up inside n _
           (λ j. total (λ h. get_or c.args.self.now.weights h 0 * shared (get_or (get_or c.args.self.now.blocks c.args.b []) j 0) (get_or c.by_hits-words.result h 0)) c.min-levels.result)
           c.given_by.ensures.sum (c.loop-parts.invariant.made n);
-      most = λ n. one-most gains left rest at c.given_by.result is up inside n (get_or c.args.gains.now n 0) (most_members * 2 ^ 50)
+      most = λ n. one-most gains left rest at c.given_by.result is up inside n (get_or c.args.gains.now n 0) (most_members * 2 ^ 90)
           (omega (arith, c.given_by.ensures.most, c.min-levels.ensures, c.requires.weights.few)) (c.loop-parts.invariant.most n);
     }
 

@@ -12,7 +12,7 @@ invariant-loop-parts l = record {
   rises : IsIncreasing 1 most_candidates l.left;
   made : (c : ℕ) → get_or l.gains c 0 + cond (has_member l.left c) (total (λ h. get_or l.self.weights h 0 * shared (get_or l.block c 0) (get_or l.words h 0)) l.levels) 0
       ≡ get_or l.fn.gains c 0 + cond (has_member l.fn.among c) (total (λ h. get_or l.self.weights h 0 * shared (get_or l.block c 0) (get_or l.words h 0)) l.levels) 0;
-  most : (c : ℕ) → get_or l.gains c 0 ≤ get_or l.fn.gains c 0 + cond (has_member l.left c) 0 (most_members * 2 ^ 50);
+  most : (c : ℕ) → get_or l.gains c 0 ≤ get_or l.fn.gains c 0 + cond (has_member l.left c) 0 (most_members * 2 ^ 90);
 }
 
 abbrev pub decreases-loop-parts : goal.decreases-loop-parts
