@@ -52,10 +52,6 @@ portion-most true true n = omega arith
 portion-most true false n = omega arith
 portion-most false q n = omega arith
 
--- no overlap adds nothing
-pub portion-zero : (p q : Bool) (n x : ℕ) → x ≡ 0 → portion p q (n * x) ≡ 0
-portion-zero p q n x none = omega (arith, portion-most p q (n * x), ap (λ y. n * y) none)
-
 -- ---- the rows so far
 
 -- nothing yet

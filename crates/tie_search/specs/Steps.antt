@@ -1,4 +1,5 @@
 pub mod Columns
+pub mod Majorants
 pub mod Near
 pub mod Paired
 pub mod Priced

@@ -12,9 +12,9 @@ ghost use Rattle.tie_walk.specs.Values.{thiele_value};
 ghost use Rattle.tie_search.specs.Completions.{IsOpen, IsOutOfReach};
 ghost use Rattle.tie_search.specs.Pairs.{worth_beside};
 ghost use Rattle.tie_search.specs.Steps.Near.{IsNarrowed};
-ghost use Rattle.tie_search.specs.Steps.Paired.{AreSmall, AreSums, AreTotals, IsRowSum, overlap_at};
+ghost use Rattle.tie_search.specs.Steps.Paired.{AreSmall, AreSums, AreTotals, IsRowSum, IsSmallMajorant, overlap_at};
 
-use crate::majorant::{HitSums, Majorant};
+use crate::majorant::{HitSums, Majorant, Majorants};
 use crate::order::nth_greatest;
 use crate::search::{at_least, excess};
 use ballot_base::{CandSet, PLACES, Profile};
@@ -105,31 +105,47 @@ impl<A: Allocator + Copy> PairSearch<'_, A> {
         ensures small { AreSmall result.kept result.worths result.overlaps }
     {
         self.profile.m();
-        let mut kept = 0;
-        let mut worths = [0; PLACES];
-        let mut overlaps = [0; TABLE_PLACES];
+        let mut majorants = Majorants::new(&self.given.sums, left, free.len());
+        let mut totals = Totals {
+            kept: 0,
+            worths: [0; PLACES],
+            overlaps: [0; TABLE_PLACES],
+        };
         for (ballot, voters) in self.profile.ballots() {
-            let open = ballot.common(free);
-            let most = left.min(open.len());
-            let touch = touch_point(open.len(), most, left, free.len());
+            let approved = ballot.common(free);
             let before = ballot.common(set).len();
-            let majorant = Majorant::at(&self.given.sums, before, most, touch);
-            let count = u128::from(voters);
-            kept += count * u128::from(majorant.kept);
-            add_to_members(&mut worths, open, count * u128::from(majorant.worth));
-            if majorant.overlap > 0 {
-                add_pairs(&mut overlaps, open, voters * majorant.overlap);
-            }
+            let majorant = majorants.of_ballot(before, approved.len());
+            totals.add(majorant, approved, voters);
         }
-        Totals {
-            kept,
-            worths,
-            overlaps,
-        }
+        totals
     }
 }
 
 impl Totals {
+    /// Adds the majorant of a ballot on which these free candidates are, for each of its voters.
+    fn add(&mut self, majorant: Majorant, approved: CandSet, voters: u64)
+        requires voters { voters ≤ 2 ^ 32 }
+        requires majorant { IsSmallMajorant majorant }
+        requires small { AreSmall self.old.kept self.old.worths self.old.overlaps }
+        ensures kept { self.new.kept ≡ self.old.kept + voters * majorant.kept }
+        ensures worths { (n : ℕ) → slice_index self.new.worths n ≡ slice_index self.old.worths n
+            + (if has_member approved n then voters * majorant.worth else 0) }
+        ensures overlaps { (i j : ℕ) → j ≤ most_candidates → overlap_at self.new.overlaps i j
+            ≡ overlap_at self.old.overlaps i j
+            + (if has_member approved i then (if has_member approved j then voters * majorant.overlap else 0) else 0) }
+    {
+        let count = u128::from(voters);
+        self.kept += count * u128::from(majorant.kept);
+        add_to_members(
+            &mut self.worths,
+            approved,
+            count * u128::from(majorant.worth),
+        );
+        if majorant.overlap > 0 {
+            add_pairs(&mut self.overlaps, approved, voters * majorant.overlap);
+        }
+    }
+
     /// The greatest overlap of two candidates.
     fn greatest_overlap(&self) -> u64
         requires small { AreSmall self.now.kept self.now.worths self.now.overlaps }
@@ -210,16 +226,6 @@ impl Totals {
         }
         beside
     }
-}
-
-/// Where a majorant is exact: at the mean number of hits among `left` of the free candidates, of which a ballot has
-/// `open`; at most at `most`.
-fn touch_point(open: u8, most: u8, left: u8, free: u8) -> u8
-    requires some { 1 ≤ free }
-    ensures { result ≤ most }
-{
-    let mean = usize::from(open) * usize::from(left) / usize::from(free);
-    mean.min(usize::from(most)) as u8
 }
 
 /// Adds to the number of each ordered pair of members, also of a member with itself.
