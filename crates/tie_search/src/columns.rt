@@ -61,12 +61,9 @@ fn by_hits(block: &Block, set: CandSet, levels: usize) -> Block
     requires { levels ≤ most_members }
     ensures { (ballot_at : ℕ → List ℕ) → IsBlock ballot_at block.now → AreByHits ballot_at set levels result }
 {
-    set.valid();
     let mut words = no_hits();
-    let mut left = set;
-    while let Some(parts) = left.split_first() {
-        add_hit(&mut words, block[usize::from(parts.0)], levels);
-        left = parts.1;
+    for member in set.members() {
+        add_hit(&mut words, block[usize::from(member)], levels);
     }
     words
 }
@@ -134,12 +131,9 @@ fn with_voter(block: &Block, place: u32, ballot: CandSet) -> Block
     ensures { (c i : ℕ) → i < block_voters → bit_at (slice_index result c) i
         ≡ (if (i == place) && has_member ballot c then 1 else bit_at (slice_index block.now c) i) }
 {
-    ballot.valid();
     let mut with = *block;
-    let mut left = ballot;
-    while let Some(parts) = left.split_first() {
-        with[usize::from(parts.0)] |= 1 << place;
-        left = parts.1;
+    for candidate in ballot.members() {
+        with[usize::from(candidate)] |= 1 << place;
     }
     with
 }
@@ -270,16 +264,12 @@ impl Columns {
             ≡ slice_index gains.old c + total (λ i. given self.now.weights set c (ballot_at i)) block_voters }
         ensures most { (c : ℕ) → slice_index gains.new c ≤ slice_index gains.old c + most_members * 2 ^ 90 }
     {
-        set.valid();
-        among.valid();
         let block = &self.blocks[b];
         let levels = self.levels.min(usize::from(set.len()) + 1);
         let words = by_hits(block, set, levels);
-        let mut left = among;
-        while let Some(parts) = left.split_first() {
-            let c = usize::from(parts.0);
+        for candidate in among.members() {
+            let c = usize::from(candidate);
             gains[c] += given_by(&words, block[c], &self.weights, levels);
-            left = parts.1;
         }
     }
 }

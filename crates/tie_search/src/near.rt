@@ -299,13 +299,11 @@ fn best_of(set: CandSet, worths: &[u128; PLACES]) -> Option<u8>
     ensures { MatchOption result (set ≡ []) (λ best. (has_member set best ≡ true)
         × ((n : ℕ) → has_member set n ≡ true → slice_index worths.now n ≤ slice_index worths.now best)) }
 {
-    set.valid();
-    let (mut best, mut left) = set.split_first()?;
-    while let Some(parts) = left.split_first() {
-        if worths[usize::from(parts.0)] > worths[usize::from(best)] {
-            best = parts.0;
+    let mut best = first_member(set)?;
+    for candidate in set.members() {
+        if worths[usize::from(candidate)] > worths[usize::from(best)] {
+            best = candidate;
         }
-        left = parts.1;
     }
     Some(best)
 }

@@ -104,7 +104,6 @@ impl<A: Allocator + Copy> PairSearch<'_, A> {
             self.now.profile.now.rows set free left result.kept result.worths result.overlaps }
         ensures small { AreSmall result.kept result.worths result.overlaps }
     {
-        self.profile.m();
         let mut majorants = Majorants::new(&self.given.sums, left, free.len());
         let mut totals = Totals {
             kept: 0,
@@ -171,12 +170,9 @@ impl Totals {
             → IsRowSum self.now.worths self.now.overlaps free left raise i (slice_index result i) }
         ensures small { (i : ℕ) → slice_index result i ≤ 2 ^ 80 }
     {
-        free.valid();
         let mut sums = [0; PLACES];
-        let mut rest = free;
-        while let Some(parts) = rest.split_first() {
-            sums[usize::from(parts.0)] = self.row_sum(free, left, raise, parts.0);
-            rest = parts.1;
+        for i in free.members() {
+            sums[usize::from(i)] = self.row_sum(free, left, raise, i);
         }
         sums
     }
@@ -188,11 +184,11 @@ impl Totals {
         requires raise { raise ≤ 2 ^ 67 }
         requires enough { (i j : ℕ) → i ≤ most_candidates → j ≤ most_candidates
             → 2 * (left - 1) * overlap_at self.now.overlaps i j ≤ raise }
+        requires candidates { IsIncreasing 1 most_candidates free }
         requires member { has_member free i ≡ true }
         ensures sum { IsRowSum self.now.worths self.now.overlaps free left raise i result }
         ensures small { result ≤ 2 ^ 80 }
     {
-        free.valid();
         let beside = self.worths_beside(free, left, raise, i);
         let others = free.without(i);
         let threshold = nth_greatest(&beside, others, left - 1);
@@ -214,15 +210,12 @@ impl Totals {
             ≡ worth_beside (slice_index self.now.worths) (overlap_at self.now.overlaps) left raise i j }
         ensures small { (j : ℕ) → slice_index result j ≤ 2 ^ 68 }
     {
-        free.valid();
         let factor = 2 * u128::from(left - 1);
         let row = PLACES * usize::from(i);
         let mut beside = [0; PLACES];
-        let mut rest = free;
-        while let Some(parts) = rest.split_first() {
-            let j = usize::from(parts.0);
+        for other in free.members() {
+            let j = usize::from(other);
             beside[j] = self.worths[j] + raise - factor * u128::from(self.overlaps[row + j]);
-            rest = parts.1;
         }
         beside
     }
@@ -234,11 +227,8 @@ fn add_pairs(table: &mut Table, members: CandSet, amount: u64)
     ensures { (i j : ℕ) → j ≤ most_candidates → overlap_at table.new i j ≡ overlap_at table.old i j
         + (if has_member members i then (if has_member members j then amount else 0) else 0) }
 {
-    members.valid();
-    let mut left = members;
-    while let Some(parts) = left.split_first() {
-        add_to_row(table, parts.0, members, amount);
-        left = parts.1;
+    for row in members.members() {
+        add_to_row(table, row, members, amount);
     }
 }
 
@@ -249,11 +239,8 @@ fn add_to_row(table: &mut Table, row: u8, members: CandSet, amount: u64)
     ensures { (i j : ℕ) → j ≤ most_candidates → overlap_at table.new i j ≡ overlap_at table.old i j
         + (if i == row then (if has_member members j then amount else 0) else 0) }
 {
-    members.valid();
     let start = PLACES * usize::from(row);
-    let mut left = members;
-    while let Some(parts) = left.split_first() {
-        table[start + usize::from(parts.0)] += amount;
-        left = parts.1;
+    for column in members.members() {
+        table[start + usize::from(column)] += amount;
     }
 }

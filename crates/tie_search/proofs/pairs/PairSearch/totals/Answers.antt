@@ -41,7 +41,7 @@ of_ballot-majorant-requires g c =
       c.len-in-loop-ballot.ensures.count,
       ap length c.common-approved.ensures,
       length-common c.in-Some.ballot c.args.free,
-      hits-both e.m c.in-Some.ballot c.args.set c.args.free (row-up e c.m.ensures.valid (length c.loop-ballot.yielded) row at) c.m.ensures.valid.most c.requires.opened,
+      hits-both e.m c.in-Some.ballot c.args.set c.args.free (row-up e c.ballots-ballot-items.ensures.valid (length c.loop-ballot.yielded) row at) c.ballots-ballot-items.ensures.valid.most c.requires.opened,
     )
 
 pub add-requires : goal.add-requires
@@ -49,7 +49,7 @@ add-requires g c =
     let e = c.args.self.now.profile.now in
     let row : Row = (c.in-Some.ballot, c.in-Some.voters) in
     let at = row_of_turn e.rows (c.into_iter-ballot-iterator.ensures.into_iter_gives ∙ c.ballots-ballot-items.ensures.rows) c.loop-ballot.yielded c.loop-ballot.yielded_by row c.in-Some.ensures.steps in
-    let room = voters-room e c.m.ensures.valid (length c.loop-ballot.yielded) row at in
+    let room = voters-room e c.ballots-ballot-items.ensures.valid (length c.loop-ballot.yielded) row at in
     let inv = c.loop-ballot.invariant in
     record {
       voters = omega (arith, room);
@@ -72,7 +72,7 @@ loop-ballot-preserved g c =
     let i = length c.loop-ballot.yielded in
     let next = sym (length_push c.loop-ballot.yielded row) in
     let inv = c.loop-ballot.invariant in
-    let valid = c.m.ensures.valid in
+    let valid = c.ballots-ballot-items.ensures.valid in
     let approved = c.common-approved.result in
     let majorant = c.of_ballot-majorant.result in
     let before : c.len-before.result ≡ hits row.0 set = c.len-before.ensures.count ∙ ap length c.common.ensures ∙ length-common row.0 set in
@@ -120,7 +120,7 @@ returns-clause-small g c =
     let e = c.args.self.now.profile.now in
     let few = sum_by-take-le (λ (r : Row). r.1) e.rows (length c.loop-ballot.yielded) in
     let inv = c.loop-ballot.invariant in
-    let valid = c.m.ensures.valid in
+    let valid = c.ballots-ballot-items.ensures.valid in
     record {
       kept_small = omega (arith, inv.small_kept, few, valid.voters);
       worths_small = λ n. omega (arith, inv.small_worths n, few, valid.voters);

@@ -13,13 +13,13 @@ use Rattle.tie_search.proofs.SearchLemmas.{sum-most}
 use Rattle.tie_search.proofs.pairs.Totals.row_sum.Goals as goal
 
 pub worths_beside-beside-requires-clause-within : goal.worths_beside-beside-requires-clause-within
-worths_beside-beside-requires-clause-within c = member-high 1 most_candidates c.args.free c.args.i c.valid.ensures c.requires.member
+worths_beside-beside-requires-clause-within c = member-high 1 most_candidates c.args.free c.args.i c.requires.candidates c.requires.member
 
 pub bounds-self-from : goal.bounds-self-from
-bounds-self-from c = omega (arith, c.from-2.ensures, member-high 1 most_candidates c.args.free c.args.i c.valid.ensures c.requires.member)
+bounds-self-from c = omega (arith, c.from-2.ensures, member-high 1 most_candidates c.args.free c.args.i c.requires.candidates c.requires.member)
 
 pub bounds-beside-from : goal.bounds-beside-from
-bounds-beside-from c = omega (arith, c.from-3.ensures, member-high 1 most_candidates c.args.free c.args.i c.valid.ensures c.requires.member)
+bounds-beside-from c = omega (arith, c.from-3.ensures, member-high 1 most_candidates c.args.free c.args.i c.requires.candidates c.requires.member)
 
 -- a product of few that are not large
 few-small : (n x : ℕ) → n ≤ 255 → x ≤ 2 ^ 68 → n * x ≤ 2 ^ 76
@@ -70,7 +70,7 @@ returns-clause-small c =
       c.worths_beside-beside.ensures.small c.from-3.result,
       c.excess.ensures.sum,
       ap (λ l. sum_by (λ n. get_or c.worths_beside-beside.result n 0 - c.nth_greatest-threshold.result) l) c.without-others.ensures,
-      rest-small c.worths_beside-beside.result c.nth_greatest-threshold.result c.args.i c.args.free c.valid.ensures c.worths_beside-beside.ensures.small,
+      rest-small c.worths_beside-beside.result c.nth_greatest-threshold.result c.args.i c.args.free c.requires.candidates c.worths_beside-beside.ensures.small,
     )
 
 pub returns-clause-sum : goal.returns-clause-sum

@@ -8,40 +8,42 @@ use Rattle.tie_search.proofs.OverlapLemmas.{first-in, first-low, set-made, set-m
 use Rattle.tie_search.proofs.SearchLemmas.{rest-increasing}
 use Rattle.tie_search.proofs.pairs.Totals.row_sums.Goals as goal
 
-pub loop-parts-init : goal.loop-parts-init
-loop-parts-init c = record {
-  long = refl;
-  rises = c.valid.ensures;
-  among = λ n is. is;
-  made = λ j in_ out. absurd (let e : true ≡ false = sym in_ ∙ out in cc);
-  small = λ j. let e : get_or {A = ℕ} (replicate 65 0) j 0 ≡ 0 = no_total 65 j in omega (arith, e);
-}
+pub loop-i-init : goal.loop-i-init
+loop-i-init c =
+    let all = c.into_iter-i-iterator.ensures.into_iter_gives ∙ c.members-i-items.ensures.items in
+    rw all record {
+      long = refl;
+      rises = c.members-i-items.ensures.valid;
+      among = λ n is. is;
+      made = λ j in_ out. absurd (let e : true ≡ false = sym in_ ∙ out in cc);
+      small = λ j. let e : get_or {A = ℕ} (replicate 65 0) j 0 ≡ 0 = no_total 65 j in omega (arith, e);
+    }
+
+pub row_sum-requires-clause-candidates : goal.row_sum-requires-clause-candidates
+row_sum-requires-clause-candidates c = c.members-i-items.ensures.valid
 
 pub row_sum-requires-clause-member : goal.row_sum-requires-clause-member
 row_sum-requires-clause-member c =
-    c.loop-parts.invariant.among c.in-Some.parts.0 (first-in c.loop-parts.rest c.in-Some.parts.1 c.in-Some.parts.0 c.in-Some.ensures c.loop-parts.invariant.rises)
+    c.loop-i.invariant.among c.in-Some.i (first-in c.loop-i.i-iterator c.next.new.self c.in-Some.i c.in-Some.ensures.steps c.loop-i.invariant.rises)
 
 pub bounds-sums-from : goal.bounds-sums-from
-bounds-sums-from c = omega (arith, c.from.ensures, first-low c.loop-parts.rest c.in-Some.parts.1 c.in-Some.parts.0 c.in-Some.ensures c.loop-parts.invariant.rises)
+bounds-sums-from c = omega (arith, c.from.ensures, first-low c.loop-i.i-iterator c.next.new.self c.in-Some.i c.in-Some.ensures.steps c.loop-i.invariant.rises)
 
-pub loop-parts-smaller : goal.loop-parts-smaller
-loop-parts-smaller c = omega (arith, ap length c.in-Some.ensures)
-
-pub loop-parts-preserved : goal.loop-parts-preserved
-loop-parts-preserved c =
+pub loop-i-preserved : goal.loop-i-preserved
+loop-i-preserved c =
     let self = c.args.self.now in
-    let rest = c.loop-parts.rest in
-    let first = c.in-Some.parts.0 in
-    let inv = c.loop-parts.invariant in
-    let inside : first < length c.loop-parts.sums = omega (arith, first-low rest c.in-Some.parts.1 first c.in-Some.ensures inv.rises, inv.long) in
+    let rest = c.loop-i.i-iterator in
+    let first = c.in-Some.i in
+    let inv = c.loop-i.invariant in
+    let inside : first < length c.loop-i.sums = omega (arith, first-low rest c.next.new.self first c.in-Some.ensures.steps inv.rises, inv.long) in
     let at : c.from.result ≡ first = c.from.ensures in
     rw at record {
       long = simp length-set inv.long;
-      rises = (rest-increasing most_candidates rest c.in-Some.parts.1 first c.in-Some.ensures inv.rises).1;
-      among = λ n is. inv.among n (ap (λ l. has_member l n) c.in-Some.ensures ∙ or-true (first == n) (has_member c.in-Some.parts.1 n) is);
-      made = set-made rest c.in-Some.parts.1 first c.in-Some.ensures inv.rises
-          (λ j n. IsRowSum self.worths self.overlaps c.args.free c.args.left c.args.raise j n) c.args.free c.loop-parts.sums c.row_sum.result inside c.row_sum.ensures.sum inv.made;
-      small = set-most rest c.in-Some.parts.1 first c.in-Some.ensures inv.rises c.loop-parts.sums c.row_sum.result (2 ^ 80) inside c.row_sum.ensures.small inv.small;
+      rises = (rest-increasing most_candidates rest c.next.new.self first c.in-Some.ensures.steps inv.rises).1;
+      among = λ n is. inv.among n (ap (λ l. has_member l n) c.in-Some.ensures.steps ∙ or-true (first == n) (has_member c.next.new.self n) is);
+      made = set-made rest c.next.new.self first c.in-Some.ensures.steps inv.rises
+          (λ j n. IsRowSum self.worths self.overlaps c.args.free c.args.left c.args.raise j n) c.args.free c.loop-i.sums c.row_sum.result inside c.row_sum.ensures.sum inv.made;
+      small = set-most rest c.next.new.self first c.in-Some.ensures.steps inv.rises c.loop-i.sums c.row_sum.result (2 ^ 80) inside c.row_sum.ensures.small inv.small;
     }
   where
     or-true : (p q : Bool) → q ≡ true → (p || q) ≡ true
@@ -49,7 +51,7 @@ loop-parts-preserved c =
     or-true false q h = h
 
 pub returns-clause-sums : goal.returns-clause-sums
-returns-clause-sums c j in_ = c.loop-parts.invariant.made j in_ (ap (λ l. has_member l j) c.in_default.ensures)
+returns-clause-sums c j in_ = c.loop-i.invariant.made j in_ (ap (λ l. has_member l j) c.in-None.ensures.steps.0)
 
 pub returns-clause-small : goal.returns-clause-small
-returns-clause-small c = c.loop-parts.invariant.small
+returns-clause-small c = c.loop-i.invariant.small

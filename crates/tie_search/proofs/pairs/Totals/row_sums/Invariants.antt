@@ -6,14 +6,11 @@ use Rattle.tie_search.specs.Steps.Paired.{IsRowSum}
 use Rattle.tie_search.proofs.pairs.Totals.row_sums.Given as goal
 
 -- the row sums of those who were passed
-abbrev pub invariant-loop-parts : goal.invariant-loop-parts
-invariant-loop-parts l = record {
+abbrev pub invariant-loop-i : goal.invariant-loop-i
+invariant-loop-i l = record {
   long : length l.sums ≡ 65;
-  rises : IsIncreasing 1 most_candidates l.rest;
-  among : (n : ℕ) → has_member l.rest n ≡ true → has_member l.fn.free n ≡ true;
-  made : (j : ℕ) → has_member l.fn.free j ≡ true → has_member l.rest j ≡ false → IsRowSum l.self.worths l.self.overlaps l.fn.free l.left l.raise j (get_or l.sums j 0);
+  rises : IsIncreasing 1 most_candidates l.i-iterator;
+  among : (n : ℕ) → has_member l.i-iterator n ≡ true → has_member l.fn.free n ≡ true;
+  made : (j : ℕ) → has_member l.fn.free j ≡ true → has_member l.i-iterator j ≡ false → IsRowSum l.self.worths l.self.overlaps l.fn.free l.left l.raise j (get_or l.sums j 0);
   small : (j : ℕ) → get_or l.sums j 0 ≤ 2 ^ 80;
 }
-
-abbrev pub decreases-loop-parts : goal.decreases-loop-parts
-decreases-loop-parts l = length l.rest

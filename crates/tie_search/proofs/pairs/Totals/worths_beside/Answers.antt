@@ -10,47 +10,46 @@ use Rattle.tie_search.proofs.OverlapLemmas.{first-low, set-made, set-most}
 use Rattle.tie_search.proofs.SearchLemmas.{rest-increasing}
 use Rattle.tie_search.proofs.pairs.Totals.worths_beside.Goals as goal
 
-pub loop-parts-init : goal.loop-parts-init
-loop-parts-init c = record {
-  long = refl;
-  rises = c.valid.ensures;
-  made = λ j in_ out. absurd (let e : true ≡ false = sym in_ ∙ out in cc);
-  small = λ j. let e : get_or {A = ℕ} (replicate 65 0) j 0 ≡ 0 = no_total 65 j in omega (arith, e);
-}
+pub loop-other-init : goal.loop-other-init
+loop-other-init c =
+    let all = c.into_iter-other-iterator.ensures.into_iter_gives ∙ c.members-other-items.ensures.items in
+    rw all record {
+      long = refl;
+      rises = c.members-other-items.ensures.valid;
+      made = λ j in_ out. absurd (let e : true ≡ false = sym in_ ∙ out in cc);
+      small = λ j. let e : get_or {A = ℕ} (replicate 65 0) j 0 ≡ 0 = no_total 65 j in omega (arith, e);
+    }
 
 pub bounds-self-j : goal.bounds-self-j
-bounds-self-j c = omega (arith, c.from-j.ensures, first-low c.loop-parts.rest c.in-Some.parts.1 c.in-Some.parts.0 c.in-Some.ensures c.loop-parts.invariant.rises)
+bounds-self-j c = omega (arith, c.from-j.ensures, first-low c.loop-other.other-iterator c.next.new.self c.in-Some.other c.in-Some.ensures.steps c.loop-other.invariant.rises)
 
 pub bounds-self-row : goal.bounds-self-row
 bounds-self-row c =
-    omega (arith, c.from-row.ensures, c.from-j.ensures, c.requires.within, first-low c.loop-parts.rest c.in-Some.parts.1 c.in-Some.parts.0 c.in-Some.ensures c.loop-parts.invariant.rises)
+    omega (arith, c.from-row.ensures, c.from-j.ensures, c.requires.within, first-low c.loop-other.other-iterator c.next.new.self c.in-Some.other c.in-Some.ensures.steps c.loop-other.invariant.rises)
 
 pub overflow_sub-beside : goal.overflow_sub-beside
 overflow_sub-beside c =
-    let low = first-low c.loop-parts.rest c.in-Some.parts.1 c.in-Some.parts.0 c.in-Some.ensures c.loop-parts.invariant.rises in
-    let value : c.from.result ≡ overlap_at c.args.self.now.overlaps c.args.i c.in-Some.parts.0 =
+    let low = first-low c.loop-other.other-iterator c.next.new.self c.in-Some.other c.in-Some.ensures.steps c.loop-other.invariant.rises in
+    let value : c.from.result ≡ overlap_at c.args.self.now.overlaps c.args.i c.in-Some.other =
     c.from.ensures ∙ ap (λ n. get_or c.args.self.now.overlaps (65 * n + c.from-j.result) 0) c.from-row.ensures ∙ ap (λ n. get_or c.args.self.now.overlaps (65 * c.args.i + n) 0) c.from-j.ensures in
     omega (
       arith,
-      c.requires.enough c.args.i c.in-Some.parts.0 c.requires.within low,
+      c.requires.enough c.args.i c.in-Some.other c.requires.within low,
       ap (λ n. 2 * n * c.from.result) c.from-factor.ensures,
       ap (λ n. 2 * (c.args.left - 1) * n) value,
     )
 
 pub bounds-beside-j : goal.bounds-beside-j
-bounds-beside-j c = omega (arith, c.from-j.ensures, first-low c.loop-parts.rest c.in-Some.parts.1 c.in-Some.parts.0 c.in-Some.ensures c.loop-parts.invariant.rises)
+bounds-beside-j c = omega (arith, c.from-j.ensures, first-low c.loop-other.other-iterator c.next.new.self c.in-Some.other c.in-Some.ensures.steps c.loop-other.invariant.rises)
 
-pub loop-parts-smaller : goal.loop-parts-smaller
-loop-parts-smaller c = omega (arith, ap length c.in-Some.ensures)
-
-pub loop-parts-preserved : goal.loop-parts-preserved
-loop-parts-preserved c =
+pub loop-other-preserved : goal.loop-other-preserved
+loop-other-preserved c =
     let self = c.args.self.now in
-    let rest = c.loop-parts.rest in
-    let first = c.in-Some.parts.0 in
-    let inv = c.loop-parts.invariant in
-    let low = first-low rest c.in-Some.parts.1 first c.in-Some.ensures inv.rises in
-    let inside : first < length c.loop-parts.beside = omega (arith, low, inv.long) in
+    let rest = c.loop-other.other-iterator in
+    let first = c.in-Some.other in
+    let inv = c.loop-other.invariant in
+    let low = first-low rest c.next.new.self first c.in-Some.ensures.steps inv.rises in
+    let inside : first < length c.loop-other.beside = omega (arith, low, inv.long) in
     let value : c.from.result ≡ overlap_at self.overlaps c.args.i first =
     c.from.ensures ∙ ap (λ n. get_or self.overlaps (65 * n + c.from-j.result) 0) c.from-row.ensures ∙ ap (λ n. get_or self.overlaps (65 * c.args.i + n) 0) c.from-j.ensures in
     let v = get_or self.worths first 0 + c.args.raise - 2 * c.from-factor.result * c.from.result in
@@ -63,15 +62,15 @@ loop-parts-preserved c =
     let at : c.from-j.result ≡ first = c.from-j.ensures in
     rw at record {
       long = simp length-set inv.long;
-      rises = (rest-increasing most_candidates rest c.in-Some.parts.1 first c.in-Some.ensures inv.rises).1;
-      made = set-made rest c.in-Some.parts.1 first c.in-Some.ensures inv.rises
-          (λ j n. n ≡ worth_beside (slice_index self.worths) (overlap_at self.overlaps) c.args.left c.args.raise c.args.i j) c.args.free c.loop-parts.beside v inside is inv.made;
-      small = set-most rest c.in-Some.parts.1 first c.in-Some.ensures inv.rises c.loop-parts.beside v (2 ^ 68) inside
+      rises = (rest-increasing most_candidates rest c.next.new.self first c.in-Some.ensures.steps inv.rises).1;
+      made = set-made rest c.next.new.self first c.in-Some.ensures.steps inv.rises
+          (λ j n. n ≡ worth_beside (slice_index self.worths) (overlap_at self.overlaps) c.args.left c.args.raise c.args.i j) c.args.free c.loop-other.beside v inside is inv.made;
+      small = set-most rest c.next.new.self first c.in-Some.ensures.steps inv.rises c.loop-other.beside v (2 ^ 68) inside
           (omega (arith, c.requires.small.worths_small first, c.requires.raise)) inv.small;
     }
 
 pub returns-clause-beside : goal.returns-clause-beside
-returns-clause-beside c j in_ = c.loop-parts.invariant.made j in_ (ap (λ l. has_member l j) c.in_default.ensures)
+returns-clause-beside c j in_ = c.loop-other.invariant.made j in_ (ap (λ l. has_member l j) c.in-None.ensures.steps.0)
 
 pub returns-clause-small : goal.returns-clause-small
-returns-clause-small c = c.loop-parts.invariant.small
+returns-clause-small c = c.loop-other.invariant.small

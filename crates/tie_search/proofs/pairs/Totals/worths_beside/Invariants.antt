@@ -8,14 +8,11 @@ use Rattle.tie_search.specs.Steps.Paired.{overlap_at}
 use Rattle.tie_search.proofs.pairs.Totals.worths_beside.Given as goal
 
 -- the worths of those who were passed
-abbrev pub invariant-loop-parts : goal.invariant-loop-parts
-invariant-loop-parts l = record {
+abbrev pub invariant-loop-other : goal.invariant-loop-other
+invariant-loop-other l = record {
   long : length l.beside ≡ 65;
-  rises : IsIncreasing 1 most_candidates l.rest;
-  made : (j : ℕ) → has_member l.fn.free j ≡ true → has_member l.rest j ≡ false
+  rises : IsIncreasing 1 most_candidates l.other-iterator;
+  made : (j : ℕ) → has_member l.fn.free j ≡ true → has_member l.other-iterator j ≡ false
       → get_or l.beside j 0 ≡ worth_beside (slice_index l.self.worths) (overlap_at l.self.overlaps) l.left l.raise l.i j;
   small : (j : ℕ) → get_or l.beside j 0 ≤ 2 ^ 68;
 }
-
-abbrev pub decreases-loop-parts : goal.decreases-loop-parts
-decreases-loop-parts l = length l.rest
