@@ -1,21 +1,12 @@
-use Rattle.std.proofs.Common.{◌≡◌, ℕ, ◌≤◌, ◌⊎◌, ◌||◌, ◌==◌, ◌∙◌, Bool, true, false, List, ◌∷◌, refl, sym, ap, inl, inr, arith, get_or}
+use Rattle.std.proofs.Common.{◌≡◌, ℕ, ◌≤◌, ◌⊎◌, ◌∙◌, true, List, ◌∷◌, sym, ap, inl, inr, arith, get_or}
 use Rattle.std.proofs.lemmas.Bool.{cases_eq}
 use Rattle.ballot_base.specs.Limits.{most_candidates}
 use Rattle.ballot_base.specs.CandSet.{has_member}
-use Rattle.ballot_base.proofs.Increasing.{has_member_head, has_member_tail}
+use Rattle.ballot_base.proofs.Increasing.{has_member_tail}
 use Rattle.tie_search.proofs.CompletionLemmas.{member-high}
+use Rattle.tie_search.proofs.OverlapLemmas.{first-in, later-in}
 use Rattle.tie_search.proofs.SearchLemmas.{rest-increasing}
 use Rattle.tie_search.proofs.near.best_of.Goals as goal
-
-first-is : (xs rest : List ℕ) (first : ℕ) → xs ≡ first ∷ rest → has_member xs first ≡ true
-first-is xs rest first is = ap (λ l. has_member l first) is ∙ has_member_head first rest
-
-rest-is : (xs rest : List ℕ) (first n : ℕ) → xs ≡ first ∷ rest → has_member rest n ≡ true → has_member xs n ≡ true
-rest-is xs rest first n is here = ap (λ l. has_member l n) is ∙ or-true (first == n) (has_member rest n) here
-  where
-    or-true : (p q : Bool) → q ≡ true → (p || q) ≡ true
-    or-true true q h = refl
-    or-true false q h = h
 
 -- a member is the first or one of the rest
 either : (xs rest : List ℕ) (first n : ℕ) → xs ≡ first ∷ rest → has_member xs n ≡ true → (has_member rest n ≡ true) ⊎ (n ≡ first)
@@ -55,8 +46,8 @@ loop-candidate-preserved-then-worths-from c =
     record {
       rises = up.1;
       high = up.0;
-      here = inv.among first (first-is left rest first c.in-Some.ensures.steps);
-      among = λ n is. inv.among n (rest-is left rest first n c.in-Some.ensures.steps is);
+      here = inv.among first (first-in left rest first c.in-Some.ensures.steps inv.rises);
+      among = λ n is. inv.among n (later-in left rest first c.in-Some.ensures.steps inv.rises n is);
       greatest = λ n is. passed c.args.worths.now left rest first c.loop-candidate.best first n c.in-Some.ensures.steps (omega arith)
           (omega (arith, c.if-worths-from.true, ap worth c.from.ensures, ap worth c.from-in-loop-candidate.ensures)) (inv.greatest n is);
     }
@@ -72,7 +63,7 @@ loop-candidate-preserved c =
       rises = (rest-increasing most_candidates left rest first c.in-Some.ensures.steps inv.rises).1;
       high = inv.high;
       here = inv.here;
-      among = λ n is. inv.among n (rest-is left rest first n c.in-Some.ensures.steps is);
+      among = λ n is. inv.among n (later-in left rest first c.in-Some.ensures.steps inv.rises n is);
       greatest = λ n is. passed c.args.worths.now left rest first c.loop-candidate.best c.loop-candidate.best n c.in-Some.ensures.steps
           (omega (arith, c.if-worths-from.false, ap worth c.from.ensures, ap worth c.from-in-loop-candidate.ensures)) (omega arith) (inv.greatest n is);
     }

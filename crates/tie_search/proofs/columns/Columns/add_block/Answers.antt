@@ -1,4 +1,4 @@
-use Rattle.std.proofs.Common.{◌≡◌, ℕ, ◌+◌, ◌*◌, ◌^◌, ◌<◌, ◌≤◌, ◌∙◌, true, false, cond, List, [], ◌∷◌, sym, ap, arith, inl, inr, length, get_or, set}
+use Rattle.std.proofs.Common.{◌≡◌, ℕ, ◌+◌, ◌*◌, ◌^◌, ◌<◌, ◌≤◌, ◌∙◌, cond, List, [], ◌∷◌, sym, ap, arith, inl, inr, length, get_or, set}
 use Rattle.std.proofs.Math.ListN.{length-set}
 use Rattle.std.proofs.lemmas.Bool.{cases_eq}
 use Rattle.std.proofs.lemmas.List.{get_or-set_same, get_or-set_other}
@@ -6,23 +6,14 @@ use Rattle.ballot_base.specs.Limits.{most_candidates, most_members}
 use Rattle.ballot_base.specs.Lists.{IsIncreasing}
 use Rattle.ballot_base.specs.CandSet.{has_member}
 use Rattle.ballot_base.specs.Ballots.{hits}
-use Rattle.ballot_base.proofs.Increasing.{has_member_head, has_member_tail, has_member-below}
 use Rattle.tie_walk.proofs.TightLemmas.{hits-most}
 use Rattle.tie_search.specs.Steps.Columns.{block_voters, total, shared, given}
 use Rattle.tie_search.proofs.ColumnLemmas.{given_below, given-sum, given-whole}
+use Rattle.tie_search.proofs.OverlapLemmas.{first-gone, first-in, others-same}
 use Rattle.tie_search.proofs.SearchLemmas.{rest-increasing}
 use Rattle.tie_search.proofs.columns.Columns.add_block.Goals as goal
 
 module _ (gains left rest : List ℕ) (first x : ℕ) (is : left ≡ first ∷ rest) (up : IsIncreasing 1 most_candidates left) (inside : first < length gains) where
-  has-first : has_member left first ≡ true
-  has-first = ap (λ l. has_member l first) is ∙ has_member_head first rest
-
-  has-rest : has_member rest first ≡ false
-  has-rest = let at : IsIncreasing 1 most_candidates (first ∷ rest) = rw is at up in has_member-below (first + 1) most_candidates rest first at.2 (omega arith)
-
-  has-other : (c : ℕ) → (c ≡ first → ⊥) → has_member left c ≡ has_member rest c
-  has-other c other = ap (λ l. has_member l c) is ∙ has_member_tail first c rest (λ e. other (sym e))
-
   -- one of those who are left has got its part
   one-added : (c wanted : ℕ) (part : ℕ → ℕ) → x ≡ part first → get_or gains c 0 + cond (has_member left c) (part c) 0 ≡ wanted
       → get_or (set gains first (get_or gains first 0 + x)) c 0 + cond (has_member rest c) (part c) 0 ≡ wanted
@@ -35,14 +26,14 @@ module _ (gains left rest : List ℕ) (first x : ℕ) (is : left ≡ first ∷ r
       get_or-set_same gains first (get_or gains first 0 + x) 0 inside,
       ap (λ j. get_or gains j 0) here,
       ap part here,
-      ap (λ b. cond b (part c) 0) (ap (has_member left) here ∙ has-first),
-      ap (λ b. cond b (part c) 0) (ap (has_member rest) here ∙ has-rest),
+      ap (λ b. cond b (part c) 0) (ap (has_member left) here ∙ first-in left rest first is up),
+      ap (λ b. cond b (part c) 0) (ap (has_member rest) here ∙ first-gone left rest first is up),
     )
     | inr other ↦ omega (
       arith,
       before,
       get_or-set_other gains first c (get_or gains first 0 + x) 0 other,
-      ap (λ b. cond b (part c) 0) (has-other c other),
+      ap (λ b. cond b (part c) 0) (others-same left rest first is up c other),
     )
   ]
 
@@ -56,14 +47,14 @@ module _ (gains left rest : List ℕ) (first x : ℕ) (is : left ≡ first ∷ r
       ap (λ j. get_or (set gains first (get_or gains first 0 + x)) j 0) here,
       get_or-set_same gains first (get_or gains first 0 + x) 0 inside,
       ap (λ j. get_or gains j 0) here,
-      ap (λ b. cond b 0 most) (ap (has_member left) here ∙ has-first),
-      ap (λ b. cond b 0 most) (ap (has_member rest) here ∙ has-rest),
+      ap (λ b. cond b 0 most) (ap (has_member left) here ∙ first-in left rest first is up),
+      ap (λ b. cond b 0 most) (ap (has_member rest) here ∙ first-gone left rest first is up),
     )
     | inr other ↦ omega (
       arith,
       before,
       get_or-set_other gains first c (get_or gains first 0 + x) 0 other,
-      ap (λ b. cond b 0 most) (has-other c other),
+      ap (λ b. cond b 0 most) (others-same left rest first is up c other),
     )
   ]
 

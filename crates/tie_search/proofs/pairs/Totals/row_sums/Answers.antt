@@ -1,10 +1,10 @@
-use Rattle.std.proofs.Common.{◌≡◌, ℕ, ◌^◌, ◌<◌, ◌==◌, ◌||◌, ◌∙◌, Bool, true, false, refl, sym, ap, arith, length, replicate, get_or}
+use Rattle.std.proofs.Common.{◌≡◌, ℕ, ◌^◌, ◌<◌, ◌∙◌, true, false, refl, sym, ap, arith, length, replicate, get_or}
 use Rattle.std.proofs.Math.ListN.{length-set}
 use Rattle.ballot_base.specs.CandSet.{has_member}
 use Rattle.ballot_base.specs.Limits.{most_candidates}
 use Rattle.tie_walk.proofs.WorthLemmas.{no_total}
 use Rattle.tie_search.specs.Steps.Paired.{IsRowSum}
-use Rattle.tie_search.proofs.OverlapLemmas.{first-in, first-low, set-made, set-most}
+use Rattle.tie_search.proofs.OverlapLemmas.{first-in, first-low, later-in, set-made, set-most}
 use Rattle.tie_search.proofs.SearchLemmas.{rest-increasing}
 use Rattle.tie_search.proofs.pairs.Totals.row_sums.Goals as goal
 
@@ -40,15 +40,11 @@ loop-i-preserved c =
     rw at record {
       long = simp length-set inv.long;
       rises = (rest-increasing most_candidates rest c.next.new.self first c.in-Some.ensures.steps inv.rises).1;
-      among = λ n is. inv.among n (ap (λ l. has_member l n) c.in-Some.ensures.steps ∙ or-true (first == n) (has_member c.next.new.self n) is);
+      among = λ n is. inv.among n (later-in rest c.next.new.self first c.in-Some.ensures.steps inv.rises n is);
       made = set-made rest c.next.new.self first c.in-Some.ensures.steps inv.rises
           (λ j n. IsRowSum self.worths self.overlaps c.args.free c.args.left c.args.raise j n) c.args.free c.loop-i.sums c.row_sum.result inside c.row_sum.ensures.sum inv.made;
       small = set-most rest c.next.new.self first c.in-Some.ensures.steps inv.rises c.loop-i.sums c.row_sum.result (2 ^ 80) inside c.row_sum.ensures.small inv.small;
     }
-  where
-    or-true : (p q : Bool) → q ≡ true → (p || q) ≡ true
-    or-true true q h = refl
-    or-true false q h = h
 
 pub returns-clause-sums : goal.returns-clause-sums
 returns-clause-sums c j in_ = c.loop-i.invariant.made j in_ (ap (λ l. has_member l j) c.in-None.ensures.steps.0)
