@@ -5,6 +5,7 @@
 //! this in turn by a sum over the members (`laws::row_sums`; Gallo, Hammer and Simeone, Quadratic knapsack problems,
 //! 1980). A candidate leaves if the others fall short with it.
 ghost use Rattle.std.specs.Prelude.{◌≡◌, ℕ, ◌+◌, ◌-◌, ◌*◌, ◌^◌, ◌<◌, ◌≤◌, ◌==◌, true, List, length, slice_index, MatchOption, if◌then◌else◌};
+ghost use Rattle.ballot_base.specs.Ballots.{IsElection};
 ghost use Rattle.ballot_base.specs.CandSet.{has_member};
 ghost use Rattle.ballot_base.specs.Limits.{most_candidates};
 ghost use Rattle.ballot_base.specs.Lists.{IsIncreasing};
@@ -12,7 +13,7 @@ ghost use Rattle.tie_walk.specs.Values.{thiele_value};
 ghost use Rattle.tie_search.specs.Completions.{IsOpen, IsOutOfReach};
 ghost use Rattle.tie_search.specs.Pairs.{worth_beside};
 ghost use Rattle.tie_search.specs.Steps.Near.{IsNarrowed};
-ghost use Rattle.tie_search.specs.Steps.Paired.{AreSmall, AreSums, AreTotals, IsRowSum, IsSmallMajorant, overlap_at};
+ghost use Rattle.tie_search.specs.Steps.Paired.{AreNothing, AreSmall, AreSums, AreTotals, IsRowSum, IsSmallMajorant, overlap_at};
 
 use crate::majorant::{HitSums, Majorant, Majorants};
 use crate::order::nth_greatest;
@@ -59,11 +60,11 @@ impl<A: Allocator + Copy> PairSearch<'_, A> {
             (IsNarrowed (thiele_value weights self.now.profile.now.rows) self.now.profile.now.m set free left
             self.now.least) }
     {
-        self.profile.m();
         if free.len() < left {
             return None;
         }
-        let totals = self.totals(set, free, left);
+        let mut totals = Totals::nothing();
+        self.add_ballots(&mut totals, set, free, left);
         let factor = 2 * u128::from(left - 1);
         let raise = factor * u128::from(totals.greatest_overlap());
         let sums = totals.row_sums(free, left, raise);
@@ -93,34 +94,41 @@ impl<A: Allocator + Copy> PairSearch<'_, A> {
             .div_ceil(self.given.unit)
     }
 
-    /// What the majorants of all voters add up to, if `left` of the free candidates complete the set.
-    fn totals(&self, set: CandSet, free: CandSet, left: u8) -> Totals
+    /// Adds up the majorants of all voters, if `left` of the free candidates complete the set.
+    fn add_ballots(&self, totals: &mut Totals, set: CandSet, free: CandSet, left: u8)
         requires opened { IsOpen self.now.profile.now.m set free }
         requires some { 1 ≤ length free }
         requires small { (n : ℕ) → slice_index self.now.given.now.sums n ≤ 2 ^ 26 }
+        requires nothing { AreNothing totals.old.kept totals.old.worths totals.old.overlaps }
         ensures totals { (weights : List ℕ)
             → AreSums weights self.now.given.now.scale self.now.given.now.unit self.now.given.now.sums
             → AreTotals weights self.now.given.now.scale self.now.given.now.unit self.now.profile.now.m
-            self.now.profile.now.rows set free left result.kept result.worths result.overlaps }
-        ensures small { AreSmall result.kept result.worths result.overlaps }
+            self.now.profile.now.rows set free left totals.new.kept totals.new.worths totals.new.overlaps }
+        ensures small { AreSmall totals.new.kept totals.new.worths totals.new.overlaps }
+        ensures election { IsElection self.now.profile.now }
     {
         let mut majorants = Majorants::new(&self.given.sums, left, free.len());
-        let mut totals = Totals {
-            kept: 0,
-            worths: [0; PLACES],
-            overlaps: [0; TABLE_PLACES],
-        };
         for (ballot, voters) in self.profile.ballots() {
             let approved = ballot.common(free);
             let before = ballot.common(set).len();
             let majorant = majorants.of_ballot(before, approved.len());
             totals.add(majorant, approved, voters);
         }
-        totals
     }
 }
 
 impl Totals {
+    /// The totals of no ballot.
+    fn nothing() -> Totals
+        ensures { AreNothing result.kept result.worths result.overlaps }
+    {
+        Totals {
+            kept: 0,
+            worths: [0; PLACES],
+            overlaps: [0; TABLE_PLACES],
+        }
+    }
+
     /// Adds the majorant of a ballot on which these free candidates are, for each of its voters.
     fn add(&mut self, majorant: Majorant, approved: CandSet, voters: u64)
         requires voters { voters ≤ 2 ^ 32 }

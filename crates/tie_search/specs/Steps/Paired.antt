@@ -44,6 +44,12 @@ AreTotals weights scale unit m rows set free left kept worths table =
     → scale * thiele_value weights rows committee + unit * pair_sum (overlap_at table) (common_members free committee)
     ≤ unit * (kept + sum_by (slice_index worths) (common_members free committee))
 
+-- nothing was added up
+pub record AreNothing (kept : ℕ) (worths table : List ℕ) : Type 0 where
+  pub kept_none : kept ≡ 0
+  pub worths_none : (n : ℕ) → slice_index worths n ≡ 0
+  pub overlaps_none : (i j : ℕ) → overlap_at table i j ≡ 0
+
 -- no total is too large
 pub record AreSmall (kept : ℕ) (worths table : List ℕ) : Type 0 where
   pub kept_small : kept ≤ 2 ^ 71

@@ -1,4 +1,4 @@
-use Rattle.std.proofs.Common.{◌≡◌, ℕ, ◌+◌, ◌*◌, ◌^◌, ◌≤◌, ◌∙◌, true, cond, List, sym, ap, subst, arith, get_or, length, min, replicate, take}
+use Rattle.std.proofs.Common.{◌≡◌, ℕ, ◌+◌, ◌*◌, ◌^◌, ◌≤◌, ◌∙◌, true, cond, List, sym, ap, subst, arith, get_or, length, min, take}
 use Rattle.std.proofs.Math.Nat.{mul-le-mul_left}
 use Rattle.std.proofs.lemmas.List.{length_push}
 use Rattle.std.proofs.lemmas.List.Sums.{sum_by-take-le}
@@ -6,26 +6,26 @@ use Rattle.ballot_base.specs.CandSet.{has_member}
 use Rattle.ballot_base.specs.Ballots.{Row, hits, voter_count}
 use Rattle.ballot_base.proofs.Turns.{row_of_turn, all_passed}
 use Rattle.tie_walk.proofs.RowSums.{length-common}
-use Rattle.tie_walk.proofs.WorthLemmas.{no_total}
 use Rattle.tie_search.specs.Steps.Majorants.{Majorized}
 use Rattle.tie_search.specs.Steps.Paired.{AreTotals, IsMajorantOf, overlap_at}
 use Rattle.tie_search.proofs.CompletionLemmas.{member-high}
 use Rattle.tie_search.proofs.OverlapLemmas.{portion}
 use Rattle.tie_search.proofs.PairTotals.{cells-same, hits-both, portion-most, row-up, totals-more, totals-none, voters-more, voters-room}
 use Rattle.tie_search.proofs.WeightLemmas.{free-common, part-most}
-use Rattle.tie_search.proofs.pairs.PairSearch.totals.Goals as goal
+use Rattle.tie_search.proofs.pairs.PairSearch.add_ballots.Goals as goal
 
 pub loop-ballot-init : goal.loop-ballot-init
 loop-ballot-init g c =
     let self = c.args.self.now in
-    let zeros : (i j : ℕ) → overlap_at (replicate 4225 0) i j ≡ 0 = λ i j. no_total 4225 (65 * i + j) in
+    let totals = c.args.totals.now in
+    let nothing = c.requires.nothing in
     record {
       sums = c.new-majorants.ensures.sums;
       left = c.new-majorants.ensures.left;
-      totals = λ weights are. totals-none weights self.given.now.scale self.given.now.unit self.profile.now.m self.profile.now.rows c.args.set c.args.free c.args.left (replicate 65 0) (replicate 4225 0) zeros;
-      small_kept = omega arith;
-      small_worths = λ n. let e : get_or {A = ℕ} (replicate 65 0) n 0 ≡ 0 = no_total 65 n in omega (arith, e);
-      small_overlaps = λ i j low. omega (arith, zeros i j);
+      totals = λ weights are. totals-none weights self.given.now.scale self.given.now.unit self.profile.now.m self.profile.now.rows c.args.set c.args.free c.args.left totals.kept totals.worths totals.overlaps nothing;
+      small_kept = omega (arith, nothing.kept_none);
+      small_worths = λ n. omega (arith, nothing.worths_none n);
+      small_overlaps = λ i j low. omega (arith, nothing.overlaps_none i j);
     }
 
 pub of_ballot-majorant-requires : goal.of_ballot-majorant-requires

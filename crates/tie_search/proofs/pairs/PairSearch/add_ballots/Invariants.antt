@@ -2,7 +2,7 @@ use Rattle.std.proofs.Common.{◌≡◌, ℕ, ◌*◌, ◌^◌, ◌≤◌, List,
 use Rattle.ballot_base.specs.Ballots.{voter_count}
 use Rattle.ballot_base.specs.Limits.{most_candidates}
 use Rattle.tie_search.specs.Steps.Paired.{AreSums, AreTotals, overlap_at}
-use Rattle.tie_search.proofs.pairs.PairSearch.totals.Given as goal
+use Rattle.tie_search.proofs.pairs.PairSearch.add_ballots.Given as goal
 
 -- the totals of the rows so far
 abbrev pub invariant-loop-ballot : goal.invariant-loop-ballot
