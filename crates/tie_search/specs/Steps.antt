@@ -3,5 +3,6 @@ pub mod Majorants
 pub mod Near
 pub mod Paired
 pub mod Priced
+pub mod Rows
 pub mod Searched
 pub mod Witness

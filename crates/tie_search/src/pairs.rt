@@ -11,9 +11,9 @@ ghost use Rattle.ballot_base.specs.Limits.{most_candidates};
 ghost use Rattle.ballot_base.specs.Lists.{IsIncreasing};
 ghost use Rattle.tie_walk.specs.Values.{thiele_value};
 ghost use Rattle.tie_search.specs.Completions.{IsOpen, IsOutOfReach};
-ghost use Rattle.tie_search.specs.Pairs.{worth_beside};
 ghost use Rattle.tie_search.specs.Steps.Near.{IsNarrowed};
 ghost use Rattle.tie_search.specs.Steps.Paired.{AreNothing, AreSmall, AreSums, AreTotals, IsRowSum, IsSmallMajorant, overlap_at};
+ghost use Rattle.tie_search.specs.Steps.Rows.{AreBeside, AreRows};
 
 use crate::majorant::{HitSums, Majorant, Majorants};
 use crate::order::nth_greatest;
@@ -67,7 +67,13 @@ impl<A: Allocator + Copy> PairSearch<'_, A> {
         self.add_ballots(&mut totals, set, free, left);
         let factor = 2 * u128::from(left - 1);
         let raise = factor * u128::from(totals.greatest_overlap());
-        let sums = totals.row_sums(free, left, raise);
+        let rows = Rows {
+            totals: &totals,
+            free,
+            left,
+            raise,
+        };
+        let sums = rows.sums();
         let threshold = nth_greatest(&sums, free, left);
         let most = factor * totals.kept
             + u128::from(left) * threshold
@@ -166,66 +172,68 @@ impl Totals {
         }
         greatest
     }
+}
 
+/// What row sums are made of. Worths beside a candidate are raised, so that none is below 0.
+#[derive(Drop)]
+struct Rows<'a> {
+    totals: &'a Totals,
+    free: CandSet,
+    // How many of the free candidates complete the set.
+    left: u8,
+    raise: u128,
+}
+
+impl Rows<'_> {
     /// The row sum of each free candidate, at its number.
-    fn row_sums(&self, free: CandSet, left: u8, raise: u128) -> [u128; PLACES]
-        requires several { 2 ≤ left }
-        requires small { AreSmall self.now.kept self.now.worths self.now.overlaps }
-        requires raise { raise ≤ 2 ^ 67 }
-        requires enough { (i j : ℕ) → i ≤ most_candidates → j ≤ most_candidates
-            → 2 * (left - 1) * overlap_at self.now.overlaps i j ≤ raise }
-        ensures sums { (i : ℕ) → has_member free i ≡ true
-            → IsRowSum self.now.worths self.now.overlaps free left raise i (slice_index result i) }
+    fn sums(&self) -> [u128; PLACES]
+        requires { AreRows self.now }
+        ensures sums { (i : ℕ) → has_member self.now.free i ≡ true
+            → IsRowSum self.now.totals.now.worths self.now.totals.now.overlaps self.now.free self.now.left
+            self.now.raise i (slice_index result i) }
         ensures small { (i : ℕ) → slice_index result i ≤ 2 ^ 80 }
     {
         let mut sums = [0; PLACES];
-        for i in free.members() {
-            sums[usize::from(i)] = self.row_sum(free, left, raise, i);
+        let mut beside = [0; PLACES];
+        for i in self.free.members() {
+            self.put_beside(&mut beside, i);
+            sums[usize::from(i)] = self.sum_of(&beside, i);
         }
         sums
     }
 
-    /// The row sum of a free candidate.
-    fn row_sum(&self, free: CandSet, left: u8, raise: u128, i: u8) -> u128
-        requires several { 2 ≤ left }
-        requires small { AreSmall self.now.kept self.now.worths self.now.overlaps }
-        requires raise { raise ≤ 2 ^ 67 }
-        requires enough { (i j : ℕ) → i ≤ most_candidates → j ≤ most_candidates
-            → 2 * (left - 1) * overlap_at self.now.overlaps i j ≤ raise }
-        requires candidates { IsIncreasing 1 most_candidates free }
-        requires member { has_member free i ≡ true }
-        ensures sum { IsRowSum self.now.worths self.now.overlaps free left raise i result }
+    /// The row sum of a free candidate, from the worths of all beside it.
+    fn sum_of(&self, beside: &[u128; PLACES], i: u8) -> u128
+        requires rows { AreRows self.now }
+        requires candidates { IsIncreasing 1 most_candidates self.now.free }
+        requires member { has_member self.now.free i ≡ true }
+        requires beside { AreBeside self.now i beside.now }
+        ensures sum { IsRowSum self.now.totals.now.worths self.now.totals.now.overlaps self.now.free self.now.left
+            self.now.raise i result }
         ensures small { result ≤ 2 ^ 80 }
     {
-        let beside = self.worths_beside(free, left, raise, i);
-        let others = free.without(i);
-        let threshold = nth_greatest(&beside, others, left - 1);
-        u128::from(left - 2) * self.worths[usize::from(i)]
+        let others = self.free.without(i);
+        let threshold = nth_greatest(beside, others, self.left - 1);
+        u128::from(self.left - 2) * self.totals.worths[usize::from(i)]
             + beside[usize::from(i)]
-            + u128::from(left - 1) * threshold
-            + excess(&beside, others, threshold)
+            + u128::from(self.left - 1) * threshold
+            + excess(beside, others, threshold)
     }
 
-    /// The worth of each free candidate beside the candidate i, at its number.
-    fn worths_beside(&self, free: CandSet, left: u8, raise: u128, i: u8) -> [u128; PLACES]
-        requires several { 2 ≤ left }
-        requires small { AreSmall self.now.kept self.now.worths self.now.overlaps }
-        requires raise { raise ≤ 2 ^ 67 }
-        requires enough { (i j : ℕ) → i ≤ most_candidates → j ≤ most_candidates
-            → 2 * (left - 1) * overlap_at self.now.overlaps i j ≤ raise }
+    /// Puts the worth of each free candidate beside the candidate i at its number.
+    fn put_beside(&self, beside: &mut [u128; PLACES], i: u8)
+        requires rows { AreRows self.now }
         requires within { i ≤ most_candidates }
-        ensures beside { (j : ℕ) → has_member free j ≡ true → slice_index result j
-            ≡ worth_beside (slice_index self.now.worths) (overlap_at self.now.overlaps) left raise i j }
-        ensures small { (j : ℕ) → slice_index result j ≤ 2 ^ 68 }
+        requires small { (j : ℕ) → slice_index beside.old j ≤ 2 ^ 68 }
+        ensures { AreBeside self.now i beside.new }
     {
-        let factor = 2 * u128::from(left - 1);
+        let factor = 2 * u128::from(self.left - 1);
         let row = PLACES * usize::from(i);
-        let mut beside = [0; PLACES];
-        for other in free.members() {
+        for other in self.free.members() {
             let j = usize::from(other);
-            beside[j] = self.worths[j] + raise - factor * u128::from(self.overlaps[row + j]);
+            let overlap = u128::from(self.totals.overlaps[row + j]);
+            beside[j] = self.totals.worths[j] + self.raise - factor * overlap;
         }
-        beside
     }
 }
 

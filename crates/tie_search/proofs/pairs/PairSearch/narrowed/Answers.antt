@@ -38,14 +38,14 @@ pub overflow_mul-most-2 : goal.overflow_mul-most-2
 overflow_mul-most-2 g c =
     omega (
       arith,
-      threshold-fits c.from-2.result c.nth_greatest-threshold.result (omega (arith, c.from-2.ensures, c.ranges.left)) (c.nth_greatest-threshold.ensures (2 ^ 80) c.row_sums-sums.ensures.small),
+      threshold-fits c.from-2.result c.nth_greatest-threshold.result (omega (arith, c.from-2.ensures, c.ranges.left)) (c.nth_greatest-threshold.ensures (2 ^ 80) c.sums-sums.ensures.small),
     )
 
 pub overflow_add-most : goal.overflow_add-most
 overflow_add-most g c =
     omega (
       arith,
-      threshold-fits c.from-2.result c.nth_greatest-threshold.result (omega (arith, c.from-2.ensures, c.ranges.left)) (c.nth_greatest-threshold.ensures (2 ^ 80) c.row_sums-sums.ensures.small),
+      threshold-fits c.from-2.result c.nth_greatest-threshold.result (omega (arith, c.from-2.ensures, c.ranges.left)) (c.nth_greatest-threshold.ensures (2 ^ 80) c.sums-sums.ensures.small),
       kept-fits c.from-factor.result c.add_ballots.new.totals.kept (omega (arith, c.from-factor.ensures, c.ranges.left)) c.add_ballots.ensures.small.kept_small,
     )
 
@@ -53,7 +53,7 @@ pub overflow_add-most-2 : goal.overflow_add-most-2
 overflow_add-most-2 g c =
     omega (
       arith,
-      threshold-fits c.from-2.result c.nth_greatest-threshold.result (omega (arith, c.from-2.ensures, c.ranges.left)) (c.nth_greatest-threshold.ensures (2 ^ 80) c.row_sums-sums.ensures.small),
+      threshold-fits c.from-2.result c.nth_greatest-threshold.result (omega (arith, c.from-2.ensures, c.ranges.left)) (c.nth_greatest-threshold.ensures (2 ^ 80) c.sums-sums.ensures.small),
       kept-fits c.from-factor.result c.add_ballots.new.totals.kept (omega (arith, c.from-factor.ensures, c.ranges.left)) c.add_ballots.ensures.small.kept_small,
       c.excess.ensures.small,
     )
@@ -69,7 +69,7 @@ overflow_mul-from-2 g c =
 -- the bound of all completions
 greatest-is : (g : _) (c : After-excess g)
     → 2 * c.from-factor.result * c.add_ballots.new.totals.kept + c.from-2.result * c.nth_greatest-threshold.result + c.excess.result
-    ≡ 2 * (c.args.left - 1) * c.add_ballots.new.totals.kept + c.args.left * c.nth_greatest-threshold.result + sum_by (λ n. get_or c.row_sums-sums.result n 0 - c.nth_greatest-threshold.result) c.args.free
+    ≡ 2 * (c.args.left - 1) * c.add_ballots.new.totals.kept + c.args.left * c.nth_greatest-threshold.result + sum_by (λ n. get_or c.sums-sums.result n 0 - c.nth_greatest-threshold.result) c.args.free
 greatest-is g c =
     omega (
       arith,
@@ -104,12 +104,12 @@ returns-then-most-due g c weights are =
     let self = c.args.self.now in
     let e = self.profile.now in
     let totals = c.add_ballots.new.totals in
-    let sums = c.row_sums-sums.result in
+    let sums = c.sums-sums.result in
     let t = c.nth_greatest-threshold.result in
     let raise = 2 * c.from-factor.result * c.from.result in
     pairs-none weights self.given.now.scale self.given.now.unit e.m e.rows c.args.set c.args.free c.args.left totals.kept totals.worths totals.overlaps c.requires.opened c.add_ballots.ensures.election.most c.requires.several c.requires.unit
     (c.add_ballots.ensures.totals weights are) self.least c.units.result raise c.units.ensures (raise-enough g (goal.at.returns-then-most-due g c).After-excess)
-    sums c.row_sums-sums.ensures.sums t (2 * c.from-factor.result * totals.kept + c.from-2.result * t + c.excess.result) c.saturating_add-due.result
+    sums c.sums-sums.ensures.sums t (2 * c.from-factor.result * totals.kept + c.from-2.result * t + c.excess.result) c.saturating_add-due.result
     (greatest-is g (goal.at.returns-then-most-due g c).After-excess) (due-low g (goal.at.returns-then-most-due g c).After-saturating_add-due) c.if-most-due.true
 
 pub returns : goal.returns
@@ -117,11 +117,11 @@ returns g c weights are =
     let self = c.args.self.now in
     let e = self.profile.now in
     let totals = c.add_ballots.new.totals in
-    let sums = c.row_sums-sums.result in
+    let sums = c.sums-sums.result in
     let t = c.nth_greatest-threshold.result in
     let raise = 2 * c.from-factor.result * c.from.result in
     pairs-narrowed weights self.given.now.scale self.given.now.unit e.m e.rows c.args.set c.args.free c.args.left totals.kept totals.worths totals.overlaps c.requires.opened c.add_ballots.ensures.election.most c.requires.several c.requires.unit
     (c.add_ballots.ensures.totals weights are) self.least c.units.result raise c.units.ensures (raise-enough g (goal.at.returns g c).After-excess)
-    sums c.row_sums-sums.ensures.sums t (2 * c.from-factor.result * totals.kept + c.from-2.result * t + c.excess.result) c.saturating_add-due.result
+    sums c.sums-sums.ensures.sums t (2 * c.from-factor.result * totals.kept + c.from-2.result * t + c.excess.result) c.saturating_add-due.result
     (greatest-is g (goal.at.returns g c).After-excess) (due-low g (goal.at.returns g c).After-saturating_add-due) c.if-most-due.false c.at_least.result
     c.at_least.ensures.within c.at_least.ensures.among (rw c.saturating_sub.ensures at c.at_least.ensures.kept)

@@ -6,7 +6,7 @@ use Rattle.tie_walk.proofs.WorthLemmas.{no_total}
 use Rattle.tie_search.specs.Steps.Paired.{IsRowSum}
 use Rattle.tie_search.proofs.OverlapLemmas.{first-in, first-low, later-in, set-made, set-most}
 use Rattle.tie_search.proofs.SearchLemmas.{rest-increasing}
-use Rattle.tie_search.proofs.pairs.Totals.row_sums.Goals as goal
+use Rattle.tie_search.proofs.pairs.Rows.sums.Goals as goal
 
 pub loop-i-init : goal.loop-i-init
 loop-i-init c =
@@ -17,13 +17,20 @@ loop-i-init c =
       among = λ n is. is;
       made = λ j in_ out. absurd (let e : true ≡ false = sym in_ ∙ out in cc);
       small = λ j. let e : get_or {A = ℕ} (replicate 65 0) j 0 ≡ 0 = no_total 65 j in omega (arith, e);
+      beside_small = λ j. let e : get_or {A = ℕ} (replicate 65 0) j 0 ≡ 0 = no_total 65 j in omega (arith, e);
     }
 
-pub row_sum-requires-clause-candidates : goal.row_sum-requires-clause-candidates
-row_sum-requires-clause-candidates c = c.members-i-items.ensures.valid
+pub put_beside-requires-clause-within : goal.put_beside-requires-clause-within
+put_beside-requires-clause-within c = first-low c.loop-i.i-iterator c.next.new.self c.in-Some.i c.in-Some.ensures.steps c.loop-i.invariant.rises
 
-pub row_sum-requires-clause-member : goal.row_sum-requires-clause-member
-row_sum-requires-clause-member c =
+pub put_beside-requires-clause-small : goal.put_beside-requires-clause-small
+put_beside-requires-clause-small c = c.loop-i.invariant.beside_small
+
+pub sum_of-requires-clause-candidates : goal.sum_of-requires-clause-candidates
+sum_of-requires-clause-candidates c = c.members-i-items.ensures.valid
+
+pub sum_of-requires-clause-member : goal.sum_of-requires-clause-member
+sum_of-requires-clause-member c =
     c.loop-i.invariant.among c.in-Some.i (first-in c.loop-i.i-iterator c.next.new.self c.in-Some.i c.in-Some.ensures.steps c.loop-i.invariant.rises)
 
 pub bounds-sums-from : goal.bounds-sums-from
@@ -42,8 +49,9 @@ loop-i-preserved c =
       rises = (rest-increasing most_candidates rest c.next.new.self first c.in-Some.ensures.steps inv.rises).1;
       among = λ n is. inv.among n (later-in rest c.next.new.self first c.in-Some.ensures.steps inv.rises n is);
       made = set-made rest c.next.new.self first c.in-Some.ensures.steps inv.rises
-          (λ j n. IsRowSum self.worths self.overlaps c.args.free c.args.left c.args.raise j n) c.args.free c.loop-i.sums c.row_sum.result inside c.row_sum.ensures.sum inv.made;
-      small = set-most rest c.next.new.self first c.in-Some.ensures.steps inv.rises c.loop-i.sums c.row_sum.result (2 ^ 80) inside c.row_sum.ensures.small inv.small;
+          (λ j n. IsRowSum self.totals.now.worths self.totals.now.overlaps c.args.self.now.free c.args.self.now.left c.args.self.now.raise j n) c.args.self.now.free c.loop-i.sums c.sum_of.result inside c.sum_of.ensures.sum inv.made;
+      small = set-most rest c.next.new.self first c.in-Some.ensures.steps inv.rises c.loop-i.sums c.sum_of.result (2 ^ 80) inside c.sum_of.ensures.small inv.small;
+      beside_small = c.put_beside.ensures.small;
     }
 
 pub returns-clause-sums : goal.returns-clause-sums
