@@ -104,17 +104,17 @@ fn bend(step: u64, rise: u64, run: u64) -> u64
     fall.min(step)
 }
 
-/// Fewer hits before than this have a place in a table of majorants.
+/// A table of majorants has places for fewer hits before than this.
 const PLACES_BEFORE: usize = 16;
 
-/// Ballots with fewer free candidates than this have a place in a table of majorants.
+/// A table of majorants has places for ballots that approve fewer free candidates than this.
 const PLACES_OPEN: usize = 32;
 
-/// A place for each number of hits before and of free candidates, those of the same number of hits together.
+/// How many places a table of majorants has.
 const TABLE_PLACES: usize = 512;
 
-/// The majorants of ballots if `left` of `free` candidates complete a set. Each is kept from when it is first asked for.
-/// Contracts see the sums and `left`.
+/// The majorants of ballots if `left` of `free` candidates complete a set. Each is computed when it is first asked for,
+/// and kept. Contracts see the sums and `left`.
 #[derive(Drop)]
 pub(crate) struct Majorants<'a> {
     sums: &'a [u64; PLACES],
@@ -151,7 +151,7 @@ impl<'a> Majorants<'a> {
         }
     }
 
-    /// The majorant of a ballot with `before` hits on which so many free candidates are.
+    /// The majorant of a ballot that has `before` hits and approves `approved` free candidates.
     pub(crate) fn of_ballot(&mut self, before: u8, approved: u8) -> Majorant
         requires { before + approved ≤ most_candidates }
         ensures majorant { IsMajorantOf self.old.sums before (min self.old.left approved) result }
@@ -170,7 +170,7 @@ impl<'a> Majorants<'a> {
         majorant
     }
 
-    /// Makes the majorant of such a ballot.
+    /// Computes what `of_ballot` returns.
     fn made(&self, before: u8, approved: u8) -> Majorant
         requires { before + approved ≤ most_candidates }
         ensures { IsMajorantOf self.now.sums before (min self.now.left approved) result }

@@ -135,7 +135,7 @@ impl Totals {
         }
     }
 
-    /// Adds the majorant of a ballot on which these free candidates are, for each of its voters.
+    /// Adds the majorant of a ballot that approves these free candidates, once for each of its voters.
     fn add(&mut self, majorant: Majorant, approved: CandSet, voters: u64)
         requires voters { voters ≤ 2 ^ 32 }
         requires majorant { IsSmallMajorant majorant }
