@@ -4,8 +4,8 @@
 //! by one hit. The gain of a candidate is the sum, over numbers of hits, of the weight times the bits that word and
 //! column share. Only the candidates that are asked for are counted.
 //!
-//! There are no columns for more than 8,192 voters or more than two voters a row; then gains come from one pass over the
-//! rows. Sums are made in words of 64 bits if all weights are below 2^44, and in words of 128 bits otherwise.
+//! There are no columns for more than 8,192 voters or more than two voters a row; then gains come from one pass over
+//! the rows. Sums are made in words of 64 bits if all weights are below 2^44, and in words of 128 bits otherwise.
 ghost use Rattle.std.specs.Prelude.{◌≡◌, ℕ, ◌+◌, ◌-◌, ◌*◌, ◌^◌, ◌<◌, ◌≤◌, ◌==◌, ◌&&◌, true, List, [], ◌∷◌, ◌++◌, length, replicate, slice_index, slice_index_or, MatchOption, ⊤, if◌then◌else◌};
 ghost use Rattle.std.specs.Int.{bit_at};
 ghost use Rattle.ballot_base.specs.Limits.{most_candidates, most_members};
