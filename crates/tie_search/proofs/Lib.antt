@@ -6,6 +6,7 @@ pub mod CompletionLemmas
 mod Examples
 pub mod KeptLemmas
 pub mod LiveLemmas
+pub mod MajorantLemmas
 mod NearClones
 pub mod NeedLemmas
 pub mod OverlapLemmas

@@ -1,12 +1,13 @@
 //! `ExactTally`: one tally over whatever is `Searchable`, with bounds that are exact at the greatest value.
 //!
-//! The greatest value is found by searches for more than the best known, until one finds nothing; the last committee
-//! found is kept.
+//! If what is searched lists all committees with the greatest value, each question is answered from the list. Otherwise
+//! the greatest value is found by searches for more than the best known, until one finds nothing, and questions are
+//! answered by further searches.
 //!
-//! Before a search, two committees are tried: the one that was found last, and the set with the last candidates of all.
-//! Both are tested by their members and value, so no proof rests on what the cell holds. A committee with the greatest
-//! value shows that the bounds reach it up to the first member outside the set (module `witness`). So `reach` searches
-//! once for many places, and if most committees tie, not at all.
+//! Before such a search, two committees are tried: the one that was found last, and the set with the last candidates of
+//! all. Both are tested by their members and value, so no proof rests on what the cell holds. A committee with the
+//! greatest value shows that the bounds reach it up to the first member outside the set (module `witness`). So `reach`
+//! searches once for many places, and if most committees tie, not at all.
 ghost use Rattle.std.specs.Prelude.{◌≡◌, ℕ, ◌+◌, ◌-◌, ◌≤◌, [], false, MatchOption, length};
 ghost use Rattle.ballot_base.specs.Lists.{IsIncreasing};
 ghost use Rattle.tie_walk.specs.Ceilings.{IsBound};

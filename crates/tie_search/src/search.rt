@@ -1,20 +1,24 @@
-//! A search for a committee with at least a value under a Thiele rule: depth first, giving up sets whose bound is too
-//! low.
+//! A search for committees of great value under a Thiele rule: depth first, giving up sets whose bound is too low.
 //!
 //! If no candidate is left to add, the value decides. Otherwise the gains at the set give a bound, and each free
 //! candidate in turn, highest gain first, is searched below and then leaves, until the bound of the remaining ones is
 //! too low (Nemhauser and Wolsey, Maximizing submodular set functions, 1981). The gain of a candidate is added to the
 //! value, so no value is computed anew. Under `cc` a search also ends if all free candidates together add too little.
 //!
-//! After a candidate has joined, the others stay free only if they can still be in a committee that reaches the value.
-//! The gains from before are enough to decide this, since gains only fall as a set grows (`proofs/KeptLemmas.antt`). So
-//! few candidates are counted for each set.
+//! One search lists all committees with the greatest value (module `found`): it begins with the value of a good
+//! committee, and looks for more as soon as it has met more. `find` is the same search, and ends with the first
+//! committee.
 //!
-//! A candidate who was tried leaves with all its clones: put in a clone's place, it makes a committee of the same
-//! value, and all committees with it were searched (`proofs/CloneLemmas.antt`).
+//! After a candidate has joined, the others stay free only if they can still be in a committee that counts. The gains
+//! from before are enough to decide this, since gains only fall as a set grows (`proofs/KeptLemmas.antt`). So few
+//! candidates are counted for each set.
+//!
+//! A candidate who was tried leaves with all its clones, unless a committee with it counts: put in a clone's place, it
+//! makes a committee of the same value, and all committees with it were searched (`proofs/FoundLemmas.antt`).
 //!
 //! While enough seats are left, a bound by pairs of candidates comes before the gains are counted, and again after each
-//! candidate that was tried (module `pairs`). It counts a voter who approves two members less than twice.
+//! candidate that was tried (module `pairs`). It counts a voter who approves two members less than twice. Where few sets
+//! are given up for it, it is left out.
 //!
 //! The bound needs no sorting in its proof. For any threshold, an added member brings at most the threshold and what
 //! its gain exceeds it by (`laws::thresholds`). The last of the `left` highest gains makes the bound lowest.
@@ -43,7 +47,7 @@ use crate::prices::{Prices, SCALE};
 use ballot_base::{CandSet, Clones, PLACES, Profile, ThieleRule};
 use std::alloc::Allocator;
 use std::cell::Cell;
-use tie_walk::{Tally, ThieleTally, widened};
+use tie_walk::{Tally, ThieleTally};
 
 /// What a search is helped by: who are clones; columns and prices, if they are worth their making; and what hits give,
 /// for majorants.
@@ -56,7 +60,7 @@ pub(crate) struct Aids {
     pub(crate) use_of_pairs: UseOfPairs,
 }
 
-/// How often pairs were counted, and how often a set was given up for them. Where they seldom help, they are counted no
+/// How often pairs were counted, and how often a set was given up for them. If they seldom help, they are counted no
 /// more.
 #[derive(Drop)]
 pub(crate) struct UseOfPairs {
@@ -88,10 +92,10 @@ impl UseOfPairs {
 }
 
 /// So often pairs are counted before their use is judged.
-const TRIALS_OF_PAIRS: u32 = 64;
+const TRIALS_OF_PAIRS: u32 = 256;
 
 /// Pairs are worth their counting if one set of so many is given up for them.
-const LEAST_HELP_OF_PAIRS: u32 = 10;
+const LEAST_HELP_OF_PAIRS: u32 = 16;
 
 /// A set that may become a committee, its value, the candidates that are free to join it, and how many of them do.
 #[derive(Clone, Copy)]
@@ -317,7 +321,7 @@ impl<A: Allocator + Copy> Search<'_, A> {
     {
         self.tally.valid();
         match &self.aids.columns {
-            Some(columns) => widened(&columns.gains_of(set, free)),
+            Some(columns) => columns.gains_of(set, free),
             None => self.tally.value_and_gains(set, free).1,
         }
     }

@@ -1,6 +1,6 @@
 -- Steps of a search that lists committees.
 use Rattle.std.specs.Prelude.{◌≡◌, ℕ, ◌+◌, ◌⊎◌, ◌<◌, ◌≤◌, List}
-use Rattle.tie_search.specs.Completions.{IsCompletion, IsReaching}
+use Rattle.tie_search.specs.Completions.{IsCompletion}
 use Rattle.tie_search.specs.Tied.{IsAmong, most_tied}
 use Rattle.tie_search.specs.declared.found.Found.{Found}
 use Rattle.tie_search.specs.declared.found.Wanted.TheVariants.{All}

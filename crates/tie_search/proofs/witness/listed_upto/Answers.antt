@@ -1,4 +1,4 @@
-use Rattle.std.proofs.Common.{◌≡◌, ℕ, ◌<◌, ◌≤◌, [], List, inl, inr, subst, sym, arith, get_or}
+use Rattle.std.proofs.Common.{◌≡◌, [], inl, inr, subst, sym, arith, get_or}
 use Rattle.std.proofs.lemmas.Bool.{cases_lt}
 use Rattle.std.proofs.lemmas.Grind.{common_steps}
 use Rattle.tie_search.specs.Steps.Witness.{IsSetAndLater}

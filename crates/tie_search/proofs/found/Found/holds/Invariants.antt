@@ -1,4 +1,4 @@
-use Rattle.std.proofs.Common.{◌≡◌, ℕ, ◌<◌, ◌≤◌, [], false, get_or}
+use Rattle.std.proofs.Common.{◌≡◌, ℕ, ◌<◌, [], false, get_or}
 use Rattle.ballot_base.specs.CandSet.{includes}
 use Rattle.tie_search.proofs.found.Found.holds.Given as goal
 

@@ -1,4 +1,4 @@
-use Rattle.std.proofs.Common.{◌≡◌, ℕ, ◌+◌, ◌-◌, ◌<◌, ◌≤◌, ◌∙◌, true, List, ap, arith, inl, inr, length, get_or}
+use Rattle.std.proofs.Common.{◌≡◌, ℕ, ◌+◌, ◌-◌, ◌<◌, ◌∙◌, true, ap, arith, inl, inr, length, get_or}
 use Rattle.ballot_base.specs.Increments.{increments}
 use Rattle.ballot_base.specs.CandSet.{has_member, with_member, without_member}
 use Rattle.tie_walk.specs.Sequences.{gain}
@@ -86,9 +86,10 @@ descend-requires g t c κs within =
     ap (λ n. get_or c.gains_at-gains.result n 0) c.from.ensures
     ∙ c.gains_at-gains.ensures.gains next (c.loop-set.invariant.among next c.in-Some-first_of.ensures) in
     let value : c.args.node.value + get_or c.gains_at-gains.result c.from.result 0 ≡ tally_value tally (with_member set next) =
-    omega (arith, gained, same, c.requires.value) in
-    (omega (arith, c.if-left-eq0.false, c.decreases),
-    (within, (c.requires.ballots, (c.requires.aids, (rw c.with-tried.ensures fewer, (rw c.with-tried.ensures value, c.loop-set.invariant.advances.valid))))))
+    omega (arith, gained, same, c.requires.value) in (
+      omega (arith, c.if-left-eq0.false, c.decreases),
+      (within, (c.requires.ballots, (c.requires.aids, (rw c.with-tried.ensures fewer, (rw c.with-tried.ensures value, c.loop-set.invariant.advances.valid))))),
+    )
 
 pub untried-untried-requires-clause-candidate : goal.untried-untried-requires-clause-candidate
 untried-untried-requires-clause-candidate g t c =

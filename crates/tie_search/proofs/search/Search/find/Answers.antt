@@ -1,6 +1,6 @@
-use Rattle.std.proofs.Common.{◌≡◌, ◌∙◌, List, Option, None, Some, sym, arith, ℕ}
+use Rattle.std.proofs.Common.{◌≡◌, List, Option, None, Some, ℕ}
 use Rattle.std.specs.Prelude.{MatchOption}
-use Rattle.tie_search.specs.Completions.{IsCompletion, IsOutOfReach, IsReaching, tally_value}
+use Rattle.tie_search.specs.Completions.{IsOutOfReach, IsReaching, tally_value}
 use Rattle.tie_search.specs.Steps.Found.{AreSearched, IsListed}
 use Rattle.tie_search.specs.declared.found.Found.{Found}
 use Rattle.tie_search.proofs.FoundLemmas.{found-reaches, none-found}

@@ -1,4 +1,4 @@
-use Rattle.std.proofs.Common.{◌≡◌, ℕ, ◌&&◌, ◌∙◌, Bool, true, false, not, List, refl, sym, ap, arith}
+use Rattle.std.proofs.Common.{◌≡◌, ℕ, ◌&&◌, ◌∙◌, Bool, true, false, not, List, refl, sym, arith}
 use Rattle.ballot_base.specs.CandSet.{has_member, other_members}
 use Rattle.ballot_base.proofs.Increasing.{IsIncreasing-filter, has_member-filter}
 use Rattle.tie_search.proofs.CloneLemmas.{class-are, minus-is}
