@@ -176,12 +176,3 @@ clones-left value m set left least free rest clones c some open' here same left_
     go x false not_in false clone is =
         ap (λ b. has_member set x || b) (has_member-filter (λ y. not (has_member clones y)) (without_member rest c) x ∙ ap (λ b. not b && has_member (without_member rest c) x) clone)
         ∙ now.within x is
-
--- the same under a Thiele rule
-pub clones-out : (tally : Thiele) (set : List ℕ) (left least : ℕ) (free rest clones : List ℕ) (c : ℕ) → IsElection tally.election → 1 ≤ left → IsOpen tally.election.m set rest → has_member rest c ≡ true
-    → ((d : ℕ) → has_member clones d ≡ true → are_clones tally.election.rows c d ≡ true) → AreLeft (tally_value tally) tally.election.m set left least free rest
-    → IsOutOfReach (tally_value tally) tally.election.m (with_member set c) (without_member rest c) (left - 1) least
-    → AreLeft (tally_value tally) tally.election.m set left least free (other_members (without_member rest c) clones)
-clones-out tally set left least free rest clones c valid some open' here are =
-    clones-left (tally_value tally) tally.election.m set left least free rest clones c some open' here
-    (λ committee d up is out clone. value-exchanged tally.election.m committee c d up is out tally valid (are d clone))

@@ -3,6 +3,7 @@ use Rattle.std.proofs.Common.{◌≡◌, ℕ, zero, suc, ◌+◌, ◌-◌, ◌*�
 use Rattle.std.specs.Int.{bit_at}
 use Rattle.std.specs.Int.Count.{ones-ones}
 use Rattle.std.specs.Int.RustNames.{count_ones}
+use Rattle.std.proofs.Math.Nat.{mul-le-mul}
 use Rattle.std.proofs.lemmas.Bool.{cases_eq, cases_lt, cases_order, eq-eqb, ne_eqb, lt-ltb, le-ltb}
 use Rattle.std.proofs.lemmas.List.{append-nil, append_assoc, take_more, take-append-drop, get_or-set_same, get_or-set_other, length-replicate}
 use Rattle.std.proofs.lemmas.Option.{get_or_from_slice_get, slice_get_within}
@@ -122,10 +123,14 @@ ones-most n small =
 and-fits : (a b : ℕ) → b < 2 ^ 64 → bit_and a b < 2 ^ 64
 and-fits a b small = omega (arith, and_le_r a b, small)
 
--- how many bits two words have in common
-pub ones-and : (a b : ℕ) → b < 2 ^ 64 → count_ones (bit_and a b) ≤ 64
+ones-and : (a b : ℕ) → b < 2 ^ 64 → count_ones (bit_and a b) ≤ 64
 ones-and a b small = ones-most (bit_and a b) (and-fits a b small)
 
+-- what the voters whom two words share give
+pub shares-few : (weight a b most : ℕ) → weight ≤ most → b < 2 ^ 64 → weight * count_ones (bit_and a b) ≤ most * 64
+shares-few weight a b most small fits = mul-le-mul small (ones-and a b fits)
+
+-- how many bits two words have in common
 pub ones-common : (a b : ℕ) → a < 2 ^ 64 → count_ones (bit_and a b) ≡ total (λ i. min (bit_at a i) (bit_at b i)) block_voters
 ones-common a b small =
     ones-total (bit_and a b) (omega (arith, and_le_l a b, small))

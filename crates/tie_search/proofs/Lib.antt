@@ -1,10 +1,12 @@
 pub mod CloneLemmas
 pub mod ColumnLemmas
 pub mod CoverLemmas
+mod FoundLemmas
 pub mod CompletionLemmas
 mod Examples
 pub mod KeptLemmas
 pub mod LiveLemmas
+pub mod MajorantLemmas
 mod NearClones
 pub mod NeedLemmas
 pub mod OverlapLemmas

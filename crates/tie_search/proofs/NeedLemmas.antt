@@ -7,12 +7,12 @@ use Rattle.std.proofs.lemmas.List.Sums.{sum_by-cons, length-filter, count_by-le-
 use Rattle.ballot_base.specs.CandSet.{has_member, common_members, other_members, with_member, without_member}
 use Rattle.ballot_base.specs.Lists.{IsIncreasing}
 use Rattle.ballot_base.specs.Ballots.{Row, hits}
-use Rattle.ballot_base.proofs.Increasing.{IsIncreasing-filter, has_member-filter, has_member_head, has_member_tail, same_increasing}
+use Rattle.ballot_base.proofs.Increasing.{IsIncreasing-filter, has_member-filter, has_member_head, has_member_tail}
 use Rattle.tie_walk.specs.Values.{distance, greatest_distance, closeness}
 use Rattle.tie_walk.proofs.Distances.{ballot-found, common-least_right, common-turned, distance-sizes, greatest-more, greatest_distance-most}
 use Rattle.tie_walk.proofs.RowSums.{length-common}
 use Rattle.tie_search.specs.Completions.{IsOpen, IsCompletion, IsReaching, IsOutOfReach}
-use Rattle.tie_search.proofs.CompletionLemmas.{added, added-free, added-increasing, added-size, and-true, completion-few, completion-members, filter-most, hits-same, open-without, without-is}
+use Rattle.tie_search.proofs.CompletionLemmas.{added, added-free, added-increasing, added-size, and-true, completion-few, completion-members, hits-same, open-without, without-is}
 use Rattle.tie_search.proofs.CloneLemmas.{clones-left, exchanged, minus-is, open-minus}
 use Rattle.tie_search.proofs.SearchLemmas.{AreLeft, none-left}
 use Rattle.tie_search.specs.Needs.{hits_needed}
@@ -263,6 +263,30 @@ module _ (m : ℕ) (rows : List Row) (most : ℕ) (set free : List ℕ) (left : 
 
 -- ---- free candidates of whom all are who join
 
+-- the free candidates who stay are all whom a committee adds that reaches the value
+pub narrowed-by : (value : List ℕ → ℕ) (m : ℕ) (set free : List ℕ) (left least : ℕ) (kept : List ℕ) → IsOpen m set free → ((x : ℕ) → IsIncreasing 1 x free → IsIncreasing 1 x kept)
+    → ((n : ℕ) → has_member kept n ≡ true → has_member free n ≡ true)
+    → ((committee : List ℕ) → IsCompletion m set free left committee → least ≤ value committee → (n : ℕ) → has_member committee n ≡ true → has_member free n ≡ true → has_member kept n ≡ true)
+    → IsNarrowed value m set free left least kept
+narrowed-by value m set free left least kept open' rises among still = record {
+  opened = record {
+    set_within = open'.set_within;
+    free_within = rises m open'.free_within;
+    apart = λ n h. open'.apart n (among n h);
+  };
+  among = among;
+  kept = λ committee whole reaches. record {
+    candidates = whole.candidates;
+    whole = whole.whole;
+    within = λ n h. or-more (has_member set n) (has_member free n) (has_member kept n) (still committee whole reaches n h) (whole.within n h);
+    size = whole.size;
+  };
+}
+  where
+    or-more : (p q r : Bool) → (q ≡ true → r ≡ true) → (p || q) ≡ true → (p || r) ≡ true
+    or-more true q r h is = refl
+    or-more false q r h is = h is
+
 -- all are free at first
 pub narrowed-none : (value : List ℕ → ℕ) (m : ℕ) (set free : List ℕ) (left least : ℕ) → IsOpen m set free → IsNarrowed value m set free left least free
 narrowed-none value m set free left least open' = record {
@@ -348,18 +372,6 @@ module _ (value : List ℕ → ℕ) (m : ℕ) (set free : List ℕ) (left least 
 pub choice-left : (choices rest both : List ℕ) (next : ℕ) → both ≡ common_members choices rest → has_member both next ≡ true → has_member rest next ≡ true
 choice-left choices rest both next are is =
     (and-true (has_member rest next) (has_member choices next) (sym (has_member-filter (has_member rest) choices next) ∙ ap (λ l. has_member l next) (sym are) ∙ is)).0
-
--- fewer members are a shorter list
-pub fewer-shorter : (m : ℕ) (xs ys : List ℕ) → IsIncreasing 1 m xs → IsIncreasing 1 m ys → ((n : ℕ) → has_member xs n ≡ true → has_member ys n ≡ true) → length xs ≤ length ys
-fewer-shorter m xs ys up rises among =
-    let same : xs ≡ filter (has_member xs) ys =
-    same_increasing 1 m xs (filter (has_member xs) ys) up (IsIncreasing-filter (has_member xs) 1 m ys rises)
-    (λ n. kept (has_member xs n) (has_member ys n) (among n) ∙ sym (has_member-filter (has_member xs) ys n)) in
-    omega (arith, ap length same, filter-most (has_member xs) ys)
-  where
-    kept : (p q : Bool) → (p ≡ true → q ≡ true) → p ≡ (p && q)
-    kept true q h = sym (h refl)
-    kept false q h = refl
 
 -- too few are free
 pub too-few : (value : List ℕ → ℕ) (m : ℕ) (set free : List ℕ) (left least : ℕ) → IsOpen m set free → length free < left → IsOutOfReach value m set free left least

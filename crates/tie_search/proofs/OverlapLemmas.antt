@@ -1,5 +1,5 @@
 -- Tables of pairs, and what a ballot adds to them.
-use Rattle.std.proofs.Common.{◌≡◌, ℕ, ◌+◌, ◌*◌, ◌/◌, ◌%◌, ◌<◌, ◌≤◌, ◌==◌, ◌∙◌, ◌⊎◌, Bool, true, false, cond, List, ◌∷◌, refl, sym, ap, subst, arith, inl, inr, length, get_or, set}
+use Rattle.std.proofs.Common.{◌≡◌, ℕ, ◌+◌, ◌*◌, ◌/◌, ◌%◌, ◌<◌, ◌≤◌, ◌==◌, ◌∙◌, ◌⊎◌, ◌||◌, Bool, true, false, cond, List, ◌∷◌, refl, sym, ap, subst, arith, inl, inr, length, get_or, set}
 use Rattle.std.proofs.lemmas.Bool.{cases_eq, eq-eqb, ne_eqb}
 use Rattle.std.proofs.lemmas.List.{get_or-set_same, get_or-set_other}
 use Rattle.ballot_base.specs.Limits.{most_candidates}
@@ -27,6 +27,13 @@ place-row i j row first low few same = omega (arith, low, few, same)
 module _ (left rest : List ℕ) (first : ℕ) (is : left ≡ first ∷ rest) (up : IsIncreasing 1 most_candidates left) where
   pub first-in : has_member left first ≡ true
   first-in = ap (λ l. has_member l first) is ∙ has_member_head first rest
+
+  pub later-in : (n : ℕ) → has_member rest n ≡ true → has_member left n ≡ true
+  later-in n later = ap (λ l. has_member l n) is ∙ or-true (first == n) (has_member rest n) later
+    where
+      or-true : (p q : Bool) → q ≡ true → (p || q) ≡ true
+      or-true true q h = refl
+      or-true false q h = h
 
   pub first-gone : has_member rest first ≡ false
   first-gone = let at : IsIncreasing 1 most_candidates (first ∷ rest) = rw is at up in has_member-below (first + 1) most_candidates rest first at.2 (omega arith)

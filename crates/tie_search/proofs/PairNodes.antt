@@ -1,5 +1,5 @@
 -- What the totals of pairs say of a set.
-use Rattle.std.proofs.Common.{◌≡◌, ℕ, ◌+◌, ◌-◌, ◌*◌, ◌<◌, ◌≤◌, ◌&&◌, ◌||◌, ◌∙◌, Bool, true, false, List, refl, ap, arith, inl, inr, sum_by, get_or}
+use Rattle.std.proofs.Common.{◌≡◌, ℕ, ◌+◌, ◌-◌, ◌*◌, ◌<◌, ◌≤◌, ◌&&◌, ◌∙◌, true, List, ap, arith, inl, inr, sum_by, get_or}
 use Rattle.std.specs.Prelude.{slice_index}
 use Rattle.std.proofs.Math.Nat.{mul-le-mul_left}
 use Rattle.std.proofs.lemmas.Bool.{cases_lt}
@@ -14,31 +14,8 @@ use Rattle.tie_search.specs.Pairs.{pair_sum, row_sum}
 use Rattle.tie_search.specs.Steps.Near.{IsNarrowed}
 use Rattle.tie_search.specs.Steps.Paired.{AreTotals, IsRowSum, overlap_at}
 use Rattle.tie_search.proofs.CompletionLemmas.{added-free, added-increasing, added-size, member-high}
+use Rattle.tie_search.proofs.NeedLemmas.{narrowed-by}
 use Rattle.tie_search.proofs.PairLemmas.{rows-bound, rows-bound_member}
-
--- the free candidates who stay are all whom a committee adds that reaches the value
-pub narrowed-by : (value : List ℕ → ℕ) (m : ℕ) (set free : List ℕ) (left least : ℕ) (kept : List ℕ) → IsOpen m set free → ((x : ℕ) → IsIncreasing 1 x free → IsIncreasing 1 x kept)
-    → ((n : ℕ) → has_member kept n ≡ true → has_member free n ≡ true)
-    → ((committee : List ℕ) → IsCompletion m set free left committee → least ≤ value committee → (n : ℕ) → has_member committee n ≡ true → has_member free n ≡ true → has_member kept n ≡ true)
-    → IsNarrowed value m set free left least kept
-narrowed-by value m set free left least kept open' rises among still = record {
-  opened = record {
-    set_within = open'.set_within;
-    free_within = rises m open'.free_within;
-    apart = λ n h. open'.apart n (among n h);
-  };
-  among = among;
-  kept = λ committee whole reaches. record {
-    candidates = whole.candidates;
-    whole = whole.whole;
-    within = λ n h. or-more (has_member set n) (has_member free n) (has_member kept n) (still committee whole reaches n h) (whole.within n h);
-    size = whole.size;
-  };
-}
-  where
-    or-more : (p q r : Bool) → (q ≡ true → r ≡ true) → (p || q) ≡ true → (p || r) ≡ true
-    or-more true q r h is = refl
-    or-more false q r h is = h is
 
 -- a value that is reached in units is reached by the bound
 units-low : (scale unit least needed all overlaps : ℕ) → 1 ≤ unit → ((value : ℕ) → scale * least ≤ unit * value → needed ≤ value) → scale * least + unit * overlaps ≤ unit * all → needed + overlaps ≤ all

@@ -13,7 +13,7 @@ use Rattle.tie_walk.proofs.Distances.{ballot-found}
 use Rattle.tie_walk.specs.Values.{thiele_value}
 use Rattle.tie_search.specs.Completions.{IsOpen}
 use Rattle.tie_search.specs.Pairs.{IsMajorant}
-use Rattle.tie_search.specs.Steps.Paired.{AreSums, AreTotals, overlap_at}
+use Rattle.tie_search.specs.Steps.Paired.{AreNothing, AreSums, AreTotals, overlap_at}
 use Rattle.tie_search.proofs.NeedLemmas.{hits-append}
 use Rattle.tie_search.proofs.OverlapLemmas.{portion}
 use Rattle.tie_search.proofs.PairLemmas.{row-bound}
@@ -52,22 +52,18 @@ portion-most true true n = omega arith
 portion-most true false n = omega arith
 portion-most false q n = omega arith
 
--- no overlap adds nothing
-pub portion-zero : (p q : Bool) (n x : ℕ) → x ≡ 0 → portion p q (n * x) ≡ 0
-portion-zero p q n x none = omega (arith, portion-most p q (n * x), ap (λ y. n * y) none)
-
 -- ---- the rows so far
 
 -- nothing yet
-pub totals-none : (weights : List ℕ) (scale unit m : ℕ) (rows : List Row) (set free : List ℕ) (left : ℕ) (worths table : List ℕ) → ((i j : ℕ) → overlap_at table i j ≡ 0)
-    → AreTotals weights scale unit m (take 0 rows) set free left 0 worths table
-totals-none weights scale unit m rows set free left worths table zeros committee whole =
+pub totals-none : (weights : List ℕ) (scale unit m : ℕ) (rows : List Row) (set free : List ℕ) (left kept : ℕ) (worths table : List ℕ) → AreNothing kept worths table
+    → AreTotals weights scale unit m (take 0 rows) set free left kept worths table
+totals-none weights scale unit m rows set free left kept worths table nothing committee whole =
     let none : scale * thiele_value weights (take 0 rows) committee ≡ 0 = omega arith in
     omega (arith, none, ap (λ n. unit * n) (all (common_members free committee) (common_members free committee)))
   where
     row : (i : ℕ) (xs : List ℕ) → sum_by (overlap_at table i) xs ≡ 0
     row i [] = refl
-    row i (x ∷ xs) = omega (arith, row i xs, zeros i x, sum_by-cons (overlap_at table i) x xs)
+    row i (x ∷ xs) = omega (arith, row i xs, nothing.overlaps_none i x, sum_by-cons (overlap_at table i) x xs)
 
     all : (xs ys : List ℕ) → sum_by (λ i. sum_by (overlap_at table i) ys) xs ≡ 0
     all [] ys = refl

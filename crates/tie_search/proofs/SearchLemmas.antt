@@ -1,5 +1,5 @@
 -- The bound of a node of the search, and what a node that was searched leaves.
-use Rattle.std.proofs.Common.{◌≡◌, ℕ, zero, suc, ◌+◌, ◌-◌, ◌*◌, ◌^◌, ◌<◌, ◌≤◌, ◌==◌, ◌||◌, ◌∙◌, Bool, true, false, cond, List, [], ◌∷◌, ◌++◌, refl, sym, ap, arith, inl, inr, length, filter, get_or, replicate, sum_by}
+use Rattle.std.proofs.Common.{◌≡◌, ℕ, zero, suc, ◌+◌, ◌-◌, ◌*◌, ◌^◌, ◌≤◌, ◌==◌, ◌||◌, ◌∙◌, Bool, true, false, cond, List, [], ◌∷◌, ◌++◌, refl, sym, ap, arith, inl, inr, length, filter, get_or, replicate, sum_by}
 use Rattle.std.specs.Prelude.{IsTrue}
 use Rattle.std.proofs.lemmas.Bool.{cases_lt}
 use Rattle.std.proofs.lemmas.List.Folds.{list_any-append}
@@ -17,7 +17,7 @@ use Rattle.tie_walk.proofs.Gains.{thiele-gain, thiele-most}
 use Rattle.tie_walk.proofs.TableLemmas.{increments_sum-most, sum-take-le}
 use Rattle.tie_walk.proofs.Submodular.{gains-bound, thiele_rule-submodular}
 use Rattle.tie_search.specs.Completions.{IsOpen, IsCompletion, IsReaching, IsOutOfReach, tally_value}
-use Rattle.tie_search.proofs.CompletionLemmas.{added, added-free, added-size, completion-few, completion-members, completion-whole, completion-self, completion-with, completion-without, completion-back, thiele-same}
+use Rattle.tie_search.proofs.CompletionLemmas.{added, added-free, added-size, completion-few, completion-members, completion-self, completion-with, completion-without, completion-back, thiele-same}
 
 -- ---- sums
 
@@ -157,8 +157,6 @@ module _ (value : List ℕ → ℕ) (m : ℕ) (set : List ℕ) (left least : ℕ
     reaches = reaches;
   }
 
-  pub set-short : (free : List ℕ) → left ≡ 0 → IsOpen m set free → value set < least → IsOutOfReach value m set free left least
-  set-short free none open' short committee whole = omega (arith, short, ap value (completion-whole m set free left committee open' whole none))
 
 -- what a test that failed does not allow
 pub not-true : (b : Bool) → b ≡ false → IsTrue b → ⊥

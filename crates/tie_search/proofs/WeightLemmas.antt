@@ -15,7 +15,7 @@ use Rattle.tie_search.specs.Completions.{IsOpen, IsCompletion, IsOutOfReach}
 use Rattle.tie_search.specs.Needs.{hits_needed, weighted_needs, weighted_support}
 use Rattle.tie_search.specs.Steps.Near.{AreWeighted, IsNarrowed, need_weight}
 use Rattle.tie_search.proofs.CompletionLemmas.{added, added-free, added-increasing, added-size, completion-members, hits-same}
-use Rattle.tie_search.proofs.NeedLemmas.{hits-append, needs-met, value-near}
+use Rattle.tie_search.proofs.NeedLemmas.{hits-append, narrowed-by, needs-met, value-near}
 use Rattle.tie_search.proofs.PriceLemmas.{hits-turned}
 use Rattle.tie_search.proofs.SearchLemmas.{sum-part, sum-threshold}
 
@@ -270,25 +270,9 @@ module _ (m most : ℕ) (rows : List Row) (set free : List ℕ) (left total : �
   -- whoever joins has enough support
   pub weighted-narrowed : total ≤ greatest → (kept : List ℕ) → ((x : ℕ) → IsIncreasing 1 x free → IsIncreasing 1 x kept) → ((n : ℕ) → has_member kept n ≡ true → has_member free n ≡ true)
       → ((n : ℕ) → has_member free n ≡ true → t - (greatest - total) ≤ get_or supports n 0 → has_member kept n ≡ true) → IsNarrowed (closeness m rows) m set free left (m - most) kept
-  weighted-narrowed enough kept rises among stays = record {
-    opened = record {
-      set_within = open'.set_within;
-      free_within = rises m open'.free_within;
-      apart = λ n h. open'.apart n (among n h);
-    };
-    among = among;
-    kept = λ committee whole reaches. record {
-      candidates = whole.candidates;
-      whole = whole.whole;
-      within = λ n h. or-more (has_member set n) (has_member free n) (has_member kept n) (still committee whole reaches n h) (whole.within n h);
-      size = whole.size;
-    };
-  }
+  weighted-narrowed enough kept rises among stays =
+      narrowed-by (closeness m rows) m set free left (m - most) kept open' rises among still
     where
-      or-more : (p q r : Bool) → (q ≡ true → r ≡ true) → (p || q) ≡ true → (p || r) ≡ true
-      or-more true q r h is = refl
-      or-more false q r h is = h is
-
       still : (committee : List ℕ) → IsCompletion m set free left committee → m - most ≤ closeness m rows committee → (n : ℕ) → has_member committee n ≡ true → has_member free n ≡ true
           → has_member kept n ≡ true
       still committee whole reaches n in_ open_ =

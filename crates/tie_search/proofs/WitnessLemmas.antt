@@ -2,22 +2,24 @@
 use Rattle.std.proofs.Common.{◌≡◌, ℕ, ◌+◌, ◌-◌, ◌<◌, ◌≤◌, ◌==◌, ◌&&◌, ◌||◌, ◌∙◌, Bool, true, false, not, List, [], ◌∷◌, ◌++◌, refl, sym, ap, subst, arith, inl, inr, length, length-append}
 use Rattle.std.specs.Prelude.{nat_le}
 use Rattle.std.specs.List.{range_with_len}
-use Rattle.std.proofs.lemmas.Bool.{cases_lt, le-leb}
+use Rattle.std.proofs.lemmas.Bool.{cases_lt, le-leb, leb-true}
 use Rattle.std.proofs.lemmas.List.Elements.{filter-append}
 use Rattle.std.proofs.lemmas.List.Folds.{list_any-append}
 use Rattle.std.proofs.lemmas.List.FromFn.{length-range_with_len}
 use Rattle.ballot_base.specs.Lists.{IsIncreasing, increasing_lists}
 use Rattle.ballot_base.specs.CandSet.{has_member, members_upto, other_members}
-use Rattle.ballot_base.proofs.Committees.{increasing_lists-contains, length-increasing}
+use Rattle.ballot_base.proofs.Committees.{chosen-from_contains, increasing_lists-contains, length-increasing}
 use Rattle.ballot_base.proofs.Increasing.{IsIncreasing-filter, IsIncreasing-higher, IsIncreasing-lower, has_member-below, has_member-filter, same_increasing}
 use Rattle.tie_walk.specs.Winners.{best_value}
-use Rattle.tie_walk.proofs.LawLemmas.{IsIncreasing-range}
+use Rattle.tie_walk.proofs.LawLemmas.{IsIncreasing-range, no_greater_value}
 use Rattle.tie_walk.proofs.LiveLemmas.{upto-all, upto-none, upto-rest}
 use Rattle.tie_walk.proofs.WalkLemmas.{append_none}
 use Rattle.tie_search.specs.Completions.{exact_bound, is_reached}
 use Rattle.tie_search.specs.Steps.Witness.{IsSetAndLater, IsReachedTo, IsWitnessed}
+use Rattle.tie_search.specs.Tied.{AreTied, IsAmong, IsBest}
+use Rattle.tie_search.specs.declared.found.Tied.{Tied}
 use Rattle.tie_search.proofs.CompletionLemmas.{member-high}
-use Rattle.tie_search.proofs.ReachLemmas.{any-true, exact-reached, exact-short, increasing-append, whole-bounds}
+use Rattle.tie_search.proofs.ReachLemmas.{any-found, any-true, exact-reached, exact-short, increasing-append, whole-bounds}
 
 module _ (m c : ℕ) (set : List ℕ) (left : ℕ) (within : c ≤ m) (up : IsIncreasing 1 c set) where
   -- who is not in the set was added
@@ -112,6 +114,36 @@ witnessed-joined value m set left least c end committee low high joined reaches 
   high = high;
   reached = λ n from to. reached-joined value m n set left least committee (joined n from to) reaches;
 }
+
+-- ---- where all committees with the greatest value are listed
+
+module _ (value : List ℕ → ℕ) (m k : ℕ) (tied : Tied) (set : List ℕ) (left best c : ℕ) (are : AreTied value m k tied) (best_is : best ≡ best_value value m k) where
+  pub listed-witnessed : (end : ℕ) → c ≤ end → end + left ≤ m + 1
+      → ((n : ℕ) → c ≤ n → n < end → (committee : List ℕ) × IsAmong tied.committees tied.len committee × IsSetAndLater m n set left committee)
+      → IsWitnessed value m set left best c end
+  listed-witnessed end low high witnessed = record {
+    low = low;
+    high = high;
+    reached = λ n from to.
+        let one = witnessed n from to in
+        reached-joined value m n set left best one.0 one.2 (omega (arith, best_is, (are.each one.0 one.1).best));
+  }
+
+  pub listed-none : tied.are_all ≡ true → c ≤ m → IsIncreasing 1 c set → length set + left ≡ k
+      → ((committee : List ℕ) → IsAmong tied.committees tied.len committee → IsSetAndLater m c set left committee → ⊥) → is_reached value m c set left best ≡ false
+  listed-none all within up size none = by (is_reached value m c set left best) refl
+    where
+      by : (b : Bool) → is_reached value m c set left best ≡ b → is_reached value m c set left best ≡ false
+      by false e = e
+      by true e =
+          let some = any-found (λ more. nat_le best (value (set ++ more))) (increasing_lists (c + 1) m left) e in
+          let chosen = chosen-from_contains (c + 1) m left some.0 some.1 in
+          let committee : List ℕ = set ++ some.0 in
+          let rises : IsIncreasing 1 m committee = increasing-append 1 c m set some.0 (omega arith) within up chosen.0 in
+          let long : length committee ≡ k = omega (arith, size, length-append set some.0, chosen.1) in
+          let high : value committee ≤ best_value value m k = no_greater_value value m k committee (increasing_lists-contains 1 m k committee (rises, long)) in
+          let is : IsBest value m k committee = record { candidates = rises; size = long; best = omega (arith, high, best_is, leb-true best (value committee) some.2) } in
+          absurd (none committee (are.all all committee is) (some.0, ((chosen.0, chosen.1), refl)))
 
 -- where no committee reaches the value, it is not 0
 pub short-some : (value : List ℕ → ℕ) (m c : ℕ) (set : List ℕ) (left least : ℕ) → c ≤ m → left ≤ m - c → is_reached value m c set left least ≡ false → 1 ≤ least

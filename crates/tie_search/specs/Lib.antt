@@ -3,3 +3,4 @@ pub mod Needs
 pub mod Pairs
 pub mod Prices
 pub mod Steps
+pub mod Tied

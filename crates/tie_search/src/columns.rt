@@ -4,8 +4,8 @@
 //! by one hit. The gain of a candidate is the sum, over numbers of hits, of the weight times the bits that word and
 //! column share. Only the candidates that are asked for are counted.
 //!
-//! There are no columns for more than 8,192 voters, more than two voters a row, or weights of 2^44 and more; then gains
-//! come from one pass over the rows.
+//! There are no columns for more than 8,192 voters or more than two voters a row; then gains come from one pass over
+//! the rows. Sums are made in words of 64 bits if all weights are below 2^44, and in words of 128 bits otherwise.
 ghost use Rattle.std.specs.Prelude.{◌≡◌, ℕ, ◌+◌, ◌-◌, ◌*◌, ◌^◌, ◌<◌, ◌≤◌, ◌==◌, ◌&&◌, true, List, [], ◌∷◌, ◌++◌, length, replicate, slice_index, slice_index_or, MatchOption, ⊤, if◌then◌else◌};
 ghost use Rattle.std.specs.Int.{bit_at};
 ghost use Rattle.ballot_base.specs.Limits.{most_candidates, most_members};
@@ -15,8 +15,8 @@ ghost use Rattle.ballot_base.specs.CandSet.{has_member};
 ghost use Rattle.tie_walk.specs.Values.{thiele_of};
 ghost use Rattle.tie_search.specs.Steps.Columns.{block_voters, most_blocks, total, shared, given, approves_some, IsBlock, AreByHits, AreColumns, AreColumnsOf, AreRising, AreWeights, voters_of, voter_ballot, word_before};
 
-use crate::weights::{Weights, small_weights};
-use ballot_base::{CandSet, Increments, PLACES, Profile, ThieleRule};
+use crate::weights::{HitWeights, Weights};
+use ballot_base::{CandSet, Increments, MOST_MEMBERS, PLACES, Profile, ThieleRule};
 use std::alloc::Allocator;
 
 /// How many voters share a word.
@@ -61,12 +61,9 @@ fn by_hits(block: &Block, set: CandSet, levels: usize) -> Block
     requires { levels ≤ most_members }
     ensures { (ballot_at : ℕ → List ℕ) → IsBlock ballot_at block.now → AreByHits ballot_at set levels result }
 {
-    set.valid();
     let mut words = no_hits();
-    let mut left = set;
-    while let Some(parts) = left.split_first() {
-        add_hit(&mut words, block[usize::from(parts.0)], levels);
-        left = parts.1;
+    for member in set.members() {
+        add_hit(&mut words, block[usize::from(member)], levels);
     }
     words
 }
@@ -80,7 +77,21 @@ fn uncovered(block: &Block, set: CandSet) -> u64
 }
 
 /// What the voters of a column give: for each number of hits, the weight times the bits that word and column share.
-fn given_by(words: &Block, column: u64, weights: &Weights, levels: usize) -> u64
+fn given_by(words: &Block, column: u64, weights: &HitWeights, levels: usize) -> u128
+    requires few { levels ≤ most_members }
+    requires large { (h : ℕ) → slice_index weights.now h ≤ 2 ^ 84 }
+    ensures sum { result
+        ≡ total (λ h. slice_index weights.now h * shared column (slice_index words.now h)) levels }
+    ensures most { result ≤ levels * 2 ^ 90 }
+{
+    match &weights.small {
+        Some(small) => u128::from(given_by_small(words, column, small, levels)),
+        None => given_by_large(words, column, &weights.all, levels),
+    }
+}
+
+/// What the voters of a column give, by small weights.
+fn given_by_small(words: &Block, column: u64, weights: &Weights, levels: usize) -> u64
     requires few { levels ≤ most_members }
     requires small { (h : ℕ) → slice_index weights.now h < 2 ^ 44 }
     ensures sum { result
@@ -94,18 +105,35 @@ fn given_by(words: &Block, column: u64, weights: &Weights, levels: usize) -> u64
     sum
 }
 
+/// What the voters of a column give, by weights of any size.
+fn given_by_large(
+    words: &Block,
+    column: u64,
+    weights: &[u128; MOST_MEMBERS as usize],
+    levels: usize,
+) -> u128
+    requires few { levels ≤ most_members }
+    requires large { (h : ℕ) → slice_index weights.now h ≤ 2 ^ 84 }
+    ensures sum { result
+        ≡ total (λ h. slice_index weights.now h * shared column (slice_index words.now h)) levels }
+    ensures most { result ≤ levels * 2 ^ 90 }
+{
+    let mut sum = 0;
+    for h in 0..levels {
+        sum += weights[h] * u128::from((column & words[h]).count_ones());
+    }
+    sum
+}
+
 /// The block with a voter at a place: the bit of the place is set for each candidate whom the ballot approves.
 fn with_voter(block: &Block, place: u32, ballot: CandSet) -> Block
     requires { place < block_voters }
     ensures { (c i : ℕ) → i < block_voters → bit_at (slice_index result c) i
         ≡ (if (i == place) && has_member ballot c then 1 else bit_at (slice_index block.now c) i) }
 {
-    ballot.valid();
     let mut with = *block;
-    let mut left = ballot;
-    while let Some(parts) = left.split_first() {
-        with[usize::from(parts.0)] |= 1 << place;
-        left = parts.1;
+    for candidate in ballot.members() {
+        with[usize::from(candidate)] |= 1 << place;
     }
     with
 }
@@ -148,7 +176,7 @@ fn blocks_of<A: Allocator + Copy>(profile: &Profile<A>) -> [Block; MOST_BLOCKS]
 }
 
 /// Up to which hit something is given.
-fn last_level(weights: &Weights) -> usize
+fn last_level(weights: &[u128; MOST_MEMBERS as usize]) -> usize
     ensures most { result ≤ most_members }
     ensures end { (j : ℕ) → result ≤ j → slice_index weights.now j ≡ 0 }
 {
@@ -166,13 +194,13 @@ fn last_level(weights: &Weights) -> usize
 pub(crate) struct Columns {
     pub(crate) blocks: [Block; MOST_BLOCKS],
     pub(crate) used: usize,
-    pub(crate) weights: Weights,
+    pub(crate) weights: HitWeights,
     pub(crate) levels: usize,
 }
 
 impl Columns {
-    /// The ballots of a profile, if there is room for so many voters, and what a hit gives is not too large. Where many
-    /// voters cast the same ballots, a pass over the rows is quicker.
+    /// The ballots of a profile, if there is room for so many voters. If many voters cast the same ballots, a pass over
+    /// the rows is quicker.
     pub(crate) fn of<A: Allocator + Copy>(
         profile: &Profile<A>,
         rule: ThieleRule,
@@ -187,23 +215,23 @@ impl Columns {
         if voters > MOST_BLOCKS * BLOCK_VOTERS || voters / ROW_VOTERS > profile.rows() {
             return None;
         }
-        let weights = small_weights(&Increments::of(rule, k).w)?;
-        let levels = last_level(&weights);
+        let weights = Increments::of(rule, k).w;
         Some(Columns {
             blocks: blocks_of(profile),
             used: voters.div_ceil(BLOCK_VOTERS),
-            weights,
-            levels,
+            weights: HitWeights::of(&weights),
+            levels: last_level(&weights),
         })
     }
 
     /// What the set gains by each candidate of `among`, at the candidate's number.
-    pub(crate) fn gains_of(&self, set: CandSet, among: CandSet) -> Block
+    pub(crate) fn gains_of(&self, set: CandSet, among: CandSet) -> [u128; PLACES]
         requires used { self.now.used ≤ most_blocks }
         requires weights { AreWeights self.now.weights self.now.levels }
-        ensures { (ballots : List (List ℕ)) → AreColumns ballots self.now.blocks → AreRising ballots
+        ensures gains { (ballots : List (List ℕ)) → AreColumns ballots self.now.blocks → AreRising ballots
             → (c : ℕ) → has_member among c ≡ true → slice_index result c
             ≡ total (λ v. given self.now.weights set c (voter_ballot ballots v)) (self.now.used * block_voters) }
+        ensures small { (c : ℕ) → slice_index result c ≤ 2 ^ 104 }
     {
         let mut gains = [0; PLACES];
         for b in 0..self.used {
@@ -227,25 +255,21 @@ impl Columns {
 
     /// Adds to the gains of the candidates of `among` what the voters of a block give. No voter has more hits than the
     /// set has members.
-    fn add_block(&self, gains: &mut Block, b: usize, set: CandSet, among: CandSet)
+    fn add_block(&self, gains: &mut [u128; PLACES], b: usize, set: CandSet, among: CandSet)
         requires block { b < most_blocks }
         requires weights { AreWeights self.now.weights self.now.levels }
-        requires fits { (c : ℕ) → slice_index gains.old c < 2 ^ 63 }
+        requires fits { (c : ℕ) → slice_index gains.old c < 2 ^ 104 }
         ensures sum { (ballot_at : ℕ → List ℕ) → IsBlock ballot_at (slice_index_or self.now.blocks b [])
             → (c : ℕ) → has_member among c ≡ true → slice_index gains.new c
             ≡ slice_index gains.old c + total (λ i. given self.now.weights set c (ballot_at i)) block_voters }
-        ensures most { (c : ℕ) → slice_index gains.new c ≤ slice_index gains.old c + most_members * 2 ^ 50 }
+        ensures most { (c : ℕ) → slice_index gains.new c ≤ slice_index gains.old c + most_members * 2 ^ 90 }
     {
-        set.valid();
-        among.valid();
         let block = &self.blocks[b];
         let levels = self.levels.min(usize::from(set.len()) + 1);
         let words = by_hits(block, set, levels);
-        let mut left = among;
-        while let Some(parts) = left.split_first() {
-            let c = usize::from(parts.0);
+        for candidate in among.members() {
+            let c = usize::from(candidate);
             gains[c] += given_by(&words, block[c], &self.weights, levels);
-            left = parts.1;
         }
     }
 }

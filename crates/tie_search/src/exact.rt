@@ -1,12 +1,13 @@
 //! `ExactTally`: one tally over whatever is `Searchable`, with bounds that are exact at the greatest value.
 //!
-//! The greatest value is found by searches for more than the best known, until one finds nothing; the last committee
-//! found is kept.
+//! If what is searched lists all committees with the greatest value, each question is answered from the list. Otherwise
+//! the greatest value is found by searches for more than the best known, until one finds nothing, and questions are
+//! answered by further searches.
 //!
-//! Before a search, two committees are tried: the one that was found last, and the set with the last candidates of all.
-//! Both are tested by their members and value, so no proof rests on what the cell holds. A committee with the greatest
-//! value shows that the bounds reach it up to the first member outside the set (module `witness`). So `reach` searches
-//! once for many places, and if most committees tie, not at all.
+//! Before such a search, two committees are tried: the one that was found last, and the set with the last candidates of
+//! all. Both are tested by their members and value, so no proof rests on what the cell holds. A committee with the
+//! greatest value shows that the bounds reach it up to the first member outside the set (module `witness`). So `reach`
+//! searches once for many places, and if most committees tie, not at all.
 ghost use Rattle.std.specs.Prelude.{◌≡◌, ℕ, ◌+◌, ◌-◌, ◌≤◌, [], false, MatchOption, length};
 ghost use Rattle.ballot_base.specs.Lists.{IsIncreasing};
 ghost use Rattle.tie_walk.specs.Ceilings.{IsBound};
@@ -15,8 +16,9 @@ ghost use Rattle.tie_search.specs.Completions.{is_reached, exact_bound};
 ghost use Rattle.tie_search.specs.Steps.Searched.{IsBetter};
 ghost use Rattle.tie_search.specs.Steps.Witness.{IsReachedTo, IsWitnessed};
 
+use crate::found::Tied;
 use crate::searchable::Searchable;
-use crate::witness::{with_last, witnessed_upto};
+use crate::witness::{listed_upto, with_last, witnessed_upto};
 use ballot_base::CandSet;
 use std::cell::Cell;
 use std::marker::Model;
@@ -30,9 +32,9 @@ use tie_walk::{Tally, those_after};
 pub struct ExactTally<S: Searchable> {
     search: S,
     k: u8,
-    // The greatest value of a committee of k, and a committee that has it.
+    // The greatest value of a committee of k, and committees that have it.
     best: u128,
-    committee: CandSet,
+    tied: Tied,
     // What a search found last. It is tried first, since the walk goes on to it.
     found: Cell<CandSet>,
 }
@@ -45,7 +47,7 @@ impl<S: Searchable> Model for ExactTally<S> {
 
     ghost view = { λ t. record { search = t.search; k = t.k } };
 
-    ghost invariant = { λ t. IsSearched (S.value_of t.search) (S.candidates t.search) t.k t.best t.committee };
+    ghost invariant = { λ t. IsSearched (S.value_of t.search) (S.candidates t.search) t.k t.best t.tied };
 }
 
 impl<S: Searchable> ExactTally<S> {
@@ -55,13 +57,16 @@ impl<S: Searchable> ExactTally<S> {
         requires fits { k ≤ S.candidates search }
         ensures { result ≡ record { search = search; k = k } }
     {
-        let committee = best_committee(&search, k);
-        let best = search.value(committee);
+        let tied = match search.tied(k) {
+            Some(tied) => tied,
+            None => Tied::one(best_committee(&search, k)),
+        };
+        let committee = tied.first();
         ExactTally {
+            best: search.value(committee),
             search,
             k,
-            best,
-            committee,
+            tied,
             found: Cell::new(committee),
         }
     }
@@ -78,6 +83,7 @@ impl<S: Searchable> ExactTally<S> {
         requires within { c ≤ S.candidates self.now.search }
         requires candidates { IsIncreasing 1 c set }
         requires fits { left ≤ S.candidates self.now.search - c }
+        requires size { length set + left ≡ self.now.k }
         ensures { result ≡ is_reached (S.value_of self.now.search) (S.candidates self.now.search) c set left
             (best_value (S.value_of self.now.search) (S.candidates self.now.search) self.now.k) }
     {
@@ -90,12 +96,16 @@ impl<S: Searchable> ExactTally<S> {
         requires within { c ≤ S.candidates self.now.search }
         requires candidates { IsIncreasing 1 c set }
         requires fits { left ≤ S.candidates self.now.search - c }
+        requires size { length set + left ≡ self.now.k }
         ensures witnessed { IsWitnessed (S.value_of self.now.search) (S.candidates self.now.search) set left
             (best_value (S.value_of self.now.search) (S.candidates self.now.search) self.now.k) c result }
         ensures none { result ≡ c → is_reached (S.value_of self.now.search) (S.candidates self.now.search) c set left
             (best_value (S.value_of self.now.search) (S.candidates self.now.search) self.now.k) ≡ false }
     {
         let m = self.search.m();
+        if self.tied.are_all {
+            return listed_upto(&self.tied, m, c, set, left);
+        }
         let known = self.witnessed(self.found.get(), c, set, left);
         if known > c {
             return known;
@@ -194,7 +204,7 @@ impl<S: Searchable> Tally for ExactTally<S> {
         if k != self.k {
             return None;
         }
-        Some(self.committee)
+        Some(self.tied.first())
     }
 }
 

@@ -3,8 +3,8 @@
 //! A plain bound can reach the greatest value although no committee below does, and then a walk enters prefixes in
 //! vain. `Searchable` is what can be searched: values among which a committee of at least a given value can be found,
 //! with certain members and others from certain free candidates. Thiele's rules (`ThieleSearch`) and minimax approval
-//! voting (`MinimaxSearch`) implement it. `ExactTally` makes bounds of the answers, so `Winners` over it enters only
-//! prefixes with a winner below.
+//! voting (`MinimaxSearch`) implement it. Under Thiele's rules one search also lists all tied committees, if they are
+//! few. `ExactTally` makes bounds of the answers, so `Winners` over it enters only prefixes with a winner below.
 //!
 //! The order of candidates, the multipliers and the committee to begin with only decide how soon a search ends. Nothing
 //! is proved of them but their ranges: any choice gives the same answers.
@@ -12,6 +12,7 @@
 
 mod columns;
 pub mod exact;
+pub mod found;
 pub mod laws;
 mod majorant;
 pub mod minimax;
@@ -28,6 +29,7 @@ mod weights;
 mod witness;
 
 pub use exact::ExactTally;
+pub use found::{MOST_TIED, Tied};
 pub use minimax::MinimaxSearch;
 pub use searchable::Searchable;
 pub use thiele::ThieleSearch;

@@ -3,6 +3,7 @@ ghost use Rattle.std.specs.Prelude.{◌≡◌};
 ghost use Rattle.tie_walk.specs.Ceilings.{closeness_upto};
 ghost use Rattle.tie_walk.specs.Values.{closeness};
 
+use crate::found::Tied;
 use crate::near::{NearSearch, Shares, equal_shares};
 use crate::searchable::Searchable;
 use ballot_base::{CandSet, Clones, Profile};
@@ -78,5 +79,10 @@ impl<'a, A: Allocator + Copy> Searchable for MinimaxSearch<'a, A> {
             most: m - least as u8,
         };
         search.find_near(set, free, left)
+    }
+
+    // Under this rule committees tie by thousands.
+    fn tied(&self, _k: u8) -> Option<Tied> {
+        None
     }
 }

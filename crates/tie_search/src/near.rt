@@ -12,13 +12,14 @@
 //! fall short (`laws::weighted_needs`; Glover, Surrogate constraints, 1968). Any weights are right.
 ghost use Rattle.std.specs.Prelude.{◌≡◌, ℕ, ⊤, ◌+◌, ◌-◌, ◌^◌, ◌≤◌, ◌&&◌, [], true, max, nat_le, length};
 ghost use Rattle.std.specs.Prelude.{slice_index, IsTrue, MatchOption};
+ghost use Rattle.ballot_base.specs.Ballots.{IsElection};
 ghost use Rattle.ballot_base.specs.Clones.{AreClones};
 ghost use Rattle.ballot_base.specs.CandSet.{has_member};
 ghost use Rattle.ballot_base.specs.Limits.{most_candidates};
 ghost use Rattle.ballot_base.specs.Lists.{IsIncreasing};
-ghost use Rattle.tie_walk.specs.Values.{closeness, greatest_distance};
-ghost use Rattle.tie_search.specs.Completions.{IsOpen, IsOutOfReach, IsReaching};
-ghost use Rattle.tie_search.specs.Steps.Near.{AreChoices, AreWeighted, IsNarrowed, need_weight, share_parts};
+ghost use Rattle.tie_walk.specs.Values.{closeness};
+ghost use Rattle.tie_search.specs.Completions.{IsOpen, IsOutOfReach};
+ghost use Rattle.tie_search.specs.Steps.Near.{AreBranches, AreWeighted, IsNarrowed, IsNearAnswer, IsQuickAnswer, need_weight, share_parts};
 
 use crate::needs::still_needed;
 use crate::order::{Order, first_member};
@@ -62,6 +63,16 @@ pub(crate) struct NearSearch<'a, A: Allocator + Copy> {
     pub(crate) most: u8,
 }
 
+/// What a quick search ends with.
+enum QuickAnswer {
+    /// A near committee that completes the set.
+    Found(CandSet),
+    /// There is no such committee.
+    NoneExists,
+    /// It is not known within the limit whether there is one.
+    GaveUp,
+}
+
 /// What all ballots still need, and what each free candidate can give. Each hit counts as much as the weight of the
 /// ballot.
 #[derive(Drop)]
@@ -79,16 +90,13 @@ impl<A: Allocator + Copy> NearSearch<'_, A> {
         requires clones { AreClones self.now.profile.now.m self.now.profile.now.rows self.now.clones.now }
         requires shares { (n : ℕ) → slice_index self.now.shares.now n ≤ share_parts }
         requires opened { IsOpen self.now.profile.now.m set free }
-        ensures { MatchOption result
-            (IsOutOfReach (closeness self.now.profile.now.m self.now.profile.now.rows) self.now.profile.now.m set free
-            left (self.now.profile.now.m - self.now.most))
-            (IsReaching (closeness self.now.profile.now.m self.now.profile.now.rows) self.now.profile.now.m set free
-            left (self.now.profile.now.m - self.now.most)) }
+        ensures { IsNearAnswer self.now.profile.now self.now.most set free left result }
     {
         let mut patience = self.patience(set, left);
         match self.find_quickly(set, free, left, &mut patience) {
-            Some(answer) => answer,
-            None => self.find_thoroughly(set, free, left),
+            QuickAnswer::Found(committee) => Some(committee),
+            QuickAnswer::NoneExists => None,
+            QuickAnswer::GaveUp => self.find_thoroughly(set, free, left),
         }
     }
 
@@ -104,44 +112,40 @@ impl<A: Allocator + Copy> NearSearch<'_, A> {
         spare + usize::from(left)
     }
 
-    /// Finds what `find_near` returns. Gives up and returns `None` if it would enter more sets than `patience`, from
-    /// which each set takes one.
+    /// Finds what `find_near` returns. Gives up if it would enter more sets than `patience`, from which each set takes
+    /// one.
     fn find_quickly(
         &self,
         set: CandSet,
         free: CandSet,
         left: u8,
         patience: &mut usize,
-    ) -> Option<Option<CandSet>>
+    ) -> QuickAnswer
         requires clones { AreClones self.now.profile.now.m self.now.profile.now.rows self.now.clones.now }
         requires opened { IsOpen self.now.profile.now.m set free }
-        ensures { MatchOption result ⊤ (λ answer. MatchOption answer
-            (IsOutOfReach (closeness self.now.profile.now.m self.now.profile.now.rows) self.now.profile.now.m set free
-            left (self.now.profile.now.m - self.now.most))
-            (IsReaching (closeness self.now.profile.now.m self.now.profile.now.rows) self.now.profile.now.m set free
-            left (self.now.profile.now.m - self.now.most))) }
+        ensures { IsQuickAnswer self.now.profile.now self.now.most set free left result }
     {
         if *patience == 0 {
-            return None;
+            return QuickAnswer::GaveUp;
         }
         *patience -= 1;
-        self.profile.m();
         let Some((choices, mut rest)) = self.choices(set, free, left, false) else {
-            return Some(None);
+            return QuickAnswer::NoneExists;
         };
         if left == 0 {
-            return Some(Some(set));
+            return QuickAnswer::Found(set);
         }
         while let Some(next) = first_member(choices.common(rest)) {
             let others = rest.without(next);
-            let found = self.find_quickly(set.with(next), others, left - 1, patience)?;
-            if let Some(committee) = found {
-                return Some(Some(committee));
+            match self.find_quickly(set.with(next), others, left - 1, patience) {
+                QuickAnswer::Found(committee) => return QuickAnswer::Found(committee),
+                QuickAnswer::GaveUp => return QuickAnswer::GaveUp,
+                QuickAnswer::NoneExists => (),
             }
             // A committee with a clone of the candidate would be as near with the candidate in its place.
             rest = others.minus(self.clones.class(next));
         }
-        Some(None)
+        QuickAnswer::NoneExists
     }
 
     /// Finds what `find_near` returns, by weighted needs as well.
@@ -149,13 +153,8 @@ impl<A: Allocator + Copy> NearSearch<'_, A> {
         requires clones { AreClones self.now.profile.now.m self.now.profile.now.rows self.now.clones.now }
         requires shares { (n : ℕ) → slice_index self.now.shares.now n ≤ share_parts }
         requires opened { IsOpen self.now.profile.now.m set free }
-        ensures { MatchOption result
-            (IsOutOfReach (closeness self.now.profile.now.m self.now.profile.now.rows) self.now.profile.now.m set free
-            left (self.now.profile.now.m - self.now.most))
-            (IsReaching (closeness self.now.profile.now.m self.now.profile.now.rows) self.now.profile.now.m set free
-            left (self.now.profile.now.m - self.now.most)) }
+        ensures { IsNearAnswer self.now.profile.now self.now.most set free left result }
     {
-        self.profile.m();
         let (choices, eligible) = self.choices(set, free, left, true)?;
         if left == 0 {
             return Some(set);
@@ -189,14 +188,8 @@ impl<A: Allocator + Copy> NearSearch<'_, A> {
         ensures { MatchOption result
             (IsOutOfReach (closeness self.now.profile.now.m self.now.profile.now.rows) self.now.profile.now.m set free
             left (self.now.profile.now.m - self.now.most))
-            (λ both. (left ≡ 0 → greatest_distance self.now.profile.now.rows set ≤ self.now.most)
-            × IsNarrowed (closeness self.now.profile.now.m self.now.profile.now.rows) self.now.profile.now.m set free
-            left (self.now.profile.now.m - self.now.most) both.1
-            × (1 ≤ left → AreChoices (closeness self.now.profile.now.m self.now.profile.now.rows)
-            self.now.profile.now.m set free left (self.now.profile.now.m - self.now.most) both.0)
-            × (left ≤ length free)) }
+            (λ both. AreBranches self.now.profile.now self.now.most set free left both.0 both.1) }
     {
-        self.profile.m();
         if free.len() < left {
             return None;
         }
@@ -259,6 +252,7 @@ impl<A: Allocator + Copy> NearSearch<'_, A> {
         free: CandSet,
         left: u8,
     ) -> Option<CandSet>
+        requires election { IsElection self.now.profile.now }
         requires opened { IsOpen self.now.profile.now.m set free }
         requires weighted { AreWeighted self.now.profile.now.rows (length set + left) self.now.most set free
             needs.now.total needs.now.supports }
@@ -269,7 +263,6 @@ impl<A: Allocator + Copy> NearSearch<'_, A> {
             (IsNarrowed (closeness self.now.profile.now.m self.now.profile.now.rows) self.now.profile.now.m set free
             left (self.now.profile.now.m - self.now.most)) }
     {
-        self.profile.m();
         let threshold = needs.order.nth_worth(free, left, &needs.supports);
         let greatest = u128::from(left) * threshold + excess(&needs.supports, free, threshold);
         if greatest < needs.total {
@@ -299,13 +292,11 @@ fn best_of(set: CandSet, worths: &[u128; PLACES]) -> Option<u8>
     ensures { MatchOption result (set ≡ []) (λ best. (has_member set best ≡ true)
         × ((n : ℕ) → has_member set n ≡ true → slice_index worths.now n ≤ slice_index worths.now best)) }
 {
-    set.valid();
-    let (mut best, mut left) = set.split_first()?;
-    while let Some(parts) = left.split_first() {
-        if worths[usize::from(parts.0)] > worths[usize::from(best)] {
-            best = parts.0;
+    let mut best = first_member(set)?;
+    for candidate in set.members() {
+        if worths[usize::from(candidate)] > worths[usize::from(best)] {
+            best = candidate;
         }
-        left = parts.1;
     }
     Some(best)
 }

@@ -5,16 +5,17 @@
 //! this in turn by a sum over the members (`laws::row_sums`; Gallo, Hammer and Simeone, Quadratic knapsack problems,
 //! 1980). A candidate leaves if the others fall short with it.
 ghost use Rattle.std.specs.Prelude.{◌≡◌, ℕ, ◌+◌, ◌-◌, ◌*◌, ◌^◌, ◌<◌, ◌≤◌, ◌==◌, true, List, length, slice_index, MatchOption, if◌then◌else◌};
+ghost use Rattle.ballot_base.specs.Ballots.{IsElection};
 ghost use Rattle.ballot_base.specs.CandSet.{has_member};
 ghost use Rattle.ballot_base.specs.Limits.{most_candidates};
 ghost use Rattle.ballot_base.specs.Lists.{IsIncreasing};
 ghost use Rattle.tie_walk.specs.Values.{thiele_value};
 ghost use Rattle.tie_search.specs.Completions.{IsOpen, IsOutOfReach};
-ghost use Rattle.tie_search.specs.Pairs.{worth_beside};
 ghost use Rattle.tie_search.specs.Steps.Near.{IsNarrowed};
-ghost use Rattle.tie_search.specs.Steps.Paired.{AreSmall, AreSums, AreTotals, IsRowSum, overlap_at};
+ghost use Rattle.tie_search.specs.Steps.Paired.{AreNothing, AreSmall, AreSums, AreTotals, IsRowSum, IsSmallMajorant, overlap_at};
+ghost use Rattle.tie_search.specs.Steps.Rows.{AreBeside, AreRows};
 
-use crate::majorant::{HitSums, Majorant};
+use crate::majorant::{HitSums, Majorant, Majorants};
 use crate::order::nth_greatest;
 use crate::search::{at_least, excess};
 use ballot_base::{CandSet, PLACES, Profile};
@@ -59,14 +60,20 @@ impl<A: Allocator + Copy> PairSearch<'_, A> {
             (IsNarrowed (thiele_value weights self.now.profile.now.rows) self.now.profile.now.m set free left
             self.now.least) }
     {
-        self.profile.m();
         if free.len() < left {
             return None;
         }
-        let totals = self.totals(set, free, left);
+        let mut totals = Totals::nothing();
+        self.add_ballots(&mut totals, set, free, left);
         let factor = 2 * u128::from(left - 1);
         let raise = factor * u128::from(totals.greatest_overlap());
-        let sums = totals.row_sums(free, left, raise);
+        let rows = Rows {
+            totals: &totals,
+            free,
+            left,
+            raise,
+        };
+        let sums = rows.sums();
         let threshold = nth_greatest(&sums, free, left);
         let most = factor * totals.kept
             + u128::from(left) * threshold
@@ -93,43 +100,65 @@ impl<A: Allocator + Copy> PairSearch<'_, A> {
             .div_ceil(self.given.unit)
     }
 
-    /// What the majorants of all voters add up to, if `left` of the free candidates complete the set.
-    fn totals(&self, set: CandSet, free: CandSet, left: u8) -> Totals
+    /// Adds up the majorants of all voters, if `left` of the free candidates complete the set.
+    fn add_ballots(&self, totals: &mut Totals, set: CandSet, free: CandSet, left: u8)
         requires opened { IsOpen self.now.profile.now.m set free }
         requires some { 1 ≤ length free }
         requires small { (n : ℕ) → slice_index self.now.given.now.sums n ≤ 2 ^ 26 }
+        requires nothing { AreNothing totals.old.kept totals.old.worths totals.old.overlaps }
         ensures totals { (weights : List ℕ)
             → AreSums weights self.now.given.now.scale self.now.given.now.unit self.now.given.now.sums
             → AreTotals weights self.now.given.now.scale self.now.given.now.unit self.now.profile.now.m
-            self.now.profile.now.rows set free left result.kept result.worths result.overlaps }
-        ensures small { AreSmall result.kept result.worths result.overlaps }
+            self.now.profile.now.rows set free left totals.new.kept totals.new.worths totals.new.overlaps }
+        ensures small { AreSmall totals.new.kept totals.new.worths totals.new.overlaps }
+        ensures election { IsElection self.now.profile.now }
     {
-        self.profile.m();
-        let mut kept = 0;
-        let mut worths = [0; PLACES];
-        let mut overlaps = [0; TABLE_PLACES];
+        let mut majorants = Majorants::new(&self.given.sums, left, free.len());
         for (ballot, voters) in self.profile.ballots() {
-            let open = ballot.common(free);
-            let most = left.min(open.len());
-            let touch = touch_point(open.len(), most, left, free.len());
+            let approved = ballot.common(free);
             let before = ballot.common(set).len();
-            let majorant = Majorant::at(&self.given.sums, before, most, touch);
-            let count = u128::from(voters);
-            kept += count * u128::from(majorant.kept);
-            add_to_members(&mut worths, open, count * u128::from(majorant.worth));
-            if majorant.overlap > 0 {
-                add_pairs(&mut overlaps, open, voters * majorant.overlap);
-            }
-        }
-        Totals {
-            kept,
-            worths,
-            overlaps,
+            let majorant = majorants.of_ballot(before, approved.len());
+            totals.add(majorant, approved, voters);
         }
     }
 }
 
 impl Totals {
+    /// The totals of no ballot.
+    fn nothing() -> Totals
+        ensures { AreNothing result.kept result.worths result.overlaps }
+    {
+        Totals {
+            kept: 0,
+            worths: [0; PLACES],
+            overlaps: [0; TABLE_PLACES],
+        }
+    }
+
+    /// Adds the majorant of a ballot that approves these free candidates, once for each of its voters.
+    fn add(&mut self, majorant: Majorant, approved: CandSet, voters: u64)
+        requires voters { voters ≤ 2 ^ 32 }
+        requires majorant { IsSmallMajorant majorant }
+        requires small { AreSmall self.old.kept self.old.worths self.old.overlaps }
+        ensures kept { self.new.kept ≡ self.old.kept + voters * majorant.kept }
+        ensures worths { (n : ℕ) → slice_index self.new.worths n ≡ slice_index self.old.worths n
+            + (if has_member approved n then voters * majorant.worth else 0) }
+        ensures overlaps { (i j : ℕ) → j ≤ most_candidates → overlap_at self.new.overlaps i j
+            ≡ overlap_at self.old.overlaps i j
+            + (if has_member approved i then (if has_member approved j then voters * majorant.overlap else 0) else 0) }
+    {
+        let count = u128::from(voters);
+        self.kept += count * u128::from(majorant.kept);
+        add_to_members(
+            &mut self.worths,
+            approved,
+            count * u128::from(majorant.worth),
+        );
+        if majorant.overlap > 0 {
+            add_pairs(&mut self.overlaps, approved, voters * majorant.overlap);
+        }
+    }
+
     /// The greatest overlap of two candidates.
     fn greatest_overlap(&self) -> u64
         requires small { AreSmall self.now.kept self.now.worths self.now.overlaps }
@@ -143,83 +172,69 @@ impl Totals {
         }
         greatest
     }
+}
 
+/// What row sums are made of. Worths beside a candidate are raised, so that none is below 0.
+#[derive(Drop)]
+struct Rows<'a> {
+    totals: &'a Totals,
+    free: CandSet,
+    // How many of the free candidates complete the set.
+    left: u8,
+    raise: u128,
+}
+
+impl Rows<'_> {
     /// The row sum of each free candidate, at its number.
-    fn row_sums(&self, free: CandSet, left: u8, raise: u128) -> [u128; PLACES]
-        requires several { 2 ≤ left }
-        requires small { AreSmall self.now.kept self.now.worths self.now.overlaps }
-        requires raise { raise ≤ 2 ^ 67 }
-        requires enough { (i j : ℕ) → i ≤ most_candidates → j ≤ most_candidates
-            → 2 * (left - 1) * overlap_at self.now.overlaps i j ≤ raise }
-        ensures sums { (i : ℕ) → has_member free i ≡ true
-            → IsRowSum self.now.worths self.now.overlaps free left raise i (slice_index result i) }
+    fn sums(&self) -> [u128; PLACES]
+        requires { AreRows self.now }
+        ensures sums { (i : ℕ) → has_member self.now.free i ≡ true
+            → IsRowSum self.now.totals.now.worths self.now.totals.now.overlaps self.now.free self.now.left
+            self.now.raise i (slice_index result i) }
         ensures small { (i : ℕ) → slice_index result i ≤ 2 ^ 80 }
     {
-        free.valid();
         let mut sums = [0; PLACES];
-        let mut rest = free;
-        while let Some(parts) = rest.split_first() {
-            sums[usize::from(parts.0)] = self.row_sum(free, left, raise, parts.0);
-            rest = parts.1;
+        let mut beside = [0; PLACES];
+        for i in self.free.members() {
+            self.put_beside(&mut beside, i);
+            sums[usize::from(i)] = self.sum_of(&beside, i);
         }
         sums
     }
 
-    /// The row sum of a free candidate.
-    fn row_sum(&self, free: CandSet, left: u8, raise: u128, i: u8) -> u128
-        requires several { 2 ≤ left }
-        requires small { AreSmall self.now.kept self.now.worths self.now.overlaps }
-        requires raise { raise ≤ 2 ^ 67 }
-        requires enough { (i j : ℕ) → i ≤ most_candidates → j ≤ most_candidates
-            → 2 * (left - 1) * overlap_at self.now.overlaps i j ≤ raise }
-        requires member { has_member free i ≡ true }
-        ensures sum { IsRowSum self.now.worths self.now.overlaps free left raise i result }
+    /// The row sum of a free candidate, from the worths of all beside it.
+    fn sum_of(&self, beside: &[u128; PLACES], i: u8) -> u128
+        requires rows { AreRows self.now }
+        requires candidates { IsIncreasing 1 most_candidates self.now.free }
+        requires member { has_member self.now.free i ≡ true }
+        requires beside { AreBeside self.now i beside.now }
+        ensures sum { IsRowSum self.now.totals.now.worths self.now.totals.now.overlaps self.now.free self.now.left
+            self.now.raise i result }
         ensures small { result ≤ 2 ^ 80 }
     {
-        free.valid();
-        let beside = self.worths_beside(free, left, raise, i);
-        let others = free.without(i);
-        let threshold = nth_greatest(&beside, others, left - 1);
-        u128::from(left - 2) * self.worths[usize::from(i)]
+        let others = self.free.without(i);
+        let threshold = nth_greatest(beside, others, self.left - 1);
+        u128::from(self.left - 2) * self.totals.worths[usize::from(i)]
             + beside[usize::from(i)]
-            + u128::from(left - 1) * threshold
-            + excess(&beside, others, threshold)
+            + u128::from(self.left - 1) * threshold
+            + excess(beside, others, threshold)
     }
 
-    /// The worth of each free candidate beside the candidate i, at its number.
-    fn worths_beside(&self, free: CandSet, left: u8, raise: u128, i: u8) -> [u128; PLACES]
-        requires several { 2 ≤ left }
-        requires small { AreSmall self.now.kept self.now.worths self.now.overlaps }
-        requires raise { raise ≤ 2 ^ 67 }
-        requires enough { (i j : ℕ) → i ≤ most_candidates → j ≤ most_candidates
-            → 2 * (left - 1) * overlap_at self.now.overlaps i j ≤ raise }
+    /// Puts the worth of each free candidate beside the candidate i at its number.
+    fn put_beside(&self, beside: &mut [u128; PLACES], i: u8)
+        requires rows { AreRows self.now }
         requires within { i ≤ most_candidates }
-        ensures beside { (j : ℕ) → has_member free j ≡ true → slice_index result j
-            ≡ worth_beside (slice_index self.now.worths) (overlap_at self.now.overlaps) left raise i j }
-        ensures small { (j : ℕ) → slice_index result j ≤ 2 ^ 68 }
+        requires small { (j : ℕ) → slice_index beside.old j ≤ 2 ^ 68 }
+        ensures { AreBeside self.now i beside.new }
     {
-        free.valid();
-        let factor = 2 * u128::from(left - 1);
+        let factor = 2 * u128::from(self.left - 1);
         let row = PLACES * usize::from(i);
-        let mut beside = [0; PLACES];
-        let mut rest = free;
-        while let Some(parts) = rest.split_first() {
-            let j = usize::from(parts.0);
-            beside[j] = self.worths[j] + raise - factor * u128::from(self.overlaps[row + j]);
-            rest = parts.1;
+        for other in self.free.members() {
+            let j = usize::from(other);
+            let overlap = u128::from(self.totals.overlaps[row + j]);
+            beside[j] = self.totals.worths[j] + self.raise - factor * overlap;
         }
-        beside
     }
-}
-
-/// Where a majorant is exact: at the mean number of hits among `left` of the free candidates, of which a ballot has
-/// `open`; at most at `most`.
-fn touch_point(open: u8, most: u8, left: u8, free: u8) -> u8
-    requires some { 1 ≤ free }
-    ensures { result ≤ most }
-{
-    let mean = usize::from(open) * usize::from(left) / usize::from(free);
-    mean.min(usize::from(most)) as u8
 }
 
 /// Adds to the number of each ordered pair of members, also of a member with itself.
@@ -228,11 +243,8 @@ fn add_pairs(table: &mut Table, members: CandSet, amount: u64)
     ensures { (i j : ℕ) → j ≤ most_candidates → overlap_at table.new i j ≡ overlap_at table.old i j
         + (if has_member members i then (if has_member members j then amount else 0) else 0) }
 {
-    members.valid();
-    let mut left = members;
-    while let Some(parts) = left.split_first() {
-        add_to_row(table, parts.0, members, amount);
-        left = parts.1;
+    for row in members.members() {
+        add_to_row(table, row, members, amount);
     }
 }
 
@@ -243,11 +255,8 @@ fn add_to_row(table: &mut Table, row: u8, members: CandSet, amount: u64)
     ensures { (i j : ℕ) → j ≤ most_candidates → overlap_at table.new i j ≡ overlap_at table.old i j
         + (if i == row then (if has_member members j then amount else 0) else 0) }
 {
-    members.valid();
     let start = PLACES * usize::from(row);
-    let mut left = members;
-    while let Some(parts) = left.split_first() {
-        table[start + usize::from(parts.0)] += amount;
-        left = parts.1;
+    for column in members.members() {
+        table[start + usize::from(column)] += amount;
     }
 }

@@ -70,22 +70,6 @@ impl Prices {
             committee,
         })
     }
-
-    /// Whether no committee of k can be worth a hundredth more than the good one. Few sets pass the prices then.
-    pub(crate) fn are_tight<A: Allocator + Copy>(&self, values: &ThieleTally<A>, k: u8) -> bool
-        requires small { (n : ℕ) → slice_index self.now.worths n ≤ 2 ^ 116 }
-    {
-        if self.committee.len() != k {
-            return false;
-        }
-        let m = values.m();
-        let candidates = CandSet::all(m);
-        let threshold = self.order.nth_worth(candidates, k, &self.worths);
-        let paid = u128::from(k) * threshold + excess(&self.worths, candidates, threshold);
-        let most = (self.base.saturating_add(paid) / u128::from(SCALE)).saturating_mul(self.unit);
-        let good = values.value(self.committee.upto(m));
-        most <= good.saturating_add(good / 100)
-    }
 }
 
 /// The most that a voter of a ballot of this size gives, times the scale, beside the multiplier for each hit.

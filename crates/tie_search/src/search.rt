@@ -1,20 +1,24 @@
-//! A search for a committee with at least a value under a Thiele rule: depth first, giving up sets whose bound is too
-//! low.
+//! A search for committees of great value under a Thiele rule: depth first, giving up sets whose bound is too low.
 //!
 //! If no candidate is left to add, the value decides. Otherwise the gains at the set give a bound, and each free
 //! candidate in turn, highest gain first, is searched below and then leaves, until the bound of the remaining ones is
 //! too low (Nemhauser and Wolsey, Maximizing submodular set functions, 1981). The gain of a candidate is added to the
 //! value, so no value is computed anew. Under `cc` a search also ends if all free candidates together add too little.
 //!
-//! After a candidate has joined, the others stay free only if they can still be in a committee that reaches the value.
-//! The gains from before are enough to decide this, since gains only fall as a set grows (`proofs/KeptLemmas.antt`). So
-//! few candidates are counted for each set.
+//! One search lists all committees with the greatest value (module `found`): it begins with the value of a good
+//! committee, and looks for more as soon as it has met more. `find` is the same search, and ends with the first
+//! committee.
 //!
-//! A candidate who was tried leaves with all its clones: put in a clone's place, it makes a committee of the same
-//! value, and all committees with it were searched (`proofs/CloneLemmas.antt`).
+//! After a candidate has joined, the others stay free only if they can still be in a committee that counts. The gains
+//! from before are enough to decide this, since gains only fall as a set grows (`proofs/KeptLemmas.antt`). So few
+//! candidates are counted for each set.
+//!
+//! A candidate who was tried leaves with all its clones, unless a committee with it counts: put in a clone's place, it
+//! makes a committee of the same value, and all committees with it were searched (`proofs/FoundLemmas.antt`).
 //!
 //! While enough seats are left, a bound by pairs of candidates comes before the gains are counted, and again after each
-//! candidate that was tried (module `pairs`). It counts a voter who approves two members less than twice.
+//! candidate that was tried (module `pairs`). It counts a voter who approves two members less than twice. Where few sets
+//! are given up for it, it is left out.
 //!
 //! The bound needs no sorting in its proof. For any threshold, an added member brings at most the threshold and what
 //! its gain exceeds it by (`laws::thresholds`). The last of the `left` highest gains makes the bound lowest.
@@ -28,17 +32,22 @@ ghost use Rattle.ballot_base.specs.Increments.{increments};
 ghost use Rattle.tie_walk.specs.Sequences.{gain};
 ghost use Rattle.tie_search.specs.Steps.Near.{IsNarrowed};
 ghost use Rattle.tie_search.specs.Steps.Searched.{IsAided, KeepsColumns};
-ghost use Rattle.tie_search.specs.Steps.Priced.{IsPriced};
+ghost use Rattle.ballot_base.specs.Clones.{are_clones};
+ghost use Rattle.tie_walk.specs.Winners.{best_value};
+ghost use Rattle.tie_search.specs.Steps.Found.{AreListed, AreSearched, IsListed};
 ghost use Rattle.tie_search.specs.Completions.{IsOpen, IsOutOfReach, IsReaching, tally_value};
+ghost use Rattle.tie_search.specs.Tied.{AreTied};
 
 use crate::columns::Columns;
+use crate::found::{Found, Tied, Wanted};
 use crate::majorant::HitSums;
 use crate::order::Order;
 use crate::pairs::PairSearch;
 use crate::prices::{Prices, SCALE};
 use ballot_base::{CandSet, Clones, PLACES, Profile, ThieleRule};
 use std::alloc::Allocator;
-use tie_walk::{Tally, ThieleTally, widened};
+use std::cell::Cell;
+use tie_walk::{Tally, ThieleTally};
 
 /// What a search is helped by: who are clones; columns and prices, if they are worth their making; and what hits give,
 /// for majorants.
@@ -48,6 +57,53 @@ pub(crate) struct Aids {
     pub(crate) columns: Option<Columns>,
     pub(crate) prices: Option<Prices>,
     pub(crate) sums: Option<HitSums>,
+    pub(crate) use_of_pairs: UseOfPairs,
+}
+
+/// How often pairs were counted, and how often a set was given up for them. If they seldom help, they are counted no
+/// more.
+#[derive(Drop)]
+pub(crate) struct UseOfPairs {
+    counted: Cell<u32>,
+    given_up: Cell<u32>,
+}
+
+impl UseOfPairs {
+    /// Pairs were not counted yet.
+    pub(crate) fn none() -> UseOfPairs {
+        UseOfPairs {
+            counted: Cell::new(0),
+            given_up: Cell::new(0),
+        }
+    }
+
+    /// Notes that pairs were counted, and whether the set was given up for them.
+    fn note(&self, given_up: bool) {
+        self.counted.set(self.counted.get().saturating_add(1));
+        self.given_up
+            .set(self.given_up.get().saturating_add(u32::from(given_up)));
+    }
+
+    /// Whether pairs were not counted often yet, or help often enough.
+    fn is_worth_it(&self) -> bool {
+        let counted = self.counted.get();
+        counted < TRIALS_OF_PAIRS || self.given_up.get() >= counted / LEAST_HELP_OF_PAIRS
+    }
+}
+
+/// So often pairs are counted before their use is judged.
+const TRIALS_OF_PAIRS: u32 = 256;
+
+/// Pairs are worth their counting if one set of so many is given up for them.
+const LEAST_HELP_OF_PAIRS: u32 = 16;
+
+/// A set that may become a committee, its value, the candidates that are free to join it, and how many of them do.
+#[derive(Clone, Copy)]
+pub(crate) struct Node {
+    set: CandSet,
+    value: u128,
+    free: CandSet,
+    left: u8,
 }
 
 /// A search for a committee whose value is at least `least`.
@@ -70,32 +126,77 @@ impl<A: Allocator + Copy> Search<'_, A> {
             (IsOutOfReach (tally_value self.now.tally.now) self.now.tally.now.election.m set free left self.now.least)
             (IsReaching (tally_value self.now.tally.now) self.now.tally.now.election.m set free left self.now.least) }
     {
-        if !self.may_suffice(set, free) {
-            return None;
-        }
-        let value = self.tally.value(set);
-        self.descend(set, value, free, left)
+        let mut found = Found::nothing(Wanted::One, self.least);
+        self.descend(&mut found, self.node(set, free, left));
+        found.first()
     }
 
-    /// Like `find`, but the value of the set is known, and the free candidates together may suffice.
-    fn descend(&self, set: CandSet, value: u128, free: CandSet, left: u8) -> Option<CandSet>
+    /// Lists the committees of k that have the greatest value, which is at least `least`.
+    pub(crate) fn tied(&self, k: u8) -> Tied
         requires ballots { self.now.profile.now ≡ self.now.tally.now.election }
         requires aids { IsAided self.now.tally.now self.now.aids.now }
-        requires opened { IsOpen self.now.tally.now.election.m set free }
-        requires value { value ≡ tally_value self.now.tally.now set }
-        ensures { MatchOption result
-            (IsOutOfReach (tally_value self.now.tally.now) self.now.tally.now.election.m set free left self.now.least)
-            (IsReaching (tally_value self.now.tally.now) self.now.tally.now.election.m set free left self.now.least) }
+        requires fits { k ≤ self.now.tally.now.election.m }
+        requires least { self.now.least ≤ best_value (tally_value self.now.tally.now) self.now.tally.now.election.m k }
+        ensures { AreTied (tally_value self.now.tally.now) self.now.tally.now.election.m k result }
+    {
+        let mut found = Found::nothing(Wanted::All, self.least);
+        let all = CandSet::all(self.tally.m());
+        self.descend(&mut found, self.node(CandSet::empty(), all, k));
+        Tied {
+            committees: found.committees,
+            len: found.len,
+            are_all: found.least == found.value,
+        }
+    }
+
+    /// The node of a set, free candidates, and how many of them are to join.
+    fn node(&self, set: CandSet, free: CandSet, left: u8) -> Node
+        requires candidates { IsIncreasing 1 self.now.tally.now.election.m set }
+        ensures set { result.set ≡ set }
+        ensures value { result.value ≡ tally_value self.now.tally.now set }
+        ensures free { result.free ≡ free }
+        ensures left { result.left ≡ left }
+    {
+        Node {
+            set,
+            value: self.tally.value(set),
+            free,
+            left,
+        }
+    }
+
+    /// The same search for committees of at least another value.
+    fn seeking(&self, least: u128) -> Search<'_, A>
+        ensures { result ≡ record { profile = self.now.profile; tally = self.now.tally; aids = self.now.aids; least = least } }
+    {
+        Search {
+            profile: self.profile,
+            tally: self.tally,
+            aids: self.aids,
+            least,
+        }
+    }
+
+    /// Searches all completions of a node for committees of the value that is looked for, which rises with what is
+    /// found.
+    fn descend(&self, found: &mut Found, node: Node)
+        requires ballots { self.now.profile.now ≡ self.now.tally.now.election }
+        requires aids { IsAided self.now.tally.now self.now.aids.now }
+        requires opened { IsOpen self.now.tally.now.election.m node.set node.free }
+        requires value { node.value ≡ tally_value self.now.tally.now node.set }
+        requires listed { AreListed (tally_value self.now.tally.now) found.old }
+        ensures { AreSearched (tally_value self.now.tally.now) self.now.tally.now.election.m node.set node.free
+            node.left found.old found.new }
     {
         self.tally.valid();
+        let (set, value, left) = (node.set, node.value, node.left);
         if left == 0 {
-            return if value < self.least { None } else { Some(set) };
+            found.offer(set, value);
+            return;
         }
-        if !self.may_afford(set, free, left) {
-            return None;
-        }
-        let eligible = self.narrowed(set, free, left)?;
-        let needed = self.least.saturating_sub(value);
+        let Some(eligible) = self.seeking(found.least).eligible(set, node.free, left) else {
+            return;
+        };
         let gains = self.gains_at(set, eligible);
         let mut order = Order::by_worth(eligible, &gains);
         let mut rest = eligible;
@@ -104,55 +205,85 @@ impl<A: Allocator + Copy> Search<'_, A> {
             rest,
             left,
             order.threshold(rest, left, &gains),
-            needed,
+            found.least.saturating_sub(value),
         ) {
-            let next = order.first_of(rest)?;
+            let Some(next) = order.first_of(rest) else {
+                return;
+            };
             let others = rest.without(next);
-            let gain = gains[usize::from(next)];
+            let joined = value + gains[usize::from(next)];
             let kept = promising(
                 &gains,
                 &order,
                 others,
                 left - 1,
-                needed.saturating_sub(gain),
+                found.least.saturating_sub(joined),
             );
-            let found = self.descend(set.with(next), value + gain, kept, left - 1);
-            if let Some(committee) = found {
-                return Some(committee);
-            }
-            // A committee with a clone of the candidate would be worth the same with the candidate in its place.
-            let untried = others.minus(self.aids.clones.class(next));
-            rest = self.untried_eligible(set, untried, left)?;
+            let tried = set.with(next);
+            let child = Node {
+                set: tried,
+                value: joined,
+                free: kept,
+                left: left - 1,
+            };
+            self.descend(found, child);
+            let untried = self.untried(found, tried, others, next);
+            let Some(eligible) = self.seeking(found.least).eligible(set, untried, left) else {
+                return;
+            };
+            rest = eligible;
             if self.sees_pairs(left) {
                 order = Order::by_worth(rest, &gains);
             }
         }
-        None
     }
 
-    /// The candidates that can still join, of those that were not tried. Returns `None` if no completion with them
-    /// reaches the value.
-    fn untried_eligible(&self, set: CandSet, untried: CandSet, left: u8) -> Option<CandSet>
+    /// Of the others, those that are still to be tried after a candidate joined the set and was tried. Clones of the
+    /// candidate leave if nothing that was found with it counts: put in its place, they make committees of the same
+    /// value.
+    fn untried(&self, found: &Found, tried: CandSet, others: CandSet, candidate: u8) -> CandSet
+        requires aids { IsAided self.now.tally.now self.now.aids.now }
+        requires candidate { candidate ≤ self.now.tally.now.election.m }
+        requires some { 1 ≤ candidate }
+        requires listed { AreListed (tally_value self.now.tally.now) found.now }
+        ensures within { (m : ℕ) → IsIncreasing 1 m others → IsIncreasing 1 m result }
+        ensures among { (n : ℕ) → has_member result n ≡ true → has_member others n ≡ true }
+        ensures clones { (n : ℕ) → has_member others n ≡ true → has_member result n ≡ false
+            → are_clones self.now.tally.now.election.rows candidate n ≡ true }
+        ensures lower { (n : ℕ) → has_member others n ≡ true → has_member result n ≡ false → (committee : List ℕ)
+            → IsListed found.now committee → ((x : ℕ) → has_member tried x ≡ true → has_member committee x ≡ true)
+            → tally_value self.now.tally.now committee < found.now.least }
+    {
+        self.tally.valid();
+        if found.holds(tried) {
+            return others;
+        }
+        others.minus(self.aids.clones.class(candidate))
+    }
+
+    /// The free candidates that can still join. Returns `None` if no completion of the set reaches the value.
+    fn eligible(&self, set: CandSet, free: CandSet, left: u8) -> Option<CandSet>
         requires ballots { self.now.profile.now ≡ self.now.tally.now.election }
         requires aids { IsAided self.now.tally.now self.now.aids.now }
-        requires opened { IsOpen self.now.tally.now.election.m set untried }
+        requires opened { IsOpen self.now.tally.now.election.m set free }
         ensures { MatchOption result
-            (IsOutOfReach (tally_value self.now.tally.now) self.now.tally.now.election.m set untried left
-            self.now.least)
-            (IsNarrowed (tally_value self.now.tally.now) self.now.tally.now.election.m set untried left
-            self.now.least) }
+            (IsOutOfReach (tally_value self.now.tally.now) self.now.tally.now.election.m set free left self.now.least)
+            (IsNarrowed (tally_value self.now.tally.now) self.now.tally.now.election.m set free left self.now.least) }
     {
-        if !self.may_complete(set, untried, left) {
+        if !self.may_suffice(set, free) {
             return None;
         }
-        self.narrowed(set, untried, left)
+        if !self.may_afford(set, free, left) {
+            return None;
+        }
+        self.narrowed(set, free, left)
     }
 
     /// Whether enough seats are left for pairs to be worth their counting.
     fn sees_pairs(&self, left: u8) -> bool
         ensures { IsTrue result → 2 ≤ left }
     {
-        left >= fewest_seats(self.tally.rule())
+        left >= fewest_seats(self.tally.rule()) && self.aids.use_of_pairs.is_worth_it()
     }
 
     /// The free candidates that can still join, by pairs. Returns `None` if no completion of the set reaches the value.
@@ -175,17 +306,9 @@ impl<A: Allocator + Copy> Search<'_, A> {
             given,
             least: self.least,
         };
-        pairs.narrowed(set, free, left)
-    }
-
-    /// Whether the tests that count no gains leave a committee of the set and `left` of the free candidates possible.
-    fn may_complete(&self, set: CandSet, free: CandSet, left: u8) -> bool
-        requires aids { IsAided self.now.tally.now self.now.aids.now }
-        requires opened { IsOpen self.now.tally.now.election.m set free }
-        ensures { result ≡ false
-            → IsOutOfReach (tally_value self.now.tally.now) self.now.tally.now.election.m set free left self.now.least }
-    {
-        self.may_suffice(set, free) && self.may_afford(set, free, left)
+        let narrowed = pairs.narrowed(set, free, left);
+        self.aids.use_of_pairs.note(narrowed.is_none());
+        narrowed
     }
 
     /// What the set gains by each of the free candidates, at the candidate's number: from the columns, if they are
@@ -198,7 +321,7 @@ impl<A: Allocator + Copy> Search<'_, A> {
     {
         self.tally.valid();
         match &self.aids.columns {
-            Some(columns) => widened(&columns.gains_of(set, free)),
+            Some(columns) => columns.gains_of(set, free),
             None => self.tally.value_and_gains(set, free).1,
         }
     }
@@ -212,7 +335,7 @@ impl<A: Allocator + Copy> Search<'_, A> {
             → IsOutOfReach (tally_value self.now.tally.now) self.now.tally.now.election.m set free left self.now.least }
     {
         match self.tally.rule() {
-            ThieleRule::Cc => self.most_covered(together(set, free)) >= self.least,
+            ThieleRule::Cc => self.most_covered(set.union(free)) >= self.least,
             _ => true,
         }
     }
@@ -260,22 +383,6 @@ fn fewest_seats(rule: ThieleRule) -> u8
         ThieleRule::Geom4 => 6,
         ThieleRule::Cc => u8::MAX,
     }
-}
-
-/// The members of either set.
-fn together(set: CandSet, other: CandSet) -> CandSet
-    ensures members { (n : ℕ) → has_member result n ≡ (has_member set n || has_member other n) }
-    ensures within { (m : ℕ) → IsIncreasing 1 m set → IsIncreasing 1 m other → IsIncreasing 1 m result }
-{
-    set.valid();
-    other.valid();
-    let mut both = set;
-    let mut left = other;
-    while let Some(parts) = left.split_first() {
-        both = both.with(parts.0);
-        left = parts.1;
-    }
-    both
 }
 
 /// Whether at least `left` candidates are free, and the greatest of their gains make up what is needed. Any threshold

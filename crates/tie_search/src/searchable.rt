@@ -1,7 +1,9 @@
 //! Values whose committees can be searched for.
-ghost use Rattle.std.specs.Prelude.{MatchOption};
+ghost use Rattle.std.specs.Prelude.{ℕ, ◌≤◌, MatchOption, ⊤};
 ghost use Rattle.tie_search.specs.Completions.{IsOpen, IsOutOfReach, IsReaching};
+ghost use Rattle.tie_search.specs.Tied.{AreTied};
 
+use crate::found::Tied;
 use ballot_base::CandSet;
 use tie_walk::Tally;
 
@@ -14,4 +16,10 @@ pub trait Searchable: Tally {
         ensures { MatchOption result
             (IsOutOfReach (Self.value_of self.now) (Self.candidates self.now) set free left least)
             (IsReaching (Self.value_of self.now) (Self.candidates self.now) set free left least) };
+
+    /// Lists committees of k with the greatest value, or leaves this to `find` if too many tie under most elections.
+    fn tied(&self, k: u8) -> Option<Tied>
+        requires some { 1 ≤ k }
+        requires fits { k ≤ Self.candidates self.now }
+        ensures { MatchOption result ⊤ (AreTied (Self.value_of self.now) (Self.candidates self.now) k) };
 }

@@ -2,13 +2,16 @@
 ghost use Rattle.std.specs.Prelude.{◌≡◌, ℕ, ◌≤◌};
 ghost use Rattle.ballot_base.specs.Limits.{most_members};
 ghost use Rattle.tie_walk.specs.Values.{thiele_of};
+ghost use Rattle.tie_walk.specs.Winners.{best_value};
 ghost use Rattle.tie_walk.specs.Ceilings.{ceiling};
 ghost use Rattle.tie_search.specs.Completions.{tally_value};
+ghost use Rattle.tie_search.specs.Steps.Searched.{IsAided};
 
 use crate::columns::Columns;
+use crate::found::Tied;
 use crate::majorant::HitSums;
 use crate::prices::Prices;
-use crate::search::{Aids, Search};
+use crate::search::{Aids, Search, UseOfPairs};
 use crate::searchable::Searchable;
 use ballot_base::{CandSet, Clones, Profile, ThieleRule};
 use std::alloc::{Allocator, Global};
@@ -45,22 +48,44 @@ impl<'a, A: Allocator + Copy> ThieleSearch<'a, A> {
         ensures { result ≡ thiele_of profile.now rule k }
     {
         let values = ThieleTally::new(profile, rule, k);
-        let prices = Prices::of(profile, &values, rule, k);
-        // If prices leave little room, few sets pass them, and pairs are not worth their counting.
-        let is_tight = match &prices {
-            Some(prices) => prices.are_tight(&values, k),
-            None => false,
-        };
         let aids = Aids {
             clones: Clones::of(profile),
             columns: Columns::of(profile, rule, k),
-            prices,
-            sums: if is_tight { None } else { HitSums::of(rule, k) },
+            prices: Prices::of(profile, &values, rule, k),
+            sums: HitSums::of(rule, k),
+            use_of_pairs: UseOfPairs::none(),
         };
         ThieleSearch {
             profile,
             values,
             aids,
+        }
+    }
+
+    /// The value of a good committee of k, 0 if none is known.
+    fn good_value(&self, k: u8) -> u128
+        requires some { 1 ≤ k }
+        requires fits { k ≤ self.now.election.m }
+        ensures { result ≤ best_value (tally_value self.now) self.now.election.m k }
+    {
+        match self.good_committee(k) {
+            Some(committee) => self.value(committee),
+            None => 0,
+        }
+    }
+
+    /// A search for committees of at least this value.
+    fn search(&self, least: u128) -> Search<'_, A>
+        ensures ballots { result.profile.now ≡ result.tally.now.election }
+        ensures tally { result.tally.now ≡ self.now }
+        ensures aids { IsAided result.tally.now result.aids.now }
+        ensures least { result.least ≡ least }
+    {
+        Search {
+            profile: self.profile,
+            tally: &self.values,
+            aids: &self.aids,
+            least,
         }
     }
 }
@@ -100,12 +125,10 @@ impl<'a, A: Allocator + Copy> Tally for ThieleSearch<'a, A> {
 
 impl<'a, A: Allocator + Copy> Searchable for ThieleSearch<'a, A> {
     fn find(&self, set: CandSet, free: CandSet, left: u8, least: u128) -> Option<CandSet> {
-        let search = Search {
-            profile: self.profile,
-            tally: &self.values,
-            aids: &self.aids,
-            least,
-        };
-        search.find(set, free, left)
+        self.search(least).find(set, free, left)
+    }
+
+    fn tied(&self, k: u8) -> Option<Tied> {
+        Some(self.search(self.good_value(k)).tied(k))
     }
 }

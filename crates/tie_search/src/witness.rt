@@ -1,10 +1,12 @@
 //! How far a committee with a value shows that prefixes of the walk still have a completion with that value.
-ghost use Rattle.std.specs.Prelude.{◌≡◌, ℕ, ◌+◌, ◌-◌, ◌<◌, ◌≤◌, true};
+ghost use Rattle.std.specs.Prelude.{◌≡◌, ℕ, ◌+◌, ◌-◌, ◌<◌, ◌≤◌, true, List};
 ghost use Rattle.ballot_base.specs.CandSet.{has_member};
 ghost use Rattle.ballot_base.specs.Limits.{most_candidates};
 ghost use Rattle.ballot_base.specs.Lists.{IsIncreasing};
 ghost use Rattle.tie_search.specs.Steps.Witness.{IsSetAndLater};
+ghost use Rattle.tie_search.specs.Tied.{IsAmong, most_tied};
 
+use crate::found::Tied;
 use ballot_base::CandSet;
 
 /// The first place from c on at which the committee is not the set and `left` of the candidates after that place, all
@@ -27,6 +29,32 @@ pub fn witnessed_upto(committee: CandSet, m: u8, c: u8, set: CandSet, left: u8) 
         Some(parts) => parts.0,
         None => m + 1,
     }
+}
+
+/// The end of a range of places from c on at each of which some committee of the list is the set and `left` of the
+/// candidates after the place: c only if none is so there.
+pub fn listed_upto(tied: &Tied, m: u8, c: u8, set: CandSet, left: u8) -> u8
+    requires most { m ≤ most_candidates }
+    requires few { tied.now.len ≤ most_tied }
+    requires listed { (committee : List ℕ) → IsAmong tied.now.committees tied.now.len committee
+        → IsIncreasing 1 m committee }
+    requires within { c ≤ m }
+    requires candidates { IsIncreasing 1 c set }
+    requires fits { left ≤ m - c }
+    ensures low { c ≤ result }
+    ensures high { result + left ≤ m + 1 }
+    ensures witnessed { (n : ℕ) → c ≤ n → n < result → (committee : List ℕ)
+        × IsAmong tied.now.committees tied.now.len committee × IsSetAndLater m n set left committee }
+    ensures none { result ≡ c → (committee : List ℕ) → IsAmong tied.now.committees tied.now.len committee
+        → IsSetAndLater m c set left committee → ⊥ }
+{
+    for i in 0..tied.len {
+        let end = witnessed_upto(tied.committees[i], m, c, set, left);
+        if end > c {
+            return end;
+        }
+    }
+    c
 }
 
 /// The set and the last `left` of the candidates 1 to m.

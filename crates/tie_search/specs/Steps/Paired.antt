@@ -8,12 +8,25 @@ use Rattle.tie_walk.specs.Values.{Thiele, thiele_value}
 use Rattle.tie_search.specs.Completions.{IsCompletion}
 use Rattle.tie_search.specs.Pairs.{pair_sum, row_sum}
 use Rattle.tie_search.specs.declared.majorant.HitSums.{HitSums}
+use Rattle.tie_search.specs.declared.majorant.Majorant.{Majorant}
 
 -- the sums are what each number of hits gives, times the scale, in units, rounded up or higher
 pub record AreSums (weights : List ℕ) (scale unit : ℕ) (sums : List ℕ) : Type 0 where
   pub some : 1 ≤ unit
   pub up : (h : ℕ) → h ≤ most_candidates → scale * sum (take h weights) ≤ unit * slice_index sums h
   pub small : (h : ℕ) → slice_index sums h ≤ 2 ^ 26
+
+-- no number of a majorant is too large
+pub record IsSmallMajorant (majorant : Majorant) : Type 0 where
+  pub kept_small : majorant.kept ≤ 2 ^ 39
+  pub worth_small : majorant.worth ≤ 2 ^ 34
+  pub overlap_small : majorant.overlap ≤ 2 ^ 26
+
+-- for up to `most` hits after the first `before`, the majorant is at least the sum of what they and those before give
+pub record IsMajorantOf (sums : List ℕ) (before most : ℕ) (majorant : Majorant) : Type 0 where
+  pub bounds : (h : ℕ) → h ≤ most
+      → slice_index sums (before + h) + majorant.overlap * (h * h) ≤ majorant.kept + majorant.worth * h
+  pub small : IsSmallMajorant majorant
 
 -- how many places a row of the table has
 abbrev pub row_places : ℕ
@@ -30,6 +43,12 @@ AreTotals weights scale unit m rows set free left kept worths table =
     (committee : List ℕ) → IsCompletion m set free left committee
     → scale * thiele_value weights rows committee + unit * pair_sum (overlap_at table) (common_members free committee)
     ≤ unit * (kept + sum_by (slice_index worths) (common_members free committee))
+
+-- nothing was added up
+pub record AreNothing (kept : ℕ) (worths table : List ℕ) : Type 0 where
+  pub kept_none : kept ≡ 0
+  pub worths_none : (n : ℕ) → slice_index worths n ≡ 0
+  pub overlaps_none : (i j : ℕ) → overlap_at table i j ≡ 0
 
 -- no total is too large
 pub record AreSmall (kept : ℕ) (worths table : List ℕ) : Type 0 where

@@ -5,10 +5,12 @@ use Rattle.ballot_base.specs.Lists.{IsIncreasing}
 use Rattle.tie_walk.specs.Values.{Thiele}
 use Rattle.tie_walk.specs.Winners.{best_value}
 use Rattle.tie_search.specs.declared.columns.Columns.{Columns}
+use Rattle.tie_search.specs.declared.found.Tied.{Tied}
 use Rattle.tie_search.specs.declared.search.Aids.{Aids}
 use Rattle.tie_search.specs.Steps.Columns.{AreColumnsOf}
 use Rattle.tie_search.specs.Steps.Paired.{HasSums}
 use Rattle.tie_search.specs.Steps.Priced.{IsPriced}
+use Rattle.tie_search.specs.Tied.{AreTied}
 
 -- the columns are those of the election, where they are kept
 abbrev pub KeepsColumns : Thiele → Option Columns → Type 0
@@ -22,13 +24,12 @@ pub record IsAided (tally : Thiele) (aids : Aids) : Type 0 where
   pub prices : IsPriced tally aids.prices
   pub sums : HasSums tally aids.sums
 
--- what is true of each tally by search: its committee has the greatest value
-pub record IsSearched (value : List ℕ → ℕ) (m k best : ℕ) (committee : List ℕ) : Type 0 where
+-- what is true of each tally by search: committees with the greatest value are listed
+pub record IsSearched (value : List ℕ → ℕ) (m k best : ℕ) (tied : Tied) : Type 0 where
   pub some : 1 ≤ k
   pub fits : k ≤ m
   pub best_is : best ≡ best_value value m k
-  pub candidates : IsIncreasing 1 m committee
-  pub size : length committee ≡ k
+  pub listed : AreTied value m k tied
 
 -- a committee of k of the candidates 1 to m with a greater value
 pub record IsBetter (value : List ℕ → ℕ) (m k : ℕ) (committee better : List ℕ) : Type 0 where

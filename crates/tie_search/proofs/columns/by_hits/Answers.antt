@@ -1,4 +1,4 @@
-use Rattle.std.proofs.Common.{◌≡◌, ℕ, zero, suc, ◌+◌, ◌-◌, ◌==◌, ◌<◌, ◌≤◌, ◌^◌, ◌∙◌, cond, List, sym, ap, arith, length, get_or}
+use Rattle.std.proofs.Common.{◌≡◌, ℕ, zero, suc, ◌+◌, ◌-◌, ◌==◌, ◌<◌, ◌≤◌, ◌^◌, ◌∙◌, cond, List, sym, ap, arith, get_or}
 use Rattle.std.specs.Int.{bit_at}
 use Rattle.std.proofs.lemmas.Bool.{eq-eqb, ne_eqb}
 use Rattle.std.proofs.lemmas.Nat.Bits.{bit_at-zero, bit_at_ones}
@@ -19,42 +19,41 @@ begins words (suc h) i all low first others =
 
 pub bounds-block-from : goal.bounds-block-from
 bounds-block-from c =
-    let first = (rest-increasing most_candidates c.loop-parts.left c.in-Some.parts.1 c.in-Some.parts.0 c.in-Some.ensures c.loop-parts.invariant.rises).0 in
+    let first = (rest-increasing most_candidates c.loop-member.member-iterator c.next.new.self c.in-Some.member c.in-Some.ensures.steps c.loop-member.invariant.rises).0 in
     omega (arith, first, c.from.ensures)
 
-pub loop-parts-init : goal.loop-parts-init
-loop-parts-init c = record {
-  rises = c.valid.ensures;
-  counted = λ ballot_at block h i low within. begins c.no_hits-words.result h i (hits (ballot_at i) c.args.set) within c.no_hits-words.ensures.none c.no_hits-words.ensures.others;
-  within = λ ballot_at block i. omega arith;
-}
+pub loop-member-init : goal.loop-member-init
+loop-member-init c =
+    let all = c.into_iter-member-iterator.ensures.into_iter_gives ∙ c.members-member-items.ensures.items in
+    rw all record {
+      rises = c.members-member-items.ensures.valid;
+      counted = λ ballot_at block h i low within. begins c.no_hits-words.result h i (hits (ballot_at i) c.args.set) within c.no_hits-words.ensures.none c.no_hits-words.ensures.others;
+      within = λ ballot_at block i. omega arith;
+    }
 
-pub loop-parts-smaller : goal.loop-parts-smaller
-loop-parts-smaller c = omega (arith, ap length c.in-Some.ensures)
-
-pub loop-parts-preserved : goal.loop-parts-preserved
-loop-parts-preserved c =
-    let left = c.loop-parts.left in
-    let rest = c.in-Some.parts.1 in
-    let first = c.in-Some.parts.0 in
-    let rises = c.loop-parts.invariant.rises in
+pub loop-member-preserved : goal.loop-member-preserved
+loop-member-preserved c =
+    let left = c.loop-member.member-iterator in
+    let rest = c.next.new.self in
+    let first = c.in-Some.member in
+    let rises = c.loop-member.invariant.rises in
     record {
-      rises = (rest-increasing most_candidates left rest first c.in-Some.ensures rises).1;
+      rises = (rest-increasing most_candidates left rest first c.in-Some.ensures.steps rises).1;
       counted = λ ballot_at block h i low within.
           c.add_hit.ensures h i low within
-          ∙ hit-moves (has_member (ballot_at i) first) c.loop-parts.words h i (hits (ballot_at i) c.args.set) (hits (ballot_at i) left) (hits (ballot_at i) rest)
+          ∙ hit-moves (has_member (ballot_at i) first) c.loop-member.words h i (hits (ballot_at i) c.args.set) (hits (ballot_at i) left) (hits (ballot_at i) rest)
           (get_or c.args.block.now c.from.result 0)
-          (hits-first (ballot_at i) left rest first (block.rises i) rises c.in-Some.ensures)
-          (c.loop-parts.invariant.within ballot_at block i)
+          (hits-first (ballot_at i) left rest first (block.rises i) rises c.in-Some.ensures.steps)
+          (c.loop-member.invariant.within ballot_at block i)
           (ap (λ n. bit_at (get_or c.args.block.now n 0) i) c.from.ensures ∙ block.approves first i within)
-          (λ j most. c.loop-parts.invariant.counted ballot_at block j i (omega (arith, most, low)) within);
+          (λ j most. c.loop-member.invariant.counted ballot_at block j i (omega (arith, most, low)) within);
       within = λ ballot_at block i.
           let more : hits (ballot_at i) left ≡ cond (has_member (ballot_at i) first) 1 0 + hits (ballot_at i) rest =
-          hits-first (ballot_at i) left rest first (block.rises i) rises c.in-Some.ensures in
-          omega (arith, more, c.loop-parts.invariant.within ballot_at block i);
+          hits-first (ballot_at i) left rest first (block.rises i) rises c.in-Some.ensures.steps in
+          omega (arith, more, c.loop-member.invariant.within ballot_at block i);
     }
 
 pub returns : goal.returns
 returns c ballot_at block h i low within =
-    c.loop-parts.invariant.counted ballot_at block h i low within
-    ∙ ap (λ n. cond (hits (ballot_at i) c.args.set == n) 1 0) (let none : hits (ballot_at i) c.loop-parts.left ≡ 0 = ap (hits (ballot_at i)) c.in_default.ensures ∙ hits-none (ballot_at i) in omega (arith, none))
+    c.loop-member.invariant.counted ballot_at block h i low within
+    ∙ ap (λ n. cond (hits (ballot_at i) c.args.set == n) 1 0) (let none : hits (ballot_at i) c.loop-member.member-iterator ≡ 0 = ap (hits (ballot_at i)) c.in-None.ensures.steps.0 ∙ hits-none (ballot_at i) in omega (arith, none))

@@ -47,44 +47,34 @@ one-set block left rest first place wanted c i is inside low within before =
     always true = refl
     always false = refl
 
-pub loop-parts-init : goal.loop-parts-init
-loop-parts-init c = record {
-  long = c.told-block;
-  rises = c.valid.ensures;
-  made = λ n i within. refl;
-}
-
 pub bounds-with-from : goal.bounds-with-from
 bounds-with-from c =
-    let first = (rest-increasing most_candidates c.loop-parts.left c.in-Some.parts.1 c.in-Some.parts.0 c.in-Some.ensures c.loop-parts.invariant.rises).0 in
+    let first = (rest-increasing most_candidates c.loop-candidate.candidate-iterator c.next.new.self c.in-Some.candidate c.in-Some.ensures.steps c.loop-candidate.invariant.rises).0 in
     omega (arith, first, c.from.ensures)
 
-pub bounds-with-from-in-Some : goal.bounds-with-from-in-Some
-bounds-with-from-in-Some c =
-    let first = (rest-increasing most_candidates c.loop-parts.left c.in-Some.parts.1 c.in-Some.parts.0 c.in-Some.ensures c.loop-parts.invariant.rises).0 in
+pub bounds-with-from-in-loop-candidate : goal.bounds-with-from-in-loop-candidate
+bounds-with-from-in-loop-candidate c =
+    let first = (rest-increasing most_candidates c.loop-candidate.candidate-iterator c.next.new.self c.in-Some.candidate c.in-Some.ensures.steps c.loop-candidate.invariant.rises).0 in
     omega (arith, first, c.from.ensures)
 
-pub loop-parts-smaller : goal.loop-parts-smaller
-loop-parts-smaller c = omega (arith, ap length c.in-Some.ensures)
-
-pub loop-parts-preserved : goal.loop-parts-preserved
-loop-parts-preserved c =
-    let rest = rest-increasing most_candidates c.loop-parts.left c.in-Some.parts.1 c.in-Some.parts.0 c.in-Some.ensures c.loop-parts.invariant.rises in
-    let is : c.loop-parts.left ≡ c.from.result ∷ c.in-Some.parts.1 = c.in-Some.ensures ∙ ap (λ n. n ∷ c.in-Some.parts.1) (sym c.from.ensures) in
-    let word = bit_or (get_or c.loop-parts.with c.from.result 0) (1 * 2 ^ c.args.place % 2 ^ 64) in
+pub loop-candidate-preserved : goal.loop-candidate-preserved
+loop-candidate-preserved c =
+    let rest = rest-increasing most_candidates c.loop-candidate.candidate-iterator c.next.new.self c.in-Some.candidate c.in-Some.ensures.steps c.loop-candidate.invariant.rises in
+    let is : c.loop-candidate.candidate-iterator ≡ c.from.result ∷ c.next.new.self = c.in-Some.ensures.steps ∙ ap (λ n. n ∷ c.next.new.self) (sym c.from.ensures) in
+    let word = bit_or (get_or c.loop-candidate.with c.from.result 0) (1 * 2 ^ c.args.place % 2 ^ 64) in
     record {
-      long = length-set c.loop-parts.with c.from.result word ∙ c.loop-parts.invariant.long;
+      long = length-set c.loop-candidate.with c.from.result word ∙ c.loop-candidate.invariant.long;
       rises = rest.1;
       made = λ n i within.
-          one-set c.loop-parts.with c.loop-parts.left c.in-Some.parts.1 c.from.result c.args.place _ n i is
-          (omega (arith, rest.0, c.from.ensures, c.loop-parts.invariant.long)) c.requires within (c.loop-parts.invariant.made n i within);
+          one-set c.loop-candidate.with c.loop-candidate.candidate-iterator c.next.new.self c.from.result c.args.place _ n i is
+          (omega (arith, rest.0, c.from.ensures, c.loop-candidate.invariant.long)) c.requires within (c.loop-candidate.invariant.made n i within);
     }
 
 pub returns : goal.returns
 returns c n i within =
-    none (i == c.args.place) (bit_at (get_or c.loop-parts.with n 0) i)
-    ∙ ap (λ l. cond ((i == c.args.place) && has_member l n) 1 (bit_at (get_or c.loop-parts.with n 0) i)) (sym c.in_default.ensures)
-    ∙ c.loop-parts.invariant.made n i within
+    none (i == c.args.place) (bit_at (get_or c.loop-candidate.with n 0) i)
+    ∙ ap (λ l. cond ((i == c.args.place) && has_member l n) 1 (bit_at (get_or c.loop-candidate.with n 0) i)) (sym c.in-None.ensures.steps.0)
+    ∙ c.loop-candidate.invariant.made n i within
   where
     none : (b : Bool) (x : ℕ) → x ≡ cond (b && false) 1 x
     none true x = refl

@@ -1,20 +1,12 @@
-use Rattle.std.proofs.Common.{◌≡◌, ℕ, ◌≤◌, ◌⊎◌, ◌||◌, ◌==◌, ◌∙◌, Bool, true, false, List, ◌∷◌, refl, sym, ap, inl, inr, arith, get_or}
+use Rattle.std.proofs.Common.{◌≡◌, ℕ, ◌≤◌, ◌⊎◌, ◌∙◌, true, List, ◌∷◌, sym, ap, inl, inr, arith, get_or}
 use Rattle.std.proofs.lemmas.Bool.{cases_eq}
 use Rattle.ballot_base.specs.Limits.{most_candidates}
 use Rattle.ballot_base.specs.CandSet.{has_member}
-use Rattle.ballot_base.proofs.Increasing.{has_member_head, has_member_tail}
+use Rattle.ballot_base.proofs.Increasing.{has_member_tail}
+use Rattle.tie_search.proofs.CompletionLemmas.{member-high}
+use Rattle.tie_search.proofs.OverlapLemmas.{first-in, later-in}
 use Rattle.tie_search.proofs.SearchLemmas.{rest-increasing}
 use Rattle.tie_search.proofs.near.best_of.Goals as goal
-
-first-is : (xs rest : List ℕ) (first : ℕ) → xs ≡ first ∷ rest → has_member xs first ≡ true
-first-is xs rest first is = ap (λ l. has_member l first) is ∙ has_member_head first rest
-
-rest-is : (xs rest : List ℕ) (first n : ℕ) → xs ≡ first ∷ rest → has_member rest n ≡ true → has_member xs n ≡ true
-rest-is xs rest first n is here = ap (λ l. has_member l n) is ∙ or-true (first == n) (has_member rest n) here
-  where
-    or-true : (p q : Bool) → q ≡ true → (p || q) ≡ true
-    or-true true q h = refl
-    or-true false q h = h
 
 -- a member is the first or one of the rest
 either : (xs rest : List ℕ) (first n : ℕ) → xs ≡ first ∷ rest → has_member xs n ≡ true → (has_member rest n ≡ true) ⊎ (n ≡ first)
@@ -32,51 +24,46 @@ passed worths xs rest first best new n is low high (inl left) = elim (either xs 
 ]
 passed worths xs rest first best new n is low high (inr under) = inr (omega (arith, under, high))
 
-pub loop-parts-init : goal.loop-parts-init
-loop-parts-init c =
-    let first = c.in_ok-best.best in
-    let rest = c.in_ok-best.left in
-    let up = rest-increasing most_candidates c.args.set rest first c.in_ok-best.ensures c.valid.ensures in
-    record {
-      rises = up.1;
-      high = up.0;
-      here = first-is c.args.set rest first c.in_ok-best.ensures;
-      among = λ n is. rest-is c.args.set rest first n c.in_ok-best.ensures is;
-      greatest = λ n is. elim (either c.args.set rest first n c.in_ok-best.ensures is) [
-        | inl later ↦ inl later
-        | inr same ↦ inr (omega (arith, ap (λ x. get_or c.args.worths.now x 0) same))
-      ];
+pub loop-candidate-init : goal.loop-candidate-init
+loop-candidate-init c =
+    let all = c.into_iter-candidate-iterator.ensures.into_iter_gives ∙ c.members-candidate-items.ensures.items in
+    rw all record {
+      rises = c.members-candidate-items.ensures.valid;
+      high = member-high 1 most_candidates c.args.set c.in_ok-best.best c.members-candidate-items.ensures.valid c.in_ok-best.ensures;
+      here = c.in_ok-best.ensures;
+      among = λ n is. is;
+      greatest = λ n is. inl is;
     }
 
-pub loop-parts-preserved-then-worths-from : goal.loop-parts-preserved-then-worths-from
-loop-parts-preserved-then-worths-from c =
-    let first = c.in-Some.parts.0 in
-    let rest = c.in-Some.parts.1 in
-    let left = c.loop-parts.left in
-    let inv = c.loop-parts.invariant in
-    let up = rest-increasing most_candidates left rest first c.in-Some.ensures inv.rises in
+pub loop-candidate-preserved-then-worths-from : goal.loop-candidate-preserved-then-worths-from
+loop-candidate-preserved-then-worths-from c =
+    let first = c.in-Some.candidate in
+    let rest = c.next.new.self in
+    let left = c.loop-candidate.candidate-iterator in
+    let inv = c.loop-candidate.invariant in
+    let up = rest-increasing most_candidates left rest first c.in-Some.ensures.steps inv.rises in
     let worth = λ (n : ℕ). get_or c.args.worths.now n 0 in
     record {
       rises = up.1;
       high = up.0;
-      here = inv.among first (first-is left rest first c.in-Some.ensures);
-      among = λ n is. inv.among n (rest-is left rest first n c.in-Some.ensures is);
-      greatest = λ n is. passed c.args.worths.now left rest first c.loop-parts.best first n c.in-Some.ensures (omega arith)
-          (omega (arith, c.if-worths-from.true, ap worth c.from.ensures, ap worth c.from-in-Some.ensures)) (inv.greatest n is);
+      here = inv.among first (first-in left rest first c.in-Some.ensures.steps inv.rises);
+      among = λ n is. inv.among n (later-in left rest first c.in-Some.ensures.steps inv.rises n is);
+      greatest = λ n is. passed c.args.worths.now left rest first c.loop-candidate.best first n c.in-Some.ensures.steps (omega arith)
+          (omega (arith, c.if-worths-from.true, ap worth c.from.ensures, ap worth c.from-in-loop-candidate.ensures)) (inv.greatest n is);
     }
 
-pub loop-parts-preserved : goal.loop-parts-preserved
-loop-parts-preserved c =
-    let first = c.in-Some.parts.0 in
-    let rest = c.in-Some.parts.1 in
-    let left = c.loop-parts.left in
-    let inv = c.loop-parts.invariant in
+pub loop-candidate-preserved : goal.loop-candidate-preserved
+loop-candidate-preserved c =
+    let first = c.in-Some.candidate in
+    let rest = c.next.new.self in
+    let left = c.loop-candidate.candidate-iterator in
+    let inv = c.loop-candidate.invariant in
     let worth = λ (n : ℕ). get_or c.args.worths.now n 0 in
     record {
-      rises = (rest-increasing most_candidates left rest first c.in-Some.ensures inv.rises).1;
+      rises = (rest-increasing most_candidates left rest first c.in-Some.ensures.steps inv.rises).1;
       high = inv.high;
       here = inv.here;
-      among = λ n is. inv.among n (rest-is left rest first n c.in-Some.ensures is);
-      greatest = λ n is. passed c.args.worths.now left rest first c.loop-parts.best c.loop-parts.best n c.in-Some.ensures
-          (omega (arith, c.if-worths-from.false, ap worth c.from.ensures, ap worth c.from-in-Some.ensures)) (omega arith) (inv.greatest n is);
+      among = λ n is. inv.among n (later-in left rest first c.in-Some.ensures.steps inv.rises n is);
+      greatest = λ n is. passed c.args.worths.now left rest first c.loop-candidate.best c.loop-candidate.best n c.in-Some.ensures.steps
+          (omega (arith, c.if-worths-from.false, ap worth c.from.ensures, ap worth c.from-in-loop-candidate.ensures)) (omega arith) (inv.greatest n is);
     }

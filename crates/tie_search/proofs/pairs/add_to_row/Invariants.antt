@@ -7,13 +7,10 @@ use Rattle.tie_search.proofs.OverlapLemmas.{portion}
 use Rattle.tie_search.proofs.pairs.add_to_row.Given as goal
 
 -- with what is still to be added, the numbers are those at the end
-abbrev pub invariant-loop-parts : goal.invariant-loop-parts
-invariant-loop-parts l = record {
+abbrev pub invariant-loop-column : goal.invariant-loop-column
+invariant-loop-column l = record {
   long : length l.table ≡ 4225;
-  rises : IsIncreasing 1 most_candidates l.left;
+  rises : IsIncreasing 1 most_candidates l.column-iterator;
   made : (i j : ℕ) → j ≤ most_candidates
-      → overlap_at l.table i j + portion (i == l.row) (has_member l.left j) l.amount ≡ overlap_at l.fn.table i j + portion (i == l.row) (has_member l.fn.members j) l.amount;
+      → overlap_at l.table i j + portion (i == l.row) (has_member l.column-iterator j) l.amount ≡ overlap_at l.fn.table i j + portion (i == l.row) (has_member l.fn.members j) l.amount;
 }
-
-abbrev pub decreases-loop-parts : goal.decreases-loop-parts
-decreases-loop-parts l = length l.left

@@ -1,4 +1,4 @@
-use Rattle.std.proofs.Common.{◌≡◌, ℕ, ◌+◌, ◌*◌, ◌^◌, ◌<◌, ◌≤◌, ◌∙◌, true, false, cond, List, [], ◌∷◌, sym, ap, arith, inl, inr, length, get_or, set}
+use Rattle.std.proofs.Common.{◌≡◌, ℕ, ◌+◌, ◌*◌, ◌^◌, ◌<◌, ◌≤◌, ◌∙◌, cond, List, [], ◌∷◌, sym, ap, arith, inl, inr, length, get_or, set}
 use Rattle.std.proofs.Math.ListN.{length-set}
 use Rattle.std.proofs.lemmas.Bool.{cases_eq}
 use Rattle.std.proofs.lemmas.List.{get_or-set_same, get_or-set_other}
@@ -6,23 +6,14 @@ use Rattle.ballot_base.specs.Limits.{most_candidates, most_members}
 use Rattle.ballot_base.specs.Lists.{IsIncreasing}
 use Rattle.ballot_base.specs.CandSet.{has_member}
 use Rattle.ballot_base.specs.Ballots.{hits}
-use Rattle.ballot_base.proofs.Increasing.{has_member_head, has_member_tail, has_member-below}
 use Rattle.tie_walk.proofs.TightLemmas.{hits-most}
 use Rattle.tie_search.specs.Steps.Columns.{block_voters, total, shared, given}
 use Rattle.tie_search.proofs.ColumnLemmas.{given_below, given-sum, given-whole}
+use Rattle.tie_search.proofs.OverlapLemmas.{first-gone, first-in, others-same}
 use Rattle.tie_search.proofs.SearchLemmas.{rest-increasing}
 use Rattle.tie_search.proofs.columns.Columns.add_block.Goals as goal
 
 module _ (gains left rest : List ℕ) (first x : ℕ) (is : left ≡ first ∷ rest) (up : IsIncreasing 1 most_candidates left) (inside : first < length gains) where
-  has-first : has_member left first ≡ true
-  has-first = ap (λ l. has_member l first) is ∙ has_member_head first rest
-
-  has-rest : has_member rest first ≡ false
-  has-rest = let at : IsIncreasing 1 most_candidates (first ∷ rest) = rw is at up in has_member-below (first + 1) most_candidates rest first at.2 (omega arith)
-
-  has-other : (c : ℕ) → (c ≡ first → ⊥) → has_member left c ≡ has_member rest c
-  has-other c other = ap (λ l. has_member l c) is ∙ has_member_tail first c rest (λ e. other (sym e))
-
   -- one of those who are left has got its part
   one-added : (c wanted : ℕ) (part : ℕ → ℕ) → x ≡ part first → get_or gains c 0 + cond (has_member left c) (part c) 0 ≡ wanted
       → get_or (set gains first (get_or gains first 0 + x)) c 0 + cond (has_member rest c) (part c) 0 ≡ wanted
@@ -35,14 +26,14 @@ module _ (gains left rest : List ℕ) (first x : ℕ) (is : left ≡ first ∷ r
       get_or-set_same gains first (get_or gains first 0 + x) 0 inside,
       ap (λ j. get_or gains j 0) here,
       ap part here,
-      ap (λ b. cond b (part c) 0) (ap (has_member left) here ∙ has-first),
-      ap (λ b. cond b (part c) 0) (ap (has_member rest) here ∙ has-rest),
+      ap (λ b. cond b (part c) 0) (ap (has_member left) here ∙ first-in left rest first is up),
+      ap (λ b. cond b (part c) 0) (ap (has_member rest) here ∙ first-gone left rest first is up),
     )
     | inr other ↦ omega (
       arith,
       before,
       get_or-set_other gains first c (get_or gains first 0 + x) 0 other,
-      ap (λ b. cond b (part c) 0) (has-other c other),
+      ap (λ b. cond b (part c) 0) (others-same left rest first is up c other),
     )
   ]
 
@@ -56,38 +47,35 @@ module _ (gains left rest : List ℕ) (first x : ℕ) (is : left ≡ first ∷ r
       ap (λ j. get_or (set gains first (get_or gains first 0 + x)) j 0) here,
       get_or-set_same gains first (get_or gains first 0 + x) 0 inside,
       ap (λ j. get_or gains j 0) here,
-      ap (λ b. cond b 0 most) (ap (has_member left) here ∙ has-first),
-      ap (λ b. cond b 0 most) (ap (has_member rest) here ∙ has-rest),
+      ap (λ b. cond b 0 most) (ap (has_member left) here ∙ first-in left rest first is up),
+      ap (λ b. cond b 0 most) (ap (has_member rest) here ∙ first-gone left rest first is up),
     )
     | inr other ↦ omega (
       arith,
       before,
       get_or-set_other gains first c (get_or gains first 0 + x) 0 other,
-      ap (λ b. cond b 0 most) (has-other c other),
+      ap (λ b. cond b 0 most) (others-same left rest first is up c other),
     )
   ]
 
-pub loop-parts-smaller : goal.loop-parts-smaller
-loop-parts-smaller c = omega (arith, ap length c.in-Some.ensures)
-
-pub loop-parts-preserved : goal.loop-parts-preserved
-loop-parts-preserved c =
-    let gains = c.loop-parts.gains in
-    let left = c.loop-parts.left in
-    let rest = c.in-Some.parts.1 in
+pub loop-candidate-preserved : goal.loop-candidate-preserved
+loop-candidate-preserved c =
+    let gains = c.loop-candidate.gains in
+    let left = c.loop-candidate.candidate-iterator in
+    let rest = c.next.new.self in
     let at = c.from-c.result in
-    let is : left ≡ at ∷ rest = c.in-Some.ensures ∙ ap (λ n. n ∷ rest) (sym c.from-c.ensures) in
-    let up = c.loop-parts.invariant.rises in
+    let is : left ≡ at ∷ rest = c.in-Some.ensures.steps ∙ ap (λ n. n ∷ rest) (sym c.from-c.ensures) in
+    let up = c.loop-candidate.invariant.rises in
     let next = rest-increasing most_candidates left rest at is up in
-    let inside : at < length gains = omega (arith, next.0, c.loop-parts.invariant.long) in
+    let inside : at < length gains = omega (arith, next.0, c.loop-candidate.invariant.long) in
     record {
-      long = length-set gains at (get_or gains at 0 + c.given_by.result) ∙ c.loop-parts.invariant.long;
+      long = length-set gains at (get_or gains at 0 + c.given_by.result) ∙ c.loop-candidate.invariant.long;
       rises = next.1;
       made = λ n. one-added gains left rest at c.given_by.result is up inside n _
           (λ j. total (λ h. get_or c.args.self.now.weights h 0 * shared (get_or (get_or c.args.self.now.blocks c.args.b []) j 0) (get_or c.by_hits-words.result h 0)) c.min-levels.result)
-          c.given_by.ensures.sum (c.loop-parts.invariant.made n);
-      most = λ n. one-most gains left rest at c.given_by.result is up inside n (get_or c.args.gains.now n 0) (most_members * 2 ^ 50)
-          (omega (arith, c.given_by.ensures.most, c.min-levels.ensures, c.requires.weights.few)) (c.loop-parts.invariant.most n);
+          c.given_by.ensures.sum (c.loop-candidate.invariant.made n);
+      most = λ n. one-most gains left rest at c.given_by.result is up inside n (get_or c.args.gains.now n 0) (most_members * 2 ^ 90)
+          (omega (arith, c.given_by.ensures.most, c.min-levels.ensures, c.requires.weights.few)) (c.loop-candidate.invariant.most n);
     }
 
 pub returns-clause-sum : goal.returns-clause-sum
@@ -96,11 +84,11 @@ returns-clause-sum c ballot_at block n in_ =
     let column = get_or (get_or c.args.self.now.blocks c.args.b []) n 0 in
     let levels = c.min-levels.result in
     let part : ℕ = total (λ h. get_or weights h 0 * shared column (get_or c.by_hits-words.result h 0)) levels in
-    let made : get_or c.loop-parts.gains n 0 + cond (has_member c.loop-parts.left n) part 0 ≡ get_or c.args.gains.now n 0 + cond (has_member c.args.among n) part 0 = c.loop-parts.invariant.made n in
+    let made : get_or c.loop-candidate.gains n 0 + cond (has_member c.loop-candidate.candidate-iterator n) part 0 ≡ get_or c.args.gains.now n 0 + cond (has_member c.args.among n) part 0 = c.loop-candidate.invariant.made n in
     let summed : part ≡ total (λ i. given_below weights c.args.set n levels (ballot_at i)) block_voters =
     given-sum ballot_at (get_or c.args.self.now.blocks c.args.b []) block weights c.args.set n c.by_hits-words.result levels levels (c.by_hits-words.ensures ballot_at block) (omega arith) in
     let whole : total (λ i. given_below weights c.args.set n levels (ballot_at i)) block_voters ≡ total (λ i. given weights c.args.set n (ballot_at i)) block_voters =
     given-whole ballot_at (get_or c.args.self.now.blocks c.args.b []) block weights c.args.set n levels (λ i high.
     c.requires.weights.end (hits (ballot_at i) c.args.set)
-    (omega (arith, high, c.min-levels.ensures, c.len.ensures.count, hits-most 1 most_candidates 1 most_candidates (ballot_at i) c.args.set (block.rises i) c.valid.ensures))) in
-    omega (arith, made, summed, whole, ap (λ l. cond (has_member l n) part 0) c.in_default.ensures, ap (λ b. cond b part 0) in_)
+    (omega (arith, high, c.min-levels.ensures, c.len.ensures.count, hits-most 1 most_candidates 1 most_candidates (ballot_at i) c.args.set (block.rises i) c.len.ensures.valid))) in
+    omega (arith, made, summed, whole, ap (λ l. cond (has_member l n) part 0) c.in-None.ensures.steps.0, ap (λ b. cond b part 0) in_)

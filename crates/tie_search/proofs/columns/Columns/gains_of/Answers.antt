@@ -26,7 +26,10 @@ loop-b-preserved c = record {
   most = λ n. omega (arith, c.add_block.ensures.most n, c.loop-b.invariant.most n, c.requires.weights.few);
 }
 
-pub returns : goal.returns
-returns c ballots held up n low =
+pub returns-clause-gains : goal.returns-clause-gains
+returns-clause-gains c ballots held up n low =
     c.loop-b.invariant.summed ballots held up n low
     ∙ ap (λ b. total (λ v. given c.args.self.now.weights c.args.set n (voter_ballot ballots v)) (b * block_voters)) (let e : c.loop-b.b ≡ c.args.self.now.used = omega (arith, c.loop-b-test.false, c.loop-b.auto.b-end) in e)
+
+pub returns-clause-small : goal.returns-clause-small
+returns-clause-small c n = omega (arith, c.loop-b.invariant.most n, c.requires.used, c.loop-b.auto.b-end)

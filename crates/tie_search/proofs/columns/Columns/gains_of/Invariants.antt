@@ -8,5 +8,5 @@ abbrev pub invariant-loop-b : goal.invariant-loop-b
 invariant-loop-b l = record {
   summed : (ballots : List (List ℕ)) → AreColumns ballots l.self.blocks → AreRising ballots → (c : ℕ) → has_member l.fn.among c ≡ true
       → get_or l.gains c 0 ≡ total (λ v. given l.self.weights l.fn.set c (voter_ballot ballots v)) (l.b * block_voters);
-  most : (c : ℕ) → get_or l.gains c 0 ≤ l.b * 2 ^ 56;
+  most : (c : ℕ) → get_or l.gains c 0 ≤ l.b * 2 ^ 96;
 }

@@ -1,4 +1,5 @@
 use Rattle.std.proofs.Common.{◌∙◌, ap, arith, get_or}
+use Rattle.tie_walk.proofs.Gains.{weights-small}
 use Rattle.tie_search.proofs.ColumnLemmas.{voters-length}
 use Rattle.tie_search.proofs.columns.Columns.of.Goals as goal
 
@@ -8,9 +9,9 @@ returns g c = record {
   all = omega (arith, voters-length c.args.profile.now.rows, c.voters-voters.ensures.value, c.div_ceil.ensures, c.if-voters.false);
   columns = c.blocks_of.ensures;
   sound = record {
-    few = c.last_level-levels.ensures.most;
-    small = λ j. (c.in_ok-weights.ensures j).1;
-    end = c.last_level-levels.ensures.end;
+    few = c.last_level.ensures.most;
+    small = λ j. omega (arith, ap (λ l. get_or l j 0) c.of-2.ensures, weights-small c.args.rule c.args.k c.of.result.w j c.requires.size c.of.ensures.weights);
+    end = λ j high. ap (λ l. get_or l j 0) c.of-2.ensures ∙ c.last_level.ensures.end j high;
   };
-  weights_are = λ j. (c.in_ok-weights.ensures j).0 ∙ ap (λ l. get_or l j 0) c.of.ensures.weights;
+  weights_are = λ j. ap (λ l. get_or l j 0) c.of-2.ensures ∙ ap (λ l. get_or l j 0) c.of.ensures.weights;
 }

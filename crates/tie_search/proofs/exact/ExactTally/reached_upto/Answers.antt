@@ -1,10 +1,11 @@
-use Rattle.std.proofs.Common.{◌≡◌, ◌+◌, ◌∙◌, arith, false, subst, sym, ap}
+use Rattle.std.proofs.Common.{◌≡◌, ℕ, List, ◌+◌, ◌∙◌, arith, false, subst, sym, ap}
 use Rattle.ballot_base.specs.Lists.{IsIncreasing}
 use Rattle.tie_walk.specs.Winners.{best_value}
 use Rattle.tie_search.specs.Completions.{Exact, IsReaching, is_reached}
 use Rattle.tie_search.specs.Steps.Witness.{IsSetAndLater, IsWitnessed}
 use Rattle.tie_search.proofs.ReachLemmas.{joined-completion, open-after, reached-none}
-use Rattle.tie_search.proofs.WitnessLemmas.{witnessed-joined}
+use Rattle.tie_search.specs.Tied.{AreTied, IsAmong}
+use Rattle.tie_search.proofs.WitnessLemmas.{listed-none, listed-witnessed, witnessed-joined}
 use Rattle.tie_search.proofs.exact.ExactTally.reached_upto.Goals as goal
 
 pub find-requires : goal.find-requires
@@ -56,6 +57,37 @@ returns-in-None-clause-none g c same =
     let none : is_reached V m c.args.c c.args.set c.args.left t.best ≡ false =
     reached-none V m c.args.c c.args.set c.those_after-free.result c.args.left (omega (arith, c.requires.within, inside))
     c.requires.candidates after (λ n low high. c.those_after-free.ensures.all n low (omega (arith, high, size))) t.best c.in-None.ensures in
+    ap (λ (x : Exact g.row.S.Denot). is_reached (g.S.Tally.value_of x.search) (g.S.Tally.candidates x.search) c.args.c c.args.set c.args.left
+    (best_value (g.S.Tally.value_of x.search) (g.S.Tally.candidates x.search) x.k)) (sym c.self.view_is)
+    ∙ ap (is_reached V m c.args.c c.args.set c.args.left) (sym c.self.invariant.best_is) ∙ none
+
+pub returns-then-self-clause-witnessed : goal.returns-then-self-clause-witnessed
+returns-then-self-clause-witnessed g c =
+    let t = c.self.inside in
+    let V = g.S.Tally.value_of t.search in
+    let end = c.listed_upto.result in
+    let listed : AreTied V c.m-m.result t.k t.tied = rw (← c.m-m.ensures.value) at c.self.invariant.listed in
+    let best_is : t.best ≡ best_value V c.m-m.result t.k = rw (← c.m-m.ensures.value) at c.self.invariant.best_is in
+    let here : IsWitnessed V c.m-m.result c.args.set c.args.left t.best c.args.c end =
+    listed-witnessed V c.m-m.result t.k t.tied c.args.set c.args.left t.best c.args.c listed best_is end
+    c.listed_upto.ensures.low c.listed_upto.ensures.high c.listed_upto.ensures.witnessed in
+    subst (λ (x : Exact g.row.S.Denot). IsWitnessed (g.S.Tally.value_of x.search) (g.S.Tally.candidates x.search) c.args.set c.args.left
+    (best_value (g.S.Tally.value_of x.search) (g.S.Tally.candidates x.search) x.k) c.args.c end) c.self.view_is
+    (subst (λ b. IsWitnessed V (g.S.Tally.candidates t.search) c.args.set c.args.left b c.args.c end) c.self.invariant.best_is
+    (subst (λ n. IsWitnessed V n c.args.set c.args.left t.best c.args.c end) c.m-m.ensures.value here))
+
+pub returns-then-self-clause-none : goal.returns-then-self-clause-none
+returns-then-self-clause-none g c same =
+    let t = c.self.inside in
+    let V = g.S.Tally.value_of t.search in
+    let m = g.S.Tally.candidates t.search in
+    let inside : m ≡ g.S.Tally.candidates c.args.self.now.search = ap (λ (x : Exact g.row.S.Denot). g.S.Tally.candidates x.search) c.self.view_is in
+    let size : t.k ≡ c.args.self.now.k = ap (λ (x : Exact g.row.S.Denot). x.k) c.self.view_is in
+    let none : is_reached V m c.args.c c.args.set c.args.left t.best ≡ false =
+    listed-none V m t.k t.tied c.args.set c.args.left t.best c.args.c c.self.invariant.listed c.self.invariant.best_is c.if-self.true (omega (arith, c.requires.within, inside)) c.requires.candidates
+    (omega (arith, c.requires.size, size))
+    (subst (λ n. (committee : List ℕ) → IsAmong t.tied.committees t.tied.len committee → IsSetAndLater n c.args.c c.args.set c.args.left committee → ⊥) c.m-m.ensures.value
+    (c.listed_upto.ensures.none same)) in
     ap (λ (x : Exact g.row.S.Denot). is_reached (g.S.Tally.value_of x.search) (g.S.Tally.candidates x.search) c.args.c c.args.set c.args.left
     (best_value (g.S.Tally.value_of x.search) (g.S.Tally.candidates x.search) x.k)) (sym c.self.view_is)
     ∙ ap (is_reached V m c.args.c c.args.set c.args.left) (sym c.self.invariant.best_is) ∙ none

@@ -44,18 +44,17 @@ loop-hits-preserved c =
       ];
     }
 
-pub returns-clause-bounds : goal.returns-clause-bounds
-returns-clause-bounds c h few =
-    omega (
-      arith,
-      c.loop-hits.invariant.above h (omega (arith, few, c.loop-hits-test.false, c.from-hits-end.ensures)),
-      ap (λ n. get_or c.args.sums.now (n + h) 0) c.from-first.ensures,
-    )
-
-pub returns-clause-small_kept : goal.returns-clause-small_kept
-returns-clause-small_kept c = c.loop-hits.invariant.small
-
-pub returns-clause-small_worth : goal.returns-clause-small_worth
-returns-clause-small_worth c =
-    worth-small c.if-touch-most.step c.bend-overlap.result c.from-4.result c.loop-hits.invariant.step_small c.loop-hits.invariant.overlap_small
-    (omega (arith, c.from-4.ensures, c.requires.touch, c.requires.fits))
+pub returns : goal.returns
+returns c = record {
+  bounds = λ h few. omega (
+    arith,
+    c.loop-hits.invariant.above h (omega (arith, few, c.loop-hits-test.false, c.from-hits-end.ensures)),
+    ap (λ n. get_or c.args.sums.now (n + h) 0) c.from-first.ensures,
+  );
+  small = record {
+    kept_small = c.loop-hits.invariant.small;
+    worth_small = worth-small c.if-touch-most.step c.bend-overlap.result c.from-4.result c.loop-hits.invariant.step_small c.loop-hits.invariant.overlap_small
+        (omega (arith, c.from-4.ensures, c.requires.touch, c.requires.fits));
+    overlap_small = c.loop-hits.invariant.overlap_small;
+  };
+}

@@ -13,7 +13,7 @@ pub returns-then-left-eq0 : goal.returns-then-left-eq0
 returns-then-left-eq0 g t c =
     let e = c.args.self.now.profile.now in
     set-reaches (closeness e.m e.rows) e.m c.args.set c.args.left (e.m - c.args.self.now.most) c.args.free c.if-left-eq0.true c.requires.opened
-    (near-value e.m e.rows c.args.self.now.most c.args.set (c.in-Some.ensures.0 c.if-left-eq0.true))
+    (near-value e.m e.rows c.args.self.now.most c.args.set (c.in-Some.ensures.whole c.if-left-eq0.true))
 
 pub with-requires-clause-low : goal.with-requires-clause-low
 with-requires-clause-low g t c =
@@ -24,7 +24,7 @@ pub with-requires-clause-high : goal.with-requires-clause-high
 with-requires-clause-high g t c =
     omega (
       arith,
-      c.m.ensures.valid.most,
+      c.in-Some.ensures.election.most,
       member-high 1 c.args.self.now.profile.now.m c.loop-next.rest c.in-Some-first_member.next c.loop-next.invariant.opened.free_within
           (choice-left _ c.loop-next.rest c.common.result c.in-Some-first_member.next c.common.ensures c.in-Some-first_member.ensures),
     )
@@ -37,20 +37,20 @@ find_quickly-requires g t c κs within =
     (choice-left _ c.loop-next.rest c.common.result next c.common.ensures c.in-Some-first_member.ensures) in
     (omega (arith, c.if-left-eq0.false, c.decreases), (within, (c.requires.clones, rw (c.with.ensures, c.without-others.ensures) opened)))
 
-pub returns-in-Some-found : goal.returns-in-Some-found
-returns-in-Some-found g t c =
+pub returns-in-Found : goal.returns-in-Found
+returns-in-Found g t c =
     let e = c.args.self.now.profile.now in
     let next = c.in-Some-first_member.next in
     let here = choice-left _ c.loop-next.rest c.common.result next c.common.ensures c.in-Some-first_member.ensures in
-    found-below (closeness e.m e.rows) e.m c.args.set c.args.left (e.m - c.args.self.now.most) c.args.free (without_member c.loop-next.rest next) c.in-Some-found.committee next
+    found-below (closeness e.m e.rows) e.m c.args.set c.args.left (e.m - c.args.self.now.most) c.args.free (without_member c.loop-next.rest next) c.in-Found.committee next
     (omega (arith, c.if-left-eq0.false)) c.requires.opened (c.loop-next.invariant.among next here) (λ n is. c.loop-next.invariant.among n (without-is c.loop-next.rest next n is))
-    (rw (c.with.ensures, c.without-others.ensures, c.in-Some-found.is) at c.in_ok-found.ensures)
+    (rw (c.with.ensures, c.without-others.ensures, c.in-Found.is) at c.find_quickly.ensures)
 
 pub class-requires : goal.class-requires
 class-requires g t c =
     omega (
       arith,
-      c.m.ensures.valid.most,
+      c.in-Some.ensures.election.most,
       member-high 1 c.args.self.now.profile.now.m c.loop-next.rest c.in-Some-first_member.next c.loop-next.invariant.opened.free_within
           (choice-left _ c.loop-next.rest c.common.result c.in-Some-first_member.next c.common.ensures c.in-Some-first_member.ensures),
     )
@@ -74,11 +74,11 @@ loop-next-preserved g t c =
     rw (c.minus-rest.ensures, c.without-others.ensures)
     (narrowed-clones (closeness e.m e.rows) e.m c.args.set c.args.free rest c.args.left (e.m - c.args.self.now.most) c.loop-next.invariant next c.class.result
     (omega (arith, c.if-left-eq0.false)) here
-    (λ committee d up is out clone. closeness-exchanged e.m committee next d up is out low high e.rows c.m.ensures.valid.ballots (are d clone))
-    (rw (c.with.ensures, c.without-others.ensures, c.in_default-found.is) at c.in_ok-found.ensures))
+    (λ committee d up is out clone. closeness-exchanged e.m committee next d up is out low high e.rows c.in-Some.ensures.election.ballots (are d clone))
+    (rw (c.with.ensures, c.without-others.ensures, c.in-NoneExists.is) at c.find_quickly.ensures))
 
 pub returns : goal.returns
 returns g t c =
     let e = c.args.self.now.profile.now in
     all-tried (closeness e.m e.rows) e.m c.args.set c.args.free c.args.left (e.m - c.args.self.now.most) _ c.loop-next.rest c.requires.opened
-    (c.in-Some.ensures.2 (omega (arith, c.if-left-eq0.false))) c.loop-next.invariant.kept (sym c.common.ensures ∙ c.in_default-first_member.ensures)
+    (c.in-Some.ensures.choices_are (omega (arith, c.if-left-eq0.false))) c.loop-next.invariant.kept (sym c.common.ensures ∙ c.in_default-first_member.ensures)

@@ -12,7 +12,8 @@ use Rattle.tie_search.proofs.CompletionLemmas.{member-low, member-high, open-wit
 use Rattle.tie_search.proofs.SearchLemmas.{found-below, set-reaches}
 use Rattle.tie_search.proofs.CloneLemmas.{class-are, minus-is, minus-most, open-minus}
 use Rattle.tie_search.proofs.NearClones.{closeness-exchanged}
-use Rattle.tie_search.proofs.NeedLemmas.{all-tried, choice-left, fewer-shorter, narrowed-clones, narrowed-more, narrowed-out, near-value}
+use Rattle.tie_search.proofs.NeedLemmas.{all-tried, choice-left, narrowed-clones, narrowed-more, narrowed-out, near-value}
+use Rattle.tie_search.proofs.PairLemmas.{length-among}
 use Rattle.tie_search.proofs.WeightLemmas.{weighted-fewer}
 use Rattle.tie_search.proofs.near.NearSearch.+find_thoroughly.Goals as goal
 
@@ -33,31 +34,34 @@ pub returns-then-left-eq0 : goal.returns-then-left-eq0
 returns-then-left-eq0 g t c =
     let e = c.args.self.now.profile.now in
     set-reaches (closeness e.m e.rows) e.m c.args.set c.args.left (e.m - c.args.self.now.most) c.args.free c.if-left-eq0.true c.requires.opened
-    (near-value e.m e.rows c.args.self.now.most c.args.set (c.in_ok-choices.ensures.0 c.if-left-eq0.true))
+    (near-value e.m e.rows c.args.self.now.most c.args.set (c.in_ok-choices.ensures.whole c.if-left-eq0.true))
 
 pub weighted_needs-needs-requires : goal.weighted_needs-needs-requires
 weighted_needs-needs-requires g t c =
     let m = c.args.self.now.profile.now.m in
     record {
-      few = omega (arith, c.in_ok-choices.ensures.3, length-increasing 1 m c.args.free c.requires.opened.free_within, c.m.ensures.valid.most);
+      few = omega (arith, c.in_ok-choices.ensures.enough, length-increasing 1 m c.args.free c.requires.opened.free_within, c.in_ok-choices.ensures.election.most);
       shares = c.requires.shares;
     }
 
+pub narrowed-requires-clause-election : goal.narrowed-requires-clause-election
+narrowed-requires-clause-election g t c = c.in_ok-choices.ensures.election
+
 pub narrowed-requires-clause-opened : goal.narrowed-requires-clause-opened
-narrowed-requires-clause-opened g t c = c.in_ok-choices.ensures.1.opened
+narrowed-requires-clause-opened g t c = c.in_ok-choices.ensures.narrowed.opened
 
 pub returns-in_err-rest : goal.returns-in_err-rest
 returns-in_err-rest g t c =
     let e = c.args.self.now.profile.now in
     rw c.from_residual-in_err-rest.ensures
-    (narrowed-out (closeness e.m e.rows) e.m c.args.set c.args.free c.in_ok-choices.eligible c.args.left (e.m - c.args.self.now.most) c.in_ok-choices.ensures.1 c.in_err-rest.ensures)
+    (narrowed-out (closeness e.m e.rows) e.m c.args.set c.args.free c.in_ok-choices.eligible c.args.left (e.m - c.args.self.now.most) c.in_ok-choices.ensures.narrowed c.in_err-rest.ensures)
 
 pub loop-next-init : goal.loop-next-init
 loop-next-init g t c =
     let e = c.args.self.now.profile.now in
     let V = closeness e.m e.rows in
     record {
-      narrowed = narrowed-more V e.m c.args.set c.args.free c.in_ok-choices.eligible c.args.left (e.m - c.args.self.now.most) c.in_ok-choices.ensures.1 c.in_ok-rest.rest c.in_ok-rest.ensures;
+      narrowed = narrowed-more V e.m c.args.set c.args.free c.in_ok-choices.eligible c.args.left (e.m - c.args.self.now.most) c.in_ok-choices.ensures.narrowed c.in_ok-rest.rest c.in_ok-rest.ensures;
       weighted = weighted-fewer e.rows (length c.args.set + c.args.left) c.args.self.now.most c.args.set c.in_ok-choices.eligible c.in_ok-rest.rest c.weighted_needs-needs.result.total
           c.weighted_needs-needs.result.supports c.weighted_needs-needs.ensures.weighted c.in_ok-rest.ensures.among;
     }
@@ -71,7 +75,7 @@ pub with-requires-clause-high : goal.with-requires-clause-high
 with-requires-clause-high g t c =
     omega (
       arith,
-      c.m.ensures.valid.most,
+      c.in_ok-choices.ensures.election.most,
       member-high 1 c.args.self.now.profile.now.m c.loop-next.rest c.in-Some.next c.loop-next.invariant.narrowed.opened.free_within
           (choice-left c.in_ok-choices.choices c.loop-next.rest c.common.result c.in-Some.next c.common.ensures c.in-Some.ensures.0),
     )
@@ -98,10 +102,13 @@ pub class-requires : goal.class-requires
 class-requires g t c =
     omega (
       arith,
-      c.m.ensures.valid.most,
+      c.in_ok-choices.ensures.election.most,
       member-high 1 c.args.self.now.profile.now.m c.loop-next.rest c.in-Some.next c.loop-next.invariant.narrowed.opened.free_within
           (choice-left c.in_ok-choices.choices c.loop-next.rest c.common.result c.in-Some.next c.common.ensures c.in-Some.ensures.0),
     )
+
+pub narrowed-requires-in-Some-clause-election : goal.narrowed-requires-in-Some-clause-election
+narrowed-requires-in-Some-clause-election g t c = c.in_ok-choices.ensures.election
 
 pub narrowed-requires-in-Some-clause-opened : goal.narrowed-requires-in-Some-clause-opened
 narrowed-requires-in-Some-clause-opened g t c =
@@ -131,7 +138,7 @@ returns-in_err-rest-2 g t c =
     let none : IsOutOfReach V e.m c.args.set untried c.args.left (e.m - c.args.self.now.most) = rw (c.minus-untried.ensures, c.without-others.ensures) at c.in_err-rest-2.ensures in
     rw c.from_residual-in_err-rest-2.ensures
     (narrowed-out V e.m c.args.set c.args.free untried c.args.left (e.m - c.args.self.now.most)
-    (tried e.m c.args.self.now.most e.rows c.args.set c.args.free rest c.class.result c.args.left next c.m.ensures.valid.ballots c.loop-next.invariant.narrowed
+    (tried e.m c.args.self.now.most e.rows c.args.set c.args.free rest c.class.result c.args.left next c.in_ok-choices.ensures.election.ballots c.loop-next.invariant.narrowed
     (omega (arith, c.if-left-eq0.false)) here (λ low high. c.class.ensures ∙ c.requires.clones next low high)
     (rw (c.with.ensures, c.without-others.ensures) at c.in_default-found.ensures))
     none)
@@ -144,7 +151,7 @@ loop-next-smaller g t c =
     let opened = open-minus m c.args.set (without_member rest next) c.class.result (open-without m c.args.set rest next c.loop-next.invariant.narrowed.opened) in
     let now : IsNarrowed (closeness m c.args.self.now.profile.now.rows) m c.args.set (other_members (without_member rest next) c.class.result) c.args.left (m - c.args.self.now.most) c.in_ok-rest-2.rest =
     rw (c.minus-untried.ensures, c.without-others.ensures) at c.in_ok-rest-2.ensures in
-    let short = fewer-shorter m c.in_ok-rest-2.rest (other_members (without_member rest next) c.class.result) now.opened.free_within opened.free_within now.among in
+    let short = length-among m c.in_ok-rest-2.rest (other_members (without_member rest next) c.class.result) now.opened.free_within opened.free_within now.among in
     let fewer = minus-most (without_member rest next) c.class.result in
     let less = without-shorter rest next (choice-left c.in_ok-choices.choices rest c.common.result next c.common.ensures c.in-Some.ensures.0) in
     omega (arith, short, fewer, less)
@@ -161,7 +168,7 @@ loop-next-preserved g t c =
     rw (c.minus-untried.ensures, c.without-others.ensures) at c.in_ok-rest-2.ensures in
     record {
       narrowed = narrowed-more V e.m c.args.set c.args.free untried c.args.left (e.m - c.args.self.now.most)
-          (tried e.m c.args.self.now.most e.rows c.args.set c.args.free rest c.class.result c.args.left next c.m.ensures.valid.ballots c.loop-next.invariant.narrowed
+          (tried e.m c.args.self.now.most e.rows c.args.set c.args.free rest c.class.result c.args.left next c.in_ok-choices.ensures.election.ballots c.loop-next.invariant.narrowed
           (omega (arith, c.if-left-eq0.false)) here (λ low high. c.class.ensures ∙ c.requires.clones next low high)
           (rw (c.with.ensures, c.without-others.ensures) at c.in_default-found.ensures))
           c.in_ok-rest-2.rest now;
@@ -174,4 +181,4 @@ pub returns : goal.returns
 returns g t c =
     let e = c.args.self.now.profile.now in
     all-tried (closeness e.m e.rows) e.m c.args.set c.args.free c.args.left (e.m - c.args.self.now.most) c.in_ok-choices.choices c.loop-next.rest c.requires.opened
-    (c.in_ok-choices.ensures.2 (omega (arith, c.if-left-eq0.false))) c.loop-next.invariant.narrowed.kept (sym c.common.ensures ∙ c.in_default.ensures)
+    (c.in_ok-choices.ensures.choices_are (omega (arith, c.if-left-eq0.false))) c.loop-next.invariant.narrowed.kept (sym c.common.ensures ∙ c.in_default.ensures)

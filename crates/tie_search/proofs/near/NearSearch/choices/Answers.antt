@@ -35,7 +35,7 @@ returns-then-needed-min g c =
     let needed : c.still_needed-needed.result ≡ hits_needed (length row.0) (length c.args.set + c.args.left) c.args.self.now.most - hits row.0 c.args.set =
     c.still_needed-needed.ensures ∙ ap (λ n. hits_needed (length row.0) (n + c.args.left) c.args.self.now.most - hits row.0 c.args.set) c.len-2.ensures.count in
     narrowed-out V e.m c.args.set c.args.free rest c.args.left (e.m - c.args.self.now.most) c.loop-ballot.invariant.narrowed
-    (hopeless e.m e.rows c.args.self.now.most c.args.set rest c.args.left c.m.ensures.valid.ballots c.loop-ballot.invariant.narrowed.opened (length c.loop-ballot.yielded) row at
+    (hopeless e.m e.rows c.args.self.now.most c.args.set rest c.args.left c.ballots-ballot-items.ensures.valid.ballots c.loop-ballot.invariant.narrowed.opened (length c.loop-ballot.yielded) row at
     (omega (arith, needed, c.if-needed-min.true, c.min.ensures, c.len-in-loop-ballot.ensures.count, ap length c.common-open.ensures, length-common row.0 rest)))
 
 pub loop-ballot-preserved-then-is_tighter : goal.loop-ballot-preserved-then-is_tighter
@@ -51,20 +51,20 @@ loop-ballot-preserved-then-is_tighter g c =
     c.still_needed-needed.ensures ∙ ap (λ n. hits_needed (length row.0) (n + c.args.left) c.args.self.now.most - hits row.0 c.args.set) c.len-2.ensures.count in
     record {
       whole = λ none.
-          subst (λ n. greatest_distance (take n e.rows) c.args.set ≤ c.args.self.now.most) next (near-more e.m c.args.self.now.most (length c.args.set + c.args.left) e.rows c.args.set (length c.loop-ballot.yielded) row c.m.ensures.valid.ballots c.requires.set_within at
+          subst (λ n. greatest_distance (take n e.rows) c.args.set ≤ c.args.self.now.most) next (near-more e.m c.args.self.now.most (length c.args.set + c.args.left) e.rows c.args.set (length c.loop-ballot.yielded) row c.ballots-ballot-items.ensures.valid.ballots c.requires.set_within at
           (omega (arith, none)) (omega (arith, needed, none, c.if-needed-min.false, c.min.ensures)) (inv.whole none));
       narrowed = elim c.if-needed-left.branch [
         | then-needed-left w ↦
             subst (λ s. IsNarrowed V e.m c.args.set c.args.free c.args.left (e.m - c.args.self.now.most) s) (sym (w.rest-is ∙ c.common-open.ensures))
             (narrowed-more V e.m c.args.set c.args.free rest c.args.left (e.m - c.args.self.now.most) inv.narrowed (common_members row.0 rest)
-            (narrowed-to_ballot e.m e.rows c.args.self.now.most c.args.set rest c.args.left c.m.ensures.valid.ballots inv.narrowed.opened (length c.loop-ballot.yielded) row at
+            (narrowed-to_ballot e.m e.rows c.args.self.now.most c.args.set rest c.args.left c.ballots-ballot-items.ensures.valid.ballots inv.narrowed.opened (length c.loop-ballot.yielded) row at
             (omega (arith, needed, w.if-needed-left.true))))
         | else-needed-left w ↦ subst (λ s. IsNarrowed V e.m c.args.set c.args.free c.args.left (e.m - c.args.self.now.most) s) (sym w.rest-is) inv.narrowed
       ];
       choice = λ some.
           subst (λ s. AreChoices V e.m c.args.set c.args.free c.args.left (e.m - c.args.self.now.most) s) (sym c.common-open.ensures)
           (narrowed-choice V e.m c.args.set c.args.free rest c.args.left (e.m - c.args.self.now.most) inv.narrowed (common_members row.0 rest)
-          (choice-of_ballot e.m e.rows c.args.self.now.most c.args.set rest c.args.left c.m.ensures.valid.ballots inv.narrowed.opened (length c.loop-ballot.yielded) row at
+          (choice-of_ballot e.m e.rows c.args.self.now.most c.args.set rest c.args.left c.ballots-ballot-items.ensures.valid.ballots inv.narrowed.opened (length c.loop-ballot.yielded) row at
           (omega (arith, needed, c.is_tighter.ensures c.if-is_tighter.true))));
     }
 
@@ -81,13 +81,13 @@ loop-ballot-preserved g c =
     c.still_needed-needed.ensures ∙ ap (λ n. hits_needed (length row.0) (n + c.args.left) c.args.self.now.most - hits row.0 c.args.set) c.len-2.ensures.count in
     record {
       whole = λ none.
-          subst (λ n. greatest_distance (take n e.rows) c.args.set ≤ c.args.self.now.most) next (near-more e.m c.args.self.now.most (length c.args.set + c.args.left) e.rows c.args.set (length c.loop-ballot.yielded) row c.m.ensures.valid.ballots c.requires.set_within at
+          subst (λ n. greatest_distance (take n e.rows) c.args.set ≤ c.args.self.now.most) next (near-more e.m c.args.self.now.most (length c.args.set + c.args.left) e.rows c.args.set (length c.loop-ballot.yielded) row c.ballots-ballot-items.ensures.valid.ballots c.requires.set_within at
           (omega (arith, none)) (omega (arith, needed, none, c.if-needed-min.false, c.min.ensures)) (inv.whole none));
       narrowed = elim c.if-needed-left.branch [
         | then-needed-left w ↦
             subst (λ s. IsNarrowed V e.m c.args.set c.args.free c.args.left (e.m - c.args.self.now.most) s) (sym (w.rest-is ∙ c.common-open.ensures))
             (narrowed-more V e.m c.args.set c.args.free rest c.args.left (e.m - c.args.self.now.most) inv.narrowed (common_members row.0 rest)
-            (narrowed-to_ballot e.m e.rows c.args.self.now.most c.args.set rest c.args.left c.m.ensures.valid.ballots inv.narrowed.opened (length c.loop-ballot.yielded) row at
+            (narrowed-to_ballot e.m e.rows c.args.self.now.most c.args.set rest c.args.left c.ballots-ballot-items.ensures.valid.ballots inv.narrowed.opened (length c.loop-ballot.yielded) row at
             (omega (arith, needed, w.if-needed-left.true))))
         | else-needed-left w ↦ subst (λ s. IsNarrowed V e.m c.args.set c.args.free c.args.left (e.m - c.args.self.now.most) s) (sym w.rest-is) inv.narrowed
       ];
@@ -98,9 +98,11 @@ pub returns : goal.returns
 returns g c =
     let e = c.args.self.now.profile.now in
     let inv = c.loop-ballot.invariant in
-    let all = all_passed e.rows (c.into_iter-ballot-iterator.ensures.into_iter_gives ∙ c.ballots-ballot-items.ensures.rows) c.loop-ballot.yielded c.loop-ballot.yielded_by c.in-None.ensures.steps.0 in (
-      (λ none. subst (λ rows. greatest_distance rows c.args.set ≤ c.args.self.now.most) all (inv.whole none)),
-      inv.narrowed,
-      inv.choice,
-      omega (arith, c.len.ensures.count, c.if-len-left.false),
-    )
+    let all = all_passed e.rows (c.into_iter-ballot-iterator.ensures.into_iter_gives ∙ c.ballots-ballot-items.ensures.rows) c.loop-ballot.yielded c.loop-ballot.yielded_by c.in-None.ensures.steps.0 in
+    record {
+      election = c.ballots-ballot-items.ensures.valid;
+      enough = omega (arith, c.len.ensures.count, c.if-len-left.false);
+      whole = λ none. subst (λ rows. greatest_distance rows c.args.set ≤ c.args.self.now.most) all (inv.whole none);
+      narrowed = inv.narrowed;
+      choices_are = inv.choice;
+    }

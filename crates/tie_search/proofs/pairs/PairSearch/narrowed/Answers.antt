@@ -38,23 +38,23 @@ pub overflow_mul-most-2 : goal.overflow_mul-most-2
 overflow_mul-most-2 g c =
     omega (
       arith,
-      threshold-fits c.from-2.result c.nth_greatest-threshold.result (omega (arith, c.from-2.ensures, c.ranges.left)) (c.nth_greatest-threshold.ensures (2 ^ 80) c.row_sums-sums.ensures.small),
+      threshold-fits c.from-2.result c.nth_greatest-threshold.result (omega (arith, c.from-2.ensures, c.ranges.left)) (c.nth_greatest-threshold.ensures (2 ^ 80) c.sums-sums.ensures.small),
     )
 
 pub overflow_add-most : goal.overflow_add-most
 overflow_add-most g c =
     omega (
       arith,
-      threshold-fits c.from-2.result c.nth_greatest-threshold.result (omega (arith, c.from-2.ensures, c.ranges.left)) (c.nth_greatest-threshold.ensures (2 ^ 80) c.row_sums-sums.ensures.small),
-      kept-fits c.from-factor.result c.totals-totals.result.kept (omega (arith, c.from-factor.ensures, c.ranges.left)) c.totals-totals.ensures.small.kept_small,
+      threshold-fits c.from-2.result c.nth_greatest-threshold.result (omega (arith, c.from-2.ensures, c.ranges.left)) (c.nth_greatest-threshold.ensures (2 ^ 80) c.sums-sums.ensures.small),
+      kept-fits c.from-factor.result c.add_ballots.new.totals.kept (omega (arith, c.from-factor.ensures, c.ranges.left)) c.add_ballots.ensures.small.kept_small,
     )
 
 pub overflow_add-most-2 : goal.overflow_add-most-2
 overflow_add-most-2 g c =
     omega (
       arith,
-      threshold-fits c.from-2.result c.nth_greatest-threshold.result (omega (arith, c.from-2.ensures, c.ranges.left)) (c.nth_greatest-threshold.ensures (2 ^ 80) c.row_sums-sums.ensures.small),
-      kept-fits c.from-factor.result c.totals-totals.result.kept (omega (arith, c.from-factor.ensures, c.ranges.left)) c.totals-totals.ensures.small.kept_small,
+      threshold-fits c.from-2.result c.nth_greatest-threshold.result (omega (arith, c.from-2.ensures, c.ranges.left)) (c.nth_greatest-threshold.ensures (2 ^ 80) c.sums-sums.ensures.small),
+      kept-fits c.from-factor.result c.add_ballots.new.totals.kept (omega (arith, c.from-factor.ensures, c.ranges.left)) c.add_ballots.ensures.small.kept_small,
       c.excess.ensures.small,
     )
 
@@ -68,22 +68,22 @@ overflow_mul-from-2 g c =
 
 -- the bound of all completions
 greatest-is : (g : _) (c : After-excess g)
-    → 2 * c.from-factor.result * c.totals-totals.result.kept + c.from-2.result * c.nth_greatest-threshold.result + c.excess.result
-    ≡ 2 * (c.args.left - 1) * c.totals-totals.result.kept + c.args.left * c.nth_greatest-threshold.result + sum_by (λ n. get_or c.row_sums-sums.result n 0 - c.nth_greatest-threshold.result) c.args.free
+    → 2 * c.from-factor.result * c.add_ballots.new.totals.kept + c.from-2.result * c.nth_greatest-threshold.result + c.excess.result
+    ≡ 2 * (c.args.left - 1) * c.add_ballots.new.totals.kept + c.args.left * c.nth_greatest-threshold.result + sum_by (λ n. get_or c.sums-sums.result n 0 - c.nth_greatest-threshold.result) c.args.free
 greatest-is g c =
     omega (
       arith,
-      ap (λ n. 2 * n * c.totals-totals.result.kept) c.from-factor.ensures,
+      ap (λ n. 2 * n * c.add_ballots.new.totals.kept) c.from-factor.ensures,
       ap (λ n. n * c.nth_greatest-threshold.result) c.from-2.ensures,
       c.excess.ensures.sum,
     )
 
 -- worths are raised enough
-raise-enough : (g : _) (c : After-excess g) (i j : ℕ) → i ≤ most_candidates → j ≤ most_candidates → 2 * (c.args.left - 1) * overlap_at c.totals-totals.result.overlaps i j ≤ 2 * c.from-factor.result * c.from.result
+raise-enough : (g : _) (c : After-excess g) (i j : ℕ) → i ≤ most_candidates → j ≤ most_candidates → 2 * (c.args.left - 1) * overlap_at c.add_ballots.new.totals.overlaps i j ≤ 2 * c.from-factor.result * c.from.result
 raise-enough g c i j row column =
-    let low : overlap_at c.totals-totals.result.overlaps i j ≤ c.from.result = omega (arith, c.from.ensures, c.greatest_overlap.ensures.most i j row column) in
-    let product : 2 * c.from-factor.result * overlap_at c.totals-totals.result.overlaps i j ≤ 2 * c.from-factor.result * c.from.result = mul-le-mul_left (2 * c.from-factor.result) low in
-    omega (arith, product, ap (λ n. 2 * n * overlap_at c.totals-totals.result.overlaps i j) c.from-factor.ensures)
+    let low : overlap_at c.add_ballots.new.totals.overlaps i j ≤ c.from.result = omega (arith, c.from.ensures, c.greatest_overlap.ensures.most i j row column) in
+    let product : 2 * c.from-factor.result * overlap_at c.add_ballots.new.totals.overlaps i j ≤ 2 * c.from-factor.result * c.from.result = mul-le-mul_left (2 * c.from-factor.result) low in
+    omega (arith, product, ap (λ n. 2 * n * overlap_at c.add_ballots.new.totals.overlaps i j) c.from-factor.ensures)
 
 -- what is due
 due-low : (g : _) (c : After-saturating_add-due g) → c.saturating_add-due.result ≤ 2 * (c.args.left - 1) * c.units.result + c.args.left * c.args.left * (2 * c.from-factor.result * c.from.result)
@@ -103,25 +103,25 @@ pub returns-then-most-due : goal.returns-then-most-due
 returns-then-most-due g c weights are =
     let self = c.args.self.now in
     let e = self.profile.now in
-    let totals = c.totals-totals.result in
-    let sums = c.row_sums-sums.result in
+    let totals = c.add_ballots.new.totals in
+    let sums = c.sums-sums.result in
     let t = c.nth_greatest-threshold.result in
     let raise = 2 * c.from-factor.result * c.from.result in
-    pairs-none weights self.given.now.scale self.given.now.unit e.m e.rows c.args.set c.args.free c.args.left totals.kept totals.worths totals.overlaps c.requires.opened c.m.ensures.valid.most c.requires.several c.requires.unit
-    (c.totals-totals.ensures.totals weights are) self.least c.units.result raise c.units.ensures (raise-enough g (goal.at.returns-then-most-due g c).After-excess)
-    sums c.row_sums-sums.ensures.sums t (2 * c.from-factor.result * totals.kept + c.from-2.result * t + c.excess.result) c.saturating_add-due.result
+    pairs-none weights self.given.now.scale self.given.now.unit e.m e.rows c.args.set c.args.free c.args.left totals.kept totals.worths totals.overlaps c.requires.opened c.add_ballots.ensures.election.most c.requires.several c.requires.unit
+    (c.add_ballots.ensures.totals weights are) self.least c.units.result raise c.units.ensures (raise-enough g (goal.at.returns-then-most-due g c).After-excess)
+    sums c.sums-sums.ensures.sums t (2 * c.from-factor.result * totals.kept + c.from-2.result * t + c.excess.result) c.saturating_add-due.result
     (greatest-is g (goal.at.returns-then-most-due g c).After-excess) (due-low g (goal.at.returns-then-most-due g c).After-saturating_add-due) c.if-most-due.true
 
 pub returns : goal.returns
 returns g c weights are =
     let self = c.args.self.now in
     let e = self.profile.now in
-    let totals = c.totals-totals.result in
-    let sums = c.row_sums-sums.result in
+    let totals = c.add_ballots.new.totals in
+    let sums = c.sums-sums.result in
     let t = c.nth_greatest-threshold.result in
     let raise = 2 * c.from-factor.result * c.from.result in
-    pairs-narrowed weights self.given.now.scale self.given.now.unit e.m e.rows c.args.set c.args.free c.args.left totals.kept totals.worths totals.overlaps c.requires.opened c.m.ensures.valid.most c.requires.several c.requires.unit
-    (c.totals-totals.ensures.totals weights are) self.least c.units.result raise c.units.ensures (raise-enough g (goal.at.returns g c).After-excess)
-    sums c.row_sums-sums.ensures.sums t (2 * c.from-factor.result * totals.kept + c.from-2.result * t + c.excess.result) c.saturating_add-due.result
+    pairs-narrowed weights self.given.now.scale self.given.now.unit e.m e.rows c.args.set c.args.free c.args.left totals.kept totals.worths totals.overlaps c.requires.opened c.add_ballots.ensures.election.most c.requires.several c.requires.unit
+    (c.add_ballots.ensures.totals weights are) self.least c.units.result raise c.units.ensures (raise-enough g (goal.at.returns g c).After-excess)
+    sums c.sums-sums.ensures.sums t (2 * c.from-factor.result * totals.kept + c.from-2.result * t + c.excess.result) c.saturating_add-due.result
     (greatest-is g (goal.at.returns g c).After-excess) (due-low g (goal.at.returns g c).After-saturating_add-due) c.if-most-due.false c.at_least.result
     c.at_least.ensures.within c.at_least.ensures.among (rw c.saturating_sub.ensures at c.at_least.ensures.kept)

@@ -1,40 +1,52 @@
-use Rattle.std.proofs.Common.{◌≡◌, ℕ, ◌+◌, ◌-◌, ◌<◌, ◌≤◌, ◌∙◌, true, List, ap, arith, length, get_or}
+use Rattle.std.proofs.Common.{◌≡◌, ℕ, ◌+◌, ◌-◌, ◌<◌, ◌∙◌, true, ap, arith, inl, inr, length, get_or}
 use Rattle.ballot_base.specs.Increments.{increments}
-use Rattle.ballot_base.specs.CandSet.{has_member, other_members, with_member, without_member}
+use Rattle.ballot_base.specs.CandSet.{has_member, with_member, without_member}
 use Rattle.tie_walk.specs.Sequences.{gain}
 use Rattle.tie_search.proofs.WholeLemmas.{value-with}
-use Rattle.tie_search.specs.Completions.{IsOpen, IsOutOfReach, tally_value}
+use Rattle.tie_search.specs.Completions.{IsCompletion, IsOpen, tally_value}
+use Rattle.tie_search.specs.Steps.Found.{Advances, AreSearched}
 use Rattle.tie_search.specs.Steps.Near.{IsNarrowed}
 use Rattle.tie_search.proofs.PairLemmas.{length-among}
-use Rattle.tie_search.proofs.CompletionLemmas.{member-low, member-high, open-with, open-without, without-is, without-shorter}
-use Rattle.tie_search.proofs.SearchLemmas.{AreLeft, found-below, node-none, none-left, not-true, set-short, value-most}
-use Rattle.tie_search.proofs.CloneLemmas.{class-are, clones-out, minus-is, minus-most, open-minus}
+use Rattle.tie_search.proofs.CompletionLemmas.{completion-back, member-low, member-high, open-with, open-without, without-is, without-shorter}
+use Rattle.tie_search.proofs.SearchLemmas.{AreLeft, node-none, not-true, value-most}
+use Rattle.tie_search.proofs.FoundLemmas.{AreSettledBut, advances-none, advances-on, set-offered, settled-all, settled-narrowed, settled-with, settled-without, still-settled}
 use Rattle.tie_search.proofs.KeptLemmas.{kept-left, open-among}
 use Rattle.tie_search.proofs.search.Search.+descend.Goals as goal
-use Rattle.tie_search.proofs.search.Search.+descend.Goals.{After-class, In_ok-rest}
+use Rattle.tie_search.proofs.search.Search.+descend.Goals.{After-descend, After-untried-untried, In-Some-eligible}
 
-pub returns-then-value-self : goal.returns-then-value-self
-returns-then-value-self g t c =
-    set-short (tally_value c.args.self.now.tally.now) c.args.self.now.tally.now.election.m c.args.set c.args.left c.args.self.now.least c.args.free
-    c.if-left-eq0.true c.requires.opened (omega (arith, c.if-value-self.true, c.requires.value))
+pub offer-requires : goal.offer-requires
+offer-requires g t c =
+    record { small = omega (arith, c.requires.value, value-most c.args.self.now.tally.now c.args.node.set c.valid.ensures.election c.valid.ensures.size) }
+
+pub returns-then-left-eq0 : goal.returns-then-left-eq0
+returns-then-left-eq0 g t c =
+    let V = tally_value c.args.self.now.tally.now in
+    let value : V c.args.node.set ≡ c.args.node.value = omega (arith, c.requires.value) in
+    set-offered V c.args.self.now.tally.now.election.m c.args.node.set c.args.node.free c.args.node.left c.args.found.now c.offer.new.self
+    c.if-left-eq0.true c.requires.opened (c.offer.ensures.advances V value c.requires.listed) (c.offer.ensures.settled V value c.requires.listed)
 
 pub loop-set-init : goal.loop-set-init
-loop-set-init g t c = record {
-  opened = c.in_ok-eligible.ensures.opened;
-  among = λ n h. h;
-  kept = c.in_ok-eligible.ensures.kept;
-}
+loop-set-init g t c =
+    let tally = c.args.self.now.tally.now in
+    let narrowed : IsNarrowed (tally_value tally) tally.election.m c.args.node.set c.args.node.free c.args.node.left c.args.found.now.least c.in-Some.eligible = rw c.seeking.ensures at c.in-Some.ensures in
+    record {
+      opened = narrowed.opened;
+      among = λ n h. h;
+      advances = advances-none (tally_value tally) (IsCompletion tally.election.m c.args.node.set c.args.node.free c.args.node.left) c.args.found.now c.requires.listed;
+      settled = settled-narrowed (tally_value tally) tally.election.m c.args.node.set c.args.node.left c.args.node.free c.args.node.free c.in-Some.eligible c.args.found.now
+          (λ committee whole. inr whole) narrowed;
+    }
 
-pub with-requires-clause-low : goal.with-requires-clause-low
-with-requires-clause-low g t c =
-    member-low 1 c.args.self.now.tally.now.election.m c.loop-set.rest c.in_ok-next.next c.loop-set.invariant.opened.free_within c.in_ok-next.ensures
+pub with-tried-requires-clause-low : goal.with-tried-requires-clause-low
+with-tried-requires-clause-low g t c =
+    member-low 1 c.args.self.now.tally.now.election.m c.loop-set.rest c.in-Some-first_of.next c.loop-set.invariant.opened.free_within c.in-Some-first_of.ensures
 
-pub with-requires-clause-high : goal.with-requires-clause-high
-with-requires-clause-high g t c =
+pub with-tried-requires-clause-high : goal.with-tried-requires-clause-high
+with-tried-requires-clause-high g t c =
     omega (
       arith,
       c.valid.ensures.election.most,
-      member-high 1 c.args.self.now.tally.now.election.m c.loop-set.rest c.in_ok-next.next c.loop-set.invariant.opened.free_within c.in_ok-next.ensures,
+      member-high 1 c.args.self.now.tally.now.election.m c.loop-set.rest c.in-Some-first_of.next c.loop-set.invariant.opened.free_within c.in-Some-first_of.ensures,
     )
 
 pub bounds-gains-from : goal.bounds-gains-from
@@ -42,159 +54,201 @@ bounds-gains-from g t c =
     omega (
       arith,
       c.valid.ensures.election.most,
-      member-high 1 c.args.self.now.tally.now.election.m c.loop-set.rest c.in_ok-next.next c.loop-set.invariant.opened.free_within c.in_ok-next.ensures,
+      member-high 1 c.args.self.now.tally.now.election.m c.loop-set.rest c.in-Some-first_of.next c.loop-set.invariant.opened.free_within c.in-Some-first_of.ensures,
       c.from.ensures,
     )
 
-pub overflow_add-value : goal.overflow_add-value
-overflow_add-value g t c =
+pub overflow_add-joined : goal.overflow_add-joined
+overflow_add-joined g t c =
     omega (
       arith,
       c.requires.value,
-      value-most c.args.self.now.tally.now c.args.set c.valid.ensures.election c.valid.ensures.size,
+      value-most c.args.self.now.tally.now c.args.node.set c.valid.ensures.election c.valid.ensures.size,
       c.gains_at-gains.ensures.small c.from.result,
     )
 
-pub descend-found-requires : goal.descend-found-requires
-descend-found-requires g t c κs within =
-    let m = c.args.self.now.tally.now.election.m in
-    let rest = c.loop-set.rest in
-    let next = c.in_ok-next.next in
-    let opened : IsOpen m (with_member c.args.set next) (without_member rest next) =
-    open-with m c.args.set rest next c.loop-set.invariant.opened c.in_ok-next.ensures in
-    let fewer : IsOpen m (with_member c.args.set next) c.promising-kept.result =
-    open-among m (with_member c.args.set next) (without_member rest next) c.promising-kept.result opened
-    (c.promising-kept.ensures.within m (rw c.without-others.ensures opened.free_within))
-    (rw c.without-others.ensures at c.promising-kept.ensures.among) in
-    let eligible = c.loop-set.invariant.among next c.in_ok-next.ensures in
-    let free : has_member c.args.free next ≡ true = c.in_ok-eligible.ensures.among next eligible in
-    let gained : tally_value c.args.self.now.tally.now (with_member c.args.set next) ≡ tally_value c.args.self.now.tally.now c.args.set + gain (increments c.args.self.now.tally.now.rule c.args.self.now.tally.now.k) c.args.self.now.tally.now.election.rows c.args.set next =
-    value-with c.args.self.now.tally.now c.args.set next c.valid.ensures.election (c.requires.opened.apart next free) in
-    let same : get_or c.gains_at-gains.result c.from.result 0 ≡ gain (increments c.args.self.now.tally.now.rule c.args.self.now.tally.now.k) c.args.self.now.tally.now.election.rows c.args.set next =
-    ap (λ n. get_or c.gains_at-gains.result n 0) c.from.ensures ∙ c.gains_at-gains.ensures.gains next eligible in
-    let value : c.args.value + get_or c.gains_at-gains.result c.from.result 0 ≡ tally_value c.args.self.now.tally.now (with_member c.args.set next) =
-    omega (arith, gained, same, c.requires.value) in
-    (omega (arith, c.if-left-eq0.false, c.decreases), (within, (c.requires.ballots, (c.requires.aids, (rw c.with.ensures fewer, rw c.with.ensures value)))))
-
-pub class-requires : goal.class-requires
-class-requires g t c =
-    omega (
-      arith,
-      c.valid.ensures.election.most,
-      member-high 1 c.args.self.now.tally.now.election.m c.loop-set.rest c.in_ok-next.next c.loop-set.invariant.opened.free_within c.in_ok-next.ensures,
-    )
-
-pub untried_eligible-requires-clause-opened : goal.untried_eligible-requires-clause-opened
-untried_eligible-requires-clause-opened g t c =
-    rw (c.minus-untried.ensures, c.without-others.ensures) (open-minus c.args.self.now.tally.now.election.m c.args.set (without_member c.loop-set.rest c.in_ok-next.next) c.class.result
-    (open-without c.args.self.now.tally.now.election.m c.args.set c.loop-set.rest c.in_ok-next.next c.loop-set.invariant.opened))
-
--- the candidate who was tried leaves, with its clones
-left-out : (g : _) (t : _) (c : After-class g t) → AreLeft (tally_value c.args.self.now.tally.now) c.args.self.now.tally.now.election.m c.args.set c.args.left c.args.self.now.least c.args.free
-    (other_members (without_member c.loop-set.rest c.in_ok-next.next) c.class.result)
-left-out g t c =
+pub descend-requires : goal.descend-requires
+descend-requires g t c κs within =
     let tally = c.args.self.now.tally.now in
     let m = tally.election.m in
-    let set = c.args.set in
-    let least = c.args.self.now.least in
+    let set = c.args.node.set in
     let rest = c.loop-set.rest in
-    let next = c.in_ok-next.next in
+    let next = c.in-Some-first_of.next in
+    let weights = increments tally.rule tally.k in
+    let opened : IsOpen m (with_member set next) (without_member rest next) = open-with m set rest next c.loop-set.invariant.opened c.in-Some-first_of.ensures in
+    let fewer : IsOpen m (with_member set next) c.promising-kept.result =
+    open-among m (with_member set next) (without_member rest next) c.promising-kept.result opened
+    (c.promising-kept.ensures.within m (rw c.without-others.ensures opened.free_within))
+    (rw c.without-others.ensures at c.promising-kept.ensures.among) in
+    let gained : tally_value tally (with_member set next) ≡ tally_value tally set + gain weights tally.election.rows set next =
+    value-with tally set next c.valid.ensures.election (c.loop-set.invariant.opened.apart next c.in-Some-first_of.ensures) in
+    let same : get_or c.gains_at-gains.result c.from.result 0 ≡ gain weights tally.election.rows set next =
+    ap (λ n. get_or c.gains_at-gains.result n 0) c.from.ensures
+    ∙ c.gains_at-gains.ensures.gains next (c.loop-set.invariant.among next c.in-Some-first_of.ensures) in
+    let value : c.args.node.value + get_or c.gains_at-gains.result c.from.result 0 ≡ tally_value tally (with_member set next) =
+    omega (arith, gained, same, c.requires.value) in (
+      omega (arith, c.if-left-eq0.false, c.decreases),
+      (within, (c.requires.ballots, (c.requires.aids, (rw c.with-tried.ensures fewer, (rw c.with-tried.ensures value, c.loop-set.invariant.advances.valid))))),
+    )
+
+pub untried-untried-requires-clause-candidate : goal.untried-untried-requires-clause-candidate
+untried-untried-requires-clause-candidate g t c =
+    member-high 1 c.args.self.now.tally.now.election.m c.loop-set.rest c.in-Some-first_of.next c.loop-set.invariant.opened.free_within c.in-Some-first_of.ensures
+
+pub untried-untried-requires-clause-some : goal.untried-untried-requires-clause-some
+untried-untried-requires-clause-some g t c =
+    member-low 1 c.args.self.now.tally.now.election.m c.loop-set.rest c.in-Some-first_of.next c.loop-set.invariant.opened.free_within c.in-Some-first_of.ensures
+
+-- those who are still to be tried are free
+untried-open : (g : _) (t : _) (c : After-untried-untried g t) → IsOpen c.args.self.now.tally.now.election.m c.args.node.set c.untried-untried.result
+untried-open g t c =
+    let m = c.args.self.now.tally.now.election.m in
+    let rest = c.loop-set.rest in
+    let next = c.in-Some-first_of.next in
+    let opened : IsOpen m c.args.node.set (without_member rest next) = open-without m c.args.node.set rest next c.loop-set.invariant.opened in
+    open-among m c.args.node.set (without_member rest next) c.untried-untried.result opened
+    (c.untried-untried.ensures.within m (rw c.without-others.ensures opened.free_within))
+    (rw c.without-others.ensures at c.untried-untried.ensures.among)
+
+pub eligible-requires-in-loop-set-clause-opened : goal.eligible-requires-in-loop-set-clause-opened
+eligible-requires-in-loop-set-clause-opened g t c =
+    rw c.seeking-in-loop-set.ensures (untried-open g t (goal.at.eligible-requires-in-loop-set-clause-opened g t c).After-untried-untried)
+
+-- what the search below has found besides
+advanced : (g : _) (t : _) (c : After-descend g t)
+    → Advances (tally_value c.args.self.now.tally.now) (IsCompletion c.args.self.now.tally.now.election.m c.args.node.set c.args.node.free c.args.node.left) c.args.found.now c.descend.new.found
+advanced g t c =
+    let tally = c.args.self.now.tally.now in
+    let m = tally.election.m in
+    let set = c.args.node.set in
+    let left = c.args.node.left in
+    let next = c.in-Some-first_of.next in
+    let kept = c.promising-kept.result in
+    let child : Advances (tally_value tally) (IsCompletion m (with_member set next) kept (left - 1)) c.loop-set.found c.descend.new.found = rw c.with-tried.ensures at c.descend.ensures.advances in
+    let eligible = c.loop-set.invariant.among next c.in-Some-first_of.ensures in
+    advances-on (tally_value tally) (IsCompletion m set c.args.node.free left) (IsCompletion m (with_member set next) kept (left - 1)) (IsCompletion m set c.args.node.free left)
+    c.args.found.now c.loop-set.found c.descend.new.found (λ committee whole. whole)
+    (λ committee below. completion-back m set c.args.node.free left next c.requires.opened (free g t c next eligible) kept committee (omega (arith, c.if-left-eq0.false))
+    (λ n is. free g t c n (c.loop-set.invariant.among n (without-is c.loop-set.rest next n (rw c.without-others.ensures at (c.promising-kept.ensures.among n is))))) below)
+    c.loop-set.invariant.advances child
+  where
+    free : (g : _) (t : _) (c : After-descend g t) (n : ℕ) → has_member c.in-Some.eligible n ≡ true → has_member c.args.node.free n ≡ true
+    free g t c n is =
+        let tally = c.args.self.now.tally.now in
+        let narrowed : IsNarrowed (tally_value tally) tally.election.m c.args.node.set c.args.node.free c.args.node.left c.args.found.now.least c.in-Some.eligible = rw c.seeking.ensures at c.in-Some.ensures in
+        narrowed.among n is
+
+-- all is settled but with those who are still to be tried
+left-over : (g : _) (t : _) (c : After-untried-untried g t)
+    → AreSettledBut (tally_value c.args.self.now.tally.now) c.args.self.now.tally.now.election.m c.args.node.set c.args.node.left c.args.node.free c.untried-untried.result c.descend.new.found
+left-over g t c =
+    let tally = c.args.self.now.tally.now in
+    let m = tally.election.m in
+    let set = c.args.node.set in
+    let left = c.args.node.left in
+    let free = c.args.node.free in
+    let rest = c.loop-set.rest in
+    let next = c.in-Some-first_of.next in
     let gains = c.gains_at-gains.result in
+    let before = c.loop-set.found in
+    let after = c.descend.new.found in
     let opened = c.loop-set.invariant.opened in
-    let low : 1 ≤ next = member-low 1 m rest next opened.free_within c.in_ok-next.ensures in
-    let high : next ≤ m = member-high 1 m rest next opened.free_within c.in_ok-next.ensures in
-    let are = class-are m tally.election.rows next c.class.result (c.class.ensures ∙ c.requires.aids.clones next low high) in
-    let kept : AreLeft (tally_value tally) m (with_member set next) (c.args.left - 1) least (without_member rest next) c.promising-kept.result =
-    kept-left tally set rest next (c.args.left - 1) least gains c.promising-kept.result c.valid.ensures.election c.valid.ensures.size opened c.in_ok-next.ensures
+    let kept : AreLeft (tally_value tally) m (with_member set next) (left - 1) before.least (without_member rest next) c.promising-kept.result =
+    kept-left tally set rest next (left - 1) before.least gains c.promising-kept.result c.valid.ensures.election c.valid.ensures.size opened c.in-Some-first_of.ensures
     (λ n here. c.gains_at-gains.ensures.gains n (c.loop-set.invariant.among n here))
     (λ n here reaches. c.promising-kept.ensures.kept n (rw c.without-others.ensures here) (λ s. rw c.without-others.ensures (omega (
       arith,
       reaches s,
-      c.saturating_sub.ensures,
-      c.saturating_sub-needed.ensures,
+      c.saturating_sub-in-loop-set.ensures,
       c.requires.value,
       ap (λ n. get_or gains n 0) c.from.ensures,
     )))) in
-    let none : IsOutOfReach (tally_value tally) m (with_member set next) (without_member rest next) (c.args.left - 1) least =
-    none-left (tally_value tally) m (with_member set next) (c.args.left - 1) least (without_member rest next) c.promising-kept.result kept
-    (rw c.with.ensures at c.in_default.ensures) in
-    clones-out tally set c.args.left least c.args.free rest c.class.result next c.valid.ensures.election
-    (omega (arith, c.if-left-eq0.false)) opened c.in_ok-next.ensures are c.loop-set.invariant.kept none
+    let child : AreSearched (tally_value tally) m (with_member set next) c.promising-kept.result (left - 1) before after = rw c.with-tried.ensures at c.descend.ensures in
+    settled-without tally set left free rest c.untried-untried.result next after c.valid.ensures.election opened c.in-Some-first_of.ensures
+    (λ committee whole. elim (c.loop-set.invariant.settled committee whole) [
+      | inl settled ↦ inl (still-settled (tally_value tally) (IsCompletion m (with_member set next) c.promising-kept.result (left - 1)) before after committee child.advances settled)
+      | inr open' ↦ inr open'
+    ])
+    (settled-with (tally_value tally) m set left free rest c.promising-kept.result next before after (omega (arith, c.if-left-eq0.false)) opened c.in-Some-first_of.ensures kept child)
+    (λ n here gone. c.untried-untried.ensures.clones n (rw c.without-others.ensures here) gone)
+    (λ n here gone committee listed all. c.untried-untried.ensures.lower n (rw c.without-others.ensures here) gone committee listed (rw c.with-tried.ensures all))
 
-pub returns-in_err-rest : goal.returns-in_err-rest
-returns-in_err-rest g t c =
-    rw c.from_residual-in_err-rest.ensures
-    (none-left (tally_value c.args.self.now.tally.now) c.args.self.now.tally.now.election.m c.args.set c.args.left c.args.self.now.least c.args.free (other_members (without_member c.loop-set.rest c.in_ok-next.next) c.class.result)
-    (left-out g t (goal.at.returns-in_err-rest g t c).After-class)
-    (rw (c.minus-untried.ensures, c.without-others.ensures) at c.in_err-rest.ensures))
+pub returns-in_default-eligible : goal.returns-in_default-eligible
+returns-in_default-eligible g t c =
+    let tally = c.args.self.now.tally.now in
+    record {
+      advances = advanced g t (goal.at.returns-in_default-eligible g t c).After-descend;
+      settled = settled-all (tally_value tally) tally.election.m c.args.node.set c.args.node.left c.args.node.free c.untried-untried.result c.descend.new.found
+          (left-over g t (goal.at.returns-in_default-eligible g t c).After-untried-untried)
+          (rw c.seeking-in-loop-set.ensures at c.in_default-eligible.ensures);
+    }
 
-pub returns-in-Some : goal.returns-in-Some
-returns-in-Some g t c =
-    let rest = c.loop-set.rest in
-    let next = c.in_ok-next.next in
-    found-below (tally_value c.args.self.now.tally.now) c.args.self.now.tally.now.election.m c.args.set c.args.left c.args.self.now.least c.args.free c.promising-kept.result c.in-Some.committee next
-    (omega (arith, c.if-left-eq0.false)) c.requires.opened (c.in_ok-eligible.ensures.among next (c.loop-set.invariant.among next c.in_ok-next.ensures))
-    (λ n is. c.in_ok-eligible.ensures.among n (c.loop-set.invariant.among n (without-is rest next n (rw c.without-others.ensures at (c.promising-kept.ensures.among n is)))))
-    (rw c.with.ensures at c.in-Some.ensures)
+-- those who can still join, of those who were not tried
+narrowed-over : (g : _) (t : _) (c : In-Some-eligible g t)
+    → IsNarrowed (tally_value c.args.self.now.tally.now) c.args.self.now.tally.now.election.m c.args.node.set c.untried-untried.result c.args.node.left c.descend.new.found.least c.in-Some-eligible.eligible
+narrowed-over g t c = rw c.seeking-in-loop-set.ensures at c.in-Some-eligible.ensures
 
--- those who were not tried and can still join are fewer
-fewer-left : (g : _) (t : _) (c : In_ok-rest g t) → length c.in_ok-rest.rest < length c.loop-set.rest
+-- they are fewer
+fewer-left : (g : _) (t : _) (c : In-Some-eligible g t) → length c.in-Some-eligible.eligible < length c.loop-set.rest
 fewer-left g t c =
     let m = c.args.self.now.tally.now.election.m in
     let rest = c.loop-set.rest in
-    let next = c.in_ok-next.next in
-    let untried = other_members (without_member rest next) c.class.result in
-    let narrowed : IsNarrowed (tally_value c.args.self.now.tally.now) m c.args.set untried c.args.left c.args.self.now.least c.in_ok-rest.rest = rw (c.minus-untried.ensures, c.without-others.ensures) at c.in_ok-rest.ensures in
-    let opened : IsOpen m c.args.set untried = open-minus m c.args.set (without_member rest next) c.class.result (open-without m c.args.set rest next c.loop-set.invariant.opened) in
+    let next = c.in-Some-first_of.next in
+    let over = narrowed-over g t c in
+    let opened : IsOpen m c.args.node.set (without_member rest next) = open-without m c.args.node.set rest next c.loop-set.invariant.opened in
     omega (
       arith,
-      length-among m c.in_ok-rest.rest untried narrowed.opened.free_within opened.free_within narrowed.among,
-      minus-most (without_member rest next) c.class.result,
-      without-shorter rest next c.in_ok-next.ensures,
+      length-among m c.in-Some-eligible.eligible (without_member rest next) over.opened.free_within opened.free_within
+          (λ n is. rw c.without-others.ensures at (c.untried-untried.ensures.among n (over.among n is))),
+      without-shorter rest next c.in-Some-first_of.ensures,
     )
 
 pub loop-set-smaller : goal.loop-set-smaller
-loop-set-smaller g t c = fewer-left g t (goal.at.loop-set-smaller g t c).In_ok-rest
+loop-set-smaller g t c = fewer-left g t (goal.at.loop-set-smaller g t c).In-Some-eligible
 
 pub loop-set-smaller-then-sees_pairs : goal.loop-set-smaller-then-sees_pairs
-loop-set-smaller-then-sees_pairs g t c = fewer-left g t (goal.at.loop-set-smaller-then-sees_pairs g t c).In_ok-rest
+loop-set-smaller-then-sees_pairs g t c = fewer-left g t (goal.at.loop-set-smaller-then-sees_pairs g t c).In-Some-eligible
 
--- what is true of those who were not tried and can still join
-record AreLeftOver (value : List ℕ → ℕ) (m : ℕ) (set : List ℕ) (left least : ℕ) (free eligible rest : List ℕ) : Type 0 where
-  opened : IsOpen m set rest
-  among : (n : ℕ) → has_member rest n ≡ true → has_member eligible n ≡ true
-  kept : AreLeft value m set left least free rest
+-- what is true of them
+record AreLeftOver (g : _) (t : _) (c : In-Some-eligible g t) : Type 0 where
+  opened : IsOpen c.args.self.now.tally.now.election.m c.args.node.set c.in-Some-eligible.eligible
+  among : (n : ℕ) → has_member c.in-Some-eligible.eligible n ≡ true → has_member c.in-Some.eligible n ≡ true
+  settled : AreSettledBut (tally_value c.args.self.now.tally.now) c.args.self.now.tally.now.election.m c.args.node.set c.args.node.left c.args.node.free c.in-Some-eligible.eligible c.descend.new.found
 
-left-over : (g : _) (t : _) (c : In_ok-rest g t)
-    → AreLeftOver (tally_value c.args.self.now.tally.now) c.args.self.now.tally.now.election.m c.args.set c.args.left c.args.self.now.least c.args.free c.in_ok-eligible.eligible c.in_ok-rest.rest
-left-over g t c =
-    let m = c.args.self.now.tally.now.election.m in
+left-eligible : (g : _) (t : _) (c : In-Some-eligible g t) → AreLeftOver g t c
+left-eligible g t c =
+    let tally = c.args.self.now.tally.now in
     let rest = c.loop-set.rest in
-    let next = c.in_ok-next.next in
-    let untried = other_members (without_member rest next) c.class.result in
-    let narrowed : IsNarrowed (tally_value c.args.self.now.tally.now) m c.args.set untried c.args.left c.args.self.now.least c.in_ok-rest.rest = rw (c.minus-untried.ensures, c.without-others.ensures) at c.in_ok-rest.ensures in
+    let next = c.in-Some-first_of.next in
+    let over = narrowed-over g t c in
     record {
-      opened = narrowed.opened;
-      among = λ n h. c.loop-set.invariant.among n (without-is rest next n (minus-is (without_member rest next) c.class.result n (narrowed.among n h)));
-      kept = λ committee whole reaches. narrowed.kept committee (left-out g t (goal.at.In_ok-rest g t c).After-class committee whole reaches) reaches;
+      opened = over.opened;
+      among = λ n h. c.loop-set.invariant.among n (without-is rest next n (rw c.without-others.ensures at (c.untried-untried.ensures.among n (over.among n h))));
+      settled = settled-narrowed (tally_value tally) tally.election.m c.args.node.set c.args.node.left c.args.node.free c.untried-untried.result c.in-Some-eligible.eligible c.descend.new.found
+          (left-over g t (goal.at.In-Some-eligible g t c).After-untried-untried) over;
     }
 
 pub loop-set-preserved : goal.loop-set-preserved
 loop-set-preserved g t c =
-    let over = left-over g t (goal.at.loop-set-preserved g t c).In_ok-rest in
-    record { opened = over.opened; among = over.among; kept = over.kept }
+    let over = left-eligible g t (goal.at.loop-set-preserved g t c).In-Some-eligible in
+    record { opened = over.opened; among = over.among; advances = advanced g t (goal.at.loop-set-preserved g t c).After-descend; settled = over.settled }
 
 pub loop-set-preserved-then-sees_pairs : goal.loop-set-preserved-then-sees_pairs
 loop-set-preserved-then-sees_pairs g t c =
-    let over = left-over g t (goal.at.loop-set-preserved-then-sees_pairs g t c).In_ok-rest in
-    record { opened = over.opened; among = over.among; kept = over.kept }
+    let over = left-eligible g t (goal.at.loop-set-preserved-then-sees_pairs g t c).In-Some-eligible in
+    record { opened = over.opened; among = over.among; advances = advanced g t (goal.at.loop-set-preserved-then-sees_pairs g t c).After-descend; settled = over.settled }
 
 pub returns : goal.returns
 returns g t c =
-    none-left (tally_value c.args.self.now.tally.now) c.args.self.now.tally.now.election.m c.args.set c.args.left c.args.self.now.least c.args.free c.loop-set.rest c.loop-set.invariant.kept
-    (node-none c.args.self.now.tally.now c.args.set c.loop-set.rest c.args.left c.args.self.now.least c.valid.ensures.election c.valid.ensures.size c.loop-set.invariant.opened
-    c.threshold.result c.gains_at-gains.result (λ n h. c.gains_at-gains.ensures.gains n (c.loop-set.invariant.among n h))
-    (λ both. not-true c.may_reach.result c.loop-set-test.false (c.may_reach.ensures.1 (
-      both.0,
-      omega (arith, both.1, c.requires.value),
-    ))))
+    let tally = c.args.self.now.tally.now in
+    let set = c.args.node.set in
+    record {
+      advances = c.loop-set.invariant.advances;
+      settled = settled-all (tally_value tally) tally.election.m set c.args.node.left c.args.node.free c.loop-set.rest c.loop-set.found c.loop-set.invariant.settled
+          (node-none tally set c.loop-set.rest c.args.node.left c.loop-set.found.least c.valid.ensures.election c.valid.ensures.size c.loop-set.invariant.opened
+          c.threshold.result c.gains_at-gains.result (λ n h. c.gains_at-gains.ensures.gains n (c.loop-set.invariant.among n h))
+          (λ both. not-true c.may_reach.result c.loop-set-test.false (c.may_reach.ensures.1 (
+            both.0,
+            omega (arith, both.1, c.requires.value, c.saturating_sub.ensures),
+          ))));
+    }

@@ -1,14 +1,18 @@
-use Rattle.std.proofs.Common.{◌<◌, arith, leb-false}
+use Rattle.std.proofs.Common.{◌<◌, ◌∙◌, ap, arith, leb-false}
+use Rattle.ballot_base.specs.CandSet.{has_member}
 use Rattle.ballot_base.specs.Increments.{increments}
+use Rattle.ballot_base.proofs.Increasing.{IsIncreasing-either, has_member-either}
 use Rattle.tie_search.proofs.WholeLemmas.{whole-none}
 use Rattle.tie_search.proofs.search.Search.may_suffice.Goals as goal
 
 pub most_covered-requires-clause-candidates : goal.most_covered-requires-clause-candidates
 most_covered-requires-clause-candidates g c =
-    c.together.ensures.within c.args.self.now.tally.now.election.m c.requires.opened.set_within c.requires.opened.free_within
+    rw c.union.ensures (IsIncreasing-either 1 c.args.self.now.tally.now.election.m c.args.set c.args.free c.requires.opened.set_within c.requires.opened.free_within)
 
 pub returns-in-Cc : goal.returns-in-Cc
 returns-in-Cc g c short left =
     let low : c.most_covered.result < c.args.self.now.least = leb-false c.args.self.now.least c.most_covered.result short in
     whole-none (increments c.args.self.now.tally.now.rule c.args.self.now.tally.now.k) c.args.self.now.tally.now.election.rows c.args.self.now.tally.now.election.m
-    c.args.set c.args.free c.together.result c.args.self.now.least c.together.ensures.members (omega (arith, c.most_covered.ensures, low)) left
+    c.args.set c.args.free c.union.result c.args.self.now.least
+    (λ n. ap (λ l. has_member l n) c.union.ensures ∙ has_member-either c.args.set c.args.free n)
+    (omega (arith, c.most_covered.ensures, low)) left

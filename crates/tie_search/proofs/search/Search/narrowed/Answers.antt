@@ -13,6 +13,6 @@ returns g c =
     let tally = c.args.self.now.tally.now in
     let weights = increments tally.rule tally.k in
     let are : AreSums weights c.in-Some.given.scale c.in-Some.given.unit c.in-Some.given.sums = rw c.in-Some.is at c.requires.aids.sums in
-    subst (λ (e : Election). MatchOption c.narrowed.result (IsOutOfReach (thiele_value weights e.rows) e.m c.args.set c.args.free c.args.left c.args.self.now.least)
+    subst (λ (e : Election). MatchOption c.narrowed-narrowed.result (IsOutOfReach (thiele_value weights e.rows) e.m c.args.set c.args.free c.args.left c.args.self.now.least)
     (IsNarrowed (thiele_value weights e.rows) e.m c.args.set c.args.free c.args.left c.args.self.now.least))
-    c.requires.ballots (c.narrowed.ensures weights are)
+    c.requires.ballots (c.narrowed-narrowed.ensures weights are)

@@ -1,0 +1,37 @@
+-- Steps of a search that lists committees.
+use Rattle.std.specs.Prelude.{◌≡◌, ℕ, ◌+◌, ◌⊎◌, ◌<◌, ◌≤◌, List}
+use Rattle.tie_search.specs.Completions.{IsCompletion}
+use Rattle.tie_search.specs.Tied.{IsAmong, most_tied}
+use Rattle.tie_search.specs.declared.found.Found.{Found}
+use Rattle.tie_search.specs.declared.found.Wanted.TheVariants.{All}
+
+abbrev pub IsListed : Found → List ℕ → Type 0
+IsListed found = IsAmong found.committees found.len
+
+-- the committee is worth less than what is still looked for, or it is listed
+abbrev pub IsSettled : (List ℕ → ℕ) → Found → List ℕ → Type 0
+IsSettled value found committee = (value committee < found.least) ⊎ IsListed found committee
+
+-- those listed have the same value, and no less is looked for
+pub record AreListed (value : List ℕ → ℕ) (found : Found) : Type 0 where
+  pub few : found.len ≤ most_tied
+  pub same : (committee : List ℕ) → IsListed found committee → value committee ≡ found.value
+  pub low : 1 ≤ found.len → found.value ≤ found.least
+  pub high : found.wanted ≡ All → 1 ≤ found.len → found.least ≤ found.value + 1
+
+-- Only such committees were added as are named, and of at least the value that was looked for. All that was settled
+-- still is.
+pub record Advances (value : List ℕ → ℕ) (IsNew : List ℕ → Type 0) (before after : Found) : Type 0 where
+  pub valid : AreListed value after
+  pub wanted : after.wanted ≡ before.wanted
+  pub least : before.least ≤ after.least
+  pub kept : (committee : List ℕ) → IsListed before committee → IsSettled value after committee
+  pub new : (committee : List ℕ) → IsListed after committee
+      → IsListed before committee ⊎ (IsNew committee × (before.least ≤ value committee))
+  pub none : after.len ≡ 0 → (before.len ≡ 0) × (after.least ≡ before.least)
+
+-- all completions of the set were searched
+pub record AreSearched (value : List ℕ → ℕ) (m : ℕ) (set free : List ℕ) (left : ℕ) (before after : Found) : Type 0
+  where
+    pub advances : Advances value (IsCompletion m set free left) before after
+    pub settled : (committee : List ℕ) → IsCompletion m set free left committee → IsSettled value after committee

@@ -1,0 +1,27 @@
+-- Lists of the committees that tie for the greatest value.
+use Rattle.std.specs.Prelude.{◌≡◌, ℕ, ◌<◌, ◌≤◌, true, List, [], length, slice_index_or}
+use Rattle.ballot_base.specs.Lists.{IsIncreasing}
+use Rattle.tie_walk.specs.Winners.{best_value}
+use Rattle.tie_search.specs.declared.found.Tied.{Tied}
+
+-- a committee of k of the candidates 1 to m with the greatest value
+pub record IsBest (value : List ℕ → ℕ) (m k : ℕ) (committee : List ℕ) : Type 0 where
+  pub candidates : IsIncreasing 1 m committee
+  pub size : length committee ≡ k
+  pub best : value committee ≡ best_value value m k
+
+-- how many committees are listed at most
+abbrev pub most_tied : ℕ
+most_tied = 256
+
+-- the committee is one of those listed
+abbrev pub IsAmong : List (List ℕ) → ℕ → List ℕ → Type 0
+IsAmong committees len committee = (i : ℕ) × (i < len) × (slice_index_or committees i [] ≡ committee)
+
+-- some committees with the greatest value, or if the list says so, all of them
+pub record AreTied (value : List ℕ → ℕ) (m k : ℕ) (tied : Tied) : Type 0 where
+  pub some : 1 ≤ tied.len
+  pub few : tied.len ≤ most_tied
+  pub each : (committee : List ℕ) → IsAmong tied.committees tied.len committee → IsBest value m k committee
+  pub all : tied.are_all ≡ true
+      → (committee : List ℕ) → IsBest value m k committee → IsAmong tied.committees tied.len committee

@@ -1,0 +1,153 @@
+//! What a search has found, and which value it still looks for.
+//!
+//! A search for all tied committees begins with the value of a good one. A committee of a greater value takes the place
+//! of all that were listed, and from then on this value is looked for. If more tie than can be listed, only greater
+//! values still count.
+ghost use Rattle.std.specs.Prelude.{◌≡◌, ℕ, ◌^◌, ◌<◌, ◌≤◌, [], List, false, true, slice_index_or, MatchOption};
+ghost use Rattle.ballot_base.specs.CandSet.{has_member};
+ghost use Rattle.tie_search.specs.Steps.Found.{Advances, AreListed, IsListed, IsSettled};
+ghost use Rattle.tie_search.specs.Tied.{IsAmong, most_tied};
+
+use ballot_base::CandSet;
+
+/// How many tied committees are listed.
+pub const MOST_TIED: usize = 256;
+
+/// Committees of the greatest value: the first `len` of the array, at least one.
+#[derive(Drop)]
+pub struct Tied {
+    pub committees: [CandSet; MOST_TIED],
+    pub len: usize,
+    /// Whether no other committee has this value.
+    pub are_all: bool,
+}
+
+impl Tied {
+    /// One committee, beside which there may be others.
+    pub fn one(committee: CandSet) -> Tied
+        ensures first { slice_index_or result.committees 0 [] ≡ committee }
+        ensures one { result.len ≡ 1 }
+        ensures others { result.are_all ≡ false }
+    {
+        Tied {
+            committees: [committee; MOST_TIED],
+            len: 1,
+            are_all: false,
+        }
+    }
+
+    /// The first of the committees.
+    pub fn first(&self) -> CandSet
+        requires some { 1 ≤ self.now.len }
+        ensures { IsAmong self.now.committees self.now.len result }
+    {
+        self.committees[0]
+    }
+}
+
+/// What a search wants.
+#[derive(Clone, Copy, PartialEq, Eq)]
+pub(crate) enum Wanted {
+    /// A committee of at least the value that it begins with.
+    One,
+    /// All committees of the greatest value.
+    All,
+}
+
+/// What a search has found.
+#[derive(Drop)]
+pub(crate) struct Found {
+    pub(crate) wanted: Wanted,
+    // Committees of at least this value are looked for.
+    pub(crate) least: u128,
+    // The value of those that are listed.
+    pub(crate) value: u128,
+    pub(crate) committees: [CandSet; MOST_TIED],
+    pub(crate) len: usize,
+}
+
+impl Found {
+    /// Nothing was found, and committees of at least this value are looked for.
+    pub(crate) fn nothing(wanted: Wanted, least: u128) -> Found
+        ensures wanted { result.wanted ≡ wanted }
+        ensures least { result.least ≡ least }
+        ensures none { result.len ≡ 0 }
+    {
+        Found {
+            wanted,
+            least,
+            value: 0,
+            committees: [CandSet::empty(); MOST_TIED],
+            len: 0,
+        }
+    }
+
+    /// Takes a committee of this value, if it is looked for.
+    pub(crate) fn offer(&mut self, committee: CandSet, value: u128)
+        requires small { value ≤ 2 ^ 116 }
+        ensures advances { (value_of : List ℕ → ℕ) → value_of committee ≡ value → AreListed value_of self.old
+            → Advances value_of (λ other. other ≡ committee) self.old self.new }
+        ensures settled { (value_of : List ℕ → ℕ) → value_of committee ≡ value → AreListed value_of self.old
+            → IsSettled value_of self.new committee }
+    {
+        if value < self.least {
+            return;
+        }
+        if self.len == 0 || value > self.value {
+            self.begin_with(committee, value);
+        } else if self.len < MOST_TIED {
+            self.committees[self.len] = committee;
+            self.len += 1;
+        } else {
+            self.least = value + 1;
+        }
+    }
+
+    /// Lists this committee alone.
+    fn begin_with(&mut self, committee: CandSet, value: u128)
+        ensures wanted { self.new.wanted ≡ self.old.wanted }
+        ensures value { self.new.value ≡ value }
+        ensures least { value ≤ self.new.least }
+        ensures all { self.old.wanted ≡ Wanted.All → self.new.least ≡ value }
+        ensures one { self.new.len ≡ 1 }
+        ensures first { slice_index_or self.new.committees 0 [] ≡ committee }
+    {
+        self.value = value;
+        self.least = match self.wanted {
+            Wanted::One => u128::MAX,
+            Wanted::All => value,
+        };
+        self.committees[0] = committee;
+        self.len = 1;
+    }
+
+    /// The committee that was listed first.
+    pub(crate) fn first(&self) -> Option<CandSet>
+        requires few { self.now.len ≤ most_tied }
+        ensures { MatchOption result (self.now.len ≡ 0) (λ committee. IsListed self.now committee) }
+    {
+        if self.len == 0 {
+            return None;
+        }
+        Some(self.committees[0])
+    }
+
+    /// Whether a committee that counts has all members of the set.
+    pub(crate) fn holds(&self, set: CandSet) -> bool
+        requires few { self.now.len ≤ most_tied }
+        ensures { result ≡ false → (value_of : List ℕ → ℕ) → AreListed value_of self.now → (committee : List ℕ)
+            → IsListed self.now committee
+            → ((n : ℕ) → has_member set n ≡ true → has_member committee n ≡ true)
+            → value_of committee < self.now.least }
+    {
+        if self.value < self.least {
+            return false;
+        }
+        for i in 0..self.len {
+            if self.committees[i].includes(set) {
+                return true;
+            }
+        }
+        false
+    }
+}
