@@ -157,7 +157,6 @@ module _ (value : List ℕ → ℕ) (m : ℕ) (set : List ℕ) (left least : ℕ
     reaches = reaches;
   }
 
-
 -- what a test that failed does not allow
 pub not-true : (b : Bool) → b ≡ false → IsTrue b → ⊥
 not-true true e h = absurd cc

@@ -433,14 +433,11 @@ pub(crate) fn at_least(worths: &[u128; PLACES], candidates: CandSet, least: u128
     ensures kept { (n : ℕ) → has_member candidates n ≡ true → least ≤ slice_index worths.now n
         → has_member result n ≡ true }
 {
-    candidates.valid();
     let mut kept = candidates;
-    let mut left = candidates;
-    while let Some(parts) = left.split_first() {
-        if worths[usize::from(parts.0)] < least {
-            kept = kept.without(parts.0);
+    for candidate in candidates.members() {
+        if worths[usize::from(candidate)] < least {
+            kept = kept.without(candidate);
         }
-        left = parts.1;
     }
     kept
 }
@@ -451,12 +448,9 @@ pub(crate) fn excess(worths: &[u128; PLACES], candidates: CandSet, threshold: u1
     ensures sum { result ≡ sum_by (λ n. slice_index worths.now n - threshold) candidates }
     ensures small { result ≤ 2 ^ 122 }
 {
-    candidates.valid();
     let mut sum = 0;
-    let mut left = candidates;
-    while let Some(parts) = left.split_first() {
-        sum += worths[usize::from(parts.0)].saturating_sub(threshold);
-        left = parts.1;
+    for candidate in candidates.members() {
+        sum += worths[usize::from(candidate)].saturating_sub(threshold);
     }
     sum
 }
