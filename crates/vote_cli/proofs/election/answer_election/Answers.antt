@@ -88,8 +88,7 @@ returns-in_ok-write_scored-in-Scored-Minimax-clause-answer g c =
     let l = c.args.listing.now in
     let page : Paging = record { after = l.after; limit = l.limit } in
     let text = minimax_text l.names page l.size l.profile.now c.new-tally-in-Scored-Minimax.result.search
-    (ap (λ (x : Exact Election). x.search) c.new-tally-in-Scored-Minimax.ensures ∙ c.new-in-Scored-Minimax.ensures) in
-    (
+    (ap (λ (x : Exact Election). x.search) c.new-tally-in-Scored-Minimax.ensures ∙ c.new-in-Scored-Minimax.ensures) in (
       _,
       ap answered (text ∙ ap (λ r. elect_text r l.size page l.names l.profile.now) (sym (c.in-Scored-Minimax.is ∙ ap rule.Scored (rw c.in-Scored-Minimax.is at c.in-Scored-Minimax.field-0-is)))),
       writes_whole _ c.write_scored-in-Scored-Minimax.result c.in_ok-write_scored-in-Scored-Minimax.field-0 c.in_ok-write_scored-in-Scored-Minimax.was c.write_scored-in-Scored-Minimax.ensures,
