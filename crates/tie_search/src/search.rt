@@ -114,6 +114,8 @@ pub(crate) struct Search<'a, A: Allocator + Copy> {
     pub(crate) tally: &'a ThieleTally<'a, A>,
     pub(crate) aids: &'a Aids,
     pub(crate) least: u128,
+    // Whether pairs are counted. A search that ends after few sets is quicker without.
+    pub(crate) counts_pairs: bool,
 }
 
 impl<A: Allocator + Copy> Search<'_, A> {
@@ -167,13 +169,20 @@ impl<A: Allocator + Copy> Search<'_, A> {
 
     /// The same search for committees of at least another value.
     fn seeking(&self, least: u128) -> Search<'_, A>
-        ensures { result ≡ record { profile = self.now.profile; tally = self.now.tally; aids = self.now.aids; least = least } }
+        ensures { result ≡ record {
+          profile = self.now.profile;
+          tally = self.now.tally;
+          aids = self.now.aids;
+          least = least;
+          counts_pairs = self.now.counts_pairs;
+        } }
     {
         Search {
             profile: self.profile,
             tally: self.tally,
             aids: self.aids,
             least,
+            counts_pairs: self.counts_pairs,
         }
     }
 
@@ -279,11 +288,13 @@ impl<A: Allocator + Copy> Search<'_, A> {
         self.narrowed(set, free, left)
     }
 
-    /// Whether enough seats are left for pairs to be worth their counting.
+    /// Whether pairs are worth their counting: in a long search, while enough seats are left and they help.
     fn sees_pairs(&self, left: u8) -> bool
         ensures { IsTrue result → 2 ≤ left }
     {
-        left >= fewest_seats(self.tally.rule()) && self.aids.use_of_pairs.is_worth_it()
+        self.counts_pairs
+            && left >= fewest_seats(self.tally.rule())
+            && self.aids.use_of_pairs.is_worth_it()
     }
 
     /// The free candidates that can still join, by pairs. Returns `None` if no completion of the set reaches the value.

@@ -74,8 +74,8 @@ impl<'a, A: Allocator + Copy> ThieleSearch<'a, A> {
         }
     }
 
-    /// A search for committees of at least this value.
-    fn search(&self, least: u128) -> Search<'_, A>
+    /// A search for committees of at least this value, which may count pairs.
+    fn search(&self, least: u128, counts_pairs: bool) -> Search<'_, A>
         ensures ballots { result.profile.now ≡ result.tally.now.election }
         ensures tally { result.tally.now ≡ self.now }
         ensures aids { IsAided result.tally.now result.aids.now }
@@ -86,6 +86,7 @@ impl<'a, A: Allocator + Copy> ThieleSearch<'a, A> {
             tally: &self.values,
             aids: &self.aids,
             least,
+            counts_pairs,
         }
     }
 }
@@ -125,10 +126,11 @@ impl<'a, A: Allocator + Copy> Tally for ThieleSearch<'a, A> {
 
 impl<'a, A: Allocator + Copy> Searchable for ThieleSearch<'a, A> {
     fn find(&self, set: CandSet, free: CandSet, left: u8, least: u128) -> Option<CandSet> {
-        self.search(least).find(set, free, left)
+        // The walk over the winners asks for many such searches, most of which end after a few sets.
+        self.search(least, false).find(set, free, left)
     }
 
     fn tied(&self, k: u8) -> Option<Tied> {
-        Some(self.search(self.good_value(k)).tied(k))
+        Some(self.search(self.good_value(k), true).tied(k))
     }
 }
