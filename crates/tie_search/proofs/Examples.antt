@@ -1,6 +1,7 @@
 -- The definitions of the search, worked out by hand. The value of a set is the sum of its numbers; of committees of two
 -- of the candidates 1 to 3 the best has 2 and 3.
-use Rattle.std.proofs.Common.{◌≡◌, ◌*◌, ◌^◌, ℕ, zero, suc, true, false, List, [], ◌∷◌, refl, length, sum, lit≤, lit<, arith}
+use Rattle.std.proofs.Common.{◌≡◌, ◌+◌, ◌*◌, ◌^◌, ◌<◌, ℕ, zero, suc, true, false, List, [], ◌∷◌, refl, ap, subst, length, sum, lit≤, lit<, arith}
+use Rattle.std.specs.Prelude.{slice_index_or}
 use Rattle.ballot_base.specs.Ballots.{hits}
 use Rattle.ballot_base.specs.Lists.{lists_of}
 use Rattle.tie_walk.specs.Ceilings.{ceiling, closeness_upto}
@@ -10,6 +11,7 @@ use Rattle.tie_search.specs.Needs.{hits_needed, weighted_needs, weighted_support
 use Rattle.tie_search.specs.Completions.{IsOpen, IsCompletion, IsReaching, IsOutOfReach, IsWinnerFrom, is_reached, exact_bound}
 use Rattle.tie_search.specs.Pairs.{IsMajorant, all_kept, all_overlap, all_worth, pair_sum, row_sum, worth_beside}
 use Rattle.tie_search.specs.Prices.{kept, base, price}
+use Rattle.tie_search.specs.Tied.{AreTied, IsAmong, IsBest}
 use Rattle.tie_search.specs.Steps.Near.{need_weight}
 use Rattle.tie_search.specs.Steps.Witness.{IsSetAndLater}
 use Rattle.tie_search.specs.Steps.Columns.{voter_ballot, given, total, voters_of}
@@ -229,3 +231,32 @@ bound-with_both = refl
 bound-of_three : exact_bound two_of_three two_of_three-upto 3 2 1 (1 ∷ []) 2 ≡ 2
 unfolding lists_of
 bound-of_three = refl
+
+-- ---- committees that tie
+
+three_is_best : IsBest sum 3 1 (3 ∷ [])
+unfolding lists_of
+three_is_best = record {
+  candidates = (lit≤ tt, lit≤ tt, tt);
+  size = refl;
+  best = refl;
+}
+
+-- of the committees of one, only that of 3 has the greatest value
+three_has_no_equal : AreTied sum 3 1 (record { committees = (3 ∷ []) ∷ []; len = 1; are_all = true })
+unfolding lists_of
+three_has_no_equal = record {
+  some = lit≤ tt;
+  few = lit≤ tt;
+  each = λ committee among. listed committee among.0 among.1 among.2;
+  all = λ yes committee best. is_listed committee best;
+}
+  where
+    listed : (committee : List ℕ) (i : ℕ) → i < 1 → slice_index_or ((3 ∷ []) ∷ []) i [] ≡ committee → IsBest sum 3 1 committee
+    listed committee zero inside is = subst (IsBest sum 3 1) is three_is_best
+    listed committee (suc i) inside is = absurd (omega (arith, inside))
+
+    is_listed : (committee : List ℕ) → IsBest sum 3 1 committee → IsAmong ((3 ∷ []) ∷ []) 1 committee
+    is_listed [] best = absurd (omega (arith, best.size))
+    is_listed (x ∷ []) best = let value : 0 + x ≡ 3 = best.best in (0, lit< tt, ap (λ n. n ∷ []) (omega (arith, value)))
+    is_listed (x ∷ y ∷ committee) best = absurd (omega (arith, best.size))
