@@ -132,6 +132,15 @@ pub row_weight-is : (shares : List ℕ) (k most : ℕ) (set free : List ℕ) (ro
 unfolding row_weight
 row_weight-is shares k most set free row = refl
 
+-- no row has a weight
+pub weightless-sum : (factor : Row → ℕ) (rows : List Row) → sum_by (λ row. 0 * factor row) rows ≡ 0
+weightless-sum factor [] = refl
+weightless-sum factor (row ∷ rows) = omega (arith, sum_by-cons (λ (r : Row). 0 * factor r) row rows, weightless-sum factor rows)
+
+pub weightless-support : (rows : List Row) → sum_by (λ (row : Row). 0) rows ≡ 0
+weightless-support [] = refl
+weightless-support (row ∷ rows) = omega (arith, sum_by-cons (λ (r : Row). 0) row rows, weightless-support rows)
+
 -- nothing, where nothing is needed
 pub weight-none : (share : ℕ) → need_weight share 0 ≡ 0
 unfolding need_weight

@@ -11,7 +11,7 @@
 //! given up if the sum passes what the best free candidates can give, and a candidate leaves without whom the others
 //! fall short (`laws::weighted_needs`; Glover, Surrogate constraints, 1968). Any weights are right.
 ghost use Rattle.std.specs.Prelude.{◌≡◌, ℕ, ⊤, ◌+◌, ◌-◌, ◌^◌, ◌≤◌, ◌&&◌, [], true, max, nat_le, length};
-ghost use Rattle.std.specs.Prelude.{slice_index, IsTrue, MatchOption};
+ghost use Rattle.std.specs.Prelude.{slice_index, MatchOption};
 ghost use Rattle.ballot_base.specs.Ballots.{IsElection};
 ghost use Rattle.ballot_base.specs.Clones.{AreClones};
 ghost use Rattle.ballot_base.specs.CandSet.{has_member};
@@ -22,7 +22,7 @@ ghost use Rattle.tie_search.specs.Completions.{IsOpen, IsOutOfReach};
 ghost use Rattle.tie_search.specs.Steps.Near.{AreBranches, AreWeighted, IsNarrowed, IsNearAnswer, IsQuickAnswer, need_weight, share_parts};
 
 use crate::needs::still_needed;
-use crate::order::{Order, first_member};
+use crate::order::{first_member, nth_greatest};
 use crate::search::{at_least, excess};
 use ballot_base::{CandSet, Clones, PLACES, Profile};
 use std::alloc::Allocator;
@@ -34,6 +34,9 @@ const MOST_PATIENCE: usize = 8192;
 /// For each ballot, how many sets a quick search among all committees may enter. Such searches are few, so more can be
 /// spent on each.
 const FIRST_PATIENCE: usize = 32;
+
+/// With fewer seats left than this, going through the sets is quicker than weighing needs. Any number is right.
+const FEWEST_SEATS: u8 = 4;
 
 /// The denominator of shares.
 const SHARE_PARTS: u64 = 1024;
@@ -80,8 +83,6 @@ struct WeightedNeeds {
     total: u128,
     // At the number of each free candidate, the total weight of the ballots that approve it.
     supports: [u128; PLACES],
-    // The free candidates by support.
-    order: Order,
 }
 
 impl<A: Allocator + Copy> NearSearch<'_, A> {
@@ -199,6 +200,9 @@ impl<A: Allocator + Copy> NearSearch<'_, A> {
         let mut tightest = (u8::MAX, 0);
         for (ballot, _voters) in self.profile.ballots() {
             let needed = still_needed(ballot, set, k, self.most);
+            if needed == 0 {
+                continue;
+            }
             let open = ballot.common(rest);
             if needed > left.min(open.len()) {
                 return None;
@@ -206,8 +210,8 @@ impl<A: Allocator + Copy> NearSearch<'_, A> {
             if needed == left {
                 rest = open;
             }
-            let spare = open.len().saturating_sub(needed);
-            if is_tighter(needed, spare, tightest, by_need) {
+            let spare = open.len() - needed;
+            if is_tighter((spare, needed), tightest, by_need) {
                 choices = open;
                 tightest = (spare, needed);
             }
@@ -215,7 +219,8 @@ impl<A: Allocator + Copy> NearSearch<'_, A> {
         Some((choices, rest))
     }
 
-    /// What the ballots still need, if `left` of the free candidates complete the set.
+    /// What the ballots still need, if `left` of the free candidates complete the set. With few seats left no ballot has a
+    /// weight.
     fn weighted_needs(&self, set: CandSet, free: CandSet, left: u8) -> WeightedNeeds
         requires few { left ≤ most_candidates }
         requires shares { (n : ℕ) → slice_index self.now.shares.now n ≤ share_parts }
@@ -223,9 +228,12 @@ impl<A: Allocator + Copy> NearSearch<'_, A> {
             result.supports }
         ensures small { (n : ℕ) → slice_index result.supports n ≤ 2 ^ 116 }
     {
-        let k = set.len() + left;
         let mut total = 0;
         let mut supports = [0; PLACES];
+        if left < FEWEST_SEATS {
+            return WeightedNeeds { total, supports };
+        }
+        let k = set.len() + left;
         for (ballot, _voters) in self.profile.ballots() {
             let needed = still_needed(ballot, set, k, self.most);
             if needed > 0 {
@@ -235,12 +243,7 @@ impl<A: Allocator + Copy> NearSearch<'_, A> {
                 add_to_members(&mut supports, approved, weight);
             }
         }
-        let order = Order::by_worth(free, &supports);
-        WeightedNeeds {
-            total,
-            supports,
-            order,
-        }
+        WeightedNeeds { total, supports }
     }
 
     /// The free candidates that can still join, by the weighted needs. Returns `None` if no near committee completes
@@ -263,7 +266,7 @@ impl<A: Allocator + Copy> NearSearch<'_, A> {
             (IsNarrowed (closeness self.now.profile.now.m self.now.profile.now.rows) self.now.profile.now.m set free
             left (self.now.profile.now.m - self.now.most)) }
     {
-        let threshold = needs.order.nth_worth(free, left, &needs.supports);
+        let threshold = nth_greatest(&needs.supports, free, left);
         let greatest = u128::from(left) * threshold + excess(&needs.supports, free, threshold);
         if greatest < needs.total {
             return None;
@@ -301,12 +304,11 @@ fn best_of(set: CandSet, worths: &[u128; PLACES]) -> Option<u8>
     Some(best)
 }
 
-/// Whether a ballot needs a hit and is tighter than the tightest before: it can spare fewer of its free candidates, or
-/// `by_need` counts, and it can spare equally few and needs more hits. Any ballot that needs a hit is right; a tight
-/// one leaves few candidates to try.
-fn is_tighter(needed: u8, spare: u8, tightest: (u8, u8), by_need: bool) -> bool
-    ensures { IsTrue result → 1 ≤ needed }
-{
+/// Whether a ballot is tighter than the tightest before, each given by how many of its free candidates it can spare and
+/// how many hits it needs: it can spare fewer, or `by_need` counts, and it can spare equally few and needs more hits.
+/// Any ballot that needs a hit is right; a tight one leaves few candidates to try.
+fn is_tighter(ballot: (u8, u8), tightest: (u8, u8), by_need: bool) -> bool {
+    let (spare, needed) = ballot;
     let (fewest, most_needed) = tightest;
-    needed > 0 && (spare < fewest || by_need && spare == fewest && needed > most_needed)
+    spare < fewest || by_need && spare == fewest && needed > most_needed
 }

@@ -25,6 +25,23 @@ loop-ballot-init g c =
       choice = λ some. choice-of_all (closeness e.m e.rows) e.m c.args.set c.args.free c.args.left (e.m - c.args.self.now.most) c.requires some;
     }
 
+pub loop-ballot-preserved-then-needed-eq0 : goal.loop-ballot-preserved-then-needed-eq0
+loop-ballot-preserved-then-needed-eq0 g c =
+    let e = c.args.self.now.profile.now in
+    let row : Row = (c.in-Some.ballot, c.in-Some._voters) in
+    let at = row_of_turn c.args.self.now.profile.now.rows (c.into_iter-ballot-iterator.ensures.into_iter_gives ∙ c.ballots-ballot-items.ensures.rows) c.loop-ballot.yielded c.loop-ballot.yielded_by row c.in-Some.ensures.steps in
+    let next = sym (length_push c.loop-ballot.yielded row) in
+    let inv = c.loop-ballot.invariant in
+    let needed : c.still_needed-needed.result ≡ hits_needed (length row.0) (length c.args.set + c.args.left) c.args.self.now.most - hits row.0 c.args.set =
+    c.still_needed-needed.ensures ∙ ap (λ n. hits_needed (length row.0) (n + c.args.left) c.args.self.now.most - hits row.0 c.args.set) c.len-2.ensures.count in
+    record {
+      whole = λ none.
+          subst (λ n. greatest_distance (take n e.rows) c.args.set ≤ c.args.self.now.most) next (near-more e.m c.args.self.now.most (length c.args.set + c.args.left) e.rows c.args.set (length c.loop-ballot.yielded) row c.ballots-ballot-items.ensures.valid.ballots c.requires.set_within at
+          (omega (arith, none)) (omega (arith, needed, c.if-needed-eq0.true)) (inv.whole none));
+      narrowed = inv.narrowed;
+      choice = inv.choice;
+    }
+
 pub returns-then-needed-min : goal.returns-then-needed-min
 returns-then-needed-min g c =
     let e = c.args.self.now.profile.now in
@@ -65,7 +82,7 @@ loop-ballot-preserved-then-is_tighter g c =
           subst (λ s. AreChoices V e.m c.args.set c.args.free c.args.left (e.m - c.args.self.now.most) s) (sym c.common-open.ensures)
           (narrowed-choice V e.m c.args.set c.args.free rest c.args.left (e.m - c.args.self.now.most) inv.narrowed (common_members row.0 rest)
           (choice-of_ballot e.m e.rows c.args.self.now.most c.args.set rest c.args.left c.ballots-ballot-items.ensures.valid.ballots inv.narrowed.opened (length c.loop-ballot.yielded) row at
-          (omega (arith, needed, c.is_tighter.ensures c.if-is_tighter.true))));
+          (omega (arith, needed, c.if-needed-eq0.false))));
     }
 
 pub loop-ballot-preserved : goal.loop-ballot-preserved

@@ -5,7 +5,7 @@ use Rattle.tie_search.proofs.near.NearSearch.narrowed.Goals as goal
 pub returns-then-greatest-needs : goal.returns-then-greatest-needs
 returns-then-greatest-needs g c =
     let e = c.args.self.now.profile.now in
-    let t = c.nth_worth-threshold.result in
+    let t = c.nth_greatest-threshold.result in
     let supports = c.args.needs.now.supports in
     let greatest : c.from.result * t + c.excess.result ≡ c.args.left * t + sum_by (λ n. get_or supports n 0 - t) c.args.free =
     omega (arith, ap (λ n. n * t) c.from.ensures, c.excess.ensures.sum) in
@@ -15,7 +15,7 @@ returns-then-greatest-needs g c =
 pub returns : goal.returns
 returns g c =
     let e = c.args.self.now.profile.now in
-    let t = c.nth_worth-threshold.result in
+    let t = c.nth_greatest-threshold.result in
     let supports = c.args.needs.now.supports in
     let total = c.args.needs.now.total in
     let greatest : c.from.result * t + c.excess.result ≡ c.args.left * t + sum_by (λ n. get_or supports n 0 - t) c.args.free =

@@ -3,12 +3,27 @@ use Rattle.std.proofs.Math.Nat.{mul-le-mul}
 use Rattle.std.proofs.lemmas.List.{length_push}
 use Rattle.ballot_base.specs.CandSet.{has_member, common_members}
 use Rattle.ballot_base.specs.Ballots.{Row, hits}
+use Rattle.tie_walk.specs.Sequences.{supporters}
 use Rattle.ballot_base.proofs.Turns.{row_of_turn, all_passed}
 use Rattle.tie_walk.proofs.WorthLemmas.{no_total}
 use Rattle.tie_search.specs.Needs.{hits_needed, weighted_needs, weighted_support}
 use Rattle.tie_search.specs.Steps.Near.{need_weight}
-use Rattle.tie_search.proofs.WeightLemmas.{free-common, needs-more, part-most, row_weight, row_weight-is, support-more, turns-few, weight-none}
+use Rattle.tie_search.proofs.WeightLemmas.{free-common, needs-more, part-most, row_weight, row_weight-is, support-more, turns-few, weight-none, weightless-sum, weightless-support}
 use Rattle.tie_search.proofs.near.NearSearch.weighted_needs.Goals as goal
+
+pub returns-then-left-lt-FEWEST_SEATS-clause-weighted : goal.returns-then-left-lt-FEWEST_SEATS-clause-weighted
+returns-then-left-lt-FEWEST_SEATS-clause-weighted g c =
+    let e = c.args.self.now.profile.now in
+    let k = length c.args.set + c.args.left in
+    record {
+      weight = λ row. 0;
+      total_is = sym (weightless-sum (λ row. hits_needed (length row.0) k c.args.self.now.most - hits row.0 c.args.set) e.rows);
+      supports_are = λ n is. no_total 65 n ∙ sym (weightless-support (supporters e.rows n));
+    }
+
+pub returns-then-left-lt-FEWEST_SEATS-clause-small : goal.returns-then-left-lt-FEWEST_SEATS-clause-small
+returns-then-left-lt-FEWEST_SEATS-clause-small g c =
+    λ n. let e : get_or {A = ℕ} (replicate 65 0) n 0 ≡ 0 = no_total 65 n in omega (arith, e)
 
 pub loop-ballot-init : goal.loop-ballot-init
 loop-ballot-init g c = record {
