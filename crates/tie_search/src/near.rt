@@ -7,9 +7,10 @@
 //! searched below and then leaves, with its clones.
 //!
 //! Most searches end after a few sets, so a quick search comes first. It does no more than that, and gives up after a
-//! limited number of sets. A thorough search then begins anew. It also adds up all needs, each with a weight. A set is
-//! given up if the sum passes what the best free candidates can give, and a candidate leaves without whom the others
-//! fall short (`laws::weighted_needs`; Glover, Surrogate constraints, 1968). Any weights are right.
+//! limited number of sets. A thorough search then begins anew. While several seats are left, it also adds up all needs,
+//! each with a weight. A set is given up if the sum passes what the best free candidates can give, and a candidate
+//! leaves without whom the others fall short (`laws::weighted_needs`; Glover, Surrogate constraints, 1968). Any weights
+//! are right.
 ghost use Rattle.std.specs.Prelude.{◌≡◌, ℕ, ⊤, ◌+◌, ◌-◌, ◌^◌, ◌≤◌, ◌&&◌, [], true, max, nat_le, length};
 ghost use Rattle.std.specs.Prelude.{slice_index, MatchOption};
 ghost use Rattle.ballot_base.specs.Ballots.{IsElection};
@@ -31,9 +32,8 @@ use tie_walk::add_to_members;
 /// The most sets that a quick search may enter beside one for each seat. Any limit is right.
 const MOST_PATIENCE: usize = 8192;
 
-/// For each ballot, how many sets a quick search among all committees may enter. Such searches are few, so more can be
-/// spent on each.
-const FIRST_PATIENCE: usize = 32;
+/// The sets that a quick search among all committees may enter. Such searches are few, so more can be spent on each.
+const FIRST_PATIENCE: usize = 16384;
 
 /// With fewer seats left than this, going through the sets is quicker than weighing needs. Any number is right.
 const FEWEST_SEATS: u8 = 4;
@@ -101,14 +101,13 @@ impl<A: Allocator + Copy> NearSearch<'_, A> {
         }
     }
 
-    /// How many sets a quick search may enter: enough to go straight to a committee, and one more for each ballot. A
-    /// thorough search goes through all ballots for each set, a quick one mostly until an early ballot fails.
+    /// How many sets a quick search may enter: enough to go straight to a committee, and mostly one more for each
+    /// ballot. A thorough search goes through all ballots for each set, a quick one mostly until an early ballot fails.
     fn patience(&self, set: CandSet, left: u8) -> usize {
-        let ballots = self.profile.rows().min(MOST_PATIENCE);
         let spare = if set.is_empty() {
-            MOST_PATIENCE.min(FIRST_PATIENCE * ballots)
+            FIRST_PATIENCE
         } else {
-            ballots
+            self.profile.rows().min(MOST_PATIENCE)
         };
         spare + usize::from(left)
     }
