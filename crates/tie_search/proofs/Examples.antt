@@ -11,7 +11,7 @@ use Rattle.tie_search.specs.Needs.{hits_needed, weighted_needs, weighted_support
 use Rattle.tie_search.specs.Completions.{IsOpen, IsCompletion, IsReaching, IsOutOfReach, IsWinnerFrom, is_reached, exact_bound}
 use Rattle.tie_search.specs.Pairs.{IsMajorant, all_kept, all_overlap, all_worth, pair_sum, row_sum, worth_beside}
 use Rattle.tie_search.specs.Prices.{kept, base, price}
-use Rattle.tie_search.specs.Tied.{AreTied, IsAmong, IsBest}
+use Rattle.tie_search.specs.Tied.{AreBest, AreDistinct, AreTied, IsAmong, IsBest}
 use Rattle.tie_search.specs.Steps.Near.{need_weight}
 use Rattle.tie_search.specs.Steps.Witness.{IsSetAndLater}
 use Rattle.tie_search.specs.Steps.Columns.{voter_ballot, given, total, voters_of}
@@ -243,9 +243,9 @@ three_is_best = record {
 }
 
 -- of the committees of one, only that of 3 has the greatest value
-three_has_no_equal : AreTied sum 3 1 (record { committees = (3 ∷ []) ∷ []; len = 1; are_all = true })
+three_is_listed : AreBest sum 3 1 (record { committees = (3 ∷ []) ∷ []; len = 1; are_all = true })
 unfolding lists_of
-three_has_no_equal = record {
+three_is_listed = record {
   some = lit≤ tt;
   few = lit≤ tt;
   each = λ committee among. listed committee among.0 among.1 among.2;
@@ -260,3 +260,19 @@ three_has_no_equal = record {
     is_listed [] best = absurd (omega (arith, best.size))
     is_listed (x ∷ []) best = let value : 0 + x ≡ 3 = best.best in (0, lit< tt, ap (λ n. n ∷ []) (omega (arith, value)))
     is_listed (x ∷ y ∷ committee) best = absurd (omega (arith, best.size))
+
+-- so that the list is complete, and has nobody twice
+three_has_no_equal : AreTied sum 3 1 (record { committees = (3 ∷ []) ∷ []; len = 1; are_all = true })
+three_has_no_equal = record {
+  best = three_is_listed;
+  full = λ no. absurd cc;
+  distinct = λ i j before inside same. omega (arith, before, inside);
+}
+
+-- the same committee twice
+three_is_twice : AreDistinct ((3 ∷ []) ∷ (3 ∷ []) ∷ []) 2 → ⊥
+three_is_twice distinct = distinct 0 1 (lit< tt) (lit< tt) refl
+
+-- one committee, beside which there may be others, is not a list of those that tie
+one_is_not_full : AreTied sum 3 1 (record { committees = (3 ∷ []) ∷ []; len = 1; are_all = false }) → ⊥
+one_is_not_full tied = let full : 1 ≡ 256 = tied.full refl in omega (arith, full)

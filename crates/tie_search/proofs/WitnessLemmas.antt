@@ -16,7 +16,7 @@ use Rattle.tie_walk.proofs.LiveLemmas.{upto-all, upto-none, upto-rest}
 use Rattle.tie_walk.proofs.WalkLemmas.{append_none}
 use Rattle.tie_search.specs.Completions.{exact_bound, is_reached}
 use Rattle.tie_search.specs.Steps.Witness.{IsSetAndLater, IsReachedTo, IsWitnessed}
-use Rattle.tie_search.specs.Tied.{AreTied, IsAmong, IsBest}
+use Rattle.tie_search.specs.Tied.{AreBest, IsAmong, IsBest}
 use Rattle.tie_search.specs.declared.found.Tied.{Tied}
 use Rattle.tie_search.proofs.CompletionLemmas.{member-high}
 use Rattle.tie_search.proofs.ReachLemmas.{any-found, any-true, exact-reached, exact-short, increasing-append, whole-bounds}
@@ -117,7 +117,7 @@ witnessed-joined value m set left least c end committee low high joined reaches 
 
 -- ---- where all committees with the greatest value are listed
 
-module _ (value : List ℕ → ℕ) (m k : ℕ) (tied : Tied) (set : List ℕ) (left best c : ℕ) (are : AreTied value m k tied) (best_is : best ≡ best_value value m k) where
+module _ (value : List ℕ → ℕ) (m k : ℕ) (tied : Tied) (set : List ℕ) (left best c : ℕ) (are : AreBest value m k tied) (best_is : best ≡ best_value value m k) where
   pub listed-witnessed : (end : ℕ) → c ≤ end → end + left ≤ m + 1
       → ((n : ℕ) → c ≤ n → n < end → (committee : List ℕ) × IsAmong tied.committees tied.len committee × IsSetAndLater m n set left committee)
       → IsWitnessed value m set left best c end
