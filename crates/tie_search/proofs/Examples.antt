@@ -266,6 +266,7 @@ three_has_no_equal : AreTied sum 3 1 (record { committees = (3 ∷ []) ∷ []; l
 three_has_no_equal = record {
   best = three_is_listed;
   full = λ no. absurd cc;
+  more = λ no. absurd cc;
   distinct = λ i j before inside same. omega (arith, before, inside);
 }
 

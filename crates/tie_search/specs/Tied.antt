@@ -31,8 +31,10 @@ pub record AreBest (value : List ℕ → ℕ) (m k : ℕ) (tied : Tied) : Type 0
   pub all : tied.are_all ≡ true
       → (committee : List ℕ) → IsBest value m k committee → IsAmong tied.committees tied.len committee
 
--- the committees with the greatest value, none of them twice: all, or as many as are listed at most
+-- The committees with the greatest value, none of them twice: all, or if there are more, as many as are listed at most.
 pub record AreTied (value : List ℕ → ℕ) (m k : ℕ) (tied : Tied) : Type 0 where
   pub best : AreBest value m k tied
   pub full : tied.are_all ≡ false → tied.len ≡ most_tied
+  pub more : tied.are_all ≡ false
+      → (committee : List ℕ) × IsBest value m k committee × (IsAmong tied.committees tied.len committee → ⊥)
   pub distinct : AreDistinct tied.committees tied.len

@@ -19,7 +19,7 @@ pub const MOST_TIED: usize = 256;
 pub struct Tied {
     pub committees: [CandSet; MOST_TIED],
     pub len: usize,
-    /// Whether no other committee has this value. If false, there may be others.
+    /// Whether no other committee has this value.
     pub are_all: bool,
 }
 

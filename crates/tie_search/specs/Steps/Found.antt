@@ -12,8 +12,8 @@ IsListed found = IsAmong found.committees found.len
 abbrev pub IsSettled : (List ℕ → ℕ) → Found → List ℕ → Type 0
 IsSettled value found committee = (value committee < found.least) ⊎ IsListed found committee
 
--- Those listed are distinct and have the same value, and no less is looked for. This value is not looked for any more
--- only if the list is full.
+-- Those listed are distinct and have the same value, and no less is looked for. If this value is not looked for any
+-- more, the list is full.
 pub record AreListed (value : List ℕ → ℕ) (found : Found) : Type 0 where
   pub few : found.len ≤ most_tied
   pub same : (committee : List ℕ) → IsListed found committee → value committee ≡ found.value
@@ -22,8 +22,21 @@ pub record AreListed (value : List ℕ → ℕ) (found : Found) : Type 0 where
   pub full : found.wanted ≡ All → 1 ≤ found.len → found.value < found.least → found.len ≡ most_tied
   pub distinct : AreDistinct found.committees found.len
 
--- Only such committees were added as are named, and of at least the value that was looked for. All that was settled
--- still is.
+-- all committees are wanted, but the value of those listed is not looked for any more
+abbrev pub LeavesOut : Found → Type 0
+LeavesOut found = (found.wanted ≡ All) × (1 ≤ found.len) × (found.value < found.least)
+
+-- the committee has the value of those listed, and is not listed
+abbrev pub IsLeftOut : (List ℕ → ℕ) → Found → List ℕ → Type 0
+IsLeftOut value found committee = (value committee ≡ found.value) × (IsListed found committee → ⊥)
+
+-- those left out before still are
+abbrev pub StillLeavesOut : (List ℕ → ℕ) → Found → Found → Type 0
+StillLeavesOut value before after =
+    LeavesOut before × ((committee : List ℕ) → IsLeftOut value before committee → IsLeftOut value after committee)
+
+-- Only such committees were added, or left out, as are named, and of at least the value that was looked for. All that
+-- was settled still is.
 pub record Advances (value : List ℕ → ℕ) (IsNew : List ℕ → Type 0) (before after : Found) : Type 0 where
   pub valid : AreListed value after
   pub wanted : after.wanted ≡ before.wanted
@@ -32,6 +45,8 @@ pub record Advances (value : List ℕ → ℕ) (IsNew : List ℕ → Type 0) (be
   pub new : (committee : List ℕ) → IsListed after committee
       → IsListed before committee ⊎ (IsNew committee × (before.least ≤ value committee))
   pub none : after.len ≡ 0 → (before.len ≡ 0) × (after.least ≡ before.least)
+  pub more : LeavesOut after
+      → StillLeavesOut value before after ⊎ ((committee : List ℕ) × IsNew committee × IsLeftOut value after committee)
 
 -- no committee that completes the set is listed yet
 abbrev pub AreNew : ℕ → List ℕ → List ℕ → ℕ → Found → Type 0
