@@ -1,9 +1,9 @@
 //! What a search has found, and which value it still looks for.
 //!
 //! A search for all tied committees begins with the value of a good one. A committee of a greater value takes the place
-//! of all that were listed, and from then on this value is looked for. If more tie than can be listed, the list is
-//! full, and only greater values still count. A candidate who was tried at a set is no longer free there, so no committee
-//! is met twice.
+//! of all that were listed, and from then on this value is looked for. If more tie than can be listed, the list stays
+//! full, and only greater values still count. A candidate who was tried with a set is no longer free to join it, so no
+//! committee is met twice.
 ghost use Rattle.std.specs.Prelude.{◌≡◌, ℕ, ◌^◌, ◌<◌, ◌≤◌, [], List, false, true, slice_index_or, MatchOption};
 ghost use Rattle.ballot_base.specs.CandSet.{has_member};
 ghost use Rattle.tie_search.specs.Steps.Found.{Advances, AreListed, IsListed, IsSettled};

@@ -17,8 +17,8 @@
 //! makes a committee of the same value, and all committees with it were searched (`proofs/FoundLemmas.antt`).
 //!
 //! While enough seats are left, a bound by pairs of candidates comes before the gains are counted, and again after each
-//! candidate that was tried (module `pairs`). It counts a voter who approves two members less than twice. If few sets are
-//! given up for it, it is left out.
+//! candidate that was tried (module `pairs`). It counts a voter who approves two members less than twice. If few sets
+//! are given up for it, it is left out.
 //!
 //! The bound needs no sorting in its proof. For any threshold, an added member brings at most the threshold and what
 //! its gain exceeds it by (`laws::thresholds`). The last of the `left` highest gains makes the bound lowest.
@@ -133,8 +133,8 @@ impl<A: Allocator + Copy> Search<'_, A> {
         found.first()
     }
 
-    /// Lists the committees of k that have the greatest value, which is at least `least`: all of them, or as many as can
-    /// be listed.
+    /// Lists the committees of k that have the greatest value, which is at least `least`: all of them, or if there are
+    /// more, `MOST_TIED` of them.
     pub(crate) fn tied(&self, k: u8) -> Tied
         requires ballots { self.now.profile.now ≡ self.now.tally.now.election }
         requires aids { IsAided self.now.tally.now self.now.aids.now }

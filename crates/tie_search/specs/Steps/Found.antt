@@ -22,7 +22,7 @@ pub record AreListed (value : List ℕ → ℕ) (found : Found) : Type 0 where
   pub full : found.wanted ≡ All → 1 ≤ found.len → found.value < found.least → found.len ≡ most_tied
   pub distinct : AreDistinct found.committees found.len
 
--- all committees are wanted, but the value of those listed is not looked for any more
+-- all committees are wanted, but the value of those that are listed is not looked for any more
 abbrev pub LeavesOut : Found → Type 0
 LeavesOut found = (found.wanted ≡ All) × (1 ≤ found.len) × (found.value < found.least)
 

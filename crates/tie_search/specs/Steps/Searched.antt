@@ -28,7 +28,8 @@ pub record IsAided (tally : Thiele) (aids : Aids) : Type 0 where
   pub prices : IsPriced tally aids.prices
   pub sums : HasSums tally aids.sums
 
--- what is true of each tally by search of so many candidates: committees with the greatest value are listed
+-- what is true of each tally by search: it knows how many candidates there are, and committees with the greatest value
+-- are listed
 pub record IsSearched (value : List ℕ → ℕ) (candidates m k best : ℕ) (tied : Tied) : Type 0 where
   pub size : m ≡ candidates
   pub most : candidates ≤ most_candidates
