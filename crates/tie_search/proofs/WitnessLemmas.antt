@@ -7,7 +7,7 @@ use Rattle.std.proofs.lemmas.List.Elements.{filter-append}
 use Rattle.std.proofs.lemmas.List.Folds.{list_any-append}
 use Rattle.std.proofs.lemmas.List.FromFn.{length-range_with_len}
 use Rattle.ballot_base.specs.Lists.{IsIncreasing, increasing_lists}
-use Rattle.ballot_base.specs.CandSet.{has_member, members_upto, other_members}
+use Rattle.ballot_base.specs.CandSet.{common_members, has_member, members_upto, other_members}
 use Rattle.ballot_base.proofs.Committees.{chosen-from_contains, increasing_lists-contains, length-increasing}
 use Rattle.ballot_base.proofs.Increasing.{IsIncreasing-filter, IsIncreasing-higher, IsIncreasing-lower, has_member-below, has_member-filter, same_increasing}
 use Rattle.tie_walk.specs.Winners.{best_value}
@@ -97,6 +97,10 @@ next-ends m c set left within up committee joined next rest is later =
     let same : later.0 ≡ next ∷ rest = sym (others-added m next set left high wide committee later) ∙ is in
     let rises : IsIncreasing (next + 1) m (next ∷ rest) = subst (λ l. IsIncreasing (next + 1) m l) same later.1.0.0 in
     omega (arith, rises.0)
+
+-- the candidates 1 to m among the members
+pub candidates-among : (m : ℕ) (all committee known : List ℕ) → all ≡ range_with_len 1 m → known ≡ common_members all committee → IsIncreasing 1 m known
+candidates-among m all committee known whole is = rw (is, whole) (IsIncreasing-filter (has_member committee) 1 m (range_with_len 1 m) (IsIncreasing-range 1 m m (omega arith)))
 
 -- a committee with the value tells that it is reached
 reached-joined : (value : List ℕ → ℕ) (m c : ℕ) (set : List ℕ) (left least : ℕ) (committee : List ℕ) → IsSetAndLater m c set left committee → least ≤ value committee

@@ -1,26 +1,19 @@
 use Rattle.std.proofs.Common.{◌≡◌, ℕ, List, subst, arith}
-use Rattle.std.specs.List.{range_with_len}
-use Rattle.ballot_base.specs.CandSet.{common_members, has_member}
 use Rattle.ballot_base.specs.Lists.{IsIncreasing}
 use Rattle.tie_walk.specs.Winners.{best_value}
-use Rattle.ballot_base.proofs.Increasing.{IsIncreasing-filter}
-use Rattle.tie_walk.proofs.LawLemmas.{IsIncreasing-range}
 use Rattle.tie_search.specs.Completions.{Exact}
 use Rattle.tie_search.specs.Steps.Witness.{IsWitnessed}
-use Rattle.tie_search.proofs.WitnessLemmas.{witnessed-joined}
+use Rattle.tie_search.proofs.WitnessLemmas.{candidates-among, witnessed-joined}
 use Rattle.tie_search.proofs.exact.ExactTally.witnessed.Goals as goal
 
--- the candidates among the members
-candidates : (m : ℕ) (all committee known : List ℕ) → all ≡ range_with_len 1 m → known ≡ common_members all committee → IsIncreasing 1 m known
-candidates m all committee known whole is = rw (is, whole) (IsIncreasing-filter (has_member committee) 1 m (range_with_len 1 m) (IsIncreasing-range 1 m m (omega arith)))
-
 pub witnessed_upto-end-requires-clause-committee : goal.witnessed_upto-end-requires-clause-committee
-witnessed_upto-end-requires-clause-committee g c = candidates c.self.inside.m c.all.result c.args.committee c.common-known.result c.all.ensures c.common-known.ensures
+witnessed_upto-end-requires-clause-committee g c =
+    candidates-among c.self.inside.m c.all.result c.args.committee c.common-known.result c.all.ensures c.common-known.ensures
 
 pub value-requires : goal.value-requires
 value-requires g c =
     subst (λ n. IsIncreasing 1 n c.common-known.result) c.self.invariant.size
-    (candidates c.self.inside.m c.all.result c.args.committee c.common-known.result c.all.ensures c.common-known.ensures)
+    (candidates-among c.self.inside.m c.all.result c.args.committee c.common-known.result c.all.ensures c.common-known.ensures)
 
 pub returns : goal.returns
 returns g c =
