@@ -1,6 +1,6 @@
 -- The definitions of the search, worked out by hand. The value of a set is the sum of its numbers; of committees of two
 -- of the candidates 1 to 3 the best has 2 and 3.
-use Rattle.std.proofs.Common.{◌≡◌, ◌+◌, ◌*◌, ◌^◌, ◌<◌, ℕ, zero, suc, true, false, List, [], ◌∷◌, refl, ap, subst, length, sum, lit≤, lit<, arith}
+use Rattle.std.proofs.Common.{◌≡◌, ◌+◌, ◌*◌, ◌^◌, ◌<◌, ℕ, zero, suc, true, false, List, [], ◌∷◌, refl, sym, ap, subst, length, sum, lit≤, lit<, arith}
 use Rattle.std.specs.Prelude.{slice_index_or}
 use Rattle.ballot_base.specs.Ballots.{hits}
 use Rattle.ballot_base.specs.Lists.{lists_of}
@@ -11,7 +11,7 @@ use Rattle.tie_search.specs.Needs.{hits_needed, weighted_needs, weighted_support
 use Rattle.tie_search.specs.Completions.{IsOpen, IsCompletion, IsReaching, IsOutOfReach, IsWinnerFrom, is_reached, exact_bound}
 use Rattle.tie_search.specs.Pairs.{IsMajorant, all_kept, all_overlap, all_worth, pair_sum, row_sum, worth_beside}
 use Rattle.tie_search.specs.Prices.{kept, base, price}
-use Rattle.tie_search.specs.Tied.{AreTied, IsAmong, IsBest}
+use Rattle.tie_search.specs.Tied.{AreBest, AreDistinct, AreTied, IsAmong, IsBest}
 use Rattle.tie_search.specs.Steps.Near.{need_weight}
 use Rattle.tie_search.specs.Steps.Witness.{IsSetAndLater}
 use Rattle.tie_search.specs.Steps.Columns.{voter_ballot, given, total, voters_of}
@@ -243,20 +243,88 @@ three_is_best = record {
 }
 
 -- of the committees of one, only that of 3 has the greatest value
-three_has_no_equal : AreTied sum 3 1 (record { committees = (3 ∷ []) ∷ []; len = 1; are_all = true })
+only_three : (committee : List ℕ) → IsBest sum 3 1 committee → committee ≡ 3 ∷ []
 unfolding lists_of
-three_has_no_equal = record {
+only_three [] best = absurd (omega (arith, best.size))
+only_three (x ∷ []) best = let value : 0 + x ≡ 3 = best.best in ap (λ n. n ∷ []) (omega (arith, value))
+only_three (x ∷ y ∷ committee) best = absurd (omega (arith, best.size))
+
+three_is_listed : AreBest sum 3 1 (record { committees = (3 ∷ []) ∷ []; len = 1; are_all = true })
+unfolding lists_of
+three_is_listed = record {
   some = lit≤ tt;
   few = lit≤ tt;
   each = λ committee among. listed committee among.0 among.1 among.2;
-  all = λ yes committee best. is_listed committee best;
+  all = λ yes committee best. (0, lit< tt, sym (only_three committee best));
 }
   where
     listed : (committee : List ℕ) (i : ℕ) → i < 1 → slice_index_or ((3 ∷ []) ∷ []) i [] ≡ committee → IsBest sum 3 1 committee
     listed committee zero inside is = subst (IsBest sum 3 1) is three_is_best
     listed committee (suc i) inside is = absurd (omega (arith, inside))
 
-    is_listed : (committee : List ℕ) → IsBest sum 3 1 committee → IsAmong ((3 ∷ []) ∷ []) 1 committee
+-- the list has each committee that ties, and none twice
+three_has_no_equal : AreTied sum 3 1 (record { committees = (3 ∷ []) ∷ []; len = 1; are_all = true })
+three_has_no_equal = record {
+  best = three_is_listed;
+  full = λ no. absurd cc;
+  more = λ no. absurd cc;
+  distinct = λ i j before inside same. omega (arith, before, inside);
+}
+
+-- a committee is listed twice
+three_is_twice : AreDistinct ((3 ∷ []) ∷ (3 ∷ []) ∷ []) 2 → ⊥
+three_is_twice distinct = distinct 0 1 (lit< tt) (lit< tt) refl
+
+-- a list of one that does not say that it has all is not full
+one_is_not_full : AreTied sum 3 1 (record { committees = (3 ∷ []) ∷ []; len = 1; are_all = false }) → ⊥
+one_is_not_full tied = let full : 1 ≡ 256 = tied.full refl in omega (arith, full)
+
+-- a list with the committee of 3 leaves out none that ties, and has to say so
+none_is_left_out : (committees : List (List ℕ)) (len : ℕ) → IsAmong committees len (3 ∷ [])
+    → AreTied sum 3 1 (record { committees = committees; len = len; are_all = false }) → ⊥
+none_is_left_out committees len among tied =
+    let other = tied.more refl in
+    other.2 (subst (IsAmong committees len) (sym (only_three other.0 other.1)) among)
+
+abbrev one_and_two : List (List ℕ)
+one_and_two = (1 ∷ []) ∷ (2 ∷ []) ∷ []
+
+-- where all values are the same, both committees of one tie
+two_tie : AreTied (λ set. 0) 2 1 (record { committees = one_and_two; len = 2; are_all = true })
+unfolding lists_of
+two_tie = record {
+  best = record {
+    some = lit≤ tt;
+    few = lit≤ tt;
+    each = λ committee among. listed committee among.0 among.1 among.2;
+    all = λ yes committee best. is_listed committee best;
+  };
+  full = λ no. absurd cc;
+  more = λ no. absurd cc;
+  distinct = apart;
+}
+  where
+    one : IsBest (λ set. 0) 2 1 (1 ∷ [])
+    one = record { candidates = (lit≤ tt, lit≤ tt, tt); size = refl; best = refl }
+
+    two : IsBest (λ set. 0) 2 1 (2 ∷ [])
+    two = record { candidates = (lit≤ tt, lit≤ tt, tt); size = refl; best = refl }
+
+    listed : (committee : List ℕ) (i : ℕ) → i < 2 → slice_index_or one_and_two i [] ≡ committee → IsBest (λ set. 0) 2 1 committee
+    listed committee zero inside is = subst (IsBest (λ set. 0) 2 1) is one
+    listed committee (suc zero) inside is = subst (IsBest (λ set. 0) 2 1) is two
+    listed committee (suc (suc i)) inside is = absurd (omega (arith, inside))
+
+    is_listed : (committee : List ℕ) → IsBest (λ set. 0) 2 1 committee → IsAmong one_and_two 2 committee
     is_listed [] best = absurd (omega (arith, best.size))
-    is_listed (x ∷ []) best = let value : 0 + x ≡ 3 = best.best in (0, lit< tt, ap (λ n. n ∷ []) (omega (arith, value)))
+    is_listed (zero ∷ []) best = absurd (omega (arith, best.candidates.0))
+    is_listed (suc zero ∷ []) best = (0, lit< tt, refl)
+    is_listed (suc (suc zero) ∷ []) best = (1, lit< tt, refl)
+    is_listed (suc (suc (suc x)) ∷ []) best = absurd (omega (arith, best.candidates.1))
     is_listed (x ∷ y ∷ committee) best = absurd (omega (arith, best.size))
+
+    apart : (i j : ℕ) → i < j → j < 2 → slice_index_or one_and_two i [] ≡ slice_index_or one_and_two j [] → ⊥
+    apart i zero before inside same = omega (arith, before)
+    apart zero (suc zero) before inside same = let heads : 1 ≡ 2 = ap sum same in omega (arith, heads)
+    apart (suc i) (suc zero) before inside same = omega (arith, before)
+    apart i (suc (suc j)) before inside same = omega (arith, inside)

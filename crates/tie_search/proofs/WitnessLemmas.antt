@@ -7,7 +7,7 @@ use Rattle.std.proofs.lemmas.List.Elements.{filter-append}
 use Rattle.std.proofs.lemmas.List.Folds.{list_any-append}
 use Rattle.std.proofs.lemmas.List.FromFn.{length-range_with_len}
 use Rattle.ballot_base.specs.Lists.{IsIncreasing, increasing_lists}
-use Rattle.ballot_base.specs.CandSet.{has_member, members_upto, other_members}
+use Rattle.ballot_base.specs.CandSet.{common_members, has_member, members_upto, other_members}
 use Rattle.ballot_base.proofs.Committees.{chosen-from_contains, increasing_lists-contains, length-increasing}
 use Rattle.ballot_base.proofs.Increasing.{IsIncreasing-filter, IsIncreasing-higher, IsIncreasing-lower, has_member-below, has_member-filter, same_increasing}
 use Rattle.tie_walk.specs.Winners.{best_value}
@@ -16,7 +16,7 @@ use Rattle.tie_walk.proofs.LiveLemmas.{upto-all, upto-none, upto-rest}
 use Rattle.tie_walk.proofs.WalkLemmas.{append_none}
 use Rattle.tie_search.specs.Completions.{exact_bound, is_reached}
 use Rattle.tie_search.specs.Steps.Witness.{IsSetAndLater, IsReachedTo, IsWitnessed}
-use Rattle.tie_search.specs.Tied.{AreTied, IsAmong, IsBest}
+use Rattle.tie_search.specs.Tied.{AreBest, IsAmong, IsBest}
 use Rattle.tie_search.specs.declared.found.Tied.{Tied}
 use Rattle.tie_search.proofs.CompletionLemmas.{member-high}
 use Rattle.tie_search.proofs.ReachLemmas.{any-found, any-true, exact-reached, exact-short, increasing-append, whole-bounds}
@@ -98,6 +98,10 @@ next-ends m c set left within up committee joined next rest is later =
     let rises : IsIncreasing (next + 1) m (next ∷ rest) = subst (λ l. IsIncreasing (next + 1) m l) same later.1.0.0 in
     omega (arith, rises.0)
 
+-- the candidates 1 to m among the members
+pub candidates-among : (m : ℕ) (all committee known : List ℕ) → all ≡ range_with_len 1 m → known ≡ common_members all committee → IsIncreasing 1 m known
+candidates-among m all committee known whole is = rw (is, whole) (IsIncreasing-filter (has_member committee) 1 m (range_with_len 1 m) (IsIncreasing-range 1 m m (omega arith)))
+
 -- a committee with the value tells that it is reached
 reached-joined : (value : List ℕ → ℕ) (m c : ℕ) (set : List ℕ) (left least : ℕ) (committee : List ℕ) → IsSetAndLater m c set left committee → least ≤ value committee
     → is_reached value m c set left least ≡ true
@@ -117,7 +121,7 @@ witnessed-joined value m set left least c end committee low high joined reaches 
 
 -- ---- where all committees with the greatest value are listed
 
-module _ (value : List ℕ → ℕ) (m k : ℕ) (tied : Tied) (set : List ℕ) (left best c : ℕ) (are : AreTied value m k tied) (best_is : best ≡ best_value value m k) where
+module _ (value : List ℕ → ℕ) (m k : ℕ) (tied : Tied) (set : List ℕ) (left best c : ℕ) (are : AreBest value m k tied) (best_is : best ≡ best_value value m k) where
   pub listed-witnessed : (end : ℕ) → c ≤ end → end + left ≤ m + 1
       → ((n : ℕ) → c ≤ n → n < end → (committee : List ℕ) × IsAmong tied.committees tied.len committee × IsSetAndLater m n set left committee)
       → IsWitnessed value m set left best c end

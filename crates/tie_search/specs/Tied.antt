@@ -1,5 +1,5 @@
 -- Lists of the committees that tie for the greatest value.
-use Rattle.std.specs.Prelude.{◌≡◌, ℕ, ◌<◌, ◌≤◌, true, List, [], length, slice_index_or}
+use Rattle.std.specs.Prelude.{◌≡◌, ℕ, ◌<◌, ◌≤◌, true, false, List, [], length, slice_index_or}
 use Rattle.ballot_base.specs.Lists.{IsIncreasing}
 use Rattle.tie_walk.specs.Winners.{best_value}
 use Rattle.tie_search.specs.declared.found.Tied.{Tied}
@@ -18,10 +18,23 @@ most_tied = 256
 abbrev pub IsAmong : List (List ℕ) → ℕ → List ℕ → Type 0
 IsAmong committees len committee = (i : ℕ) × (i < len) × (slice_index_or committees i [] ≡ committee)
 
+-- no committee is listed twice
+abbrev pub AreDistinct : List (List ℕ) → ℕ → Type 0
+AreDistinct committees len =
+    (i j : ℕ) → i < j → j < len → slice_index_or committees i [] ≡ slice_index_or committees j [] → ⊥
+
 -- some committees with the greatest value, or if the list says so, all of them
-pub record AreTied (value : List ℕ → ℕ) (m k : ℕ) (tied : Tied) : Type 0 where
+pub record AreBest (value : List ℕ → ℕ) (m k : ℕ) (tied : Tied) : Type 0 where
   pub some : 1 ≤ tied.len
   pub few : tied.len ≤ most_tied
   pub each : (committee : List ℕ) → IsAmong tied.committees tied.len committee → IsBest value m k committee
   pub all : tied.are_all ≡ true
       → (committee : List ℕ) → IsBest value m k committee → IsAmong tied.committees tied.len committee
+
+-- The committees with the greatest value, none of them twice: all, or if there are more, as many as are listed at most.
+pub record AreTied (value : List ℕ → ℕ) (m k : ℕ) (tied : Tied) : Type 0 where
+  pub best : AreBest value m k tied
+  pub full : tied.are_all ≡ false → tied.len ≡ most_tied
+  pub more : tied.are_all ≡ false
+      → (committee : List ℕ) × IsBest value m k committee × (IsAmong tied.committees tied.len committee → ⊥)
+  pub distinct : AreDistinct tied.committees tied.len

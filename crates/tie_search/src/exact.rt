@@ -9,6 +9,7 @@
 //! greatest value shows that the bounds reach it up to the first member outside the set (module `witness`). So `reach`
 //! searches once for many places, and if most committees tie, not at all.
 ghost use Rattle.std.specs.Prelude.{◌≡◌, ℕ, ◌+◌, ◌-◌, ◌≤◌, [], false, MatchOption, length};
+ghost use Rattle.ballot_base.specs.Limits.{most_candidates};
 ghost use Rattle.ballot_base.specs.Lists.{IsIncreasing};
 ghost use Rattle.tie_walk.specs.Ceilings.{IsBound};
 ghost use Rattle.tie_walk.specs.Winners.{best_value};
@@ -31,6 +32,8 @@ use tie_walk::{Tally, those_after};
 #[derive(Drop)]
 pub struct ExactTally<S: Searchable> {
     search: S,
+    // The number of candidates.
+    m: u8,
     k: u8,
     // The greatest value of a committee of k, and committees that have it.
     best: u128,
@@ -47,7 +50,7 @@ impl<S: Searchable> Model for ExactTally<S> {
 
     ghost view = { λ t. record { search = t.search; k = t.k } };
 
-    ghost invariant = { λ t. IsSearched (S.value_of t.search) (S.candidates t.search) t.k t.best t.tied };
+    ghost invariant = { λ t. IsSearched (S.value_of t.search) (S.candidates t.search) t.m t.k t.best t.tied };
 }
 
 impl<S: Searchable> ExactTally<S> {
@@ -57,6 +60,7 @@ impl<S: Searchable> ExactTally<S> {
         requires fits { k ≤ S.candidates search }
         ensures { result ≡ record { search = search; k = k } }
     {
+        let m = search.m();
         let tied = match search.tied(k) {
             Some(tied) => tied,
             None => Tied::one(best_committee(&search, k)),
@@ -65,6 +69,7 @@ impl<S: Searchable> ExactTally<S> {
         ExactTally {
             best: search.value(committee),
             search,
+            m,
             k,
             tied,
             found: Cell::new(committee),
@@ -102,23 +107,22 @@ impl<S: Searchable> ExactTally<S> {
         ensures none { result ≡ c → is_reached (S.value_of self.now.search) (S.candidates self.now.search) c set left
             (best_value (S.value_of self.now.search) (S.candidates self.now.search) self.now.k) ≡ false }
     {
-        let m = self.search.m();
         if self.tied.are_all {
-            return listed_upto(&self.tied, m, c, set, left);
+            return listed_upto(&self.tied, self.m, c, set, left);
         }
         let known = self.witnessed(self.found.get(), c, set, left);
         if known > c {
             return known;
         }
-        let latest = self.witnessed(with_last(set, left, m), c, set, left);
+        let latest = self.witnessed(with_last(set, left, self.m), c, set, left);
         if latest > c {
             return latest;
         }
-        let free = those_after(c, m);
+        let free = those_after(c, self.m);
         match self.search.find(set, free, left, self.best) {
             Some(committee) => {
                 self.found.set(committee);
-                witnessed_upto(committee, m, c, set, left)
+                witnessed_upto(committee, self.m, c, set, left)
             }
             None => c,
         }
@@ -133,10 +137,8 @@ impl<S: Searchable> ExactTally<S> {
         ensures { IsWitnessed (S.value_of self.now.search) (S.candidates self.now.search) set left
             (best_value (S.value_of self.now.search) (S.candidates self.now.search) self.now.k) c result }
     {
-        let m = self.search.m();
-        committee.valid();
-        let known = committee.upto(m);
-        let end = witnessed_upto(known, m, c, set, left);
+        let known = CandSet::all(self.m).common(committee);
+        let end = witnessed_upto(known, self.m, c, set, left);
         if end == c || self.search.value(known) < self.best {
             return c;
         }
@@ -153,8 +155,7 @@ impl<S: Searchable> ExactTally<S> {
             exact_bound (S.value_of self.now.search) (S.bound_of self.now.search) (S.candidates self.now.search)
             self.now.k c set left) (S.candidates self.now.search) set left best c result }
     {
-        self.search.m();
-        if set.len() + left == self.k && best == self.best {
+        if self.k == set.len() + left && best == self.best {
             return self.reached_upto(c, set, left);
         }
         if self.bound(c, set, left) < best {
@@ -173,7 +174,7 @@ impl<S: Searchable> Tally for ExactTally<S> {
         (S.candidates tally.search) tally.k c set left };
 
     fn m(&self) -> u8 {
-        self.search.m()
+        self.m
     }
 
     fn value(&self, set: CandSet) -> u128 {
@@ -181,8 +182,7 @@ impl<S: Searchable> Tally for ExactTally<S> {
     }
 
     fn bound(&self, c: u8, set: CandSet, left: u8) -> u128 {
-        self.search.m();
-        if set.len() + left != self.k {
+        if self.k != set.len() + left {
             return self.search.bound(c, set, left);
         }
         if self.is_reached(c, set, left) {
@@ -211,6 +211,7 @@ impl<S: Searchable> Tally for ExactTally<S> {
 /// A committee of size k with the greatest value.
 fn best_committee<S: Searchable>(search: &S, k: u8) -> CandSet
     requires some { 1 ≤ k }
+    requires most { k ≤ most_candidates }
     requires fits { k ≤ S.candidates search.now }
     ensures candidates { IsIncreasing 1 (S.candidates search.now) result }
     ensures size { length result ≡ k }
@@ -227,11 +228,11 @@ fn best_committee<S: Searchable>(search: &S, k: u8) -> CandSet
 /// A committee of size k to begin with: the one that the tally knows, or else the first.
 fn first_committee<S: Searchable>(search: &S, k: u8) -> CandSet
     requires some { 1 ≤ k }
+    requires most { k ≤ most_candidates }
     requires fits { k ≤ S.candidates search.now }
     ensures candidates { IsIncreasing 1 (S.candidates search.now) result }
     ensures size { length result ≡ k }
 {
-    search.m();
     match search.good_committee(k) {
         Some(committee) => committee,
         None => CandSet::all(k),

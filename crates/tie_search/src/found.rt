@@ -1,8 +1,9 @@
 //! What a search has found, and which value it still looks for.
 //!
 //! A search for all tied committees begins with the value of a good one. A committee of a greater value takes the place
-//! of all that were listed, and from then on this value is looked for. If more tie than can be listed, only greater
-//! values still count.
+//! of all that were listed, and from then on this value is looked for. If more tie than can be listed, the list stays
+//! full, and only greater values still count. A candidate who was tried with a set is no longer free to join it, so no
+//! committee is met twice.
 ghost use Rattle.std.specs.Prelude.{◌≡◌, ℕ, ◌^◌, ◌<◌, ◌≤◌, [], List, false, true, slice_index_or, MatchOption};
 ghost use Rattle.ballot_base.specs.CandSet.{has_member};
 ghost use Rattle.tie_search.specs.Steps.Found.{Advances, AreListed, IsListed, IsSettled};
@@ -10,7 +11,7 @@ ghost use Rattle.tie_search.specs.Tied.{IsAmong, most_tied};
 
 use ballot_base::CandSet;
 
-/// How many tied committees are listed.
+/// How many tied committees are listed at most.
 pub const MOST_TIED: usize = 256;
 
 /// Committees of the greatest value: the first `len` of the array, at least one.
@@ -82,9 +83,10 @@ impl Found {
         }
     }
 
-    /// Takes a committee of this value, if it is looked for.
+    /// Takes a committee of this value, which is not listed yet, if the value is looked for.
     pub(crate) fn offer(&mut self, committee: CandSet, value: u128)
         requires small { value ≤ 2 ^ 116 }
+        requires new { IsListed self.old committee → ⊥ }
         ensures advances { (value_of : List ℕ → ℕ) → value_of committee ≡ value → AreListed value_of self.old
             → Advances value_of (λ other. other ≡ committee) self.old self.new }
         ensures settled { (value_of : List ℕ → ℕ) → value_of committee ≡ value → AreListed value_of self.old

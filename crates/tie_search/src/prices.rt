@@ -6,6 +6,7 @@
 //! are scaled by 4,096, so that there are multipliers between two increments. Large weights are rounded up to units in
 //! which they are below 2^44. There are no prices for more than 8,192 different ballots.
 ghost use Rattle.std.specs.Prelude.{◌≡◌, ℕ, ◌+◌, ◌^◌, ◌<◌, ◌≤◌, length, slice_index, MatchOption, ⊤};
+ghost use Rattle.ballot_base.specs.Ballots.{IsElection};
 ghost use Rattle.ballot_base.specs.Limits.{most_candidates, most_members};
 ghost use Rattle.tie_walk.specs.Values.{thiele_of};
 ghost use Rattle.tie_search.specs.Prices.{kept, base, price};
@@ -52,8 +53,9 @@ impl Prices {
     ) -> Option<Prices>
         requires some { 1 ≤ k }
         requires size { k ≤ most_members }
-        ensures { MatchOption result ⊤ (λ prices.
+        ensures prices { MatchOption result ⊤ (λ prices.
             ArePrices (thiele_of profile.now rule k) prices.unit prices.base prices.worths) }
+        ensures election { IsElection profile.now }
     {
         if profile.rows() > MOST_ROWS {
             return None;

@@ -17,7 +17,7 @@
 //! makes a committee of the same value, and all committees with it were searched (`proofs/FoundLemmas.antt`).
 //!
 //! While enough seats are left, a bound by pairs of candidates comes before the gains are counted, and again after each
-//! candidate that was tried (module `pairs`). It counts a voter who approves two members less than twice. Where few sets
+//! candidate that was tried (module `pairs`). It counts a voter who approves two members less than twice. If few sets
 //! are given up for it, it is left out.
 //!
 //! The bound needs no sorting in its proof. For any threshold, an added member brings at most the threshold and what
@@ -34,7 +34,7 @@ ghost use Rattle.tie_search.specs.Steps.Near.{IsNarrowed};
 ghost use Rattle.tie_search.specs.Steps.Searched.{IsAided, KeepsColumns};
 ghost use Rattle.ballot_base.specs.Clones.{are_clones};
 ghost use Rattle.tie_walk.specs.Winners.{best_value};
-ghost use Rattle.tie_search.specs.Steps.Found.{AreListed, AreSearched, IsListed};
+ghost use Rattle.tie_search.specs.Steps.Found.{AreListed, AreNew, AreSearched, IsListed};
 ghost use Rattle.tie_search.specs.Completions.{IsOpen, IsOutOfReach, IsReaching, tally_value};
 ghost use Rattle.tie_search.specs.Tied.{AreTied};
 
@@ -133,7 +133,8 @@ impl<A: Allocator + Copy> Search<'_, A> {
         found.first()
     }
 
-    /// Lists the committees of k that have the greatest value, which is at least `least`.
+    /// Lists the committees of k that have the greatest value, which is at least `least`: all of them, or if there are
+    /// more, `MOST_TIED` of them.
     pub(crate) fn tied(&self, k: u8) -> Tied
         requires ballots { self.now.profile.now ≡ self.now.tally.now.election }
         requires aids { IsAided self.now.tally.now self.now.aids.now }
@@ -186,18 +187,18 @@ impl<A: Allocator + Copy> Search<'_, A> {
         }
     }
 
-    /// Searches all completions of a node for committees of the value that is looked for, which rises with what is
-    /// found.
+    /// Searches all completions of a node, none of which is listed yet, for committees of the value that is looked for,
+    /// which rises with what is found.
     fn descend(&self, found: &mut Found, node: Node)
         requires ballots { self.now.profile.now ≡ self.now.tally.now.election }
         requires aids { IsAided self.now.tally.now self.now.aids.now }
         requires opened { IsOpen self.now.tally.now.election.m node.set node.free }
         requires value { node.value ≡ tally_value self.now.tally.now node.set }
         requires listed { AreListed (tally_value self.now.tally.now) found.old }
+        requires new { AreNew self.now.tally.now.election.m node.set node.free node.left found.old }
         ensures { AreSearched (tally_value self.now.tally.now) self.now.tally.now.election.m node.set node.free
             node.left found.old found.new }
     {
-        self.tally.valid();
         let (set, value, left) = (node.set, node.value, node.left);
         if left == 0 {
             found.offer(set, value);
@@ -263,7 +264,6 @@ impl<A: Allocator + Copy> Search<'_, A> {
             → IsListed found.now committee → ((x : ℕ) → has_member tried x ≡ true → has_member committee x ≡ true)
             → tally_value self.now.tally.now committee < found.now.least }
     {
-        self.tally.valid();
         if found.holds(tried) {
             return others;
         }
@@ -330,7 +330,6 @@ impl<A: Allocator + Copy> Search<'_, A> {
             ≡ gain (increments self.now.tally.now.rule self.now.tally.now.k) self.now.tally.now.election.rows set n }
         ensures small { (n : ℕ) → slice_index result n ≤ 2 ^ 116 }
     {
-        self.tally.valid();
         match &self.aids.columns {
             Some(columns) => columns.gains_of(set, free),
             None => self.tally.value_and_gains(set, free).1,
@@ -359,7 +358,6 @@ impl<A: Allocator + Copy> Search<'_, A> {
         requires candidates { IsIncreasing 1 self.now.tally.now.election.m set }
         ensures { tally_value self.now.tally.now set ≤ result }
     {
-        self.tally.valid();
         match &self.aids.columns {
             Some(columns) => columns.covered(set) as u128,
             None => self.tally.value(set),
@@ -373,7 +371,6 @@ impl<A: Allocator + Copy> Search<'_, A> {
         ensures { result ≡ false
             → IsOutOfReach (tally_value self.now.tally.now) self.now.tally.now.election.m set free left self.now.least }
     {
-        self.tally.valid();
         let Some(prices) = &self.aids.prices else {
             return true;
         };

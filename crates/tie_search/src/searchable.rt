@@ -17,7 +17,8 @@ pub trait Searchable: Tally {
             (IsOutOfReach (Self.value_of self.now) (Self.candidates self.now) set free left least)
             (IsReaching (Self.value_of self.now) (Self.candidates self.now) set free left least) };
 
-    /// Lists committees of k with the greatest value, or leaves this to `find` if too many tie under most elections.
+    /// Lists the committees of k with the greatest value, each once: all of them, or `MOST_TIED` of them if there are
+    /// more. Returns `None` if they are left to `find`, as under a rule by which too many tie in most elections.
     fn tied(&self, k: u8) -> Option<Tied>
         requires some { 1 ≤ k }
         requires fits { k ≤ Self.candidates self.now }

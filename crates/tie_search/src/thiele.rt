@@ -115,8 +115,7 @@ impl<'a, A: Allocator + Copy> Tally for ThieleSearch<'a, A> {
         let Some(prices) = &self.aids.prices else {
             return None;
         };
-        prices.committee.valid();
-        let committee = prices.committee.upto(self.values.m());
+        let committee = CandSet::all(self.values.m()).common(prices.committee);
         if committee.len() != k {
             return None;
         }

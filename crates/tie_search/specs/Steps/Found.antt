@@ -1,7 +1,7 @@
 -- Steps of a search that lists committees.
 use Rattle.std.specs.Prelude.{◌≡◌, ℕ, ◌+◌, ◌⊎◌, ◌<◌, ◌≤◌, List}
 use Rattle.tie_search.specs.Completions.{IsCompletion}
-use Rattle.tie_search.specs.Tied.{IsAmong, most_tied}
+use Rattle.tie_search.specs.Tied.{AreDistinct, IsAmong, most_tied}
 use Rattle.tie_search.specs.declared.found.Found.{Found}
 use Rattle.tie_search.specs.declared.found.Wanted.TheVariants.{All}
 
@@ -12,15 +12,31 @@ IsListed found = IsAmong found.committees found.len
 abbrev pub IsSettled : (List ℕ → ℕ) → Found → List ℕ → Type 0
 IsSettled value found committee = (value committee < found.least) ⊎ IsListed found committee
 
--- those listed have the same value, and no less is looked for
+-- Those listed are distinct and have the same value, and no less is looked for. If this value is not looked for any
+-- more, the list is full.
 pub record AreListed (value : List ℕ → ℕ) (found : Found) : Type 0 where
   pub few : found.len ≤ most_tied
   pub same : (committee : List ℕ) → IsListed found committee → value committee ≡ found.value
   pub low : 1 ≤ found.len → found.value ≤ found.least
   pub high : found.wanted ≡ All → 1 ≤ found.len → found.least ≤ found.value + 1
+  pub full : found.wanted ≡ All → 1 ≤ found.len → found.value < found.least → found.len ≡ most_tied
+  pub distinct : AreDistinct found.committees found.len
 
--- Only such committees were added as are named, and of at least the value that was looked for. All that was settled
--- still is.
+-- all committees are wanted, but the value of those that are listed is not looked for any more
+abbrev pub LeavesOut : Found → Type 0
+LeavesOut found = (found.wanted ≡ All) × (1 ≤ found.len) × (found.value < found.least)
+
+-- the committee has the value of those listed, and is not listed
+abbrev pub IsLeftOut : (List ℕ → ℕ) → Found → List ℕ → Type 0
+IsLeftOut value found committee = (value committee ≡ found.value) × (IsListed found committee → ⊥)
+
+-- those left out before still are
+abbrev pub StillLeavesOut : (List ℕ → ℕ) → Found → Found → Type 0
+StillLeavesOut value before after =
+    LeavesOut before × ((committee : List ℕ) → IsLeftOut value before committee → IsLeftOut value after committee)
+
+-- Only such committees were added, or left out, as are named, and of at least the value that was looked for. All that
+-- was settled still is.
 pub record Advances (value : List ℕ → ℕ) (IsNew : List ℕ → Type 0) (before after : Found) : Type 0 where
   pub valid : AreListed value after
   pub wanted : after.wanted ≡ before.wanted
@@ -29,6 +45,13 @@ pub record Advances (value : List ℕ → ℕ) (IsNew : List ℕ → Type 0) (be
   pub new : (committee : List ℕ) → IsListed after committee
       → IsListed before committee ⊎ (IsNew committee × (before.least ≤ value committee))
   pub none : after.len ≡ 0 → (before.len ≡ 0) × (after.least ≡ before.least)
+  pub more : LeavesOut after
+      → StillLeavesOut value before after ⊎ ((committee : List ℕ) × IsNew committee × IsLeftOut value after committee)
+
+-- no committee that completes the set is listed yet
+abbrev pub AreNew : ℕ → List ℕ → List ℕ → ℕ → Found → Type 0
+AreNew m set free left found =
+    (committee : List ℕ) → IsCompletion m set free left committee → IsListed found committee → ⊥
 
 -- all completions of the set were searched
 pub record AreSearched (value : List ℕ → ℕ) (m : ℕ) (set free : List ℕ) (left : ℕ) (before after : Found) : Type 0

@@ -1,6 +1,8 @@
 -- What a tally by search keeps.
 use Rattle.std.specs.Prelude.{◌≡◌, ℕ, ◌<◌, ◌≤◌, List, length, Option, MatchOption, ⊤}
+use Rattle.ballot_base.specs.Ballots.{IsElection}
 use Rattle.ballot_base.specs.Clones.{AreClones}
+use Rattle.ballot_base.specs.Limits.{most_candidates, most_members}
 use Rattle.ballot_base.specs.Lists.{IsIncreasing}
 use Rattle.tie_walk.specs.Values.{Thiele}
 use Rattle.tie_walk.specs.Winners.{best_value}
@@ -10,26 +12,31 @@ use Rattle.tie_search.specs.declared.search.Aids.{Aids}
 use Rattle.tie_search.specs.Steps.Columns.{AreColumnsOf}
 use Rattle.tie_search.specs.Steps.Paired.{HasSums}
 use Rattle.tie_search.specs.Steps.Priced.{IsPriced}
-use Rattle.tie_search.specs.Tied.{AreTied}
+use Rattle.tie_search.specs.Tied.{AreBest}
 
 -- the columns are those of the election, where they are kept
 abbrev pub KeepsColumns : Thiele → Option Columns → Type 0
 KeepsColumns tally columns = MatchOption columns ⊤ (λ kept.
     AreColumnsOf tally kept.blocks kept.used kept.weights kept.levels)
 
--- what a search is helped by is of the election
+-- the values are those of an election, and what a search is helped by is of it
 pub record IsAided (tally : Thiele) (aids : Aids) : Type 0 where
+  pub election : IsElection tally.election
+  pub size : tally.k ≤ most_members
   pub clones : AreClones tally.election.m tally.election.rows aids.clones
   pub columns : KeepsColumns tally aids.columns
   pub prices : IsPriced tally aids.prices
   pub sums : HasSums tally aids.sums
 
--- what is true of each tally by search: committees with the greatest value are listed
-pub record IsSearched (value : List ℕ → ℕ) (m k best : ℕ) (tied : Tied) : Type 0 where
+-- what is true of each tally by search: it knows how many candidates there are, and committees with the greatest value
+-- are listed
+pub record IsSearched (value : List ℕ → ℕ) (candidates m k best : ℕ) (tied : Tied) : Type 0 where
+  pub size : m ≡ candidates
+  pub most : candidates ≤ most_candidates
   pub some : 1 ≤ k
-  pub fits : k ≤ m
-  pub best_is : best ≡ best_value value m k
-  pub listed : AreTied value m k tied
+  pub fits : k ≤ candidates
+  pub best_is : best ≡ best_value value candidates k
+  pub listed : AreBest value candidates k tied
 
 -- a committee of k of the candidates 1 to m with a greater value
 pub record IsBetter (value : List ℕ → ℕ) (m k : ℕ) (committee better : List ℕ) : Type 0 where

@@ -12,5 +12,5 @@ returns-then-best-self g c =
     let least : t.best ≡ best_value (g.S.Tally.value_of s.search) (g.S.Tally.candidates s.search) s.k =
     c.self.invariant.best_is ∙ ap (λ (x : Exact g.row.S.Denot). best_value (g.S.Tally.value_of x.search) (g.S.Tally.candidates x.search) x.k) c.self.view_is in
     reached-to (g.S.Tally.value_of s.search) (g.S.Tally.bound_of s.search) (g.S.Tally.candidates s.search) s.k c.args.c c.args.set c.args.left
-    c.requires.within c.requires.candidates c.requires.fits (omega (arith, size, c.len.ensures.count, c.if-len-left.true))
+    c.requires.within c.requires.candidates c.requires.fits (omega (arith, size, c.len.ensures.count, c.if-self-len.true))
     c.args.best c.reached_upto.result (c.if-best-self.true ∙ least) c.reached_upto.ensures.witnessed c.reached_upto.ensures.none

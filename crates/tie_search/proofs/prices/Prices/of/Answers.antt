@@ -1,8 +1,8 @@
 use Rattle.std.proofs.Common.{◌≤◌, ◌*◌, subst, get_or}
 use Rattle.tie_search.proofs.prices.Prices.of.Goals as goal
 
-pub returns : goal.returns
-returns g c = record {
+pub returns-clause-prices : goal.returns-clause-prices
+returns-clause-prices g c = record {
   weights = c.in_ok-weights.weights;
   multiplier = λ i. get_or c.chosen-committee.result.0 i 0;
   some = c.in_ok-weights.ensures.0;

@@ -1,22 +1,27 @@
-use Rattle.std.proofs.Common.{◌≡◌, ℕ, ◌+◌, ◌-◌, ◌<◌, ◌∙◌, true, ap, arith, inl, inr, length, get_or}
+use Rattle.std.proofs.Common.{◌≡◌, ℕ, ◌+◌, ◌-◌, ◌<◌, ◌∙◌, true, ap, subst, sym, arith, inl, inr, length, get_or}
 use Rattle.ballot_base.specs.Increments.{increments}
 use Rattle.ballot_base.specs.CandSet.{has_member, with_member, without_member}
 use Rattle.tie_walk.specs.Sequences.{gain}
 use Rattle.tie_search.proofs.WholeLemmas.{value-with}
 use Rattle.tie_search.specs.Completions.{IsCompletion, IsOpen, tally_value}
-use Rattle.tie_search.specs.Steps.Found.{Advances, AreSearched}
+use Rattle.tie_search.specs.Steps.Found.{Advances, AreNew, AreSearched}
 use Rattle.tie_search.specs.Steps.Near.{IsNarrowed}
 use Rattle.tie_search.proofs.PairLemmas.{length-among}
-use Rattle.tie_search.proofs.CompletionLemmas.{completion-back, member-low, member-high, open-with, open-without, without-is, without-shorter}
+use Rattle.tie_search.proofs.CompletionLemmas.{completion-back, completion-self, member-low, member-high, open-with, open-without, without-is, without-shorter}
 use Rattle.tie_search.proofs.SearchLemmas.{AreLeft, node-none, not-true, value-most}
-use Rattle.tie_search.proofs.FoundLemmas.{AreSettledBut, advances-none, advances-on, set-offered, settled-all, settled-narrowed, settled-with, settled-without, still-settled}
+use Rattle.tie_search.proofs.FoundLemmas.{AreSettledBut, advances-none, advances-on, new-among, new-with, new-without, set-offered, settled-all, settled-narrowed, settled-with, settled-without, still-settled}
 use Rattle.tie_search.proofs.KeptLemmas.{kept-left, open-among}
 use Rattle.tie_search.proofs.search.Search.+descend.Goals as goal
 use Rattle.tie_search.proofs.search.Search.+descend.Goals.{After-descend, After-untried-untried, In-Some-eligible}
 
 pub offer-requires : goal.offer-requires
 offer-requires g t c =
-    record { small = omega (arith, c.requires.value, value-most c.args.self.now.tally.now c.args.node.set c.valid.ensures.election c.valid.ensures.size) }
+    let m = c.args.self.now.tally.now.election.m in
+    let self' : IsCompletion m c.args.node.set c.args.node.free 0 c.args.node.set = completion-self m c.args.node.set c.args.node.free c.requires.opened in
+    record {
+      small = omega (arith, c.requires.value, value-most c.args.self.now.tally.now c.args.node.set c.requires.aids.election c.requires.aids.size);
+      new = c.requires.new c.args.node.set (subst (λ n. IsCompletion m c.args.node.set c.args.node.free n c.args.node.set) (sym c.if-left-eq0.true) self');
+    }
 
 pub returns-then-left-eq0 : goal.returns-then-left-eq0
 returns-then-left-eq0 g t c =
@@ -32,6 +37,7 @@ loop-set-init g t c =
     record {
       opened = narrowed.opened;
       among = λ n h. h;
+      new = new-among tally.election.m c.args.node.set c.args.node.free c.in-Some.eligible c.args.node.left c.args.found.now narrowed.among c.requires.new;
       advances = advances-none (tally_value tally) (IsCompletion tally.election.m c.args.node.set c.args.node.free c.args.node.left) c.args.found.now c.requires.listed;
       settled = settled-narrowed (tally_value tally) tally.election.m c.args.node.set c.args.node.left c.args.node.free c.args.node.free c.in-Some.eligible c.args.found.now
           (λ committee whole. inr whole) narrowed;
@@ -45,7 +51,7 @@ pub with-tried-requires-clause-high : goal.with-tried-requires-clause-high
 with-tried-requires-clause-high g t c =
     omega (
       arith,
-      c.valid.ensures.election.most,
+      c.requires.aids.election.most,
       member-high 1 c.args.self.now.tally.now.election.m c.loop-set.rest c.in-Some-first_of.next c.loop-set.invariant.opened.free_within c.in-Some-first_of.ensures,
     )
 
@@ -53,7 +59,7 @@ pub bounds-gains-from : goal.bounds-gains-from
 bounds-gains-from g t c =
     omega (
       arith,
-      c.valid.ensures.election.most,
+      c.requires.aids.election.most,
       member-high 1 c.args.self.now.tally.now.election.m c.loop-set.rest c.in-Some-first_of.next c.loop-set.invariant.opened.free_within c.in-Some-first_of.ensures,
       c.from.ensures,
     )
@@ -63,7 +69,7 @@ overflow_add-joined g t c =
     omega (
       arith,
       c.requires.value,
-      value-most c.args.self.now.tally.now c.args.node.set c.valid.ensures.election c.valid.ensures.size,
+      value-most c.args.self.now.tally.now c.args.node.set c.requires.aids.election c.requires.aids.size,
       c.gains_at-gains.ensures.small c.from.result,
     )
 
@@ -81,14 +87,17 @@ descend-requires g t c κs within =
     (c.promising-kept.ensures.within m (rw c.without-others.ensures opened.free_within))
     (rw c.without-others.ensures at c.promising-kept.ensures.among) in
     let gained : tally_value tally (with_member set next) ≡ tally_value tally set + gain weights tally.election.rows set next =
-    value-with tally set next c.valid.ensures.election (c.loop-set.invariant.opened.apart next c.in-Some-first_of.ensures) in
+    value-with tally set next c.requires.aids.election (c.loop-set.invariant.opened.apart next c.in-Some-first_of.ensures) in
     let same : get_or c.gains_at-gains.result c.from.result 0 ≡ gain weights tally.election.rows set next =
     ap (λ n. get_or c.gains_at-gains.result n 0) c.from.ensures
     ∙ c.gains_at-gains.ensures.gains next (c.loop-set.invariant.among next c.in-Some-first_of.ensures) in
     let value : c.args.node.value + get_or c.gains_at-gains.result c.from.result 0 ≡ tally_value tally (with_member set next) =
-    omega (arith, gained, same, c.requires.value) in (
+    omega (arith, gained, same, c.requires.value) in
+    let new : AreNew m (with_member set next) c.promising-kept.result (c.args.node.left - 1) c.loop-set.found =
+    new-with m set rest c.promising-kept.result c.args.node.left next c.loop-set.found (omega (arith, c.if-left-eq0.false)) c.loop-set.invariant.opened c.in-Some-first_of.ensures
+    (λ n is. without-is rest next n (rw c.without-others.ensures at (c.promising-kept.ensures.among n is))) c.loop-set.invariant.new in (
       omega (arith, c.if-left-eq0.false, c.decreases),
-      (within, (c.requires.ballots, (c.requires.aids, (rw c.with-tried.ensures fewer, (rw c.with-tried.ensures value, c.loop-set.invariant.advances.valid))))),
+      (within, (c.requires.ballots, (c.requires.aids, (rw c.with-tried.ensures fewer, (rw c.with-tried.ensures value, (c.loop-set.invariant.advances.valid, rw c.with-tried.ensures new)))))),
     )
 
 pub untried-untried-requires-clause-candidate : goal.untried-untried-requires-clause-candidate
@@ -154,7 +163,7 @@ left-over g t c =
     let after = c.descend.new.found in
     let opened = c.loop-set.invariant.opened in
     let kept : AreLeft (tally_value tally) m (with_member set next) (left - 1) before.least (without_member rest next) c.promising-kept.result =
-    kept-left tally set rest next (left - 1) before.least gains c.promising-kept.result c.valid.ensures.election c.valid.ensures.size opened c.in-Some-first_of.ensures
+    kept-left tally set rest next (left - 1) before.least gains c.promising-kept.result c.requires.aids.election c.requires.aids.size opened c.in-Some-first_of.ensures
     (λ n here. c.gains_at-gains.ensures.gains n (c.loop-set.invariant.among n here))
     (λ n here reaches. c.promising-kept.ensures.kept n (rw c.without-others.ensures here) (λ s. rw c.without-others.ensures (omega (
       arith,
@@ -164,7 +173,7 @@ left-over g t c =
       ap (λ n. get_or gains n 0) c.from.ensures,
     )))) in
     let child : AreSearched (tally_value tally) m (with_member set next) c.promising-kept.result (left - 1) before after = rw c.with-tried.ensures at c.descend.ensures in
-    settled-without tally set left free rest c.untried-untried.result next after c.valid.ensures.election opened c.in-Some-first_of.ensures
+    settled-without tally set left free rest c.untried-untried.result next after c.requires.aids.election opened c.in-Some-first_of.ensures
     (λ committee whole. elim (c.loop-set.invariant.settled committee whole) [
       | inl settled ↦ inl (still-settled (tally_value tally) (IsCompletion m (with_member set next) c.promising-kept.result (left - 1)) before after committee child.advances settled)
       | inr open' ↦ inr open'
@@ -213,6 +222,7 @@ loop-set-smaller-then-sees_pairs g t c = fewer-left g t (goal.at.loop-set-smalle
 record AreLeftOver (g : _) (t : _) (c : In-Some-eligible g t) : Type 0 where
   opened : IsOpen c.args.self.now.tally.now.election.m c.args.node.set c.in-Some-eligible.eligible
   among : (n : ℕ) → has_member c.in-Some-eligible.eligible n ≡ true → has_member c.in-Some.eligible n ≡ true
+  new : AreNew c.args.self.now.tally.now.election.m c.args.node.set c.in-Some-eligible.eligible c.args.node.left c.descend.new.found
   settled : AreSettledBut (tally_value c.args.self.now.tally.now) c.args.self.now.tally.now.election.m c.args.node.set c.args.node.left c.args.node.free c.in-Some-eligible.eligible c.descend.new.found
 
 left-eligible : (g : _) (t : _) (c : In-Some-eligible g t) → AreLeftOver g t c
@@ -221,9 +231,13 @@ left-eligible g t c =
     let rest = c.loop-set.rest in
     let next = c.in-Some-first_of.next in
     let over = narrowed-over g t c in
+    let child : Advances (tally_value tally) (IsCompletion tally.election.m (with_member c.args.node.set next) c.promising-kept.result (c.args.node.left - 1)) c.loop-set.found c.descend.new.found =
+    rw c.with-tried.ensures at c.descend.ensures.advances in
     record {
       opened = over.opened;
       among = λ n h. c.loop-set.invariant.among n (without-is rest next n (rw c.without-others.ensures at (c.untried-untried.ensures.among n (over.among n h))));
+      new = new-without (tally_value tally) tally.election.m c.args.node.set rest c.promising-kept.result c.in-Some-eligible.eligible c.args.node.left next c.loop-set.found c.descend.new.found
+          c.loop-set.invariant.opened c.in-Some-first_of.ensures (λ n h. rw c.without-others.ensures at (c.untried-untried.ensures.among n (over.among n h))) child c.loop-set.invariant.new;
       settled = settled-narrowed (tally_value tally) tally.election.m c.args.node.set c.args.node.left c.args.node.free c.untried-untried.result c.in-Some-eligible.eligible c.descend.new.found
           (left-over g t (goal.at.In-Some-eligible g t c).After-untried-untried) over;
     }
@@ -231,12 +245,12 @@ left-eligible g t c =
 pub loop-set-preserved : goal.loop-set-preserved
 loop-set-preserved g t c =
     let over = left-eligible g t (goal.at.loop-set-preserved g t c).In-Some-eligible in
-    record { opened = over.opened; among = over.among; advances = advanced g t (goal.at.loop-set-preserved g t c).After-descend; settled = over.settled }
+    record { opened = over.opened; among = over.among; new = over.new; advances = advanced g t (goal.at.loop-set-preserved g t c).After-descend; settled = over.settled }
 
 pub loop-set-preserved-then-sees_pairs : goal.loop-set-preserved-then-sees_pairs
 loop-set-preserved-then-sees_pairs g t c =
     let over = left-eligible g t (goal.at.loop-set-preserved-then-sees_pairs g t c).In-Some-eligible in
-    record { opened = over.opened; among = over.among; advances = advanced g t (goal.at.loop-set-preserved-then-sees_pairs g t c).After-descend; settled = over.settled }
+    record { opened = over.opened; among = over.among; new = over.new; advances = advanced g t (goal.at.loop-set-preserved-then-sees_pairs g t c).After-descend; settled = over.settled }
 
 pub returns : goal.returns
 returns g t c =
@@ -245,7 +259,7 @@ returns g t c =
     record {
       advances = c.loop-set.invariant.advances;
       settled = settled-all (tally_value tally) tally.election.m set c.args.node.left c.args.node.free c.loop-set.rest c.loop-set.found c.loop-set.invariant.settled
-          (node-none tally set c.loop-set.rest c.args.node.left c.loop-set.found.least c.valid.ensures.election c.valid.ensures.size c.loop-set.invariant.opened
+          (node-none tally set c.loop-set.rest c.args.node.left c.loop-set.found.least c.requires.aids.election c.requires.aids.size c.loop-set.invariant.opened
           c.threshold.result c.gains_at-gains.result (λ n h. c.gains_at-gains.ensures.gains n (c.loop-set.invariant.among n h))
           (λ both. not-true c.may_reach.result c.loop-set-test.false (c.may_reach.ensures.1 (
             both.0,

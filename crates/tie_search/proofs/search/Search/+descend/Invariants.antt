@@ -1,7 +1,7 @@
 use Rattle.std.proofs.Common.{◌≡◌, ℕ, true, length}
 use Rattle.ballot_base.specs.CandSet.{has_member}
 use Rattle.tie_search.specs.Completions.{IsCompletion, IsOpen, tally_value}
-use Rattle.tie_search.specs.Steps.Found.{Advances}
+use Rattle.tie_search.specs.Steps.Found.{Advances, AreNew}
 use Rattle.tie_search.proofs.FoundLemmas.{AreSettledBut}
 use Rattle.tie_search.proofs.search.Search.+descend.Given as goal
 
@@ -14,6 +14,7 @@ invariant-loop-set g l = record {
   opened : IsOpen l.self.tally.now.election.m l.set l.rest;
   among : (n : ℕ) → has_member l.rest n ≡ true → has_member l.initial.rest n ≡ true;
   advances : Advances (tally_value l.self.tally.now) (IsCompletion l.self.tally.now.election.m l.set l.fn.node.free l.left) l.fn.found l.found;
+  new : AreNew l.self.tally.now.election.m l.set l.rest l.left l.found;
   settled : AreSettledBut (tally_value l.self.tally.now) l.self.tally.now.election.m l.set l.left l.fn.node.free l.rest l.found;
 }
 

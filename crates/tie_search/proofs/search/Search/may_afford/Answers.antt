@@ -18,7 +18,7 @@ returns g c short committee whole =
     let are : ArePrices tally c.in-Some.prices.unit c.in-Some.prices.base worths = rw c.in-Some.is at c.requires.aids.prices in
     let bound : scale * thiele_value are.weights tally.election.rows committee
     ≤ c.in-Some.prices.base + sum_by (λ n. get_or worths n 0 - 0) c.args.set + c.args.left * t + sum_by (λ n. get_or worths n 0 - t) c.args.free =
-    prices-bound tally c.in-Some.prices.unit c.in-Some.prices.base worths c.args.set c.args.free c.args.left t committee are c.valid.ensures.election c.requires.opened whole in
+    prices-bound tally c.in-Some.prices.unit c.in-Some.prices.base worths c.args.set c.args.free c.args.left t committee are c.requires.aids.election c.requires.opened whole in
     elim (cases_lt (tally_value tally committee) c.args.self.now.least) [
       | inl low ↦ low
       | inr high ↦

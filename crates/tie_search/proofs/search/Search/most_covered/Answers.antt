@@ -10,6 +10,6 @@ returns-in-Some g c =
     let kept : AreColumnsOf tally c.in-Some.columns.blocks c.in-Some.columns.used c.in-Some.columns.weights c.in-Some.columns.levels = rw c.in-Some.is at c.requires.aids.columns in
     omega (
       arith,
-      columns-cover tally c.in-Some.columns.blocks c.in-Some.columns.used c.in-Some.columns.levels c.in-Some.columns.weights c.args.set kept c.valid.ensures.size c.requires.rule,
-      c.covered.ensures (voters_of tally.election.rows) kept.columns (voters-rising tally.election.m tally.election.rows c.valid.ensures.election.most c.valid.ensures.election.ballots),
+      columns-cover tally c.in-Some.columns.blocks c.in-Some.columns.used c.in-Some.columns.levels c.in-Some.columns.weights c.args.set kept c.requires.aids.size c.requires.rule,
+      c.covered.ensures (voters_of tally.election.rows) kept.columns (voters-rising tally.election.m tally.election.rows c.requires.aids.election.most c.requires.aids.election.ballots),
     )

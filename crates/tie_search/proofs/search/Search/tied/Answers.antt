@@ -1,5 +1,5 @@
 use Rattle.std.proofs.Common.{◌∙◌, [], refl, ap, arith}
-use Rattle.std.proofs.lemmas.Bool.{eqb-true}
+use Rattle.std.proofs.lemmas.Bool.{eqb-false, eqb-true}
 use Rattle.ballot_base.specs.CandSet.{has_member}
 use Rattle.ballot_base.specs.Lists.{IsIncreasing}
 use Rattle.tie_walk.proofs.LawLemmas.{IsIncreasing-range}
@@ -24,3 +24,4 @@ returns g c =
     all-tied (tally_value tally) tally.election.m c.args.k c.all-all.result c.nothing-found.result c.descend.new.found searched c.nothing-found.ensures.none c.nothing-found.ensures.wanted
     c.requires.fits (λ n low high. ap (λ l. has_member l n) c.all-all.ensures ∙ has_member-range 1 c.m.result n low (omega (arith, high, c.m.ensures.value)))
     (omega (arith, c.nothing-found.ensures.least, c.requires.least)) _ (λ is. eqb-true c.descend.new.found.least c.descend.new.found.value is)
+    (λ is. eqb-false c.descend.new.found.least c.descend.new.found.value is)

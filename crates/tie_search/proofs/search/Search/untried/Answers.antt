@@ -14,7 +14,7 @@ in-class others class_ n here gone = by (has_member class_ n) (has_member others
     by false false h e = absurd cc
 
 pub class-requires : goal.class-requires
-class-requires g c = omega (arith, c.requires.candidate, c.valid.ensures.election.most)
+class-requires g c = omega (arith, c.requires.candidate, c.requires.aids.election.most)
 
 pub returns-clause-within : goal.returns-clause-within
 returns-clause-within g c m up = rw c.minus.ensures (IsIncreasing-filter (λ y. not (has_member c.class.result y)) 1 m c.args.others up)
