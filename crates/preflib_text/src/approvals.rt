@@ -4,8 +4,8 @@ ghost use Rattle.ballot_base.specs.Limits.{most_candidates};
 ghost use Rattle.ballot_base.specs.Lists.{IsIncreasing};
 ghost use Rattle.preflib_text.specs.Limits.{word_limit};
 ghost use Rattle.preflib_text.specs.Reading.{is_strict, is_complete};
-ghost use Rattle.preflib_text.specs.Steps.Marks.{no_marks, taking_of, takes, is_past, wrong_with, with_new, with_number, with_end};
-ghost use Rattle.preflib_text.specs.Steps.Marks.{fault_of};
+ghost use Rattle.preflib_text.specs.Steps.Marks.{no_marks, taking_of, takes, is_past, wrong_with, with_new};
+ghost use Rattle.preflib_text.specs.Steps.Marks.{with_number, with_end, fault_of};
 
 use crate::fault::FaultName;
 use crate::pick::{Kind, Way};
@@ -35,6 +35,23 @@ impl Taking {
             Way::Classes(n) => Taking::Classes(n),
         }
     }
+}
+
+/// What the numbers of a ballot are read by: the number of candidates, and which numbers are taken.
+#[derive(Clone, Copy)]
+pub(crate) struct Terms {
+    pub(crate) m: u8,
+    pub(crate) taking: Taking,
+    ghost few: { m ≤ most_candidates },
+}
+
+/// What the lines before the ballots have told of them.
+#[derive(Clone, Copy)]
+pub(crate) struct Header {
+    pub(crate) kind: Kind,
+    pub(crate) m: u8,
+    pub(crate) categories: Option<u64>,
+    ghost few: { m ≤ most_candidates },
 }
 
 /// What is noted of the classes of a ballot so far.
@@ -126,17 +143,16 @@ impl Marks {
     }
 
     /// Adds a number to the class that comes.
-    pub(crate) fn add_number(&mut self, m: u8, taking: Taking, n: u64)
-        requires candidates { m ≤ most_candidates }
+    pub(crate) fn add_number(&mut self, terms: Terms, n: u64)
         requires classes { self.old.classes + 1 < word_limit }
         requires numbers { self.old.numbers + 1 < word_limit }
-        ensures { self.new ≡ with_number m taking self.old n }
+        ensures { self.new ≡ with_number terms.m terms.taking self.old n }
     {
-        self.wrong = self.wrong_with(m, n);
+        self.wrong = self.wrong_with(terms.m, n);
         if self.wrong.is_some() {
             self.numbers += 1;
         } else {
-            self.add_new(n, self.takes(taking));
+            self.add_new(n, self.takes(terms.taking));
         }
     }
 
@@ -153,14 +169,8 @@ impl Marks {
     }
 
     /// What is wrong with the ballot of this count.
-    pub(crate) fn fault(
-        &self,
-        kind: Kind,
-        m: u8,
-        categories: Option<u64>,
-        count: u64,
-    ) -> Option<FaultName>
-        ensures { result ≡ fault_of kind m categories count self.now }
+    pub(crate) fn fault(&self, header: Header, count: u64) -> Option<FaultName>
+        ensures { result ≡ fault_of header.kind header.m header.categories count self.now }
     {
         if count == 0 || count > MOST_VOTERS {
             return Some(FaultName::BadCount);
@@ -168,13 +178,13 @@ impl Marks {
         if self.wrong.is_some() {
             return self.wrong;
         }
-        if is_strict(kind) && !self.strict {
+        if is_strict(header.kind) && !self.strict {
             return Some(FaultName::NotStrict);
         }
-        if is_complete(kind) && self.seen.len() < m {
+        if is_complete(header.kind) && self.seen.len() < header.m {
             return Some(FaultName::Incomplete);
         }
-        match (kind, categories) {
+        match (header.kind, header.categories) {
             (Kind::Cat, Some(most)) if self.classes > most => Some(FaultName::TooManyClasses),
             _ => None,
         }

@@ -17,11 +17,11 @@ ghost use Rattle.preflib_text.specs.Steps.Tokens.{next_place, is_end, order_at, 
 ghost use Rattle.preflib_text.specs.Steps.Marks.{no_marks, takes, is_past, with_classes, with_read, IsReadOn};
 ghost use Rattle.preflib_text.specs.Steps.Answers.{HasMarks, IsGoodBallot, IsBallotFault};
 
-use crate::approvals::{Marks, Taking};
+use crate::approvals::{Header, Marks, Taking, Terms};
 use crate::fault::FaultName;
 use crate::limits::ABOVE;
 use crate::lines::trim_start;
-use crate::pick::{Kind, Way};
+use crate::pick::Way;
 use ballot_base::CandSet;
 
 /// A part of a ballot line.
@@ -52,17 +52,23 @@ enum OrderPlace {
     Listed,
 }
 
+/// How far an order was read: the place that was reached, and what is left of the text.
+#[derive(Clone, Copy)]
+struct Position<'a> {
+    place: OrderPlace,
+    rest: &'a [u8],
+}
+
 impl OrderPlace {
     /// The place after a token, if it may come here. Its number, or the end of its class, goes into the marks.
-    fn after(self, token: Token, marks: &mut Marks, m: u8, taking: Taking) -> Option<OrderPlace>
-        requires candidates { m ≤ most_candidates }
+    fn after(self, token: Token, marks: &mut Marks, terms: Terms) -> Option<OrderPlace>
         requires classes { marks.old.classes + 1 < word_limit }
         requires numbers { marks.old.before + marks.old.numbers + 1 < word_limit }
         ensures place { result ≡ next_place self token }
-        ensures marks { marks.new ≡ with_read m taking self token marks.old }
+        ensures marks { marks.new ≡ with_read terms.m terms.taking self token marks.old }
     {
         match token {
-            Token::Number(n) => self.after_number(n, marks, m, taking),
+            Token::Number(n) => self.after_number(n, marks, terms),
             Token::Open => match self {
                 OrderPlace::Order | OrderPlace::Class => Some(OrderPlace::Opened),
                 _ => None,
@@ -84,21 +90,20 @@ impl OrderPlace {
     }
 
     /// The place after a number, if it may come here.
-    fn after_number(self, n: u64, marks: &mut Marks, m: u8, taking: Taking) -> Option<OrderPlace>
-        requires candidates { m ≤ most_candidates }
+    fn after_number(self, n: u64, marks: &mut Marks, terms: Terms) -> Option<OrderPlace>
         requires classes { marks.old.classes + 1 < word_limit }
         requires numbers { marks.old.before + marks.old.numbers + 1 < word_limit }
         ensures place { result ≡ next_place self (Token.Number n) }
-        ensures marks { marks.new ≡ with_read m taking self (Token.Number n) marks.old }
+        ensures marks { marks.new ≡ with_read terms.m terms.taking self (Token.Number n) marks.old }
     {
         match self {
             OrderPlace::Order | OrderPlace::Class => {
-                marks.add_number(m, taking, n);
+                marks.add_number(terms, n);
                 marks.end_class();
                 Some(OrderPlace::Between)
             }
             OrderPlace::Opened | OrderPlace::Inner => {
-                marks.add_number(m, taking, n);
+                marks.add_number(terms, n);
                 Some(OrderPlace::Listed)
             }
             OrderPlace::Between | OrderPlace::Listed => None,
@@ -107,95 +112,91 @@ impl OrderPlace {
 
     /// The place after a number and a comma, if they may come here. The number, or the end of its class, goes into the
     /// marks.
-    fn after_listed(self, n: u64, marks: &mut Marks, m: u8, taking: Taking) -> Option<OrderPlace>
-        requires candidates { m ≤ most_candidates }
+    fn after_listed(self, n: u64, marks: &mut Marks, terms: Terms) -> Option<OrderPlace>
         requires classes { marks.old.classes + 1 < word_limit }
         requires numbers { marks.old.before + marks.old.numbers + 1 < word_limit }
         ensures place { result ≡ option_and_then (λ place. next_place place Token.Comma)
             (next_place self (Token.Number n)) }
-        ensures marks { marks.new ≡ with_read m taking self (Token.Number n) marks.old }
+        ensures marks { marks.new ≡ with_read terms.m terms.taking self (Token.Number n) marks.old }
     {
         match self {
             OrderPlace::Order | OrderPlace::Class => {
-                marks.add_number(m, taking, n);
+                marks.add_number(terms, n);
                 marks.end_class();
                 Some(OrderPlace::Class)
             }
             OrderPlace::Opened | OrderPlace::Inner => {
-                marks.add_number(m, taking, n);
+                marks.add_number(terms, n);
                 Some(OrderPlace::Inner)
             }
             OrderPlace::Between | OrderPlace::Listed => None,
         }
     }
 
-    /// Reads the common numbers that come at this place. Returns the place after them, and what is left of the text.
-    fn read_on<'a>(
-        self,
-        text: &'a [u8],
-        marks: &mut Marks,
-        m: u8,
-        taking: Taking,
-    ) -> (OrderPlace, &'a [u8])
-        requires candidates { m ≤ most_candidates }
+    /// Reads the common numbers that come at this place. Returns the position after them.
+    fn read_on<'a>(self, text: &'a [u8], marks: &mut Marks, terms: Terms) -> Position<'a>
         requires classes { marks.old.classes + length text.now + 1 < word_limit }
         requires numbers { marks.old.before + marks.old.numbers + length text.now + 1 < word_limit }
-        ensures { IsReadOn m taking self text.now marks.old result.0 result.1.now marks.new }
+        ensures { IsReadOn terms.m terms.taking self text.now marks.old result.place result.rest.now marks.new }
     {
-        let (place, rest) = match self {
-            OrderPlace::Opened | OrderPlace::Inner => self.read_braces(text, marks, m, taking),
-            _ => (self, text),
+        let inside = match self {
+            OrderPlace::Opened | OrderPlace::Inner => self.read_braces(text, marks, terms),
+            _ => Position {
+                place: self,
+                rest: text,
+            },
         };
-        match place {
-            OrderPlace::Class => read_classes(rest, marks, m, taking),
-            _ => (place, rest),
+        match inside.place {
+            OrderPlace::Class => read_classes(inside.rest, marks, terms),
+            _ => inside,
         }
     }
 
     /// Reads on between braces like `read_members`, on marks of its own, which the compiler keeps in registers.
     #[inline(never)]
-    fn read_braces<'a>(
-        self,
-        text: &'a [u8],
-        marks: &mut Marks,
-        m: u8,
-        taking: Taking,
-    ) -> (OrderPlace, &'a [u8])
-        requires candidates { m ≤ most_candidates }
+    fn read_braces<'a>(self, text: &'a [u8], marks: &mut Marks, terms: Terms) -> Position<'a>
         requires classes { marks.old.classes + length text.now + 1 < word_limit }
         requires numbers { marks.old.before + marks.old.numbers + length text.now + 1 < word_limit }
         requires inside { next_place self (Token.Number 0) ≡ Some OrderPlace.Listed }
-        ensures { IsReadOn m taking self text.now marks.old result.0 result.1.now marks.new }
+        ensures { IsReadOn terms.m terms.taking self text.now marks.old result.place result.rest.now marks.new }
     {
         let mut read = *marks;
-        let taken = read.takes(taking);
-        let (place, rest) = self.read_members(text, &mut read, m, taken);
+        let taken = read.takes(terms.taking);
+        let start = Position {
+            place: self,
+            rest: text,
+        };
+        let end = start.read_members(&mut read, terms.m, taken);
         *marks = read;
-        (place, rest)
+        end
     }
 
+    /// Whether an order may end here.
+    fn is_end(self) -> bool
+        ensures { result ≡ is_end self }
+    {
+        matches!(self, OrderPlace::Order | OrderPlace::Between)
+    }
+}
+
+impl<'a> Position<'a> {
     /// Reads numbers between braces, taken or not, that have a comma or the closing brace right after each, as long as
-    /// nothing is wrong with them. A comma right after the closing brace is read, too. Returns the place after them,
-    /// and what is left of the text.
+    /// nothing is wrong with them. A comma right after the closing brace is read, too. Returns the position after them.
     #[inline(always)]
-    fn read_members<'a>(
-        self,
-        text: &'a [u8],
-        marks: &mut Marks,
-        m: u8,
-        taken: bool,
-    ) -> (OrderPlace, &'a [u8])
+    fn read_members(self, marks: &mut Marks, m: u8, taken: bool) -> Position<'a>
         requires candidates { m ≤ most_candidates }
-        requires classes { marks.old.classes + length text.now + 1 < word_limit }
-        requires numbers { marks.old.before + marks.old.numbers + length text.now + 1 < word_limit }
-        requires inside { next_place self (Token.Number 0) ≡ Some OrderPlace.Listed }
+        requires classes { marks.old.classes + length self.rest.now + 1 < word_limit }
+        requires numbers { marks.old.before + marks.old.numbers + length self.rest.now + 1 < word_limit }
+        requires inside { next_place self.place (Token.Number 0) ≡ Some OrderPlace.Listed }
         ensures read { (taking : Taking) → taken ≡ takes taking marks.old.classes marks.old.before
-            → IsReadOn m taking self text.now marks.old result.0 result.1.now marks.new }
+            → IsReadOn m taking self.entry.place self.entry.rest.now marks.old result.place result.rest.now marks.new }
         ensures classes { marks.old.classes ≤ marks.new.classes }
         ensures before { marks.old.before ≤ marks.new.before }
     {
-        let mut place = self;
-        let mut rest = text;
+        let Position {
+            mut place,
+            mut rest,
+        } = self;
         while let Some((n, after)) = short_number(rest) {
             let Some((is_last, after)) = past_delimiter(after) else {
                 break;
@@ -211,14 +212,7 @@ impl OrderPlace {
             place = OrderPlace::Inner;
             rest = after;
         }
-        (place, rest)
-    }
-
-    /// Whether an order may end here.
-    fn is_end(self) -> bool
-        ensures { result ≡ is_end self }
-    {
-        matches!(self, OrderPlace::Order | OrderPlace::Between)
+        Position { place, rest }
     }
 }
 
@@ -350,30 +344,37 @@ fn past_delimiter(text: &[u8]) -> Option<(bool, &[u8])>
 }
 
 /// The place after a class, or after the comma right behind it, and the text from there on.
-fn after_class(text: &[u8]) -> (OrderPlace, &[u8])
-    ensures order { order_at result.0 (tokens_of result.1.now) ≡ order_at OrderPlace.Between (tokens_of text.now) }
-    ensures shorter { length result.1.now ≤ length text.now }
+fn after_class(text: &[u8]) -> Position<'_>
+    ensures order { order_at result.place (tokens_of result.rest.now)
+        ≡ order_at OrderPlace.Between (tokens_of text.now) }
+    ensures shorter { length result.rest.now ≤ length text.now }
 {
     match after_byte(text, b',') {
-        Some(rest) => (OrderPlace::Class, rest),
-        None => (OrderPlace::Between, text),
+        Some(rest) => Position {
+            place: OrderPlace::Class,
+            rest,
+        },
+        None => Position {
+            place: OrderPlace::Between,
+            rest: text,
+        },
     }
 }
 
 /// Reads classes of one number that have a comma right after each, as long as nothing is wrong with them, once no class
 /// is taken any more. What is left of the text comes after a comma between classes, too.
 #[inline(always)]
-fn read_singles<'a>(text: &'a [u8], marks: &mut Marks, m: u8, _taking: Taking) -> &'a [u8]
-    requires candidates { m ≤ most_candidates }
+fn read_singles<'a>(text: &'a [u8], marks: &mut Marks, terms: Terms) -> &'a [u8]
     requires classes { marks.old.classes + length text.now + 1 < word_limit }
     requires numbers { marks.old.before + marks.old.numbers + length text.now + 1 < word_limit }
-    requires past { is_past _taking marks.old.classes marks.old.before ≡ true }
-    ensures read { IsReadOn m _taking OrderPlace.Class text.now marks.old OrderPlace.Class result.now marks.new }
-    ensures past { is_past _taking marks.new.classes marks.new.before ≡ true }
+    requires past { is_past terms.taking marks.old.classes marks.old.before ≡ true }
+    ensures read { IsReadOn terms.m terms.taking OrderPlace.Class text.now marks.old OrderPlace.Class result.now
+        marks.new }
+    ensures past { is_past terms.taking marks.new.classes marks.new.before ≡ true }
 {
     let mut rest = text;
     while let Some((n, after)) = listed_number(rest) {
-        if marks.wrong_with(m, n).is_some() {
+        if marks.wrong_with(terms.m, n).is_some() {
             break;
         }
         marks.add_new(n, false);
@@ -384,51 +385,52 @@ fn read_singles<'a>(text: &'a [u8], marks: &mut Marks, m: u8, _taking: Taking) -
 }
 
 /// Reads classes without blanks that have a comma right after each, as long as nothing is wrong with them, once no
-/// class is taken any more. Returns the place after them, and what is left of the text.
+/// class is taken any more. Returns the position after them.
 #[inline(never)]
-fn read_classes<'a>(
-    text: &'a [u8],
-    marks: &mut Marks,
-    m: u8,
-    taking: Taking,
-) -> (OrderPlace, &'a [u8])
-    requires candidates { m ≤ most_candidates }
+fn read_classes<'a>(text: &'a [u8], marks: &mut Marks, terms: Terms) -> Position<'a>
     requires classes { marks.old.classes + length text.now + 1 < word_limit }
     requires numbers { marks.old.before + marks.old.numbers + length text.now + 1 < word_limit }
-    ensures { IsReadOn m taking OrderPlace.Class text.now marks.old result.0 result.1.now marks.new }
+    ensures { IsReadOn terms.m terms.taking OrderPlace.Class text.now marks.old result.place result.rest.now marks.new }
 {
-    if !marks.is_past(taking) {
-        return (OrderPlace::Class, text);
+    if !marks.is_past(terms.taking) {
+        return Position {
+            place: OrderPlace::Class,
+            rest: text,
+        };
     }
     let mut read = *marks;
     let mut place = OrderPlace::Class;
-    let mut rest = read_singles(text, &mut read, m, taking);
+    let mut rest = read_singles(text, &mut read, terms);
     while let Some(inside) = after_byte(rest, b'{') {
-        (place, rest) = OrderPlace::Opened.read_members(inside, &mut read, m, false);
+        let start = Position {
+            place: OrderPlace::Opened,
+            rest: inside,
+        };
+        Position { place, rest } = start.read_members(&mut read, terms.m, false);
         let OrderPlace::Class = place else {
             break;
         };
-        rest = read_singles(rest, &mut read, m, taking);
+        rest = read_singles(rest, &mut read, terms);
     }
     *marks = read;
-    (place, rest)
+    Position { place, rest }
 }
 
 /// The marks of the classes of an order.
-fn read_order(text: &[u8], m: u8, taking: Taking) -> Option<Marks>
-    requires { m ≤ most_candidates }
-    ensures { result ≡ option_map (with_classes m taking no_marks) (order_at OrderPlace.Order (tokens_of text.now)) }
+fn read_order(text: &[u8], terms: Terms) -> Option<Marks>
+    ensures { result ≡ option_map (with_classes terms.m terms.taking no_marks)
+        (order_at OrderPlace.Order (tokens_of text.now)) }
 {
     let mut marks = Marks::new();
     let mut place = OrderPlace::Order;
     let mut rest = trim_start(text);
     loop {
         if let Some((n, after)) = listed_number(rest) {
-            place = place.after_listed(n, &mut marks, m, taking)?;
-            (place, rest) = place.read_on(after, &mut marks, m, taking);
+            place = place.after_listed(n, &mut marks, terms)?;
+            Position { place, rest } = place.read_on(after, &mut marks, terms);
         } else if let Some((token, after)) = next_token(rest) {
-            place = place.after(token, &mut marks, m, taking)?;
-            (place, rest) = place.read_on(after, &mut marks, m, taking);
+            place = place.after(token, &mut marks, terms)?;
+            Position { place, rest } = place.read_on(after, &mut marks, terms);
         } else {
             return place.is_end().then_some(marks);
         }
@@ -436,10 +438,9 @@ fn read_order(text: &[u8], m: u8, taking: Taking) -> Option<Marks>
 }
 
 /// The count and the marks of a line, if it has the shape of a ballot line.
-fn read_line(line: &[u8], m: u8, taking: Taking) -> Option<Line>
-    requires { m ≤ most_candidates }
+fn read_line(line: &[u8], terms: Terms) -> Option<Line>
     ensures { MatchOption result (ballot_of line.now ≡ None)
-        (λ read. HasMarks m taking line.now read.count read.marks) }
+        (λ read. HasMarks terms.m terms.taking line.now read.count read.marks) }
 {
     let (first, rest) = next_token(line)?;
     let Token::Number(count) = first else {
@@ -449,30 +450,27 @@ fn read_line(line: &[u8], m: u8, taking: Taking) -> Option<Line>
     let Token::Colon = second else {
         return None;
     };
-    let marks = read_order(order, m, taking)?;
+    let marks = read_order(order, terms)?;
     Some(Line { count, marks })
 }
 
 /// Reads the line of a ballot, without its end. A line of another shape has the fault `BadBallot`.
-pub(crate) fn read_ballot(
-    line: &[u8],
-    kind: Kind,
-    m: u8,
-    categories: Option<u64>,
-    way: Way,
-) -> Result<Ballot, FaultName>
-    requires candidates { m ≤ most_candidates }
-    requires way { HasNumber way }
-    ensures ok { IfOk result (λ ballot. IsGoodBallot line.now kind m categories way ballot.count ballot.approved) }
-    ensures candidates { IfOk result (λ ballot. IsIncreasing 1 m ballot.approved) }
+pub(crate) fn read_ballot(line: &[u8], header: Header, way: Way) -> Result<Ballot, FaultName>
+    requires { HasNumber way }
+    ensures ok { IfOk result (λ ballot. IsGoodBallot line.now header.kind header.m header.categories way
+        ballot.count ballot.approved) }
+    ensures candidates { IfOk result (λ ballot. IsIncreasing 1 header.m ballot.approved) }
     ensures voters { IfOk result (λ ballot. (1 ≤ ballot.count) × (ballot.count ≤ most_voters)) }
-    ensures err { IfErr result (λ fault. IsBallotFault line.now kind m categories fault) }
+    ensures err { IfErr result (λ fault. IsBallotFault line.now header.kind header.m header.categories fault) }
 {
-    let taking = Taking::new(kind, way);
-    let Some(read) = read_line(line, m, taking) else {
+    let terms = Terms {
+        m: header.m,
+        taking: Taking::new(header.kind, way),
+    };
+    let Some(read) = read_line(line, terms) else {
         return Err(FaultName::BadBallot);
     };
-    match read.marks.fault(kind, m, categories, read.count) {
+    match read.marks.fault(header, read.count) {
         Some(fault) => Err(fault),
         None => Ok(Ballot {
             count: read.count,

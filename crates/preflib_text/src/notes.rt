@@ -14,6 +14,7 @@ ghost use Rattle.preflib_text.specs.Steps.Notes.{effect_of, Casts, IsProper, IsS
 ghost use Rattle.preflib_text.specs.Approvals.{HasNumber};
 ghost use Rattle.preflib_text.specs.Steps.Tokens.{ballot_of};
 
+use crate::approvals::Header;
 use crate::ballot::{Ballot, read_ballot};
 use crate::fault::FaultName;
 use crate::limits::{MOST_CATEGORIES, MOST_LINE_BYTES};
@@ -190,9 +191,13 @@ impl Notes {
         if !is_fitting(kind, self.categories, pick.way) {
             return Err(FaultName::PickMisfit);
         }
-        let m = m as u8;
-        match read_ballot(line, kind, m, self.categories, pick.way) {
-            Ok(ballot) => Ok(self.take_vote(m, ballot)),
+        let header = Header {
+            kind,
+            m: m as u8,
+            categories: self.categories,
+        };
+        match read_ballot(line, header, pick.way) {
+            Ok(ballot) => Ok(self.take_vote(header.m, ballot)),
             Err(name) => Err(name),
         }
     }

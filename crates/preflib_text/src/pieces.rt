@@ -40,6 +40,8 @@ struct EndedLines<A: Allocator + Copy> {
 /// What is kept of the bytes that were fed.
 #[derive(Drop)]
 struct Progress<A: Allocator + Copy> {
+    /// The fault that was returned.
+    fault: Option<ReadFault>,
     ended: EndedLines<A>,
     /// The bytes since the last LF.
     held: Vec<u8, A>,
@@ -169,31 +171,26 @@ impl<A: Allocator + Copy + Drop> Progress<A> {
         self.hold(rest)
     }
 
-    /// The fault that was returned before; failing that, the first one of a piece.
+    /// Reads a piece, if no fault was returned before, up to its first fault.
     #[tactic(auto, unfolding(crate::specs::Steps::Pieces::Agrees))]
-    fn fault_after(
-        &mut self,
-        fault: Option<ReadFault>,
-        pick: &Pick,
-        fed: &Trace,
-        bytes: &[u8],
-    ) -> Option<ReadFault>
+    fn feed(&mut self, pick: &Pick, fed: &Trace, bytes: &[u8])
         requires way { HasNumber pick.now.way }
-        requires fed { Agrees pick.now fed.now.bytes fault self.old.ended.notes self.old.ended.builder
+        requires fed { Agrees pick.now fed.now.bytes self.old.fault self.old.ended.notes self.old.ended.builder
             self.old.ended.number self.old.held.items }
         requires length { length fed.now.bytes + length bytes.now < word_limit }
-        ensures agrees { Agrees pick.now (fed.now.bytes ++ bytes.now) result self.new.ended.notes
+        ensures agrees { Agrees pick.now (fed.now.bytes ++ bytes.now) self.new.fault self.new.ended.notes
             self.new.ended.builder self.new.ended.number self.new.held.items }
-        ensures again { IfSome fault (λ before. result ≡ Some before) }
-        ensures late { fault ≡ None → IfSome result (λ after. IsLate (ended_lines fed.now.bytes) after) }
+        ensures again { IfSome self.old.fault (λ fault. self.new.fault ≡ Some fault) }
+        ensures late { self.old.fault ≡ None
+            → IfSome self.new.fault (λ fault. IsLate (ended_lines fed.now.bytes) fault) }
     {
-        if fault.is_some() {
-            return fault;
+        if self.fault.is_some() {
+            return;
         }
-        match self.feed_lines(pick, fed, bytes) {
+        self.fault = match self.feed_lines(pick, fed, bytes) {
             Ok(()) => None,
-            Err(after) => Some(after),
-        }
+            Err(fault) => Some(fault),
+        };
     }
 }
 
@@ -222,7 +219,11 @@ fn finish_lines<A: Allocator + Copy + Drop>(
         ⊎ LacksMemory (lines_of fed.now.bytes) pick.now fault) }
     ensures late { IfErr result (λ fault. IsLate (ended_lines fed.now.bytes) fault) }
 {
-    let Progress { mut ended, held } = progress;
+    let Progress {
+        fault: _,
+        mut ended,
+        held,
+    } = progress;
     if let Err(fault) = ended.end_input(&held, pick, fed) {
         return Err(fault);
     }
@@ -242,7 +243,6 @@ fn finish_lines<A: Allocator + Copy + Drop>(
 pub struct LineReader<A: Allocator + Copy = Global> {
     pick: Pick,
     progress: Progress<A>,
-    fault: Option<ReadFault>,
     fed: Trace,
 }
 
@@ -255,11 +255,11 @@ impl<A: Allocator + Copy> Model for LineReader<A> {
 
     ghost Value = { Feeding };
 
-    ghost view = { λ r. feeding r.pick r.fed.bytes r.fault };
+    ghost view = { λ r. feeding r.pick r.fed.bytes r.progress.fault };
 
     ghost invariant = { λ r. HasNumber r.pick.way × (length r.fed.bytes < word_limit)
-        × Agrees r.pick r.fed.bytes r.fault r.progress.ended.notes r.progress.ended.builder r.progress.ended.number
-        r.progress.held.items };
+        × Agrees r.pick r.fed.bytes r.progress.fault r.progress.ended.notes r.progress.ended.builder
+        r.progress.ended.number r.progress.held.items };
 }
 
 impl<A: Allocator + Copy + Drop> LineReader<A> {
@@ -296,6 +296,7 @@ impl<A: Allocator + Copy + Drop> LineReader<A> {
         };
         let notes = Notes::new(&pick);
         let progress = Progress {
+            fault: None,
             ended: EndedLines {
                 builder,
                 notes,
@@ -306,7 +307,6 @@ impl<A: Allocator + Copy + Drop> LineReader<A> {
         Ok(LineReader {
             pick,
             progress,
-            fault: None,
             fed: Trace::new(),
         })
     }
@@ -325,11 +325,9 @@ impl<A: Allocator + Copy + Drop> LineReader<A> {
         ensures every { IfErr result (λ fault. (more : List ℕ) → Reads (self.new.fed ++ more) self.new.pick (Err fault)
             ⊎ LacksMemory (lines_of (self.new.fed ++ more)) self.new.pick fault) }
     {
-        self.fault = self
-            .progress
-            .fault_after(self.fault, &self.pick, &self.fed, bytes);
+        self.progress.feed(&self.pick, &self.fed, bytes);
         self.fed.add(bytes);
-        answer_of(self.fault)
+        answer_of(self.progress.fault)
     }
 
     /// How many bytes are kept of the line that has not ended, at most `MOST_LINE_BYTES` and a CR. A CR that may belong
@@ -339,7 +337,7 @@ impl<A: Allocator + Copy + Drop> LineReader<A> {
         ensures after { IfSome self.now.fault (λ _. result ≡ 0) }
         ensures most { result ≤ most_line_bytes + 1 }
     {
-        if self.fault.is_some() {
+        if self.progress.fault.is_some() {
             return 0;
         }
         unmarked(self.progress.ended.number, &self.progress.held).len()
@@ -354,7 +352,7 @@ impl<A: Allocator + Copy + Drop> LineReader<A> {
         ensures again { IfSome self.fault (λ fault. result ≡ Err fault) }
         ensures late { self.fault ≡ None → IfErr result (λ fault. IsLate (ended_lines self.fed) fault) }
     {
-        if let Some(fault) = self.fault {
+        if let Some(fault) = self.progress.fault {
             return Err(fault);
         }
         finish_lines(self.progress, &self.pick, &self.fed)

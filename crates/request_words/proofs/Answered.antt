@@ -13,7 +13,7 @@ use Rattle.clap.specs.declared.parser.matches.ArgMatches.{ArgMatches}
 use Rattle.clap.specs.declared.parser.matches.ArgMatches.{out-ArgMatches}
 use Rattle.request_words.specs.declared.words.LineFault.{LineFault}
 use Rattle.request_words.specs.declared.words.LineFault.TheVariants.{Help, Usage, BadList, TwoPicks, VotesAndInput, Memory}
-use Rattle.request_words.specs.Request.{Asked, Demand, checking, electing, of_ballots, sharing_by}
+use Rattle.request_words.specs.Request.{Request, Task, checking, electing, of_ballots, sharing_by}
 use Rattle.request_words.specs.NumberList.{list_of}
 use Rattle.request_words.specs.declared.words.ListOption.{ListOption}
 use Rattle.request_words.specs.declared.words.ListOption.TheVariants.{Committee, Votes, After}
@@ -132,7 +132,7 @@ values_there words sub found =
 outcome_is : (words : List Text) (sub : Text × List Row) → IsFound words sub → outcome_of words ≡ asked_in sub.0 sub.1
 outcome_is words sub found = rw (found.0, found.1) refl
 
-request_is : (words : List Text) (sub : Text × List Row) (r : Asked) → IsFound words sub → asked_in sub.0 sub.1 ≡ Some (Ok r) → request_of words ≡ Some r
+request_is : (words : List Text) (sub : Text × List Row) (r : Request) → IsFound words sub → asked_in sub.0 sub.1 ≡ Some (Ok r) → request_of words ≡ Some r
 request_is words sub r found asked = ap (option_and_then result_ok) (outcome_is words sub found ∙ asked)
 
 -- ---- clap took them, and they are refused
@@ -150,8 +150,8 @@ then_own : {A B : Type 0} (next : A → Result B LineFault) (r : Result A LineFa
 then_own next (Ok x) later own = later x
 then_own next (Err f) later own = own
 
-asking_own : (rows : List Row) (demand : Demand) → FailsAfterClap (asking rows demand)
-asking_own rows demand = ok_or_own (option_map _ (way_in rows)) TwoPicks tt
+asking_own : (rows : List Row) (task : Task) → FailsAfterClap (asking rows task)
+asking_own rows task = ok_or_own (option_map _ (way_in rows)) TwoPicks tt
 
 list_own : (option : ListOption) (name : Text) (rows : List Row) → FailsAfterClap (list_in option name rows)
 list_own option name rows = go (first_of name rows)
@@ -167,14 +167,14 @@ list_own option name rows = go (first_of name rows)
 page_own : (rows : List Row) → FailsAfterClap (page_in rows)
 page_own rows = then_own _ (list_in After (codes "after") rows) (λ after. tt) (list_own After (codes "after") rows)
 
-without_both_own : (rows : List Row) (asked : Asked) → FailsAfterClap (without_both rows asked)
+without_both_own : (rows : List Row) (asked : Request) → FailsAfterClap (without_both rows asked)
 without_both_own rows asked = go (is_given rows (codes "votes") && has_input rows)
   where
-    go : (t : Bool) → FailsAfterClap {A = Asked} (if t then Err VotesAndInput else Ok asked)
+    go : (t : Bool) → FailsAfterClap {A = Request} (if t then Err VotesAndInput else Ok asked)
     go true = tt
     go false = tt
 
-map_own : {P : Type 0} (o : Option P) (read : P → Result Asked LineFault) (f : LineFault) → ((p : P) → FailsAfterClap (read p)) → option_map read o ≡ Some (Err f)
+map_own : {P : Type 0} (o : Option P) (read : P → Result Request LineFault) (f : LineFault) → ((p : P) → FailsAfterClap (read p)) → option_map read o ≡ Some (Err f)
     → IsAfterClap f
 map_own None read f own is = absurd cc
 map_own (Some p) read f own is =
@@ -207,17 +207,17 @@ refused_is words sub f found (inr asked) = go f (asked_own sub.0 sub.1 f asked) 
     go Memory own is = tt
 
 -- the code's outcome, in each of its clauses
-pub request_there : (words : List Text) (sub : Text × List Row) (r : Result Asked LineFault) → IsFound words sub → GivesAsked (asked_in sub.0 sub.1) r
+pub request_there : (words : List Text) (sub : Text × List Row) (r : Result Request LineFault) → IsFound words sub → GivesAsked (asked_in sub.0 sub.1) r
     → IfOk r (λ a. request_of words ≡ Some a)
 request_there words sub (Ok a) found gives = request_is words sub a found gives
 request_there words sub (Err f) found gives = tt
 
-pub fault_there : (words : List Text) (sub : Text × List Row) (r : Result Asked LineFault) → IsFound words sub → GivesAsked (asked_in sub.0 sub.1) r
+pub fault_there : (words : List Text) (sub : Text × List Row) (r : Result Request LineFault) → IsFound words sub → GivesAsked (asked_in sub.0 sub.1) r
     → IfErr r (RefusesWords words)
 fault_there words sub (Ok a) found gives = tt
 fault_there words sub (Err f) found gives = refused_is words sub f found gives
 
-pub only_refused : (sub : Text × List Row) (r : Result Asked LineFault) → GivesAsked (asked_in sub.0 sub.1) r → IfErr r IsAfterClap
+pub only_refused : (sub : Text × List Row) (r : Result Request LineFault) → GivesAsked (asked_in sub.0 sub.1) r → IfErr r IsAfterClap
 only_refused sub (Ok a) gives = tt
 only_refused sub (Err f) (inl memory) = subst IsAfterClap (sym memory) tt
 only_refused sub (Err f) (inr asked) = asked_own sub.0 sub.1 f asked

@@ -1,8 +1,9 @@
 -- What arguments make of a command.
-use Rattle.std.proofs.Common.{◌≡◌, ◌++◌, ◌||◌, ◌∙◌, Bool, true, false, List, [], ◌∷◌, ap, sym, append_assoc, append-nil}
+use Rattle.std.proofs.Common.{◌≡◌, ◌++◌, ◌||◌, ◌∙◌, Bool, true, false, List, [], ◌∷◌, Some, ap, sym, append_assoc, append-nil}
+use Rattle.std.specs.Borrow.{Bor}
 use Rattle.std.specs.Prelude.{fold}
 use Rattle.clap.specs.Built.{AddsArg, AddsInTurn}
-use Rattle.clap.specs.Words.{App, app_of, rule_of, with_rule, Rule as Argument}
+use Rattle.clap.specs.Words.{App, Text, app_of, rule_of, with_rule, Rule as Argument}
 use Rattle.clap.specs.declared.builder.arg.Arg.{Arg}
 use Rattle.clap.specs.declared.builder.command.Command.{Command}
 use Rattle.clap.specs.declared.builder.command.Command.TheViews.{out-Command as fields_of}
@@ -32,6 +33,10 @@ arguments_of a [] = ap (λ (rules : List Argument). record a.top { rules = rules
 arguments_of a (argument ∷ arguments) =
     arguments_of (with_rule a argument) arguments
     ∙ ap (λ (rules : List Argument). record a.top { rules = rules }) (append_assoc a.top.rules (argument ∷ []) arguments)
+
+-- an argument that has a help
+pub helped_argument : (argument : Argument) (a made : Arg) (text : Bor Text) → IsArgument argument a → made ≡ record a { help = Some text } → IsArgument argument made
+helped_argument argument a made text (is, local) e = (ap rule_of e ∙ is, ap (λ (x : Arg). x.global) e ∙ local)
 
 -- an argument that is made required
 pub required_argument : (argument : Argument) (a made : Arg) → IsArgument argument a → made ≡ record a { required = true } → IsArgument (required argument) made

@@ -9,7 +9,7 @@ use Rattle.request_words.specs.declared.request.Rule.{Rule}
 use Rattle.request_words.specs.declared.request.Rule.TheVariants.{Scored, Sequential}
 use Rattle.tie_walk.specs.declared.sequential.SeqRule.TheVariants.{SeqPav, SeqCc, RevSeqPav}
 use Rattle.request_words.specs.declared.request.ScoredRule.TheVariants.{Thiele, Satisfaction, Minimax}
-use Rattle.request_words.specs.Request.{Asked, Demand, checking, electing, of_ballots, of_votes, sharing, whole}
+use Rattle.request_words.specs.Request.{Request, Task, checking, electing, of_ballots, of_votes, sharing, whole}
 use Rattle.preflib_text.specs.declared.pick.Kind.{Kind}
 use Rattle.preflib_text.specs.declared.pick.Kind.TheVariants.{Cat, Soc, Soi, Toc, Toi}
 use Rattle.preflib_text.specs.declared.pick.Pick.{Pick}
@@ -31,11 +31,11 @@ abbrev elect_words : List Text → List Text
 elect_words rest = codes "committees" ∷ codes "elect" ∷ rest
 
 -- approval voting, for a file of this type and this ending, in this way
-abbrev asked : ℕ → Option Kind → Option Kind → Way → Option Text → Option Asked
+abbrev asked : ℕ → Option Kind → Option Kind → Way → Option Text → Option Request
 asked size kind ending way file =
-    Some (record { demand = of_ballots (electing (Scored (Thiele Av)) size whole); pick = record { kind = kind; ending = ending; way = way }; file = file; names = false })
+    Some (record { task = of_ballots (electing (Scored (Thiele Av)) size whole); pick = record { kind = kind; ending = ending; way = way }; file = file; names = false })
 
-abbrev av : ℕ → Option Text → Option Asked
+abbrev av : ℕ → Option Text → Option Request
 av size file = asked size None None Usual file
 
 standard_input : request_of (elect_words (codes "--rule" ∷ codes "av" ∷ codes "--size" ∷ codes "1" ∷ [])) ≡ av 1 None
@@ -101,8 +101,8 @@ abbrev usual : Pick
 usual = record { kind = None; ending = None; way = Usual }
 
 -- two seats by a rule
-abbrev two_seats : Rule → Option Asked
-two_seats rule = Some (record { demand = of_ballots (electing rule 2 whole); pick = usual; file = None; names = false })
+abbrev two_seats : Rule → Option Request
+two_seats rule = Some (record { task = of_ballots (electing rule 2 whole); pick = usual; file = None; names = false })
 
 geometric_rule : request_of (elect_words (codes "--rule" ∷ codes "geom3" ∷ codes "--size" ∷ codes "2" ∷ [])) ≡ two_seats (Scored (Thiele Geom3))
 unfolding clap_on_literals
@@ -203,15 +203,15 @@ names_of_methods = refl
 -- ---- check
 
 -- this, over standard input
-abbrev over_input : Demand → Option Asked
-over_input demand = Some (record { demand = demand; pick = usual; file = None; names = false })
+abbrev over_input : Task → Option Request
+over_input task = Some (record { task = task; pick = usual; file = None; names = false })
 
 a_check : request_of (codes "committees" ∷ codes "check" ∷ codes "--property" ∷ codes "pjr" ∷ codes "--committee" ∷ codes "3,1" ∷ []) ≡ over_input (of_ballots (checking Pjr (3 ∷ 1 ∷ [])))
 unfolding clap_on_literals
 a_check = refl
 
 a_check_of_a_file : request_of (codes "committees" ∷ codes "check" ∷ codes "a.soi" ∷ codes "--committee=02" ∷ codes "--property=ejr" ∷ codes "--classes" ∷ codes "2" ∷ []) ≡ Some (record {
-  demand = of_ballots (checking Ejr (2 ∷ []));
+  task = of_ballots (checking Ejr (2 ∷ []));
   pick = record { kind = None; ending = Some Soi; way = Classes 2 };
   file = Some (codes "a.soi");
   names = false;
@@ -312,9 +312,9 @@ a_list_of_an_option = (refl, refl)
 -- ---- starts, limits and names
 
 -- one seat by approval voting, and these answers
-abbrev paged : Option (List ℕ) → Option ℕ → Option Asked
+abbrev paged : Option (List ℕ) → Option ℕ → Option Request
 paged after limit =
-    Some (record { demand = of_ballots (electing (Scored (Thiele Av)) 1 (record { after = after; limit = limit })); pick = usual; file = None; names = false })
+    Some (record { task = of_ballots (electing (Scored (Thiele Av)) 1 (record { after = after; limit = limit })); pick = usual; file = None; names = false })
 
 -- `committees elect --rule av --size 1` and these words
 abbrev av_words : List Text → List Text
@@ -341,7 +341,7 @@ a_start_that_is_no_list : outcome_of (av_words (codes "--after=" ∷ codes "--ca
 unfolding clap_on_literals
 a_start_that_is_no_list = refl
 
-names_wanted : request_of (av_words (codes "--names" ∷ [])) ≡ Some (record { demand = of_ballots (electing (Scored (Thiele Av)) 1 whole); pick = usual; file = None; names = true })
+names_wanted : request_of (av_words (codes "--names" ∷ [])) ≡ Some (record { task = of_ballots (electing (Scored (Thiele Av)) 1 whole); pick = usual; file = None; names = true })
 unfolding clap_on_literals
 names_wanted = refl
 
@@ -362,7 +362,7 @@ abbrev adams : List Text → List Text
 adams rest = codes "committees" ∷ codes "share" ∷ codes "--method=adams" ∷ codes "--seats=1" ∷ rest
 
 a_page_of_shares : request_of (adams (codes "--votes=1,1" ∷ codes "--after=0,1" ∷ codes "--limit=2" ∷ codes "--names" ∷ []))
-    ≡ Some (record { demand = of_votes (1 ∷ 1 ∷ []) Adams 1 (record { after = Some (0 ∷ 1 ∷ []); limit = Some 2 }); pick = usual; file = None; names = true })
+    ≡ Some (record { task = of_votes (1 ∷ 1 ∷ []) Adams 1 (record { after = Some (0 ∷ 1 ∷ []); limit = Some 2 }); pick = usual; file = None; names = true })
 unfolding clap_on_literals
 a_page_of_shares = refl
 

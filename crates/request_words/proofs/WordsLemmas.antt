@@ -20,7 +20,7 @@ use Rattle.seat_share.specs.Limits.{most_seats}
 use Rattle.seat_share.specs.declared.method.Method.{Method}
 use Rattle.request_words.specs.NumberList.{list_of}
 use Rattle.request_words.specs.Limits.{most_limit}
-use Rattle.request_words.specs.Request.{Asked, Demand, InRange, IsPage, Paging, checking, of_ballots, sharing_by}
+use Rattle.request_words.specs.Request.{Request, Task, InRange, IsPage, Page, checking, of_ballots, sharing_by}
 use Rattle.request_words.specs.declared.request.Rule.{Rule}
 use Rattle.request_words.specs.declared.words.LineFault.{LineFault}
 use Rattle.request_words.specs.declared.words.LineFault.TheVariants.{BadList, Memory, VotesAndInput}
@@ -121,17 +121,17 @@ given_rows f id = sym (some_of_map raw_values (matched_of f id)) ∙ ap is_some 
 -- ---- requests
 
 -- the outcome of a step is that of the command
-pub gives_asked : (said : Option (Result Asked LineFault)) (step result : Result Asked LineFault) → said ≡ Some step → Gives (λ r. r) step result → GivesAsked said result
+pub gives_asked : (said : Option (Result Request LineFault)) (step result : Result Request LineFault) → said ≡ Some step → Gives (λ r. r) step result → GivesAsked said result
 gives_asked said step (Ok r) is gives = is ∙ ap Some gives
 gives_asked said step (Err e) is (inl memory) = inl memory
 gives_asked said step (Err e) is (inr fault) = inr (is ∙ ap Some fault)
 
 -- the request that the code makes of its values
-pub asking_is : (rows : List Row) (demand : Demand) (way : Way) (pick : Pick) (kind file path : Option Text) (names : Bool) → Some way ≡ way_in rows
+pub asking_is : (rows : List Row) (task : Task) (way : Way) (pick : Pick) (kind file path : Option Text) (names : Bool) → Some way ≡ way_in rows
     → kind ≡ first_of (codes "kind") rows → file ≡ first_of (codes "file") rows → path ≡ first_of (codes "file") rows
     → pick ≡ record { kind = option_and_then kind_named kind; ending = option_and_then kind_in_path path; way = way } → names ≡ wants_names rows
-    → asking rows demand ≡ Ok (record { demand = demand; pick = pick; file = file; names = names })
-asking_is rows demand way pick kind file path names ways kinds files paths picked wants = rw (← ways, picked, kinds, files, paths, wants) refl
+    → asking rows task ≡ Ok (record { task = task; pick = pick; file = file; names = names })
+asking_is rows task way pick kind file path names ways kinds files paths picked wants = rw (← ways, picked, kinds, files, paths, wants) refl
 
 -- the flag that the code reads is that of the rows
 pub flag_read : (o : Option Text) (r : Bool) → IsFlag o → (o ≡ None → r ≡ false) → (o ≡ Some (codes "true") → r ≡ true)
@@ -165,12 +165,12 @@ share_is rows h name method m named is seats =
     rw (h.0.given, h.1.given, known, seats) refl
 
 -- the list of a check, or its fault
-pub check_given : (said : Option (Result Asked LineFault)) (next : List ℕ → Result Asked LineFault) (list : List ℕ) (r : Result (List ℕ) LineFault) (result : Result Asked LineFault)
+pub check_given : (said : Option (Result Request LineFault)) (next : List ℕ → Result Request LineFault) (list : List ℕ) (r : Result (List ℕ) LineFault) (result : Result Request LineFault)
     → said ≡ Some (result_and_then next r) → r ≡ Ok list → Gives (λ x. x) (next list) result → GivesAsked said result
 check_given said next list r result is read gives = gives_asked said (next list) result (is ∙ ap (λ x. Some (result_and_then next x)) read) gives
 
 -- a step failed, and with it the command
-pub failed : {A : Type 0} (said : Option (Result Asked LineFault)) (next : A → Result Asked LineFault) (r : Result A LineFault) (f : LineFault)
+pub failed : {A : Type 0} (said : Option (Result Request LineFault)) (next : A → Result Request LineFault) (r : Result A LineFault) (f : LineFault)
     → said ≡ Some (result_and_then next r) → (f ≡ Memory) ⊎ (r ≡ Err f) → (f ≡ Memory) ⊎ (said ≡ Some (Err f))
 failed said next r f is (inl memory) = inl memory
 failed said next r f is (inr err) = inr (is ∙ ap (λ x. Some (result_and_then next x)) err)
@@ -210,12 +210,12 @@ passed_on P (Err e) f is p = subst (λ x. P (Err x)) (sym is) p
 -- ---- the end of a sharing
 
 -- a step was taken
-pub then_read : {A B : Type 0} (said : Option (Result Asked LineFault)) (last : B → Result Asked LineFault) (next : A → Result B LineFault) (r : Result A LineFault)
+pub then_read : {A B : Type 0} (said : Option (Result Request LineFault)) (last : B → Result Request LineFault) (next : A → Result B LineFault) (r : Result A LineFault)
     (x : A) → said ≡ Some (result_and_then last (result_and_then next r)) → r ≡ Ok x → said ≡ Some (result_and_then last (next x))
 then_read said last next r x is read = is ∙ ap (λ s. Some (result_and_then last (result_and_then next s))) read
 
 -- a step failed, and with it the command
-pub broken : {A B : Type 0} (said : Option (Result Asked LineFault)) (last : B → Result Asked LineFault) (next : A → Result B LineFault) (r : Result A LineFault)
+pub broken : {A B : Type 0} (said : Option (Result Request LineFault)) (last : B → Result Request LineFault) (next : A → Result B LineFault) (r : Result A LineFault)
     (f : LineFault) → said ≡ Some (result_and_then last (result_and_then next r)) → (f ≡ Memory) ⊎ (r ≡ Err f) → (f ≡ Memory) ⊎ (said ≡ Some (Err f))
 broken said last next r f is (inl memory) = inl memory
 broken said last next r f is (inr err) = inr (is ∙ ap (λ s. Some (result_and_then last (result_and_then next s))) err)
@@ -237,13 +237,13 @@ some_items None some = some
 some_items (Some v) some = some
 
 -- the numbers of a sharing lie in their ranges
-pub sharing_in_range : (votes : Option (List ℕ)) (method : Method) (seats : ℕ) (page : Paging) → 1 ≤ seats → seats ≤ most_seats → IfSome votes (λ list. list ≢ [])
+pub sharing_in_range : (votes : Option (List ℕ)) (method : Method) (seats : ℕ) (page : Page) → 1 ≤ seats → seats ≤ most_seats → IfSome votes (λ list. list ≢ [])
     → IsPage page → InRange (sharing_by votes method seats page)
 sharing_in_range None method seats page least most some is = (least, most, is)
 sharing_in_range (Some votes) method seats page least most some is = (least, most, some, is)
 
 -- a sharing is refused where votes and an input are given, and else as it is
-pub shared : (rows : List Row) (said : Option (Result Asked LineFault)) (step : Result Asked LineFault) (asked : Asked) (both : Bool)
+pub shared : (rows : List Row) (said : Option (Result Request LineFault)) (step : Result Request LineFault) (asked : Request) (both : Bool)
     → said ≡ Some (result_and_then (without_both rows) step) → step ≡ Ok asked
     → (is_given rows (codes "votes") && has_input rows) ≡ both → said ≡ Some (if both then Err VotesAndInput else Ok asked)
 shared rows said step asked both is ok test = is

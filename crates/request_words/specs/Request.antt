@@ -7,20 +7,20 @@ use Rattle.preflib_text.specs.declared.pick.Pick.{Pick}
 use Rattle.seat_share.specs.Limits.{most_seats}
 use Rattle.seat_share.specs.declared.method.Method.{Method}
 use Rattle.request_words.specs.Limits.{most_limit}
-use Rattle.request_words.specs.declared.request.Page.{Page}
-use Rattle.request_words.specs.declared.request.Question.{Question as Asking}
+use Rattle.request_words.specs.declared.request.Page.{Page as CodePage}
+use Rattle.request_words.specs.declared.request.Question.{Question as CodeQuestion}
 use Rattle.request_words.specs.declared.request.Question.TheVariants.{Elect, Check, Share}
 use Rattle.request_words.specs.declared.request.Rule.{Rule}
-use Rattle.request_words.specs.declared.request.Task.{Task}
+use Rattle.request_words.specs.declared.request.Task.{Task as CodeTask}
 use Rattle.request_words.specs.declared.request.Task.TheVariants.{OfBallots, OfVotes}
 
 -- which of the answers are asked for: those later than a list, and the first so many of them
-pub record Paging : Type 0 where
+pub record Page : Type 0 where
   pub after : Option (List ℕ)
   pub limit : Option ℕ
 
 -- all answers
-abbrev pub whole : Paging
+abbrev pub whole : Page
 whole = record { after = None; limit = None }
 
 -- what is asked about ballots
@@ -28,37 +28,37 @@ whole = record { after = None; limit = None }
 -- - a check of a property of the committee in a list
 -- - a sharing of seats by a method, in which each voter counts for the one party that the ballot approves
 pub data Question : Type 0 where
-  electing : Rule → ℕ → Paging → Question
+  electing : Rule → ℕ → Page → Question
   checking : Property → List ℕ → Question
-  sharing : Method → ℕ → Paging → Question
+  sharing : Method → ℕ → Page → Question
 
 -- what a request asks for: something about the ballots of an input, or a sharing of seats by a method among parties
 -- with the votes in a list
-pub data Demand : Type 0 where
-  of_ballots : Question → Demand
-  of_votes : List ℕ → Method → ℕ → Paging → Demand
+pub data Task : Type 0 where
+  of_ballots : Question → Task
+  of_votes : List ℕ → Method → ℕ → Page → Task
 
 -- a sharing of seats by a method, by votes that are given, or else by those of ballots
-abbrev pub sharing_by : Option (List ℕ) → Method → ℕ → Paging → Demand
+abbrev pub sharing_by : Option (List ℕ) → Method → ℕ → Page → Task
 sharing_by None method seats page = of_ballots (sharing method seats page)
 sharing_by (Some votes) method seats page = of_votes votes method seats page
 
 -- which answers are asked for, with a list in the place of a vector
-abbrev pub paging_of : Page → Paging
-paging_of page = record { after = option_map vec_items page.after; limit = page.limit }
+abbrev pub page_of : CodePage → Page
+page_of page = record { after = option_map vec_items page.after; limit = page.limit }
 
 -- what is asked for, with lists in the place of vectors
-abbrev pub question_of : Asking → Question
-question_of (Elect rule size page) = electing rule size (paging_of page)
+abbrev pub question_of : CodeQuestion → Question
+question_of (Elect rule size page) = electing rule size (page_of page)
 question_of (Check property committee) = checking property (vec_items committee)
-question_of (Share method seats page) = sharing method seats (paging_of page)
+question_of (Share method seats page) = sharing method seats (page_of page)
 
-abbrev pub demand_of : Task → Demand
-demand_of (OfBallots question) = of_ballots (question_of question)
-demand_of (OfVotes votes method seats page) = of_votes (vec_items votes) method seats (paging_of page)
+abbrev pub task_of : CodeTask → Task
+task_of (OfBallots question) = of_ballots (question_of question)
+task_of (OfVotes votes method seats page) = of_votes (vec_items votes) method seats (page_of page)
 
 -- a start has a number, and a limit lies from 1 to `most_limit`
-pub record IsPage (page : Paging) : Type 0 where
+pub record IsPage (page : Page) : Type 0 where
   pub after : IfSome page.after (λ list. list ≢ [])
   pub least : IfSome page.limit (λ n. 1 ≤ n)
   pub most : IfSome page.limit (λ n. n ≤ most_limit)
@@ -69,14 +69,14 @@ IsInRange (electing rule size page) = (1 ≤ size) × (size ≤ most_members) ×
 IsInRange (checking property committee) = committee ≢ []
 IsInRange (sharing method seats page) = (1 ≤ seats) × (seats ≤ most_seats) × IsPage page
 
-abbrev pub InRange : Demand → Type 0
+abbrev pub InRange : Task → Type 0
 InRange (of_ballots question) = IsInRange question
 InRange (of_votes votes method seats page) = (1 ≤ seats) × (seats ≤ most_seats) × (votes ≢ []) × IsPage page
 
 -- what is asked for, how the file is read, the bytes of the file's path where a file is named, and whether the names of
 -- candidates are wanted
-pub record Asked : Type 0 where
-  pub demand : Demand
+pub record Request : Type 0 where
+  pub task : Task
   pub pick : Pick
   pub file : Option (List ℕ)
   pub names : Bool

@@ -28,7 +28,7 @@ use Rattle.request_words.specs.Endings.{kind_in_path}
 use Rattle.request_words.specs.Names.{kind_names, method_names, property_names, rule_named, rule_names}
 use Rattle.request_words.specs.NumberList.{list_of}
 use Rattle.request_words.specs.Limits.{most_limit, most_way_number}
-use Rattle.request_words.specs.Request.{Asked, Demand, Paging, checking, electing, of_ballots, sharing_by}
+use Rattle.request_words.specs.Request.{Request, Task, Page, checking, electing, of_ballots, sharing_by}
 use Rattle.request_words.specs.declared.request.Rule.{Rule}
 use Rattle.request_words.specs.declared.words.LineFault.{LineFault}
 use Rattle.request_words.specs.declared.words.LineFault.TheVariants.{Help, Usage, BadList, TwoPicks, VotesAndInput, Memory}
@@ -164,7 +164,7 @@ abbrev pub list_in : ListOption → Text → List Row → Result (Option (List �
 list_in option name rows = option_transpose (option_map (listed option) (first_of name rows))
 
 -- which of the answers are asked for
-abbrev pub page_in : List Row → Result Paging LineFault
+abbrev pub page_in : List Row → Result Page LineFault
 page_in rows = result_and_then (λ after. Ok (record { after = after; limit = number_at (codes "limit") rows }))
     (list_in After (codes "after") rows)
 
@@ -173,25 +173,25 @@ abbrev pub wants_names : List Row → Bool
 wants_names rows = option_map_or (bytes_eq (codes "true")) (one_of (codes "names") rows) false
 
 -- a request for this, unless two ways are given
-abbrev pub asking : List Row → Demand → Result Asked LineFault
-asking rows demand = ok_or (option_map (λ way. record {
-  demand = demand;
+abbrev pub asking : List Row → Task → Result Request LineFault
+asking rows task = ok_or (option_map (λ way. record {
+  task = task;
   pick = pick_in rows way;
   file = first_of (codes "file") rows;
   names = wants_names rows;
 }) (way_in rows)) TwoPicks
 
 -- an election by a rule, of so many seats
-abbrev pub elect_over_page : List Row → Rule → ℕ → Paging → Result Asked LineFault
+abbrev pub elect_over_page : List Row → Rule → ℕ → Page → Result Request LineFault
 elect_over_page rows rule size page = asking rows (of_ballots (electing rule size page))
 
 -- what `elect` asks for
-abbrev pub elect_in : List Row → Option (Result Asked LineFault)
+abbrev pub elect_in : List Row → Option (Result Request LineFault)
 elect_in rows = option_map (λ p. result_and_then (elect_over_page rows p.0 (number_of p.1)) (page_in rows))
     (option_zip (option_and_then rule_named (first_of (codes "rule") rows)) (one_of (codes "size") rows))
 
 -- what `check` asks for
-abbrev pub check_in : List Row → Option (Result Asked LineFault)
+abbrev pub check_in : List Row → Option (Result Request LineFault)
 check_in rows =
     option_map (λ p. result_and_then (λ list. asking rows (of_ballots (checking p.0 list))) (listed Committee p.1))
     (option_zip (option_and_then property_named (first_of (codes "property") rows)) (first_of (codes "committee") rows))
@@ -209,35 +209,35 @@ abbrev pub has_input : List Row → Bool
 has_input rows = list_any (is_given rows) (codes "file" ∷ codes "kind" ∷ way_names)
 
 -- the request, unless votes are given beside an input
-abbrev pub without_both : List Row → Asked → Result Asked LineFault
+abbrev pub without_both : List Row → Request → Result Request LineFault
 without_both rows asked = if is_given rows (codes "votes") && has_input rows then Err VotesAndInput else Ok asked
 
 -- a sharing by a method, of so many seats, over these votes, or those of ballots
-abbrev pub share_over_page : List Row → Method → ℕ → Option (List ℕ) → Paging → Result Asked LineFault
+abbrev pub share_over_page : List Row → Method → ℕ → Option (List ℕ) → Page → Result Request LineFault
 share_over_page rows method seats votes page = asking rows (sharing_by votes method seats page)
 
-abbrev pub share_over_votes : List Row → Method → ℕ → Option (List ℕ) → Result Asked LineFault
+abbrev pub share_over_votes : List Row → Method → ℕ → Option (List ℕ) → Result Request LineFault
 share_over_votes rows method seats votes = result_and_then (share_over_page rows method seats votes) (page_in rows)
 
 -- what `share` asks for
-abbrev pub share_in : List Row → Option (Result Asked LineFault)
+abbrev pub share_in : List Row → Option (Result Request LineFault)
 share_in rows = option_map (λ p. result_and_then (without_both rows)
     (result_and_then (share_over_votes rows p.0 (number_of p.1)) (list_in Votes (codes "votes") rows)))
     (option_zip (option_and_then method_named (first_of (codes "method") rows)) (one_of (codes "seats") rows))
 
 -- what a command asks for in what clap found, or the first fault that clap does not know of: nothing where a required
 -- value is missing, and then clap does not take the words
-abbrev pub asked_in : Text → List Row → Option (Result Asked LineFault)
+abbrev pub asked_in : Text → List Row → Option (Result Request LineFault)
 asked_in command rows = if bytes_eq command (codes "check") then check_in rows
     else (if bytes_eq command (codes "share") then share_in rows else elect_in rows)
 
 -- the same of the words, of which the first names the program: nothing where clap refuses them
-abbrev pub outcome_of : List Text → Option (Result Asked LineFault)
+abbrev pub outcome_of : List Text → Option (Result Request LineFault)
 outcome_of words = if takes program words
     then option_and_then (λ found. asked_in found.0 found.1) (subcommand_of program words) else None
 
 -- the request of the words: none where they are refused, by clap or after it
-abbrev pub request_of : List Text → Option Asked
+abbrev pub request_of : List Text → Option Request
 request_of words = option_and_then result_ok (outcome_of words)
 
 -- ---- refusals

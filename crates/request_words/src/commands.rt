@@ -6,7 +6,7 @@ ghost use Rattle.request_words.specs.Limits.{most_limit};
 ghost use Rattle.request_words.specs.Words.{check_over, elect_over, number_option, share_over, text_option};
 ghost use Rattle.request_words.specs.Steps.Commands.{AreArguments, AreShared, HasArguments, IsArgument, IsCommand, IsProgram};
 
-use crate::help;
+use crate::help::{self, CommandHelp};
 use crate::options::{file_word, flag_option, list_option, name_option, number_option};
 use crate::request::{MOST_LIMIT, MOST_WAY_NUMBER, Rule};
 use ballot_base::MOST_MEMBERS;
@@ -28,8 +28,8 @@ pub(crate) fn program<'a>(alloc: Global) -> Result<Command<'a>, AllocError>
 {
     let commands = vec![in alloc; elect(alloc)?, check(alloc)?, share(alloc)?]?;
     Command::new(alloc, "committees")
-        .about("Elect committees from PrefLib ballot files, check them, and share out seats")
-        .after_long_help(help::PROGRAM)
+        .about(help::PROGRAM.about)
+        .after_long_help(help::PROGRAM.end)
         .subcommand_required(true)
         .subcommands(commands)
 }
@@ -38,70 +38,78 @@ pub(crate) fn program<'a>(alloc: Global) -> Result<Command<'a>, AllocError>
 fn elect<'a>(alloc: Global) -> Result<Command<'a>, AllocError>
     ensures { IfOk result (IsCommand rule_names elect_over) }
 {
-    let about = "Print every winning committee, ties included";
     let rules = Rule::NAMES.as_slice();
     let rule =
         "The rule: av, pav, cc, geom2, geom3, geom4, sav,\nminimax, seqpav, seqcc or revseqpav";
     let most = u32::from(MOST_MEMBERS);
     let size = "The number of seats to fill, 1 to 40";
     let own = vec![in alloc;
-        name_option(alloc, "rule", "RULE", rules, rule).required(true),
-        number_option(alloc, "size", "SIZE", most, size).required(true),
+        name_option(alloc, "rule", "RULE", rules)
+            .help(rule)
+            .required(true),
+        number_option(alloc, "size", "SIZE", most)
+            .help(size)
+            .required(true),
         after_option(alloc),
         limit_option(alloc),
     ]?;
-    command(alloc, "elect", about, help::ELECT, own)
+    command(alloc, "elect", help::ELECT, own)
 }
 
 /// The command `check`.
 fn check<'a>(alloc: Global) -> Result<Command<'a>, AllocError>
     ensures { IfOk result (IsCommand property_names check_over) }
 {
-    let about = "Check whether a committee represents the voters";
     let properties = Property::NAMES.as_slice();
     let property = "The property: jr, pjr, ejr or ejrplus";
     let committee = "The members of the committee, as 2,3,5";
     let own = vec![in alloc;
-        name_option(alloc, "property", "NAME", properties, property).required(true),
-        list_option(alloc, "committee", committee).required(true),
+        name_option(alloc, "property", "NAME", properties)
+            .help(property)
+            .required(true),
+        list_option(alloc, "committee")
+            .help(committee)
+            .required(true),
     ]?;
-    command(alloc, "check", about, help::CHECK, own)
+    command(alloc, "check", help::CHECK, own)
 }
 
 /// The command `share`.
 fn share<'a>(alloc: Global) -> Result<Command<'a>, AllocError>
     ensures { IfOk result (IsCommand method_names share_over) }
 {
-    let about = "Print every way to share out seats among parties";
     let methods = Method::NAMES.as_slice();
     let method = "The method: hamilton, dhondt, saintelague,\nhuntington, adams or dean";
     let most = u32::from(MOST_SEATS);
     let seats = "The number of seats to share out, 1 to 10000";
     let votes = "The votes of each party, as 53,24,23\n[default: those of the ballots]";
     let own = vec![in alloc;
-        name_option(alloc, "method", "METHOD", methods, method).required(true),
-        number_option(alloc, "seats", "SEATS", most, seats).required(true),
-        list_option(alloc, "votes", votes),
+        name_option(alloc, "method", "METHOD", methods)
+            .help(method)
+            .required(true),
+        number_option(alloc, "seats", "SEATS", most)
+            .help(seats)
+            .required(true),
+        list_option(alloc, "votes").help(votes),
         after_option(alloc),
         limit_option(alloc),
     ]?;
-    command(alloc, "share", about, help::SHARE, own)
+    command(alloc, "share", help::SHARE, own)
 }
 
 /// A command with its own arguments, and after them those that all commands have.
 fn command<'a>(
     alloc: Global,
     name: &'a str,
-    about: &'a str,
-    help: &'a str,
+    help: CommandHelp,
     own: Vec<Arg<'a>>,
 ) -> Result<Command<'a>, AllocError>
     ensures { (arguments : List Argument) → AreArguments arguments own.entry.items
         → IfOk result (HasArguments name.now arguments) }
 {
     Command::new(alloc, name)
-        .about(about)
-        .after_long_help(help)
+        .about(help.about)
+        .after_long_help(help.end)
         .args(own)?
         .args(shared_arguments(alloc)?)
 }
@@ -119,11 +127,11 @@ fn shared_arguments<'a>(alloc: Global) -> Result<Vec<Arg<'a>>, AllocError>
         "Count the top N classes of a ranking as approved\n[default: the first that is not empty]";
     let names = "Print the names of the candidates beside numbers";
     Ok(vec![in alloc;
-        name_option(alloc, "kind", "KIND", kinds, kind),
-        number_option(alloc, "category", "N", MOST_WAY_NUMBER, category),
-        number_option(alloc, "setsize", "N", MOST_WAY_NUMBER, set_size),
-        number_option(alloc, "classes", "N", MOST_WAY_NUMBER, classes),
-        flag_option(alloc, "names", names),
+        name_option(alloc, "kind", "KIND", kinds).help(kind),
+        number_option(alloc, "category", "N", MOST_WAY_NUMBER).help(category),
+        number_option(alloc, "setsize", "N", MOST_WAY_NUMBER).help(set_size),
+        number_option(alloc, "classes", "N", MOST_WAY_NUMBER).help(classes),
+        flag_option(alloc, "names").help(names),
         file_word(alloc),
     ]?)
 }
@@ -133,7 +141,7 @@ fn after_option<'a>(alloc: Global) -> Arg<'a>
     ensures { IsArgument (text_option (codes "after")) result }
 {
     let help = "Print only the answers that come after this one,\nas 2,3,5";
-    list_option(alloc, "after", help)
+    list_option(alloc, "after").help(help)
 }
 
 /// The option that tells how many answers are printed at most.
@@ -141,5 +149,5 @@ fn limit_option<'a>(alloc: Global) -> Arg<'a>
     ensures { IsArgument (number_option (codes "limit") most_limit) result }
 {
     let help = "Print N answers at most, and whether there are\nmore [default: all]";
-    number_option(alloc, "limit", "N", MOST_LIMIT, help)
+    number_option(alloc, "limit", "N", MOST_LIMIT).help(help)
 }

@@ -1,8 +1,18 @@
-//! The ends of the long texts of help: what each value means, the statuses of the program, and examples. Lines have at
-//! most 79 columns.
+//! The help of the commands. Lines have at most 79 columns.
 
-/// What `committees --help` ends with.
-pub(crate) const PROGRAM: &str = "\
+/// The help of a command.
+#[derive(Clone, Copy)]
+pub(crate) struct CommandHelp {
+    /// What the command does.
+    pub(crate) about: &'static str,
+    /// The end of the long text: what each value means, the statuses of the program, and examples.
+    pub(crate) end: &'static str,
+}
+
+/// `committees --help`
+pub(crate) const PROGRAM: CommandHelp = CommandHelp {
+    about: "Elect committees from PrefLib ballot files, check them, and share out seats",
+    end: "\
 PrefLib ballot files, by type:
   cat  categories: each voter sorts the candidates, as into yes and no
   soc  strict orders, complete: each voter ranks all candidates
@@ -27,10 +37,13 @@ Examples:
   committees share --method dhondt --seats 10 --votes 53,24,23
 
 README.md takes a newcomer through the commands, docs/MESSAGES.md explains each
-message.";
+message.",
+};
 
-/// What `committees elect --help` ends with.
-pub(crate) const ELECT: &str = "\
+/// `committees elect --help`
+pub(crate) const ELECT: CommandHelp = CommandHelp {
+    about: "Print every winning committee, ties included",
+    end: "\
 Rules. Each voter adds the amount below to a committee's score; x is the number
 of its members that the voter approves. The highest score wins.
   av         approval voting: x
@@ -58,10 +71,13 @@ Exit status: 0 answered, 2 command line refused, 3 ballots refused, 4 request
 refused, 5 out of memory, 6 an open, a read or a write failed.
 
 Example:
-  committees elect --rule pav --size 3 --names examples/board.cat";
+  committees elect --rule pav --size 3 --names examples/board.cat",
+};
 
-/// What `committees check --help` ends with.
-pub(crate) const CHECK: &str = "\
+/// `committees check --help`
+pub(crate) const CHECK: CommandHelp = CommandHelp {
+    about: "Check whether a committee represents the voters",
+    end: "\
 Properties. A group of voters deserves L of the SIZE seats if it makes up at
 least L/SIZE of all voters and all of them approve the same L candidates. SIZE
 is the size of the committee. For each such group:
@@ -81,10 +97,13 @@ Exit status: 0 the property holds, 1 it does not, 2 command line refused,
 write failed.
 
 Example:
-  committees check --property ejr --committee 1,4,6 examples/board.cat";
+  committees check --property ejr --committee 1,4,6 examples/board.cat",
+};
 
-/// What `committees share --help` ends with.
-pub(crate) const SHARE: &str = "\
+/// `committees share --help`
+pub(crate) const SHARE: CommandHelp = CommandHelp {
+    about: "Print every way to share out seats among parties",
+    end: "\
 Methods. The next seat goes to the party with the highest claim; v is the
 party's votes, s the seats that it has so far.
   dhondt       D'Hondt, Jefferson: v / (s + 1)
@@ -103,4 +122,5 @@ Exit status: 0 answered, 2 command line refused, 3 ballots refused, 4 request
 refused, 5 out of memory, 6 an open, a read or a write failed.
 
 Example:
-  committees share --method dhondt --seats 10 --votes 53,24,23";
+  committees share --method dhondt --seats 10 --votes 53,24,23",
+};

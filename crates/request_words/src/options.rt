@@ -6,30 +6,20 @@ use clap::{Arg, ArgAction, value_parser};
 use std::alloc::Global;
 
 /// An option that takes a list of numbers.
-pub(crate) fn list_option<'a>(alloc: Global, name: &'a str, help: &'a str) -> Arg<'a>
+pub(crate) fn list_option<'a>(alloc: Global, name: &'a str) -> Arg<'a>
     ensures { IsArgument (text_option name.now) result }
 {
-    Arg::new(alloc, name)
-        .long(name)
-        .value_name("LIST")
-        .help(help)
+    Arg::new(alloc, name).long(name).value_name("LIST")
 }
 
 /// An option that takes a number from 1 to `most`.
-pub(crate) fn number_option<'a>(
-    alloc: Global,
-    name: &'a str,
-    value: &'a str,
-    most: u32,
-    help: &'a str,
-) -> Arg<'a>
+pub(crate) fn number_option<'a>(alloc: Global, name: &'a str, value: &'a str, most: u32) -> Arg<'a>
     ensures { IsArgument (number_option name.now most) result }
 {
     Arg::new(alloc, name)
         .long(name)
         .value_name(value)
         .value_parser(value_parser!(u32).range(1..=i64::from(most)))
-        .help(help)
 }
 
 /// An option that takes one of these names, which its help lists within the columns.
@@ -38,7 +28,6 @@ pub(crate) fn name_option<'a>(
     name: &'a str,
     value: &'a str,
     names: &'a [&'a str],
-    help: &'a str,
 ) -> Arg<'a>
     ensures { IsArgument (name_option name.now names.entry) result }
 {
@@ -47,17 +36,13 @@ pub(crate) fn name_option<'a>(
         .value_name(value)
         .value_parser(names)
         .hide_possible_values(true)
-        .help(help)
 }
 
 /// An option without a value.
-pub(crate) fn flag_option<'a>(alloc: Global, name: &'a str, help: &'a str) -> Arg<'a>
+pub(crate) fn flag_option<'a>(alloc: Global, name: &'a str) -> Arg<'a>
     ensures { IsArgument (flag_option name.now) result }
 {
-    Arg::new(alloc, name)
-        .long(name)
-        .action(ArgAction::SetTrue)
-        .help(help)
+    Arg::new(alloc, name).long(name).action(ArgAction::SetTrue)
 }
 
 /// The word `FILE`.

@@ -2,7 +2,7 @@
 ghost use Rattle.std.specs.Prelude.{◌≡◌, option_map, string_bytes};
 ghost use Rattle.preflib_text.specs.Approvals.{HasNumber};
 ghost use Rattle.request_words.specs.Names.{rule_name, rule_named};
-ghost use Rattle.request_words.specs.Request.{InRange, demand_of};
+ghost use Rattle.request_words.specs.Request.{InRange, task_of};
 
 use ballot_base::ThieleRule;
 use group_check::Property;
@@ -140,26 +140,26 @@ pub struct Request {
 impl Model for Request {
     ghost use Rattle.std.specs.Prelude.{option_map, string_bytes};
     ghost use Rattle.preflib_text.specs.Approvals.{HasNumber};
-    ghost use Rattle.request_words.specs.Request.{Asked, InRange, demand_of};
+    ghost use Rattle.request_words.specs.Request.{Request, InRange, task_of};
 
-    ghost Value = { Asked };
+    ghost Value = { Request };
 
     ghost view = { λ a. record {
-      demand = demand_of a.task;
+      task = task_of a.task;
       pick = a.pick;
       file = option_map string_bytes a.file;
       names = a.names;
     } };
 
-    ghost invariant = { λ a. InRange (demand_of a.task) × HasNumber a.pick.way };
+    ghost invariant = { λ a. InRange (task_of a.task) × HasNumber a.pick.way };
 }
 
 impl Request {
     pub(crate) fn new(task: Task, pick: Pick, file: Option<String>, names: bool) -> Request
-        requires range { InRange (demand_of task) }
+        requires range { InRange (task_of task) }
         requires way { HasNumber pick.way }
         ensures { result ≡ record {
-          demand = demand_of task;
+          task = task_of task;
           pick = pick;
           file = option_map string_bytes file;
           names = names;
@@ -175,8 +175,8 @@ impl Request {
 
     /// What it asks for.
     pub fn task(&self) -> &Task
-        ensures value { demand_of result.now ≡ self.now.demand }
-        ensures range { InRange (demand_of result.now) }
+        ensures value { task_of result.now ≡ self.now.task }
+        ensures range { InRange (task_of result.now) }
     {
         &self.task
     }

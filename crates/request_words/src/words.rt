@@ -9,7 +9,7 @@ ghost use Rattle.preflib_text.specs.Approvals.{HasNumber};
 ghost use Rattle.preflib_text.specs.Names.{kind_named};
 ghost use Rattle.request_words.specs.Endings.{kind_in_path};
 ghost use Rattle.request_words.specs.Limits.{most_limit};
-ghost use Rattle.request_words.specs.Request.{InRange, IsPage, demand_of, paging_of, sharing_by};
+ghost use Rattle.request_words.specs.Request.{InRange, IsPage, task_of, page_of, sharing_by};
 ghost use Rattle.request_words.specs.declared.words.ListOption.TheVariants.{Votes};
 ghost use Rattle.request_words.specs.Steps.Values.{Gives, GivesAsked, HasCheckValues, HasCounts};
 ghost use Rattle.request_words.specs.Words.{IsAfterClap};
@@ -173,7 +173,7 @@ fn share_asked(alloc: Global, share: &ArgMatches<'_>) -> Result<Request, LineFau
 
 /// A sharing of seats by votes that are given, or else by those of ballots.
 fn sharing(votes: Option<Vec<u64>>, method: Method, seats: u16, page: Page) -> Task
-    ensures { demand_of result ≡ sharing_by (option_map vec_items votes) method seats (paging_of page) }
+    ensures { task_of result ≡ sharing_by (option_map vec_items votes) method seats (page_of page) }
 {
     match votes {
         Some(votes) => Task::OfVotes(votes, method, seats, page),
@@ -198,8 +198,8 @@ fn method_and_seats(share: &ArgMatches<'_>) -> (Method, u16)
 /// Which of the answers are asked for.
 fn page(alloc: Global, command: &ArgMatches<'_>) -> Result<Page, LineFault>
     requires { HasLimit (rows_of (found_of command.now)) }
-    ensures given { Gives paging_of (page_in (rows_of (found_of command.now))) result }
-    ensures range { IfOk result (λ page. IsPage (paging_of page)) }
+    ensures given { Gives page_of (page_in (rows_of (found_of command.now))) result }
+    ensures range { IfOk result (λ page. IsPage (page_of page)) }
 {
     let after = list_given(alloc, command, ListOption::After, "after")?;
     let limit = number(command, "limit");
@@ -254,8 +254,8 @@ fn is_given(command: &ArgMatches<'_>, name: &str) -> bool
 /// The request to do this over the input that clap found for a command.
 fn request(alloc: Global, command: &ArgMatches<'_>, task: Task) -> Result<Request, LineFault>
     requires counts { HasCounts (rows_of (found_of command.now)) }
-    requires range { InRange (demand_of task) }
-    ensures { Gives (λ r. r) (asking (rows_of (found_of command.now)) (demand_of task)) result }
+    requires range { InRange (task_of task) }
+    ensures { Gives (λ r. r) (asking (rows_of (found_of command.now)) (task_of task)) result }
 {
     let Some(way) = way_asked(command) else {
         return Err(LineFault::TwoPicks);

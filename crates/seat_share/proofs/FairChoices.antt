@@ -5,7 +5,7 @@ use Rattle.std.specs.Prelude.{flat_map}
 use Rattle.std.specs.List.{list_all, range_with_len, AllByRecursion}
 use Rattle.std.proofs.lemmas.List.Sums.{sum_by-cons}
 use Rattle.std.proofs.lemmas.List.Folds.{list_all-map}
-use Rattle.seat_share.specs.declared.contender.Contender.{Contender}
+use Rattle.seat_share.specs.declared.party.Party.{Party as CodeParty}
 use Rattle.seat_share.specs.declared.method.Method.{Method}
 use Rattle.seat_share.specs.declared.method.Method.TheVariants.{Hamilton, Dhondt, SainteLague, Huntington, Adams, Dean}
 use Rattle.seat_share.specs.Quotients.{Quotient, quotient, is_at_least}
@@ -81,7 +81,7 @@ of-sum (suc count) total list here =
     )
 
 -- ---- parties and their seats in a list
-abbrev entries : List Contender → List ℕ → List Entry
+abbrev entries : List CodeParty → List ℕ → List Entry
 entries [] list = []
 entries (c ∷ cs) [] = []
 entries (c ∷ cs) (a ∷ list) = record { votes = c.votes; sure = c.seats; tied = c.is_tied; seats = a } ∷ entries cs list
@@ -89,35 +89,35 @@ entries (c ∷ cs) (a ∷ list) = record { votes = c.votes; sure = c.seats; tied
 abbrev party : Entry → Party
 party e = (e.votes, e.seats)
 
-zip-entries : (cs : List Contender) (list : List ℕ) → zip (map (λ c. c.votes) cs) list ≡ map party (entries cs list)
+zip-entries : (cs : List CodeParty) (list : List ℕ) → zip (map (λ c. c.votes) cs) list ≡ map party (entries cs list)
 zip-entries [] list = refl
 zip-entries (c ∷ cs) [] = refl
 zip-entries (c ∷ cs) (a ∷ list) = ap (λ l. (c.votes, a) ∷ l) (zip-entries cs list)
 
 module _ (claims : ℕ → ℕ → Quotient) (most : ℕ) (falls : (v s : ℕ) → 0 < v → s < most → is_at_least (claims v (s + 1)) (claims v s) ≡ false) (low : Quotient) where
-  within-fits : (cs : List Contender) (list : List ℕ) → length list ≡ length cs → list_all (within claims most falls low) (entries cs list) ≡ fits (standings cs) list
+  within-fits : (cs : List CodeParty) (list : List ℕ) → length list ≡ length cs → list_all (within claims most falls low) (entries cs list) ≡ fits (standings cs) list
   within-fits [] [] h = refl
   within-fits [] (a ∷ list) h = impossible (omega (arith, h))
   within-fits (c ∷ cs) [] h = impossible (omega (arith, h))
   within-fits (c ∷ cs) (a ∷ list) h = ap (λ b. fits_one (standing c) a && b) (within-fits cs list (omega (arith, h)))
 
-  sum-sure : (cs : List Contender) (list : List ℕ) → length list ≡ length cs → sum_by (λ (e : Entry). e.sure) (entries cs list) ≡ sure_seats (standings cs)
+  sum-sure : (cs : List CodeParty) (list : List ℕ) → length list ≡ length cs → sum_by (λ (e : Entry). e.sure) (entries cs list) ≡ sure_seats (standings cs)
   sum-sure [] list h = refl
   sum-sure (c ∷ cs) [] h = impossible (omega (arith, h))
   sum-sure (c ∷ cs) (a ∷ list) h =
       sum_by-cons (λ (e : Entry). e.sure) (record { votes = c.votes; sure = c.seats; tied = c.is_tied; seats = a }) (entries cs list)
       ∙ ap (λ n. c.seats + n) (sum-sure cs list (omega (arith, h)))
 
-  sum-may : (cs : List Contender) (list : List ℕ) → length list ≡ length cs → sum_by (may_have claims most falls low) (entries cs list) ≡ sure_seats (standings cs) + tied_count cs
+  sum-may : (cs : List CodeParty) (list : List ℕ) → length list ≡ length cs → sum_by (may_have claims most falls low) (entries cs list) ≡ sure_seats (standings cs) + tied_count cs
   sum-may [] list h = refl
   sum-may (c ∷ cs) [] h = impossible (omega (arith, h))
   sum-may (c ∷ cs) (a ∷ list) h =
       let e : Entry = record { votes = c.votes; sure = c.seats; tied = c.is_tied; seats = a } in
       let more = sum-may cs list (omega (arith, h)) in
       sum_by-cons (may_have claims most falls low) e (entries cs list)
-      ∙ (omega (arith, more, sum_by-cons (λ (d : Contender). cond d.is_tied 1 0) c cs))
+      ∙ (omega (arith, more, sum_by-cons (λ (d : CodeParty). cond d.is_tied 1 0) c cs))
 
-  sum-seats : (cs : List Contender) (list : List ℕ) → length list ≡ length cs → sum_by (λ (e : Entry). e.seats) (entries cs list) ≡ sum list
+  sum-seats : (cs : List CodeParty) (list : List ℕ) → length list ≡ length cs → sum_by (λ (e : Entry). e.seats) (entries cs list) ≡ sum list
   sum-seats [] [] h = refl
   sum-seats [] (a ∷ list) h = impossible (omega (arith, h))
   sum-seats (c ∷ cs) [] h = impossible (omega (arith, h))
@@ -125,15 +125,15 @@ module _ (claims : ℕ → ℕ → Quotient) (most : ℕ) (falls : (v s : ℕ) �
       let e : Entry = record { votes = c.votes; sure = c.seats; tied = c.is_tied; seats = a } in
       sum_by-cons (λ (d : Entry). d.seats) e (entries cs list) ∙ ap (λ n. a + n) (sum-seats cs list (omega (arith, h))) ∙ sym (sum_by-cons (λ x. x) a list)
 
-  sum-votes : (cs : List Contender) (list : List ℕ) → length list ≡ length cs → sum_by (λ (e : Entry). e.votes) (entries cs list) ≡ sum (map (λ c. c.votes) cs)
+  sum-votes : (cs : List CodeParty) (list : List ℕ) → length list ≡ length cs → sum_by (λ (e : Entry). e.votes) (entries cs list) ≡ sum (map (λ c. c.votes) cs)
   sum-votes [] list h = refl
   sum-votes (c ∷ cs) [] h = impossible (omega (arith, h))
   sum-votes (c ∷ cs) (a ∷ list) h =
       let e : Entry = record { votes = c.votes; sure = c.seats; tied = c.is_tied; seats = a } in
       sum_by-cons (λ (d : Entry). d.votes) e (entries cs list) ∙ ap (λ n. c.votes + n) (sum-votes cs list (omega (arith, h)))
-      ∙ sym (sum_by-cons (λ x. x) c.votes (map (λ (d : Contender). d.votes) cs))
+      ∙ sym (sum_by-cons (λ x. x) c.votes (map (λ (d : CodeParty). d.votes) cs))
 
-  all-stand : (cs : List Contender) (list : List ℕ) (e : Entry) → AllByRecursion (λ (c : Contender). Stands claims most low c.votes c.seats c.is_tied) cs → Has (entries cs list) e
+  all-stand : (cs : List CodeParty) (list : List ℕ) (e : Entry) → AllByRecursion (λ (c : CodeParty). Stands claims most low c.votes c.seats c.is_tied) cs → Has (entries cs list) e
       → Stands claims most low e.votes e.sure e.tied
   all-stand [] list e stand here = elim here [ ]
   all-stand (c ∷ cs) [] e stand here = elim here [ ]
@@ -141,7 +141,7 @@ module _ (claims : ℕ → ℕ → Quotient) (most : ℕ) (falls : (v s : ℕ) �
   all-stand (c ∷ cs) (a ∷ list) e stand (inr later) = all-stand cs list e stand.1 later
 
   -- a list that fits gives nothing to a party without votes
-  fits-earned : (cs : List Contender) (list : List ℕ) → AllByRecursion (λ (c : Contender). Stands claims most low c.votes c.seats c.is_tied) cs → fits (standings cs) list ≡ true
+  fits-earned : (cs : List CodeParty) (list : List ℕ) → AllByRecursion (λ (c : CodeParty). Stands claims most low c.votes c.seats c.is_tied) cs → fits (standings cs) list ≡ true
       → list_all (λ e. has_votes_for_seats (party e)) (entries cs list) ≡ true
   fits-earned [] list stand h = refl
   fits-earned (c ∷ cs) [] stand h = refl
@@ -201,10 +201,10 @@ same-and a false c false ha hc hd = rw ha refl
 both-equal : (a b c d : ℕ) → a ≡ b → c ≡ d → (a == b && c == d) ≡ true
 both-equal a b c d h k = grind arith
 
-module _ (method : Method) (cs : List Contender) (most : ℕ) (low : Quotient) (some : 0 < sum (map (λ (c : Contender). c.votes) cs))
-    (stand : AllByRecursion (λ (c : Contender). Stands (claim method (sum (map (λ (d : Contender). d.votes) cs)) most) most low c.votes c.seats c.is_tied) cs) where
+module _ (method : Method) (cs : List CodeParty) (most : ℕ) (low : Quotient) (some : 0 < sum (map (λ (c : CodeParty). c.votes) cs))
+    (stand : AllByRecursion (λ (c : CodeParty). Stands (claim method (sum (map (λ (d : CodeParty). d.votes) cs)) most) most low c.votes c.seats c.is_tied) cs) where
   abbrev pub votes : List ℕ
-  votes = map (λ (c : Contender). c.votes) cs
+  votes = map (λ (c : CodeParty). c.votes) cs
 
   abbrev pub claims : ℕ → ℕ → Quotient
   claims = claim method (sum votes) most
@@ -240,7 +240,7 @@ module _ (method : Method) (cs : List Contender) (most : ℕ) (low : Quotient) (
     fair-fits =
         let tested = list_all has_votes_for_seats (zip votes list) in
         let by_entries : tested ≡ list_all (λ e. has_votes_for_seats (party e)) es = ap (list_all has_votes_for_seats) (zip-entries cs list) ∙ list_all-map has_votes_for_seats party es in
-        let counts : (length list == length votes && sum list == most) ≡ true = both-equal (length list) (length votes) (sum list) most (long ∙ sym (length-map cs (λ (c : Contender). c.votes))) all in
+        let counts : (length list == length votes && sum list == most) ≡ true = both-equal (length list) (length votes) (sum list) most (long ∙ sym (length-map cs (λ (c : CodeParty). c.votes))) all in
         same-and (length list == length votes && sum list == most) tested (is_right method (sum votes) most (zip votes list)) (fits (standings cs) list) counts
         (λ h. right-fits (sym by_entries ∙ h))
         (λ h. by_entries ∙ fits-earned claims most falls low cs list stand h)
@@ -248,10 +248,10 @@ module _ (method : Method) (cs : List Contender) (most : ℕ) (low : Quotient) (
   -- ---- the theorem
   pub fair-choices : (more : ℕ) → sure_seats (standings cs) + more ≡ most → more ≤ tied_count cs → allocations method votes most ≡ choices (standings cs) more
   fair-choices more given enough =
-      let count : length votes ≡ length (standings cs) = length-map cs (λ (c : Contender). c.votes) ∙ sym (length-map cs standing) in
+      let count : length votes ≡ length (standings cs) = length-map cs (λ (c : CodeParty). c.votes) ∙ sym (length-map cs standing) in
       same-filter (is_fair method votes most) (fits (standings cs)) (lists_with_sum (length votes) most) (λ list here.
       let shape = of-sum (length votes) most list here in
-      fair-fits list (shape.0 ∙ length-map cs (λ (c : Contender). c.votes)) shape.1 (omega (arith, given)) (omega (arith, given, enough)))
+      fair-fits list (shape.0 ∙ length-map cs (λ (c : CodeParty). c.votes)) shape.1 (omega (arith, given)) (omega (arith, given, enough)))
       ∙ ap (λ n. filter (fits (standings cs)) (lists_with_sum n most)) count
       ∙ ap (λ n. filter (fits (standings cs)) (lists_with_sum (length (standings cs)) n)) (sym given)
       ∙ chosen (standings cs) more

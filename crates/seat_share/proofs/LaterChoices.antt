@@ -7,7 +7,7 @@ use Rattle.std.proofs.lemmas.Bool.{eq-eqb, ne_eqb, lt-ltb, le-ltb}
 use Rattle.std.proofs.lemmas.List.Elements.{filter-append}
 use Rattle.std.proofs.lemmas.List.Sums.{sum_by-cons}
 use Rattle.std.proofs.lemmas.List.{length-map}
-use Rattle.seat_share.specs.declared.contender.Contender.{Contender}
+use Rattle.seat_share.specs.declared.party.Party.{Party}
 use Rattle.seat_share.specs.Allocations.{is_later, later_than}
 use Rattle.seat_share.specs.Steps.Choices.{Standing, choices}
 use Rattle.seat_share.specs.Steps.Standings.{standing, standings, tied_count, more_count, choices_less, choices_from, allocations_left}
@@ -133,22 +133,22 @@ same-free : (sure : ℕ) (ss : List Standing) (more : ℕ) (ys : List ℕ) → l
 same-free sure ss more ys = ap (later_than (Some (sure ∷ ys))) (choices-free sure ss more) ∙ map-same sure ys (choices ss more)
 
 -- ---- the steps of the code
-pub none-of_empty : (parties : List Contender) (start : List ℕ) (more : ℕ) → length start ≡ 0 → length start ≡ length parties → [] ≡ later_than (Some start) (choices (standings parties) more)
+pub none-of_empty : (parties : List Party) (start : List ℕ) (more : ℕ) → length start ≡ 0 → length start ≡ length parties → [] ≡ later_than (Some start) (choices (standings parties) more)
 unfolding choices
 none-of_empty [] [] zero h k = refl
 none-of_empty [] [] (suc more) h k = refl
 none-of_empty parties (a ∷ ys) more h k = impossible (omega (arith, h))
 none-of_empty (c ∷ cs) [] more h k = impossible (omega (arith, k))
 
-pub none-of_few : (parties : List Contender) (start : List ℕ) (tied more : ℕ) → tied ≡ tied_count parties → tied < more → [] ≡ later_than (Some start) (choices (standings parties) more)
+pub none-of_few : (parties : List Party) (start : List ℕ) (tied more : ℕ) → tied ≡ tied_count parties → tied < more → [] ≡ later_than (Some start) (choices (standings parties) more)
 none-of_few parties start tied more is less =
     sym (ap (later_than (Some start)) (too-many (standings parties) more (omega (arith, is, less, tied-standings parties))))
 
 -- as many are tied where the standings are the same
-same-ties : (old new : List Contender) → standings new ≡ standings old → tied_count new ≡ tied_count old
+same-ties : (old new : List Party) → standings new ≡ standings old → tied_count new ≡ tied_count old
 same-ties old new same = sym (tied-standings new) ∙ ap (λ ss. count_by (λ (s : Standing). s.1) ss) same ∙ tied-standings old
 
-module _ (f : Contender) (r parties : List Contender) (a : ℕ) (ys start : List ℕ) (split : parties ≡ f ∷ r) (begins : start ≡ a ∷ ys) (long : length start ≡ length parties) where
+module _ (f : Party) (r parties : List Party) (a : ℕ) (ys start : List ℕ) (split : parties ≡ f ∷ r) (begins : start ≡ a ∷ ys) (long : length start ≡ length parties) where
   others-long : length (standings r) ≡ length ys
   others-long = length-map r standing ∙ (omega (arith, ap length split, ap length begins, long))
 
@@ -156,10 +156,10 @@ module _ (f : Contender) (r parties : List Contender) (a : ℕ) (ys start : List
   whole more = ap₂ (λ s ps. later_than (Some s) (choices (standings ps) more)) begins split
 
   others-tied : f.is_tied ≡ true → tied_count parties ≡ tied_count r + 1
-  others-tied tie = ap tied_count split ∙ sum_by-cons (λ (d : Contender). cond d.is_tied 1 0) f r ∙ (rw tie (omega arith))
+  others-tied tie = ap tied_count split ∙ sum_by-cons (λ (d : Party). cond d.is_tied 1 0) f r ∙ (rw tie (omega arith))
 
   -- the first party has more than in the start
-  pub placed-above : (new : List Contender) (tied more left : ℕ) → a < f.seats → tied ≡ tied_count parties → more ≤ tied → left ≡ more - tied_count (f ∷ r)
+  pub placed-above : (new : List Party) (tied more left : ℕ) → a < f.seats → tied ≡ tied_count parties → more ≤ tied → left ≡ more - tied_count (f ∷ r)
       → choices_from new ≡ choices (standings (f ∷ r)) (more - left) → choices_from new ≡ later_than (Some start) (choices (standings parties) more)
   placed-above new tied more left less is enough rest first =
       let all : more - left ≡ more = omega (arith, is, enough, rest, ap tied_count split) in
@@ -170,7 +170,7 @@ module _ (f : Contender) (r parties : List Contender) (a : ℕ) (ys start : List
   none-above more less stuck = sym (whole more ∙ none-later (standing f) (standings r) more a ys less stuck)
 
   -- it has less, and as much with one more
-  pub placed-with_more : (c : Contender) (new : List Contender) (more : ℕ) (found : Bool) → c.seats ≡ f.seats → c.has_more ≡ true → f.is_tied ≡ true → f.seats < a → a - f.seats ≤ 1 → 0 < more
+  pub placed-with_more : (c : Party) (new : List Party) (more : ℕ) (found : Bool) → c.seats ≡ f.seats → c.has_more ≡ true → f.is_tied ≡ true → f.seats < a → a - f.seats ≤ 1 → 0 < more
       → allocations_left found new ≡ later_than (Some ys) (choices (standings r) (more - 1))
       → allocations_left found (c ∷ new) ≡ later_than (Some start) (choices (standings parties) more)
   placed-with_more c new more found same h tie less near some rest = front found rest ∙ sym back
@@ -193,7 +193,7 @@ module _ (f : Contender) (r parties : List Contender) (a : ℕ) (ys start : List
       → later_than (Some start) (choices (standings parties) more) ≡ later_than (Some (f.seats ∷ ys)) (choices ((f.seats, tied) ∷ standings r) more)
   same-whole more tied is tie = whole more ∙ ap₂ (λ n b. later_than (Some (n ∷ ys)) (choices ((f.seats, b) ∷ standings r) more)) is tie
 
-  pub placed-same : (c : Contender) (new : List Contender) (more : ℕ) → c.seats ≡ f.seats → c.is_tied ≡ f.is_tied → c.has_more ≡ false → a ≡ f.seats → standings new ≡ standings r → more_count new ≡ more
+  pub placed-same : (c : Party) (new : List Party) (more : ℕ) → c.seats ≡ f.seats → c.is_tied ≡ f.is_tied → c.has_more ≡ false → a ≡ f.seats → standings new ≡ standings r → more_count new ≡ more
       → choices_from new ≡ later_than (Some ys) (choices (standings r) more) → choices_from (c ∷ new) ≡ later_than (Some start) (choices (standings parties) more)
   placed-same c new more same ties h is stand count rest = go f.is_tied refl
     where
@@ -216,7 +216,7 @@ module _ (f : Contender) (r parties : List Contender) (a : ℕ) (ys start : List
           ∙ ap₂ (λ x y. map (λ l. f.seats ∷ l) x ++ map (λ l. (f.seats + 1) ∷ l) y) (sym rest) (ap (choices_less (standings r)) (stuck tie)))
       go false tie = sym (same-whole more false is tie ∙ same-free f.seats (standings r) more ys ∙ ap (map (λ l. f.seats ∷ l)) (sym rest))
 
-  pub placed-raised : (c : Contender) (between new : List Contender) (tied more left : ℕ) → c.seats ≡ f.seats → c.has_more ≡ true → f.is_tied ≡ true → a ≡ f.seats → 0 < more → more ≤ tied → tied ≡ tied_count parties
+  pub placed-raised : (c : Party) (between new : List Party) (tied more left : ℕ) → c.seats ≡ f.seats → c.has_more ≡ true → f.is_tied ≡ true → a ≡ f.seats → 0 < more → more ≤ tied → tied ≡ tied_count parties
       → standings between ≡ standings r → left ≡ (more - 1) - tied_count between → choices_from new ≡ choices (standings between) (more - 1 - left)
       → [] ≡ later_than (Some ys) (choices (standings r) more) → choices_from (c ∷ new) ≡ later_than (Some start) (choices (standings parties) more)
   placed-raised c between new tied more left same h tie is some enough ties stand rest first none =
@@ -227,6 +227,6 @@ module _ (f : Contender) (r parties : List Contender) (a : ℕ) (ys start : List
       ∙ ap₂ (λ x y. map (λ l. f.seats ∷ l) x ++ map (λ l. (f.seats + 1) ∷ l) y) (sym none) (ap (choices_less (standings r)) next))
 
   -- with one more, so many have more
-  pub count-raised : (between new : List Contender) (tied more left : ℕ) → f.is_tied ≡ true → 0 < more → more ≤ tied → tied ≡ tied_count parties
+  pub count-raised : (between new : List Party) (tied more left : ℕ) → f.is_tied ≡ true → 0 < more → more ≤ tied → tied ≡ tied_count parties
       → standings between ≡ standings r → left ≡ (more - 1) - tied_count between → more_count new + left ≡ more - 1 → 1 + more_count new ≡ more
   count-raised between new tied more left tie some enough ties stand rest placed = omega (arith, some, rest, enough, ties, placed, others-tied tie, same-ties r between stand)

@@ -6,7 +6,7 @@ use Rattle.seat_share.specs.Faults.{share_fault}
 use Rattle.std.specs.List.{AllByRecursion}
 use Rattle.std.proofs.lemmas.List.Sums.{sum_by-cons}
 use Rattle.std.proofs.lemmas.List.{take_more, length-append}
-use Rattle.seat_share.specs.declared.contender.Contender.{Contender}
+use Rattle.seat_share.specs.declared.party.Party.{Party}
 use Rattle.seat_share.specs.declared.method.Method.{Method}
 use Rattle.seat_share.specs.Limits.{most_parties, most_seats, most_votes}
 use Rattle.seat_share.specs.Quotients.{Quotient}
@@ -39,51 +39,51 @@ module _ {X : Type 0} where
   map-push f (y ∷ ys) x = ap (λ l. f y ∷ l) (map-push f ys x)
 
 -- one more party has its votes
-pub votes-more : (votes : List ℕ) (cs : List Contender) (i : ℕ) (c : Contender) → i < length votes → i < length cs → c.votes ≡ get_or votes i 0
+pub votes-more : (votes : List ℕ) (cs : List Party) (i : ℕ) (c : Party) → i < length votes → i < length cs → c.votes ≡ get_or votes i 0
     → votes_of (take i cs) ≡ take i votes → votes_of (take (i + 1) (set cs i c)) ≡ take (i + 1) votes
 votes-more votes cs i c within room is so_far =
     let next : i + 1 ≡ suc i = omega arith in
-    ap (λ n. votes_of (take n (set cs i c))) next ∙ ap votes_of (take-set cs i c room) ∙ map-push (λ (d : Contender). d.votes) (take i cs) c
+    ap (λ n. votes_of (take n (set cs i c))) next ∙ ap votes_of (take-set cs i c room) ∙ map-push (λ (d : Party). d.votes) (take i cs) c
     ∙ ap₂ (λ l n. l ++ n ∷ []) so_far is ∙ sym (take_more votes i 0 within)
 
 -- one more party has its seats
-pub seats-more : (cs : List Contender) (list : List ℕ) (i seats : ℕ) (d : Contender) → i < length cs → i < length list → seats ≡ (get_or cs i d).seats + cond (get_or cs i d).has_more 1 0
+pub seats-more : (cs : List Party) (list : List ℕ) (i seats : ℕ) (d : Party) → i < length cs → i < length list → seats ≡ (get_or cs i d).seats + cond (get_or cs i d).has_more 1 0
     → take i list ≡ allocation (take i cs) → take (i + 1) (set list i seats) ≡ allocation (take (i + 1) cs)
 seats-more cs list i seats d within room is so_far =
     let next : i + 1 ≡ suc i = omega arith in
     ap (λ n. take n (set list i seats)) next ∙ take-set list i seats room ∙ ap₂ (λ l n. l ++ n ∷ []) so_far is
-    ∙ sym (ap allocation (take_more cs i d within) ∙ map-push (λ (c : Contender). c.seats + cond c.has_more 1 0) (take i cs) (get_or cs i d))
+    ∙ sym (ap allocation (take_more cs i d within) ∙ map-push (λ (c : Party). c.seats + cond c.has_more 1 0) (take i cs) (get_or cs i d))
 
 -- ---- the choices
-sure-sum : (cs : List Contender) → sure_seats (standings cs) ≡ seats_of cs
+sure-sum : (cs : List Party) → sure_seats (standings cs) ≡ seats_of cs
 sure-sum [] = refl
-sure-sum (c ∷ cs) = ap (λ n. c.seats + n) (sure-sum cs) ∙ sym (sum_by-cons (λ (d : Contender). d.seats) c cs)
+sure-sum (c ∷ cs) = ap (λ n. c.seats + n) (sure-sum cs) ∙ sym (sum_by-cons (λ (d : Party). d.seats) c cs)
 
 -- parties that stand at a threshold have the fair allocations for their choices
-pub choices-fair : (method : Method) (total most more : ℕ) (low : Quotient) (old : List ℕ) (cs : List Contender) → 0 < total → total ≡ sum old → votes_of cs ≡ old
-    → AllByRecursion (λ (c : Contender). Stands (claim method total most) most low c.votes c.seats c.is_tied) cs
+pub choices-fair : (method : Method) (total most more : ℕ) (low : Quotient) (old : List ℕ) (cs : List Party) → 0 < total → total ≡ sum old → votes_of cs ≡ old
+    → AllByRecursion (λ (c : Party). Stands (claim method total most) most low c.votes c.seats c.is_tied) cs
     → seats_of cs + more ≡ most → more ≤ tied_count cs → choices (standings cs) more ≡ allocations method old most
 choices-fair method total most more low old cs some is votes stand given enough =
     let same : total ≡ sum (votes_of cs) = is ∙ ap sum (sym votes) in
-    let those = subst (λ t. AllByRecursion (λ (c : Contender). Stands (claim method t most) most low c.votes c.seats c.is_tied) cs) same stand in
+    let those = subst (λ t. AllByRecursion (λ (c : Party). Stands (claim method t most) most low c.votes c.seats c.is_tied) cs) same stand in
     let somebody : 0 < sum (votes_of cs) = omega (arith, some, same) in
     sym (fair-choices method cs most low somebody those more (ap (λ n. n + more) (sure-sum cs) ∙ given) enough)
     ∙ ap (λ l. allocations method l most) votes
 
 -- the first of the choices is placed
-pub first-placed : (all : List (List ℕ)) (more left : ℕ) (cs new : List Contender) → choices (standings cs) more ≡ all → more ≤ tied_count cs → left ≡ more - tied_count cs
+pub first-placed : (all : List (List ℕ)) (more left : ℕ) (cs new : List Party) → choices (standings cs) more ≡ all → more ≤ tied_count cs → left ≡ more - tied_count cs
     → choices_from new ≡ choices (standings cs) (more - left) → choices_from new ≡ all
 first-placed all more left cs new is enough rest first =
     let whole : more - left ≡ more = omega (arith, enough, rest) in
     first ∙ ap (choices (standings cs)) whole ∙ is
 
 -- the first that is later than a start is
-pub later-placed : (all : List (List ℕ)) (more : ℕ) (start : List ℕ) (found : Bool) (cs between new : List Contender) → choices (standings cs) more ≡ all → standings between ≡ standings cs
+pub later-placed : (all : List (List ℕ)) (more : ℕ) (start : List ℕ) (found : Bool) (cs between new : List Party) → choices (standings cs) more ≡ all → standings between ≡ standings cs
     → allocations_left found new ≡ later_than (Some start) (choices (standings between) more) → allocations_left found new ≡ later_than (Some start) all
 later-placed all more start found cs between new is same later = later ∙ ap (later_than (Some start)) (ap (λ ss. choices ss more) same ∙ is)
 
 -- what standings say of seats
-few-standings : (old new : List Contender) → standings new ≡ standings old → AllByRecursion (λ (c : Contender). c.seats ≤ most_seats) old → AllByRecursion (λ (c : Contender). c.seats ≤ most_seats) new
+few-standings : (old new : List Party) → standings new ≡ standings old → AllByRecursion (λ (c : Party). c.seats ≤ most_seats) old → AllByRecursion (λ (c : Party). c.seats ≤ most_seats) new
 few-standings [] [] same all = tt
 few-standings [] (d ∷ ds) same all = impossible (omega (arith, ap length same))
 few-standings (c ∷ cs) [] same all = tt
@@ -99,23 +99,23 @@ few-standings (c ∷ cs) (d ∷ ds) same all =
     tail_of [] = []
     tail_of (s ∷ ss) = ss
 
-few-within : (most : ℕ) (cs : List Contender) → most ≤ most_seats → seats_of cs ≤ most → AllByRecursion (λ (c : Contender). c.seats ≤ most_seats) cs
+few-within : (most : ℕ) (cs : List Party) → most ≤ most_seats → seats_of cs ≤ most → AllByRecursion (λ (c : Party). c.seats ≤ most_seats) cs
 few-within most [] hm fits = tt
 few-within most (c ∷ cs) hm fits =
-    let split = sum_by-cons (λ (d : Contender). d.seats) c cs in
+    let split = sum_by-cons (λ (d : Party). d.seats) c cs in
     (omega (arith, hm, fits, split), few-within most cs hm (omega (arith, fits, split)))
 
-pub choosing : (most more : ℕ) (cs new : List Contender) → most ≤ most_seats → seats_of cs + more ≡ most → standings new ≡ standings cs → MoreAreTied new → IsChoosing new
+pub choosing : (most more : ℕ) (cs new : List Party) → most ≤ most_seats → seats_of cs + more ≡ most → standings new ≡ standings cs → MoreAreTied new → IsChoosing new
 choosing most more cs new hm given same tied = record {
   more = tied;
   seats = few-standings cs new same (few-within most cs hm (omega (arith, given)));
 }
 
 -- votes that are at most 2^32 together are so one by one
-pub few-votes : (cs : List Contender) (votes : List ℕ) → votes_of cs ≡ votes → sum votes ≤ most_votes → AllByRecursion (λ (c : Contender). c.votes ≤ most_votes) cs
+pub few-votes : (cs : List Party) (votes : List ℕ) → votes_of cs ≡ votes → sum votes ≤ most_votes → AllByRecursion (λ (c : Party). c.votes ≤ most_votes) cs
 few-votes cs votes same most = go cs (omega (arith, ap sum same, most))
   where
-    go : (ds : List Contender) → sum (votes_of ds) ≤ most_votes → AllByRecursion (λ (c : Contender). c.votes ≤ most_votes) ds
+    go : (ds : List Party) → sum (votes_of ds) ≤ most_votes → AllByRecursion (λ (c : Party). c.votes ≤ most_votes) ds
     go [] h = tt
     go (d ∷ ds) h =
         let split = sum_by-cons (λ x. x) d.votes (votes_of ds) in
@@ -150,6 +150,6 @@ pub long-enough : {X : Type 0} (xs ys : List X) (n : ℕ) → length xs ≡ n �
 long-enough xs ys n h = omega (arith, h, length-append xs ys)
 
 -- after a step the parties are still choosing
-pub still-choosing : (count : ℕ) (old new tail : List Contender) → length new ≡ count → IsChoosing old → standings new ≡ standings old → MoreAreTied new → IsChoosing (take count (new ++ tail))
+pub still-choosing : (count : ℕ) (old new tail : List Party) → length new ≡ count → IsChoosing old → standings new ≡ standings old → MoreAreTied new → IsChoosing (take count (new ++ tail))
 still-choosing count old new tail long choosing same tied =
     subst IsChoosing (sym (take-front new tail count long)) (record { more = tied; seats = few-standings old new same choosing.seats })

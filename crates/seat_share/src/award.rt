@@ -14,7 +14,7 @@ ghost use Rattle.seat_share.specs.Steps.Standings.{AllKeep, AllStand, AreWithin,
 ghost use Rattle.seat_share.specs.Steps.Standings.{votes_of, seats_of, tied_count};
 
 use crate::claims::{Contest, Quotient};
-use crate::contender::Contender;
+use crate::party::Party;
 
 /// A party, by its place, and its claim to one more seat.
 #[derive(Clone, Copy, Debug)]
@@ -24,7 +24,7 @@ struct Claimant {
 }
 
 /// A party whose claim to one more seat is greatest, where a party has votes.
-fn first_claimant(contest: Contest, parties: &[Contender]) -> Option<Claimant>
+fn first_claimant(contest: Contest, parties: &[Party]) -> Option<Claimant>
     requires { AreWithin contest.seats parties.now }
     ensures greatest { IsGreatest (claim contest.method contest.votes contest.seats) parties.now result }
 {
@@ -41,7 +41,7 @@ fn first_claimant(contest: Contest, parties: &[Contender]) -> Option<Claimant>
 
 /// The one with the greater claim: the best so far, or else the later one.
 fn greater(best: Option<Claimant>, later: Claimant) -> Claimant
-    ensures { (claims : ℕ → ℕ → Quotient) (before : List Contender) (c : Contender) →
+    ensures { (claims : ℕ → ℕ → Quotient) (before : List Party) (c : Party) →
         length before ≡ later.place → 0 < c.votes → later.quotient ≡ claims c.votes c.seats →
         IsGreatest claims before best → IsGreatest claims (before ++ c ∷ []) (Some result) }
 {
@@ -53,7 +53,7 @@ fn greater(best: Option<Claimant>, later: Claimant) -> Claimant
 
 /// Gives all seats, one after the other, each to a party with a greatest claim to one more. Answers the last claim that
 /// was met.
-pub(crate) fn award(contest: Contest, parties: &mut [Contender]) -> Quotient
+pub(crate) fn award(contest: Contest, parties: &mut [Party]) -> Quotient
     requires votes { AllByRecursion (λ c. c.votes ≤ most_votes) parties.old }
     requires fresh { AllByRecursion (λ c. c.seats ≡ 0) parties.old }
     requires total { contest.votes ≡ sum (votes_of parties.old) }
@@ -79,7 +79,7 @@ pub(crate) fn award(contest: Contest, parties: &mut [Contender]) -> Quotient
 
 /// Takes back the seats that were met at the threshold itself, and marks the parties that are tied there. Answers how
 /// many seats were taken back.
-pub(crate) fn settle(contest: Contest, low: Quotient, parties: &mut [Contender]) -> usize
+pub(crate) fn settle(contest: Contest, low: Quotient, parties: &mut [Party]) -> usize
     requires few { length parties.old ≤ most_parties }
     requires within { AreWithin contest.seats parties.old }
     requires some { 0 < contest.votes }

@@ -3,10 +3,10 @@
 
 mod award;
 mod claims;
-mod contender;
 pub mod laws;
 pub mod limits;
 pub mod method;
+mod party;
 pub mod shares;
 
 pub use limits::{MOST_PARTIES, MOST_SEATS, MOST_VOTES};

@@ -10,9 +10,9 @@ ghost use Rattle.seat_share.specs.Steps.Standings.{IsChoosing, allocation, alloc
 
 use crate::award::{award, settle};
 use crate::claims::Contest;
-use crate::contender::{Contender, advance, count_tied, place_after, place_last};
 use crate::limits::{MOST_PARTIES, MOST_SEATS, MOST_VOTES};
 use crate::method::{Method, ShareFault};
+use crate::party::{Party, advance, count_tied, place_after, place_last};
 use std::marker::Model;
 
 /// The seats of each party, in the order of the parties.
@@ -45,7 +45,7 @@ impl Allocation {
 /// All fair allocations of seats by a method, in ascending order. Contracts see the list of those still to come.
 #[derive(Drop)]
 pub struct Shares {
-    parties: [Contender; MOST_PARTIES],
+    parties: [Party; MOST_PARTIES],
     count: usize,
     is_left: bool,
 }
@@ -88,7 +88,7 @@ impl Shares {
             votes: total(votes) as u64,
             seats,
         };
-        let mut parties = contenders(votes);
+        let mut parties = parties_with(votes);
         let is_left = choose(contest, &mut parties[..votes.len()], after);
         Ok(Shares {
             parties,
@@ -155,12 +155,12 @@ fn total(votes: &[u64]) -> u128
 }
 
 /// The parties, before a seat is given.
-fn contenders(votes: &[u64]) -> [Contender; MOST_PARTIES]
+fn parties_with(votes: &[u64]) -> [Party; MOST_PARTIES]
     requires { length votes.now ≤ most_parties }
     ensures votes { votes_of (take (length votes.now) result) ≡ votes.now }
     ensures fresh { AllByRecursion (λ c. c.seats ≡ 0) (take (length votes.now) result) }
 {
-    let nobody = Contender {
+    let nobody = Party {
         votes: 0,
         seats: 0,
         is_tied: false,
@@ -175,7 +175,7 @@ fn contenders(votes: &[u64]) -> [Contender; MOST_PARTIES]
 
 /// Gives the parties their certain seats, and places the seats of a tie for the first allocation, or for the first that
 /// is later than the start. Answers whether there is one.
-fn choose(contest: Contest, parties: &mut [Contender], after: Option<&[u16]>) -> bool
+fn choose(contest: Contest, parties: &mut [Party], after: Option<&[u16]>) -> bool
     requires few { length parties.old ≤ most_parties }
     requires votes { AllByRecursion (λ c. c.votes ≤ most_votes) parties.old }
     requires fresh { AllByRecursion (λ c. c.seats ≡ 0) parties.old }
@@ -196,7 +196,7 @@ fn choose(contest: Contest, parties: &mut [Contender], after: Option<&[u16]>) ->
 }
 
 /// The allocation that comes next.
-fn allocation_of(parties: &[Contender]) -> Allocation
+fn allocation_of(parties: &[Party]) -> Allocation
     requires few { length parties.now ≤ most_parties }
     requires valid { IsChoosing parties.now }
     ensures { result ≡ allocation parties.now }

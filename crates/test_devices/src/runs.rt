@@ -40,7 +40,7 @@ pub fn run_on<'a, A: Allocator + Copy + Drop>(
 ) -> Ended<'a>
     ensures ends { Ends request.now (told_reader reader.entry) (told_reader result.reader)
         (told_writer out) (told_writer result.out) (told_writer err) (told_writer result.err) result.status }
-    ensures votes { has_votes request.now.demand ≡ true → result.reader ≡ reader.entry }
+    ensures votes { has_votes request.now.task ≡ true → result.reader ≡ reader.entry }
 {
     let status = run(alloc, request, &mut reader, &mut out, &mut err);
     Ended {

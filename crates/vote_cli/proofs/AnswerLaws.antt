@@ -14,7 +14,7 @@ use Rattle.preflib_text.specs.Reading.{Reads}
 use Rattle.preflib_text.specs.declared.fault.ReadFault.{ReadFault}
 use Rattle.preflib_text.specs.declared.pick.Pick.{Pick}
 use Rattle.preflib_text.proofs.ReadLemmas.{outcome_is_one, some_outcome_is}
-use Rattle.request_words.specs.Request.{Asked, Demand, electing, checking, sharing, of_ballots, of_votes}
+use Rattle.request_words.specs.Request.{Request, Task, electing, checking, sharing, of_ballots, of_votes}
 use Rattle.vote_cli.specs.FaultText.{fault_text}
 use Rattle.vote_cli.specs.Names.{naming}
 use Rattle.vote_cli.specs.CheckText.{holds_text, violation_text}
@@ -80,7 +80,7 @@ module _ (IsRight : Election → Answer → Type 0) (one : (e : Election) (a b :
       (subst (λ read. MatchResult read (λ e. IsRight e b) (λ fault. b ≡ refused InputRefused (fault_text fault)))
       (outcome_is_one bytes pick y.0 x.0 y.1 x.1) y.2)
 
-one_answer_to : (with_names : Bool) (demand : Demand) (pick : Pick) (bytes : List ℕ) (a b : Answer) → IsAnswerTo with_names demand pick bytes a → IsAnswerTo with_names demand pick bytes b → a ≡ b
+one_answer_to : (with_names : Bool) (task : Task) (pick : Pick) (bytes : List ℕ) (a b : Answer) → IsAnswerTo with_names task pick bytes a → IsAnswerTo with_names task pick bytes b → a ≡ b
 one_answer_to with_names (of_ballots (electing rule size page)) pick bytes a b x y =
     one_over (λ e answer. answer ≡ election_answer rule size page with_names e) (λ e a b x y. x ∙ sym y) pick bytes a b x y
 one_answer_to with_names (of_ballots (checking property list)) pick bytes a b x y =
@@ -89,8 +89,8 @@ one_answer_to with_names (of_ballots (sharing method seats page)) pick bytes a b
     one_over (λ e answer. answer ≡ ballots_answer method seats page with_names e) (λ e a b x y. x ∙ sym y) pick bytes a b x y
 one_answer_to with_names (of_votes votes method seats page) pick bytes a b x y = x ∙ sym y
 
-pub one_answer : (asked : Asked) (bytes : List ℕ) (a b : Answer) → IsAnswer asked bytes a → IsAnswer asked bytes b → a ≡ b
-one_answer asked bytes a b x y = one_answer_to asked.names asked.demand asked.pick bytes a b x y
+pub one_answer : (asked : Request) (bytes : List ℕ) (a b : Answer) → IsAnswer asked bytes a → IsAnswer asked bytes b → a ≡ b
+one_answer asked bytes a b x y = one_answer_to asked.names asked.task asked.pick bytes a b x y
 
 -- ---- and one at least
 
@@ -113,7 +113,7 @@ module _ (IsRight : Election → Answer → Type 0) (some : (e : Election) → (
       by (Ok e, reads) = ((some e).0, (Ok e, reads, (some e).1))
       by (Err fault, reads) = (refused InputRefused (fault_text fault), (Err fault, reads, refl))
 
-some_answer_to : (with_names : Bool) (demand : Demand) (pick : Pick) (bytes : List ℕ) → (answer : Answer) × IsAnswerTo with_names demand pick bytes answer
+some_answer_to : (with_names : Bool) (task : Task) (pick : Pick) (bytes : List ℕ) → (answer : Answer) × IsAnswerTo with_names task pick bytes answer
 some_answer_to with_names (of_ballots (electing rule size page)) pick bytes =
     some_over (λ e answer. answer ≡ election_answer rule size page with_names e) (λ e. (election_answer rule size page with_names e, refl)) pick bytes
 some_answer_to with_names (of_ballots (checking property list)) pick bytes =
@@ -122,5 +122,5 @@ some_answer_to with_names (of_ballots (sharing method seats page)) pick bytes =
     some_over (λ e answer. answer ≡ ballots_answer method seats page with_names e) (λ e. (ballots_answer method seats page with_names e, refl)) pick bytes
 some_answer_to with_names (of_votes votes method seats page) pick bytes = (share_answer method seats page (naming with_names []) votes, refl)
 
-pub some_answer : (asked : Asked) (bytes : List ℕ) → (answer : Answer) × IsAnswer asked bytes answer
-some_answer asked bytes = some_answer_to asked.names asked.demand asked.pick bytes
+pub some_answer : (asked : Request) (bytes : List ℕ) → (answer : Answer) × IsAnswer asked bytes answer
+some_answer asked bytes = some_answer_to asked.names asked.task asked.pick bytes

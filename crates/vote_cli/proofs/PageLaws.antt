@@ -13,14 +13,14 @@ use Rattle.preflib_text.specs.Reading.{Reads}
 use Rattle.preflib_text.specs.declared.fault.ReadFault.{ReadFault}
 use Rattle.preflib_text.specs.declared.pick.Pick.{Pick}
 use Rattle.preflib_text.proofs.ReadLemmas.{outcome_is_one}
-use Rattle.request_words.specs.Request.{Asked, Demand, Paging, electing, checking, sharing, whole, of_ballots, of_votes}
+use Rattle.request_words.specs.Request.{Request, Task, Page, electing, checking, sharing, whole, of_ballots, of_votes}
 use Rattle.seat_share.specs.Faults.{share_fault}
 use Rattle.seat_share.specs.declared.method.Method.{Method}
 use Rattle.seat_share.specs.declared.method.ShareFault.{ShareFault}
 use Rattle.vote_cli.specs.FaultText.{fault_text}
 use Rattle.vote_cli.specs.Laws.{IsCut, IsListed, IsListedBy, IsPart, IsSameRefusal, Listed, asked_for, elect_listed, front, is_listing, line_for, page_of, share_listed, with_page}
 use Rattle.vote_cli.specs.Listing.{last_line, listing_text}
-use Rattle.vote_cli.specs.Names.{Naming, naming}
+use Rattle.vote_cli.specs.Names.{Names, naming}
 use Rattle.vote_cli.specs.Parties.{has_many_approved, party_votes}
 use Rattle.vote_cli.specs.Starts.{may_start}
 use Rattle.vote_cli.specs.Text.{line}
@@ -69,14 +69,14 @@ related_refusals : (IsOf : Listed → Type 0) (R : Listed → Answer → Answer 
 related_refusals IsOf R answer none = inl (none, refl)
 
 -- the text of a page of what is listed
-abbrev pub text_of : Listed → Paging → List ℕ
+abbrev pub text_of : Listed → Page → List ℕ
 text_of listed page = listing_text listed.line_of listed.header page listed.answers
 
 -- ---- a limit
-abbrev unlimited : Option (List ℕ) → Paging
+abbrev unlimited : Option (List ℕ) → Page
 unlimited after = record { after = after; limit = None }
 
-abbrev up_to : Option (List ℕ) → ℕ → Paging
+abbrev up_to : Option (List ℕ) → ℕ → Page
 up_to after n = record { after = after; limit = Some n }
 
 abbrev CutOf : Option (List ℕ) → ℕ → Listed → Answer → Answer → Type 0
@@ -134,14 +134,14 @@ module _ (IsOf : Listed → Type 0) (listed : Listed) (is : IsOf listed) (after 
   cut_shared None false = inl (refl, refl)
   cut_shared None true = inr (listed, is, cut_listed listed after n)
 
-cut_votes : (IsOf : Listed → Type 0) (method : Method) (seats : ℕ) (after : Option (List ℕ)) (n : ℕ) (names : Naming) (votes : List ℕ) → IsOf (share_listed names method seats votes)
+cut_votes : (IsOf : Listed → Type 0) (method : Method) (seats : ℕ) (after : Option (List ℕ)) (n : ℕ) (names : Names) (votes : List ℕ) → IsOf (share_listed names method seats votes)
     → Related IsOf (CutOf after n) (share_answer method seats (unlimited after) names votes) (share_answer method seats (up_to after n) names votes)
 cut_votes IsOf method seats after n names votes is =
     cut_shared IsOf (share_listed names method seats votes) is after n (share_fault votes seats None) (may_start (share_listed names method seats votes).may_follow after)
 
-cut_to : (with_names : Bool) (demand : Demand) (pick : Pick) (bytes : List ℕ) (after : Option (List ℕ)) (n : ℕ) (all cut : Answer) → is_listing demand ≡ true
-    → IsAnswerTo with_names (with_page (unlimited after) demand) pick bytes all → IsAnswerTo with_names (with_page (up_to after n) demand) pick bytes cut
-    → Related (IsListedBy with_names demand pick bytes) (CutOf after n) all cut
+cut_to : (with_names : Bool) (task : Task) (pick : Pick) (bytes : List ℕ) (after : Option (List ℕ)) (n : ℕ) (all cut : Answer) → is_listing task ≡ true
+    → IsAnswerTo with_names (with_page (unlimited after) task) pick bytes all → IsAnswerTo with_names (with_page (up_to after n) task) pick bytes cut
+    → Related (IsListedBy with_names task pick bytes) (CutOf after n) all cut
 cut_to with_names (of_ballots (electing rule size page)) pick bytes after n all cut lists x y =
     let IsOf = IsListedBy with_names (of_ballots (electing rule size page)) pick bytes in
     let refusals = related_refusals IsOf (CutOf after n) in
@@ -163,16 +163,16 @@ cut_to with_names (of_votes votes method seats page) pick bytes after n all cut 
     let IsOf = IsListedBy with_names (of_votes votes method seats page) pick bytes in
     related (Related IsOf (CutOf after n)) (related_refusals IsOf (CutOf after n)) all cut _ _ x y (cut_votes IsOf method seats after n (naming with_names []) votes refl)
 
-pub limited : (asked : Asked) (bytes : List ℕ) (after : Option (List ℕ)) (n : ℕ) (all cut : Answer) → is_listing asked.demand ≡ true
+pub limited : (asked : Request) (bytes : List ℕ) (after : Option (List ℕ)) (n : ℕ) (all cut : Answer) → is_listing asked.task ≡ true
     → IsAnswer (asked_for (unlimited after) asked) bytes all → IsAnswer (asked_for (up_to after n) asked) bytes cut
     → IsSameRefusal all cut ⊎ ((listed : Listed) × IsListed asked bytes listed × IsCut listed (later_than after listed.answers) n all cut)
-limited asked bytes after n all cut lists x y = cut_to asked.names asked.demand asked.pick bytes after n all cut lists x y
+limited asked bytes after n all cut lists x y = cut_to asked.names asked.task asked.pick bytes after n all cut lists x y
 
 -- ---- a page
-abbrev PartOf : Paging → Listed → Answer → Answer → Type 0
+abbrev PartOf : Page → Listed → Answer → Answer → Type 0
 PartOf page listed = IsPart listed page
 
-module _ (IsOf : Listed → Type 0) (listed : Listed) (is : IsOf listed) (page : Paging) where
+module _ (IsOf : Listed → Type 0) (listed : Listed) (is : IsOf listed) (page : Page) where
   abbrev started : Bool → Answer
   started starts = if starts then answered (text_of listed page) else request_refused (codes "AfterMisfit")
 
@@ -191,14 +191,14 @@ module _ (IsOf : Listed → Type 0) (listed : Listed) (is : IsOf listed) (page :
   part_shared None false fits = part_listed (request_refused (codes "AfterMisfit")) (ap started fits)
   part_shared None true fits = part_listed (answered (text_of listed page)) (ap started fits)
 
-part_votes : (IsOf : Listed → Type 0) (page : Paging) (method : Method) (seats : ℕ) (names : Naming) (votes : List ℕ) → IsOf (share_listed names method seats votes)
+part_votes : (IsOf : Listed → Type 0) (page : Page) (method : Method) (seats : ℕ) (names : Names) (votes : List ℕ) → IsOf (share_listed names method seats votes)
     → Related IsOf (PartOf page) (share_answer method seats whole names votes) (share_answer method seats page names votes)
 part_votes IsOf page method seats names votes is =
     part_shared IsOf (share_listed names method seats votes) is page (share_fault votes seats None) (may_start (share_listed names method seats votes).may_follow page.after) refl
 
-part_to : (with_names : Bool) (demand : Demand) (pick : Pick) (bytes : List ℕ) (page : Paging) (all part : Answer) → is_listing demand ≡ true
-    → IsAnswerTo with_names (with_page whole demand) pick bytes all → IsAnswerTo with_names (with_page page demand) pick bytes part
-    → Related (IsListedBy with_names demand pick bytes) (PartOf page) all part
+part_to : (with_names : Bool) (task : Task) (pick : Pick) (bytes : List ℕ) (page : Page) (all part : Answer) → is_listing task ≡ true
+    → IsAnswerTo with_names (with_page whole task) pick bytes all → IsAnswerTo with_names (with_page page task) pick bytes part
+    → Related (IsListedBy with_names task pick bytes) (PartOf page) all part
 part_to with_names (of_ballots (electing rule size old)) pick bytes page all part lists x y =
     let IsOf = IsListedBy with_names (of_ballots (electing rule size old)) pick bytes in
     let refusals = related_refusals IsOf (PartOf page) in
@@ -218,7 +218,7 @@ part_to with_names (of_votes votes method seats old) pick bytes page all part li
     let IsOf = IsListedBy with_names (of_votes votes method seats old) pick bytes in
     related (Related IsOf (PartOf page)) (related_refusals IsOf (PartOf page)) all part _ _ x y (part_votes IsOf page method seats (naming with_names []) votes refl)
 
-pub paged : (asked : Asked) (bytes : List ℕ) (page : Paging) (all part : Answer) → is_listing asked.demand ≡ true
+pub paged : (asked : Request) (bytes : List ℕ) (page : Page) (all part : Answer) → is_listing asked.task ≡ true
     → IsAnswer (asked_for whole asked) bytes all → IsAnswer (asked_for page asked) bytes part
     → IsSameRefusal all part ⊎ ((listed : Listed) × IsListed asked bytes listed × IsPart listed page all part)
-paged asked bytes page all part lists x y = part_to asked.names asked.demand asked.pick bytes page all part lists x y
+paged asked bytes page all part lists x y = part_to asked.names asked.task asked.pick bytes page all part lists x y

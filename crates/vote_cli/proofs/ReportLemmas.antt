@@ -6,24 +6,24 @@ use Rattle.group_check.specs.declared.property.Violation.{Violation}
 use Rattle.group_check.specs.declared.property.Property.{Property}
 use Rattle.group_check.specs.declared.property.Property.TheVariants.{Jr, Ejr, EjrPlus}
 use Rattle.group_check.specs.Report.{is_in_group}
-use Rattle.vote_cli.specs.Names.{Naming, candidates_text}
+use Rattle.vote_cli.specs.Names.{Names, candidates_text}
 use Rattle.vote_cli.specs.Text.{line}
 use Rattle.vote_cli.specs.CheckText.{row_text, group_text, within_text}
 
 -- a report under any other property than pjr has no line of members
-pub no_within : (names : Naming) (property : Property) (within : List ℕ) → (property ≡ Jr) ⊎ ((property ≡ Ejr) ⊎ (property ≡ EjrPlus))
+pub no_within : (names : Names) (property : Property) (within : List ℕ) → (property ≡ Jr) ⊎ ((property ≡ Ejr) ⊎ (property ≡ EjrPlus))
     → within_text names property within ≡ []
 no_within names property within (inl is) = ap (λ p. within_text names p within) is
 no_within names property within (inr (inl is)) = ap (λ p. within_text names p within) is
 no_within names property within (inr (inr is)) = ap (λ p. within_text names p within) is
 
 -- a row's line, from its count on
-pub row_parts : (names : Naming) (ballot : List ℕ) (count : ℕ) → row_text names (ballot, count) ≡ decimal count ++ line (codes ": " ++ candidates_text names ballot)
+pub row_parts : (names : Names) (ballot : List ℕ) (count : ℕ) → row_text names (ballot, count) ≡ decimal count ++ line (codes ": " ++ candidates_text names ballot)
 row_parts names ballot count =
     ap (λ l. l ++ 10 ∷ []) (append_assoc (decimal count) (codes ": ") (candidates_text names ballot)) ∙ append_assoc (decimal count) (codes ": " ++ candidates_text names ballot) (10 ∷ [])
 
 -- the rows from one on are those after it, and before them that row if its voters are in the group
-module _ (names : Naming) (violation : Violation) (left : List Row) (row : Row) (rest : List Row) (is : left ≡ row ∷ rest) where
+module _ (names : Names) (violation : Violation) (left : List Row) (row : Row) (rest : List Row) (is : left ≡ row ∷ rest) where
   abbrev row_or_none : Bool → List ℕ
   row_or_none belongs =
       let others = filter (λ other. is_in_group violation other.0) rest in

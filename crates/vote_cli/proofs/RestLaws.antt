@@ -28,7 +28,7 @@ use Rattle.seat_share.proofs.LawLemmas.{facts}
 use Rattle.preflib_text.specs.Reading.{Reads}
 use Rattle.preflib_text.specs.declared.pick.Pick.{Pick}
 use Rattle.preflib_text.proofs.ReadLemmas.{outcome_is_one}
-use Rattle.request_words.specs.Request.{Asked, Demand, InRange, Paging, electing, checking, sharing, of_ballots, of_votes}
+use Rattle.request_words.specs.Request.{Request, Task, InRange, Page, electing, checking, sharing, of_ballots, of_votes}
 use Rattle.request_words.specs.declared.request.Rule.{Rule}
 use Rattle.request_words.specs.declared.request.Rule.TheVariants.{Scored, Sequential}
 use Rattle.vote_cli.specs.Answer.{Answer, IsAnswer, IsAnswerOver, IsAnswerTo, answered, ballots_answer, election_answer, refused, share_answer, share_answer_by}
@@ -36,7 +36,7 @@ use Rattle.vote_cli.specs.ElectText.{elect_answers}
 use Rattle.vote_cli.specs.FaultText.{fault_text}
 use Rattle.vote_cli.specs.Laws.{IsListed, IsListedBy, IsRest, Listed, asked_for, elect_listed, front, is_listing, later_of, page_from, share_listed, text_after, with_page}
 use Rattle.vote_cli.specs.Listing.{answers_text, has_more, last_line, within_limit}
-use Rattle.vote_cli.specs.Names.{Naming, naming}
+use Rattle.vote_cli.specs.Names.{Names, naming}
 use Rattle.vote_cli.specs.Parties.{has_many_approved, party_votes}
 use Rattle.vote_cli.specs.RuleValues.{value_by}
 use Rattle.vote_cli.specs.Starts.{has_seats_for, may_start}
@@ -91,7 +91,7 @@ front_shown None j later few = refl
 front_shown (Some n) j later few = take-take j n later (omega (arith, few))
 
 -- ---- the two texts
-module _ (listed : Listed) (page : Paging) (j : ℕ) (few : IfSome page.limit (λ n. j < n)) where
+module _ (listed : Listed) (page : Page) (j : ℕ) (few : IfSome page.limit (λ n. j < n)) where
   all_text : text_of listed page ≡ front listed (later_of listed page) j ++ text_after listed page j
   all_text =
       let later = later_of listed page in
@@ -136,7 +136,7 @@ over_election P pick bytes e answer reads x =
     subst (λ read. MatchResult read (λ e. P e answer) (λ fault. answer ≡ refused InputRefused (fault_text fault))) (outcome_is_one bytes pick x.0 (Ok e) x.1 reads) x.2
 
 -- ---- answers to requests
-module _ (listed : Listed) (page : Paging) (j : ℕ) (last : List ℕ) (few : IfSome page.limit (λ n. j < n)) (order : AreInOrder listed.answers)
+module _ (listed : Listed) (page : Page) (j : ℕ) (last : List ℕ) (few : IfSome page.limit (λ n. j < n)) (order : AreInOrder listed.answers)
     (fits : (x : List ℕ) → Contains listed.answers x → listed.may_follow x ≡ true) (some : 1 ≤ j) (is : slice_get (later_of listed page) (j - 1) ≡ Some last) where
   last_fits : listed.may_follow last ≡ true
   last_fits =
@@ -186,7 +186,7 @@ share_fits method votes seats x most c =
     and_from (length x == length votes) (list_all (λ n. nat_le n most_seats) x) (eq-eqb (length x) (length votes) known.long) (each_at_most most_seats x (omega (arith, known.all, most)))
 
 -- ---- the law
-rest_votes : (names : Naming) (method : Method) (seats : ℕ) (votes : List ℕ) (listed : Listed) (page : Paging) (j : ℕ) (last : List ℕ) (all rest : Answer) → seats ≤ most_seats
+rest_votes : (names : Names) (method : Method) (seats : ℕ) (votes : List ℕ) (listed : Listed) (page : Page) (j : ℕ) (last : List ℕ) (all rest : Answer) → seats ≤ most_seats
     → listed ≡ share_listed names method seats votes → 1 ≤ j → IfSome page.limit (λ n. j < n) → slice_get (later_of listed page) (j - 1) ≡ Some last
     → all ≡ share_answer method seats page names votes → all.status ≡ Answered → rest ≡ share_answer method seats (page_from page j last) names votes → IsRest listed page j all rest
 rest_votes names method seats votes listed page j last all rest most same some few is left whole right =
@@ -196,9 +196,9 @@ rest_votes names method seats votes listed page j last all rest most same some f
     (share_fault votes seats None) (may_start (has_seats_for (length votes)) page.after) all rest left whole right)
     is
 
-rest_to : (with_names : Bool) (demand : Demand) (pick : Pick) (bytes : List ℕ) (listed : Listed) (page : Paging) (j : ℕ) (last : List ℕ) (all rest : Answer) → is_listing demand ≡ true
-    → InRange demand → IsListedBy with_names demand pick bytes listed → 1 ≤ j → IfSome page.limit (λ n. j < n) → slice_get (later_of listed page) (j - 1) ≡ Some last
-    → IsAnswerTo with_names (with_page page demand) pick bytes all → all.status ≡ Answered → IsAnswerTo with_names (with_page (page_from page j last) demand) pick bytes rest
+rest_to : (with_names : Bool) (task : Task) (pick : Pick) (bytes : List ℕ) (listed : Listed) (page : Page) (j : ℕ) (last : List ℕ) (all rest : Answer) → is_listing task ≡ true
+    → InRange task → IsListedBy with_names task pick bytes listed → 1 ≤ j → IfSome page.limit (λ n. j < n) → slice_get (later_of listed page) (j - 1) ≡ Some last
+    → IsAnswerTo with_names (with_page page task) pick bytes all → all.status ≡ Answered → IsAnswerTo with_names (with_page (page_from page j last) task) pick bytes rest
     → IsRest listed page j all rest
 rest_to with_names (of_ballots (electing rule size old)) pick bytes listed page j last all rest lists range (e, reads, same) some few is x whole y =
     let left = over_election (λ e answer. answer ≡ election_answer rule size page with_names e) pick bytes e all reads x in
@@ -221,8 +221,8 @@ rest_to with_names (of_ballots (sharing method seats old)) pick bytes listed pag
 rest_to with_names (of_votes votes method seats old) pick bytes listed page j last all rest lists range same some few is x whole y =
     rest_votes (naming with_names []) method seats votes listed page j last all rest range.1 same some few is x whole y
 
-pub rest_fetched : (asked : Asked) (bytes : List ℕ) (listed : Listed) (page : Paging) (j : ℕ) (last : List ℕ) (all rest : Answer) → is_listing asked.demand ≡ true
-    → InRange asked.demand → IsListed asked bytes listed → 1 ≤ j → IfSome page.limit (λ n. j < n) → slice_get (later_of listed page) (j - 1) ≡ Some last
+pub rest_fetched : (asked : Request) (bytes : List ℕ) (listed : Listed) (page : Page) (j : ℕ) (last : List ℕ) (all rest : Answer) → is_listing asked.task ≡ true
+    → InRange asked.task → IsListed asked bytes listed → 1 ≤ j → IfSome page.limit (λ n. j < n) → slice_get (later_of listed page) (j - 1) ≡ Some last
     → IsAnswer (asked_for page asked) bytes all → all.status ≡ Answered → IsAnswer (asked_for (page_from page j last) asked) bytes rest → IsRest listed page j all rest
 rest_fetched asked bytes listed page j last all rest lists range listed_is some few is x whole y =
-    rest_to asked.names asked.demand asked.pick bytes listed page j last all rest lists range listed_is some few is x whole y
+    rest_to asked.names asked.task asked.pick bytes listed page j last all rest lists range listed_is some few is x whole y

@@ -13,7 +13,7 @@ use Rattle.vote_cli.specs.declared.status.Status.TheVariants.{Answered, Violated
 use Rattle.vote_cli.specs.declared.answers.Outcome.TheVariants as outcome
 use Rattle.vote_cli.specs.declared.refusal.RequestFault.TheVariants as request_fault
 use Rattle.vote_cli.specs.declared.refusal.Refusal.TheVariants as refusal
-use Rattle.request_words.specs.Request.{Asked, Demand, IsPage, Paging, electing, checking, of_ballots, of_votes, sharing, whole, InRange}
+use Rattle.request_words.specs.Request.{Request, Task, IsPage, Page, electing, checking, of_ballots, of_votes, sharing, whole, InRange}
 use Rattle.vote_cli.specs.Device.{is_failed_write, bytes_given, AppendsBeginning, ReaderState, WriterState, reader_state, writer_state}
 use Rattle.vote_cli.specs.Laws.{IsCut, IsListed, IsPart, IsRest, IsSameRefusal, Listed, asked_for, elect_listed, front, is_listing, later_of, line_for, page_from, share_listed, text_after, with_page}
 use Rattle.vote_cli.specs.Listing.{allocation_line, committee_line}
@@ -59,15 +59,15 @@ three = election 3 ([] ∷ [] ∷ [] ∷ []) rows
 abbrev usual : Pick
 usual = record { kind = None; ending = None; way = Usual }
 
-abbrev asking : Demand → Asked
-asking demand = record { demand = demand; pick = usual; file = None; names = false }
+abbrev asking : Task → Request
+asking task = record { task = task; pick = usual; file = None; names = false }
 
 -- so many seats by approval voting
-abbrev seats : ℕ → Asked
+abbrev seats : ℕ → Request
 seats size = asking (of_ballots (electing (Scored (Thiele Av)) size whole))
 
 -- the first answer alone
-abbrev first_one : Paging
+abbrev first_one : Page
 first_one = record { after = None; limit = Some 1 }
 
 abbrev text : List ℕ
@@ -248,7 +248,7 @@ unfolding digits
 a_cut = record { all_is = refl; cut_is = refl }
 
 -- after 1 comes 2, and after no committee nothing
-abbrev after_one : Paging
+abbrev after_one : Page
 after_one = record { after = Some (1 ∷ []); limit = None }
 
 a_part : IsPart one_seat after_one (two_answers (line (codes "2") ++ line (codes "end"))) (answered (one_seat.header ++ line (codes "2") ++ line (codes "end")))
@@ -435,7 +435,7 @@ ends_in_part = inr (record {
 })
 
 -- with votes in the words no run ends without memory, nor does one blame a reader that had failed before
-abbrev of_two : Asked
+abbrev of_two : Request
 of_two = asking (of_votes (1 ∷ []) Dhondt 2 whole)
 
 never_without_memory : Ends of_two broken broken quiet quiet quiet (wrote memory_line false) NoMemory → ⊥

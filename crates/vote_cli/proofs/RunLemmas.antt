@@ -24,15 +24,16 @@ use Rattle.vote_cli.specs.declared.printing.WriteFailed.{WriteFailed as Broken}
 use Rattle.vote_cli.specs.declared.answers.Outcome.{Outcome}
 use Rattle.vote_cli.specs.declared.answers.Outcome.TheVariants as outcome
 use Rattle.vote_cli.specs.declared.refusal.Refusal.{Refusal}
-use Rattle.vote_cli.specs.declared.refusal.Refusal.TheVariants.{Input, Request, Memory, ReadFailed, WriteFailed}
+use Rattle.vote_cli.specs.declared.refusal.Refusal.TheVariants as reason
+use Rattle.vote_cli.specs.declared.refusal.Refusal.TheVariants.{Input, Memory, ReadFailed, WriteFailed}
 use Rattle.vote_cli.specs.declared.status.Status.{Status}
 use Rattle.vote_cli.specs.declared.status.Status.TheVariants as status
-use Rattle.request_words.specs.Request.{Asked, Paging, Question, of_ballots}
+use Rattle.request_words.specs.Request.{Request, Page, Question, of_ballots}
 use Rattle.request_words.specs.declared.request.Rule.{Rule}
 use Rattle.vote_cli.specs.ElectText.{elect_text}
 use Rattle.vote_cli.specs.FaultText.{fault_text}
 use Rattle.vote_cli.specs.Device.{ReaderState, WriterState}
-use Rattle.vote_cli.specs.Names.{Naming, naming}
+use Rattle.vote_cli.specs.Names.{Names, naming}
 use Rattle.vote_cli.specs.Steps.RequestFaults.{request_fault_word}
 use Rattle.vote_cli.specs.Answer.{Answer, IsAnswer, IsAnswerAbout, IsAnswerOver, IsAnswerTo, IsCheckAnswer, ballots_answer, may_be_checked, share_answer, answered, request_refused, refused, violated}
 use Rattle.vote_cli.specs.Runs.{Ends, IsRight, IsTooLong, ReadsSoundly, Reports, input_for}
@@ -64,7 +65,7 @@ writes_whole {old} {new} {had_failed} {has_failed} text printed done was prints 
     Passes-all (subst (λ p. Passes (alone old had_failed) (alone new has_failed) (is_ok p) text) was prints)
 
 -- the text of an election by a rule was not printed whole
-pub election_part : (asked rule : Rule) (size : ℕ) (page : Paging) (names : Naming) (e : Election) {printed : List ℕ} {old new : Option (List ℕ)} {had_failed has_failed whole : Bool} (result : Result Outcome Refusal)
+pub election_part : (asked rule : Rule) (size : ℕ) (page : Page) (names : Names) (e : Election) {printed : List ℕ} {old new : Option (List ℕ)} {had_failed has_failed whole : Bool} (result : Result Outcome Refusal)
     → asked ≡ rule → printed ≡ elect_text rule size page names e → IsErr result × IsErrAnd result (λ refusal. refusal ≡ WriteFailed) → Passes (alone old had_failed) (alone new has_failed) whole printed
     → WritesRight (λ answer. answer ≡ answered (elect_text asked size page names e)) old new result
 election_part asked rule size page names e {printed} result is same failed prints =
@@ -76,7 +77,7 @@ pub check_holds : (property : Property) (with_names : Bool) (e : Election) (m : 
 check_holds property with_names e m list committee all same rises few holds =
     inr (inl (subst (λ n. may_be_checked n list ≡ true) all (may_be_checked-true m list rises few), subst (HasProperty property e) same holds, refl))
 
-pub check_violated : (property : Property) (with_names : Bool) (e : Election) (m : ℕ) (list committee : List ℕ) (report : Violation) (names : Naming) → names ≡ naming with_names e.names → m ≡ e.m → committee ≡ list → IsIncreasing 1 m list → length list ≤ most_members
+pub check_violated : (property : Property) (with_names : Bool) (e : Election) (m : ℕ) (list committee : List ℕ) (report : Violation) (names : Names) → names ≡ naming with_names e.names → m ≡ e.m → committee ≡ list → IsIncreasing 1 m list → length list ≤ most_members
     → IsReport property e committee report → IsCheckAnswer property list with_names e (violated (violation_text names report e))
 check_violated property with_names e m list committee report names called all same rises few reports =
     inr (inr (subst (λ n. may_be_checked n list ≡ true) all (may_be_checked-true m list rises few), (report, subst (λ c. IsReport property e c report) same reports, ap (λ n. violated (violation_text n report e)) called)))
@@ -87,13 +88,13 @@ writes_wider : (P Q : Answer → Type 0) (old new : Option (List ℕ)) (result :
 writes_wider P Q old new (Ok outcome.Answered) wider h = (h.0, wider (answered h.0) h.1, h.2)
 writes_wider P Q old new (Ok outcome.Violated) wider h = (h.0, wider (violated h.0) h.1, h.2)
 writes_wider P Q old new (Err (Input fault)) wider h = (wider (refused status.InputRefused (fault_text fault)) h.0, h.1)
-writes_wider P Q old new (Err (Request fault)) wider h = (wider (request_refused (request_fault_word fault)) h.0, h.1)
+writes_wider P Q old new (Err (reason.Request fault)) wider h = (wider (request_refused (request_fault_word fault)) h.0, h.1)
 writes_wider P Q old new (Err Memory) wider h = h
 writes_wider P Q old new (Err ReadFailed) wider h = h
 writes_wider P Q old new (Err WriteFailed) wider h = (h.0, wider h.0 h.1, h.2)
 
 -- the answer about the votes of ballots that approve one candidate at most
-pub writes_ballots : (method : Method) (seats : ℕ) (page : Paging) (with_names : Bool) (e : Election) (names : Naming) (votes : List ℕ) (old new : Option (List ℕ)) (result : Result Outcome Refusal)
+pub writes_ballots : (method : Method) (seats : ℕ) (page : Page) (with_names : Bool) (e : Election) (names : Names) (votes : List ℕ) (old new : Option (List ℕ)) (result : Result Outcome Refusal)
     → has_many_approved e ≡ false → names ≡ naming with_names e.names → votes ≡ party_votes e → WritesRight (λ answer. answer ≡ share_answer method seats page names votes) old new result
     → WritesRight (λ answer. answer ≡ ballots_answer method seats page with_names e) old new result
 writes_ballots method seats page with_names e names votes old new result single called same h =
@@ -109,14 +110,14 @@ pub ballots_refused : (pick : Pick) (bytes : List ℕ) (fault : ReadFault) (refu
 ballots_refused pick bytes fault (Input reported) (inl reads) is =
     (subst (λ f. Reads bytes pick (Err f)) (sym is.0) reads, λ e. cc, λ e. cc)
 ballots_refused pick bytes fault (Input reported) (inr short) is = absurd (is.1 (ap (λ (f : ReadFault). f.name) short.4))
-ballots_refused pick bytes fault (Request misfit) told is = elim is [ ]
+ballots_refused pick bytes fault (reason.Request misfit) told is = elim is [ ]
 ballots_refused pick bytes fault Memory told is = (tt, λ e. cc, λ e. cc)
 ballots_refused pick bytes fault ReadFailed told is = elim is [ ]
 ballots_refused pick bytes fault WriteFailed told is = elim is [ ]
 
 -- ---- what is right of the ballots that were read
 
-module _ (asked : Asked) (question : Question) (demanded : of_ballots question ≡ asked.demand) (pick : Pick) (picked : pick ≡ asked.pick)
+module _ (asked : Request) (question : Question) (demanded : of_ballots question ≡ asked.task) (pick : Pick) (picked : pick ≡ asked.pick)
     (with_names : Bool) (named : with_names ≡ asked.names) (reader : ReaderState) where
   is_answer : (bytes : List ℕ) (answer : Answer) → IsAnswerOver (IsAnswerAbout with_names question) pick bytes answer → IsAnswer asked bytes answer
   is_answer bytes answer h = subst (λ d. IsAnswerTo asked.names d asked.pick bytes answer) demanded
@@ -154,7 +155,7 @@ module _ (asked : Asked) (question : Question) (demanded : of_ballots question �
 
         of : (r : Refusal) → IfSome reader.remaining (λ bytes. ReadsBallots pick bytes (Err r)) → WritesRight (IsRight asked reader) old new (Err r)
         of (Input fault) h = (is_right (refused status.InputRefused (fault_text fault)) (any reader.remaining (Input fault) _ h (λ bytes it. (Err fault, it, refl))), kept)
-        of (Request fault) h = (is_right (request_refused (request_fault_word fault)) (any reader.remaining (Request fault) _ h (λ bytes it. absurd it)), kept)
+        of (reason.Request fault) h = (is_right (request_refused (request_fault_word fault)) (any reader.remaining (reason.Request fault) _ h (λ bytes it. absurd it)), kept)
         of Memory h = kept
         of ReadFailed h = kept
         of WriteFailed h = (answered [], is_right (answered []) (any reader.remaining WriteFailed _ h (λ bytes it. absurd it)), ([], [], refl, kept))
@@ -198,10 +199,10 @@ too_many (Some bytes) (Some rest) read consumed long =
 
 -- ---- what a run leaves
 
-module _ (asked : Asked) (read_old read_new : ReaderState) (out_old out_new err_old err_new : WriterState) where
+module _ (asked : Request) (read_old read_new : ReaderState) (out_old out_new err_old err_new : WriterState) where
   -- an answer that was written whole
   pub ends_answered : (ended : Outcome) (ends : Status) → ends ≡ outcome_status ended → err_new ≡ err_old
-      → WritesRight (IsRight asked read_old) out_old.contents out_new.contents (Ok ended) → TellsOfReads {T = Outcome} asked.demand read_old read_new (Ok ended)
+      → WritesRight (IsRight asked read_old) out_old.contents out_new.contents (Ok ended) → TellsOfReads {T = Outcome} asked.task read_old read_new (Ok ended)
       → TellsOfWrites {T = Outcome} out_old.has_failed out_new.has_failed (Ok ended) → Ends asked read_old read_new out_old out_new err_old err_new ends
   ends_answered ended ends is silent h reads writes = subst (Ends asked read_old read_new out_old out_new err_old err_new) (sym is) (go ended h)
     where
@@ -214,15 +215,15 @@ module _ (asked : Asked) (read_old read_new : ReaderState) (out_old out_new err_
 
   -- a refusal, with its line
   pub ends_refused : (refusal : Refusal) (ends : Status) → ends ≡ status_of refusal → Reports err_old err_new (error_of refusal)
-      → WritesRight (IsRight asked read_old) out_old.contents out_new.contents (Err refusal) → TellsOfReads {T = Outcome} asked.demand read_old read_new (Err refusal)
+      → WritesRight (IsRight asked read_old) out_old.contents out_new.contents (Err refusal) → TellsOfReads {T = Outcome} asked.task read_old read_new (Err refusal)
       → TellsOfWrites {T = Outcome} out_old.has_failed out_new.has_failed (Err refusal) → Ends asked read_old read_new out_old out_new err_old err_new ends
   ends_refused refusal ends is error h reads writes = subst (Ends asked read_old read_new out_old out_new err_old err_new) (sym is) (go refusal error h reads writes)
     where
-      go : (r : Refusal) → Reports err_old err_new (error_of r) → WritesRight (IsRight asked read_old) out_old.contents out_new.contents (Err r) → TellsOfReads {T = Outcome} asked.demand read_old read_new (Err r)
+      go : (r : Refusal) → Reports err_old err_new (error_of r) → WritesRight (IsRight asked read_old) out_old.contents out_new.contents (Err r) → TellsOfReads {T = Outcome} asked.task read_old read_new (Err r)
           → TellsOfWrites {T = Outcome} out_old.has_failed out_new.has_failed (Err r) → Ends asked read_old read_new out_old out_new err_old err_new (status_of r)
       go (Input fault) error h reads writes =
           record { answer = refused status.InputRefused (fault_text fault); right = h.0; status_is = refl; input = reads; wrote = writes; text = h.1; error = error }
-      go (Request fault) error h reads writes =
+      go (reason.Request fault) error h reads writes =
           record { answer = request_refused (request_fault_word fault); right = h.0; status_is = refl; input = reads; wrote = writes; text = h.1; error = error }
       go Memory error h reads writes = record { over_input = reads.0; read = reads.1; unfailed = writes; text = h; error = error }
       go ReadFailed error h reads writes = inl (record { over_input = reads.0; unread = reads.1; unfailed = writes; text = h; error = error })

@@ -5,7 +5,7 @@ use Rattle.std.proofs.lemmas.Bool.{lt-ltb, le-ltb, ltb-true, ltb-false}
 use Rattle.std.proofs.lemmas.List.{take_all}
 use Rattle.ballot_base.specs.Ballots.{Election}
 use Rattle.ballot_base.specs.Lists.{later_than}
-use Rattle.request_words.specs.Request.{Paging}
+use Rattle.request_words.specs.Request.{Page}
 use Rattle.request_words.specs.declared.request.Rule.TheVariants.{Scored}
 use Rattle.request_words.specs.declared.request.ScoredRule.{ScoredRule}
 use Rattle.ballot_base.specs.Increments.{increments}
@@ -15,7 +15,7 @@ use Rattle.tie_walk.specs.Values.{Thiele as Tally, closeness, satisfaction_value
 use Rattle.tie_walk.specs.Winners.{best_value, winners}
 use Rattle.vote_cli.specs.ElectText.{elect_text, scored_header}
 use Rattle.vote_cli.specs.Listing.{answers_text, committee_line, has_more, last_line, listing_text}
-use Rattle.vote_cli.specs.Names.{Naming}
+use Rattle.vote_cli.specs.Names.{Names}
 use Rattle.vote_cli.specs.Steps.Numbers.{following_text}
 use Rattle.vote_cli.specs.Text.{line, numbers_text}
 
@@ -63,14 +63,14 @@ pub last_listed : (line_of : List ℕ → List ℕ) (room : Option ℕ) (answers
 last_listed line_of room answers none = ap (λ r. answers_text line_of r answers) none
 
 -- the listing of winners, from its first lines on
-pub winners_parts : (names : Naming) (value : List ℕ → ℕ) (rule : ScoredRule) (candidates m size best : ℕ) (after : Option (List ℕ)) (limit : Option ℕ) (left : List (List ℕ)) → m ≡ candidates → best ≡ best_value value m size
+pub winners_parts : (names : Names) (value : List ℕ → ℕ) (rule : ScoredRule) (candidates m size best : ℕ) (after : Option (List ℕ)) (limit : Option ℕ) (left : List (List ℕ)) → m ≡ candidates → best ≡ best_value value m size
     → left ≡ later_than after (winners value m size)
     → listing_text (committee_line names) (scored_header rule candidates size (best_value value candidates size)) (record { after = after; limit = limit }) (winners value candidates size)
     ≡ scored_header rule candidates size best ++ answers_text (committee_line names) limit left
 winners_parts names value rule candidates m size best after limit left same is those = rw (is, those, same) refl
 
 -- the text of an election by each kind of rule
-module _ (names : Naming) (page : Paging) (size : ℕ) (e : Election) where
+module _ (names : Names) (page : Page) (size : ℕ) (e : Election) where
   -- what is printed by a value
   abbrev text_by : ScoredRule → (List ℕ → ℕ) → List ℕ
   text_by rule value = listing_text (committee_line names) (scored_header rule e.m size (best_value value e.m size)) page (winners value e.m size)

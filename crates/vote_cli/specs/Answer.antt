@@ -19,11 +19,11 @@ use Rattle.request_words.specs.declared.request.Rule.{Rule}
 use Rattle.vote_cli.specs.declared.status.Status.{Status}
 use Rattle.vote_cli.specs.declared.status.Status.TheVariants.{Answered, Violated, InputRefused}
 use Rattle.vote_cli.specs.declared.status.Status.TheVariants.{RequestRefused}
-use Rattle.request_words.specs.Request.{Asked, Demand, Paging, Question, electing, checking, sharing}
+use Rattle.request_words.specs.Request.{Request, Task, Page, Question, electing, checking, sharing}
 use Rattle.request_words.specs.Request.{of_ballots, of_votes}
 use Rattle.vote_cli.specs.ElectText.{elect_text}
 use Rattle.vote_cli.specs.FaultText.{fault_text}
-use Rattle.vote_cli.specs.Names.{Naming, naming}
+use Rattle.vote_cli.specs.Names.{Names, naming}
 use Rattle.vote_cli.specs.Parties.{has_many_approved, party_votes}
 use Rattle.vote_cli.specs.CheckText.{holds_text, violation_text}
 use Rattle.vote_cli.specs.ShareText.{share_text}
@@ -54,7 +54,7 @@ request_refused word = refused RequestRefused (codes "committees: request: " ++ 
 -- ---- by what is asked for
 
 -- the winners of an election, with names beside them or not
-abbrev pub election_answer : Rule → ℕ → Paging → Bool → Election → Answer
+abbrev pub election_answer : Rule → ℕ → Page → Bool → Election → Answer
 election_answer rule size page with_names election =
     if nat_lt election.m size then request_refused (codes "SizeTooLarge")
     else if not (may_start (is_committee election.m size) page.after) then request_refused (codes "AfterMisfit")
@@ -78,13 +78,13 @@ share_answer_by (Some fault) starts text = request_refused (share_fault_name fau
 share_answer_by None false text = request_refused (codes "AfterMisfit")
 share_answer_by None true text = answered text
 
-abbrev pub share_answer : Method → ℕ → Paging → Naming → List ℕ → Answer
+abbrev pub share_answer : Method → ℕ → Page → Names → List ℕ → Answer
 share_answer method seats page names votes =
     share_answer_by (share_fault votes seats None) (may_start (has_seats_for (length votes)) page.after)
     (share_text method seats page names votes)
 
 -- the same, where a voter counts for the one party that the ballot approves
-abbrev pub ballots_answer : Method → ℕ → Paging → Bool → Election → Answer
+abbrev pub ballots_answer : Method → ℕ → Page → Bool → Election → Answer
 ballots_answer method seats page with_names election =
     if has_many_approved election then request_refused (codes "ManyApproved")
     else share_answer method seats page (naming with_names election.names) (party_votes election)
@@ -103,14 +103,14 @@ IsAnswerAbout with_names (checking property list) election answer =
 IsAnswerAbout with_names (sharing method seats page) election answer =
     answer ≡ ballots_answer method seats page with_names election
 
--- the answer to a demand and the bytes of an input; with votes in the words, the bytes do not matter, and no party
+-- the answer to a task and the bytes of an input; with votes in the words, the bytes do not matter, and no party
 -- has a name
-abbrev pub IsAnswerTo : Bool → Demand → Pick → List ℕ → Answer → Type 0
+abbrev pub IsAnswerTo : Bool → Task → Pick → List ℕ → Answer → Type 0
 IsAnswerTo with_names (of_ballots question) pick bytes answer =
     IsAnswerOver (IsAnswerAbout with_names question) pick bytes answer
 IsAnswerTo with_names (of_votes votes method seats page) pick bytes answer =
     answer ≡ share_answer method seats page (naming with_names []) votes
 
 -- the answer to a request and the bytes of an input
-abbrev pub IsAnswer : Asked → List ℕ → Answer → Type 0
-IsAnswer asked bytes answer = IsAnswerTo asked.names asked.demand asked.pick bytes answer
+abbrev pub IsAnswer : Request → List ℕ → Answer → Type 0
+IsAnswer asked bytes answer = IsAnswerTo asked.names asked.task asked.pick bytes answer

@@ -4,7 +4,7 @@ use Rattle.ballot_base.specs.Ballots.{Election}
 use Rattle.ballot_base.specs.CommonMultiple.{common_multiple}
 use Rattle.ballot_base.specs.Increments.{denominator}
 use Rattle.request_words.specs.Names.{rule_name}
-use Rattle.request_words.specs.Request.{Paging}
+use Rattle.request_words.specs.Request.{Page}
 use Rattle.request_words.specs.declared.request.Rule.{Rule}
 use Rattle.request_words.specs.declared.request.Rule.TheVariants.{Scored, Sequential}
 use Rattle.request_words.specs.declared.request.ScoredRule.{ScoredRule}
@@ -12,7 +12,7 @@ use Rattle.request_words.specs.declared.request.ScoredRule.TheVariants.{Thiele, 
 use Rattle.tie_walk.specs.Sequences.{sequential_winners}
 use Rattle.tie_walk.specs.Winners.{best_value, winners}
 use Rattle.vote_cli.specs.Listing.{committee_line, listing_text}
-use Rattle.vote_cli.specs.Names.{Naming}
+use Rattle.vote_cli.specs.Names.{Names}
 use Rattle.vote_cli.specs.RuleValues.{value_by}
 use Rattle.vote_cli.specs.Text.{line}
 
@@ -47,6 +47,6 @@ elect_answers (Scored rule) size election = winners (value_by rule size election
 elect_answers (Sequential rule) size election = sequential_winners rule election size
 
 -- what is printed of an election
-abbrev pub elect_text : Rule → ℕ → Paging → Naming → Election → List ℕ
+abbrev pub elect_text : Rule → ℕ → Page → Names → Election → List ℕ
 elect_text rule size page names election =
     listing_text (committee_line names) (elect_header rule size election) page (elect_answers rule size election)

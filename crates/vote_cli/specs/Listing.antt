@@ -2,17 +2,17 @@
 use Rattle.std.specs.Prelude.{ℕ, Bool, true, false, List, ◌++◌, Option, Some, None}
 use Rattle.std.specs.Prelude.{codes, flat_map, length, nat_lt, take}
 use Rattle.ballot_base.specs.Lists.{later_than}
-use Rattle.request_words.specs.Request.{Paging}
-use Rattle.vote_cli.specs.Names.{Naming, beside, candidates_text}
+use Rattle.request_words.specs.Request.{Page}
+use Rattle.vote_cli.specs.Names.{Names, beside, candidates_text}
 use Rattle.vote_cli.specs.Parties.{seated_parties}
 use Rattle.vote_cli.specs.Text.{line, numbers_text}
 
 -- the line of a committee: its members, and their names where they are wanted
-abbrev pub committee_line : Naming → List ℕ → List ℕ
+abbrev pub committee_line : Names → List ℕ → List ℕ
 committee_line names members = line (candidates_text names members)
 
 -- the line of an allocation: the seats of the parties, and the names of those with a seat where they are wanted
-abbrev pub allocation_line : Naming → List ℕ → List ℕ
+abbrev pub allocation_line : Names → List ℕ → List ℕ
 allocation_line names seats = line (numbers_text seats ++ beside names (seated_parties seats))
 
 -- the first so many answers, or all of them without a limit
@@ -37,5 +37,5 @@ answers_text line_of limit answers =
 
 -- What is printed of the answers to a request: the lines before them, which are those of all answers, and of the
 -- answers later than the start as many as the limit allows.
-abbrev pub listing_text : (List ℕ → List ℕ) → List ℕ → Paging → List (List ℕ) → List ℕ
+abbrev pub listing_text : (List ℕ → List ℕ) → List ℕ → Page → List (List ℕ) → List ℕ
 listing_text line_of header page answers = header ++ answers_text line_of page.limit (later_than page.after answers)

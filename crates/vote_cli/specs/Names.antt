@@ -5,11 +5,11 @@ use Rattle.vote_cli.specs.Text.{numbers_text}
 
 -- the names that stand beside numbers: none where they are not wanted; else the name of each candidate from the first
 -- on, [] for one without a name
-abbrev pub Naming : Type 0
-Naming = Option (List (List ℕ))
+abbrev pub Names : Type 0
+Names = Option (List (List ℕ))
 
 -- the names of candidates, where they are wanted
-abbrev pub naming : Bool → List (List ℕ) → Naming
+abbrev pub naming : Bool → List (List ℕ) → Names
 naming wanted names = if wanted then Some names else None
 
 -- a name as it is, or the number of a candidate without one
@@ -33,10 +33,10 @@ abbrev pub names_text : List (List ℕ) → List ℕ → List ℕ
 names_text names numbers = joined (codes "; ") (map (called names) numbers)
 
 -- what stands beside numbers where names are wanted: a tab and the names of these candidates
-abbrev pub beside : Naming → List ℕ → List ℕ
+abbrev pub beside : Names → List ℕ → List ℕ
 beside None candidates = []
 beside (Some names) candidates = 9 ∷ names_text names candidates
 
 -- the numbers of candidates, and their names beside them
-abbrev pub candidates_text : Naming → List ℕ → List ℕ
+abbrev pub candidates_text : Names → List ℕ → List ℕ
 candidates_text names candidates = numbers_text candidates ++ beside names candidates

@@ -3,7 +3,7 @@ use Rattle.std.specs.Prelude.{◌≡◌, ◌⊎◌, ◌≤◌, ◌<◌, ◌+◌,
 use Rattle.std.specs.Prelude.{[], Option, Some, IfSome, codes, if◌then◌else◌}
 use Rattle.std.specs.Io.KnownBytes.{Appends}
 use Rattle.preflib_text.specs.Limits.{word_limit}
-use Rattle.request_words.specs.Request.{Asked, Demand, of_ballots, of_votes}
+use Rattle.request_words.specs.Request.{Request, Task, of_ballots, of_votes}
 use Rattle.vote_cli.specs.Answer.{Answer, IsAnswer}
 use Rattle.vote_cli.specs.Device.{AppendsBeginning, ReaderState, WriterState}
 use Rattle.vote_cli.specs.Text.{line}
@@ -11,13 +11,13 @@ use Rattle.vote_cli.specs.declared.status.Status.{Status}
 use Rattle.vote_cli.specs.declared.status.Status.TheVariants.{NoMemory, DeviceFailed}
 
 -- whether the votes stand in the words
-abbrev pub has_votes : Demand → Bool
+abbrev pub has_votes : Task → Bool
 has_votes (of_ballots question) = false
 has_votes (of_votes votes method seats page) = true
 
 -- the bytes that an answer is about, if they are known: none if the votes stand in the words
-abbrev pub input_for : Demand → Option (List ℕ) → Option (List ℕ)
-input_for demand remaining = if has_votes demand then Some [] else remaining
+abbrev pub input_for : Task → Option (List ℕ) → Option (List ℕ)
+input_for task remaining = if has_votes task then Some [] else remaining
 
 -- ---- the reader
 
@@ -42,9 +42,9 @@ module _ (old new : ReaderState) where
   IsAllRead = IfSome old.remaining (λ bytes. new.remaining ≡ Some [])
 
   -- the input was read as a run reads it: to its end, or not at all if the votes stand in the words
-  pub record ReadsInput (demand : Demand) : Type 0 where
+  pub record ReadsInput (task : Task) : Type 0 where
     pub sound : ReadsSoundly
-    pub whole : has_votes demand ≡ false → IsAllRead
+    pub whole : has_votes task ≡ false → IsAllRead
 
 -- ---- the errors
 
@@ -66,24 +66,24 @@ pub record Reports (old new : WriterState) (error : List ℕ) : Type 0 where
 -- ---- how a run may end
 
 -- an answer to the request and the bytes of the input, if these are known
-abbrev pub IsRight : Asked → ReaderState → Answer → Type 0
-IsRight asked reader answer = IfSome (input_for asked.demand reader.remaining) (λ bytes. IsAnswer asked bytes answer)
+abbrev pub IsRight : Request → ReaderState → Answer → Type 0
+IsRight asked reader answer = IfSome (input_for asked.task reader.remaining) (λ bytes. IsAnswer asked bytes answer)
 
 -- a request, and the reader, the writer and the writer of errors before the run and after it
-module _ (asked : Asked) (read_old read_new : ReaderState) (out_old out_new err_old err_new : WriterState) where
+module _ (asked : Request) (read_old read_new : ReaderState) (out_old out_new err_old err_new : WriterState) where
   -- with a right answer that was written whole
   pub record EndsAnswered (status : Status) : Type 0 where
     pub answer : Answer
     pub right : IsRight asked read_old answer
     pub status_is : answer.status ≡ status
-    pub input : ReadsInput read_old read_new asked.demand
+    pub input : ReadsInput read_old read_new asked.task
     pub wrote : out_new.has_failed ≡ out_old.has_failed
     pub text : Appends out_old.contents out_new.contents answer.text
     pub error : Reports err_old err_new answer.error
 
   -- out of memory, with nothing written; never if the votes stand in the words
   pub record EndsWithoutMemory : Type 0 where
-    pub over_input : has_votes asked.demand ≡ false
+    pub over_input : has_votes asked.task ≡ false
     pub read : ReadsSoundly read_old read_new
     pub unfailed : out_new.has_failed ≡ out_old.has_failed
     pub text : Appends out_old.contents out_new.contents []
@@ -91,7 +91,7 @@ module _ (asked : Asked) (read_old read_new : ReaderState) (out_old out_new err_
 
   -- with a failed read, and nothing written; never if the votes stand in the words
   pub record EndsUnread : Type 0 where
-    pub over_input : has_votes asked.demand ≡ false
+    pub over_input : has_votes asked.task ≡ false
     pub unread : FailsToRead read_old read_new
     pub unfailed : out_new.has_failed ≡ out_old.has_failed
     pub text : Appends out_old.contents out_new.contents []
@@ -101,7 +101,7 @@ module _ (asked : Asked) (read_old read_new : ReaderState) (out_old out_new err_
   pub record EndsUnwritten : Type 0 where
     pub answer : Answer
     pub right : IsRight asked read_old answer
-    pub input : ReadsInput read_old read_new asked.demand
+    pub input : ReadsInput read_old read_new asked.task
     pub failed : out_new.has_failed ≡ true
     pub text : AppendsBeginning out_old.contents out_new.contents answer.text
     pub error : Reports err_old err_new write_failed_line
@@ -116,7 +116,7 @@ module _ (asked : Asked) (read_old read_new : ReaderState) (out_old out_new err_
 module _ {R W E : Type 0} (read : R → ReaderState) (out : W → WriterState) (err : E → WriterState) where
   -- The run ends with the answer to the request and the bytes, or with what stopped it: the status says which. With
   -- votes in the request the reader is left alone.
-  pub record LeavesRun (asked : Asked) (read_old read_new : R) (out_old out_new : W) (err_old err_new : E)
+  pub record LeavesRun (asked : Request) (read_old read_new : R) (out_old out_new : W) (err_old err_new : E)
       (status : Status) : Type 0 where
     pub ends : Ends asked (read read_old) (read read_new) (out out_old) (out out_new) (err err_old) (err err_new) status
-    pub alone : has_votes asked.demand ≡ true → read_new ≡ read_old
+    pub alone : has_votes asked.task ≡ true → read_new ≡ read_old

@@ -1,7 +1,7 @@
 //! The answers to what a request asks for, about ballots that were read.
 ghost use Rattle.std.specs.Prelude.{◌≡◌, ◌≢◌, [], Err, IfErr, IfOk, false, length, not, true};
 ghost use Rattle.std.specs.Option.{option_copied};
-ghost use Rattle.request_words.specs.Request.{IsInRange, paging_of, question_of};
+ghost use Rattle.request_words.specs.Request.{IsInRange, page_of, question_of};
 ghost use Rattle.seat_share.specs.Faults.{has_other_length};
 ghost use Rattle.vote_cli.specs.Answer.{IsAnswerAbout, IsCheckAnswer, ballots_answer, share_answer};
 ghost use Rattle.vote_cli.specs.Starts.{has_seats_for, may_start};
@@ -63,10 +63,10 @@ fn shares_from(
 
 /// The fair allocations that are asked for. A fault of the votes comes before a start that does not fit.
 fn shares_of(votes: &[u64], sharing: &Sharing<'_>) -> Result<Shares, RequestFault>
-    ensures ok { let after = (paging_of sharing.now.page.now).after in IfOk result (λ shares.
+    ensures ok { let after = (page_of sharing.now.page.now).after in IfOk result (λ shares.
         IsSharedOut sharing.now.method sharing.now.seats after votes.now shares
         × (may_start (has_seats_for (length votes.now)) after ≡ true)) }
-    ensures err { let starts = may_start (has_seats_for (length votes.now)) (paging_of sharing.now.page.now).after in
+    ensures err { let starts = may_start (has_seats_for (length votes.now)) (page_of sharing.now.page.now).after in
         IfErr result (λ fault. IsShareRefusal sharing.now.seats starts votes.now (request_fault_word fault)) }
 {
     let Some(list) = &sharing.page.after else {
@@ -89,7 +89,7 @@ pub(crate) fn answer_share<A: Allocator + Copy, W: Sink>(
     names: &Names<'_, A>,
 ) -> Result<Outcome, Refusal>
     ensures answer { WritesRight (λ answer. answer
-        ≡ share_answer sharing.now.method sharing.now.seats (paging_of sharing.now.page.now) names.now votes.now)
+        ≡ share_answer sharing.now.method sharing.now.seats (page_of sharing.now.page.now) names.now votes.now)
         (W.contents out.old) (W.contents out.new) result }
     ensures writes { TellsOfWrites (W.has_failed out.old) (W.has_failed out.new) result }
     ensures unread { result ≢ Err Refusal.ReadFailed }
@@ -141,7 +141,7 @@ impl<A: Allocator + Copy + Drop> Ballots<'_, A> {
     /// Writes the fair allocations that are asked for. Each voter counts for the one party that the ballot approves.
     fn answer_share<W: Sink>(&self, out: &mut W, sharing: &Sharing<'_>) -> Result<Outcome, Refusal>
         ensures answer { let asked = sharing.now in
-            WritesRight (λ answer. answer ≡ ballots_answer asked.method asked.seats (paging_of asked.page.now)
+            WritesRight (λ answer. answer ≡ ballots_answer asked.method asked.seats (page_of asked.page.now)
             self.now.with_names self.now.profile.now) (W.contents out.old) (W.contents out.new) result }
         ensures writes { TellsOfWrites (W.has_failed out.old) (W.has_failed out.new) result }
         ensures unread { result ≢ Err Refusal.ReadFailed }

@@ -1,7 +1,7 @@
 //! The text of an election's winners.
 ghost use Rattle.std.specs.Prelude.{◌≡◌, ◌≤◌, ◌++◌, IfErr, IfOk, is_ok};
 ghost use Rattle.ballot_base.specs.Limits.{most_members};
-ghost use Rattle.request_words.specs.Request.{paging_of};
+ghost use Rattle.request_words.specs.Request.{page_of};
 ghost use Rattle.tie_walk.specs.Winners.{IsStart, best_value, winners};
 ghost use Rattle.vote_cli.specs.Answer.{answered, election_answer, request_refused};
 ghost use Rattle.vote_cli.specs.ElectText.{best_text, elect_text, rule_lines, score_text, scored_header};
@@ -89,11 +89,11 @@ impl<'a, A: Allocator + Copy + Drop> Listing<'a, A> {
         requires least { 1 ≤ size }
         requires most { size ≤ most_members }
         ensures ok { IfOk result (λ listing. (rule : Rule)
-            → election_answer rule size (paging_of page.now) with_names profile.now
+            → election_answer rule size (page_of page.now) with_names profile.now
             ≡ answered (elect_text rule listing.size (record { after = listing.after; limit = listing.limit })
             listing.names listing.profile.now)) }
         ensures err { IfErr result (λ fault. (rule : Rule)
-            → election_answer rule size (paging_of page.now) with_names profile.now
+            → election_answer rule size (page_of page.now) with_names profile.now
             ≡ request_refused (request_fault_word fault)) }
     {
         if size > profile.m() {

@@ -2,7 +2,7 @@
 ghost use Rattle.std.specs.Prelude.{◌≡◌, ◌⊎◌, ◌↔◌, ℕ, ◌-◌, ◌<◌, ◌≤◌, List, None, Option, Some, IfSome, slice_get, true};
 ghost use Rattle.ballot_base.specs.Lists.{IsLater, later_than};
 ghost use Rattle.seat_share.specs.Allocations.{IsLater as IsLaterAllocation, later_than as later_allocations};
-ghost use Rattle.request_words.specs.Request.{Asked, InRange, Paging, whole};
+ghost use Rattle.request_words.specs.Request.{Request, InRange, Page, whole};
 ghost use Rattle.vote_cli.specs.Answer.{Answer, IsAnswer};
 ghost use Rattle.vote_cli.specs.Laws.{IsCut, IsListed, IsPart, IsRest, IsSameRefusal, Listed, asked_for, is_listing};
 ghost use Rattle.vote_cli.specs.Laws.{later_of, page_from};
@@ -11,20 +11,20 @@ use crate::status::Status;
 
 /// A request has at most one answer over an input.
 pub fn one_answer()
-    ensures { (asked : Asked) (bytes : List ℕ) (a b : Answer)
+    ensures { (asked : Request) (bytes : List ℕ) (a b : Answer)
         → IsAnswer asked bytes a → IsAnswer asked bytes b → a ≡ b }
 {}
 
 /// It has one, whatever the bytes are.
 pub fn some_answer()
-    ensures { (asked : Asked) (bytes : List ℕ) → (answer : Answer) × IsAnswer asked bytes answer }
+    ensures { (asked : Request) (bytes : List ℕ) → (answer : Answer) × IsAnswer asked bytes answer }
 {}
 
 /// A limit cuts the answer off after so many of its answers, and changes nothing before: `more` stands in the place of
 /// what was cut off, and `end` where nothing was. A refusal stays as it is.
 pub fn limited()
-    ensures { (asked : Asked) (bytes : List ℕ) (after : Option (List ℕ)) (n : ℕ) (all cut : Answer)
-        → is_listing asked.demand ≡ true
+    ensures { (asked : Request) (bytes : List ℕ) (after : Option (List ℕ)) (n : ℕ) (all cut : Answer)
+        → is_listing asked.task ≡ true
         → IsAnswer (asked_for (record { after = after; limit = None }) asked) bytes all
         → IsAnswer (asked_for (record { after = after; limit = Some n }) asked) bytes cut
         → IsSameRefusal all cut ⊎ ((listed : Listed) × IsListed asked bytes listed
@@ -34,7 +34,7 @@ pub fn limited()
 /// A start that fits leaves out the answers up to it, and changes nothing before: the score is that of all. One that
 /// does not fit is refused, and no other is.
 pub fn paged()
-    ensures { (asked : Asked) (bytes : List ℕ) (page : Paging) (all part : Answer) → is_listing asked.demand ≡ true
+    ensures { (asked : Request) (bytes : List ℕ) (page : Page) (all part : Answer) → is_listing asked.task ≡ true
         → IsAnswer (asked_for whole asked) bytes all → IsAnswer (asked_for page asked) bytes part
         → IsSameRefusal all part ⊎ ((listed : Listed) × IsListed asked bytes listed × IsPart listed page all part) }
 {}
@@ -43,8 +43,8 @@ pub fn paged()
 /// limit: it has the same lines before its answers, the answers that were left, and the same last line. So an answer
 /// whose output was cut off after the line of its j-th answer is made whole by a second run.
 pub fn rest()
-    ensures { (asked : Asked) (bytes : List ℕ) (listed : Listed) (page : Paging) (j : ℕ) (last : List ℕ)
-        (all rest : Answer) → is_listing asked.demand ≡ true → InRange asked.demand → IsListed asked bytes listed
+    ensures { (asked : Request) (bytes : List ℕ) (listed : Listed) (page : Page) (j : ℕ) (last : List ℕ)
+        (all rest : Answer) → is_listing asked.task ≡ true → InRange asked.task → IsListed asked bytes listed
         → 1 ≤ j → IfSome page.limit (λ n. j < n) → slice_get (later_of listed page) (j - 1) ≡ Some last
         → IsAnswer (asked_for page asked) bytes all → all.status ≡ Status.Answered
         → IsAnswer (asked_for (page_from page j last) asked) bytes rest → IsRest listed page j all rest }

@@ -3,7 +3,7 @@
 ghost use Rattle.std.specs.Prelude.{◌≡◌, ◌≢◌, ◌-◌, ℕ, List, Some, [], is_ok, option_map, false, true};
 ghost use Rattle.std.specs.Iterator.{YieldsFirstBy};
 ghost use Rattle.vote_cli.specs.Listing.{allocation_line, answers_text, committee_line, has_more, last_line};
-ghost use Rattle.vote_cli.specs.Names.{Naming};
+ghost use Rattle.vote_cli.specs.Names.{Names};
 ghost use Rattle.vote_cli.specs.Steps.Printing.{Prints};
 
 use crate::device::Sink;
@@ -28,7 +28,7 @@ pub(crate) trait Answers {
     ghost numbers: { Self.Answer → List ℕ };
 
     // the line of the answer with these numbers
-    ghost line_of: { Naming → List ℕ → List ℕ };
+    ghost line_of: { Names → List ℕ → List ℕ };
 
     /// The first of the answers still to come.
     fn next_answer(&mut self) -> Option<Self::Answer>

@@ -21,10 +21,10 @@ pub(crate) struct Names<'a, A: Allocator + Copy> {
 }
 
 impl<'a, A: Allocator + Copy> Model for Names<'a, A> {
-    ghost use Rattle.vote_cli.specs.Names.{Naming, naming};
+    ghost use Rattle.vote_cli.specs.Names.{Names, naming};
     ghost use Rattle.vote_cli.specs.Steps.Names.{names_in};
 
-    ghost Value = { Naming };
+    ghost Value = { Names };
 
     ghost view = { λ names. naming names.are_wanted (names_in names.profile) };
 }

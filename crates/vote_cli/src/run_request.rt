@@ -56,10 +56,10 @@ fn answer<A: Allocator + Copy + Drop, R: Source, W: Sink>(
 ) -> Result<Outcome, Refusal>
     ensures answer { WritesRight (IsRight request.now (reader_state R.remaining R.has_failed R.given reader.old))
         (W.contents out.old) (W.contents out.new) result }
-    ensures reads { TellsOfReads request.now.demand (reader_state R.remaining R.has_failed R.given reader.old)
+    ensures reads { TellsOfReads request.now.task (reader_state R.remaining R.has_failed R.given reader.old)
         (reader_state R.remaining R.has_failed R.given reader.new) result }
     ensures writes { TellsOfWrites (W.has_failed out.old) (W.has_failed out.new) result }
-    ensures votes { has_votes request.now.demand ≡ true → reader.new ≡ reader.old }
+    ensures votes { has_votes request.now.task ≡ true → reader.new ≡ reader.old }
 {
     match request.task() {
         Task::OfVotes(votes, method, seats, page) => {

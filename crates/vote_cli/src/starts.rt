@@ -2,7 +2,7 @@
 ghost use Rattle.std.specs.Prelude.{◌≡◌, ◌≤◌, ℕ, IfOk, IfErr, IfSome, None, false, true, length};
 ghost use Rattle.ballot_base.specs.Limits.{most_candidates, most_members};
 ghost use Rattle.ballot_base.specs.Lists.{is_committee};
-ghost use Rattle.request_words.specs.Request.{paging_of};
+ghost use Rattle.request_words.specs.Request.{page_of};
 ghost use Rattle.seat_share.specs.Limits.{most_parties};
 ghost use Rattle.tie_walk.specs.Winners.{IsStart};
 ghost use Rattle.vote_cli.specs.Starts.{has_seats_for, may_start};
@@ -19,10 +19,10 @@ use std::marker::Model;
 pub(crate) fn committee_start(page: &Page, m: u8, k: u8) -> Result<Option<CandSet>, RequestFault>
     requires candidates { m ≤ most_candidates }
     requires size { k ≤ most_members }
-    ensures start { IfOk result (λ start. (start ≡ (paging_of page.now).after) × IsStart m k start) }
-    ensures fits { IfOk result (λ _. may_start (is_committee m k) (paging_of page.now).after ≡ true) }
+    ensures start { IfOk result (λ start. (start ≡ (page_of page.now).after) × IsStart m k start) }
+    ensures fits { IfOk result (λ _. may_start (is_committee m k) (page_of page.now).after ≡ true) }
     ensures misfit { IfErr result (λ fault. (fault ≡ RequestFault.AfterMisfit)
-        × (may_start (is_committee m k) (paging_of page.now).after ≡ false)) }
+        × (may_start (is_committee m k) (page_of page.now).after ≡ false)) }
 {
     let Some(list) = &page.after else {
         return Ok(None);

@@ -10,7 +10,7 @@ use Rattle.group_check.specs.Names.{property_named}
 use Rattle.seat_share.specs.Limits.{most_seats}
 use Rattle.seat_share.specs.Names.{method_named}
 use Rattle.request_words.specs.Names.{rule_named}
-use Rattle.request_words.specs.Request.{Asked}
+use Rattle.request_words.specs.Request.{Request}
 use Rattle.request_words.specs.declared.words.LineFault.{LineFault}
 use Rattle.request_words.specs.declared.words.LineFault.TheVariants.{Help, Usage, Memory}
 
@@ -78,5 +78,5 @@ abbrev pub Gives : {A B : Type 0} → (B → A) → Result A LineFault → Resul
 Gives view said result = MatchResult result (λ x. said ≡ Ok (view x)) (λ e. (e ≡ Memory) ⊎ (said ≡ Err e))
 
 -- the same of what is asked for
-abbrev pub GivesAsked : Option (Result Asked LineFault) → Result Asked LineFault → Type 0
+abbrev pub GivesAsked : Option (Result Request LineFault) → Result Request LineFault → Type 0
 GivesAsked said result = MatchResult result (λ x. said ≡ Some (Ok x)) (λ e. (e ≡ Memory) ⊎ (said ≡ Some (Err e)))

@@ -3,7 +3,7 @@ use Rattle.std.specs.Prelude.{◌≡◌, ℕ, zero, suc, ◌+◌, ◌-◌, ◌<�
 use Rattle.std.specs.Prelude.{List, [], ◌∷◌, ◌++◌, map, sum_by, count_by, length, Option, Some, None}
 use Rattle.std.specs.List.{AllByRecursion}
 use Rattle.seat_share.specs.declared.award.Claimant.{Claimant}
-use Rattle.seat_share.specs.declared.contender.Contender.{Contender}
+use Rattle.seat_share.specs.declared.party.Party.{Party}
 use Rattle.seat_share.specs.Limits.{most_seats, most_votes}
 use Rattle.seat_share.specs.Quotients.{Quotient, is_at_least}
 use Rattle.seat_share.specs.Steps.Choices.{Standing, choices}
@@ -17,7 +17,7 @@ pub record Stands (claim : ℕ → ℕ → Quotient) (most : ℕ) (low : Quotien
   pub none : votes ≡ 0 → (sure ≡ 0) × (tied ≡ false)
   pub fits : sure ≤ most
 
-abbrev pub AllStand : (ℕ → ℕ → Quotient) → ℕ → Quotient → List Contender → Type 0
+abbrev pub AllStand : (ℕ → ℕ → Quotient) → ℕ → Quotient → List Party → Type 0
 AllStand claim most low cs = AllByRecursion (λ c. Stands claim most low c.votes c.seats c.is_tied) cs
 
 -- While seats are given, one after the other: each seat that was given was claimed at the threshold or above it, and no
@@ -27,25 +27,25 @@ pub record Keeps (claim : ℕ → ℕ → Quotient) (most : ℕ) (low : Quotient
   pub next : 0 < votes → is_at_least low (claim votes seats) ≡ true
   pub none : votes ≡ 0 → seats ≡ 0
 
-abbrev pub AllKeep : (ℕ → ℕ → Quotient) → ℕ → Quotient → List Contender → Type 0
+abbrev pub AllKeep : (ℕ → ℕ → Quotient) → ℕ → Quotient → List Party → Type 0
 AllKeep claim most low cs = AllByRecursion (λ c. Keeps claim most low c.votes c.seats) cs
 
 -- the certain seats of a party, and whether it is tied
-abbrev pub standing : Contender → Standing
+abbrev pub standing : Party → Standing
 standing c = (c.seats, c.is_tied)
 
-abbrev pub standings : List Contender → List Standing
+abbrev pub standings : List Party → List Standing
 standings cs = map standing cs
 
 -- how many parties are tied, and how many have one more seat in the allocation that comes next
-abbrev pub tied_count : List Contender → ℕ
+abbrev pub tied_count : List Party → ℕ
 tied_count cs = count_by (λ c. c.is_tied) cs
 
-abbrev pub more_count : List Contender → ℕ
+abbrev pub more_count : List Party → ℕ
 more_count cs = count_by (λ c. c.has_more) cs
 
 -- the allocation that comes next
-abbrev pub allocation : List Contender → List ℕ
+abbrev pub allocation : List Party → List ℕ
 allocation cs = map (λ c. c.seats + cond c.has_more 1 0) cs
 
 -- the choices with one seat less
@@ -54,7 +54,7 @@ choices_less ss zero = []
 choices_less ss (suc more) = choices ss more
 
 -- the allocations from the next one on
-unfoldable pub choices_from : List Contender → List (List ℕ)
+unfoldable pub choices_from : List Party → List (List ℕ)
 choices_from [] = [] ∷ []
 choices_from (c ∷ rest) =
     if c.has_more then map (λ others. (c.seats + 1) ∷ others) (choices_from rest)
@@ -63,34 +63,34 @@ choices_from (c ∷ rest) =
     then map (λ others. (c.seats + 1) ∷ others) (choices_less (standings rest) (more_count rest)) else [])
 
 -- only tied parties have one more
-abbrev pub MoreAreTied : List Contender → Type 0
+abbrev pub MoreAreTied : List Party → Type 0
 MoreAreTied cs = AllByRecursion (λ c. c.has_more ≡ true → c.is_tied ≡ true) cs
 
 -- A party with votes, by its place, and a claim that is its own and at least that of each party with votes; none where
 -- no party has votes.
-abbrev pub IsGreatest : (ℕ → ℕ → Quotient) → List Contender → Option Claimant → Type 0
+abbrev pub IsGreatest : (ℕ → ℕ → Quotient) → List Party → Option Claimant → Type 0
 IsGreatest claim cs None = AllByRecursion (λ c. c.votes ≡ 0) cs
 IsGreatest claim cs (Some first) =
-    (before : List Contender) × (c : Contender) × (after : List Contender) × (cs ≡ before ++ c ∷ after)
+    (before : List Party) × (c : Party) × (after : List Party) × (cs ≡ before ++ c ∷ after)
     × (length before ≡ first.place) × (0 < c.votes) × (first.quotient ≡ claim c.votes c.seats)
     × AllByRecursion (λ d. 0 < d.votes → is_at_least first.quotient (claim d.votes d.seats) ≡ true) cs
 
 -- each party has at most so many votes and seats
-abbrev pub AreWithin : ℕ → List Contender → Type 0
+abbrev pub AreWithin : ℕ → List Party → Type 0
 AreWithin most cs = AllByRecursion (λ c. (c.votes ≤ most_votes) × (c.seats ≤ most)) cs
 
-abbrev pub votes_of : List Contender → List ℕ
+abbrev pub votes_of : List Party → List ℕ
 votes_of cs = map (λ c. c.votes) cs
 
-abbrev pub seats_of : List Contender → ℕ
+abbrev pub seats_of : List Party → ℕ
 seats_of cs = sum_by (λ c. c.seats) cs
 
 -- the allocations from the next one on, or none
-abbrev pub allocations_left : Bool → List Contender → List (List ℕ)
+abbrev pub allocations_left : Bool → List Party → List (List ℕ)
 allocations_left false cs = []
 allocations_left true cs = choices_from cs
 
 -- what is true of parties whose ties are chosen
-pub record IsChoosing (cs : List Contender) : Type 0 where
+pub record IsChoosing (cs : List Party) : Type 0 where
   pub more : MoreAreTied cs
   pub seats : AllByRecursion (λ c. c.seats ≤ most_seats) cs

@@ -19,7 +19,7 @@ use Rattle.preflib_text.specs.declared.pick.Pick.{Pick}
 use Rattle.preflib_text.specs.Reading.{Reads}
 use Rattle.vote_cli.specs.FaultText.{fault_text}
 use Rattle.vote_cli.specs.Answer.{Answer, answered, violated, refused, request_refused}
-use Rattle.request_words.specs.Request.{Demand}
+use Rattle.request_words.specs.Request.{Task}
 
 -- the statuses of outcomes and refusals
 abbrev pub outcome_status : Outcome → Status
@@ -63,10 +63,10 @@ ReadsOn old new (Err Memory) = ReadsSoundly old new
 ReadsOn old new result = ReadsSoundly old new × IsAllRead old new
 
 -- the same of a run, which leaves its reader alone if the votes stand in the words
-abbrev pub TellsOfReads : {T : Type 0} → Demand → ReaderState → ReaderState → Result T Refusal → Type 0
-TellsOfReads demand old new (Err ReadFailed) = (has_votes demand ≡ false) × FailsToRead old new
-TellsOfReads demand old new (Err Memory) = (has_votes demand ≡ false) × ReadsSoundly old new
-TellsOfReads demand old new result = ReadsInput old new demand
+abbrev pub TellsOfReads : {T : Type 0} → Task → ReaderState → ReaderState → Result T Refusal → Type 0
+TellsOfReads task old new (Err ReadFailed) = (has_votes task ≡ false) × FailsToRead old new
+TellsOfReads task old new (Err Memory) = (has_votes task ≡ false) × ReadsSoundly old new
+TellsOfReads task old new result = ReadsInput old new task
 
 -- the input itself could not be read: a refusal before anything is known of its ballots
 abbrev pub IsUnread : Refusal → Type 0

@@ -14,16 +14,16 @@ given m kind way taking line count marks is has = subst (λ t. HasMarks m t line
 
 pub returns-in_default-clause-err : goal.returns-in_default-clause-err
 returns-in_default-clause-err c =
-    none_read c.args.kind c.args.m c.args.categories c.args.way c.args.line.now c.in_default.ensures
+    none_read c.args.header.kind c.args.header.m c.args.header.categories c.args.way c.args.line.now c.in_default.ensures
 
 pub returns-in-Some-fault-clause-err : goal.returns-in-Some-fault-clause-err
 returns-in-Some-fault-clause-err c =
-    fault_read c.args.kind c.args.m c.args.categories c.args.way c.args.line.now c.in-Some.read.count c.in-Some.read.marks c.in-Some-fault.fault (given c.args.m c.args.kind c.args.way c.new-taking.result c.args.line.now _ _ c.new-taking.ensures c.in-Some.ensures) (sym c.in-Some-fault.ensures)
+    fault_read c.args.header.kind c.args.header.m c.args.header.categories c.args.way c.args.line.now c.in-Some.read.count c.in-Some.read.marks c.in-Some-fault.fault (given c.args.header.m c.args.header.kind c.args.way c.new.result c.args.line.now _ _ c.new.ensures c.in-Some.ensures) (sym c.in-Some-fault.ensures)
 
 pub returns-in-None-clause-ok : goal.returns-in-None-clause-ok
 returns-in-None-clause-ok c =
-    good_read c.args.kind c.args.m c.args.categories c.args.way c.args.line.now c.in-Some.read.count c.in-Some.read.marks c.requires.way (given c.args.m c.args.kind c.args.way c.new-taking.result c.args.line.now _ _ c.new-taking.ensures c.in-Some.ensures) (sym c.in-None.ensures)
+    good_read c.args.header.kind c.args.header.m c.args.header.categories c.args.way c.args.line.now c.in-Some.read.count c.in-Some.read.marks c.requires (given c.args.header.m c.args.header.kind c.args.way c.new.result c.args.line.now _ _ c.new.ensures c.in-Some.ensures) (sym c.in-None.ensures)
 
 pub returns-in-None-clause-candidates : goal.returns-in-None-clause-candidates
 returns-in-None-clause-candidates c =
-    set_read c.args.kind c.args.m c.args.categories c.args.way c.args.line.now c.in-Some.read.count c.in-Some.read.marks (given c.args.m c.args.kind c.args.way c.new-taking.result c.args.line.now _ _ c.new-taking.ensures c.in-Some.ensures)
+    set_read c.args.header.kind c.args.header.m c.args.header.categories c.args.way c.args.line.now c.in-Some.read.count c.in-Some.read.marks (given c.args.header.m c.args.header.kind c.args.way c.new.result c.args.line.now _ _ c.new.ensures c.in-Some.ensures)

@@ -20,26 +20,26 @@ next_read m taking place text rest inside left first marks after h read brace pa
 
 pub read_singles-rest-requires-in-Some-clause-classes : goal.read_singles-rest-requires-in-Some-clause-classes
 read_singles-rest-requires-in-Some-clause-classes c =
-    let read = next_read c.args.m c.args.taking c.read_members.result.0 c.args.text.now c.loop-inside.rest.now c.in-Some.inside.now c.read_members.result.1.now c.args.marks.now c.loop-inside.read c.read_members.new.marks
-    c.requires.candidates c.loop-inside.invariant.read c.in-Some.ensures c.loop-inside.invariant.past c.read_members.ensures.read in
+    let read = next_read c.args.terms.m c.args.terms.taking c.read_members.result.place c.args.text.now c.loop-inside.rest.now c.in-Some.inside.now c.read_members.result.rest.now c.args.marks.now c.loop-inside.read c.read_members.new.marks
+    c.args.terms.few c.loop-inside.invariant.read c.in-Some.ensures c.loop-inside.invariant.past c.read_members.ensures.read in
     omega (arith, read.classes, c.requires.classes)
 
 pub read_singles-rest-requires-in-Some-clause-numbers : goal.read_singles-rest-requires-in-Some-clause-numbers
 read_singles-rest-requires-in-Some-clause-numbers c =
-    let read = next_read c.args.m c.args.taking c.read_members.result.0 c.args.text.now c.loop-inside.rest.now c.in-Some.inside.now c.read_members.result.1.now c.args.marks.now c.loop-inside.read c.read_members.new.marks
-    c.requires.candidates c.loop-inside.invariant.read c.in-Some.ensures c.loop-inside.invariant.past c.read_members.ensures.read in
+    let read = next_read c.args.terms.m c.args.terms.taking c.read_members.result.place c.args.text.now c.loop-inside.rest.now c.in-Some.inside.now c.read_members.result.rest.now c.args.marks.now c.loop-inside.read c.read_members.new.marks
+    c.args.terms.few c.loop-inside.invariant.read c.in-Some.ensures c.loop-inside.invariant.past c.read_members.ensures.read in
     omega (arith, read.numbers, c.requires.numbers)
 
 pub loop-inside-preserved : goal.loop-inside-preserved
 loop-inside-preserved c =
-    let m = c.args.m in
-    let taking = c.args.taking in
+    let m = c.args.terms.m in
+    let taking = c.args.terms.taking in
     let text = c.args.text.now in
     let first = c.args.marks.now in
-    let left = c.read_members.result.1.now in
+    let left = c.read_members.result.rest.now in
     let after = c.read_members.new.marks in
-    let read = next_read m taking c.read_members.result.0 text c.loop-inside.rest.now c.in-Some.inside.now left first c.loop-inside.read after
-    c.requires.candidates c.loop-inside.invariant.read c.in-Some.ensures c.loop-inside.invariant.past c.read_members.ensures.read in
+    let read = next_read m taking c.read_members.result.place text c.loop-inside.rest.now c.in-Some.inside.now left first c.loop-inside.read after
+    c.args.terms.few c.loop-inside.invariant.read c.in-Some.ensures c.loop-inside.invariant.past c.read_members.ensures.read in
     record {
       at = c.in-Class.is;
       read = read_then m taking Class Class Class text left c.read_singles-rest-in-Some.result.now first after c.read_singles-rest-in-Some.new.marks
@@ -51,13 +51,13 @@ pub read_singles-rest-requires-in-Some-clause-past : goal.read_singles-rest-requ
 read_singles-rest-requires-in-Some-clause-past c =
     let marks = c.loop-inside.read in
     let after = c.read_members.new.marks in
-    past_later c.args.taking marks.classes marks.before after.classes after.before c.read_members.ensures.classes c.read_members.ensures.before c.loop-inside.invariant.past
+    past_later c.args.terms.taking marks.classes marks.before after.classes after.before c.read_members.ensures.classes c.read_members.ensures.before c.loop-inside.invariant.past
 
 pub returns : goal.returns
 returns c =
     elim c.match-after_byte.branch [
       | in-Some+in_default-place w ↦ rw (w.place-is, w.rest-is, w.read-is)
-          (next_read c.args.m c.args.taking w.read_members.result.0 c.args.text.now c.loop-inside.rest.now w.in-Some.inside.now w.read_members.result.1.now c.args.marks.now c.loop-inside.read w.read_members.new.marks
-          c.requires.candidates c.loop-inside.invariant.read w.in-Some.ensures c.loop-inside.invariant.past w.read_members.ensures.read)
+          (next_read c.args.terms.m c.args.terms.taking w.read_members.result.place c.args.text.now c.loop-inside.rest.now w.in-Some.inside.now w.read_members.result.rest.now c.args.marks.now c.loop-inside.read w.read_members.new.marks
+          c.args.terms.few c.loop-inside.invariant.read w.in-Some.ensures c.loop-inside.invariant.past w.read_members.ensures.read)
       | in_default w ↦ rw (w.place-is, w.rest-is, w.read-is, c.loop-inside.invariant.at) c.loop-inside.invariant.read
     ]

@@ -6,8 +6,8 @@ use Rattle.preflib_text.proofs.ballot.read_classes.Given as goal
 abbrev pub invariant-loop-inside : goal.invariant-loop-inside
 invariant-loop-inside l = record {
   at : l.place ≡ Class;
-  read : IsReadOn l.m l.fn.taking Class l.text l.fn.marks Class l.rest l.read;
-  past : is_past l.fn.taking l.read.classes l.read.before ≡ true;
+  read : IsReadOn l.terms.m l.fn.terms.taking Class l.text l.fn.marks Class l.rest l.read;
+  past : is_past l.fn.terms.taking l.read.classes l.read.before ≡ true;
 }
 
 abbrev pub decreases-loop-inside : goal.decreases-loop-inside

@@ -13,14 +13,14 @@ loop-n-preserved c =
     let after = c.in-Some.after.now in
     let ended = c.end_class.new.self in
     let past = c.loop-n.invariant.past in
-    let is = new_number c.args.m c.args._taking marks c.add_new.new.self false c.in-Some.n (search rules) (past_takes c.args._taking marks.classes marks.before past) c.add_new.ensures in
+    let is = new_number c.args.terms.m c.args.terms.taking marks c.add_new.new.self false c.in-Some.n (search rules) (past_takes c.args.terms.taking marks.classes marks.before past) c.add_new.ensures in
     let listed = comma_after c.in-Some.n rest after c.in-Some.ensures.small c.in-Some.ensures.tokens c.in-Some.ensures.shorter in
     let added = c.add_new.ensures in
     let end = c.end_class.ensures in
     record {
-      read = read_then c.args.m c.args._taking Class Class Class c.args.text.now rest after c.args.marks.now marks ended c.loop-n.invariant.read
-          (listed_read c.args.m c.args._taking Class Class c.in-Some.n rest after marks ended c.requires.candidates listed refl (c.end_class.ensures ∙ ap with_end is));
-      past = past_later c.args._taking marks.classes marks.before ended.classes ended.before
+      read = read_then c.args.terms.m c.args.terms.taking Class Class Class c.args.text.now rest after c.args.marks.now marks ended c.loop-n.invariant.read
+          (listed_read c.args.terms.m c.args.terms.taking Class Class c.in-Some.n rest after marks ended c.args.terms.few listed refl (c.end_class.ensures ∙ ap with_end is));
+      past = past_later c.args.terms.taking marks.classes marks.before ended.classes ended.before
           (omega (arith, ap (λ (x : Marks). x.classes) added, ap (λ (x : Marks). x.classes) end))
           (omega (arith, ap (λ (x : Marks). x.before) added, ap (λ (x : Marks). x.before) end)) past;
     }

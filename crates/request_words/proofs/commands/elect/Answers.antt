@@ -4,15 +4,15 @@ use Rattle.ballot_base.specs.Limits.{most_members}
 use Rattle.request_words.specs.Names.{rule_names}
 use Rattle.request_words.specs.Words.{elect_over, name_option, number_option, page_arguments, required}
 use Rattle.request_words.specs.Steps.Commands.{AreArguments, IsArgument, IsCommand}
-use Rattle.request_words.proofs.CommandLemmas.{required_argument}
+use Rattle.request_words.proofs.CommandLemmas.{helped_argument, required_argument}
 use Rattle.request_words.proofs.commands.elect.Goals as goal
 
 pub returns : goal.returns
 returns c =
     let names = c.as_slice-rules.result in
-    let rule = required_argument _ _ _ c.name_option.ensures c.required.ensures in
+    let rule = required_argument _ _ _ (helped_argument _ c.name_option.result c.help.result _ c.name_option.ensures c.help.ensures) c.required.ensures in
     let size = subst (λ (n : ℕ). IsArgument (required (number_option (codes "size") n)) c.required-2.result) c.from-most.ensures
-    (required_argument _ _ _ c.number_option.ensures c.required-2.ensures) in
+    (required_argument _ _ _ (helped_argument _ c.number_option.result c.help-2.result _ c.number_option.ensures c.help-2.ensures) c.required-2.ensures) in
     let arguments = required (name_option (codes "rule") names) ∷ required (number_option (codes "size") most_members) ∷ page_arguments in
     let each : AreArguments arguments (c.required.result ∷ c.required-2.result ∷ c.after_option.result ∷ c.limit_option.result ∷ []) =
     (rule, (size, (c.after_option.ensures, (c.limit_option.ensures, tt)))) in

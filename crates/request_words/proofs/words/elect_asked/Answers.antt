@@ -1,7 +1,7 @@
 use Rattle.std.proofs.Common.{◌∙◌, ap}
 use Rattle.std.specs.Prelude.{Some}
 use Rattle.clap.specs.Words.{found_of, rows_of}
-use Rattle.request_words.specs.Request.{paging_of}
+use Rattle.request_words.specs.Request.{page_of}
 use Rattle.request_words.specs.Words.{elect_in, elect_over_page, page_in, result_and_then}
 use Rattle.request_words.specs.Steps.Values.{GivesAsked}
 use Rattle.request_words.proofs.WordsLemmas.{failed, gives_asked, passed_on}
@@ -20,5 +20,5 @@ pub returns : goal.returns
 returns c =
     let rows = rows_of (found_of c.args.elect.now) in
     let next = elect_over_page rows c.rule_and_size-rule.result.0 c.rule_and_size-rule.result.1 in
-    gives_asked (elect_in rows) (next (paging_of c.in_ok-page.page)) c.request.result
+    gives_asked (elect_in rows) (next (page_of c.in_ok-page.page)) c.request.result
     (c.rule_and_size-rule.ensures.asked ∙ ap (λ r. Some (result_and_then next r)) c.in_ok-page.ensures.given) c.request.ensures

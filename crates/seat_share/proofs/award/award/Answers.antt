@@ -1,12 +1,12 @@
 use Rattle.std.proofs.Common.{subst, sym, ap, sum, arith, ◌∙◌, false}
-use Rattle.seat_share.specs.declared.contender.Contender.{Contender}
+use Rattle.seat_share.specs.declared.party.Party.{Party}
 use Rattle.seat_share.specs.Steps.Claims.{claim}
 use Rattle.seat_share.specs.Steps.Standings.{votes_of}
 use Rattle.seat_share.proofs.ClaimLemmas.{claims-fall}
 use Rattle.seat_share.proofs.AwardLemmas.{HasGiven, given-none, given-more, within-sum, somebody}
 use Rattle.seat_share.proofs.award.award.Goals as goal
 
-abbrev nobody : Contender
+abbrev nobody : Party
 nobody = record { votes = 0; seats = 0; is_tied = false; has_more = false }
 
 pub loop-given-init : goal.loop-given-init

@@ -1,9 +1,9 @@
 use Rattle.std.proofs.Common.{false, ◌∙◌, ◌<◌, length, length-set, arith}
-use Rattle.seat_share.specs.declared.contender.Contender.{Contender}
+use Rattle.seat_share.specs.declared.party.Party.{Party}
 use Rattle.seat_share.proofs.ShareLemmas.{seats-more}
 use Rattle.seat_share.proofs.shares.allocation_of.Goals as goal
 
-abbrev nobody : Contender
+abbrev nobody : Party
 nobody = record { votes = 0; seats = 0; is_tied = false; has_more = false }
 
 pub loop-i-preserved : goal.loop-i-preserved

@@ -1,7 +1,7 @@
 use Rattle.std.proofs.Common.{◌++◌, ◌∙◌, ap, rules, sym}
 use Rattle.ballot_base.specs.Ballots.{Election}
 use Rattle.ballot_base.specs.declared.increments.ThieleRule.TheVariants.{Av}
-use Rattle.request_words.specs.Request.{Paging}
+use Rattle.request_words.specs.Request.{Page}
 use Rattle.request_words.specs.declared.request.Rule.TheVariants as rule
 use Rattle.request_words.specs.declared.request.ScoredRule.TheVariants as scored
 use Rattle.tie_search.specs.Completions.{Exact}
@@ -17,7 +17,7 @@ pub returns-in_err-write_scored-in-Scored-Thiele-Av-clause-answer :
     goal.returns-in_err-write_scored-in-Scored-Thiele-Av-clause-answer
 returns-in_err-write_scored-in-Scored-Thiele-Av-clause-answer g c =
     let l = c.args.listing.now in
-    let page : Paging = record { after = l.after; limit = l.limit } in
+    let page : Page = record { after = l.after; limit = l.limit } in
     let thiele = rw c.in-Scored-Thiele-Av.is at c.in-Scored-Thiele-Av.field-0-is in
     let approval = rw (c.in-Scored-Thiele-Av.is, thiele) at c.in-Scored-Thiele-Av.field-0-0-is in
     election_part c.args.rule (rule.Scored (scored.Thiele Av)) l.size page l.names l.profile.now c.from_residual.result
@@ -28,7 +28,7 @@ pub returns-in_err-write_scored-in-Scored-Thiele :
     goal.returns-in_err-write_scored-in-Scored-Thiele
 returns-in_err-write_scored-in-Scored-Thiele g c =
     let l = c.args.listing.now in
-    let page : Paging = record { after = l.after; limit = l.limit } in
+    let page : Page = record { after = l.after; limit = l.limit } in
     record {
       answer = election_part c.args.rule (rule.Scored (scored.Thiele c.in-Scored-Thiele.thiele)) l.size page l.names l.profile.now c.from_residual-in_err-write_scored-in-Scored-Thiele.result (c.in-Scored-Thiele.is ∙ ap rule.Scored (rw c.in-Scored-Thiele.is at c.in-Scored-Thiele.field-0-is))
           (thiele_text l.names page l.size l.profile.now c.in-Scored-Thiele.thiele c.new-tally-in-Scored-Thiele.result.search
@@ -42,7 +42,7 @@ pub returns-in_err-write_scored-in-Scored-Satisfaction-clause-answer :
     goal.returns-in_err-write_scored-in-Scored-Satisfaction-clause-answer
 returns-in_err-write_scored-in-Scored-Satisfaction-clause-answer g c =
     let l = c.args.listing.now in
-    let page : Paging = record { after = l.after; limit = l.limit } in
+    let page : Page = record { after = l.after; limit = l.limit } in
     election_part c.args.rule (rule.Scored scored.Satisfaction) l.size page l.names l.profile.now c.from_residual-in_err-write_scored-in-Scored-Satisfaction.result (c.in-Scored-Satisfaction.is ∙ ap rule.Scored (rw c.in-Scored-Satisfaction.is at c.in-Scored-Satisfaction.field-0-is))
     (satisfaction_text l.names page l.size l.profile.now c.new-tally-in-Scored-Satisfaction.result c.new-tally-in-Scored-Satisfaction.ensures.tally)
     c.from_residual-in_err-write_scored-in-Scored-Satisfaction.ensures c.write_scored-in-Scored-Satisfaction.ensures
@@ -51,7 +51,7 @@ pub returns-in_err-write_scored-in-Scored-Minimax-clause-answer :
     goal.returns-in_err-write_scored-in-Scored-Minimax-clause-answer
 returns-in_err-write_scored-in-Scored-Minimax-clause-answer g c =
     let l = c.args.listing.now in
-    let page : Paging = record { after = l.after; limit = l.limit } in
+    let page : Page = record { after = l.after; limit = l.limit } in
     election_part c.args.rule (rule.Scored scored.Minimax) l.size page l.names l.profile.now c.from_residual-in_err-write_scored-in-Scored-Minimax.result (c.in-Scored-Minimax.is ∙ ap rule.Scored (rw c.in-Scored-Minimax.is at c.in-Scored-Minimax.field-0-is))
     (minimax_text l.names page l.size l.profile.now c.new-tally-in-Scored-Minimax.result.search
     (ap (λ (x : Exact Election). x.search) c.new-tally-in-Scored-Minimax.ensures ∙ c.new-in-Scored-Minimax.ensures))
@@ -61,7 +61,7 @@ pub returns-in_err-write_sequential-in-Sequential-clause-answer :
     goal.returns-in_err-write_sequential-in-Sequential-clause-answer
 returns-in_err-write_sequential-in-Sequential-clause-answer g c =
     let l = c.args.listing.now in
-    let page : Paging = record { after = l.after; limit = l.limit } in
+    let page : Page = record { after = l.after; limit = l.limit } in
     let printed = rule_lines (rule.Sequential c.in-Sequential.rule) l.size ++ answers_text (committee_line l.names) l.limit c.new-winners.result in
     election_part c.args.rule (rule.Sequential c.in-Sequential.rule) l.size page l.names l.profile.now {printed = printed}
     c.from_residual-in_err-write_sequential-in-Sequential.result c.in-Sequential.is (search rules)
@@ -70,7 +70,7 @@ returns-in_err-write_sequential-in-Sequential-clause-answer g c =
 pub returns-in_ok-write_scored-in-Scored-Thiele : goal.returns-in_ok-write_scored-in-Scored-Thiele
 returns-in_ok-write_scored-in-Scored-Thiele g c =
     let l = c.args.listing.now in
-    let page : Paging = record { after = l.after; limit = l.limit } in
+    let page : Page = record { after = l.after; limit = l.limit } in
     let text = thiele_text l.names page l.size l.profile.now c.in-Scored-Thiele.thiele c.new-tally-in-Scored-Thiele.result.search
     (ap (λ (x : Exact Thiele). x.search) c.new-tally-in-Scored-Thiele.ensures ∙ c.new.ensures) in
     record {
@@ -86,7 +86,7 @@ returns-in_ok-write_scored-in-Scored-Thiele g c =
 pub returns-in_ok-write_scored-in-Scored-Minimax-clause-answer : goal.returns-in_ok-write_scored-in-Scored-Minimax-clause-answer
 returns-in_ok-write_scored-in-Scored-Minimax-clause-answer g c =
     let l = c.args.listing.now in
-    let page : Paging = record { after = l.after; limit = l.limit } in
+    let page : Page = record { after = l.after; limit = l.limit } in
     let text = minimax_text l.names page l.size l.profile.now c.new-tally-in-Scored-Minimax.result.search
     (ap (λ (x : Exact Election). x.search) c.new-tally-in-Scored-Minimax.ensures ∙ c.new-in-Scored-Minimax.ensures) in (
       _,

@@ -5,10 +5,10 @@ use Rattle.preflib_text.proofs.pieces.LineReader.held.Goals as goal
 
 pub returns-clause-held : goal.returns-clause-held
 returns-clause-held g c none =
-    held_length _ _ _ _ _ _ (agrees_fed _ _ c.self.inside.fault _ _ _ _ (none_is c.self.inside.fault (sym c.if-is_some.ensures)) c.self.invariant.2)
+    held_length _ _ _ _ _ _ (agrees_fed _ _ c.self.inside.progress.fault _ _ _ _ (none_is c.self.inside.progress.fault (sym c.if-is_some.ensures)) c.self.invariant.2)
     c.unmarked.result.now c.deref.result.now c.unmarked.ensures c.deref.ensures.value ∙ ap (λ (v : Feeding). length (unfinished_line v.fed)) c.self.view_is
 
 pub returns-clause-most : goal.returns-clause-most
 returns-clause-most g c =
-    held_within _ _ _ _ _ _ (agrees_fed _ _ c.self.inside.fault _ _ _ _ (none_is c.self.inside.fault (sym c.if-is_some.ensures)) c.self.invariant.2)
+    held_within _ _ _ _ _ _ (agrees_fed _ _ c.self.inside.progress.fault _ _ _ _ (none_is c.self.inside.progress.fault (sym c.if-is_some.ensures)) c.self.invariant.2)
     c.unmarked.result.now c.deref.result.now c.unmarked.ensures c.deref.ensures.value

@@ -4,4 +4,4 @@ use Rattle.seat_share.proofs.shares.Shares.new.Goals as goal
 
 pub choose-is_left-requires-clause-votes : goal.choose-is_left-requires-clause-votes
 choose-is_left-requires-clause-votes c =
-    few-votes _ c.args.votes.now c.contenders-parties.ensures.votes (votes-fit c.args.votes.now c.args.seats _ (sym c.share_fault.ensures ∙ c.in_default.is))
+    few-votes _ c.args.votes.now c.parties_with-parties.ensures.votes (votes-fit c.args.votes.now c.args.seats _ (sym c.share_fault.ensures ∙ c.in_default.is))

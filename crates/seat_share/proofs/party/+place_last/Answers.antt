@@ -1,7 +1,7 @@
 use Rattle.std.proofs.Common.{refl, arith}
 use Rattle.seat_share.proofs.ChoiceSteps.{first-of_empty, placed-with_more, placed-without}
-use Rattle.seat_share.proofs.contender.+place_last.Goals.{else-first-via-then-first+else-left-gt0, else-first-via-else-first}
-use Rattle.seat_share.proofs.contender.+place_last.Goals as goal
+use Rattle.seat_share.proofs.party.+place_last.Goals.{else-first-via-then-first+else-left-gt0, else-first-via-else-first}
+use Rattle.seat_share.proofs.party.+place_last.Goals as goal
 
 pub returns-in_default-clause-first : goal.returns-in_default-clause-first
 returns-in_default-clause-first t c = first-of_empty c.args.parties.now c.args.more c.in_default.ensures.cases

@@ -1,9 +1,9 @@
 use Rattle.std.proofs.Common.{refl, arith, cond, ◌∙◌}
 use Rattle.std.proofs.lemmas.List.Sums.{sum_by_from}
-use Rattle.seat_share.specs.declared.contender.Contender.{Contender}
+use Rattle.seat_share.specs.declared.party.Party.{Party}
 use Rattle.seat_share.proofs.LaterChoices.{none-of_empty, none-of_few, placed-above, none-above, placed-with_more, placed-same, none-same, placed-raised, count-raised}
-use Rattle.seat_share.proofs.contender.+place_after.Goals.{then-not-first-via-then-not-first, then-not-first-via-else-not-first+then-more-eq0, then-not-first-via-else-not-first+else-more-eq0+then-seats-first-gt1, then-not-first-2-via-then-not-first-2, then-not-first-2-via-else-not-first-2+then-more-eq0-2}
-use Rattle.seat_share.proofs.contender.+place_after.Goals as goal
+use Rattle.seat_share.proofs.party.+place_after.Goals.{then-not-first-via-then-not-first, then-not-first-via-else-not-first+then-more-eq0, then-not-first-via-else-not-first+else-more-eq0+then-seats-first-gt1, then-not-first-2-via-then-not-first-2, then-not-first-2-via-else-not-first-2+then-more-eq0-2}
+use Rattle.seat_share.proofs.party.+place_after.Goals as goal
 
 pub returns-in_default-clause-later : goal.returns-in_default-clause-later
 returns-in_default-clause-later t c = none-of_empty c.args.parties.now c.args.start.now c.args.more c.in_default.ensures.cases c.requires.long
@@ -50,7 +50,7 @@ returns-then-not-first-2-clause-later t c =
 
 pub returns-clause-count : goal.returns-clause-count
 returns-clause-count t c = λ h.
-    sum_by_from (λ (d : Contender). cond d.has_more 1 0) 1 c.place_last-2.new.parties
+    sum_by_from (λ (d : Party). cond d.has_more 1 0) 1 c.place_last-2.new.parties
     ∙ count-raised c.in-Some-split_first_mut.first.now c.in-Some-split_first_mut.rest.now c.args.parties.now c.in-Some.seats.now c.in-Some.others.now c.args.start.now
     c.in-Some-split_first_mut.ensures.cases.0 c.in-Some.ensures.cases.0 c.requires.long c.place_after-2.new.parties c.place_last-2.new.parties c.args.tied c.args.more c.place_last-2.result
     (grind (arith, c.if-not-first-2.false)) (omega (arith, c.if-more-eq0-2.false)) c.if-more-tied.false c.requires.count

@@ -1,5 +1,5 @@
 use Rattle.std.proofs.Common.{length}
-use Rattle.seat_share.proofs.contender.+place_after.Given as goal
+use Rattle.seat_share.proofs.party.+place_after.Given as goal
 
 abbrev pub decreases-place_after : goal.decreases-place_after
 decreases-place_after l = length l.parties.now

@@ -1,9 +1,9 @@
 use Rattle.std.proofs.Common.{refl, arith, ◌∙◌}
 use Rattle.std.proofs.lemmas.List.Sums.{sum_by_from}
-use Rattle.seat_share.specs.declared.contender.Contender.{Contender}
+use Rattle.seat_share.specs.declared.party.Party.{Party}
 use Rattle.seat_share.proofs.ChoiceSteps.{last-of_empty, stepped, stopped, none-left, counted, moved}
-use Rattle.seat_share.proofs.contender.+advance.Goals.{then-first-via-then-first, then-first-via-else-first+then-not-first, then-first-via-else-first+else-not-first+then-more-eq0}
-use Rattle.seat_share.proofs.contender.+advance.Goals as goal
+use Rattle.seat_share.proofs.party.+advance.Goals.{then-first-via-then-first, then-first-via-else-first+then-not-first, then-first-via-else-first+else-not-first+then-more-eq0}
+use Rattle.seat_share.proofs.party.+advance.Goals as goal
 
 pub returns-in_default-clause-last : goal.returns-in_default-clause-last
 returns-in_default-clause-last t c = λ h. last-of_empty c.args.parties.now c.in_default.ensures.cases
@@ -24,7 +24,7 @@ returns-then-first-clause-last t c = λ h.
 
 pub returns-clause-count : goal.returns-clause-count
 returns-clause-count t c =
-    sum_by_from (λ (d : Contender). Rattle.std.proofs.Common.cond d.has_more 1 0) 1 c.place_last.new.parties
+    sum_by_from (λ (d : Party). Rattle.std.proofs.Common.cond d.has_more 1 0) 1 c.place_last.new.parties
     ∙ counted c.in-Some.first.now c.in-Some.rest.now c.advance.new.parties c.place_last.new.parties c.args.parties.now c.count_more-more.result c.place_last.result c.in-Some.ensures.cases.0
     c.if-first.false c.count_more-more.ensures c.advance.ensures.count (omega (arith, c.if-more-eq0.false))
     (none-left c.advance.new.parties c.count_more-more.result c.place_last.result c.advance.ensures.tied c.count_more-more.ensures c.place_last.ensures.left) c.place_last.ensures.placed

@@ -1,5 +1,5 @@
 use Rattle.std.proofs.Common.{length}
-use Rattle.seat_share.proofs.contender.+place_last.Given as goal
+use Rattle.seat_share.proofs.party.+place_last.Given as goal
 
 abbrev pub decreases-place_last : goal.decreases-place_last
 decreases-place_last l = length l.parties.now

@@ -1,5 +1,5 @@
 use Rattle.std.proofs.Common.{length}
-use Rattle.seat_share.proofs.contender.+advance.Given as goal
+use Rattle.seat_share.proofs.party.+advance.Given as goal
 
 abbrev pub decreases-advance : goal.decreases-advance
 decreases-advance l = length l.parties.now

@@ -9,14 +9,14 @@ ghost use Rattle.seat_share.specs.Steps.Standings.{MoreAreTied, allocations_left
 /// A party: its votes, its seats, and, where some seats are tied, whether it is tied for one more, and whether it has
 /// that one in the allocation that comes next.
 #[derive(Clone, Copy, Debug)]
-pub(crate) struct Contender {
+pub(crate) struct Party {
     pub(crate) votes: u64,
     pub(crate) seats: u16,
     pub(crate) is_tied: bool,
     pub(crate) has_more: bool,
 }
 
-impl Contender {
+impl Party {
     /// The seats in the allocation that comes next.
     pub(crate) fn next_seats(self) -> u16
         requires { self.seats ≤ most_seats }
@@ -31,7 +31,7 @@ impl Contender {
 }
 
 /// Gives one more seat to so many of the last tied parties, and to no others. Answers how many find no party.
-pub(crate) fn place_last(parties: &mut [Contender], more: usize) -> usize
+pub(crate) fn place_last(parties: &mut [Party], more: usize) -> usize
     ensures left { result ≡ more - tied_count parties.old }
     ensures same { standings parties.new ≡ standings parties.old }
     ensures placed { more_count parties.new + result ≡ more }
@@ -52,7 +52,7 @@ pub(crate) fn place_last(parties: &mut [Contender], more: usize) -> usize
 }
 
 /// How many parties are tied.
-pub(crate) fn count_tied(parties: &[Contender]) -> usize
+pub(crate) fn count_tied(parties: &[Party]) -> usize
     ensures { result ≡ tied_count parties.now }
 {
     parties.iter().filter(|party| party.is_tied).count()
@@ -60,12 +60,7 @@ pub(crate) fn count_tied(parties: &[Contender]) -> usize
 
 /// Gives one more seat to `more` of the tied parties, which are `tied` in all, for the first choice that is later than
 /// the start, which has a number for each party. Answers whether there is one.
-pub(crate) fn place_after(
-    parties: &mut [Contender],
-    tied: usize,
-    more: usize,
-    start: &[u16],
-) -> bool
+pub(crate) fn place_after(parties: &mut [Party], tied: usize, more: usize, start: &[u16]) -> bool
     requires long { length start.now ≡ length parties.old }
     requires count { tied ≡ tied_count parties.old }
     requires tied { MoreAreTied parties.old }
@@ -109,14 +104,14 @@ pub(crate) fn place_after(
 }
 
 /// How many parties have one more seat in the allocation that comes next.
-fn count_more(parties: &[Contender]) -> usize
+fn count_more(parties: &[Party]) -> usize
     ensures { result ≡ more_count parties.now }
 {
     parties.iter().filter(|party| party.has_more).count()
 }
 
 /// Goes on to the next allocation. Answers whether there is one.
-pub(crate) fn advance(parties: &mut [Contender]) -> bool
+pub(crate) fn advance(parties: &mut [Party]) -> bool
     requires tied { MoreAreTied parties.old }
     ensures same { standings parties.new ≡ standings parties.old }
     ensures count { more_count parties.new ≡ more_count parties.old }
