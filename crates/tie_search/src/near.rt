@@ -265,6 +265,9 @@ impl<A: Allocator + Copy> NearSearch<'_, A> {
             (IsNarrowed (closeness self.now.profile.now.m self.now.profile.now.rows) self.now.profile.now.m set free
             left (self.now.profile.now.m - self.now.most)) }
     {
+        if needs.total == 0 {
+            return Some(free);
+        }
         let threshold = nth_greatest(&needs.supports, free, left);
         let greatest = u128::from(left) * threshold + excess(&needs.supports, free, threshold);
         if greatest < needs.total {

@@ -1,6 +1,13 @@
 use Rattle.std.proofs.Common.{◌≡◌, ◌+◌, ◌-◌, ◌*◌, ap, arith, get_or, sum_by}
+use Rattle.tie_walk.specs.Values.{closeness}
+use Rattle.tie_search.proofs.NeedLemmas.{narrowed-none}
 use Rattle.tie_search.proofs.WeightLemmas.{weighted-narrowed, weighted-none}
 use Rattle.tie_search.proofs.near.NearSearch.narrowed.Goals as goal
+
+pub returns-then-needs-eq0 : goal.returns-then-needs-eq0
+returns-then-needs-eq0 g c =
+    let e = c.args.self.now.profile.now in
+    narrowed-none (closeness e.m e.rows) e.m c.args.set c.args.free c.args.left (e.m - c.args.self.now.most) c.requires.opened
 
 pub returns-then-greatest-needs : goal.returns-then-greatest-needs
 returns-then-greatest-needs g c =
