@@ -68,13 +68,13 @@ module _ {W : Type 0} {contents : W → Option (List ℕ)} {has_failed : W → B
   Prints-nothing a = record { same_writer = refl; passed = Passes-nothing _ }
 
   -- a text that waits
-  pub Prints-pending : {a b : Printer W} (x : List ℕ) → b.out ≡ a.out → b.pending ≡ a.pending ++ x
+  pub Prints-pending : {a b : Printer W} (x : List ℕ) → b.out ≡ a.out → b.pending.items ≡ a.pending.items ++ x
       → Prints contents has_failed a b true x
   Prints-pending {a} {b} x kept same = record {
     same_writer = ap (λ out. out.ghost_name) kept;
     passed = record {
       sent = [];
-      rest = a.pending ++ x;
+      rest = a.pending.items ++ x;
       order = refl;
       took = subst (λ out. Appends (contents a.out.now) (contents out.now) []) (sym kept) (Appends-nil (contents a.out.now));
       whole = λ e. (sym same, ap (λ out. has_failed out.now) kept);
@@ -120,7 +120,7 @@ module _ {W : Type 0} {contents : W → Option (List ℕ)} {has_failed : W → B
   Prints-last same first second = Prints-as (sym same) (Prints-then first second)
 
   -- nothing waits, and a text was sent
-  pub Prints-straight : {a b : Printer W} {x : List ℕ} {ok : Bool} → b.out.ghost_name ≡ a.out.ghost_name → a.pending ≡ [] → b.pending ≡ a.pending
+  pub Prints-straight : {a b : Printer W} {x : List ℕ} {ok : Bool} → b.out.ghost_name ≡ a.out.ghost_name → a.pending.items ≡ [] → b.pending.items ≡ a.pending.items
       → Sends contents has_failed a.out.now b.out.now ok x → Prints contents has_failed a b ok x
   Prints-straight {a} {b} {x} {ok} same none kept h = record {
     same_writer = same;
@@ -135,7 +135,7 @@ module _ {W : Type 0} {contents : W → Option (List ℕ)} {has_failed : W → B
   }
 
   -- what a printer printed from its first byte to its last, its writer was sent
-  pub Sends-by : {a b : Printer W} {before after : W} {x : List ℕ} {ok : Bool} → a.out.now ≡ before → a.pending ≡ [] → (ok ≡ true → b.pending ≡ [])
+  pub Sends-by : {a b : Printer W} {before after : W} {x : List ℕ} {ok : Bool} → a.out.now ≡ before → a.pending.items ≡ [] → (ok ≡ true → b.pending.items ≡ [])
       → b.out.now ≡ after → Prints contents has_failed a b ok x → Sends contents has_failed before after ok x
   Sends-by {a} {b} {before} {after} {x} {ok} first none done last h = record {
     sent = h.passed.sent;
@@ -148,7 +148,7 @@ module _ {W : Type 0} {contents : W → Option (List ℕ)} {has_failed : W → B
   }
 
   -- the same of what it printed before a call that failed
-  pub Sends-cut : {a b : Printer W} {before after : W} {x : List ℕ} {V E : Type 0} → a.out.now ≡ before → a.pending ≡ [] → (q : Result V E) → IsErr q
+  pub Sends-cut : {a b : Printer W} {before after : W} {x : List ℕ} {V E : Type 0} → a.out.now ≡ before → a.pending.items ≡ [] → (q : Result V E) → IsErr q
       → b.out.now ≡ after → Prints contents has_failed a b (is_ok q) x → Sends contents has_failed before after (is_ok q) x
   Sends-cut first none q bad last h = Sends-by first none (λ e. absurd (true≢false (sym e ∙ is_ok-err q bad))) last h
 

@@ -341,7 +341,7 @@ is_broken writer = writer.1
 
 -- a printer over such a writer, with what waits
 abbrev printer : MutBor Taken → Taken → List ℕ → Printer Taken
-printer out writer waiting = record { out = record out { now = writer }; pending = waiting }
+printer out writer waiting = record { out = record out { now = writer }; pending = record { items = waiting } }
 
 -- 3 is printed after 1 and 2, of which 1 is sent
 printed : (out : MutBor Taken)

@@ -1,21 +1,17 @@
 -- Which lists may be starts.
-use Rattle.std.proofs.Common.{◌≡◌, ℕ, ◌≤◌, ◌<◌, ◌∙◌, Bool, true, false, List, [], Option, Some, None, Result, Ok, Err, refl, sym, ap, arith, length, subst, get_or}
-use Rattle.std.specs.Prelude.{◌==◌, IsErr, IsErrAnd, IfErr, nat_le}
-use Rattle.std.specs.List.{list_all}
-use Rattle.std.proofs.lemmas.Bool.{and_from, and_left, and_right, and_parts, le-leb, lt-leb, leb-true, eq-eqb, ne_eqb, false_from_ne_true}
-use Rattle.std.proofs.lemmas.List.Folds.{list_all_at}
+use Rattle.std.proofs.Common.{◌≡◌, ℕ, ◌≤◌, ◌∙◌, Bool, true, false, List, [], Option, Some, None, Result, Ok, Err, refl, sym, ap, arith, length, subst}
+use Rattle.std.specs.Prelude.{IsErr, IsErrAnd, IfErr, nat_le}
+use Rattle.std.proofs.lemmas.Bool.{and_from, and_parts, le-leb, leb-true, false_from_ne_true}
 use Rattle.ballot_base.specs.Lists.{IsIncreasing, is_committee}
 use Rattle.ballot_base.proofs.Committees.{is_committee-false, is_committee-is, is_committee-true}
 use Rattle.ballot_base.specs.Limits.{most_members}
 use Rattle.seat_share.specs.Faults.{share_fault}
-use Rattle.seat_share.specs.Limits.{most_parties, most_seats}
 use Rattle.seat_share.specs.declared.method.ShareFault.{ShareFault}
 use Rattle.vote_cli.specs.Answer.{Answer, may_be_checked, request_refused, share_answer_by}
 use Rattle.vote_cli.specs.declared.status.Status.TheVariants.{Answered, RequestRefused}
 use Rattle.vote_cli.specs.Steps.RequestFaults.{request_fault_word}
 use Rattle.vote_cli.specs.Steps.Sharing.{IsShareRefusal}
 use Rattle.vote_cli.specs.declared.refusal.RequestFault.{RequestFault}
-use Rattle.vote_cli.specs.Starts.{has_seats_for}
 
 -- ---- committees
 
@@ -50,24 +46,6 @@ committee_of_other_size m k size list committee same counted wrong =
 -- a list that is no committee of any size
 pub no_committee : (m k : ℕ) (list : List ℕ) → k ≤ most_members → (length list ≤ most_members → IsIncreasing 1 m list → ⊥) → is_committee m k list ≡ false
 no_committee m k list few none = is_committee-false m k list (λ is. none (omega (arith, is.1, few)) is.0)
-
--- ---- seats
-
--- more seats than there may be
-pub too_many_seats : (list : List ℕ) (i parties : ℕ) → i < length list → most_seats < get_or list i 0 → has_seats_for parties list ≡ false
-too_many_seats list i parties within many =
-    and_right (length list == parties) (list_all (λ seats. nat_le seats most_seats) list)
-    (list_all_at (λ seats. nat_le seats most_seats) list i 0 within (lt-leb (get_or list i 0) most_seats many))
-
--- more parties than there may be
-pub too_many_parties : (list : List ℕ) (parties : ℕ) → parties ≤ most_parties → most_parties < length list → has_seats_for parties list ≡ false
-too_many_parties list parties few many =
-    and_left (length list == parties) (list_all (λ seats. nat_le seats most_seats) list)
-    (ne_eqb (length list) parties (λ e. omega (arith, e, few, many)))
-
--- a list of as many numbers
-pub seats_for : (list : List ℕ) → list_all (λ seats. nat_le seats most_seats) list ≡ true → has_seats_for (length list) list ≡ true
-seats_for list all = and_from (length list == length list) (list_all (λ seats. nat_le seats most_seats) list) (eq-eqb (length list) (length list) refl) all
 
 -- ---- refusals
 

@@ -1,4 +1,3 @@
-pub mod Limits
 pub mod Names
 pub mod Numbers
 pub mod Printing

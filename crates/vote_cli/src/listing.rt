@@ -225,7 +225,7 @@ pub(crate) fn print_listing<W: Sink, N: Allocator + Copy, A: Answers + Drop>(
 ) -> Result<(), WriteFailed>
     ensures printed { Prints W.contents W.has_failed printer.old printer.new (is_ok result)
         (answers_text (A.line_of names.now) limit (A.left answers)) }
-    ensures nothing { is_ok result ≡ true → printer.new.pending ≡ [] }
+    ensures nothing { is_ok result ≡ true → printer.new.pending.items ≡ [] }
 {
     printer.send()?;
     print_answers(printer, names, limit, answers)?;

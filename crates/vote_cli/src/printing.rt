@@ -4,7 +4,7 @@ ghost use Rattle.std.specs.Prelude.{◌≡◌, ℕ, ◌+◌, ◌<◌, ◌≤◌,
 ghost use Rattle.vote_cli.specs.Steps.Printing.{Prints, Sends};
 
 use crate::device::Sink;
-use std::marker::Model;
+use arrayvec::ArrayVec;
 
 /// How many bytes wait at most.
 const MOST_PENDING: usize = 32768;
@@ -13,69 +13,11 @@ const MOST_PENDING: usize = 32768;
 #[derive(Clone, Copy, Debug, PartialEq, Eq)]
 pub(crate) struct WriteFailed;
 
-/// Bytes that wait until there are enough of them for a write.
-#[derive(Drop)]
-pub(crate) struct Pending {
-    bytes: [u8; MOST_PENDING],
-    len: usize,
-}
-
-impl Model for Pending {
-    ghost use Rattle.std.specs.Prelude.{ℕ, ◌≤◌, List, take};
-    ghost use Rattle.vote_cli.specs.Steps.Limits.{most_pending};
-
-    ghost Value = { List ℕ };
-
-    ghost view = { λ waiting. take waiting.len waiting.bytes };
-
-    ghost invariant = { λ waiting. waiting.len ≤ most_pending };
-}
-
-impl Pending {
-    /// No byte yet.
-    fn new() -> Pending
-        ensures { result ≡ [] }
-    {
-        Pending {
-            bytes: [0; MOST_PENDING],
-            len: 0,
-        }
-    }
-
-    fn len(&self) -> usize
-        ensures count { result ≡ length self.now }
-        ensures room { result ≤ MOST_PENDING }
-    {
-        self.len
-    }
-
-    fn as_slice(&self) -> &[u8]
-        ensures { result.now ≡ self.now }
-    {
-        &self.bytes[..self.len]
-    }
-
-    fn clear(&mut self)
-        ensures { self.new ≡ [] }
-    {
-        self.len = 0;
-    }
-
-    fn push(&mut self, bytes: &[u8])
-        requires { length self.old + length bytes.now ≤ MOST_PENDING }
-        ensures { self.new ≡ self.old ++ bytes.now }
-    {
-        let end = self.len + bytes.len();
-        self.bytes[self.len..end].copy_from_slice(bytes);
-        self.len = end;
-    }
-}
-
-/// A writer, and what waits for it.
+/// A writer, and the bytes that wait until there are enough of them for a write.
 #[derive(Drop)]
 pub(crate) struct Printer<'a, W> {
     out: &'a mut W,
-    pending: Pending,
+    pending: ArrayVec<u8, MOST_PENDING>,
 }
 
 impl<'a, W: Sink> Printer<'a, W> {
@@ -83,18 +25,18 @@ impl<'a, W: Sink> Printer<'a, W> {
     pub(crate) fn new(out: &'a mut W) -> Printer<'a, W>
         ensures same_writer { result.out.ghost_name ≡ out.entry.ghost_name }
         ensures writer { result.out.now ≡ out.entry.now }
-        ensures nothing { result.pending ≡ [] }
+        ensures nothing { result.pending.items ≡ [] }
     {
         Printer {
             out,
-            pending: Pending::new(),
+            pending: ArrayVec::new(),
         }
     }
 
     /// Sends what waits.
     pub(crate) fn send(&mut self) -> Result<(), WriteFailed>
         ensures printed { Prints W.contents W.has_failed self.old self.new (is_ok result) [] }
-        ensures nothing { is_ok result ≡ true → self.new.pending ≡ [] }
+        ensures nothing { is_ok result ≡ true → self.new.pending.items ≡ [] }
     {
         write_whole(self.out, self.pending.as_slice())?;
         self.pending.clear();
@@ -104,10 +46,11 @@ impl<'a, W: Sink> Printer<'a, W> {
     /// Sends what waits where `count` bytes more do not fit after it.
     fn make_room(&mut self, count: usize) -> Result<(), WriteFailed>
         ensures printed { Prints W.contents W.has_failed self.old self.new (is_ok result) [] }
-        ensures room { is_ok result ≡ true → count ≤ MOST_PENDING → length self.new.pending + count ≤ MOST_PENDING }
-        ensures nothing { is_ok result ≡ true → MOST_PENDING < count → self.new.pending ≡ [] }
+        ensures room { is_ok result ≡ true → count ≤ MOST_PENDING
+            → length self.new.pending.items + count ≤ MOST_PENDING }
+        ensures nothing { is_ok result ≡ true → MOST_PENDING < count → self.new.pending.items ≡ [] }
     {
-        if count <= MOST_PENDING - self.pending.len() {
+        if count <= self.pending.remaining_capacity() {
             return Ok(());
         }
         self.send()
@@ -118,11 +61,11 @@ impl<'a, W: Sink> Printer<'a, W> {
         ensures { Prints W.contents W.has_failed self.old self.new (is_ok result) bytes.now }
     {
         self.make_room(bytes.len())?;
-        if bytes.len() > MOST_PENDING {
-            return write_whole(self.out, bytes);
+        match self.pending.try_extend_from_slice(bytes) {
+            Ok(()) => Ok(()),
+            // These are more than ever wait.
+            Err(_) => write_whole(self.out, bytes),
         }
-        self.pending.push(bytes);
-        Ok(())
     }
 
     /// Prints the pieces, one after the other.
@@ -139,7 +82,7 @@ impl<'a, W: Sink> Printer<'a, W> {
     /// Sends what waits, and flushes the writer once.
     pub(crate) fn finish(&mut self) -> Result<(), WriteFailed>
         ensures printed { Prints W.contents W.has_failed self.old self.new (is_ok result) [] }
-        ensures nothing { is_ok result ≡ true → self.new.pending ≡ [] }
+        ensures nothing { is_ok result ≡ true → self.new.pending.items ≡ [] }
     {
         self.send()?;
         match self.out.flush() {

@@ -9,10 +9,10 @@ ghost use Rattle.vote_cli.specs.Starts.{has_seats_for, may_start};
 
 use crate::committee::committee_of;
 use crate::refusal::RequestFault;
+use arrayvec::ArrayVec;
 use ballot_base::CandSet;
 use request_words::Page;
 use seat_share::{MOST_PARTIES, MOST_SEATS};
-use std::marker::Model;
 
 /// The committee of k of the candidates 1 to m after which winners are asked for, if there is a start. It need not win.
 /// A list that is no such committee is a misfit.
@@ -36,51 +36,22 @@ pub(crate) fn committee_start(page: &Page, m: u8, k: u8) -> Result<Option<CandSe
     Ok(Some(committee))
 }
 
-/// Seats of parties, after which allocations are asked for.
-#[derive(Drop)]
-pub(crate) struct SeatsStart {
-    seats: [u16; MOST_PARTIES],
-    parties: usize,
-}
-
-impl Model for SeatsStart {
-    ghost use Rattle.std.specs.Prelude.{ℕ, ◌≤◌, List, take};
-    ghost use Rattle.seat_share.specs.Limits.{most_parties};
-
-    ghost Value = { List ℕ };
-
-    ghost view = { λ start. take start.parties start.seats };
-
-    ghost invariant = { λ start. start.parties ≤ most_parties };
-}
-
-impl SeatsStart {
-    /// The seats of each party.
-    pub(crate) fn as_slice(&self) -> &[u16]
-        ensures { result.now ≡ self.now }
-    {
-        &self.seats[..self.parties]
-    }
-}
-
 /// The seats in a list, which need not be an allocation. There are none where a number is above `MOST_SEATS`, or where
 /// there are more than `MOST_PARTIES`. It takes no memory.
-pub(crate) fn seats_start(list: &[u64]) -> Option<SeatsStart>
-    ensures some { IfSome result (λ start. (start ≡ list.now) × (has_seats_for (length list.now) list.now ≡ true)) }
+pub(crate) fn seats_start(list: &[u64]) -> Option<ArrayVec<u16, MOST_PARTIES>>
+    ensures some { IfSome result (λ start.
+        (start.items ≡ list.now) × (has_seats_for (length list.now) list.now ≡ true)) }
     ensures none { result ≡ None → (parties : ℕ) → parties ≤ most_parties → has_seats_for parties list.now ≡ false }
 {
     if list.len() > MOST_PARTIES {
         return None;
     }
-    let mut seats = [0; MOST_PARTIES];
-    for i in 0..list.len() {
-        if list[i] > u64::from(MOST_SEATS) {
+    let mut start = ArrayVec::new();
+    for &seats in list {
+        if seats > u64::from(MOST_SEATS) {
             return None;
         }
-        seats[i] = list[i] as u16;
+        start.push(seats as u16);
     }
-    Some(SeatsStart {
-        seats,
-        parties: list.len(),
-    })
+    Some(start)
 }

@@ -31,4 +31,4 @@ module _ {W : Type 0} (contents : W → Option (List ℕ)) (has_failed : W → B
   -- a printer printed the text
   pub record Prints (before after : Printer W) (ok : Bool) (text : List ℕ) : Type 0 where
     pub same_writer : after.out.ghost_name ≡ before.out.ghost_name
-    pub passed : Passes (outlet before.out.now before.pending) (outlet after.out.now after.pending) ok text
+    pub passed : Passes (outlet before.out.now before.pending.items) (outlet after.out.now after.pending.items) ok text

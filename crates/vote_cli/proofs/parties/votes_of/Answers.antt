@@ -87,5 +87,7 @@ returns-clause-some g c =
     let rows = c.args.profile.now.rows in
     let all : take (length c.loop-ballot.yielded) rows ≡ rows = all_passed rows (c.into_iter-ballot-iterator.ensures.into_iter_gives ∙ c.ballots-ballot-items.ensures.rows) c.loop-ballot.yielded c.loop-ballot.yielded_by c.in-None.ensures.steps.0 in (
       ap (list_any (λ (row : Row). nat_lt 1 (length row.0))) (sym all) ∙ c.loop-ballot.invariant.single,
-      ap₂ take (c.from-2.ensures ∙ c.m.ensures.value) (c.loop-ballot.invariant.votes ∙ ap tallies all) ∙ tallies-first rows c.args.profile.now.m c.m.ensures.valid.most,
+      c.truncate.ensures.items
+          ∙ ap₂ take (c.from-2.ensures ∙ c.m.ensures.value) (c.from-votes.ensures.0 ∙ c.loop-ballot.invariant.votes ∙ ap tallies all)
+          ∙ tallies-first rows c.args.profile.now.m c.m.ensures.valid.most,
     )

@@ -6,4 +6,4 @@ use Rattle.vote_cli.proofs.answers.Ballots.answer_share.Goals as goal
 pub returns-clause-answer : goal.returns-clause-answer
 returns-clause-answer g c =
     writes_ballots c.args.sharing.now.method c.args.sharing.now.seats (page_of c.args.sharing.now.page.now) c.args.self.now.with_names c.args.self.now.profile.now _ c.as_slice.result.now _ _ c.answer_share.result
-    c.in-Some.ensures.some.0 c.of-names.ensures (c.as_slice.ensures ∙ c.in-Some.ensures.some.1) c.answer_share.ensures.answer
+    c.in-Some.ensures.some.0 c.of-names.ensures (c.as_slice.ensures.value ∙ c.in-Some.ensures.some.1) c.answer_share.ensures.answer
