@@ -218,8 +218,8 @@ impl<A: Allocator + Copy> NearSearch<'_, A> {
         Some((choices, rest))
     }
 
-    /// What the ballots still need, if `left` of the free candidates complete the set. With few seats left no ballot has
-    /// a weight.
+    /// What the ballots still need, if `left` of the free candidates complete the set. With few seats left no ballot
+    /// has a weight.
     fn weighted_needs(&self, set: CandSet, free: CandSet, left: u8) -> WeightedNeeds
         requires few { left ≤ most_candidates }
         requires shares { (n : ℕ) → slice_index self.now.shares.now n ≤ share_parts }
