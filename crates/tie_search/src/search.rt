@@ -17,8 +17,8 @@
 //! makes a committee of the same value, and all committees with it were searched (`proofs/FoundLemmas.antt`).
 //!
 //! While enough seats are left, a bound by pairs of candidates comes before the gains are counted, and again after each
-//! candidate that was tried (module `pairs`). It counts a voter who approves two members less than twice. If few sets
-//! are given up for it, it is left out.
+//! candidate that was tried (module `pairs`). It counts a voter who approves two members less than twice. A search
+//! begins without it, since a short one is quicker so. If few sets are given up for it, it is left out again.
 //!
 //! The bound needs no sorting in its proof. For any threshold, an added member brings at most the threshold and what
 //! its gain exceeds it by (`laws::thresholds`). The last of the `left` highest gains makes the bound lowest.
@@ -60,10 +60,11 @@ pub(crate) struct Aids {
     pub(crate) use_of_pairs: UseOfPairs,
 }
 
-/// How often pairs were counted, and how often a set was given up for them. If they seldom help, they are counted no
-/// more.
+/// How many sets were passed without pairs, how often pairs were counted, and how often a set was given up for them. If
+/// they seldom help, they are counted no more.
 #[derive(Drop)]
 pub(crate) struct UseOfPairs {
+    passed: Cell<u32>,
     counted: Cell<u32>,
     given_up: Cell<u32>,
 }
@@ -72,9 +73,15 @@ impl UseOfPairs {
     /// Pairs were not counted yet.
     pub(crate) fn none() -> UseOfPairs {
         UseOfPairs {
+            passed: Cell::new(0),
             counted: Cell::new(0),
             given_up: Cell::new(0),
         }
+    }
+
+    /// Notes that a set was passed without pairs.
+    fn pass(&self) {
+        self.passed.set(self.passed.get().saturating_add(1));
     }
 
     /// Notes that pairs were counted, and whether the set was given up for them.
@@ -84,12 +91,16 @@ impl UseOfPairs {
             .set(self.given_up.get().saturating_add(u32::from(given_up)));
     }
 
-    /// Whether pairs were not counted often yet, or help often enough.
+    /// Whether the search is long enough for pairs, and they were not counted often yet or help often enough.
     fn is_worth_it(&self) -> bool {
         let counted = self.counted.get();
-        counted < TRIALS_OF_PAIRS || self.given_up.get() >= counted / LEAST_HELP_OF_PAIRS
+        self.passed.get() >= SETS_BEFORE_PAIRS
+            && (counted < TRIALS_OF_PAIRS || self.given_up.get() >= counted / LEAST_HELP_OF_PAIRS)
     }
 }
+
+/// A search begins without pairs, and counts them after so many sets.
+const SETS_BEFORE_PAIRS: u32 = 2048;
 
 /// So often pairs are counted before their use is judged.
 const TRIALS_OF_PAIRS: u32 = 256;
@@ -310,6 +321,7 @@ impl<A: Allocator + Copy> Search<'_, A> {
             return Some(free);
         };
         if !self.sees_pairs(left) {
+            self.aids.use_of_pairs.pass();
             return Some(free);
         }
         let pairs = PairSearch {
