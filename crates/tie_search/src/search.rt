@@ -3,7 +3,8 @@
 //! If no candidate is left to add, the value decides. Otherwise the gains at the set give a bound, and each free
 //! candidate in turn, highest gain first, is searched below and then leaves, until the bound of the remaining ones is
 //! too low (Nemhauser and Wolsey, Maximizing submodular set functions, 1981). The gain of a candidate is added to the
-//! value, so no value is computed anew. Under `cc` a search also ends if all free candidates together add too little.
+//! value, so no value is computed anew. With one seat left, each candidate whose gain is enough is offered at once.
+//! Under `cc` a search also ends if all free candidates together add too little.
 //!
 //! One search lists all committees with the greatest value (module `found`): it begins with the value of a good
 //! committee, and looks for more as soon as it has met more. `find` is the same search, and ends with the first
@@ -219,6 +220,14 @@ impl<A: Allocator + Copy> Search<'_, A> {
             return;
         };
         let gains = self.gains_at(set, eligible);
+        if left == 1 {
+            let last = Node {
+                free: eligible,
+                ..node
+            };
+            self.offer_each(found, last, &gains);
+            return;
+        }
         let mut order = Order::by_worth(eligible, &gains);
         let mut rest = eligible;
         while may_reach(
@@ -256,6 +265,27 @@ impl<A: Allocator + Copy> Search<'_, A> {
             if self.sees_pairs(left) {
                 order = Order::by_worth(rest, &gains);
             }
+        }
+    }
+
+    /// Searches a node with one seat left: offers its set with each free candidate whose gain makes up what is needed.
+    fn offer_each(&self, found: &mut Found, node: Node, gains: &[u128; PLACES])
+        requires aids { IsAided self.now.tally.now self.now.aids.now }
+        requires opened { IsOpen self.now.tally.now.election.m node.set node.free }
+        requires value { node.value ≡ tally_value self.now.tally.now node.set }
+        requires last { node.left ≡ 1 }
+        requires gains { (n : ℕ) → has_member node.free n ≡ true → slice_index gains.now n
+            ≡ gain (increments self.now.tally.now.rule self.now.tally.now.k) self.now.tally.now.election.rows
+            node.set n }
+        requires listed { AreListed (tally_value self.now.tally.now) found.old }
+        requires new { AreNew self.now.tally.now.election.m node.set node.free node.left found.old }
+        ensures { AreSearched (tally_value self.now.tally.now) self.now.tally.now.election.m node.set node.free
+            node.left found.old found.new }
+    {
+        let (set, value) = (node.set, node.value);
+        let enough = at_least(gains, node.free, found.least.saturating_sub(value));
+        for candidate in enough.members() {
+            found.offer(set.with(candidate), value + gains[usize::from(candidate)]);
         }
     }
 

@@ -9,7 +9,7 @@ use Rattle.tie_search.specs.Steps.Near.{IsNarrowed}
 use Rattle.tie_search.proofs.PairLemmas.{length-among}
 use Rattle.tie_search.proofs.CompletionLemmas.{completion-back, completion-self, member-low, member-high, open-with, open-without, without-is, without-shorter}
 use Rattle.tie_search.proofs.SearchLemmas.{AreLeft, node-none, not-true, value-most}
-use Rattle.tie_search.proofs.FoundLemmas.{AreSettledBut, advances-none, advances-on, new-among, new-with, new-without, set-offered, settled-all, settled-narrowed, settled-with, settled-without, still-settled}
+use Rattle.tie_search.proofs.FoundLemmas.{AreSettledBut, advances-none, advances-on, new-among, new-with, new-without, searched-narrowed, set-offered, settled-all, settled-narrowed, settled-with, settled-without, still-settled}
 use Rattle.tie_search.proofs.KeptLemmas.{kept-left, open-among}
 use Rattle.tie_search.proofs.search.Search.+descend.Goals as goal
 use Rattle.tie_search.proofs.search.Search.+descend.Goals.{After-descend, After-untried-untried, In-Some-eligible}
@@ -29,6 +29,26 @@ returns-then-left-eq0 g t c =
     let value : V c.args.node.set ≡ c.args.node.value = omega (arith, c.requires.value) in
     set-offered V c.args.self.now.tally.now.election.m c.args.node.set c.args.node.free c.args.node.left c.args.found.now c.offer.new.self
     c.if-left-eq0.true c.requires.opened (c.offer.ensures.advances V value c.requires.listed) (c.offer.ensures.settled V value c.requires.listed)
+
+pub offer_each-requires : goal.offer_each-requires
+offer_each-requires g t c =
+    let tally = c.args.self.now.tally.now in
+    let narrowed : IsNarrowed (tally_value tally) tally.election.m c.args.node.set c.args.node.free c.args.node.left c.args.found.now.least c.in-Some.eligible = rw c.seeking.ensures at c.in-Some.ensures in
+    record {
+      aids = c.requires.aids;
+      opened = narrowed.opened;
+      value = c.requires.value;
+      last = c.if-left-eq1.true;
+      gains = c.gains_at-gains.ensures.gains;
+      listed = c.requires.listed;
+      new = new-among tally.election.m c.args.node.set c.args.node.free c.in-Some.eligible c.args.node.left c.args.found.now narrowed.among c.requires.new;
+    }
+
+pub returns-then-left-eq1 : goal.returns-then-left-eq1
+returns-then-left-eq1 g t c =
+    let tally = c.args.self.now.tally.now in
+    let narrowed : IsNarrowed (tally_value tally) tally.election.m c.args.node.set c.args.node.free c.args.node.left c.args.found.now.least c.in-Some.eligible = rw c.seeking.ensures at c.in-Some.ensures in
+    searched-narrowed (tally_value tally) tally.election.m c.args.node.set c.args.node.free c.in-Some.eligible c.args.node.left c.args.found.now c.offer_each.new.found narrowed c.offer_each.ensures
 
 pub loop-set-init : goal.loop-set-init
 loop-set-init g t c =
