@@ -1,12 +1,13 @@
 -- Tables of pairs, and what a ballot adds to them.
-use Rattle.std.proofs.Common.{◌≡◌, ℕ, ◌+◌, ◌*◌, ◌/◌, ◌%◌, ◌<◌, ◌≤◌, ◌==◌, ◌∙◌, ◌⊎◌, ◌||◌, Bool, true, false, cond, List, ◌∷◌, refl, sym, ap, subst, arith, inl, inr, length, get_or, set}
-use Rattle.std.proofs.lemmas.Bool.{cases_eq, eq-eqb, ne_eqb}
+use Rattle.std.proofs.Common.{◌≡◌, ℕ, ◌+◌, ◌*◌, ◌<◌, ◌≤◌, ◌==◌, ◌&&◌, ◌∙◌, ◌⊎◌, ◌||◌, Bool, true, false, cond, List, ◌∷◌, refl, sym, ap, subst, arith, inl, inr, length, max, min, get_or, set, nat_le}
+use Rattle.std.proofs.Math.Nat.{mul-le-mul}
+use Rattle.std.proofs.lemmas.Bool.{cases_eq, cases_lt, eq-eqb, le-leb, ne_eqb}
 use Rattle.std.proofs.lemmas.List.{get_or-set_same, get_or-set_other}
 use Rattle.ballot_base.specs.Limits.{most_candidates}
 use Rattle.ballot_base.specs.Lists.{IsIncreasing}
-use Rattle.ballot_base.specs.CandSet.{has_member}
-use Rattle.ballot_base.proofs.Increasing.{has_member_head, has_member_tail, has_member-below}
-use Rattle.tie_search.specs.Steps.Paired.{overlap_at}
+use Rattle.ballot_base.specs.CandSet.{has_member, members_upto}
+use Rattle.ballot_base.proofs.Increasing.{has_member_head, has_member_tail, has_member-below, has_member-filter}
+use Rattle.tie_search.specs.Steps.Paired.{overlap_at, pair_place, triangle}
 
 -- who is in the row or among the members gets so much
 abbrev pub portion : Bool → Bool → ℕ → ℕ
@@ -16,13 +17,69 @@ pub portion-none : (here : Bool) (amount : ℕ) → portion here false amount �
 portion-none true amount = refl
 portion-none false amount = refl
 
--- each place is that of a pair
-pub place-parts : (n : ℕ) → (65 * (n / 65) + n % 65 ≡ n) × (n % 65 ≤ most_candidates)
-place-parts n = (omega arith, omega arith)
+-- a pair in either order
+pub portion-pair : (has : ℕ → Bool) (i j amount : ℕ) → portion (has (max i j)) (has (min i j)) amount ≡ portion (has i) (has j) amount
+portion-pair has i j amount = elim (cases_lt i j) [
+  | inl low ↦
+      ap (λ n. portion (has n) (has (min i j)) amount) (max-right i j (omega (arith, low)))
+      ∙ ap (λ n. portion (has j) (has n) amount) (min-left i j (omega (arith, low)))
+      ∙ turned (has j) (has i)
+  | inr high ↦
+      ap (λ n. portion (has n) (has (min i j)) amount) (max-left i j (omega (arith, high)))
+      ∙ ap (λ n. portion (has i) (has n) amount) (min-right i j (omega (arith, high)))
+]
+  where
+    max-left : (a b : ℕ) → b ≤ a → max a b ≡ a
+    max-left a b low = omega (arith, low)
+
+    min-left : (a b : ℕ) → a ≤ b → min a b ≡ a
+    min-left a b low = omega (arith, low)
+
+    max-right : (a b : ℕ) → a ≤ b → max a b ≡ b
+    max-right a b low = omega (arith, low)
+
+    min-right : (a b : ℕ) → b ≤ a → min a b ≡ b
+    min-right a b low = omega (arith, low)
+
+    turned : (p q : Bool) → portion p q amount ≡ portion q p amount
+    turned true true = refl
+    turned true false = refl
+    turned false true = refl
+    turned false false = refl
+
+-- ---- places
+
+-- a row more
+triangle-next : (n : ℕ) → triangle (n + 1) ≡ triangle n + n + 1
+triangle-next n = omega arith
+
+triangle-rises : (a b : ℕ) → a ≤ b → triangle a ≤ triangle b
+triangle-rises a b low =
+    let product : a * (a + 1) ≤ b * (b + 1) = mul-le-mul low (let next : a + 1 ≤ b + 1 = omega (arith, low) in next) in
+    omega (arith, product)
+
+-- each pair of candidates has a place in the table
+pub place-within : (row column : ℕ) → row ≤ most_candidates → column ≤ row → triangle row + column < 2145
+place-within row column low few =
+    let last : triangle (row + 1) ≤ triangle 65 = triangle-rises (row + 1) 65 (omega (arith, low)) in
+    omega (arith, last, triangle-next row, few)
+
+pub pair-within : (i j : ℕ) → i ≤ most_candidates → j ≤ most_candidates → pair_place i j < 2145
+pair-within i j one other = place-within (max i j) (min i j) (omega (arith, one, other)) (omega arith)
+
+-- rows are apart
+row-apart : (row other column : ℕ) (P : Type 0) → row < other → column ≤ row → (last : ℕ) → triangle row + column ≡ triangle other + last → P
+row-apart row other column P less few last same = absurd (omega (arith, triangle-rises (row + 1) other (omega (arith, less)), triangle-next row, few, same))
 
 -- the place of a pair tells its candidates
-place-row : (i j row first : ℕ) → j ≤ 64 → first ≤ 64 → 65 * i + j ≡ 65 * row + first → i ≡ row
-place-row i j row first low few same = omega (arith, low, few, same)
+place-row : (row column other last : ℕ) → column ≤ row → last ≤ other → triangle row + column ≡ triangle other + last → row ≡ other
+place-row row column other last few less same = elim (cases_lt row other) [
+  | inl low ↦ row-apart row other column (row ≡ other) low few last same
+  | inr high ↦ elim (cases_lt other row) [
+    | inl low ↦ row-apart other row last (row ≡ other) low less column (sym same)
+    | inr most ↦ omega (arith, high, most)
+  ]
+]
 
 module _ (left rest : List ℕ) (first : ℕ) (is : left ≡ first ∷ rest) (up : IsIncreasing 1 most_candidates left) where
   pub first-in : has_member left first ≡ true
@@ -61,89 +118,100 @@ module _ (left rest : List ℕ) (first : ℕ) (is : left ≡ first ∷ rest) (up
     | inr other ↦ omega (arith, before j, get_or-set_other values first j v 0 other)
   ]
 
-  module _ (table begun members : List ℕ) (row amount : ℕ) where
-    module _ (made : (i j : ℕ) → j ≤ most_candidates → overlap_at table i j + portion (i == row) (has_member left j) amount ≡ overlap_at begun i j + portion (i == row) (has_member members j) amount) where
-      -- the first of those who are left has got its part
-      pub row-more : length table ≡ 4225 → row ≤ most_candidates → (i j : ℕ) → j ≤ most_candidates
-          → overlap_at (set table (65 * row + first) (get_or table (65 * row + first) 0 + amount)) i j + portion (i == row) (has_member rest j) amount ≡ overlap_at begun i j + portion (i == row) (has_member members j) amount
-      row-more long within i j low = elim (cases_eq (65 * i + j) (65 * row + first)) [
-        | inl same ↦
-            let row-is : i ≡ row = place-row i j row first (omega (arith, low)) (omega (arith, first-low)) same in
-            let first-is : j ≡ first = omega (arith, row-is, same) in
-            omega (
-              arith,
-              made i j low,
-              ap (λ n. get_or (set table (65 * row + first) (get_or table (65 * row + first) 0 + amount)) n 0) same,
-              get_or-set_same table (65 * row + first) (get_or table (65 * row + first) 0 + amount) 0 (omega (arith, long, within, first-low)),
-              ap (λ n. get_or table n 0) same,
-              ap (λ b. portion b (has_member left j) amount) (eq-eqb i row row-is),
-              ap (λ b. portion b (has_member rest j) amount) (eq-eqb i row row-is),
-              ap (λ b. cond b amount 0) (ap (has_member left) first-is ∙ first-in),
-              ap (λ b. cond b amount 0) (ap (has_member rest) first-is ∙ first-gone),
-            )
-        | inr other ↦
-            omega (
-              arith,
-              made i j low,
-              get_or-set_other table (65 * row + first) (65 * i + j) (get_or table (65 * row + first) 0 + amount) 0 other,
-              kept (cases_eq i row) other,
-            )
-      ]
-        where
-          kept : (i ≡ row) ⊎ (i ≡ row → ⊥) → (65 * i + j ≡ 65 * row + first → ⊥) → portion (i == row) (has_member rest j) amount ≡ portion (i == row) (has_member left j) amount
-          kept (inl same) other = ap (λ b. portion (i == row) b amount) (sym (others-same j (λ e. other (omega (arith, same, e)))))
-          kept (inr apart) other = ap (λ b. portion b (has_member rest j) amount) (ne_eqb i row apart) ∙ sym (ap (λ b. portion b (has_member left j) amount) (ne_eqb i row apart))
-
-      -- the next number fits
-      pub row-fits : (bound : ℕ) → ((j : ℕ) → j ≤ most_candidates → overlap_at begun row j + amount < bound) → get_or table (65 * row + first) 0 + amount < bound
-      row-fits bound fits =
+  module _ (table begun columns : List ℕ) (row amount : ℕ) (low : first ≤ row)
+      (made : (i j : ℕ) → overlap_at table i j + portion (max i j == row) (has_member left (min i j)) amount ≡ overlap_at begun i j + portion (max i j == row) (has_member columns (min i j)) amount) where
+    -- the first of those who are left has got its part
+    pub row-more : length table ≡ 2145 → row ≤ most_candidates → (i j : ℕ)
+        → overlap_at (set table (triangle row + first) (get_or table (triangle row + first) 0 + amount)) i j + portion (max i j == row) (has_member rest (min i j)) amount
+        ≡ overlap_at begun i j + portion (max i j == row) (has_member columns (min i j)) amount
+    row-more long within i j = elim (cases_eq (pair_place i j) (triangle row + first)) [
+      | inl same ↦
+          let row-is : max i j ≡ row = place-row (max i j) (min i j) row first (omega arith) low same in
+          let first-is : min i j ≡ first = omega (arith, same, ap triangle row-is) in
           omega (
             arith,
-            made row first first-low,
-            fits first first-low,
-            ap (λ b. portion b (has_member left first) amount) (eq-eqb row row refl),
-            ap (λ b. portion b (has_member members first) amount) (eq-eqb row row refl),
-            ap (λ b. cond b amount 0) first-in,
-            most (has_member members first),
+            made i j,
+            ap (λ n. get_or (set table (triangle row + first) (get_or table (triangle row + first) 0 + amount)) n 0) same,
+            get_or-set_same table (triangle row + first) (get_or table (triangle row + first) 0 + amount) 0 (omega (arith, long, place-within row first within low)),
+            ap (λ n. get_or table n 0) same,
+            ap (λ b. portion b (has_member left (min i j)) amount) (eq-eqb (max i j) row row-is),
+            ap (λ b. portion b (has_member rest (min i j)) amount) (eq-eqb (max i j) row row-is),
+            ap (λ b. cond b amount 0) (ap (has_member left) first-is ∙ first-in),
+            ap (λ b. cond b amount 0) (ap (has_member rest) first-is ∙ first-gone),
           )
-        where
-          most : (b : Bool) → cond b amount 0 ≤ amount
-          most true = omega arith
-          most false = omega arith
+      | inr other ↦
+          omega (
+            arith,
+            made i j,
+            get_or-set_other table (triangle row + first) (pair_place i j) (get_or table (triangle row + first) 0 + amount) 0 other,
+            kept (cases_eq (max i j) row) other,
+          )
+    ]
+      where
+        kept : (max i j ≡ row) ⊎ (max i j ≡ row → ⊥) → (pair_place i j ≡ triangle row + first → ⊥) → portion (max i j == row) (has_member rest (min i j)) amount ≡ portion (max i j == row) (has_member left (min i j)) amount
+        kept (inl same) other = ap (λ b. portion (max i j == row) b amount) (sym (others-same (min i j) (λ e. other (omega (arith, ap triangle same, e)))))
+        kept (inr apart) other = ap (λ b. portion b (has_member rest (min i j)) amount) (ne_eqb (max i j) row apart) ∙ sym (ap (λ b. portion b (has_member left (min i j)) amount) (ne_eqb (max i j) row apart))
+
+    -- the next number fits
+    pub row-fits : (bound : ℕ) → ((j : ℕ) → j ≤ row → overlap_at begun row j + amount < bound) → get_or table (triangle row + first) 0 + amount < bound
+    row-fits bound fits =
+        let more : max row first ≡ row = omega (arith, low) in
+        let less : min row first ≡ first = omega (arith, low) in
+        let at : pair_place row first ≡ triangle row + first = omega (arith, ap triangle more, less) in
+        omega (
+          arith,
+          made row first,
+          fits first low,
+          ap (λ n. get_or table n 0) at,
+          ap (λ b. portion b (has_member left (min row first)) amount) (eq-eqb (max row first) row more),
+          ap (λ b. portion b (has_member columns (min row first)) amount) (eq-eqb (max row first) row more),
+          ap (λ b. cond b amount 0) (ap (has_member left) less ∙ first-in),
+          most (has_member columns (min row first)),
+        )
+      where
+        most : (b : Bool) → cond b amount 0 ≤ amount
+        most true = omega arith
+        most false = omega arith
 
   module _ (table begun after members : List ℕ) (amount : ℕ)
-      (made : (i j : ℕ) → j ≤ most_candidates → overlap_at table i j + portion (has_member left i) (has_member members j) amount ≡ overlap_at begun i j + portion (has_member members i) (has_member members j) amount) where
+      (made : (i j : ℕ) → j ≤ most_candidates
+      → overlap_at table i j + portion (has_member left (max i j)) (has_member members (min i j)) amount ≡ overlap_at begun i j + portion (has_member members (max i j)) (has_member members (min i j)) amount) where
     -- the row of the first of those who are left is done
-    pub rows-more : ((i j : ℕ) → j ≤ most_candidates → overlap_at after i j ≡ overlap_at table i j + portion (i == first) (has_member members j) amount) → (i j : ℕ) → j ≤ most_candidates
-        → overlap_at after i j + portion (has_member rest i) (has_member members j) amount ≡ overlap_at begun i j + portion (has_member members i) (has_member members j) amount
-    rows-more more i j low = elim (cases_eq i first) [
+    pub rows-more : ((i j : ℕ) → overlap_at after i j ≡ overlap_at table i j + portion (max i j == first) (has_member (members_upto members first) (min i j)) amount) → (i j : ℕ) → j ≤ most_candidates
+        → overlap_at after i j + portion (has_member rest (max i j)) (has_member members (min i j)) amount ≡ overlap_at begun i j + portion (has_member members (max i j)) (has_member members (min i j)) amount
+    rows-more more i j low = elim (cases_eq (max i j) first) [
       | inl same ↦
+          let column : has_member (members_upto members first) (min i j) ≡ has_member members (min i j) =
+          has_member-filter (λ n. nat_le n first) members (min i j) ∙ ap (λ b. b && has_member members (min i j)) (let few : min i j ≤ first = omega (arith, same) in le-leb (min i j) first few) in
           omega (
             arith,
             made i j low,
-            more i j low,
-            ap (λ b. portion b (has_member members j) amount) (eq-eqb i first same),
-            ap (λ b. portion b (has_member members j) amount) (ap (has_member left) same ∙ first-in),
-            ap (λ b. portion b (has_member members j) amount) (ap (has_member rest) same ∙ first-gone),
+            more i j,
+            ap (λ b. portion b (has_member (members_upto members first) (min i j)) amount) (eq-eqb (max i j) first same),
+            ap (λ b. cond b amount 0) column,
+            ap (λ b. portion b (has_member members (min i j)) amount) (ap (has_member left) same ∙ first-in),
+            ap (λ b. portion b (has_member members (min i j)) amount) (ap (has_member rest) same ∙ first-gone),
           )
       | inr other ↦
           omega (
             arith,
             made i j low,
-            more i j low,
-            ap (λ b. portion b (has_member members j) amount) (ne_eqb i first other),
-            ap (λ b. portion b (has_member members j) amount) (others-same i other),
+            more i j,
+            ap (λ b. portion b (has_member (members_upto members first) (min i j)) amount) (ne_eqb (max i j) first other),
+            ap (λ b. portion b (has_member members (min i j)) amount) (others-same (max i j) other),
           )
     ]
 
-    pub rows-fit : (bound : ℕ) → ((i j : ℕ) → j ≤ most_candidates → overlap_at begun i j + amount < bound) → (j : ℕ) → j ≤ most_candidates → overlap_at table first j + amount < bound
-    rows-fit bound fits j low =
+    pub rows-fit : (bound : ℕ) → ((i j : ℕ) → j ≤ most_candidates → overlap_at begun i j + amount < bound) → (j : ℕ) → j ≤ first → overlap_at table first j + amount < bound
+    rows-fit bound fits j few =
+        let inside : j ≤ most_candidates = omega (arith, few, first-low) in
+        let more : max first j ≡ first = omega (arith, few) in
         omega (
           arith,
-          made first j low,
-          fits first j low,
-          ap (λ b. portion b (has_member members j) amount) first-in,
-          less (has_member members first) (has_member members j),
+          made first j inside,
+          fits first j inside,
+          ap (λ b. portion b (has_member members (min first j)) amount) (ap (has_member left) more ∙ first-in),
+          less (has_member members (max first j)) (has_member members (min first j)),
         )
       where
         less : (p q : Bool) → portion p q amount ≤ cond q amount 0

@@ -52,6 +52,11 @@ portion-most true true n = omega arith
 portion-most true false n = omega arith
 portion-most false q n = omega arith
 
+pub portion-self : (p q : Bool) (n : ℕ) → portion p q n ≤ portion p p n
+portion-self true true n = omega arith
+portion-self true false n = omega arith
+portion-self false q n = omega arith
+
 -- ---- the rows so far
 
 -- nothing yet

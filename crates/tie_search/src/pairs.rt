@@ -4,7 +4,7 @@
 //! keep and the worths of the added members, less the overlaps of all pairs of them (`laws::pairs`). Row sums bound
 //! this in turn by a sum over the members (`laws::row_sums`; Gallo, Hammer and Simeone, Quadratic knapsack problems,
 //! 1980). A candidate leaves if the others fall short with it.
-ghost use Rattle.std.specs.Prelude.{◌≡◌, ℕ, ◌+◌, ◌-◌, ◌*◌, ◌^◌, ◌<◌, ◌≤◌, ◌==◌, true, List, length, slice_index, MatchOption, if◌then◌else◌};
+ghost use Rattle.std.specs.Prelude.{◌≡◌, ℕ, ◌+◌, ◌-◌, ◌*◌, ◌^◌, ◌<◌, ◌≤◌, ◌==◌, true, List, length, max, min, slice_index, MatchOption, if◌then◌else◌};
 ghost use Rattle.ballot_base.specs.Ballots.{IsElection};
 ghost use Rattle.ballot_base.specs.CandSet.{has_member};
 ghost use Rattle.ballot_base.specs.Limits.{most_candidates};
@@ -12,20 +12,21 @@ ghost use Rattle.ballot_base.specs.Lists.{IsIncreasing};
 ghost use Rattle.tie_walk.specs.Values.{thiele_value};
 ghost use Rattle.tie_search.specs.Completions.{IsOpen, IsOutOfReach};
 ghost use Rattle.tie_search.specs.Steps.Near.{IsNarrowed};
-ghost use Rattle.tie_search.specs.Steps.Paired.{AreNothing, AreSmall, AreSums, AreTotals, IsRowSum, IsSmallMajorant, overlap_at};
+ghost use Rattle.tie_search.specs.Steps.Paired.{AreNothing, AreSmall, AreSums, AreTotals, IsRowSum, IsSmallMajorant, overlap_at, pair_place, triangle};
 ghost use Rattle.tie_search.specs.Steps.Rows.{AreBeside, AreRows};
 
 use crate::majorant::{HitSums, Majorant, Majorants};
 use crate::order::nth_greatest;
 use crate::search::{at_least, excess};
-use ballot_base::{CandSet, PLACES, Profile};
+use ballot_base::{CandSet, MOST_CANDIDATES, PLACES, Profile};
 use std::alloc::Allocator;
 use tie_walk::add_to_members;
 
-/// How many places a table of all pairs has.
-const TABLE_PLACES: usize = 4225;
+/// How many places a table of pairs has: 65 * 66 / 2.
+const TABLE_PLACES: usize = 2145;
 
-/// A number for each ordered pair of candidates, row by row.
+/// A number for each unordered pair of candidates, also of a candidate with itself. The row of a candidate has the
+/// pairs with those up to it, and comes after the rows of all those before it.
 type Table = [u64; TABLE_PLACES];
 
 /// What a search looks for by pairs: the ballots, what hits give, and the value that a committee has to reach.
@@ -159,7 +160,7 @@ impl Totals {
         }
     }
 
-    /// The greatest overlap of two candidates.
+    /// The greatest overlap of two candidates. It is that of some candidate with itself.
     fn greatest_overlap(&self) -> u64
         requires small { AreSmall self.now.kept self.now.worths self.now.overlaps }
         ensures most { (i j : ℕ) → i ≤ most_candidates → j ≤ most_candidates
@@ -167,8 +168,8 @@ impl Totals {
         ensures small { result ≤ 2 ^ 58 }
     {
         let mut greatest = 0;
-        for place in 0..TABLE_PLACES {
-            greatest = self.overlaps[place].max(greatest);
+        for candidate in 0..MOST_CANDIDATES + 1 {
+            greatest = self.overlaps[place(candidate, candidate)].max(greatest);
         }
         greatest
     }
@@ -228,35 +229,50 @@ impl Rows<'_> {
         ensures { AreBeside self.now i beside.new }
     {
         let factor = 2 * u128::from(self.left - 1);
-        let row = PLACES * usize::from(i);
         for other in self.free.members() {
             let j = usize::from(other);
-            let overlap = u128::from(self.totals.overlaps[row + j]);
+            let overlap = u128::from(self.totals.overlaps[place(i, other)]);
             beside[j] = self.totals.worths[j] + self.raise - factor * overlap;
         }
     }
 }
 
-/// Adds to the number of each ordered pair of members, also of a member with itself.
+/// Where the row of a candidate begins in a table of pairs.
+fn row_start(candidate: u8) -> usize
+    ensures { result ≡ triangle candidate }
+{
+    let candidate = usize::from(candidate);
+    candidate * (candidate + 1) / 2
+}
+
+/// The place of two candidates in a table of pairs.
+fn place(i: u8, j: u8) -> usize
+    ensures { result ≡ pair_place i j }
+{
+    row_start(i.max(j)) + usize::from(i.min(j))
+}
+
+/// Adds to the number of each pair of members, also of a member with itself.
 fn add_pairs(table: &mut Table, members: CandSet, amount: u64)
     requires fits { (i j : ℕ) → j ≤ most_candidates → overlap_at table.old i j + amount < 2 ^ 64 }
     ensures { (i j : ℕ) → j ≤ most_candidates → overlap_at table.new i j ≡ overlap_at table.old i j
         + (if has_member members i then (if has_member members j then amount else 0) else 0) }
 {
     for row in members.members() {
-        add_to_row(table, row, members, amount);
+        add_to_row(table, row, members.upto(row), amount);
     }
 }
 
-/// Adds to the numbers of the members in one row.
-fn add_to_row(table: &mut Table, row: u8, members: CandSet, amount: u64)
+/// Adds to the numbers of some candidates up to the row's in one row.
+fn add_to_row(table: &mut Table, row: u8, columns: CandSet, amount: u64)
     requires within { row ≤ most_candidates }
-    requires fits { (j : ℕ) → j ≤ most_candidates → overlap_at table.old row j + amount < 2 ^ 64 }
-    ensures { (i j : ℕ) → j ≤ most_candidates → overlap_at table.new i j ≡ overlap_at table.old i j
-        + (if i == row then (if has_member members j then amount else 0) else 0) }
+    requires columns { (n : ℕ) → has_member columns n ≡ true → n ≤ row }
+    requires fits { (j : ℕ) → j ≤ row → overlap_at table.old row j + amount < 2 ^ 64 }
+    ensures { (i j : ℕ) → overlap_at table.new i j ≡ overlap_at table.old i j
+        + (if max i j == row then (if has_member columns (min i j) then amount else 0) else 0) }
 {
-    let start = PLACES * usize::from(row);
-    for column in members.members() {
+    let start = row_start(row);
+    for column in columns.members() {
         table[start + usize::from(column)] += amount;
     }
 }

@@ -1,5 +1,5 @@
 -- What a search keeps for pairs of members, and what it adds up over the voters.
-use Rattle.std.specs.Prelude.{ℕ, ◌≡◌, ◌+◌, ◌*◌, ◌≤◌, ◌^◌, List, sum, sum_by, take, slice_index, Option, MatchOption, ⊤}
+use Rattle.std.specs.Prelude.{ℕ, ◌≡◌, ◌+◌, ◌*◌, ◌/◌, ◌≤◌, ◌^◌, List, max, min, sum, sum_by, take, slice_index, Option, MatchOption, ⊤}
 use Rattle.ballot_base.specs.Limits.{most_candidates}
 use Rattle.ballot_base.specs.Ballots.{Row}
 use Rattle.ballot_base.specs.CandSet.{common_members}
@@ -28,13 +28,18 @@ pub record IsMajorantOf (sums : List ℕ) (before most : ℕ) (majorant : Majora
       → slice_index sums (before + h) + majorant.overlap * (h * h) ≤ majorant.kept + majorant.worth * h
   pub small : IsSmallMajorant majorant
 
--- how many places a row of the table has
-abbrev pub row_places : ℕ
-row_places = 65
+-- how many pairs there are of the numbers below n, also of a number with itself
+abbrev pub triangle : ℕ → ℕ
+triangle n = n * (n + 1) / 2
 
--- the overlap of two candidates, in a table of rows
+-- the place of two candidates in a table of unordered pairs, where the row of a candidate comes after the rows of all
+-- those before it
+abbrev pub pair_place : ℕ → ℕ → ℕ
+pair_place i j = triangle (max i j) + min i j
+
+-- the overlap of two candidates
 abbrev pub overlap_at : List ℕ → ℕ → ℕ → ℕ
-overlap_at table i j = slice_index table (row_places * i + j)
+overlap_at table i j = slice_index table (pair_place i j)
 
 -- no committee that completes the set is worth more than what is kept and the worths of those who join, less their
 -- overlaps
@@ -50,11 +55,12 @@ pub record AreNothing (kept : ℕ) (worths table : List ℕ) : Type 0 where
   pub worths_none : (n : ℕ) → slice_index worths n ≡ 0
   pub overlaps_none : (i j : ℕ) → overlap_at table i j ≡ 0
 
--- no total is too large
+-- no total is too large, and no candidate overlaps more with another than with itself
 pub record AreSmall (kept : ℕ) (worths table : List ℕ) : Type 0 where
   pub kept_small : kept ≤ 2 ^ 71
   pub worths_small : (n : ℕ) → slice_index worths n ≤ 2 ^ 66
   pub overlaps_small : (i j : ℕ) → j ≤ most_candidates → overlap_at table i j ≤ 2 ^ 58
+  pub overlaps_self : (i j : ℕ) → i ≤ most_candidates → j ≤ most_candidates → overlap_at table i j ≤ overlap_at table i i
 
 -- the row sum of a candidate, by some threshold
 abbrev pub IsRowSum : List ℕ → List ℕ → List ℕ → ℕ → ℕ → ℕ → ℕ → Type 0

@@ -1,4 +1,4 @@
-use Rattle.std.proofs.Common.{◌≡◌, ℕ, ◌+◌, ◌≤◌}
+use Rattle.std.proofs.Common.{◌≡◌, ℕ, ◌+◌, ◌≤◌, max, min}
 use Rattle.ballot_base.specs.CandSet.{has_member}
 use Rattle.ballot_base.specs.Limits.{most_candidates}
 use Rattle.ballot_base.specs.Lists.{IsIncreasing}
@@ -11,5 +11,5 @@ abbrev pub invariant-loop-row : goal.invariant-loop-row
 invariant-loop-row l = record {
   rises : IsIncreasing 1 most_candidates l.row-iterator;
   made : (i j : ℕ) → j ≤ most_candidates
-      → overlap_at l.table i j + portion (has_member l.row-iterator i) (has_member l.fn.members j) l.amount ≡ overlap_at l.fn.table i j + portion (has_member l.fn.members i) (has_member l.fn.members j) l.amount;
+      → overlap_at l.table i j + portion (has_member l.row-iterator (max i j)) (has_member l.fn.members (min i j)) l.amount ≡ overlap_at l.fn.table i j + portion (has_member l.fn.members (max i j)) (has_member l.fn.members (min i j)) l.amount;
 }

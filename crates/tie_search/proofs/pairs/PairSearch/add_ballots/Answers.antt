@@ -10,7 +10,7 @@ use Rattle.tie_search.specs.Steps.Majorants.{Majorized}
 use Rattle.tie_search.specs.Steps.Paired.{AreTotals, IsMajorantOf, overlap_at}
 use Rattle.tie_search.proofs.CompletionLemmas.{member-high}
 use Rattle.tie_search.proofs.OverlapLemmas.{portion}
-use Rattle.tie_search.proofs.PairTotals.{cells-same, hits-both, portion-most, row-up, totals-more, totals-none, voters-more, voters-room}
+use Rattle.tie_search.proofs.PairTotals.{cells-same, hits-both, portion-most, portion-self, row-up, totals-more, totals-none, voters-more, voters-room}
 use Rattle.tie_search.proofs.WeightLemmas.{free-common, part-most}
 use Rattle.tie_search.proofs.pairs.PairSearch.add_ballots.Goals as goal
 
@@ -25,6 +25,7 @@ loop-ballot-init g c =
       totals = λ weights are. totals-none weights self.given.now.scale self.given.now.unit self.profile.now.m self.profile.now.rows c.args.set c.args.free c.args.left totals.kept totals.worths totals.overlaps nothing;
       small_kept = omega (arith, nothing.kept_none);
       small_worths = λ n. omega (arith, nothing.worths_none n);
+      self_overlaps = λ i j one other. omega (arith, nothing.overlaps_none i j);
       small_overlaps = λ i j low. omega (arith, nothing.overlaps_none i j);
     }
 
@@ -58,6 +59,7 @@ add-requires g c =
         kept_small = omega (arith, inv.small_kept, room);
         worths_small = λ n. omega (arith, inv.small_worths n, room);
         overlaps_small = λ i j low. omega (arith, inv.small_overlaps i j low, room);
+        overlaps_self = inv.self_overlaps;
       };
     }
 
@@ -103,6 +105,8 @@ loop-ballot-preserved g c =
       small_kept = subst (λ n. totals.kept ≤ voter_count (take n e.rows) * 2 ^ 39) next (omega (arith, c.add.ensures.kept, small_kept, voters, inv.small_kept));
       small_worths = λ n. subst (λ x. get_or totals.worths n 0 ≤ voter_count (take x e.rows) * 2 ^ 34) next
           (omega (arith, small_worth, voters, inv.small_worths n, c.add.ensures.worths n, part-most (has_member approved n) (row.1 * majorant.worth)));
+      self_overlaps = λ a b one other.
+          omega (arith, inv.self_overlaps a b one other, c.add.ensures.overlaps a b other, c.add.ensures.overlaps a a one, portion-self (has_member approved a) (has_member approved b) (row.1 * majorant.overlap));
       small_overlaps = λ a b low. subst (λ x. overlap_at totals.overlaps a b ≤ voter_count (take x e.rows) * 2 ^ 26) next
           (omega (arith, small_overlap, voters, inv.small_overlaps a b low, c.add.ensures.overlaps a b low, portion-most (has_member approved a) (has_member approved b) (row.1 * majorant.overlap)));
     }
@@ -125,4 +129,5 @@ returns-clause-small g c =
       kept_small = omega (arith, inv.small_kept, few, valid.voters);
       worths_small = λ n. omega (arith, inv.small_worths n, few, valid.voters);
       overlaps_small = λ i j low. omega (arith, inv.small_overlaps i j low, few, valid.voters);
+      overlaps_self = inv.self_overlaps;
     }

@@ -13,5 +13,6 @@ invariant-loop-ballot g l = record {
       → AreTotals weights l.self.given.now.scale l.self.given.now.unit l.self.profile.now.m (take (length l.yielded) l.self.profile.now.rows) l.set l.free l.left l.totals.kept l.totals.worths l.totals.overlaps;
   small_kept : l.totals.kept ≤ voter_count (take (length l.yielded) l.self.profile.now.rows) * 2 ^ 39;
   small_worths : (n : ℕ) → get_or l.totals.worths n 0 ≤ voter_count (take (length l.yielded) l.self.profile.now.rows) * 2 ^ 34;
+  self_overlaps : (i j : ℕ) → i ≤ most_candidates → j ≤ most_candidates → overlap_at l.totals.overlaps i j ≤ overlap_at l.totals.overlaps i i;
   small_overlaps : (i j : ℕ) → j ≤ most_candidates → overlap_at l.totals.overlaps i j ≤ voter_count (take (length l.yielded) l.self.profile.now.rows) * 2 ^ 26;
 }

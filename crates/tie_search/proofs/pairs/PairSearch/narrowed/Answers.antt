@@ -34,6 +34,23 @@ raise-fits a b factor overlap few less low small =
     let all : a * b * (2 * factor * overlap) ≤ 255 * 255 * (510 * 2 ^ 58) = mul-le-mul square raise in
     omega (arith, all)
 
+raise-small : (factor overlap : ℕ) → factor ≤ 255 → overlap ≤ 2 ^ 58 → 2 * factor * overlap ≤ 2 ^ 67
+raise-small factor overlap few small =
+    let all : 2 * factor * overlap ≤ 510 * 2 ^ 58 = mul-le-mul (let top : 2 * factor ≤ 510 = omega (arith, few) in top) small in
+    omega (arith, all)
+
+pub sums-sums-requires : goal.sums-sums-requires
+sums-sums-requires g c = record {
+  several = c.requires.several;
+  few = omega (arith, c.ranges.left);
+  small = c.add_ballots.ensures.small;
+  raise_small = raise-small c.from-factor.result c.from.result (omega (arith, c.from-factor.ensures, c.ranges.left)) (omega (arith, c.from.ensures, c.greatest_overlap.ensures.small));
+  enough = λ i j row column.
+      let low : overlap_at c.add_ballots.new.totals.overlaps i j ≤ c.from.result = omega (arith, c.from.ensures, c.greatest_overlap.ensures.most i j row column) in
+      let product : 2 * c.from-factor.result * overlap_at c.add_ballots.new.totals.overlaps i j ≤ 2 * c.from-factor.result * c.from.result = mul-le-mul_left (2 * c.from-factor.result) low in
+      omega (arith, product, ap (λ n. 2 * n * overlap_at c.add_ballots.new.totals.overlaps i j) c.from-factor.ensures);
+}
+
 pub overflow_mul-most-2 : goal.overflow_mul-most-2
 overflow_mul-most-2 g c =
     omega (

@@ -5,7 +5,7 @@ use Rattle.ballot_base.specs.CandSet.{has_member}
 use Rattle.ballot_base.specs.Limits.{most_candidates}
 use Rattle.tie_search.specs.Pairs.{worth_beside}
 use Rattle.tie_search.specs.Steps.Paired.{overlap_at}
-use Rattle.tie_search.proofs.OverlapLemmas.{first-low, set-made, set-most}
+use Rattle.tie_search.proofs.OverlapLemmas.{first-low, pair-within, set-made, set-most}
 use Rattle.tie_search.proofs.SearchLemmas.{rest-increasing}
 use Rattle.tie_search.proofs.pairs.Rows.put_beside.Goals as goal
 
@@ -22,15 +22,19 @@ loop-other-init c =
 pub bounds-self-j : goal.bounds-self-j
 bounds-self-j c = omega (arith, c.from-j.ensures, first-low c.loop-other.other-iterator c.next.new.self c.in-Some.other c.in-Some.ensures.steps c.loop-other.invariant.rises)
 
-pub bounds-self-row : goal.bounds-self-row
-bounds-self-row c =
-    omega (arith, c.from-row.ensures, c.from-j.ensures, c.requires.within, first-low c.loop-other.other-iterator c.next.new.self c.in-Some.other c.in-Some.ensures.steps c.loop-other.invariant.rises)
+pub bounds-self-place : goal.bounds-self-place
+bounds-self-place c =
+    omega (
+      arith,
+      c.place.ensures,
+      pair-within c.args.i c.in-Some.other c.requires.within (first-low c.loop-other.other-iterator c.next.new.self c.in-Some.other c.in-Some.ensures.steps c.loop-other.invariant.rises),
+    )
 
 pub overflow_sub-beside : goal.overflow_sub-beside
 overflow_sub-beside c =
     let low = first-low c.loop-other.other-iterator c.next.new.self c.in-Some.other c.in-Some.ensures.steps c.loop-other.invariant.rises in
     let value : c.from-overlap.result ≡ overlap_at c.args.self.now.totals.now.overlaps c.args.i c.in-Some.other =
-    c.from-overlap.ensures ∙ ap (λ n. get_or c.args.self.now.totals.now.overlaps (65 * n + c.from-j.result) 0) c.from-row.ensures ∙ ap (λ n. get_or c.args.self.now.totals.now.overlaps (65 * c.args.i + n) 0) c.from-j.ensures in
+    c.from-overlap.ensures ∙ ap (λ n. get_or c.args.self.now.totals.now.overlaps n 0) c.place.ensures in
     omega (
       arith,
       c.requires.rows.enough c.args.i c.in-Some.other c.requires.within low,
@@ -50,7 +54,7 @@ loop-other-preserved c =
     let low = first-low rest c.next.new.self first c.in-Some.ensures.steps inv.rises in
     let inside : first < length c.loop-other.beside = omega (arith, low, inv.long) in
     let value : c.from-overlap.result ≡ overlap_at self.totals.now.overlaps c.args.i first =
-    c.from-overlap.ensures ∙ ap (λ n. get_or self.totals.now.overlaps (65 * n + c.from-j.result) 0) c.from-row.ensures ∙ ap (λ n. get_or self.totals.now.overlaps (65 * c.args.i + n) 0) c.from-j.ensures in
+    c.from-overlap.ensures ∙ ap (λ n. get_or self.totals.now.overlaps n 0) c.place.ensures in
     let v = get_or self.totals.now.worths first 0 + c.args.self.now.raise - 2 * c.from-factor.result * c.from-overlap.result in
     let is : v ≡ worth_beside (slice_index self.totals.now.worths) (overlap_at self.totals.now.overlaps) c.args.self.now.left c.args.self.now.raise c.args.i first =
     omega (

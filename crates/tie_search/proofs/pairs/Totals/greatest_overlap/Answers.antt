@@ -1,31 +1,29 @@
-use Rattle.std.proofs.Common.{◌+◌, ◌*◌, ◌/◌, ◌%◌, ap, arith, inl, inr, get_or}
+use Rattle.std.proofs.Common.{ap, arith, inl, inr, get_or}
 use Rattle.std.proofs.lemmas.Bool.{cases_eq}
-use Rattle.tie_search.proofs.OverlapLemmas.{place-parts}
 use Rattle.tie_search.proofs.pairs.Totals.greatest_overlap.Goals as goal
 
-pub loop-place-init : goal.loop-place-init
-loop-place-init c = record { most = λ n low. absurd (omega (arith, low)); small = omega arith }
+pub loop-candidate-init : goal.loop-candidate-init
+loop-candidate-init c = record { most = λ n low. absurd (omega (arith, low)); small = omega arith }
 
-pub loop-place-preserved : goal.loop-place-preserved
-loop-place-preserved c =
-    let place = c.loop-place.place in
-    let parts = place-parts place in
+pub loop-candidate-preserved : goal.loop-candidate-preserved
+loop-candidate-preserved c =
+    let at = ap (λ n. get_or c.args.self.now.overlaps n 0) c.place.ensures in
     record {
-      most = λ n low. elim (cases_eq n place) [
-        | inl same ↦ rw same (omega (arith, c.max-greatest.ensures))
-        | inr other ↦ omega (arith, c.loop-place.invariant.most n (omega (arith, low, other)), c.max-greatest.ensures)
+      most = λ n low. elim (cases_eq n c.loop-candidate.candidate) [
+        | inl same ↦ rw same (omega (arith, c.max-greatest.ensures, at))
+        | inr other ↦ omega (arith, c.loop-candidate.invariant.most n (omega (arith, low, other)), c.max-greatest.ensures)
       ];
       small = omega (
         arith,
         c.max-greatest.ensures,
-        c.loop-place.invariant.small,
-        c.requires.small.overlaps_small (place / 65) (place % 65) parts.1,
-        ap (λ n. get_or c.args.self.now.overlaps n 0) parts.0,
+        c.loop-candidate.invariant.small,
+        c.requires.small.overlaps_small c.loop-candidate.candidate c.loop-candidate.candidate (omega (arith, c.loop-candidate-test.true)),
+        at,
       );
     }
 
 pub returns-clause-most : goal.returns-clause-most
-returns-clause-most c i j row column = c.loop-place.invariant.most (65 * i + j) (omega (arith, row, column, c.loop-place-test.false))
+returns-clause-most c i j row column = omega (arith, c.requires.small.overlaps_self i j row column, c.loop-candidate.invariant.most i (omega (arith, row, c.loop-candidate-test.false)))
 
 pub returns-clause-small : goal.returns-clause-small
-returns-clause-small c = c.loop-place.invariant.small
+returns-clause-small c = c.loop-candidate.invariant.small

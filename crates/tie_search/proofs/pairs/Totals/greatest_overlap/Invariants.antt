@@ -1,9 +1,10 @@
-use Rattle.std.proofs.Common.{ℕ, ◌^◌, ◌<◌, ◌≤◌, get_or}
+use Rattle.std.proofs.Common.{ℕ, ◌^◌, ◌<◌, ◌≤◌}
+use Rattle.tie_search.specs.Steps.Paired.{overlap_at}
 use Rattle.tie_search.proofs.pairs.Totals.greatest_overlap.Given as goal
 
--- no overlap so far is greater
-abbrev pub invariant-loop-place : goal.invariant-loop-place
-invariant-loop-place l = record {
-  most : (n : ℕ) → n < l.place → get_or l.self.overlaps n 0 ≤ l.greatest;
+-- no candidate so far overlaps more with itself
+abbrev pub invariant-loop-candidate : goal.invariant-loop-candidate
+invariant-loop-candidate l = record {
+  most : (n : ℕ) → n < l.candidate → overlap_at l.self.overlaps n n ≤ l.greatest;
   small : l.greatest ≤ 2 ^ 58;
 }
