@@ -67,7 +67,7 @@ pub(crate) struct NearSearch<'a, A: Allocator + Copy> {
 }
 
 /// What a quick search ends with.
-enum QuickAnswer {
+pub(crate) enum QuickAnswer {
     /// A near committee that completes the set.
     Found(CandSet),
     /// There is no such committee.

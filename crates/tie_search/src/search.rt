@@ -112,10 +112,10 @@ const LEAST_HELP_OF_PAIRS: u32 = 16;
 /// A set that may become a committee, its value, the candidates that are free to join it, and how many of them do.
 #[derive(Clone, Copy)]
 pub(crate) struct Node {
-    set: CandSet,
-    value: u128,
-    free: CandSet,
-    left: u8,
+    pub(crate) set: CandSet,
+    pub(crate) value: u128,
+    pub(crate) free: CandSet,
+    pub(crate) left: u8,
 }
 
 /// A search for a committee whose value is at least `least`.
@@ -165,7 +165,7 @@ impl<A: Allocator + Copy> Search<'_, A> {
     }
 
     /// The node of a set, free candidates, and how many of them are to join.
-    fn node(&self, set: CandSet, free: CandSet, left: u8) -> Node
+    pub(crate) fn node(&self, set: CandSet, free: CandSet, left: u8) -> Node
         requires candidates { IsIncreasing 1 self.now.tally.now.election.m set }
         ensures set { result.set ≡ set }
         ensures value { result.value ≡ tally_value self.now.tally.now set }
@@ -181,7 +181,7 @@ impl<A: Allocator + Copy> Search<'_, A> {
     }
 
     /// The same search for committees of at least another value.
-    fn seeking(&self, least: u128) -> Search<'_, A>
+    pub(crate) fn seeking(&self, least: u128) -> Search<'_, A>
         ensures { result ≡ record {
           profile = self.now.profile;
           tally = self.now.tally;
@@ -366,7 +366,7 @@ impl<A: Allocator + Copy> Search<'_, A> {
 
     /// What the set gains by each of the free candidates, at the candidate's number: from the columns, if they are
     /// kept.
-    fn gains_at(&self, set: CandSet, free: CandSet) -> [u128; PLACES]
+    pub(crate) fn gains_at(&self, set: CandSet, free: CandSet) -> [u128; PLACES]
         requires aids { IsAided self.now.tally.now self.now.aids.now }
         ensures gains { (n : ℕ) → has_member free n ≡ true → slice_index result n
             ≡ gain (increments self.now.tally.now.rule self.now.tally.now.k) self.now.tally.now.election.rows set n }
@@ -380,7 +380,7 @@ impl<A: Allocator + Copy> Search<'_, A> {
 
     /// Whether all the free candidates together could lift the set to the value. Asked only if just a voter's first hit
     /// counts, as the answer is soon no then; under other rules it is yes.
-    fn may_suffice(&self, set: CandSet, free: CandSet) -> bool
+    pub(crate) fn may_suffice(&self, set: CandSet, free: CandSet) -> bool
         requires aids { IsAided self.now.tally.now self.now.aids.now }
         requires opened { IsOpen self.now.tally.now.election.m set free }
         ensures { result ≡ false → (left : ℕ)
@@ -407,7 +407,7 @@ impl<A: Allocator + Copy> Search<'_, A> {
     }
 
     /// Whether the prices, if they are kept, allow a committee of the set and `left` of the free candidates.
-    fn may_afford(&self, set: CandSet, free: CandSet, left: u8) -> bool
+    pub(crate) fn may_afford(&self, set: CandSet, free: CandSet, left: u8) -> bool
         requires aids { IsAided self.now.tally.now self.now.aids.now }
         requires opened { IsOpen self.now.tally.now.election.m set free }
         ensures { result ≡ false

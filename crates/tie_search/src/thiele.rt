@@ -9,6 +9,7 @@ ghost use Rattle.tie_search.specs.Steps.Searched.{IsAided};
 
 use crate::columns::Columns;
 use crate::found::Tied;
+use crate::good::Good;
 use crate::majorant::HitSums;
 use crate::prices::Prices;
 use crate::search::{Aids, Search, UseOfPairs};
@@ -25,6 +26,8 @@ pub struct ThieleSearch<'a, A: Allocator + Copy = Global> {
     profile: &'a Profile<A>,
     values: ThieleTally<'a, A>,
     aids: Aids,
+    // A committee to begin with.
+    good: Good,
 }
 
 impl<'a, A: Allocator + Copy> Model for ThieleSearch<'a, A> {
@@ -55,10 +58,12 @@ impl<'a, A: Allocator + Copy> ThieleSearch<'a, A> {
             sums: HitSums::of(rule, k),
             use_of_pairs: UseOfPairs::none(),
         };
+        let good = good_committee(profile, &values, &aids, k);
         ThieleSearch {
             profile,
             values,
             aids,
+            good,
         }
     }
 
@@ -110,12 +115,8 @@ impl<'a, A: Allocator + Copy> Tally for ThieleSearch<'a, A> {
         self.values.bound(c, set, left)
     }
 
-    // The good committee that was met when the prices were made.
     fn good_committee(&self, k: u8) -> Option<CandSet> {
-        let Some(prices) = &self.aids.prices else {
-            return None;
-        };
-        let committee = CandSet::all(self.values.m()).common(prices.committee);
+        let committee = CandSet::all(self.values.m()).common(self.good.committee);
         if committee.len() != k {
             return None;
         }
@@ -130,6 +131,34 @@ impl<'a, A: Allocator + Copy> Searchable for ThieleSearch<'a, A> {
     }
 
     fn tied(&self, k: u8) -> Option<Tied> {
+        // If the good committee is known to be the best, winners come sooner one by one.
+        if self.good.is_best {
+            return None;
+        }
         Some(self.search(self.good_value(k), true).tied(k))
     }
+}
+
+/// A good committee of k: the one that was met when prices were made, or a better one.
+fn good_committee<A: Allocator + Copy>(
+    profile: &Profile<A>,
+    values: &ThieleTally<A>,
+    aids: &Aids,
+    k: u8,
+) -> Good
+    requires ballots { profile.now ≡ values.now.election }
+    requires aids { IsAided values.now aids.now }
+{
+    let start = match &aids.prices {
+        Some(prices) => prices.committee,
+        None => CandSet::empty(),
+    };
+    let search = Search {
+        profile,
+        tally: values,
+        aids,
+        least: 0,
+        counts_pairs: false,
+    };
+    search.climb(start, k)
 }

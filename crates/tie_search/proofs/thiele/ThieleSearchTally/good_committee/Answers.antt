@@ -8,6 +8,6 @@ pub returns : goal.returns
 returns g c =
     let size : c.m.result ≡ c.args.self.now.election.m = c.m.ensures.value ∙ ap (λ (x : Thiele). x.election.m) c.self.view_is in (
       subst (λ n. IsIncreasing 1 n c.common-committee.result) size
-          (candidates-among c.m.result c.all.result c.in-Some.prices.committee c.common-committee.result c.all.ensures c.common-committee.ensures),
+          (candidates-among c.m.result c.all.result _ c.common-committee.result c.all.ensures c.common-committee.ensures),
       omega (arith, c.len.ensures.count, c.if-len-k.false),
     )

@@ -1,0 +1,107 @@
+//! A good committee to begin with: short searches climb to better and better ones.
+//!
+//! They begin with the committee that was met when prices were made. If the last of them shows that none is better, the
+//! greatest value is known before the long search has begun. This is common under Chamberlin-Courant, where hundreds of
+//! committees may tie: winners can then come one by one, and the first does not wait for a list of all.
+ghost use Rattle.std.specs.Prelude.{◌≡◌};
+ghost use Rattle.tie_search.specs.Completions.{IsOpen};
+ghost use Rattle.tie_search.specs.Steps.Searched.{IsAided};
+
+use crate::near::QuickAnswer;
+use crate::order::Order;
+use crate::search::{Node, Search, may_reach};
+use ballot_base::CandSet;
+use std::alloc::Allocator;
+use tie_walk::Tally;
+
+/// How many sets the short searches may enter together. Any limit is right.
+const PATIENCE: u8 = 64;
+
+/// How many short searches there may be.
+const MOST_SEARCHES: u8 = 16;
+
+/// A committee that is good, if nothing else is known of it.
+#[derive(Clone, Copy)]
+pub(crate) struct Good {
+    pub(crate) committee: CandSet,
+    /// Whether a short search found none that is better.
+    pub(crate) is_best: bool,
+}
+
+impl<A: Allocator + Copy> Search<'_, A> {
+    /// Climbs from a committee to better ones of size k.
+    pub(crate) fn climb(&self, start: CandSet, k: u8) -> Good
+        requires ballots { self.now.profile.now ≡ self.now.tally.now.election }
+        requires aids { IsAided self.now.tally.now self.now.aids.now }
+    {
+        let all = CandSet::all(self.tally.m());
+        let mut committee = all.common(start);
+        let mut patience = PATIENCE;
+        for _searched in 0..MOST_SEARCHES {
+            let better = self.seeking(self.tally.value(committee).saturating_add(1));
+            match better.short(&mut patience, self.node(CandSet::empty(), all, k)) {
+                QuickAnswer::Found(found) => committee = all.common(found),
+                QuickAnswer::NoneExists => {
+                    return Good {
+                        committee,
+                        is_best: true,
+                    };
+                }
+                QuickAnswer::GaveUp => break,
+            }
+        }
+        Good {
+            committee,
+            is_best: false,
+        }
+    }
+
+    /// Searches the completions of a node, the highest gains first, until the patience is over. It counts no pairs.
+    fn short(&self, patience: &mut u8, node: Node) -> QuickAnswer
+        requires ballots { self.now.profile.now ≡ self.now.tally.now.election }
+        requires aids { IsAided self.now.tally.now self.now.aids.now }
+        requires opened { IsOpen self.now.tally.now.election.m node.set node.free }
+    {
+        let (set, left) = (node.set, node.left);
+        if left == 0 && node.value >= self.least {
+            return QuickAnswer::Found(set);
+        }
+        if left == 0
+            || !self.may_suffice(set, node.free)
+            || !self.may_afford(set, node.free, left)
+        {
+            return QuickAnswer::NoneExists;
+        }
+        if *patience == 0 {
+            return QuickAnswer::GaveUp;
+        }
+        *patience -= 1;
+        let gains = self.gains_at(set, node.free);
+        let order = Order::by_worth(node.free, &gains);
+        let needed = self.least.saturating_sub(node.value);
+        let mut rest = node.free;
+        while may_reach(
+            &gains,
+            rest,
+            left,
+            order.threshold(rest, left, &gains),
+            needed,
+        ) {
+            let Some(next) = order.first_of(rest) else {
+                break;
+            };
+            rest = rest.without(next);
+            let child = Node {
+                set: set.with(next),
+                value: node.value.saturating_add(gains[usize::from(next)]),
+                free: rest,
+                left: left - 1,
+            };
+            match self.short(patience, child) {
+                QuickAnswer::NoneExists => (),
+                answer => return answer,
+            }
+        }
+        QuickAnswer::NoneExists
+    }
+}
