@@ -13,6 +13,7 @@
 mod columns;
 pub mod exact;
 pub mod found;
+mod known;
 pub mod laws;
 mod majorant;
 pub mod minimax;
