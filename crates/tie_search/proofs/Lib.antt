@@ -5,6 +5,7 @@ mod FoundLemmas
 pub mod CompletionLemmas
 mod Examples
 pub mod KeptLemmas
+mod KnownLemmas
 mod LastLemmas
 pub mod LiveLemmas
 pub mod MajorantLemmas

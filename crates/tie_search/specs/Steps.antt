@@ -1,5 +1,6 @@
 pub mod Columns
 pub mod Found
+pub mod Known
 pub mod Majorants
 pub mod Near
 pub mod Paired

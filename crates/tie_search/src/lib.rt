@@ -14,6 +14,7 @@ mod columns;
 pub mod exact;
 pub mod found;
 mod good;
+mod known;
 pub mod laws;
 mod majorant;
 pub mod minimax;

@@ -3,21 +3,23 @@
 //! Majorants (module `majorant`) are summed over the ballots. No completion of a set is worth more than what all voters
 //! keep and the worths of the added members, less the overlaps of all pairs of them (`laws::pairs`). Row sums bound
 //! this in turn by a sum over the members (`laws::row_sums`; Gallo, Hammer and Simeone, Quadratic knapsack problems,
-//! 1980). A candidate leaves if the others fall short with it.
-ghost use Rattle.std.specs.Prelude.{◌≡◌, ℕ, ◌+◌, ◌-◌, ◌*◌, ◌^◌, ◌<◌, ◌≤◌, ◌==◌, true, List, length, max, min, slice_index, MatchOption, if◌then◌else◌};
+//! 1980). A candidate leaves if the others fall short with it. Totals are used again for fewer free candidates (module
+//! `known`).
+ghost use Rattle.std.specs.Prelude.{◌≡◌, ℕ, ◌+◌, ◌-◌, ◌*◌, ◌^◌, ◌<◌, ◌≤◌, ◌==◌, true, List, length, max, min, slice_index, if◌then◌else◌};
 ghost use Rattle.ballot_base.specs.Ballots.{IsElection};
 ghost use Rattle.ballot_base.specs.CandSet.{has_member};
 ghost use Rattle.ballot_base.specs.Limits.{most_candidates};
 ghost use Rattle.ballot_base.specs.Lists.{IsIncreasing};
 ghost use Rattle.tie_walk.specs.Values.{thiele_value};
-ghost use Rattle.tie_search.specs.Completions.{IsOpen, IsOutOfReach};
-ghost use Rattle.tie_search.specs.Steps.Near.{IsNarrowed};
+ghost use Rattle.tie_search.specs.Completions.{IsOpen};
+ghost use Rattle.tie_search.specs.Steps.Known.{AreKnown, IsKept, Narrows};
 ghost use Rattle.tie_search.specs.Steps.Paired.{AreNothing, AreSmall, AreSums, AreTotals, IsRowSum, IsSmallMajorant, overlap_at, pair_place, triangle};
 ghost use Rattle.tie_search.specs.Steps.Rows.{AreBeside, AreRows};
 
+use crate::known::{Known, KnownTotals};
 use crate::majorant::{HitSums, Majorant, Majorants};
 use crate::order::nth_greatest;
-use crate::search::{at_least, excess};
+use crate::search::{Node, at_least, excess};
 use ballot_base::{CandSet, MOST_CANDIDATES, PLACES, Profile};
 use std::alloc::Allocator;
 use tie_walk::add_to_members;
@@ -39,7 +41,7 @@ pub(crate) struct PairSearch<'a, A: Allocator + Copy> {
 
 /// The majorants of all voters, added up.
 #[derive(Drop)]
-struct Totals {
+pub(crate) struct Totals {
     kept: u128,
     // At the number of each free candidate, the worths of all voters who approve it.
     worths: [u128; PLACES],
@@ -48,28 +50,77 @@ struct Totals {
 }
 
 impl<A: Allocator + Copy> PairSearch<'_, A> {
-    /// The free candidates that can still join. Returns `None` if no completion of the set reaches the value.
-    pub(crate) fn narrowed(&self, set: CandSet, free: CandSet, left: u8) -> Option<CandSet>
-        requires opened { IsOpen self.now.profile.now.m set free }
-        requires several { 2 ≤ left }
+    /// The free candidates of a node that can still join. Returns `None` if no completion of its set reaches the value.
+    pub(crate) fn narrowed(&self, known: &mut KnownTotals, node: &Node) -> Option<CandSet>
+        requires election { IsElection self.now.profile.now }
+        requires opened { IsOpen self.now.profile.now.m node.now.set node.now.free }
+        requires several { 2 ≤ node.now.left }
         requires small { (n : ℕ) → slice_index self.now.given.now.sums n ≤ 2 ^ 26 }
         requires unit { 1 ≤ self.now.given.now.unit }
-        ensures { (weights : List ℕ)
+        requires known { AreKnown self.now.profile.now self.now.given.now known.old }
+        ensures known { AreKnown self.now.profile.now self.now.given.now known.new }
+        ensures narrowed { (weights : List ℕ)
             → AreSums weights self.now.given.now.scale self.now.given.now.unit self.now.given.now.sums
-            → MatchOption result (IsOutOfReach (thiele_value weights self.now.profile.now.rows)
-            self.now.profile.now.m set free left self.now.least)
-            (IsNarrowed (thiele_value weights self.now.profile.now.rows) self.now.profile.now.m set free left
-            self.now.least) }
+            → Narrows (thiele_value weights self.now.profile.now.rows) self.now.profile.now.m node.now self.now.least
+            result }
     {
-        if free.len() < left {
+        if node.free.len() < node.left {
             return None;
         }
+        if node.left % 2 == 0 {
+            self.narrowed_by(&mut known.even, node)
+        } else {
+            self.narrowed_by(&mut known.odd, node)
+        }
+    }
+
+    /// Narrows a node by the totals that are kept if they serve it. Otherwise new ones are added up, and kept.
+    fn narrowed_by(&self, kept: &mut Option<Known>, node: &Node) -> Option<CandSet>
+        requires election { IsElection self.now.profile.now }
+        requires opened { IsOpen self.now.profile.now.m node.now.set node.now.free }
+        requires several { 2 ≤ node.now.left }
+        requires some { 1 ≤ length node.now.free }
+        requires small { (n : ℕ) → slice_index self.now.given.now.sums n ≤ 2 ^ 26 }
+        requires unit { 1 ≤ self.now.given.now.unit }
+        requires kept { IsKept self.now.profile.now self.now.given.now kept.old }
+        ensures kept { IsKept self.now.profile.now self.now.given.now kept.new }
+        ensures narrowed { (weights : List ℕ)
+            → AreSums weights self.now.given.now.scale self.now.given.now.unit self.now.given.now.sums
+            → Narrows (thiele_value weights self.now.profile.now.rows) self.now.profile.now.m node.now self.now.least
+            result }
+    {
+        if let Some(known) = kept {
+            if known.serves(node) {
+                known.note_use();
+                return self.narrowed_with(&known.totals, node);
+            }
+        }
         let mut totals = Totals::nothing();
-        self.add_ballots(&mut totals, set, free, left);
+        self.add_ballots(&mut totals, node.set, node.free, node.left);
+        let narrowed = self.narrowed_with(&totals, node);
+        *kept = Some(Known::of(node, totals));
+        narrowed
+    }
+
+    /// Narrows a node by totals that bound the completions of its set.
+    fn narrowed_with(&self, totals: &Totals, node: &Node) -> Option<CandSet>
+        requires election { IsElection self.now.profile.now }
+        requires opened { IsOpen self.now.profile.now.m node.now.set node.now.free }
+        requires several { 2 ≤ node.now.left }
+        requires unit { 1 ≤ self.now.given.now.unit }
+        requires small { AreSmall totals.now.kept totals.now.worths totals.now.overlaps }
+        ensures { (weights : List ℕ)
+            → AreTotals weights self.now.given.now.scale self.now.given.now.unit self.now.profile.now.m
+            self.now.profile.now.rows node.now.set node.now.free node.now.left totals.now.kept totals.now.worths
+            totals.now.overlaps
+            → Narrows (thiele_value weights self.now.profile.now.rows) self.now.profile.now.m node.now self.now.least
+            result }
+    {
+        let (free, left) = (node.free, node.left);
         let factor = 2 * u128::from(left - 1);
         let raise = factor * u128::from(totals.greatest_overlap());
         let rows = Rows {
-            totals: &totals,
+            totals,
             free,
             left,
             raise,
@@ -112,7 +163,6 @@ impl<A: Allocator + Copy> PairSearch<'_, A> {
             → AreTotals weights self.now.given.now.scale self.now.given.now.unit self.now.profile.now.m
             self.now.profile.now.rows set free left totals.new.kept totals.new.worths totals.new.overlaps }
         ensures small { AreSmall totals.new.kept totals.new.worths totals.new.overlaps }
-        ensures election { IsElection self.now.profile.now }
     {
         let mut majorants = Majorants::new(&self.given.sums, left, free.len());
         for (ballot, voters) in self.profile.ballots() {

@@ -31,7 +31,7 @@ ghost use Rattle.ballot_base.specs.CandSet.{has_member};
 ghost use Rattle.ballot_base.specs.Lists.{IsIncreasing};
 ghost use Rattle.ballot_base.specs.Increments.{increments};
 ghost use Rattle.tie_walk.specs.Sequences.{gain};
-ghost use Rattle.tie_search.specs.Steps.Near.{IsNarrowed};
+ghost use Rattle.tie_search.specs.Steps.Known.{AreKnownIf, Narrows};
 ghost use Rattle.tie_search.specs.Steps.Searched.{IsAided, KeepsColumns};
 ghost use Rattle.ballot_base.specs.Clones.{are_clones};
 ghost use Rattle.tie_walk.specs.Winners.{best_value};
@@ -41,6 +41,7 @@ ghost use Rattle.tie_search.specs.Tied.{AreTied};
 
 use crate::columns::Columns;
 use crate::found::{Found, Tied, Wanted};
+use crate::known::KnownTotals;
 use crate::majorant::HitSums;
 use crate::order::Order;
 use crate::pairs::PairSearch;
@@ -141,7 +142,8 @@ impl<A: Allocator + Copy> Search<'_, A> {
             (IsReaching (tally_value self.now.tally.now) self.now.tally.now.election.m set free left self.now.least) }
     {
         let mut found = Found::nothing(Wanted::One, self.least);
-        self.descend(&mut found, self.node(set, free, left));
+        let mut known = KnownTotals::none();
+        self.descend(&mut found, &mut known, self.node(set, free, left));
         found.first()
     }
 
@@ -156,7 +158,8 @@ impl<A: Allocator + Copy> Search<'_, A> {
     {
         let mut found = Found::nothing(Wanted::All, self.least);
         let all = CandSet::all(self.tally.m());
-        self.descend(&mut found, self.node(CandSet::empty(), all, k));
+        let mut known = KnownTotals::none();
+        self.descend(&mut found, &mut known, self.node(CandSet::empty(), all, k));
         Tied {
             committees: found.committees,
             len: found.len,
@@ -201,14 +204,16 @@ impl<A: Allocator + Copy> Search<'_, A> {
 
     /// Searches all completions of a node, none of which is listed yet, for committees of the value that is looked for,
     /// which rises with what is found.
-    fn descend(&self, found: &mut Found, node: Node)
+    fn descend(&self, found: &mut Found, known: &mut KnownTotals, node: Node)
         requires ballots { self.now.profile.now ≡ self.now.tally.now.election }
         requires aids { IsAided self.now.tally.now self.now.aids.now }
         requires opened { IsOpen self.now.tally.now.election.m node.set node.free }
         requires value { node.value ≡ tally_value self.now.tally.now node.set }
         requires listed { AreListed (tally_value self.now.tally.now) found.old }
         requires new { AreNew self.now.tally.now.election.m node.set node.free node.left found.old }
-        ensures { AreSearched (tally_value self.now.tally.now) self.now.tally.now.election.m node.set node.free
+        requires known { AreKnownIf self.now.tally.now.election self.now.aids.now.sums known.old }
+        ensures known { AreKnownIf self.now.tally.now.election self.now.aids.now.sums known.new }
+        ensures searched { AreSearched (tally_value self.now.tally.now) self.now.tally.now.election.m node.set node.free
             node.left found.old found.new }
     {
         let (set, value, left) = (node.set, node.value, node.left);
@@ -216,7 +221,7 @@ impl<A: Allocator + Copy> Search<'_, A> {
             found.offer(set, value);
             return;
         }
-        let Some(eligible) = self.seeking(found.least).eligible(set, node.free, left) else {
+        let Some(eligible) = self.seeking(found.least).eligible(known, &node) else {
             return;
         };
         let gains = self.gains_at(set, eligible);
@@ -256,9 +261,12 @@ impl<A: Allocator + Copy> Search<'_, A> {
                 free: kept,
                 left: left - 1,
             };
-            self.descend(found, child);
-            let untried = self.untried(found, tried, others, next);
-            let Some(eligible) = self.seeking(found.least).eligible(set, untried, left) else {
+            self.descend(found, known, child);
+            let remaining = Node {
+                free: self.untried(found, tried, others, next),
+                ..node
+            };
+            let Some(eligible) = self.seeking(found.least).eligible(known, &remaining) else {
                 return;
             };
             rest = eligible;
@@ -311,22 +319,23 @@ impl<A: Allocator + Copy> Search<'_, A> {
         others.minus(self.aids.clones.class(candidate))
     }
 
-    /// The free candidates that can still join. Returns `None` if no completion of the set reaches the value.
-    fn eligible(&self, set: CandSet, free: CandSet, left: u8) -> Option<CandSet>
+    /// The free candidates of a node that can still join. Returns `None` if no completion of its set reaches the value.
+    fn eligible(&self, known: &mut KnownTotals, node: &Node) -> Option<CandSet>
         requires ballots { self.now.profile.now ≡ self.now.tally.now.election }
         requires aids { IsAided self.now.tally.now self.now.aids.now }
-        requires opened { IsOpen self.now.tally.now.election.m set free }
-        ensures { MatchOption result
-            (IsOutOfReach (tally_value self.now.tally.now) self.now.tally.now.election.m set free left self.now.least)
-            (IsNarrowed (tally_value self.now.tally.now) self.now.tally.now.election.m set free left self.now.least) }
+        requires opened { IsOpen self.now.tally.now.election.m node.now.set node.now.free }
+        requires known { AreKnownIf self.now.tally.now.election self.now.aids.now.sums known.old }
+        ensures known { AreKnownIf self.now.tally.now.election self.now.aids.now.sums known.new }
+        ensures narrowed { Narrows (tally_value self.now.tally.now) self.now.tally.now.election.m node.now
+            self.now.least result }
     {
-        if !self.may_suffice(set, free) {
+        if !self.may_suffice(node.set, node.free) {
             return None;
         }
-        if !self.may_afford(set, free, left) {
+        if !self.may_afford(node.set, node.free, node.left) {
             return None;
         }
-        self.narrowed(set, free, left)
+        self.narrowed(known, node)
     }
 
     /// Whether pairs are worth their counting: in a long search, while enough seats are left and they help.
@@ -338,28 +347,30 @@ impl<A: Allocator + Copy> Search<'_, A> {
             && self.aids.use_of_pairs.is_worth_it()
     }
 
-    /// The free candidates that can still join, by pairs. Returns `None` if no completion of the set reaches the value.
-    fn narrowed(&self, set: CandSet, free: CandSet, left: u8) -> Option<CandSet>
+    /// The free candidates of a node that can still join, by pairs. Returns `None` if no completion of its set reaches
+    /// the value.
+    fn narrowed(&self, known: &mut KnownTotals, node: &Node) -> Option<CandSet>
         requires ballots { self.now.profile.now ≡ self.now.tally.now.election }
         requires aids { IsAided self.now.tally.now self.now.aids.now }
-        requires opened { IsOpen self.now.tally.now.election.m set free }
-        ensures { MatchOption result
-            (IsOutOfReach (tally_value self.now.tally.now) self.now.tally.now.election.m set free left self.now.least)
-            (IsNarrowed (tally_value self.now.tally.now) self.now.tally.now.election.m set free left self.now.least) }
+        requires opened { IsOpen self.now.tally.now.election.m node.now.set node.now.free }
+        requires known { AreKnownIf self.now.tally.now.election self.now.aids.now.sums known.old }
+        ensures known { AreKnownIf self.now.tally.now.election self.now.aids.now.sums known.new }
+        ensures narrowed { Narrows (tally_value self.now.tally.now) self.now.tally.now.election.m node.now
+            self.now.least result }
     {
         let Some(given) = &self.aids.sums else {
-            return Some(free);
+            return Some(node.free);
         };
-        if !self.sees_pairs(left) {
+        if !self.sees_pairs(node.left) {
             self.aids.use_of_pairs.pass();
-            return Some(free);
+            return Some(node.free);
         }
         let pairs = PairSearch {
             profile: self.profile,
             given,
             least: self.least,
         };
-        let narrowed = pairs.narrowed(set, free, left);
+        let narrowed = pairs.narrowed(known, node);
         self.aids.use_of_pairs.note(narrowed.is_none());
         narrowed
     }

@@ -60,7 +60,8 @@ pub record AreSmall (kept : ℕ) (worths table : List ℕ) : Type 0 where
   pub kept_small : kept ≤ 2 ^ 71
   pub worths_small : (n : ℕ) → slice_index worths n ≤ 2 ^ 66
   pub overlaps_small : (i j : ℕ) → j ≤ most_candidates → overlap_at table i j ≤ 2 ^ 58
-  pub overlaps_self : (i j : ℕ) → i ≤ most_candidates → j ≤ most_candidates → overlap_at table i j ≤ overlap_at table i i
+  pub overlaps_self : (i j : ℕ) → i ≤ most_candidates → j ≤ most_candidates
+      → overlap_at table i j ≤ overlap_at table i i
 
 -- the row sum of a candidate, by some threshold
 abbrev pub IsRowSum : List ℕ → List ℕ → List ℕ → ℕ → ℕ → ℕ → ℕ → Type 0

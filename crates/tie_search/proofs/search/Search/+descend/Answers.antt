@@ -12,7 +12,7 @@ use Rattle.tie_search.proofs.SearchLemmas.{AreLeft, node-none, not-true, value-m
 use Rattle.tie_search.proofs.FoundLemmas.{AreSettledBut, advances-none, advances-on, new-among, new-with, new-without, searched-narrowed, set-offered, settled-all, settled-narrowed, settled-with, settled-without, still-settled}
 use Rattle.tie_search.proofs.KeptLemmas.{kept-left, open-among}
 use Rattle.tie_search.proofs.search.Search.+descend.Goals as goal
-use Rattle.tie_search.proofs.search.Search.+descend.Goals.{After-descend, After-untried-untried, In-Some-eligible}
+use Rattle.tie_search.proofs.search.Search.+descend.Goals.{After-descend, After-untried, In-Some-eligible}
 
 pub offer-requires : goal.offer-requires
 offer-requires g t c =
@@ -23,8 +23,8 @@ offer-requires g t c =
       new = c.requires.new c.args.node.set (subst (λ n. IsCompletion m c.args.node.set c.args.node.free n c.args.node.set) (sym c.if-left-eq0.true) self');
     }
 
-pub returns-then-left-eq0 : goal.returns-then-left-eq0
-returns-then-left-eq0 g t c =
+pub returns-then-left-eq0-clause-searched : goal.returns-then-left-eq0-clause-searched
+returns-then-left-eq0-clause-searched g t c =
     let V = tally_value c.args.self.now.tally.now in
     let value : V c.args.node.set ≡ c.args.node.value = omega (arith, c.requires.value) in
     set-offered V c.args.self.now.tally.now.election.m c.args.node.set c.args.node.free c.args.node.left c.args.found.now c.offer.new.self
@@ -33,7 +33,7 @@ returns-then-left-eq0 g t c =
 pub offer_each-requires : goal.offer_each-requires
 offer_each-requires g t c =
     let tally = c.args.self.now.tally.now in
-    let narrowed : IsNarrowed (tally_value tally) tally.election.m c.args.node.set c.args.node.free c.args.node.left c.args.found.now.least c.in-Some.eligible = rw c.seeking.ensures at c.in-Some.ensures in
+    let narrowed : IsNarrowed (tally_value tally) tally.election.m c.args.node.set c.args.node.free c.args.node.left c.args.found.now.least c.in-Some.eligible = rw c.seeking.ensures at c.in-Some.ensures.narrowed in
     record {
       aids = c.requires.aids;
       opened = narrowed.opened;
@@ -44,17 +44,18 @@ offer_each-requires g t c =
       new = new-among tally.election.m c.args.node.set c.args.node.free c.in-Some.eligible c.args.node.left c.args.found.now narrowed.among c.requires.new;
     }
 
-pub returns-then-left-eq1 : goal.returns-then-left-eq1
-returns-then-left-eq1 g t c =
+pub returns-then-left-eq1-clause-searched : goal.returns-then-left-eq1-clause-searched
+returns-then-left-eq1-clause-searched g t c =
     let tally = c.args.self.now.tally.now in
-    let narrowed : IsNarrowed (tally_value tally) tally.election.m c.args.node.set c.args.node.free c.args.node.left c.args.found.now.least c.in-Some.eligible = rw c.seeking.ensures at c.in-Some.ensures in
+    let narrowed : IsNarrowed (tally_value tally) tally.election.m c.args.node.set c.args.node.free c.args.node.left c.args.found.now.least c.in-Some.eligible = rw c.seeking.ensures at c.in-Some.ensures.narrowed in
     searched-narrowed (tally_value tally) tally.election.m c.args.node.set c.args.node.free c.in-Some.eligible c.args.node.left c.args.found.now c.offer_each.new.found narrowed c.offer_each.ensures
 
-pub loop-set-init : goal.loop-set-init
-loop-set-init g t c =
+pub loop-node-init : goal.loop-node-init
+loop-node-init g t c =
     let tally = c.args.self.now.tally.now in
-    let narrowed : IsNarrowed (tally_value tally) tally.election.m c.args.node.set c.args.node.free c.args.node.left c.args.found.now.least c.in-Some.eligible = rw c.seeking.ensures at c.in-Some.ensures in
+    let narrowed : IsNarrowed (tally_value tally) tally.election.m c.args.node.set c.args.node.free c.args.node.left c.args.found.now.least c.in-Some.eligible = rw c.seeking.ensures at c.in-Some.ensures.narrowed in
     record {
+      known = rw c.seeking.ensures at c.in-Some.ensures.known;
       opened = narrowed.opened;
       among = λ n h. h;
       new = new-among tally.election.m c.args.node.set c.args.node.free c.in-Some.eligible c.args.node.left c.args.found.now narrowed.among c.requires.new;
@@ -65,14 +66,14 @@ loop-set-init g t c =
 
 pub with-tried-requires-clause-low : goal.with-tried-requires-clause-low
 with-tried-requires-clause-low g t c =
-    member-low 1 c.args.self.now.tally.now.election.m c.loop-set.rest c.in-Some-first_of.next c.loop-set.invariant.opened.free_within c.in-Some-first_of.ensures
+    member-low 1 c.args.self.now.tally.now.election.m c.loop-node.rest c.in-Some-first_of.next c.loop-node.invariant.opened.free_within c.in-Some-first_of.ensures
 
 pub with-tried-requires-clause-high : goal.with-tried-requires-clause-high
 with-tried-requires-clause-high g t c =
     omega (
       arith,
       c.requires.aids.election.most,
-      member-high 1 c.args.self.now.tally.now.election.m c.loop-set.rest c.in-Some-first_of.next c.loop-set.invariant.opened.free_within c.in-Some-first_of.ensures,
+      member-high 1 c.args.self.now.tally.now.election.m c.loop-node.rest c.in-Some-first_of.next c.loop-node.invariant.opened.free_within c.in-Some-first_of.ensures,
     )
 
 pub bounds-gains-from : goal.bounds-gains-from
@@ -80,7 +81,7 @@ bounds-gains-from g t c =
     omega (
       arith,
       c.requires.aids.election.most,
-      member-high 1 c.args.self.now.tally.now.election.m c.loop-set.rest c.in-Some-first_of.next c.loop-set.invariant.opened.free_within c.in-Some-first_of.ensures,
+      member-high 1 c.args.self.now.tally.now.election.m c.loop-node.rest c.in-Some-first_of.next c.loop-node.invariant.opened.free_within c.in-Some-first_of.ensures,
       c.from.ensures,
     )
 
@@ -98,50 +99,50 @@ descend-requires g t c κs within =
     let tally = c.args.self.now.tally.now in
     let m = tally.election.m in
     let set = c.args.node.set in
-    let rest = c.loop-set.rest in
+    let rest = c.loop-node.rest in
     let next = c.in-Some-first_of.next in
     let weights = increments tally.rule tally.k in
-    let opened : IsOpen m (with_member set next) (without_member rest next) = open-with m set rest next c.loop-set.invariant.opened c.in-Some-first_of.ensures in
+    let opened : IsOpen m (with_member set next) (without_member rest next) = open-with m set rest next c.loop-node.invariant.opened c.in-Some-first_of.ensures in
     let fewer : IsOpen m (with_member set next) c.promising-kept.result =
     open-among m (with_member set next) (without_member rest next) c.promising-kept.result opened
     (c.promising-kept.ensures.within m (rw c.without-others.ensures opened.free_within))
     (rw c.without-others.ensures at c.promising-kept.ensures.among) in
     let gained : tally_value tally (with_member set next) ≡ tally_value tally set + gain weights tally.election.rows set next =
-    value-with tally set next c.requires.aids.election (c.loop-set.invariant.opened.apart next c.in-Some-first_of.ensures) in
+    value-with tally set next c.requires.aids.election (c.loop-node.invariant.opened.apart next c.in-Some-first_of.ensures) in
     let same : get_or c.gains_at-gains.result c.from.result 0 ≡ gain weights tally.election.rows set next =
     ap (λ n. get_or c.gains_at-gains.result n 0) c.from.ensures
-    ∙ c.gains_at-gains.ensures.gains next (c.loop-set.invariant.among next c.in-Some-first_of.ensures) in
+    ∙ c.gains_at-gains.ensures.gains next (c.loop-node.invariant.among next c.in-Some-first_of.ensures) in
     let value : c.args.node.value + get_or c.gains_at-gains.result c.from.result 0 ≡ tally_value tally (with_member set next) =
     omega (arith, gained, same, c.requires.value) in
-    let new : AreNew m (with_member set next) c.promising-kept.result (c.args.node.left - 1) c.loop-set.found =
-    new-with m set rest c.promising-kept.result c.args.node.left next c.loop-set.found (omega (arith, c.if-left-eq0.false)) c.loop-set.invariant.opened c.in-Some-first_of.ensures
-    (λ n is. without-is rest next n (rw c.without-others.ensures at (c.promising-kept.ensures.among n is))) c.loop-set.invariant.new in (
+    let new : AreNew m (with_member set next) c.promising-kept.result (c.args.node.left - 1) c.loop-node.found =
+    new-with m set rest c.promising-kept.result c.args.node.left next c.loop-node.found (omega (arith, c.if-left-eq0.false)) c.loop-node.invariant.opened c.in-Some-first_of.ensures
+    (λ n is. without-is rest next n (rw c.without-others.ensures at (c.promising-kept.ensures.among n is))) c.loop-node.invariant.new in (
       omega (arith, c.if-left-eq0.false, c.decreases),
-      (within, (c.requires.ballots, (c.requires.aids, (rw c.with-tried.ensures fewer, (rw c.with-tried.ensures value, (c.loop-set.invariant.advances.valid, rw c.with-tried.ensures new)))))),
+      (within, (c.requires.ballots, (c.requires.aids, (rw c.with-tried.ensures fewer, (rw c.with-tried.ensures value, (c.loop-node.invariant.advances.valid, (rw c.with-tried.ensures new, c.loop-node.invariant.known))))))),
     )
 
-pub untried-untried-requires-clause-candidate : goal.untried-untried-requires-clause-candidate
-untried-untried-requires-clause-candidate g t c =
-    member-high 1 c.args.self.now.tally.now.election.m c.loop-set.rest c.in-Some-first_of.next c.loop-set.invariant.opened.free_within c.in-Some-first_of.ensures
+pub untried-requires-clause-candidate : goal.untried-requires-clause-candidate
+untried-requires-clause-candidate g t c =
+    member-high 1 c.args.self.now.tally.now.election.m c.loop-node.rest c.in-Some-first_of.next c.loop-node.invariant.opened.free_within c.in-Some-first_of.ensures
 
-pub untried-untried-requires-clause-some : goal.untried-untried-requires-clause-some
-untried-untried-requires-clause-some g t c =
-    member-low 1 c.args.self.now.tally.now.election.m c.loop-set.rest c.in-Some-first_of.next c.loop-set.invariant.opened.free_within c.in-Some-first_of.ensures
+pub untried-requires-clause-some : goal.untried-requires-clause-some
+untried-requires-clause-some g t c =
+    member-low 1 c.args.self.now.tally.now.election.m c.loop-node.rest c.in-Some-first_of.next c.loop-node.invariant.opened.free_within c.in-Some-first_of.ensures
 
 -- those who are still to be tried are free
-untried-open : (g : _) (t : _) (c : After-untried-untried g t) → IsOpen c.args.self.now.tally.now.election.m c.args.node.set c.untried-untried.result
+untried-open : (g : _) (t : _) (c : After-untried g t) → IsOpen c.args.self.now.tally.now.election.m c.args.node.set c.untried.result
 untried-open g t c =
     let m = c.args.self.now.tally.now.election.m in
-    let rest = c.loop-set.rest in
+    let rest = c.loop-node.rest in
     let next = c.in-Some-first_of.next in
-    let opened : IsOpen m c.args.node.set (without_member rest next) = open-without m c.args.node.set rest next c.loop-set.invariant.opened in
-    open-among m c.args.node.set (without_member rest next) c.untried-untried.result opened
-    (c.untried-untried.ensures.within m (rw c.without-others.ensures opened.free_within))
-    (rw c.without-others.ensures at c.untried-untried.ensures.among)
+    let opened : IsOpen m c.args.node.set (without_member rest next) = open-without m c.args.node.set rest next c.loop-node.invariant.opened in
+    open-among m c.args.node.set (without_member rest next) c.untried.result opened
+    (c.untried.ensures.within m (rw c.without-others.ensures opened.free_within))
+    (rw c.without-others.ensures at c.untried.ensures.among)
 
-pub eligible-requires-in-loop-set-clause-opened : goal.eligible-requires-in-loop-set-clause-opened
-eligible-requires-in-loop-set-clause-opened g t c =
-    rw c.seeking-in-loop-set.ensures (untried-open g t (goal.at.eligible-requires-in-loop-set-clause-opened g t c).After-untried-untried)
+pub eligible-requires-in-loop-node-clause-opened : goal.eligible-requires-in-loop-node-clause-opened
+eligible-requires-in-loop-node-clause-opened g t c =
+    rw c.seeking-in-loop-node.ensures (untried-open g t (goal.at.eligible-requires-in-loop-node-clause-opened g t c).After-untried)
 
 -- what the search below has found besides
 advanced : (g : _) (t : _) (c : After-descend g t)
@@ -153,90 +154,90 @@ advanced g t c =
     let left = c.args.node.left in
     let next = c.in-Some-first_of.next in
     let kept = c.promising-kept.result in
-    let child : Advances (tally_value tally) (IsCompletion m (with_member set next) kept (left - 1)) c.loop-set.found c.descend.new.found = rw c.with-tried.ensures at c.descend.ensures.advances in
-    let eligible = c.loop-set.invariant.among next c.in-Some-first_of.ensures in
+    let child : Advances (tally_value tally) (IsCompletion m (with_member set next) kept (left - 1)) c.loop-node.found c.descend.new.found = rw c.with-tried.ensures at c.descend.ensures.searched.advances in
+    let eligible = c.loop-node.invariant.among next c.in-Some-first_of.ensures in
     advances-on (tally_value tally) (IsCompletion m set c.args.node.free left) (IsCompletion m (with_member set next) kept (left - 1)) (IsCompletion m set c.args.node.free left)
-    c.args.found.now c.loop-set.found c.descend.new.found (λ committee whole. whole)
+    c.args.found.now c.loop-node.found c.descend.new.found (λ committee whole. whole)
     (λ committee below. completion-back m set c.args.node.free left next c.requires.opened (free g t c next eligible) kept committee (omega (arith, c.if-left-eq0.false))
-    (λ n is. free g t c n (c.loop-set.invariant.among n (without-is c.loop-set.rest next n (rw c.without-others.ensures at (c.promising-kept.ensures.among n is))))) below)
-    c.loop-set.invariant.advances child
+    (λ n is. free g t c n (c.loop-node.invariant.among n (without-is c.loop-node.rest next n (rw c.without-others.ensures at (c.promising-kept.ensures.among n is))))) below)
+    c.loop-node.invariant.advances child
   where
     free : (g : _) (t : _) (c : After-descend g t) (n : ℕ) → has_member c.in-Some.eligible n ≡ true → has_member c.args.node.free n ≡ true
     free g t c n is =
         let tally = c.args.self.now.tally.now in
-        let narrowed : IsNarrowed (tally_value tally) tally.election.m c.args.node.set c.args.node.free c.args.node.left c.args.found.now.least c.in-Some.eligible = rw c.seeking.ensures at c.in-Some.ensures in
+        let narrowed : IsNarrowed (tally_value tally) tally.election.m c.args.node.set c.args.node.free c.args.node.left c.args.found.now.least c.in-Some.eligible = rw c.seeking.ensures at c.in-Some.ensures.narrowed in
         narrowed.among n is
 
 -- all is settled but with those who are still to be tried
-left-over : (g : _) (t : _) (c : After-untried-untried g t)
-    → AreSettledBut (tally_value c.args.self.now.tally.now) c.args.self.now.tally.now.election.m c.args.node.set c.args.node.left c.args.node.free c.untried-untried.result c.descend.new.found
+left-over : (g : _) (t : _) (c : After-untried g t)
+    → AreSettledBut (tally_value c.args.self.now.tally.now) c.args.self.now.tally.now.election.m c.args.node.set c.args.node.left c.args.node.free c.untried.result c.descend.new.found
 left-over g t c =
     let tally = c.args.self.now.tally.now in
     let m = tally.election.m in
     let set = c.args.node.set in
     let left = c.args.node.left in
     let free = c.args.node.free in
-    let rest = c.loop-set.rest in
+    let rest = c.loop-node.rest in
     let next = c.in-Some-first_of.next in
     let gains = c.gains_at-gains.result in
-    let before = c.loop-set.found in
+    let before = c.loop-node.found in
     let after = c.descend.new.found in
-    let opened = c.loop-set.invariant.opened in
+    let opened = c.loop-node.invariant.opened in
     let kept : AreLeft (tally_value tally) m (with_member set next) (left - 1) before.least (without_member rest next) c.promising-kept.result =
     kept-left tally set rest next (left - 1) before.least gains c.promising-kept.result c.requires.aids.election c.requires.aids.size opened c.in-Some-first_of.ensures
-    (λ n here. c.gains_at-gains.ensures.gains n (c.loop-set.invariant.among n here))
+    (λ n here. c.gains_at-gains.ensures.gains n (c.loop-node.invariant.among n here))
     (λ n here reaches. c.promising-kept.ensures.kept n (rw c.without-others.ensures here) (λ s. rw c.without-others.ensures (omega (
       arith,
       reaches s,
-      c.saturating_sub-in-loop-set.ensures,
+      c.saturating_sub-in-loop-node.ensures,
       c.requires.value,
       ap (λ n. get_or gains n 0) c.from.ensures,
     )))) in
-    let child : AreSearched (tally_value tally) m (with_member set next) c.promising-kept.result (left - 1) before after = rw c.with-tried.ensures at c.descend.ensures in
-    settled-without tally set left free rest c.untried-untried.result next after c.requires.aids.election opened c.in-Some-first_of.ensures
-    (λ committee whole. elim (c.loop-set.invariant.settled committee whole) [
+    let child : AreSearched (tally_value tally) m (with_member set next) c.promising-kept.result (left - 1) before after = rw c.with-tried.ensures at c.descend.ensures.searched in
+    settled-without tally set left free rest c.untried.result next after c.requires.aids.election opened c.in-Some-first_of.ensures
+    (λ committee whole. elim (c.loop-node.invariant.settled committee whole) [
       | inl settled ↦ inl (still-settled (tally_value tally) (IsCompletion m (with_member set next) c.promising-kept.result (left - 1)) before after committee child.advances settled)
       | inr open' ↦ inr open'
     ])
     (settled-with (tally_value tally) m set left free rest c.promising-kept.result next before after (omega (arith, c.if-left-eq0.false)) opened c.in-Some-first_of.ensures kept child)
-    (λ n here gone. c.untried-untried.ensures.clones n (rw c.without-others.ensures here) gone)
-    (λ n here gone committee listed all. c.untried-untried.ensures.lower n (rw c.without-others.ensures here) gone committee listed (rw c.with-tried.ensures all))
+    (λ n here gone. c.untried.ensures.clones n (rw c.without-others.ensures here) gone)
+    (λ n here gone committee listed all. c.untried.ensures.lower n (rw c.without-others.ensures here) gone committee listed (rw c.with-tried.ensures all))
 
-pub returns-in_default-eligible : goal.returns-in_default-eligible
-returns-in_default-eligible g t c =
+pub returns-in_default-eligible-clause-searched : goal.returns-in_default-eligible-clause-searched
+returns-in_default-eligible-clause-searched g t c =
     let tally = c.args.self.now.tally.now in
     record {
-      advances = advanced g t (goal.at.returns-in_default-eligible g t c).After-descend;
-      settled = settled-all (tally_value tally) tally.election.m c.args.node.set c.args.node.left c.args.node.free c.untried-untried.result c.descend.new.found
-          (left-over g t (goal.at.returns-in_default-eligible g t c).After-untried-untried)
-          (rw c.seeking-in-loop-set.ensures at c.in_default-eligible.ensures);
+      advances = advanced g t (goal.at.returns-in_default-eligible-clause-searched g t c).After-descend;
+      settled = settled-all (tally_value tally) tally.election.m c.args.node.set c.args.node.left c.args.node.free c.untried.result c.descend.new.found
+          (left-over g t (goal.at.returns-in_default-eligible-clause-searched g t c).After-untried)
+          (rw c.seeking-in-loop-node.ensures at c.in_default-eligible.ensures.narrowed);
     }
 
 -- those who can still join, of those who were not tried
 narrowed-over : (g : _) (t : _) (c : In-Some-eligible g t)
-    → IsNarrowed (tally_value c.args.self.now.tally.now) c.args.self.now.tally.now.election.m c.args.node.set c.untried-untried.result c.args.node.left c.descend.new.found.least c.in-Some-eligible.eligible
-narrowed-over g t c = rw c.seeking-in-loop-set.ensures at c.in-Some-eligible.ensures
+    → IsNarrowed (tally_value c.args.self.now.tally.now) c.args.self.now.tally.now.election.m c.args.node.set c.untried.result c.args.node.left c.descend.new.found.least c.in-Some-eligible.eligible
+narrowed-over g t c = rw c.seeking-in-loop-node.ensures at c.in-Some-eligible.ensures.narrowed
 
 -- they are fewer
-fewer-left : (g : _) (t : _) (c : In-Some-eligible g t) → length c.in-Some-eligible.eligible < length c.loop-set.rest
+fewer-left : (g : _) (t : _) (c : In-Some-eligible g t) → length c.in-Some-eligible.eligible < length c.loop-node.rest
 fewer-left g t c =
     let m = c.args.self.now.tally.now.election.m in
-    let rest = c.loop-set.rest in
+    let rest = c.loop-node.rest in
     let next = c.in-Some-first_of.next in
     let over = narrowed-over g t c in
-    let opened : IsOpen m c.args.node.set (without_member rest next) = open-without m c.args.node.set rest next c.loop-set.invariant.opened in
+    let opened : IsOpen m c.args.node.set (without_member rest next) = open-without m c.args.node.set rest next c.loop-node.invariant.opened in
     omega (
       arith,
       length-among m c.in-Some-eligible.eligible (without_member rest next) over.opened.free_within opened.free_within
-          (λ n is. rw c.without-others.ensures at (c.untried-untried.ensures.among n (over.among n is))),
+          (λ n is. rw c.without-others.ensures at (c.untried.ensures.among n (over.among n is))),
       without-shorter rest next c.in-Some-first_of.ensures,
     )
 
-pub loop-set-smaller : goal.loop-set-smaller
-loop-set-smaller g t c = fewer-left g t (goal.at.loop-set-smaller g t c).In-Some-eligible
+pub loop-node-smaller : goal.loop-node-smaller
+loop-node-smaller g t c = fewer-left g t (goal.at.loop-node-smaller g t c).In-Some-eligible
 
-pub loop-set-smaller-then-sees_pairs : goal.loop-set-smaller-then-sees_pairs
-loop-set-smaller-then-sees_pairs g t c = fewer-left g t (goal.at.loop-set-smaller-then-sees_pairs g t c).In-Some-eligible
+pub loop-node-smaller-then-sees_pairs : goal.loop-node-smaller-then-sees_pairs
+loop-node-smaller-then-sees_pairs g t c = fewer-left g t (goal.at.loop-node-smaller-then-sees_pairs g t c).In-Some-eligible
 
 -- what is true of them
 record AreLeftOver (g : _) (t : _) (c : In-Some-eligible g t) : Type 0 where
@@ -248,40 +249,40 @@ record AreLeftOver (g : _) (t : _) (c : In-Some-eligible g t) : Type 0 where
 left-eligible : (g : _) (t : _) (c : In-Some-eligible g t) → AreLeftOver g t c
 left-eligible g t c =
     let tally = c.args.self.now.tally.now in
-    let rest = c.loop-set.rest in
+    let rest = c.loop-node.rest in
     let next = c.in-Some-first_of.next in
     let over = narrowed-over g t c in
-    let child : Advances (tally_value tally) (IsCompletion tally.election.m (with_member c.args.node.set next) c.promising-kept.result (c.args.node.left - 1)) c.loop-set.found c.descend.new.found =
-    rw c.with-tried.ensures at c.descend.ensures.advances in
+    let child : Advances (tally_value tally) (IsCompletion tally.election.m (with_member c.args.node.set next) c.promising-kept.result (c.args.node.left - 1)) c.loop-node.found c.descend.new.found =
+    rw c.with-tried.ensures at c.descend.ensures.searched.advances in
     record {
       opened = over.opened;
-      among = λ n h. c.loop-set.invariant.among n (without-is rest next n (rw c.without-others.ensures at (c.untried-untried.ensures.among n (over.among n h))));
-      new = new-without (tally_value tally) tally.election.m c.args.node.set rest c.promising-kept.result c.in-Some-eligible.eligible c.args.node.left next c.loop-set.found c.descend.new.found
-          c.loop-set.invariant.opened c.in-Some-first_of.ensures (λ n h. rw c.without-others.ensures at (c.untried-untried.ensures.among n (over.among n h))) child c.loop-set.invariant.new;
-      settled = settled-narrowed (tally_value tally) tally.election.m c.args.node.set c.args.node.left c.args.node.free c.untried-untried.result c.in-Some-eligible.eligible c.descend.new.found
-          (left-over g t (goal.at.In-Some-eligible g t c).After-untried-untried) over;
+      among = λ n h. c.loop-node.invariant.among n (without-is rest next n (rw c.without-others.ensures at (c.untried.ensures.among n (over.among n h))));
+      new = new-without (tally_value tally) tally.election.m c.args.node.set rest c.promising-kept.result c.in-Some-eligible.eligible c.args.node.left next c.loop-node.found c.descend.new.found
+          c.loop-node.invariant.opened c.in-Some-first_of.ensures (λ n h. rw c.without-others.ensures at (c.untried.ensures.among n (over.among n h))) child c.loop-node.invariant.new;
+      settled = settled-narrowed (tally_value tally) tally.election.m c.args.node.set c.args.node.left c.args.node.free c.untried.result c.in-Some-eligible.eligible c.descend.new.found
+          (left-over g t (goal.at.In-Some-eligible g t c).After-untried) over;
     }
 
-pub loop-set-preserved : goal.loop-set-preserved
-loop-set-preserved g t c =
-    let over = left-eligible g t (goal.at.loop-set-preserved g t c).In-Some-eligible in
-    record { opened = over.opened; among = over.among; new = over.new; advances = advanced g t (goal.at.loop-set-preserved g t c).After-descend; settled = over.settled }
+pub loop-node-preserved : goal.loop-node-preserved
+loop-node-preserved g t c =
+    let over = left-eligible g t (goal.at.loop-node-preserved g t c).In-Some-eligible in
+    record { known = rw c.seeking-in-loop-node.ensures at c.in-Some-eligible.ensures.known; opened = over.opened; among = over.among; new = over.new; advances = advanced g t (goal.at.loop-node-preserved g t c).After-descend; settled = over.settled }
 
-pub loop-set-preserved-then-sees_pairs : goal.loop-set-preserved-then-sees_pairs
-loop-set-preserved-then-sees_pairs g t c =
-    let over = left-eligible g t (goal.at.loop-set-preserved-then-sees_pairs g t c).In-Some-eligible in
-    record { opened = over.opened; among = over.among; new = over.new; advances = advanced g t (goal.at.loop-set-preserved-then-sees_pairs g t c).After-descend; settled = over.settled }
+pub loop-node-preserved-then-sees_pairs : goal.loop-node-preserved-then-sees_pairs
+loop-node-preserved-then-sees_pairs g t c =
+    let over = left-eligible g t (goal.at.loop-node-preserved-then-sees_pairs g t c).In-Some-eligible in
+    record { known = rw c.seeking-in-loop-node.ensures at c.in-Some-eligible.ensures.known; opened = over.opened; among = over.among; new = over.new; advances = advanced g t (goal.at.loop-node-preserved-then-sees_pairs g t c).After-descend; settled = over.settled }
 
-pub returns : goal.returns
-returns g t c =
+pub returns-clause-searched : goal.returns-clause-searched
+returns-clause-searched g t c =
     let tally = c.args.self.now.tally.now in
     let set = c.args.node.set in
     record {
-      advances = c.loop-set.invariant.advances;
-      settled = settled-all (tally_value tally) tally.election.m set c.args.node.left c.args.node.free c.loop-set.rest c.loop-set.found c.loop-set.invariant.settled
-          (node-none tally set c.loop-set.rest c.args.node.left c.loop-set.found.least c.requires.aids.election c.requires.aids.size c.loop-set.invariant.opened
-          c.threshold.result c.gains_at-gains.result (λ n h. c.gains_at-gains.ensures.gains n (c.loop-set.invariant.among n h))
-          (λ both. not-true c.may_reach.result c.loop-set-test.false (c.may_reach.ensures.1 (
+      advances = c.loop-node.invariant.advances;
+      settled = settled-all (tally_value tally) tally.election.m set c.args.node.left c.args.node.free c.loop-node.rest c.loop-node.found c.loop-node.invariant.settled
+          (node-none tally set c.loop-node.rest c.args.node.left c.loop-node.found.least c.requires.aids.election c.requires.aids.size c.loop-node.invariant.opened
+          c.threshold.result c.gains_at-gains.result (λ n h. c.gains_at-gains.ensures.gains n (c.loop-node.invariant.among n h))
+          (λ both. not-true c.may_reach.result c.loop-node-test.false (c.may_reach.ensures.1 (
             both.0,
             omega (arith, both.1, c.requires.value, c.saturating_sub.ensures),
           ))));

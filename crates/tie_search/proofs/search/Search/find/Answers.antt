@@ -16,6 +16,6 @@ pub returns : goal.returns
 returns g c =
     let tally = c.args.self.now.tally.now in
     let searched : AreSearched (tally_value tally) tally.election.m c.args.set c.args.free c.args.left c.nothing-found.result c.descend.new.found =
-    rw (c.node.ensures.set, c.node.ensures.free, c.node.ensures.left) at c.descend.ensures in
+    rw (c.node.ensures.set, c.node.ensures.free, c.node.ensures.left) at c.descend.ensures.searched in
     answered (tally_value tally) tally.election.m c.args.set c.args.free c.args.left c.args.self.now.least c.nothing-found.result c.descend.new.found searched
     c.nothing-found.ensures.none c.nothing-found.ensures.least c.first.result c.first.ensures

@@ -20,7 +20,7 @@ pub returns : goal.returns
 returns g c =
     let tally = c.args.self.now.tally.now in
     let searched : AreSearched (tally_value tally) tally.election.m [] c.all-all.result c.args.k c.nothing-found.result c.descend.new.found =
-    rw (c.node.ensures.set, c.node.ensures.free, c.node.ensures.left, c.empty.ensures) at c.descend.ensures in
+    rw (c.node.ensures.set, c.node.ensures.free, c.node.ensures.left, c.empty.ensures) at c.descend.ensures.searched in
     all-tied (tally_value tally) tally.election.m c.args.k c.all-all.result c.nothing-found.result c.descend.new.found searched c.nothing-found.ensures.none c.nothing-found.ensures.wanted
     c.requires.fits (λ n low high. ap (λ l. has_member l n) c.all-all.ensures ∙ has_member-range 1 c.m.result n low (omega (arith, high, c.m.ensures.value)))
     (omega (arith, c.nothing-found.ensures.least, c.requires.least)) _ (λ is. eqb-true c.descend.new.found.least c.descend.new.found.value is)

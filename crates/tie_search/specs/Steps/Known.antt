@@ -1,0 +1,37 @@
+-- Totals of pairs that a search keeps.
+use Rattle.std.specs.Prelude.{ℕ, List, Option, MatchOption, ⊤}
+use Rattle.ballot_base.specs.Ballots.{Election}
+use Rattle.tie_search.specs.Completions.{IsOpen, IsOutOfReach}
+use Rattle.tie_search.specs.Steps.Near.{IsNarrowed}
+use Rattle.tie_search.specs.Steps.Paired.{AreSmall, AreSums, AreTotals}
+use Rattle.tie_search.specs.declared.known.Known.{Known}
+use Rattle.tie_search.specs.declared.known.KnownTotals.{KnownTotals}
+use Rattle.tie_search.specs.declared.majorant.HitSums.{HitSums}
+use Rattle.tie_search.specs.declared.search.Node.{Node}
+
+-- the totals bound all completions of their set
+pub record IsKnown (e : Election) (given : HitSums) (known : Known) : Type 0 where
+  pub opened : IsOpen e.m known.set known.free
+  pub totals : (weights : List ℕ) → AreSums weights given.scale given.unit given.sums
+      → AreTotals weights given.scale given.unit e.m e.rows known.set known.free known.left known.totals.kept
+      known.totals.worths known.totals.overlaps
+  pub small : AreSmall known.totals.kept known.totals.worths known.totals.overlaps
+
+-- no totals are kept, or they bound all completions of their set
+abbrev pub IsKept : Election → HitSums → Option Known → Type 0
+IsKept e given kept = MatchOption kept ⊤ (IsKnown e given)
+
+-- so it is with the totals of both parities
+pub record AreKnown (e : Election) (given : HitSums) (known : KnownTotals) : Type 0 where
+  pub even : IsKept e given known.even
+  pub odd : IsKept e given known.odd
+
+-- the same, if it is known what hits give
+abbrev pub AreKnownIf : Election → Option HitSums → KnownTotals → Type 0
+AreKnownIf e sums known = MatchOption sums ⊤ (λ given. AreKnown e given known)
+
+-- an answer at a node: the free candidates that can still join, or nothing if no completion reaches the value
+abbrev pub Narrows : (List ℕ → ℕ) → ℕ → Node → ℕ → Option (List ℕ) → Type 0
+Narrows value m node least answer =
+    MatchOption answer (IsOutOfReach value m node.set node.free node.left least)
+    (IsNarrowed value m node.set node.free node.left least)
