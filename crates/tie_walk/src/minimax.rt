@@ -1,5 +1,6 @@
-//! The values of minimax approval voting. The bound of a prefix comes from the distances on the candidates decided so
-//! far, which only grow.
+//! Minimax approval voting in its plain form: `tie_search` uses its `value` and `bound`, and only tests walk over it.
+//!
+//! The bound of a prefix comes from the distances on the candidates decided so far, which only grow.
 ghost use Rattle.std.specs.Prelude.{◌≡◌, ◌<◌, ◌≤◌, MatchOption};
 ghost use Rattle.ballot_base.specs.Limits.{most_candidates};
 ghost use Rattle.ballot_base.specs.Lists.{IsIncreasing};
