@@ -4,7 +4,7 @@ ghost use Rattle.std.specs.Prelude.{◌≡◌, ℕ, ◌+◌, ◌*◌, ◌^◌, �
 ghost use Rattle.ballot_base.specs.Limits.{most_candidates, most_members};
 ghost use Rattle.ballot_base.specs.Lists.{IsIncreasing};
 ghost use Rattle.ballot_base.specs.CandSet.{has_member};
-ghost use Rattle.ballot_base.specs.Ballots.{IsElection, hits, voter_count};
+ghost use Rattle.ballot_base.specs.Ballots.{hits, voter_count};
 ghost use Rattle.ballot_base.specs.Increments.{increments, denominator};
 ghost use Rattle.tie_walk.specs.Ceilings.{IsTight, ceiling};
 ghost use Rattle.tie_walk.specs.Sequences.{gain};
@@ -114,14 +114,6 @@ impl<'a, A: Allocator + Copy> ThieleTally<'a, A> {
         ensures small { (n : ℕ) → slice_index result.1 n ≤ 2 ^ 116 }
     {
         self.value_and_gains(set, CandSet::after(c, self.m))
-    }
-
-    /// Does nothing. Its contract says what is true of each tally.
-    pub fn valid(&self)
-        ensures election { IsElection self.now.election }
-        ensures size { self.now.k ≤ most_members }
-    {
-        let _m = self.m;
     }
 }
 
@@ -250,7 +242,7 @@ fn add_votes(totals: &mut [u64; PLACES], set: CandSet, votes: u64)
 }
 
 /// The same totals in wider words.
-pub fn widened(totals: &[u64; PLACES]) -> [u128; PLACES]
+fn widened(totals: &[u64; PLACES]) -> [u128; PLACES]
     ensures same { (n : ℕ) → slice_index result n ≡ slice_index totals.now n }
     ensures small { (n : ℕ) → slice_index result n < 2 ^ 64 }
 {
