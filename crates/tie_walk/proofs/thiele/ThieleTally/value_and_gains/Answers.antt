@@ -1,5 +1,4 @@
-use Rattle.std.proofs.Common.{◌≡◌, ℕ, ◌^◌, ◌≤◌, ◌∙◌, Bool, true, false, cond, ap, arith, get_or}
-use Rattle.ballot_base.specs.CandSet.{has_member}
+use Rattle.std.proofs.Common.{◌≡◌, ℕ, ◌^◌, ◌≤◌, ◌∙◌, cond, ap, arith, get_or}
 use Rattle.ballot_base.specs.Ballots.{Election}
 use Rattle.ballot_base.specs.Increments.{increments}
 use Rattle.tie_walk.specs.Sequences.{gain}
