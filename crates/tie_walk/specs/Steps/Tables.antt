@@ -6,9 +6,7 @@ use Rattle.ballot_base.specs.Ballots.{Row, Election, IsElection}
 use Rattle.ballot_base.specs.CommonMultiple.{common_multiple}
 use Rattle.ballot_base.specs.Increments.{increments, denominator}
 use Rattle.ballot_base.specs.declared.increments.ThieleRule.{ThieleRule}
-use Rattle.tie_walk.specs.Ceilings.{greatest_sum, greatest_distance_upto}
-use Rattle.tie_walk.specs.Values.{distance}
-use Rattle.ballot_base.specs.CandSet.{members_upto}
+use Rattle.tie_walk.specs.Ceilings.{greatest_sum}
 use Rattle.tie_walk.specs.Sequences.{supporters}
 
 -- the sums of the first 0 to `most_candidates` of these
@@ -29,18 +27,6 @@ pub record IsReachBySums (worth : ℕ → ℕ) (c m left least last : ℕ) : Typ
   pub low : c ≤ last
   pub high : last + left ≤ m
   pub reached : (n : ℕ) → c ≤ n → n ≤ last → least ≤ greatest_sum worth (n + 1) m left
-
--- a candidate of c to `end` up to whom the ballot is no farther from the set than `most`
-pub record IsClose (ballot set : List ℕ) (most c end last : ℕ) : Type 0 where
-  pub low : c ≤ last
-  pub high : last ≤ end
-  pub close : distance (members_upto ballot last) set ≤ most
-
--- a candidate of c to `end` up to whom no ballot is farther from the set than `most`
-pub record IsNear (rows : List Row) (set : List ℕ) (most c end last : ℕ) : Type 0 where
-  pub low : c ≤ last
-  pub high : last ≤ end
-  pub near : greatest_distance_upto last rows set ≤ most
 
 -- what is true of each tally of a Thiele rule
 pub record IsThiele (e : Election) (m : ℕ) (rule : ThieleRule) (k denom : ℕ) (weights sums : List ℕ) : Type 0 where
