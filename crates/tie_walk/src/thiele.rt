@@ -13,7 +13,7 @@ ghost use Rattle.tie_walk.specs.Values.{Thiele, thiele_of};
 ghost use Rattle.tie_walk.specs.Steps.Tables.{prefix_sums};
 
 use crate::sequential::{Step, worths};
-use crate::tally::{Tally, greatest_sum, last_reaching, sum_of_worths};
+use crate::tally::{Amounts, Tally, sum_of_worths};
 use ballot_base::{
     CandSet, Increments, MOST_CANDIDATES, MOST_MEMBERS, PLACES, Profile, ThieleRule,
 };
@@ -138,7 +138,11 @@ impl<'a, A: Allocator + Copy> Tally for ThieleTally<'a, A> {
             return self.value(set);
         }
         let (value, gains) = self.gains_after(c, set);
-        value + greatest_sum(&gains, c, self.m, left)
+        let amounts = Amounts {
+            each: &gains,
+            m: self.m,
+        };
+        value + amounts.greatest_sum(c, left)
     }
 
     fn reach(&self, c: u8, set: CandSet, left: u8, best: u128) -> Option<u8> {
@@ -150,7 +154,11 @@ impl<'a, A: Allocator + Copy> Tally for ThieleTally<'a, A> {
             };
         }
         let (value, gains) = self.gains_after(c, set);
-        last_reaching(&gains, c, self.m, left, best.saturating_sub(value))
+        let amounts = Amounts {
+            each: &gains,
+            m: self.m,
+        };
+        amounts.last_reaching(c, left, best.saturating_sub(value))
     }
 }
 
