@@ -114,9 +114,9 @@ impl<'a, A: Allocator + Copy> Families<'a, A> {
         false
     }
 
-    /// Whether a family has a committee that consists of `set` and of candidates after `c`. It has one if two conditions
-    /// hold: the candidates that `set` needs to have as many of each class as the least set fit in, and the candidates
-    /// for whom the most set has room fill the committee.
+    /// Whether a family has a committee that consists of `set` and of candidates after `c`. Two conditions must hold.
+    /// The candidates that `set` needs to have as many of each class as the least set fit in, and the candidates for
+    /// whom the most set has room fill the committee.
     fn may_be_in(&self, family: (CandSet, CandSet), c: u8, set: CandSet) -> bool
         requires least_set { IsIncreasing 1 self.now.election.m family.0 }
         requires most_set { IsIncreasing 1 self.now.election.m family.1 }
