@@ -144,7 +144,7 @@ impl CandSet {
     }
 
     /// The set of these numbers. There is none where the list is not increasing, or has a number outside 1 to
-    /// `MOST_CANDIDATES`.
+    /// `MOST_CANDIDATES`. Only tests call it.
     pub fn of_list(numbers: &[u8]) -> Option<CandSet>
         ensures { SomeIff result (IsIncreasing 1 most_candidates numbers.now) numbers.now }
     {
@@ -160,7 +160,7 @@ impl CandSet {
         Some(set)
     }
 
-    /// Does nothing. Its contract says which lists are sets.
+    /// Does nothing. Its contract says which lists are sets; only tests call it.
     pub fn valid(self)
         ensures { IsIncreasing 1 most_candidates self }
     {

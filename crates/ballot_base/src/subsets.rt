@@ -1,4 +1,5 @@
-//! Committees of one size, in lexicographic order.
+//! All committees of one size, in lexicographic order: the plain form, which only tests run. They try every committee
+//! or group, and compare what they find with the answers of the crates above.
 ghost use Rattle.std.specs.Prelude.{◌≡◌, ℕ, ◌≤◌, List, Some, length};
 ghost use Rattle.std.specs.Iterator.{YieldsFirst, item_count};
 ghost use Rattle.ballot_base.specs.Limits.{most_candidates};

@@ -13,7 +13,7 @@ ghost use Rattle.tie_families.specs.Steps.Families.{may_be_in};
 
 use crate::clones::Classes;
 use crate::levels::{Spans, families_of};
-use ballot_base::{CandSet, Clones, Profile};
+use ballot_base::{CandSet, Profile};
 use std::alloc::{AllocError, Allocator, Global};
 use std::marker::Model;
 use tie_walk::{SeqRule, Tally};
@@ -56,16 +56,17 @@ impl<'a, A: Allocator + Copy + Drop> Families<'a, A> {
         requires fits { k ≤ profile.now.m }
         ensures { IfOk result (λ families. families ≡ sequential_of profile.now rule k) }
     {
-        let classes = Classes {
-            m: profile.m(),
-            clones: Clones::of(profile),
-        };
-        let Spans { leasts, mosts } = families_of(alloc, profile, rule, k, &classes.clones)?;
+        let Spans {
+            clones,
+            leasts,
+            mosts,
+        } = families_of(alloc, profile, rule, k)?;
+        let m = profile.m();
         Ok(Families {
             profile,
             rule,
             k,
-            classes,
+            classes: Classes { m, clones },
             leasts,
             mosts,
         })
@@ -106,25 +107,25 @@ impl<'a, A: Allocator + Copy> Families<'a, A> {
             return false;
         }
         for (least, most) in self.leasts.iter().zip(&self.mosts) {
-            if self.may_be_in(*least, *most, c, set) {
+            if self.may_be_in((*least, *most), c, set) {
                 return true;
             }
         }
         false
     }
 
-    /// Whether the family of two sets has a committee that consists of `set` and of candidates after `c`. It has one if
-    /// two conditions hold: the candidates that `set` needs to have as many of each class as `least` fit in, and the
-    /// candidates for whom `most` has room fill the committee.
-    fn may_be_in(&self, least: CandSet, most: CandSet, c: u8, set: CandSet) -> bool
-        requires least_set { IsIncreasing 1 self.now.election.m least }
-        requires most_set { IsIncreasing 1 self.now.election.m most }
+    /// Whether a family has a committee that consists of `set` and of candidates after `c`. Two conditions must hold.
+    /// The candidates that `set` needs to have as many of each class as the least set fit in, and the candidates for
+    /// whom the most set has room fill the committee.
+    fn may_be_in(&self, family: (CandSet, CandSet), c: u8, set: CandSet) -> bool
+        requires least_set { IsIncreasing 1 self.now.election.m family.0 }
+        requires most_set { IsIncreasing 1 self.now.election.m family.1 }
         requires within { c ≤ self.now.election.m }
         requires set { IsIncreasing 1 c set }
         requires size { length set ≤ self.now.k }
-        ensures { result ≡ may_be_in self.now.election.m self.now.election.rows c set (self.now.k - length set)
-            (least, most) }
+        ensures { result ≡ may_be_in self.now.election.m self.now.election.rows c set (self.now.k - length set) family }
     {
+        let (least, most) = family;
         let all = self.classes.completed(c, set, least);
         all.len() <= self.k
             && self.classes.is_between(least, most, all)

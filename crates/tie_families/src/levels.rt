@@ -36,6 +36,7 @@ type FoundFamilies<A> = IndexSet<CandSet, BuildHasherDefault<FoldHasher>, A>;
 /// Families: each has a least and a most set, which bound the members of each class of clones in its committees.
 #[derive(Drop)]
 pub(crate) struct Spans<A: Allocator + Copy> {
+    pub(crate) clones: Clones,
     pub(crate) leasts: Vec<CandSet, A>,
     pub(crate) mosts: Vec<CandSet, A>,
 }
@@ -274,31 +275,30 @@ pub(crate) fn families_of<A: Allocator + Copy + Drop>(
     profile: &Profile<A>,
     rule: SeqRule,
     k: u8,
-    clones: &Clones,
 ) -> Result<Spans<A>, AllocError>
-    requires fits { k ≤ profile.now.m }
-    requires clones { AreClones profile.now.m profile.now.rows clones.now }
-    ensures { IfOk result (λ spans. AreFamilies rule profile.now k spans.leasts.items spans.mosts.items) }
+    requires { k ≤ profile.now.m }
+    ensures clones { IfOk result (λ spans. AreClones profile.now.m profile.now.rows spans.clones) }
+    ensures families { IfOk result (λ spans. AreFamilies rule profile.now k spans.leasts.items spans.mosts.items) }
 {
     let m = profile.m();
+    let clones = Clones::of(profile);
     let weights = hit_weights(rule, m);
     let step = rule.step();
     let levels = Levels {
         profile,
-        clones,
+        clones: &clones,
         step,
         weights: &weights[..usize::from(m)],
     };
     let sets = levels.reached_families(alloc, rule.choices(m, k))?;
     let ends = levels.other_ends(alloc, k, &sets)?;
-    Ok(match step {
-        Step::Grow => Spans {
-            leasts: sets,
-            mosts: ends,
-        },
-        Step::Shrink => Spans {
-            leasts: ends,
-            mosts: sets,
-        },
+    let (leasts, mosts) = match step {
+        Step::Grow => (sets, ends),
+        Step::Shrink => (ends, sets),
+    };
+    Ok(Spans {
+        clones,
+        leasts,
+        mosts,
     })
 }

@@ -9,7 +9,7 @@ use Rattle.ballot_base.specs.CommonMultiple.{common_multiple}
 use Rattle.ballot_base.specs.Increments.{increments}
 use Rattle.ballot_base.specs.declared.increments.ThieleRule.TheVariants.{Av, Pav}
 use Rattle.tie_walk.specs.Ceilings.{greatest_sum, gain_at, IsSubmodular, IsBound, IsAdded, IsTight, IsExactAtBest, IsShort, IsReach, ceiling, greatest_distance_upto, closeness_upto, Prefix, is_open, is_ahead, IsLive, live_below, live_count}
-use Rattle.tie_walk.specs.Steps.Tables.{IsReachBySums, IsClose, IsNear}
+use Rattle.tie_walk.specs.Steps.Tables.{IsReachBySums}
 use Rattle.tie_walk.specs.Values.{thiele_value, satisfaction_value}
 use Rattle.tie_walk.proofs.GreatestSums.{ceiling-whole}
 use Rattle.tie_walk.proofs.WaitLemmas.{tight-exact}
@@ -145,13 +145,6 @@ one_of_three = record {
   high = lit≤ tt;
   reached = λ n low high. let one : n ≡ 1 = omega (arith, low, high) in rw one (lit≤ tt);
 }
-
-close_upto_two : IsClose (1 ∷ 3 ∷ []) [] 1 0 3 2
-close_upto_two = record { low = lit≤ tt; high = lit≤ tt; close = lit≤ tt }
-
-near_upto_one : IsNear two_and_one [] 1 0 3 1
-unfolding two_and_one
-near_upto_one = record { low = lit≤ tt; high = lit≤ tt; near = lit≤ tt }
 
 -- ---- bounds that are the value of a completion
 

@@ -21,7 +21,7 @@ use Rattle.tie_walk.specs.declared.sequential.Step.TheVariants.{Grow}
 use Rattle.tie_walk.proofs.GreatestSums.{greatest_sum-same}
 use Rattle.tie_walk.proofs.RowSums.{AreBallots, rows-more, rows-bound, all-most, satisfaction_value-by_parts}
 use Rattle.tie_walk.proofs.TableLemmas.{sum-take_more, parts-at, sum-take-le, weight-le-sum, increments_sum-most}
-use Rattle.tie_walk.proofs.WorthLemmas.{partial, share, worth-whole, supported}
+use Rattle.tie_walk.proofs.WorthLemmas.{partial, share, worth-most, worth-whole, supported}
 
 abbrev pub bit : Bool → ℕ
 bit b = cond b 1 0
@@ -238,19 +238,8 @@ satisfaction-fits e shares set (suc c) left value more valid is up within few ar
 
 -- ---- under Thiele's rules
 
-weight-most : (w : List ℕ) (j most : ℕ) → ((i : ℕ) → get_or w i 0 ≤ most) → weight w j ≤ most
-weight-most w zero most all = omega arith
-weight-most w (suc j) most all = all j
-
 pub gain-most : (e : Election) (w set : List ℕ) (x most : ℕ) → IsElection e → ((i : ℕ) → get_or w i 0 ≤ most) → gain w e.rows set x ≤ 2 ^ 32 * most
-gain-most e w set x most valid all =
-    omega (arith, worth-whole Grow w e.rows set x, all-most (share Grow w set x) e most valid (λ r up. given-least r))
-  where
-    given-least : (row : Row) → share Grow w set x row ≤ most
-    given-least row = elim (has_member row.0 x) as (λ b. cond b (weight w (hits row.0 set + 1)) 0 ≤ most) [
-      | true ↦ weight-most w (hits row.0 set + 1) most all
-      | false ↦ omega arith
-    ]
+gain-most = worth-most Grow
 
 pub thiele-most : (e : Election) (w set : List ℕ) (most : ℕ) → IsElection e → ((x : ℕ) → sum (take x w) ≤ most) → thiele_value w e.rows set ≤ 2 ^ 32 * most
 thiele-most e w set most valid all = all-most (λ (r : Row). sum (take (hits r.0 set) w)) e most valid (λ r up. all (hits r.0 set))

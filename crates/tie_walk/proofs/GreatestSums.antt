@@ -1,16 +1,18 @@
 -- The greatest sum of so many numbers, one number more at a time.
-use Rattle.std.proofs.Common.{◌≡◌, ℕ, zero, suc, ◌+◌, ◌-◌, ◌*◌, ◌<◌, ◌≤◌, ◌∙◌, ◌⊎◌, List, [], ◌∷◌, ◌++◌, refl, sym, ap, arith, inl, inr, get_or, map, max, sum_by}
+use Rattle.std.proofs.Common.{◌≡◌, min, ℕ, zero, suc, ◌+◌, ◌-◌, ◌*◌, ◌<◌, ◌≤◌, ◌∙◌, List, replicate, [], ◌∷◌, ◌++◌, refl, sym, ap, arith, inl, inr, get_or, map, max, sum_by}
 use Rattle.std.proofs.Math.Nat.{mul-le-mul_right}
 use Rattle.std.specs.Prelude.{fold}
 use Rattle.std.specs.List.{AllByRecursion}
 use Rattle.std.proofs.lemmas.Bool.{cases_lt}
 use Rattle.std.proofs.lemmas.List.{append-nil, map-append}
 use Rattle.std.proofs.lemmas.List.Sums.{sum_by-cons, fold-append}
+use Rattle.ballot_base.specs.Limits.{most_candidates}
 use Rattle.ballot_base.specs.Lists.{IsIncreasing, lists_of, increasing_lists}
 use Rattle.ballot_base.proofs.Committees.{IsChosen, increasing_lists-chosen}
 use Rattle.tie_walk.specs.Ceilings.{IsBound, ceiling, gain_at, greatest_sum}
-use Rattle.tie_walk.specs.Steps.Tables.{IsReachBySums}
+use Rattle.tie_walk.specs.Steps.Tables.{AreGreatestSums, IsReachBySums}
 use Rattle.tie_walk.proofs.WinnersLemmas.{greatest}
+use Rattle.tie_walk.proofs.WorthLemmas.{no_total}
 
 pub lists-short : (n first size : ℕ) → n < size → lists_of n first size ≡ []
 unfolding lists_of
@@ -96,10 +98,6 @@ module _ (worth : ℕ → ℕ) where
 
   -- ---- the table of the code: `passed` numbers up to m were looked at
 
-  pub table-begun : (m j : ℕ) → best_of 0 (m + 1 - 0) j ≡ 0
-  table-begun m zero = best_of-none 0 (m + 1 - 0)
-  table-begun m (suc j) = best_of-short 0 (m + 1 - 0) (suc j) (omega arith)
-
   pub table-within : (m passed j : ℕ) → passed < m → j ≤ passed
       → best_of (passed + 1) (m + 1 - (passed + 1)) (j + 1) ≡ max (best_of passed (m + 1 - passed) (j + 1)) (best_of passed (m + 1 - passed) j + worth (m - passed))
   table-within m passed j inside enough =
@@ -117,6 +115,18 @@ module _ (worth : ℕ → ℕ) where
       let count : m + 1 - (c + 1) ≡ m - c = omega arith in
       let first : m + 1 - (m - c) ≡ c + 1 = omega arith in
       rw (count, first)
+
+  pub table-at : (m passed size : ℕ) → passed ≤ m → best_of passed (m + 1 - passed) size ≡ greatest_sum worth (m - passed + 1) m size
+  table-at m passed size within =
+      let count : m - (m - passed) ≡ passed = omega (arith, within) in
+      rw count at (table-done (m - passed) m size (omega arith))
+
+  pub sums-begun : (m left : ℕ) → AreGreatestSums worth m 0 left (replicate (most_candidates + 1) 0)
+  sums-begun m left j h = no_total (most_candidates + 1) j ∙ sym (none m j) ∙ table-at m 0 j (omega arith)
+    where
+      none : (m j : ℕ) → best_of 0 (m + 1 - 0) j ≡ 0
+      none m zero = best_of-none 0 (m + 1 - 0)
+      none m (suc j) = best_of-short 0 (m + 1 - 0) (suc j) (omega arith)
 
   -- more numbers to choose from
   best_of-next : (n first size : ℕ) → best_of n (first + 1) size ≤ best_of (suc n) first size
@@ -153,26 +163,20 @@ module _ (worth : ℕ → ℕ) where
         ap (λ k. best_of k (c + 1) size) count,
       )
 
-  table-at : (m passed size : ℕ) → passed ≤ m → best_of passed (m + 1 - passed) size ≡ greatest_sum worth (m - passed + 1) m size
-  table-at m passed size within =
-      let count : m - (m - passed) ≡ passed = omega (arith, within) in
-      rw count at (table-done (m - passed) m size (omega arith))
-
   -- a candidate whose sum is large enough, as those of the ones before are
-  pub reaching-found : (c m left least passed last : ℕ) → left ≤ passed → last + passed ≡ m → c ≤ last → least ≤ best_of passed (m + 1 - passed) left
+  pub reaching-found : (c m left least passed last : ℕ) → left ≤ passed → last + passed ≡ m → c ≤ last → least ≤ greatest_sum worth (m - passed + 1) m left
       → IsReachBySums worth c m left least last
   reaching-found c m left least passed last enough here low large =
       let at : m - passed + 1 ≡ last + 1 = omega (arith, here) in
-      let sum : best_of passed (m + 1 - passed) left ≡ greatest_sum worth (last + 1) m left = table-at m passed left (omega (arith, here)) ∙ ap (λ f. greatest_sum worth f m left) at in
       record {
         low = low;
         high = omega (arith, enough, here);
-        reached = λ n from to. omega (arith, large, sum, sum-later n last m left to (omega (arith, here)));
+        reached = λ n from to. omega (arith, large, ap (λ f. greatest_sum worth f m left) at, sum-later n last m left to (omega (arith, here)));
       }
 
   -- one candidate more was looked at
   module _ (m passed left most worth' : ℕ) (old new : List ℕ) (inside : passed < m) (number : worth' ≡ worth (m - passed))
-      (few : most ≤ passed + 1) (within-left : most ≤ left) (all : (most ≡ passed + 1) ⊎ (most ≡ left))
+      (most-is : most ≡ min left (passed + 1))
       (made : (j : ℕ) → j ≤ left → get_or old j 0 ≡ best_of passed (m + 1 - passed) j)
       (first-is : get_or new 0 0 ≡ get_or old 0 0)
       (within-are : (j : ℕ) → j < most → get_or new (j + 1) 0 ≡ max (get_or old (j + 1) 0) (get_or old j 0 + worth'))
@@ -188,7 +192,6 @@ module _ (worth : ℕ → ℕ) where
           ∙ ap (λ n. max (best_of passed (m + 1 - passed) (i + 1)) (best_of passed (m + 1 - passed) i + n)) number
           ∙ sym (table-within m passed i inside (omega arith)))
       | inr high ↦
-          let past : most ≡ passed + 1 = elim all [ inl full ↦ full | inr cut ↦ absurd (omega arith) ] in
           after-are (suc i) (omega arith) ∙ made (suc i) h ∙ table-short m passed (suc i) (omega arith)
     ]
 

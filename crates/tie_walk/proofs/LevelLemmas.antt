@@ -1,11 +1,11 @@
 -- The levels of the sequential rules: what they have, and that the last one has the winners.
 use Rattle.std.proofs.Common.{◌≡◌, ℕ, zero, suc, ◌+◌, ◌≤◌, ◌==◌, Bool, true, false, not, List, [], ◌∷◌, refl, sym, ◌∙◌, subst, arith, inl, inr, map, filter, Contains}
-use Rattle.std.specs.List.{flat_map, range_with_len, AllByRecursion}
+use Rattle.std.specs.List.{flat_map, range_with_len}
 use Rattle.std.specs.List.Sorted.{IsStrictlySortedBy}
 use Rattle.std.specs.Cmp.Lexicographic.{slice_cmp}
 use Rattle.std.specs.Ordering.{nat_cmp}
 use Rattle.std.proofs.lemmas.Bool.{cases_lt, and_parts}
-use Rattle.std.proofs.lemmas.List.Elements.{recursion_from_All, All-weaker, All-contains_itself, Contains-append_cases}
+use Rattle.std.proofs.lemmas.List.Elements.{Contains-append_cases}
 use Rattle.ballot_base.specs.Lists.{IsIncreasing}
 use Rattle.ballot_base.specs.CandSet.{has_member}
 use Rattle.ballot_base.specs.Ballots.{Row}
@@ -100,11 +100,6 @@ module _ (step : Step) (weights : List ℕ) (m : ℕ) (rows : List Row) where
       let candidate = (choice-parts set c is).0 in
       Contains-map (change step set) (filter (is_choice step weights m rows set) (range_with_len 1 m)) c
       (Contains-filter (is_choice step weights m rows set) (range_with_len 1 m) c (Contains-range m c candidate.0 candidate.1) is)
-
-  pub level-increasing : (size : ℕ) (sets : List (List ℕ)) → IsLevel step weights m rows size sets → AllByRecursion (λ s. IsIncreasing 1 m s) sets
-  level-increasing size sets level =
-      recursion_from_All (λ s. IsIncreasing 1 m s) sets
-      (All-weaker (Contains sets) (λ s. IsIncreasing 1 m s) (λ s inside. reached-increasing size s ((level.members s).0 inside)) sets (All-contains_itself sets))
 
   pub level-next : (size : ℕ) (sets next : List (List ℕ)) → IsLevel step weights m rows size sets → IsNextLevel step weights m rows sets next → IsLevel step weights m rows (size + 1) next
   level-next size sets next level made = record {

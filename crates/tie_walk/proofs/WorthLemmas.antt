@@ -7,7 +7,7 @@ use Rattle.tie_walk.specs.Sequences.{weight, supporters}
 use Rattle.tie_walk.specs.Steps.Choices.{worth, hits_of}
 use Rattle.tie_walk.specs.declared.sequential.Step.{Step}
 use Rattle.tie_walk.specs.declared.sequential.Step.TheVariants.{Grow, Shrink}
-use Rattle.tie_walk.proofs.RowSums.{rows-more, rows-bound}
+use Rattle.tie_walk.proofs.RowSums.{all-most, rows-more, rows-bound}
 
 -- what a voter of the row gives
 abbrev pub share : Step → List ℕ → List ℕ → ℕ → Row → ℕ
@@ -46,6 +46,11 @@ share-most step weights set c most row all =
       | false ↦ omega arith
     ]
 
+pub worth-most : (step : Step) (e : Election) (weights set : List ℕ) (c most : ℕ) → IsElection e → ((i : ℕ) → get_or weights i 0 ≤ most)
+    → worth step weights e.rows set c ≤ 2 ^ 32 * most
+worth-most step e weights set c most valid all =
+    omega (arith, worth-whole step weights e.rows set c, all-most (share step weights set c) e most valid (λ r up. share-most step weights set c most r all))
+
 module _ (step : Step) (weights set : List ℕ) where
   pub partial-more : (rows : List Row) (i c : ℕ) (row : Row) → slice_get rows i ≡ Some row
       → partial step weights set c (take (i + 1) rows) ≡ partial step weights set c (take i rows) + cond (has_member row.0 c) (row.1 * weight weights (hits_of step (hits row.0 set))) 0
@@ -64,13 +69,11 @@ module _ (step : Step) (weights set : List ℕ) where
 
   pub partial-bound : (e : Election) (i c : ℕ) (row : Row) → IsElection e → ((j : ℕ) → get_or weights j 0 < 2 ^ 90) → slice_get e.rows i ≡ Some row
       → partial step weights set c (take i e.rows) ≤ 2 ^ 122
-  partial-bound e i c row valid all found =
-      omega (arith, rows-bound (share step weights set c) e (2 ^ 90) i row valid (λ r h. share-most step weights set c (2 ^ 90) r (λ j. omega (arith, all j))) found)
+  partial-bound e i c row valid all = partial-most e (2 ^ 90) i c row valid (λ j. omega (arith, all j))
 
   pub row-bound : (e : Election) (i : ℕ) (row : Row) → IsElection e → ((j : ℕ) → get_or weights j 0 < 2 ^ 90) → slice_get e.rows i ≡ Some row
       → row.1 * weight weights (hits_of step (hits row.0 set)) ≤ 2 ^ 122
-  row-bound e i row valid all found =
-      omega (arith, rows-bound (λ (r : Row). weight weights (hits_of step (hits r.0 set))) e (2 ^ 90) i row valid (λ r h. weight-most weights (hits_of step (hits r.0 set)) (2 ^ 90) (λ j. omega (arith, all j))) found)
+  row-bound e i row valid all = row-most e (2 ^ 90) i row valid (λ j. omega (arith, all j))
 
 pub no_total : (n i : ℕ) → get_or {A = ℕ} (replicate n 0) i 0 ≡ 0
 no_total zero i = refl

@@ -22,5 +22,5 @@ pub use minimax::MinimaxTally;
 pub use satisfaction::SavTally;
 pub use sequential::{SeqRule, SeqWinners, add_to_members};
 pub use tally::Tally;
-pub use thiele::{ThieleTally, those_after, widened};
+pub use thiele::{ThieleTally, those_after};
 pub use winners::Winners;

@@ -1,12 +1,10 @@
-//! The values of minimax approval voting. The bound of a prefix comes from the distances on the candidates decided so
-//! far, which only grow.
-ghost use Rattle.std.specs.Prelude.{◌≡◌, ◌<◌, ◌≤◌, MatchOption};
-ghost use Rattle.ballot_base.specs.Limits.{most_candidates};
+//! Minimax approval voting in its plain form: `tie_search` uses its `value` and `bound`, and only tests walk over it.
+//!
+//! The bound of a prefix comes from the distances on the candidates decided so far, which only grow.
+ghost use Rattle.std.specs.Prelude.{◌≡◌, ◌≤◌};
 ghost use Rattle.ballot_base.specs.Lists.{IsIncreasing};
-ghost use Rattle.ballot_base.specs.CandSet.{members_upto};
 ghost use Rattle.tie_walk.specs.Ceilings.{greatest_distance_upto, closeness_upto};
 ghost use Rattle.tie_walk.specs.Values.{distance, greatest_distance, closeness};
-ghost use Rattle.tie_walk.specs.Steps.Tables.{IsClose, IsNear};
 
 use crate::tally::Tally;
 use ballot_base::{CandSet, Profile};
@@ -55,14 +53,6 @@ impl<'a, A: Allocator + Copy> Tally for MinimaxTally<'a, A> {
     fn bound(&self, c: u8, set: CandSet, _left: u8) -> u128 {
         u128::from(self.profile.m() - farthest_upto(self.profile, c, set))
     }
-
-    fn reach(&self, c: u8, set: CandSet, left: u8, best: u128) -> Option<u8> {
-        let m = self.profile.m();
-        if best > u128::from(m) {
-            return None;
-        }
-        last_near(self.profile, set, m - best as u8, c, m - left)
-    }
 }
 
 /// The greatest distance of a ballot from the committee.
@@ -90,48 +80,6 @@ fn farthest_upto<A: Allocator + Copy>(profile: &Profile<A>, c: u8, set: CandSet)
         greatest = greatest.max(distance(ballot.upto(c), set));
     }
     greatest
-}
-
-/// A candidate of c to `end` up to whom no ballot is farther from the set than `most`: the last one. None if one is for
-/// c.
-fn last_near<A: Allocator + Copy>(
-    profile: &Profile<A>,
-    set: CandSet,
-    most: u8,
-    c: u8,
-    end: u8,
-) -> Option<u8>
-    requires within { end ≤ profile.now.m }
-    requires some { c ≤ end }
-    requires candidates { IsIncreasing 1 c set }
-    ensures { MatchOption result (most < greatest_distance_upto c profile.now.rows set)
-        (IsNear profile.now.rows set most c end) }
-{
-    let mut last = end;
-    for (ballot, _voters) in profile.ballots() {
-        let Some(close) = last_close(ballot, set, most, c, last) else {
-            return None;
-        };
-        last = close;
-    }
-    Some(last)
-}
-
-/// A candidate of c to `end` up to whom the ballot is no farther from the set than `most`: the last one. None if it is
-/// for c.
-fn last_close(ballot: CandSet, set: CandSet, most: u8, c: u8, end: u8) -> Option<u8>
-    requires high { end ≤ most_candidates }
-    requires some { c ≤ end }
-    ensures { MatchOption result (most < distance (members_upto ballot c) set) (IsClose ballot set most c end) }
-{
-    let mut last = end;
-    while distance(ballot.upto(last), set) > most {
-        if last == c {
-            return None;
-        }
-        last -= 1;
-    }
-    Some(last)
 }
 
 /// How many candidates stand in exactly one of the two.

@@ -9,7 +9,7 @@ ghost use Rattle.tie_walk.specs.Values.{satisfaction_value};
 ghost use Rattle.tie_walk.specs.Steps.Tables.{parts, score};
 
 use crate::sequential::add_to_members;
-use crate::tally::{Tally, greatest_sum, last_reaching, sum_of_worths};
+use crate::tally::{Amounts, Tally, sum_of_worths};
 use ballot_base::{CandSet, PLACES, Profile, common_multiple};
 use std::alloc::{Allocator, Global};
 use std::marker::Model;
@@ -79,12 +79,20 @@ impl<'a, A: Allocator + Copy> Tally for SavTally<'a, A> {
     }
 
     fn bound(&self, c: u8, set: CandSet, left: u8) -> u128 {
-        self.value(set) + greatest_sum(&self.scores, c, self.profile.m(), left)
+        let amounts = Amounts {
+            each: &self.scores,
+            m: self.profile.m(),
+        };
+        self.value(set) + amounts.greatest_sum(c, left)
     }
 
     fn reach(&self, c: u8, set: CandSet, left: u8, best: u128) -> Option<u8> {
         let least = best.saturating_sub(self.value(set));
-        last_reaching(&self.scores, c, self.profile.m(), left, least)
+        let amounts = Amounts {
+            each: &self.scores,
+            m: self.profile.m(),
+        };
+        amounts.last_reaching(c, left, least)
     }
 }
 

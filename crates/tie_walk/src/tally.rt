@@ -7,7 +7,7 @@ ghost use Rattle.std.specs.Prelude.{◌≡◌, ℕ, ◌+◌, ◌-◌, ◌*◌, �
 ghost use Rattle.ballot_base.specs.Limits.{most_candidates};
 ghost use Rattle.ballot_base.specs.Lists.{IsIncreasing};
 ghost use Rattle.tie_walk.specs.Ceilings.{IsBound, IsShort, IsReach, greatest_sum};
-ghost use Rattle.tie_walk.specs.Steps.Tables.{sum_of_worths, IsReachBySums};
+ghost use Rattle.tie_walk.specs.Steps.Tables.{sum_of_worths, AreGreatestSums, IsReachBySums};
 
 use ballot_base::{CandSet, PLACES};
 
@@ -79,52 +79,61 @@ pub(crate) fn sum_of_worths(counts: &[u64; PLACES], worths: &[u128; PLACES], mos
     value
 }
 
-/// The greatest sum of `left` of what the candidates from c + 1 to m have, each at its number.
-pub(crate) fn greatest_sum(worths: &[u128; PLACES], c: u8, m: u8, left: u8) -> u128
-    requires most { m ≤ most_candidates }
-    requires within { c ≤ m }
-    requires fits { left ≤ m - c }
-    requires small { (n : ℕ) → slice_index worths.now n < 2 ^ 122 }
-    ensures value { result ≡ greatest_sum (slice_index worths.now) (c + 1) m left }
-    ensures most { (most : ℕ) → ((n : ℕ) → slice_index worths.now n ≤ most) → result ≤ left * most }
-{
-    // The greatest sum of j of the candidates passed so far, at j.
-    let mut sums = [0; PLACES];
-    for passed in 0..m - c {
-        let most = if passed < left { passed + 1 } else { left };
-        add_candidate(&mut sums, worths[usize::from(m - passed)], most);
-    }
-    sums[usize::from(left)]
+/// What each of the candidates 1 to `m` adds to a committee, at the candidate's number.
+#[derive(Drop)]
+pub(crate) struct Amounts<'a> {
+    pub(crate) each: &'a [u128; PLACES],
+    pub(crate) m: u8,
+    ghost most: { m ≤ most_candidates },
+    ghost small: { (n : ℕ) → slice_index each.now n < 2 ^ 122 },
 }
 
-/// A candidate, from c on, up to whom the greatest sum of `left` of what the candidates after each have, up to m, is at
-/// least `least`: the last one. None if it is less for c.
-pub(crate) fn last_reaching(
-    worths: &[u128; PLACES],
-    c: u8,
-    m: u8,
-    left: u8,
-    least: u128,
-) -> Option<u8>
-    requires most { m ≤ most_candidates }
-    requires within { c ≤ m }
-    requires fits { left ≤ m - c }
-    requires small { (n : ℕ) → slice_index worths.now n < 2 ^ 122 }
-    ensures { MatchOption result (greatest_sum (slice_index worths.now) (c + 1) m left < least)
-        (IsReachBySums (slice_index worths.now) c m left least) }
-{
-    let mut sums = [0; PLACES];
-    for passed in 0..m - c {
-        if passed >= left && sums[usize::from(left)] >= least {
-            return Some(m - passed);
+impl Amounts<'_> {
+    /// The greatest sum that `left` of the candidates after c add.
+    pub(crate) fn greatest_sum(&self, c: u8, left: u8) -> u128
+        requires within { c ≤ self.now.m }
+        requires fits { left ≤ self.now.m - c }
+        ensures value { result ≡ greatest_sum (slice_index self.now.each.now) (c + 1) self.now.m left }
+        ensures most { (most : ℕ) → ((n : ℕ) → slice_index self.now.each.now n ≤ most) → result ≤ left * most }
+    {
+        let mut sums = [0; PLACES];
+        for passed in 0..self.m - c {
+            self.pass(&mut sums, passed, left);
         }
-        let most = if passed < left { passed + 1 } else { left };
-        add_candidate(&mut sums, worths[usize::from(m - passed)], most);
+        sums[usize::from(left)]
     }
-    if sums[usize::from(left)] >= least {
-        return Some(c);
+
+    /// The last candidate, from c on, after whom the greatest sum of `left` candidates is still at least `least`.
+    /// Returns `None` if that sum is less even after c.
+    pub(crate) fn last_reaching(&self, c: u8, left: u8, least: u128) -> Option<u8>
+        requires within { c ≤ self.now.m }
+        requires fits { left ≤ self.now.m - c }
+        ensures { MatchOption result (greatest_sum (slice_index self.now.each.now) (c + 1) self.now.m left < least)
+            (IsReachBySums (slice_index self.now.each.now) c self.now.m left least) }
+    {
+        let mut sums = [0; PLACES];
+        for passed in 0..self.m - c {
+            if passed >= left && sums[usize::from(left)] >= least {
+                return Some(self.m - passed);
+            }
+            self.pass(&mut sums, passed, left);
+        }
+        if sums[usize::from(left)] >= least {
+            return Some(c);
+        }
+        None
     }
-    None
+
+    /// Takes one candidate more into the greatest sums of up to `left` of the last `passed` candidates.
+    fn pass(&self, sums: &mut [u128; PLACES], passed: u8, left: u8)
+        requires more { passed < self.now.m }
+        requires few { left ≤ self.now.m }
+        requires sums { AreGreatestSums (slice_index self.now.each.now) self.now.m passed left sums.old }
+        ensures { AreGreatestSums (slice_index self.now.each.now) self.now.m (passed + 1) left sums.new }
+    {
+        let most = left.min(passed + 1);
+        add_candidate(sums, self.each[usize::from(self.m - passed)], most);
+    }
 }
 
 /// The greatest sums of 1 to `most` candidates, each at their number, where one more may be among them.

@@ -4,7 +4,7 @@ ghost use Rattle.std.specs.Prelude.{◌≡◌, ℕ, ◌+◌, ◌*◌, ◌^◌, �
 ghost use Rattle.ballot_base.specs.Limits.{most_candidates, most_members};
 ghost use Rattle.ballot_base.specs.Lists.{IsIncreasing};
 ghost use Rattle.ballot_base.specs.CandSet.{has_member};
-ghost use Rattle.ballot_base.specs.Ballots.{IsElection, hits, voter_count};
+ghost use Rattle.ballot_base.specs.Ballots.{hits, voter_count};
 ghost use Rattle.ballot_base.specs.Increments.{increments, denominator};
 ghost use Rattle.tie_walk.specs.Ceilings.{IsTight, ceiling};
 ghost use Rattle.tie_walk.specs.Sequences.{gain};
@@ -13,7 +13,7 @@ ghost use Rattle.tie_walk.specs.Values.{Thiele, thiele_of};
 ghost use Rattle.tie_walk.specs.Steps.Tables.{prefix_sums};
 
 use crate::sequential::{Step, worths};
-use crate::tally::{Tally, greatest_sum, last_reaching, sum_of_worths};
+use crate::tally::{Amounts, Tally, sum_of_worths};
 use ballot_base::{
     CandSet, Increments, MOST_CANDIDATES, MOST_MEMBERS, PLACES, Profile, ThieleRule,
 };
@@ -115,14 +115,6 @@ impl<'a, A: Allocator + Copy> ThieleTally<'a, A> {
     {
         self.value_and_gains(set, CandSet::after(c, self.m))
     }
-
-    /// Does nothing. Its contract says what is true of each tally.
-    pub fn valid(&self)
-        ensures election { IsElection self.now.election }
-        ensures size { self.now.k ≤ most_members }
-    {
-        let _m = self.m;
-    }
 }
 
 impl<'a, A: Allocator + Copy> Tally for ThieleTally<'a, A> {
@@ -146,7 +138,11 @@ impl<'a, A: Allocator + Copy> Tally for ThieleTally<'a, A> {
             return self.value(set);
         }
         let (value, gains) = self.gains_after(c, set);
-        value + greatest_sum(&gains, c, self.m, left)
+        let amounts = Amounts {
+            each: &gains,
+            m: self.m,
+        };
+        value + amounts.greatest_sum(c, left)
     }
 
     fn reach(&self, c: u8, set: CandSet, left: u8, best: u128) -> Option<u8> {
@@ -158,7 +154,11 @@ impl<'a, A: Allocator + Copy> Tally for ThieleTally<'a, A> {
             };
         }
         let (value, gains) = self.gains_after(c, set);
-        last_reaching(&gains, c, self.m, left, best.saturating_sub(value))
+        let amounts = Amounts {
+            each: &gains,
+            m: self.m,
+        };
+        amounts.last_reaching(c, left, best.saturating_sub(value))
     }
 }
 
@@ -250,7 +250,7 @@ fn add_votes(totals: &mut [u64; PLACES], set: CandSet, votes: u64)
 }
 
 /// The same totals in wider words.
-pub fn widened(totals: &[u64; PLACES]) -> [u128; PLACES]
+fn widened(totals: &[u64; PLACES]) -> [u128; PLACES]
     ensures same { (n : ℕ) → slice_index result n ≡ slice_index totals.now n }
     ensures small { (n : ℕ) → slice_index result n < 2 ^ 64 }
 {

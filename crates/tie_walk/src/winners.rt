@@ -1,8 +1,9 @@
 //! The winning committees of a tally, one by one.
 //!
 //! `new` finds the greatest value first (module `best`). Then a walk of its own hands out each committee that has it,
-//! beginning right after the start if there is one. `entered` and `ceilings` count the steps of this second walk. The
-//! prefixes that it enters are the live ones of `specs/Ceilings.antt`, and at most m more on the way to a start.
+//! beginning right after the start if there is one. `entered` and `ceilings` count the steps of this second walk; only
+//! tests read them. The prefixes that it enters are the live ones of `specs/Ceilings.antt`, and at most m more on the
+//! way to a start.
 //!
 //! If bounds are exact at the greatest value (`IsExactAtBest`), one `next` asks for at most four bounds a candidate: at
 //! most two on the way down to a committee, and one on the way up (`proofs/WaitLemmas.antt`). A tally whose bounds are

@@ -1,14 +1,12 @@
 -- What tallies keep, and how they sum.
-use Rattle.std.specs.Prelude.{◌≡◌, ℕ, ◌+◌, ◌*◌, ◌/◌, ◌≤◌, List, ◌∷◌, length, map, sum, sum_by, take, slice_index}
+use Rattle.std.specs.Prelude.{◌≡◌, ℕ, ◌+◌, ◌-◌, ◌*◌, ◌/◌, ◌≤◌, List, ◌∷◌, length, map, sum, sum_by, take, slice_index}
 use Rattle.std.specs.List.{range_with_len}
 use Rattle.ballot_base.specs.Limits.{most_candidates, most_members}
 use Rattle.ballot_base.specs.Ballots.{Row, Election, IsElection}
 use Rattle.ballot_base.specs.CommonMultiple.{common_multiple}
 use Rattle.ballot_base.specs.Increments.{increments, denominator}
 use Rattle.ballot_base.specs.declared.increments.ThieleRule.{ThieleRule}
-use Rattle.tie_walk.specs.Ceilings.{greatest_sum, greatest_distance_upto}
-use Rattle.tie_walk.specs.Values.{distance}
-use Rattle.ballot_base.specs.CandSet.{members_upto}
+use Rattle.tie_walk.specs.Ceilings.{greatest_sum}
 use Rattle.tie_walk.specs.Sequences.{supporters}
 
 -- the sums of the first 0 to `most_candidates` of these
@@ -24,23 +22,16 @@ abbrev pub sum_of_worths : List ℕ → List ℕ → ℕ → ℕ
 sum_of_worths counts worths most =
     sum (map (λ j. slice_index counts j * slice_index worths j) (range_with_len 0 (most + 1)))
 
+-- at each number up to `left`, the greatest sum of that many of the last `passed` of m candidates
+abbrev pub AreGreatestSums : (ℕ → ℕ) → ℕ → ℕ → ℕ → List ℕ → Type 0
+AreGreatestSums worth m passed left sums =
+    (j : ℕ) → j ≤ left → slice_index sums j ≡ greatest_sum worth (m - passed + 1) m j
+
 -- a candidate, from c on, up to whom the greatest sum of `left` of what the candidates after each have is so great
 pub record IsReachBySums (worth : ℕ → ℕ) (c m left least last : ℕ) : Type 0 where
   pub low : c ≤ last
   pub high : last + left ≤ m
   pub reached : (n : ℕ) → c ≤ n → n ≤ last → least ≤ greatest_sum worth (n + 1) m left
-
--- a candidate of c to `end` up to whom the ballot is no farther from the set than `most`
-pub record IsClose (ballot set : List ℕ) (most c end last : ℕ) : Type 0 where
-  pub low : c ≤ last
-  pub high : last ≤ end
-  pub close : distance (members_upto ballot last) set ≤ most
-
--- a candidate of c to `end` up to whom no ballot is farther from the set than `most`
-pub record IsNear (rows : List Row) (set : List ℕ) (most c end last : ℕ) : Type 0 where
-  pub low : c ≤ last
-  pub high : last ≤ end
-  pub near : greatest_distance_upto last rows set ≤ most
 
 -- what is true of each tally of a Thiele rule
 pub record IsThiele (e : Election) (m : ℕ) (rule : ThieleRule) (k denom : ℕ) (weights sums : List ℕ) : Type 0 where

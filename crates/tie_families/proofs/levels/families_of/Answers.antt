@@ -12,14 +12,14 @@ invariant_of-levels g c =
     let m = c.m-m.result in
     let are : take c.from.result c.hit_weights-weights.result ≡ hit_weights c.args.rule m = ap (λ n. take n c.hit_weights-weights.result) c.from.ensures ∙ c.hit_weights-weights.ensures in
     record {
-      classes = c.requires.clones;
+      classes = c.of-clones.ensures;
       small = λ j. omega (arith, ap (λ l. get_or l j 0) are, hit_weights-small c.args.rule m j (omega (arith, c.m-m.ensures.value, c.m-m.ensures.valid.most)));
       falling = subst IsFalling (sym are) (hit_weights-fall c.args.rule m);
       strict = subst IsStrict (sym are) (hit_weights-strict c.args.rule m);
     }
 
-pub returns : goal.returns
-returns g c =
+pub returns-clause-families : goal.returns-clause-families
+returns-clause-families g c =
     let e = c.args.profile.now in
     let rule = c.args.rule in
     let table = c.hit_weights-weights.result in
@@ -30,8 +30,8 @@ returns g c =
     let ends-are : ends ≡ map (other_end step weights e.m e.rows c.args.k) sets = c.in_ok-ends.ensures ∙ ap (map (other_end step weights e.m e.rows c.args.k)) c.deref.ensures.value in
     let all : AreFamilies rule e c.args.k (leasts_of step sets ends) (mosts_of step sets ends) =
     last-families rule e c.args.k c.m-m.result c.choices.result step (take c.m-m.result table) weights sets ends
-    c.requires.fits c.m-m.ensures.valid.ballots c.m-m.ensures.value c.step-step.ensures c.choices.ensures c.hit_weights-weights.ensures (ap (λ n. take n table) c.from.ensures) c.in_ok-sets.ensures ends-are in
+    c.requires c.m-m.ensures.valid.ballots c.m-m.ensures.value c.step-step.ensures c.choices.ensures c.hit_weights-weights.ensures (ap (λ n. take n table) c.from.ensures) c.in_ok-sets.ensures ends-are in
     elim c.match-step.branch [
-      | in-Grow w ↦ rw w.result-is (subst (λ s. AreFamilies rule e c.args.k (leasts_of s sets ends) (mosts_of s sets ends)) w.in-Grow.is all)
-      | in-Shrink w ↦ rw w.result-is (subst (λ s. AreFamilies rule e c.args.k (leasts_of s sets ends) (mosts_of s sets ends)) w.in-Shrink.is all)
+      | in-Grow w ↦ rw w.leasts-is (subst (λ s. AreFamilies rule e c.args.k (leasts_of s sets ends) (mosts_of s sets ends)) w.in-Grow.is all)
+      | in-Shrink w ↦ rw w.leasts-is (subst (λ s. AreFamilies rule e c.args.k (leasts_of s sets ends) (mosts_of s sets ends)) w.in-Shrink.is all)
     ]

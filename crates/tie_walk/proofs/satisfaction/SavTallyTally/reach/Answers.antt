@@ -15,8 +15,8 @@ use Rattle.tie_walk.proofs.satisfaction.SavTallyTally.reach.Goals as goal
 pub value-requires : goal.value-requires
 value-requires g c = IsIncreasing-higher 1 c.args.c c.args.self.now.m c.args.set c.requires.within c.requires.candidates
 
-pub last_reaching-requires-clause-small : goal.last_reaching-requires-clause-small
-last_reaching-requires-clause-small g c n =
+pub invariant_of-amounts-clause-small : goal.invariant_of-amounts-clause-small
+invariant_of-amounts-clause-small g c n =
     let e : Election = c.self.inside.profile.now in
     let t = c.self.inside in
     let shares : t.shares ≡ parts (common_multiple e.m) = c.self.invariant.shares_are ∙ ap parts c.self.invariant.denom_is in

@@ -1,5 +1,4 @@
-use Rattle.std.proofs.Common.{◌≡◌, ℕ, ◌^◌, ◌≤◌, ◌∙◌, Bool, true, false, cond, ap, arith, get_or}
-use Rattle.ballot_base.specs.CandSet.{has_member}
+use Rattle.std.proofs.Common.{◌≡◌, ℕ, ◌^◌, ◌≤◌, ◌∙◌, cond, ap, arith, get_or}
 use Rattle.ballot_base.specs.Ballots.{Election}
 use Rattle.ballot_base.specs.Increments.{increments}
 use Rattle.tie_walk.specs.Sequences.{gain}
@@ -53,17 +52,4 @@ returns-clause-gains g c n wanted =
     ∙ ap (λ (x : Thiele). gain (increments x.rule x.k) x.election.rows c.args.set n) same
 
 pub returns-clause-small : goal.returns-clause-small
-returns-clause-small g c n =
-    let t = c.self.inside in
-    let small : (i : ℕ) → get_or t.weights i 0 ≤ 2 ^ 84 = λ i. weights-small t.rule t.k t.weights i c.self.invariant.size c.self.invariant.weights_are in
-    omega (
-      arith,
-      c.widened.ensures.same n,
-      c.hits_and_gains.ensures.gains n,
-      part-most (has_member c.args.others n) (gain t.weights t.profile.now.rows c.args.set n),
-      gain-most t.profile.now t.weights c.args.set n (2 ^ 84) c.self.invariant.election small,
-    )
-  where
-    part-most : (b : Bool) (n : ℕ) → cond b n 0 ≤ n
-    part-most true n = omega arith
-    part-most false n = omega arith
+returns-clause-small g c n = omega (arith, c.widened.ensures.small n)

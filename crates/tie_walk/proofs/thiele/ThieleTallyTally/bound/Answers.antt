@@ -14,8 +14,8 @@ use Rattle.tie_walk.proofs.thiele.ThieleTallyTally.bound.Goals as goal
 pub value-requires : goal.value-requires
 value-requires g c = IsIncreasing-higher 1 c.args.c c.args.self.now.election.m c.args.set c.requires.within c.requires.candidates
 
-pub greatest_sum-requires-clause-small : goal.greatest_sum-requires-clause-small
-greatest_sum-requires-clause-small g c n = omega (arith, c.gains_after-value.ensures.small n)
+pub invariant_of-amounts-clause-small : goal.invariant_of-amounts-clause-small
+invariant_of-amounts-clause-small g c n = omega (arith, c.gains_after-value.ensures.small n)
 
 -- no candidate is left to add
 pub returns-then-left-eq0-clause-value : goal.returns-then-left-eq0-clause-value
