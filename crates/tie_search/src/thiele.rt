@@ -40,8 +40,8 @@ impl<'a, A: Allocator + Copy> Model for ThieleSearch<'a, A> {
 }
 
 impl<'a, A: Allocator + Copy + Drop> ThieleSearch<'a, A> {
-    /// Prepares a search among the committees of k. All memory that the search needs is taken here, at most 532,480
-    /// bytes from `alloc`, and none later. A failed allocation leaves nothing.
+    /// Prepares a search among the committees of k. All memory for it is taken here: at most 532,480 bytes, and 131,072
+    /// that are given back. A search takes none. A failed allocation leaves nothing.
     pub fn new(
         alloc: A,
         profile: &'a Profile<A>,
@@ -57,7 +57,7 @@ impl<'a, A: Allocator + Copy + Drop> ThieleSearch<'a, A> {
         let aids = Aids {
             clones: Clones::of(profile),
             columns: Columns::of(alloc, profile, rule, k)?,
-            prices: Prices::of(profile, &values, rule, k),
+            prices: Prices::of(alloc, profile, &values, rule, k)?,
             sums: HitSums::of(rule, k),
             use_of_pairs: UseOfPairs::none(),
         };
