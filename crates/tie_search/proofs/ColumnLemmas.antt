@@ -21,7 +21,7 @@ use Rattle.tie_walk.specs.Sequences.{gain, weight, supporters}
 use Rattle.tie_walk.specs.Values.{Thiele}
 use Rattle.tie_search.proofs.PriceLemmas.{hits-turned}
 use Rattle.tie_search.proofs.SearchLemmas.{rest-increasing}
-use Rattle.tie_search.specs.Steps.Columns.{block_voters, most_blocks, total, shared, voter_ballot, given, approves_some, word_before, IsBlock, AreByHits, AreColumns, AreColumnsOf, AreRising, voters_of}
+use Rattle.tie_search.specs.Steps.Columns.{block_voters, total, shared, voter_ballot, given, approves_some, word_before, IsBlock, AreByHits, AreColumns, AreColumnsOf, AreRising, voters_of}
 
 -- ---- sums over the first numbers
 
@@ -287,30 +287,30 @@ ballot-push (first ∷ ballots) ballot (suc v) =
       | inr other ↦ ne_eqb v (length ballots) other ∙ sym (ne_eqb (suc v) (suc (length ballots)) (λ e. other (omega (arith, e))))
     ])
 
-pub columns-push : (ballots blocks : List (List ℕ)) (block ballot : List ℕ) (b place : ℕ) → length ballots ≡ b * 64 + place → place < 64 → b < 128 → length blocks ≡ 128
+pub columns-push : (ballots blocks : List (List ℕ)) (block ballot : List ℕ) (b place : ℕ) → length ballots ≡ b * 64 + place → place < 64 → b < length blocks
     → AreColumns ballots blocks
     → ((c i : ℕ) → i < block_voters → bit_at (get_or block c 0) i ≡ cond ((i == place) && has_member ballot c) 1 (bit_at (get_or (get_or blocks b []) c 0) i))
     → AreColumns (ballots ++ ballot ∷ []) (set blocks b block)
-columns-push ballots blocks block ballot b place long low within room before new b' c i low' within' =
+columns-push ballots blocks block ballot b place long low within before new b' c i within' =
     elim (cases_eq b' b) [
       | inl here ↦
           ap (λ j. bit_at (get_or (get_or (set blocks b block) j []) c 0) i) here
-          ∙ ap (λ l. bit_at (get_or l c 0) i) (get_or-set_same blocks b block [] (omega (arith, within, room)))
+          ∙ ap (λ l. bit_at (get_or l c 0) i) (get_or-set_same blocks b block [] within)
           ∙ new c i within'
           ∙ elim (cases_eq i place) [
             | inl at ↦
                 ap (λ p. cond (p && has_member ballot c) 1 (bit_at (get_or (get_or blocks b []) c 0) i)) (eq-eqb i place at)
-                ∙ ap (λ n. cond (has_member ballot c) 1 n) (before b c i within within' ∙ ap (λ l. cond (has_member l c) 1 0) (past ballots (b * 64 + i) (omega (arith, at, long))))
+                ∙ ap (λ n. cond (has_member ballot c) 1 n) (before b c i within' ∙ ap (λ l. cond (has_member l c) 1 0) (past ballots (b * 64 + i) (omega (arith, at, long))))
                 ∙ sym (ap (λ l. cond (has_member l c) 1 0) (ballot-push ballots ballot (b' * 64 + i) ∙ ap (λ p. cond p ballot (voter_ballot ballots (b' * 64 + i))) (eq-eqb (b' * 64 + i) (length ballots) (omega (arith, at, long, here)))))
             | inr other ↦
                 ap (λ p. cond (p && has_member ballot c) 1 (bit_at (get_or (get_or blocks b []) c 0) i)) (ne_eqb i place other)
-                ∙ before b c i within within'
+                ∙ before b c i within'
                 ∙ ap (λ j. cond (has_member (voter_ballot ballots (j * 64 + i)) c) 1 0) (sym here)
                 ∙ sym (ap (λ l. cond (has_member l c) 1 0) (ballot-push ballots ballot (b' * 64 + i) ∙ ap (λ p. cond p ballot (voter_ballot ballots (b' * 64 + i))) (ne_eqb (b' * 64 + i) (length ballots) (λ e. other (omega (arith, e, long, here))))))
           ]
       | inr other ↦
           ap (λ l. bit_at (get_or l c 0) i) (get_or-set_other blocks b b' block [] other)
-          ∙ before b' c i low' within'
+          ∙ before b' c i within'
           ∙ sym (ap (λ l. cond (has_member l c) 1 0) (ballot-push ballots ballot (b' * 64 + i) ∙ ap (λ p. cond p ballot (voter_ballot ballots (b' * 64 + i))) (ne_eqb (b' * 64 + i) (length ballots) (λ e. other (omega (arith, e, long, low, within'))))))
     ]
   where
@@ -389,10 +389,10 @@ voters-rising m (row ∷ rows) most all v =
     rising-replicate row.1 row.0 (voters_of rows) (IsIncreasing-higher 1 m most_candidates row.0 most all.0) (voters-rising m rows most all.1) v
 
 -- the gain of a candidate, summed over all blocks
-pub columns-gain : (tally : Thiele) (blocks : List (List ℕ)) (used levels : ℕ) (weights set : List ℕ) (c : ℕ) → AreColumnsOf tally blocks used weights levels
-    → total (λ v. given weights set c (voter_ballot (voters_of tally.election.rows) v)) (used * block_voters) ≡ gain (increments tally.rule tally.k) tally.election.rows set c
-columns-gain tally blocks used levels weights set c is =
-    total-voters (given weights set c) refl (voters_of tally.election.rows) (used * block_voters) is.all
+pub columns-gain : (tally : Thiele) (blocks : List (List ℕ)) (levels : ℕ) (weights set : List ℕ) (c : ℕ) → AreColumnsOf tally blocks weights levels
+    → total (λ v. given weights set c (voter_ballot (voters_of tally.election.rows) v)) (length blocks * block_voters) ≡ gain (increments tally.rule tally.k) tally.election.rows set c
+columns-gain tally blocks levels weights set c is =
+    total-voters (given weights set c) refl (voters_of tally.election.rows) (length blocks * block_voters) is.all
     ∙ voters-sum (given weights set c) tally.election.rows
     ∙ gain-given weights (increments tally.rule tally.k) set c is.weights_are tally.election.rows
 
@@ -411,9 +411,9 @@ voters-part rows i row at =
     )
 
 -- one block of all
-pub block-at : (ballots blocks : List (List ℕ)) (b : ℕ) → b < most_blocks → AreColumns ballots blocks → AreRising ballots
+pub block-at : (ballots blocks : List (List ℕ)) (b : ℕ) → AreColumns ballots blocks → AreRising ballots
     → IsBlock (λ i. voter_ballot ballots (b * block_voters + i)) (get_or blocks b [])
-block-at ballots blocks b low held up = record {
+block-at ballots blocks b held up = record {
   rises = λ i. up (b * block_voters + i);
-  approves = λ c i within. held b c i low within;
+  approves = λ c i within. held b c i within;
 }

@@ -1,5 +1,5 @@
 -- Under the rule of Chamberlin and Courant no set is worth more than the number of voters who approve one of its members.
-use Rattle.std.proofs.Common.{◌≡◌, ℕ, zero, suc, ◌+◌, ◌*◌, ◌≤◌, ◌∙◌, cond, min, sum, sum_by, take, List, [], ◌∷◌, refl, ap, arith, inl, inr, get_or}
+use Rattle.std.proofs.Common.{◌≡◌, ℕ, zero, suc, ◌+◌, ◌*◌, ◌≤◌, ◌∙◌, cond, min, sum, sum_by, take, List, [], ◌∷◌, refl, ap, arith, inl, inr, length, get_or}
 use Rattle.std.proofs.Math.Nat.{mul-le-mul}
 use Rattle.std.proofs.lemmas.Bool.{cases_lt, ne_eqb}
 use Rattle.std.proofs.lemmas.List.Sums.{sum_by-cons}
@@ -44,12 +44,12 @@ rows-cover w set alone (row ∷ rows) =
       sum_by-cons (λ (r : Row). r.1 * approves_some set r.0) row rows,
     )
 
-pub columns-cover : (tally : Thiele) (blocks : List (List ℕ)) (used levels : ℕ) (weights set : List ℕ) → AreColumnsOf tally blocks used weights levels → tally.k ≤ most_members → tally.rule ≡ Cc
-    → tally_value tally set ≤ total (λ v. approves_some set (voter_ballot (voters_of tally.election.rows) v)) (used * block_voters)
-columns-cover tally blocks used levels weights set are size rule =
+pub columns-cover : (tally : Thiele) (blocks : List (List ℕ)) (levels : ℕ) (weights set : List ℕ) → AreColumnsOf tally blocks weights levels → tally.k ≤ most_members → tally.rule ≡ Cc
+    → tally_value tally set ≤ total (λ v. approves_some set (voter_ballot (voters_of tally.election.rows) v)) (length blocks * block_voters)
+columns-cover tally blocks levels weights set are size rule =
     omega (
       arith,
       rows-cover (increments tally.rule tally.k) set (λ x. rw rule (cc-alone tally.k x size)) tally.election.rows,
-      total-voters (approves_some set) refl (voters_of tally.election.rows) (used * block_voters) are.all,
+      total-voters (approves_some set) refl (voters_of tally.election.rows) (length blocks * block_voters) are.all,
       voters-sum (approves_some set) tally.election.rows,
     )

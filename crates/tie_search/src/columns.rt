@@ -4,9 +4,10 @@
 //! by one hit. The gain of a candidate is the sum, over numbers of hits, of the weight times the bits that word and
 //! column share. Only the candidates that are asked for are counted.
 //!
-//! There are no columns for more than 8,192 voters or more than two voters a row; then gains come from one pass over
-//! the rows. Sums are made in words of 64 bits if all weights are below 2^44, and in words of 128 bits otherwise.
-ghost use Rattle.std.specs.Prelude.{◌≡◌, ℕ, ◌+◌, ◌-◌, ◌*◌, ◌^◌, ◌<◌, ◌≤◌, ◌==◌, ◌&&◌, true, List, [], ◌∷◌, ◌++◌, length, replicate, slice_index, slice_index_or, MatchOption, ⊤, if◌then◌else◌};
+//! There are no columns for more than 65,536 voters or more than two voters a row; then gains come from one pass over
+//! the rows. Sums are made in words of 64 bits if all weights are below 2^44, and in words of 128 bits otherwise. The
+//! columns lie in memory that is taken once, when they are made.
+ghost use Rattle.std.specs.Prelude.{◌≡◌, ℕ, ◌+◌, ◌-◌, ◌*◌, ◌^◌, ◌<◌, ◌≤◌, ◌==◌, ◌&&◌, true, List, [], ◌∷◌, ◌++◌, length, replicate, slice_index, IfOk, MatchOption, ⊤, if◌then◌else◌};
 ghost use Rattle.std.specs.Int.{bit_at};
 ghost use Rattle.ballot_base.specs.Limits.{most_candidates, most_members};
 ghost use Rattle.ballot_base.specs.Lists.{IsIncreasing};
@@ -17,13 +18,13 @@ ghost use Rattle.tie_search.specs.Steps.Columns.{block_voters, most_blocks, tota
 
 use crate::weights::{HitWeights, Weights};
 use ballot_base::{CandSet, Increments, MOST_MEMBERS, PLACES, Profile, ThieleRule};
-use std::alloc::Allocator;
+use std::alloc::{AllocError, Allocator};
 
 /// How many voters share a word.
 const BLOCK_VOTERS: usize = 64;
 
-/// How many blocks of so many voters there may be: 8,192 voters.
-const MOST_BLOCKS: usize = 128;
+/// How many blocks of so many voters there may be: 65,536 voters.
+const MOST_BLOCKS: usize = 1024;
 
 /// With more voters a row than this, a pass over the rows is quicker than one over the blocks.
 const ROW_VOTERS: usize = 2;
@@ -125,54 +126,59 @@ fn given_by_large(
     sum
 }
 
-/// The block with a voter at a place: the bit of the place is set for each candidate whom the ballot approves.
-fn with_voter(block: &Block, place: u32, ballot: CandSet) -> Block
+/// Puts a voter at a place of a block: the bit of the place is set for each candidate whom the ballot approves.
+fn add_voter(block: &mut Block, place: u32, ballot: CandSet)
     requires { place < block_voters }
-    ensures { (c i : ℕ) → i < block_voters → bit_at (slice_index result c) i
-        ≡ (if (i == place) && has_member ballot c then 1 else bit_at (slice_index block.now c) i) }
+    ensures { (c i : ℕ) → i < block_voters → bit_at (slice_index block.new c) i
+        ≡ (if (i == place) && has_member ballot c then 1 else bit_at (slice_index block.old c) i) }
 {
-    let mut with = *block;
     for candidate in ballot.members() {
-        with[usize::from(candidate)] |= 1 << place;
+        block[usize::from(candidate)] |= 1 << place;
     }
-    with
 }
 
 /// Puts the voters of a row after so many others.
-fn add_row(blocks: &mut [Block; MOST_BLOCKS], voters: usize, ballot: CandSet, count: usize)
-    requires { voters + count ≤ most_blocks * block_voters }
-    ensures { (ballots : List (List ℕ)) → length ballots ≡ voters → AreColumns ballots blocks.old
+fn add_row(blocks: &mut [Block], voters: usize, ballot: CandSet, count: usize)
+    requires { voters + count ≤ length blocks.old * block_voters }
+    ensures kept { length blocks.new ≡ length blocks.old }
+    ensures added { (ballots : List (List ℕ)) → length ballots ≡ voters → AreColumns ballots blocks.old
         → AreColumns (ballots ++ replicate count ballot) blocks.new }
 {
     for passed in 0..count {
         let voter = voters + passed;
-        let at = voter / BLOCK_VOTERS;
         let place = (voter % BLOCK_VOTERS) as u32;
-        blocks[at] = with_voter(&blocks[at], place, ballot);
+        add_voter(&mut blocks[voter / BLOCK_VOTERS], place, ballot);
     }
 }
 
-/// Blocks in which no voter approves anyone.
-fn no_voters() -> [Block; MOST_BLOCKS]
-    ensures long { length result ≡ most_blocks }
-    ensures none { AreColumns [] result }
+/// Blocks in which no voter approves anyone, as many as so many voters need.
+fn no_voters<A: Allocator + Drop>(alloc: A, voters: usize) -> Result<Vec<Block, A>, AllocError>
+    requires { voters ≤ most_blocks * block_voters }
+    ensures few { IfOk result (λ blocks. length blocks.items ≤ most_blocks) }
+    ensures all { IfOk result (λ blocks. voters ≤ length blocks.items * block_voters) }
+    ensures none { IfOk result (λ blocks. AreColumns [] blocks.items) }
 {
-    [[0; PLACES]; MOST_BLOCKS]
+    vec![in alloc; [0; PLACES]; voters.div_ceil(BLOCK_VOTERS)]
 }
 
-/// The voters of a profile, in blocks.
-fn blocks_of<A: Allocator + Copy>(profile: &Profile<A>) -> [Block; MOST_BLOCKS]
+/// The voters of a profile, in as many blocks as they need.
+fn blocks_of<A: Allocator + Copy + Drop>(
+    alloc: A,
+    profile: &Profile<A>,
+) -> Result<Vec<Block, A>, AllocError>
     requires { voter_count profile.now.rows ≤ most_blocks * block_voters }
-    ensures { AreColumns (voters_of profile.now.rows) result }
+    ensures few { IfOk result (λ blocks. length blocks.items ≤ most_blocks) }
+    ensures all { IfOk result (λ blocks. voter_count profile.now.rows ≤ length blocks.items * block_voters) }
+    ensures columns { IfOk result (λ blocks. AreColumns (voters_of profile.now.rows) blocks.items) }
 {
-    let mut blocks = no_voters();
+    let mut blocks = no_voters(alloc, profile.voters() as usize)?;
     let mut voters = 0;
     for (ballot, count) in profile.ballots() {
         let count = count as usize;
         add_row(&mut blocks, voters, ballot, count);
         voters += count;
     }
-    blocks
+    Ok(blocks)
 }
 
 /// Up to which hit something is given.
@@ -191,80 +197,81 @@ fn last_level(weights: &[u128; MOST_MEMBERS as usize]) -> usize
 
 /// The ballots of a profile, candidate by candidate, and what is given for each hit.
 #[derive(Drop)]
-pub(crate) struct Columns {
-    pub(crate) blocks: [Block; MOST_BLOCKS],
-    pub(crate) used: usize,
+pub(crate) struct Columns<A: Allocator> {
+    pub(crate) blocks: Vec<Block, A>,
     pub(crate) weights: HitWeights,
     pub(crate) levels: usize,
 }
 
-impl Columns {
-    /// The ballots of a profile, if there is room for so many voters. If many voters cast the same ballots, a pass over
+impl<A: Allocator + Copy + Drop> Columns<A> {
+    /// The ballots of a profile, if there are not too many voters. If many voters cast the same ballots, a pass over
     /// the rows is quicker.
-    pub(crate) fn of<A: Allocator + Copy>(
+    pub(crate) fn of(
+        alloc: A,
         profile: &Profile<A>,
         rule: ThieleRule,
         k: u8,
-    ) -> Option<Columns>
+    ) -> Result<Option<Columns<A>>, AllocError>
         requires some { 1 ≤ k }
         requires size { k ≤ most_members }
-        ensures { MatchOption result ⊤ (λ columns. AreColumnsOf (thiele_of profile.now rule k)
-            columns.blocks columns.used columns.weights columns.levels) }
+        ensures { IfOk result (λ kept. MatchOption kept ⊤ (λ columns. AreColumnsOf (thiele_of profile.now rule k)
+            columns.blocks.items columns.weights columns.levels)) }
     {
         let voters = profile.voters() as usize;
         if voters > MOST_BLOCKS * BLOCK_VOTERS || voters / ROW_VOTERS > profile.rows() {
-            return None;
+            return Ok(None);
         }
         let weights = Increments::of(rule, k).w;
-        Some(Columns {
-            blocks: blocks_of(profile),
-            used: voters.div_ceil(BLOCK_VOTERS),
+        Ok(Some(Columns {
+            blocks: blocks_of(alloc, profile)?,
             weights: HitWeights::of(&weights),
             levels: last_level(&weights),
-        })
+        }))
     }
+}
 
+impl<A: Allocator> Columns<A> {
     /// What the set gains by each candidate of `among`, at the candidate's number.
     pub(crate) fn gains_of(&self, set: CandSet, among: CandSet) -> [u128; PLACES]
-        requires used { self.now.used ≤ most_blocks }
+        requires few { length self.now.blocks.items ≤ most_blocks }
         requires weights { AreWeights self.now.weights self.now.levels }
-        ensures gains { (ballots : List (List ℕ)) → AreColumns ballots self.now.blocks → AreRising ballots
+        ensures gains { (ballots : List (List ℕ)) → AreColumns ballots self.now.blocks.items → AreRising ballots
             → (c : ℕ) → has_member among c ≡ true → slice_index result c
-            ≡ total (λ v. given self.now.weights set c (voter_ballot ballots v)) (self.now.used * block_voters) }
-        ensures small { (c : ℕ) → slice_index result c ≤ 2 ^ 104 }
+            ≡ total (λ v. given self.now.weights set c (voter_ballot ballots v))
+            (length self.now.blocks.items * block_voters) }
+        ensures small { (c : ℕ) → slice_index result c ≤ 2 ^ 106 }
     {
         let mut gains = [0; PLACES];
-        for b in 0..self.used {
-            self.add_block(&mut gains, b, set, among);
+        for block in &self.blocks {
+            self.add_block(&mut gains, block, set, among);
         }
         gains
     }
 
     /// How many voters approve a member of the set.
     pub(crate) fn covered(&self, set: CandSet) -> usize
-        requires used { self.now.used ≤ most_blocks }
-        ensures { (ballots : List (List ℕ)) → AreColumns ballots self.now.blocks → AreRising ballots
-            → result ≡ total (λ v. approves_some set (voter_ballot ballots v)) (self.now.used * block_voters) }
+        requires few { length self.now.blocks.items ≤ most_blocks }
+        ensures { (ballots : List (List ℕ)) → AreColumns ballots self.now.blocks.items → AreRising ballots
+            → result ≡ total (λ v. approves_some set (voter_ballot ballots v))
+            (length self.now.blocks.items * block_voters) }
     {
         let mut covered = 0;
-        for b in 0..self.used {
-            covered += BLOCK_VOTERS - uncovered(&self.blocks[b], set).count_ones() as usize;
+        for block in &self.blocks {
+            covered += BLOCK_VOTERS - uncovered(block, set).count_ones() as usize;
         }
         covered
     }
 
     /// Adds to the gains of the candidates of `among` what the voters of a block give. No voter has more hits than the
     /// set has members.
-    fn add_block(&self, gains: &mut [u128; PLACES], b: usize, set: CandSet, among: CandSet)
-        requires block { b < most_blocks }
+    fn add_block(&self, gains: &mut [u128; PLACES], block: &Block, set: CandSet, among: CandSet)
         requires weights { AreWeights self.now.weights self.now.levels }
-        requires fits { (c : ℕ) → slice_index gains.old c < 2 ^ 104 }
-        ensures sum { (ballot_at : ℕ → List ℕ) → IsBlock ballot_at (slice_index_or self.now.blocks b [])
+        requires fits { (c : ℕ) → slice_index gains.old c < 2 ^ 106 }
+        ensures sum { (ballot_at : ℕ → List ℕ) → IsBlock ballot_at block.now
             → (c : ℕ) → has_member among c ≡ true → slice_index gains.new c
             ≡ slice_index gains.old c + total (λ i. given self.now.weights set c (ballot_at i)) block_voters }
         ensures most { (c : ℕ) → slice_index gains.new c ≤ slice_index gains.old c + most_members * 2 ^ 90 }
     {
-        let block = &self.blocks[b];
         let levels = self.levels.min(usize::from(set.len()) + 1);
         let words = by_hits(block, set, levels);
         for candidate in among.members() {

@@ -5,17 +5,17 @@
 //! In up to 100 rounds the multiplier of a ballot goes up if the committee of the highest-priced candidates hits it too
 //! rarely, and down if too often. The best committee met on the way is what the search for the greatest value begins
 //! with. Only the range of the multipliers is proved, since prices bound values whatever the multipliers are.
-ghost use Rattle.std.specs.Prelude.{◌≡◌, ℕ, ◌^◌, ◌<◌, ◌≤◌, length, slice_index};
+ghost use Rattle.std.specs.Prelude.{◌≡◌, ℕ, ◌^◌, ◌<◌, ◌≤◌, length, slice_index, IfOk};
 ghost use Rattle.ballot_base.specs.Limits.{most_candidates};
 ghost use Rattle.ballot_base.specs.Lists.{IsIncreasing};
 ghost use Rattle.tie_search.specs.Steps.Priced.{most_rows};
 
 use crate::order::Order;
-use crate::prices::{MOST_ROWS, Multipliers, SCALE, base_of, prices_of};
+use crate::prices::{SCALE, base_of, prices_of};
 use crate::search::excess;
-use crate::weights::Weights;
+use crate::weights::{RoundedWeights, Weights};
 use ballot_base::{CandSet, MOST_MEMBERS, PLACES, Profile};
-use std::alloc::Allocator;
+use std::alloc::{AllocError, Allocator};
 use tie_walk::{Tally, ThieleTally, those_after};
 
 /// How often the multipliers are moved at most.
@@ -27,24 +27,26 @@ const PATIENCE: u8 = 8;
 /// The length of a step is counted in parts of which so many are the whole gap.
 const WHOLE: u128 = 16;
 
-/// Multipliers by which the bound of all committees of k is low, and a good committee that was met on the way. The
-/// weights count in units of this many of the values' own.
-pub(crate) fn chosen<A: Allocator + Copy>(
+/// Multipliers by which the bound of all committees of k is low, a multiplier for each row, and a good committee that
+/// was met on the way.
+pub(crate) fn chosen<A: Allocator + Copy + Drop>(
+    alloc: A,
     profile: &Profile<A>,
     values: &ThieleTally<A>,
-    weights: &Weights,
-    unit: u128,
+    rounded: &RoundedWeights,
     k: u8,
-) -> (Multipliers, CandSet)
-    requires unit { 1 ≤ unit }
+) -> Result<(Vec<u64, A>, CandSet), AllocError>
+    requires unit { 1 ≤ rounded.now.unit }
     requires rows { length profile.now.rows ≤ most_rows }
-    requires weights { (j : ℕ) → slice_index weights.now j < 2 ^ 44 }
-    ensures { (i : ℕ) → slice_index result.0 i ≤ 2 ^ 56 }
+    requires weights { (j : ℕ) → slice_index rounded.now.weights j < 2 ^ 44 }
+    ensures each { IfOk result (λ chosen. length chosen.0.items ≡ length profile.now.rows) }
+    ensures small { IfOk result (λ chosen. (i : ℕ) → slice_index chosen.0.items i ≤ 2 ^ 56) }
 {
+    let weights = &rounded.weights;
     let m = values.m();
     let scale = u128::from(SCALE);
-    let mut multipliers = alike(SCALE * weights[0] / 2);
-    let mut best = multipliers;
+    let mut multipliers = alike(alloc, profile.rows(), SCALE * weights[0] / 2)?;
+    let mut best = Vec::from_slice(alloc, &multipliers)?;
     let mut lowest = u128::MAX;
     let mut committee = CandSet::empty();
     let mut value = 0;
@@ -54,14 +56,14 @@ pub(crate) fn chosen<A: Allocator + Copy>(
         let worths = prices_of(profile, &multipliers);
         let dearest = dearest(&worths, m, k);
         let bound = base_of(profile, weights, &multipliers) + excess(&worths, dearest, 0);
-        let reached = (values.value(dearest) / unit).saturating_mul(scale);
+        let reached = (values.value(dearest) / rounded.unit).saturating_mul(scale);
         if reached > value {
             committee = dearest;
             value = reached;
         }
         stalled += 1;
         if bound < lowest {
-            best = multipliers;
+            best.copy_from_slice(&multipliers);
             lowest = bound;
             stalled = 0;
         }
@@ -72,20 +74,25 @@ pub(crate) fn chosen<A: Allocator + Copy>(
             let gap = bound.saturating_sub(value).saturating_mul(pace) / WHOLE;
             step(profile, weights, &mut multipliers, dearest, gap);
         } else {
-            multipliers = best;
+            multipliers.copy_from_slice(&best);
             pace /= 2;
             stalled = 0;
         }
     }
-    (best, committee)
+    Ok((best, committee))
 }
 
-/// The same multiplier for each row.
-fn alike(multiplier: u64) -> Multipliers
+/// The same multiplier for each of so many rows.
+fn alike<A: Allocator + Drop>(
+    alloc: A,
+    rows: usize,
+    multiplier: u64,
+) -> Result<Vec<u64, A>, AllocError>
     requires { multiplier ≤ 2 ^ 56 }
-    ensures { (i : ℕ) → slice_index result i ≤ 2 ^ 56 }
+    ensures each { IfOk result (λ multipliers. length multipliers.items ≡ rows) }
+    ensures small { IfOk result (λ multipliers. (i : ℕ) → slice_index multipliers.items i ≤ 2 ^ 56) }
 {
-    [multiplier; MOST_ROWS]
+    vec![in alloc; multiplier; rows]
 }
 
 /// The `count` candidates of the greatest worth.
@@ -110,14 +117,15 @@ fn dearest(worths: &[u128; PLACES], m: u8, count: u8) -> CandSet
 fn step<A: Allocator + Copy>(
     profile: &Profile<A>,
     weights: &Weights,
-    multipliers: &mut Multipliers,
+    multipliers: &mut [u64],
     committee: CandSet,
     gap: u128,
 )
-    requires rows { length profile.now.rows ≤ most_rows }
+    requires each { length multipliers.old ≡ length profile.now.rows }
     requires weights { (j : ℕ) → slice_index weights.now j < 2 ^ 44 }
     requires before { (i : ℕ) → slice_index multipliers.old i ≤ 2 ^ 56 }
-    ensures { (i : ℕ) → slice_index multipliers.new i ≤ 2 ^ 56 }
+    ensures kept { length multipliers.new ≡ length multipliers.old }
+    ensures small { (i : ℕ) → slice_index multipliers.new i ≤ 2 ^ 56 }
 {
     let mut square: u128 = 1;
     for i in 0..profile.rows() {

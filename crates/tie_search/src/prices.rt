@@ -5,7 +5,7 @@
 //! committee has more value than the `base` and the prices of its members (`specs/Prices.antt`, `laws::prices`). Values
 //! are scaled by 4,096, so that there are multipliers between two increments. Large weights are rounded up to units in
 //! which they are below 2^44. There are no prices for more than 8,192 different ballots.
-ghost use Rattle.std.specs.Prelude.{◌≡◌, ℕ, ◌+◌, ◌^◌, ◌<◌, ◌≤◌, length, slice_index, MatchOption, ⊤};
+ghost use Rattle.std.specs.Prelude.{◌≡◌, ℕ, ◌+◌, ◌^◌, ◌<◌, ◌≤◌, length, slice_index, IfOk, MatchOption, ⊤};
 ghost use Rattle.ballot_base.specs.Ballots.{IsElection};
 ghost use Rattle.ballot_base.specs.Limits.{most_candidates, most_members};
 ghost use Rattle.tie_walk.specs.Values.{thiele_of};
@@ -17,7 +17,7 @@ use crate::order::Order;
 use crate::search::excess;
 use crate::weights::{Weights, rounded_weights};
 use ballot_base::{CandSet, Increments, PLACES, Profile, ThieleRule};
-use std::alloc::Allocator;
+use std::alloc::{AllocError, Allocator};
 use tie_walk::{Tally, ThieleTally, add_to_members, those_after};
 
 /// What hits give is multiplied by this, so that there are multipliers between two increments.
@@ -25,9 +25,6 @@ pub(crate) const SCALE: u64 = 4096;
 
 /// For how many rows multipliers are chosen at most.
 pub(crate) const MOST_ROWS: usize = 8192;
-
-/// A multiplier for each row, at the row's number.
-pub(crate) type Multipliers = [u64; MOST_ROWS];
 
 /// The price of each candidate, at its number: times the scale, all voters together give a committee no more units than
 /// what they keep and the prices of its members.
@@ -44,33 +41,36 @@ pub(crate) struct Prices {
 }
 
 impl Prices {
-    /// The prices by multipliers that make them low. None if there is no room for this many rows.
-    pub(crate) fn of<A: Allocator + Copy>(
+    /// The prices by multipliers that make them low, which take memory meanwhile. None if there are too many rows.
+    pub(crate) fn of<A: Allocator + Copy + Drop>(
+        alloc: A,
         profile: &Profile<A>,
         values: &ThieleTally<A>,
         rule: ThieleRule,
         k: u8,
-    ) -> Option<Prices>
+    ) -> Result<Option<Prices>, AllocError>
         requires some { 1 ≤ k }
         requires size { k ≤ most_members }
-        ensures prices { MatchOption result ⊤ (λ prices.
-            ArePrices (thiele_of profile.now rule k) prices.unit prices.base prices.worths) }
+        ensures prices { IfOk result (λ made. MatchOption made ⊤ (λ prices.
+            ArePrices (thiele_of profile.now rule k) prices.unit prices.base prices.worths)) }
         ensures election { IsElection profile.now }
     {
         if profile.rows() > MOST_ROWS {
-            return None;
+            return Ok(None);
         }
-        let (weights, unit) = rounded_weights(&Increments::of(rule, k).w)?;
-        let (multipliers, committee) = chosen(profile, values, &weights, unit, k);
+        let Some(rounded) = rounded_weights(&Increments::of(rule, k).w) else {
+            return Ok(None);
+        };
+        let (multipliers, committee) = chosen(alloc, profile, values, &rounded, k)?;
         let worths = prices_of(profile, &multipliers);
         let candidates = those_after(0, profile.m());
-        Some(Prices {
-            unit,
-            base: base_of(profile, &weights, &multipliers),
+        Ok(Some(Prices {
+            unit: rounded.unit,
+            base: base_of(profile, &rounded.weights, &multipliers),
             worths,
             order: Order::by_worth(candidates, &worths),
             committee,
-        })
+        }))
     }
 }
 
@@ -97,9 +97,10 @@ fn kept(weights: &Weights, multiplier: u64, size: u8) -> u64
 pub(crate) fn base_of<A: Allocator + Copy>(
     profile: &Profile<A>,
     weights: &Weights,
-    multipliers: &Multipliers,
+    multipliers: &[u64],
 ) -> u128
     requires rows { length profile.now.rows ≤ most_rows }
+    requires each { length multipliers.now ≡ length profile.now.rows }
     requires weights { (j : ℕ) → slice_index weights.now j < 2 ^ 44 }
     requires multipliers { (i : ℕ) → slice_index multipliers.now i ≤ 2 ^ 56 }
     ensures value { result ≡ base weights.now scale (priced_by (slice_index multipliers.now) profile.now.rows) }
@@ -116,9 +117,10 @@ pub(crate) fn base_of<A: Allocator + Copy>(
 /// The price of each candidate, at its number.
 pub(crate) fn prices_of<A: Allocator + Copy>(
     profile: &Profile<A>,
-    multipliers: &Multipliers,
+    multipliers: &[u64],
 ) -> [u128; PLACES]
     requires rows { length profile.now.rows ≤ most_rows }
+    requires each { length multipliers.now ≡ length profile.now.rows }
     requires multipliers { (i : ℕ) → slice_index multipliers.now i ≤ 2 ^ 56 }
     ensures value { (n : ℕ) → n ≤ most_candidates → slice_index result n
         ≡ price (priced_by (slice_index multipliers.now) profile.now.rows) n }

@@ -54,9 +54,9 @@ use tie_walk::{Tally, ThieleTally};
 /// What a search is helped by: who are clones; columns and prices, if they are worth their making; and what hits give,
 /// for majorants.
 #[derive(Drop)]
-pub(crate) struct Aids {
+pub(crate) struct Aids<A: Allocator> {
     pub(crate) clones: Clones,
-    pub(crate) columns: Option<Columns>,
+    pub(crate) columns: Option<Columns<A>>,
     pub(crate) prices: Option<Prices>,
     pub(crate) sums: Option<HitSums>,
     pub(crate) use_of_pairs: UseOfPairs,
@@ -125,7 +125,7 @@ pub(crate) struct Node {
 pub(crate) struct Search<'a, A: Allocator + Copy> {
     pub(crate) profile: &'a Profile<A>,
     pub(crate) tally: &'a ThieleTally<'a, A>,
-    pub(crate) aids: &'a Aids,
+    pub(crate) aids: &'a Aids<A>,
     pub(crate) least: u128,
     // Whether pairs are counted. A search that ends after few sets is quicker without.
     pub(crate) counts_pairs: bool,

@@ -1,5 +1,5 @@
 //! Thiele's rules as values that can be searched.
-ghost use Rattle.std.specs.Prelude.{◌≡◌, ℕ, ◌≤◌};
+ghost use Rattle.std.specs.Prelude.{◌≡◌, ℕ, ◌≤◌, IfOk};
 ghost use Rattle.ballot_base.specs.Limits.{most_members};
 ghost use Rattle.tie_walk.specs.Values.{thiele_of};
 ghost use Rattle.tie_walk.specs.Winners.{best_value};
@@ -15,7 +15,7 @@ use crate::prices::Prices;
 use crate::search::{Aids, Search, UseOfPairs};
 use crate::searchable::Searchable;
 use ballot_base::{CandSet, Clones, Profile, ThieleRule};
-use std::alloc::{Allocator, Global};
+use std::alloc::{AllocError, Allocator, Global};
 use std::marker::Model;
 use tie_walk::{Tally, ThieleTally};
 
@@ -25,7 +25,7 @@ use tie_walk::{Tally, ThieleTally};
 pub struct ThieleSearch<'a, A: Allocator + Copy = Global> {
     profile: &'a Profile<A>,
     values: ThieleTally<'a, A>,
-    aids: Aids,
+    aids: Aids<A>,
     // A committee to begin with.
     good: Good,
 }
@@ -42,31 +42,39 @@ impl<'a, A: Allocator + Copy> Model for ThieleSearch<'a, A> {
     ghost invariant = { λ t. (t.profile.now ≡ t.values.election) × IsAided t.values t.aids };
 }
 
-impl<'a, A: Allocator + Copy> ThieleSearch<'a, A> {
-    /// Prepares a search among the committees of k. It takes no memory.
-    pub fn new(profile: &'a Profile<A>, rule: ThieleRule, k: u8) -> ThieleSearch<'a, A>
+impl<'a, A: Allocator + Copy + Drop> ThieleSearch<'a, A> {
+    /// Prepares a search among the committees of k. All memory for it is taken here: at most 532,480 bytes, and 131,072
+    /// that are given back. A search takes none. A failed allocation leaves nothing.
+    pub fn new(
+        alloc: A,
+        profile: &'a Profile<A>,
+        rule: ThieleRule,
+        k: u8,
+    ) -> Result<ThieleSearch<'a, A>, AllocError>
         requires some { 1 ≤ k }
         requires size { k ≤ most_members }
         requires fits { k ≤ profile.now.m }
-        ensures { result ≡ thiele_of profile.now rule k }
+        ensures { IfOk result (λ search. search ≡ thiele_of profile.now rule k) }
     {
         let values = ThieleTally::new(profile, rule, k);
         let aids = Aids {
             clones: Clones::of(profile),
-            columns: Columns::of(profile, rule, k),
-            prices: Prices::of(profile, &values, rule, k),
+            columns: Columns::of(alloc, profile, rule, k)?,
+            prices: Prices::of(alloc, profile, &values, rule, k)?,
             sums: HitSums::of(rule, k),
             use_of_pairs: UseOfPairs::none(),
         };
         let good = good_committee(profile, &values, &aids, k);
-        ThieleSearch {
+        Ok(ThieleSearch {
             profile,
             values,
             aids,
             good,
-        }
+        })
     }
+}
 
+impl<'a, A: Allocator + Copy> ThieleSearch<'a, A> {
     /// The value of a good committee of k, 0 if none is known.
     fn good_value(&self, k: u8) -> u128
         requires some { 1 ≤ k }
@@ -143,7 +151,7 @@ impl<'a, A: Allocator + Copy> Searchable for ThieleSearch<'a, A> {
 fn good_committee<A: Allocator + Copy>(
     profile: &Profile<A>,
     values: &ThieleTally<A>,
-    aids: &Aids,
+    aids: &Aids<A>,
     k: u8,
 ) -> Good
     requires ballots { profile.now ≡ values.now.election }

@@ -57,11 +57,20 @@ fn small_weights(weights: &[u128; MOST_MEMBERS as usize]) -> Option<Weights>
     Some(small)
 }
 
-/// The weights in larger units, rounded up, and how large a unit is: 1 if none of the weights is too large. (None only
-/// if a later weight were larger than the first, which no rule has.)
-pub(crate) fn rounded_weights(weights: &[u128; MOST_MEMBERS as usize]) -> Option<(Weights, u128)>
-    ensures { MatchOption result ⊤ (λ rounded. (1 ≤ rounded.1) × AreRounded weights.now rounded.1 rounded.0
-        × ((j : ℕ) → slice_index rounded.0 j < 2 ^ 44)) }
+/// Weights in larger units, rounded up.
+#[derive(Drop)]
+pub(crate) struct RoundedWeights {
+    pub(crate) weights: Weights,
+    // How large a unit is: 1 if none of the weights is too large.
+    pub(crate) unit: u128,
+}
+
+/// The weights in larger units, rounded up. (None only if a later weight were larger than the first, which no rule
+/// has.)
+pub(crate) fn rounded_weights(weights: &[u128; MOST_MEMBERS as usize]) -> Option<RoundedWeights>
+    ensures { MatchOption result ⊤ (λ rounded. (1 ≤ rounded.unit)
+        × AreRounded weights.now rounded.unit rounded.weights
+        × ((j : ℕ) → slice_index rounded.weights j < 2 ^ 44)) }
 {
     let unit = weights[0] / (LARGE_WEIGHT - 1) + 1;
     let mut rounded = [0; MOST_MEMBERS as usize];
@@ -72,5 +81,8 @@ pub(crate) fn rounded_weights(weights: &[u128; MOST_MEMBERS as usize]) -> Option
         }
         rounded[j] = weight as u64;
     }
-    Some((rounded, unit))
+    Some(RoundedWeights {
+        weights: rounded,
+        unit,
+    })
 }

@@ -37,7 +37,8 @@ pub(crate) fn answer_election<A: Allocator + Copy + Drop, W: Sink>(
             listing.write_scored(out, &tally, ScoredRule::Thiele(ThieleRule::Av))?;
         }
         Rule::Scored(ScoredRule::Thiele(thiele)) => {
-            let tally = ExactTally::new(ThieleSearch::new(profile, thiele, size), size);
+            let search = ThieleSearch::new(alloc, profile, thiele, size)?;
+            let tally = ExactTally::new(search, size);
             listing.write_scored(out, &tally, ScoredRule::Thiele(thiele))?;
         }
         Rule::Scored(ScoredRule::Satisfaction) => {

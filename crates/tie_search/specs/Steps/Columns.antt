@@ -13,7 +13,7 @@ abbrev pub block_voters : ℕ
 block_voters = 64
 
 abbrev pub most_blocks : ℕ
-most_blocks = 128
+most_blocks = 1024
 
 -- the ballots of the voters, each as often as it was cast
 abbrev pub voters_of : List Row → List (List ℕ)
@@ -51,7 +51,7 @@ pub record IsBlock (ballot_at : ℕ → List ℕ) (block : List ℕ) : Type 0 wh
 
 -- the blocks hold who approves each candidate, of all voters
 abbrev pub AreColumns : List (List ℕ) → List (List ℕ) → Type 0
-AreColumns ballots blocks = (b c i : ℕ) → b < most_blocks → i < block_voters
+AreColumns ballots blocks = (b c i : ℕ) → i < block_voters
     → bit_at (slice_index (get_or blocks b []) c) i
     ≡ (if has_member (voter_ballot ballots (b * block_voters + i)) c then 1 else 0)
 
@@ -76,10 +76,9 @@ abbrev pub AreRising : List (List ℕ) → Type 0
 AreRising ballots = (v : ℕ) → IsIncreasing 1 most_candidates (voter_ballot ballots v)
 
 -- what is kept of an election: all its voters in blocks, and what each hit gives
-pub record AreColumnsOf (tally : Thiele) (blocks : List (List ℕ)) (used : ℕ) (weights : List ℕ) (levels : ℕ) : Type 0
-  where
-    pub few : used ≤ most_blocks
-    pub all : length (voters_of tally.election.rows) ≤ used * block_voters
-    pub columns : AreColumns (voters_of tally.election.rows) blocks
-    pub sound : AreWeights weights levels
-    pub weights_are : (j : ℕ) → slice_index weights j ≡ slice_index (increments tally.rule tally.k) j
+pub record AreColumnsOf (tally : Thiele) (blocks : List (List ℕ)) (weights : List ℕ) (levels : ℕ) : Type 0 where
+  pub few : length blocks ≤ most_blocks
+  pub all : length (voters_of tally.election.rows) ≤ length blocks * block_voters
+  pub columns : AreColumns (voters_of tally.election.rows) blocks
+  pub sound : AreWeights weights levels
+  pub weights_are : (j : ℕ) → slice_index weights j ≡ slice_index (increments tally.rule tally.k) j

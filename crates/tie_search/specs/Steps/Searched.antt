@@ -15,12 +15,12 @@ use Rattle.tie_search.specs.Steps.Priced.{IsPriced}
 use Rattle.tie_search.specs.Tied.{AreBest}
 
 -- the columns are those of the election, where they are kept
-abbrev pub KeepsColumns : Thiele → Option Columns → Type 0
+abbrev pub KeepsColumns : {A : Type 0} → Thiele → Option (Columns A) → Type 0
 KeepsColumns tally columns = MatchOption columns ⊤ (λ kept.
-    AreColumnsOf tally kept.blocks kept.used kept.weights kept.levels)
+    AreColumnsOf tally kept.blocks.items kept.weights kept.levels)
 
 -- the values are those of an election, and what a search is helped by is of it
-pub record IsAided (tally : Thiele) (aids : Aids) : Type 0 where
+pub record IsAided {A : Type 0} (tally : Thiele) (aids : Aids A) : Type 0 where
   pub election : IsElection tally.election
   pub size : tally.k ≤ most_members
   pub clones : AreClones tally.election.m tally.election.rows aids.clones

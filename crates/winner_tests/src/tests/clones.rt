@@ -84,7 +84,8 @@ fn fitting(seats: u8, m: u8) -> u8
 fn assert_as_dhondt(rt: &impl Abort, alloc: Global, lists: Lists<'_>) {
     let profile = lists.election(rt, alloc);
     let k = fitting(lists.seats, profile.m());
-    let tally = ExactTally::new(ThieleSearch::new(&profile, ThieleRule::Pav, k), k);
+    let search = ThieleSearch::new(alloc, &profile, ThieleRule::Pav, k).expect(rt, "memory");
+    let tally = ExactTally::new(search, k);
     let seats = u16::from(lists.seats);
     let allocations = match Shares::new(lists.votes, Method::Dhondt, seats, None) {
         Ok(allocations) => allocations,
@@ -157,7 +158,7 @@ fn random_classes(rt: HostRuntime) {
             for i in 0..ballots.len() {
                 ballots[i].0 = spread(sizes, ballots[i].0);
             }
-            assert_all_same(&rt, &election_of(&rt, rt.alloc(), 8, &ballots));
+            assert_all_same(&rt, rt.alloc(), &election_of(&rt, rt.alloc(), 8, &ballots));
         }
     }
 }
@@ -184,7 +185,8 @@ fn assert_ends(rt: &impl Abort, alloc: Global, rule: ThieleRule, lists: Lists<'_
     let profile = lists.election(rt, alloc);
     let m = profile.m();
     let k = fitting(lists.seats, m);
-    let tally = ExactTally::new(ThieleSearch::new(&profile, rule, k), k);
+    let search = ThieleSearch::new(alloc, &profile, rule, k).expect(rt, "memory");
+    let tally = ExactTally::new(search, k);
     for start in [None, Some(second_committee(m, k))] {
         let found = Winners::new(&tally, m, k, start).take(1000).count();
         assert_eq!(rt; found, 1000, "{rule:?} {k} of {m}");

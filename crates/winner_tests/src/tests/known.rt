@@ -4,6 +4,7 @@ ghost use Rattle.std.specs.Prelude.{◌≤◌};
 
 use super::support::election_of;
 use ballot_base::{Profile, ThieleRule};
+use std::alloc::Global;
 use std::process::Abort;
 use tie_search::{ExactTally, MinimaxSearch, ThieleSearch};
 use tie_walk::{Tally, Winners};
@@ -91,17 +92,13 @@ const RULES: [ThieleRule; 5] = [
 ];
 
 /// Asserts the greatest values times their denominators, and the numbers of winners, under these rules.
-fn assert_thiele(rt: &impl Abort, profile: &Profile, known: [(u128, usize); 5])
+fn assert_thiele(rt: &impl Abort, alloc: Global, profile: &Profile, known: [(u128, usize); 5])
     requires { SIZE ≤ profile.now.m }
 {
     for i in 0..RULES.len() {
         let (best, winners) = known[i];
-        assert_known(
-            rt,
-            &ExactTally::new(ThieleSearch::new(profile, RULES[i], SIZE), SIZE),
-            best,
-            winners,
-        );
+        let search = ThieleSearch::new(alloc, profile, RULES[i], SIZE).expect(rt, "memory");
+        assert_known(rt, &ExactTally::new(search, SIZE), best, winners);
     }
 }
 
@@ -151,7 +148,7 @@ fn thiele_rules(rt: HostRuntime) {
     ];
     for (draw, m, known) in cases {
         let profile = election_of(&rt, rt.alloc(), m, &drawn(draw));
-        assert_thiele(&rt, &profile, known);
+        assert_thiele(&rt, rt.alloc(), &profile, known);
     }
 }
 

@@ -40,7 +40,7 @@ fn growths_of_run(rt: &impl Abort, alloc: Global, words: &str, bytes: &[u8], tex
 const PARTED: &[u8] = b"# DATA TYPE: cat\n# NUMBER ALTERNATIVES: 4\n3: {1,2}\n1: {3,4}\n";
 
 /// Words, an input, what the run leaves, and the fewest growths that it asks for: the room of names and for a line,
-/// each name and each new ballot, and sets that choices make.
+/// each name and each new ballot, sets that choices make, and three for a search.
 type Run<'a> = (&'a str, &'a [u8], &'a [u8], u64);
 
 static RUNS: [Run<'static>; 11] = [
@@ -49,13 +49,13 @@ static RUNS: [Run<'static>; 11] = [
         "elect --rule pav --size 2",
         THREE,
         b"rule pav\nsize 2\nscore 6/2\n1,2\n1,3\n2,3\nend\n",
-        3,
+        6,
     ),
     (
         "elect --rule geom3 --size 2",
         THREE,
         b"rule geom3\nsize 2\nscore 9/3\n1,3\n2,3\nend\n",
-        3,
+        6,
     ),
     (
         "elect --rule seqpav --size 2",

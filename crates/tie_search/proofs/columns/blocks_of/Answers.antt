@@ -1,5 +1,6 @@
 use Rattle.std.proofs.Common.{◌≡◌, ◌∙◌, ◌∷◌, [], ◌++◌, refl, sym, ap, subst, arith, length, take, replicate, length-append}
-use Rattle.std.proofs.lemmas.List.{length-replicate, length_push}
+use Rattle.std.specs.Vec.{with_items}
+use Rattle.std.proofs.lemmas.List.{length-replicate, length_push, with_items_is}
 use Rattle.ballot_base.specs.Ballots.{Row}
 use Rattle.ballot_base.proofs.Turns.{row_of_turn, all_passed}
 use Rattle.tie_search.specs.Steps.Columns.{AreColumns, voters_of}
@@ -8,8 +9,9 @@ use Rattle.tie_search.proofs.columns.blocks_of.Goals as goal
 
 pub loop-ballot-init : goal.loop-ballot-init
 loop-ballot-init g c = record {
+  long = refl;
   many = refl;
-  held = c.no_voters-blocks.ensures.none;
+  held = c.in_ok-blocks.ensures.none;
 }
 
 pub add_row-requires : goal.add_row-requires
@@ -18,7 +20,9 @@ add_row-requires g c =
     let at = row_of_turn c.args.profile.now.rows (c.into_iter-ballot-iterator.ensures.into_iter_gives ∙ c.ballots-ballot-items.ensures.rows) c.loop-ballot.yielded c.loop-ballot.yielded_by row c.in-Some.ensures.steps in
     omega (
       arith,
-      c.requires,
+      c.in_ok-blocks.ensures.all,
+      c.loop-ballot.invariant.long,
+      c.voters.ensures.value,
       c.loop-ballot.invariant.many,
       voters-part c.args.profile.now.rows (length c.loop-ballot.yielded) row at,
     )
@@ -41,11 +45,20 @@ loop-ballot-preserved g c =
     let at = row_of_turn c.args.profile.now.rows (c.into_iter-ballot-iterator.ensures.into_iter_gives ∙ c.ballots-ballot-items.ensures.rows) c.loop-ballot.yielded c.loop-ballot.yielded_by row c.in-Some.ensures.steps in
     let more : voters_of (take (length (c.loop-ballot.yielded ++ row ∷ [])) rows) ≡ voters_of (take (length c.loop-ballot.yielded) rows) ++ replicate row.1 row.0 =
     ap (λ n. voters_of (take n rows)) (length_push c.loop-ballot.yielded row) ∙ voters-push rows (length c.loop-ballot.yielded) row at in
+    let written : (with_items c.loop-ballot.blocks c.add_row.new.blocks).items ≡ c.add_row.new.blocks =
+    with_items_is c.loop-ballot.blocks c.add_row.new.blocks (c.add_row.ensures.kept ∙ c.deref_mut.ensures.len) in
     record {
+      long = ap length written ∙ c.add_row.ensures.kept ∙ ap length c.deref_mut.ensures.value ∙ c.loop-ballot.invariant.long;
       many = omega (arith, ap length more, length-append (voters_of (take (length c.loop-ballot.yielded) rows)) (replicate row.1 row.0), length-replicate row.1 row.0, c.loop-ballot.invariant.many);
-      held = subst (λ l. AreColumns l c.add_row.new.blocks) (sym more) (c.add_row.ensures (voters_of (take (length c.loop-ballot.yielded) rows)) c.loop-ballot.invariant.many c.loop-ballot.invariant.held);
+      held = subst (λ l. AreColumns (voters_of (take (length (c.loop-ballot.yielded ++ row ∷ [])) rows)) l) (sym written) (subst (λ l. AreColumns l c.add_row.new.blocks) (sym more) (c.add_row.ensures.added (voters_of (take (length c.loop-ballot.yielded) rows)) c.loop-ballot.invariant.many (rw c.deref_mut.ensures.value c.loop-ballot.invariant.held)));
     }
 
-pub returns : goal.returns
-returns g c =
-    subst (λ l. AreColumns (voters_of l) c.loop-ballot.blocks) (all_passed c.args.profile.now.rows (c.into_iter-ballot-iterator.ensures.into_iter_gives ∙ c.ballots-ballot-items.ensures.rows) c.loop-ballot.yielded c.loop-ballot.yielded_by c.in-None.ensures.steps.0) c.loop-ballot.invariant.held
+pub returns-clause-few : goal.returns-clause-few
+returns-clause-few g c = omega (arith, c.loop-ballot.invariant.long, c.in_ok-blocks.ensures.few)
+
+pub returns-clause-all : goal.returns-clause-all
+returns-clause-all g c = omega (arith, c.loop-ballot.invariant.long, c.in_ok-blocks.ensures.all, c.voters.ensures.value)
+
+pub returns-clause-columns : goal.returns-clause-columns
+returns-clause-columns g c =
+    subst (λ l. AreColumns (voters_of l) c.loop-ballot.blocks.items) (all_passed c.args.profile.now.rows (c.into_iter-ballot-iterator.ensures.into_iter_gives ∙ c.ballots-ballot-items.ensures.rows) c.loop-ballot.yielded c.loop-ballot.yielded_by c.in-None.ensures.steps.0) c.loop-ballot.invariant.held

@@ -32,7 +32,7 @@ returns-in_err-write_scored-in-Scored-Thiele g c =
     record {
       answer = election_part c.args.rule (rule.Scored (scored.Thiele c.in-Scored-Thiele.thiele)) l.size page l.names l.profile.now c.from_residual-in_err-write_scored-in-Scored-Thiele.result (c.in-Scored-Thiele.is ∙ ap rule.Scored (rw c.in-Scored-Thiele.is at c.in-Scored-Thiele.field-0-is))
           (thiele_text l.names page l.size l.profile.now c.in-Scored-Thiele.thiele c.new-tally-in-Scored-Thiele.result.search
-          (ap (λ (x : Exact Thiele). x.search) c.new-tally-in-Scored-Thiele.ensures ∙ c.new.ensures))
+          (ap (λ (x : Exact Thiele). x.search) c.new-tally-in-Scored-Thiele.ensures ∙ c.in_ok-search-in-Scored-Thiele.ensures))
           c.from_residual-in_err-write_scored-in-Scored-Thiele.ensures c.write_scored-in-Scored-Thiele.ensures;
       writes = search rules;
       unread = search rules;
@@ -72,7 +72,7 @@ returns-in_ok-write_scored-in-Scored-Thiele g c =
     let l = c.args.listing.now in
     let page : Page = record { after = l.after; limit = l.limit } in
     let text = thiele_text l.names page l.size l.profile.now c.in-Scored-Thiele.thiele c.new-tally-in-Scored-Thiele.result.search
-    (ap (λ (x : Exact Thiele). x.search) c.new-tally-in-Scored-Thiele.ensures ∙ c.new.ensures) in
+    (ap (λ (x : Exact Thiele). x.search) c.new-tally-in-Scored-Thiele.ensures ∙ c.in_ok-search-in-Scored-Thiele.ensures) in
     record {
       answer = (
         _,

@@ -1,4 +1,4 @@
-use Rattle.std.proofs.Common.{◌≡◌, ℕ, ◌+◌, ◌*◌, ◌^◌, ◌<◌, ◌≤◌, ◌∙◌, cond, List, [], ◌∷◌, sym, ap, arith, inl, inr, length, get_or, set}
+use Rattle.std.proofs.Common.{◌≡◌, ℕ, ◌+◌, ◌*◌, ◌^◌, ◌<◌, ◌≤◌, ◌∙◌, cond, List, ◌∷◌, sym, ap, arith, inl, inr, length, get_or, set}
 use Rattle.std.proofs.Math.ListN.{length-set}
 use Rattle.std.proofs.lemmas.Bool.{cases_eq}
 use Rattle.std.proofs.lemmas.List.{get_or-set_same, get_or-set_other}
@@ -59,7 +59,7 @@ module _ (gains left rest : List ℕ) (first x : ℕ) (is : left ≡ first ∷ r
   ]
 
 pub loop-candidate-preserved : goal.loop-candidate-preserved
-loop-candidate-preserved c =
+loop-candidate-preserved g c =
     let gains = c.loop-candidate.gains in
     let left = c.loop-candidate.candidate-iterator in
     let rest = c.next.new.self in
@@ -72,23 +72,23 @@ loop-candidate-preserved c =
       long = length-set gains at (get_or gains at 0 + c.given_by.result) ∙ c.loop-candidate.invariant.long;
       rises = next.1;
       made = λ n. one-added gains left rest at c.given_by.result is up inside n _
-          (λ j. total (λ h. get_or c.args.self.now.weights h 0 * shared (get_or (get_or c.args.self.now.blocks c.args.b []) j 0) (get_or c.by_hits-words.result h 0)) c.min-levels.result)
+          (λ j. total (λ h. get_or c.args.self.now.weights h 0 * shared (get_or c.args.block.now j 0) (get_or c.by_hits-words.result h 0)) c.min-levels.result)
           c.given_by.ensures.sum (c.loop-candidate.invariant.made n);
       most = λ n. one-most gains left rest at c.given_by.result is up inside n (get_or c.args.gains.now n 0) (most_members * 2 ^ 90)
           (omega (arith, c.given_by.ensures.most, c.min-levels.ensures, c.requires.weights.few)) (c.loop-candidate.invariant.most n);
     }
 
 pub returns-clause-sum : goal.returns-clause-sum
-returns-clause-sum c ballot_at block n in_ =
+returns-clause-sum g c ballot_at block n in_ =
     let weights = c.args.self.now.weights in
-    let column = get_or (get_or c.args.self.now.blocks c.args.b []) n 0 in
+    let column = get_or c.args.block.now n 0 in
     let levels = c.min-levels.result in
     let part : ℕ = total (λ h. get_or weights h 0 * shared column (get_or c.by_hits-words.result h 0)) levels in
     let made : get_or c.loop-candidate.gains n 0 + cond (has_member c.loop-candidate.candidate-iterator n) part 0 ≡ get_or c.args.gains.now n 0 + cond (has_member c.args.among n) part 0 = c.loop-candidate.invariant.made n in
     let summed : part ≡ total (λ i. given_below weights c.args.set n levels (ballot_at i)) block_voters =
-    given-sum ballot_at (get_or c.args.self.now.blocks c.args.b []) block weights c.args.set n c.by_hits-words.result levels levels (c.by_hits-words.ensures ballot_at block) (omega arith) in
+    given-sum ballot_at c.args.block.now block weights c.args.set n c.by_hits-words.result levels levels (c.by_hits-words.ensures ballot_at block) (omega arith) in
     let whole : total (λ i. given_below weights c.args.set n levels (ballot_at i)) block_voters ≡ total (λ i. given weights c.args.set n (ballot_at i)) block_voters =
-    given-whole ballot_at (get_or c.args.self.now.blocks c.args.b []) block weights c.args.set n levels (λ i high.
+    given-whole ballot_at c.args.block.now block weights c.args.set n levels (λ i high.
     c.requires.weights.end (hits (ballot_at i) c.args.set)
     (omega (arith, high, c.min-levels.ensures, c.len.ensures.count, hits-most 1 most_candidates 1 most_candidates (ballot_at i) c.args.set (block.rises i) c.len.ensures.valid))) in
     omega (arith, made, summed, whole, ap (λ l. cond (has_member l n) part 0) c.in-None.ensures.steps.0, ap (λ b. cond b part 0) in_)

@@ -7,7 +7,7 @@ use Rattle.tie_search.proofs.columns.Columns.add_block.Given as goal
 
 -- with what is still to be added, the gains are those at the end
 abbrev pub invariant-loop-candidate : goal.invariant-loop-candidate
-invariant-loop-candidate l = record {
+invariant-loop-candidate g l = record {
   long : length l.gains ≡ most_candidates + 1;
   rises : IsIncreasing 1 most_candidates l.candidate-iterator;
   made : (c : ℕ) → get_or l.gains c 0 + cond (has_member l.candidate-iterator c) (total (λ h. get_or l.self.weights h 0 * shared (get_or l.block c 0) (get_or l.words h 0)) l.levels) 0

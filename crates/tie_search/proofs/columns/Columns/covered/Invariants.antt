@@ -3,9 +3,9 @@ use Rattle.tie_search.specs.Steps.Columns.{block_voters, total, approves_some, v
 use Rattle.tie_search.proofs.columns.Columns.covered.Given as goal
 
 -- the voters of the blocks so far are counted
-abbrev pub invariant-loop-b : goal.invariant-loop-b
-invariant-loop-b l = record {
-  summed : (ballots : List (List ℕ)) → AreColumns ballots l.self.blocks → AreRising ballots
-      → l.covered ≡ total (λ v. approves_some l.fn.set (voter_ballot ballots v)) (l.b * block_voters);
-  most : l.covered ≤ l.b * block_voters;
+abbrev pub invariant-loop-block : goal.invariant-loop-block
+invariant-loop-block g l = record {
+  summed : (ballots : List (List ℕ)) → AreColumns ballots l.self.blocks.items → AreRising ballots
+      → l.covered ≡ total (λ v. approves_some l.fn.set (voter_ballot ballots v)) (l.block-index * block_voters);
+  most : l.covered ≤ l.block-index * block_voters;
 }

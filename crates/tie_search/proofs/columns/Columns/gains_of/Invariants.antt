@@ -4,9 +4,9 @@ use Rattle.tie_search.specs.Steps.Columns.{block_voters, total, given, voter_bal
 use Rattle.tie_search.proofs.columns.Columns.gains_of.Given as goal
 
 -- the voters of the blocks so far are counted
-abbrev pub invariant-loop-b : goal.invariant-loop-b
-invariant-loop-b l = record {
-  summed : (ballots : List (List ℕ)) → AreColumns ballots l.self.blocks → AreRising ballots → (c : ℕ) → has_member l.fn.among c ≡ true
-      → get_or l.gains c 0 ≡ total (λ v. given l.self.weights l.fn.set c (voter_ballot ballots v)) (l.b * block_voters);
-  most : (c : ℕ) → get_or l.gains c 0 ≤ l.b * 2 ^ 96;
+abbrev pub invariant-loop-block : goal.invariant-loop-block
+invariant-loop-block g l = record {
+  summed : (ballots : List (List ℕ)) → AreColumns ballots l.self.blocks.items → AreRising ballots → (c : ℕ) → has_member l.fn.among c ≡ true
+      → get_or l.gains c 0 ≡ total (λ v. given l.self.weights l.fn.set c (voter_ballot ballots v)) (l.block-index * block_voters);
+  most : (c : ℕ) → get_or l.gains c 0 ≤ l.block-index * 2 ^ 96;
 }

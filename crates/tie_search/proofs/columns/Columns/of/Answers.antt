@@ -5,9 +5,9 @@ use Rattle.tie_search.proofs.columns.Columns.of.Goals as goal
 
 pub returns : goal.returns
 returns g c = record {
-  few = omega (arith, c.div_ceil.ensures, c.if-voters.false);
-  all = omega (arith, voters-length c.args.profile.now.rows, c.voters-voters.ensures.value, c.div_ceil.ensures, c.if-voters.false);
-  columns = c.blocks_of.ensures;
+  few = c.in_ok-blocks_of.ensures.few;
+  all = omega (arith, voters-length c.args.profile.now.rows, c.in_ok-blocks_of.ensures.all);
+  columns = c.in_ok-blocks_of.ensures.columns;
   sound = record {
     few = c.last_level.ensures.most;
     small = λ j. omega (arith, ap (λ l. get_or l j 0) c.of-2.ensures, weights-small c.args.rule c.args.k c.of.result.w j c.requires.size c.of.ensures.weights);

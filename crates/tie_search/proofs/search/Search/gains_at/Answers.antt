@@ -6,7 +6,7 @@ use Rattle.tie_search.proofs.search.Search.gains_at.Goals as goal
 pub returns-in-Some-clause-gains : goal.returns-in-Some-clause-gains
 returns-in-Some-clause-gains g c n here =
     let tally = c.args.self.now.tally.now in
-    let kept : AreColumnsOf tally c.in-Some.columns.blocks c.in-Some.columns.used c.in-Some.columns.weights c.in-Some.columns.levels = rw c.in-Some.is at c.requires.aids.columns in
+    let kept : AreColumnsOf tally c.in-Some.columns.blocks.items c.in-Some.columns.weights c.in-Some.columns.levels = rw c.in-Some.is at c.requires.aids.columns in
     c.gains_of.ensures.gains (voters_of tally.election.rows) kept.columns (voters-rising tally.election.m tally.election.rows c.requires.aids.election.most c.requires.aids.election.ballots)
     n here
-    ∙ columns-gain tally c.in-Some.columns.blocks c.in-Some.columns.used c.in-Some.columns.levels c.in-Some.columns.weights c.args.set n kept
+    ∙ columns-gain tally c.in-Some.columns.blocks.items c.in-Some.columns.levels c.in-Some.columns.weights c.args.set n kept

@@ -1,4 +1,4 @@
-use Rattle.std.proofs.Common.{◌+◌, ◌-◌, ◌*◌, ◌≤◌, ap, arith, inl, inr, get_or, sum_by}
+use Rattle.std.proofs.Common.{◌+◌, ◌-◌, ◌*◌, ◌^◌, ◌≤◌, ap, arith, inl, inr, get_or, sum_by}
 use Rattle.std.proofs.lemmas.Bool.{cases_lt}
 use Rattle.std.specs.Int.{div_ceil}
 use Rattle.ballot_base.specs.Increments.{increments}
@@ -9,6 +9,12 @@ use Rattle.tie_search.proofs.CompletionLemmas.{completion-few}
 use Rattle.tie_search.proofs.PricedLemmas.{ceil-low, prices-bound, value-rounded}
 use Rattle.tie_search.proofs.SearchLemmas.{not-true}
 use Rattle.tie_search.proofs.search.Search.may_afford.Goals as goal
+
+pub may_reach-requires-clause-threshold : goal.may_reach-requires-clause-threshold
+may_reach-requires-clause-threshold g c =
+    let prices = c.in-Some.prices in
+    let are : ArePrices c.args.self.now.tally.now prices.unit prices.base prices.worths = rw c.in-Some.is at c.requires.aids.prices in
+    c.nth_worth-threshold.ensures (2 ^ 116) are.small
 
 pub returns : goal.returns
 returns g c short committee whole =

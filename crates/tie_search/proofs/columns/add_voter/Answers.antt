@@ -7,7 +7,7 @@ use Rattle.std.proofs.lemmas.Nat.Bits.{bit_at_set_same, bit_at_set_other}
 use Rattle.ballot_base.specs.Limits.{most_candidates}
 use Rattle.ballot_base.specs.CandSet.{has_member}
 use Rattle.tie_search.proofs.SearchLemmas.{rest-increasing}
-use Rattle.tie_search.proofs.columns.with_voter.Goals as goal
+use Rattle.tie_search.proofs.columns.add_voter.Goals as goal
 
 -- a candidate's bit is set
 one-set : (block left rest : List ℕ) (first place wanted c i : ℕ) → left ≡ first ∷ rest → first < length block → place < 64 → i < 64
@@ -47,13 +47,13 @@ one-set block left rest first place wanted c i is inside low within before =
     always true = refl
     always false = refl
 
-pub bounds-with-from : goal.bounds-with-from
-bounds-with-from c =
+pub bounds-block-from : goal.bounds-block-from
+bounds-block-from c =
     let first = (rest-increasing most_candidates c.loop-candidate.candidate-iterator c.next.new.self c.in-Some.candidate c.in-Some.ensures.steps c.loop-candidate.invariant.rises).0 in
     omega (arith, first, c.from.ensures)
 
-pub bounds-with-from-in-loop-candidate : goal.bounds-with-from-in-loop-candidate
-bounds-with-from-in-loop-candidate c =
+pub bounds-block-from-in-loop-candidate : goal.bounds-block-from-in-loop-candidate
+bounds-block-from-in-loop-candidate c =
     let first = (rest-increasing most_candidates c.loop-candidate.candidate-iterator c.next.new.self c.in-Some.candidate c.in-Some.ensures.steps c.loop-candidate.invariant.rises).0 in
     omega (arith, first, c.from.ensures)
 
@@ -61,19 +61,19 @@ pub loop-candidate-preserved : goal.loop-candidate-preserved
 loop-candidate-preserved c =
     let rest = rest-increasing most_candidates c.loop-candidate.candidate-iterator c.next.new.self c.in-Some.candidate c.in-Some.ensures.steps c.loop-candidate.invariant.rises in
     let is : c.loop-candidate.candidate-iterator ≡ c.from.result ∷ c.next.new.self = c.in-Some.ensures.steps ∙ ap (λ n. n ∷ c.next.new.self) (sym c.from.ensures) in
-    let word = bit_or (get_or c.loop-candidate.with c.from.result 0) (1 * 2 ^ c.args.place % 2 ^ 64) in
+    let word = bit_or (get_or c.loop-candidate.block c.from.result 0) (1 * 2 ^ c.args.place % 2 ^ 64) in
     record {
-      long = length-set c.loop-candidate.with c.from.result word ∙ c.loop-candidate.invariant.long;
+      long = length-set c.loop-candidate.block c.from.result word ∙ c.loop-candidate.invariant.long;
       rises = rest.1;
       made = λ n i within.
-          one-set c.loop-candidate.with c.loop-candidate.candidate-iterator c.next.new.self c.from.result c.args.place _ n i is
+          one-set c.loop-candidate.block c.loop-candidate.candidate-iterator c.next.new.self c.from.result c.args.place _ n i is
           (omega (arith, rest.0, c.from.ensures, c.loop-candidate.invariant.long)) c.requires within (c.loop-candidate.invariant.made n i within);
     }
 
 pub returns : goal.returns
 returns c n i within =
-    none (i == c.args.place) (bit_at (get_or c.loop-candidate.with n 0) i)
-    ∙ ap (λ l. cond ((i == c.args.place) && has_member l n) 1 (bit_at (get_or c.loop-candidate.with n 0) i)) (sym c.in-None.ensures.steps.0)
+    none (i == c.args.place) (bit_at (get_or c.loop-candidate.block n 0) i)
+    ∙ ap (λ l. cond ((i == c.args.place) && has_member l n) 1 (bit_at (get_or c.loop-candidate.block n 0) i)) (sym c.in-None.ensures.steps.0)
     ∙ c.loop-candidate.invariant.made n i within
   where
     none : (b : Bool) (x : ℕ) → x ≡ cond (b && false) 1 x
