@@ -1,6 +1,7 @@
 -- Totals that are used for fewer free candidates.
-use Rattle.std.proofs.Common.{◌≡◌, ℕ, ◌==◌, ◌&&◌, ◌||◌, ◌∙◌, Bool, true, false, List, [], ◌∷◌, None, Some, Option, refl, sym, subst}
+use Rattle.std.proofs.Common.{◌≡◌, ℕ, zero, suc, ◌==◌, ◌&&◌, ◌||◌, ◌∙◌, Bool, true, false, List, [], ◌∷◌, None, Some, Option, refl, sym, subst}
 use Rattle.std.proofs.lemmas.Bool.{eqb-true}
+use Rattle.std.specs.Prelude.{MatchOption, ⊤, slice_get}
 use Rattle.ballot_base.specs.Ballots.{Row, Election}
 use Rattle.ballot_base.specs.CandSet.{has_member, common_members, includes}
 use Rattle.ballot_base.proofs.Increasing.{IsIncreasing-filter, has_member-filter, same_increasing}
@@ -57,6 +58,10 @@ known-fewer e given known set free left is open' same size among weights are =
     (totals-fewer weights given.scale given.unit e.m e.rows set known.free free known.left known.totals.kept known.totals.worths known.totals.overlaps opened open' among all)
 
 -- nothing is kept at the start
-pub known-none : (e : Election) (sums : Option HitSums) (known : KnownTotals) → ((other : Election) (given : HitSums) → AreKnown other given known) → AreKnownIf e sums known
+pub known-none : (e : Election) (sums : Option HitSums) (known : KnownTotals) → ((other : Election) (given : HitSums) → AreKnown other given known) → AreKnownIf e sums (known ∷ [])
 known-none e None known none = tt
-known-none e (Some given) known none = none e given
+known-none e (Some given) known none = at
+  where
+    at : (i : ℕ) → MatchOption (slice_get (known ∷ []) i) ⊤ (AreKnown e given)
+    at zero = none e given
+    at (suc i) = tt

@@ -142,8 +142,7 @@ impl<A: Allocator + Copy> Search<'_, A> {
             (IsReaching (tally_value self.now.tally.now) self.now.tally.now.election.m set free left self.now.least) }
     {
         let mut found = Found::nothing(Wanted::One, self.least);
-        let mut known = KnownTotals::none();
-        self.descend(&mut found, &mut known, self.node(set, free, left));
+        self.descend(&mut found, &mut [], self.node(set, free, left));
         found.first()
     }
 
@@ -158,7 +157,7 @@ impl<A: Allocator + Copy> Search<'_, A> {
     {
         let mut found = Found::nothing(Wanted::All, self.least);
         let all = CandSet::all(self.tally.m());
-        let mut known = KnownTotals::none();
+        let mut known = [KnownTotals::none()];
         self.descend(&mut found, &mut known, self.node(CandSet::empty(), all, k));
         Tied {
             committees: found.committees,
@@ -204,7 +203,7 @@ impl<A: Allocator + Copy> Search<'_, A> {
 
     /// Searches all completions of a node, none of which is listed yet, for committees of the value that is looked for,
     /// which rises with what is found.
-    fn descend(&self, found: &mut Found, known: &mut KnownTotals, node: Node)
+    fn descend(&self, found: &mut Found, known: &mut [KnownTotals], node: Node)
         requires ballots { self.now.profile.now ≡ self.now.tally.now.election }
         requires aids { IsAided self.now.tally.now self.now.aids.now }
         requires opened { IsOpen self.now.tally.now.election.m node.set node.free }
@@ -320,7 +319,7 @@ impl<A: Allocator + Copy> Search<'_, A> {
     }
 
     /// The free candidates of a node that can still join. Returns `None` if no completion of its set reaches the value.
-    fn eligible(&self, known: &mut KnownTotals, node: &Node) -> Option<CandSet>
+    fn eligible(&self, known: &mut [KnownTotals], node: &Node) -> Option<CandSet>
         requires ballots { self.now.profile.now ≡ self.now.tally.now.election }
         requires aids { IsAided self.now.tally.now self.now.aids.now }
         requires opened { IsOpen self.now.tally.now.election.m node.now.set node.now.free }
@@ -349,7 +348,7 @@ impl<A: Allocator + Copy> Search<'_, A> {
 
     /// The free candidates of a node that can still join, by pairs. Returns `None` if no completion of its set reaches
     /// the value.
-    fn narrowed(&self, known: &mut KnownTotals, node: &Node) -> Option<CandSet>
+    fn narrowed(&self, known: &mut [KnownTotals], node: &Node) -> Option<CandSet>
         requires ballots { self.now.profile.now ≡ self.now.tally.now.election }
         requires aids { IsAided self.now.tally.now self.now.aids.now }
         requires opened { IsOpen self.now.tally.now.election.m node.now.set node.now.free }
@@ -361,7 +360,7 @@ impl<A: Allocator + Copy> Search<'_, A> {
         let Some(given) = &self.aids.sums else {
             return Some(node.free);
         };
-        if !self.sees_pairs(node.left) {
+        if known.is_empty() || !self.sees_pairs(node.left) {
             self.aids.use_of_pairs.pass();
             return Some(node.free);
         }
@@ -370,7 +369,7 @@ impl<A: Allocator + Copy> Search<'_, A> {
             given,
             least: self.least,
         };
-        let narrowed = pairs.narrowed(known, node);
+        let narrowed = pairs.narrowed(&mut known[0], node);
         self.aids.use_of_pairs.note(narrowed.is_none());
         narrowed
     }

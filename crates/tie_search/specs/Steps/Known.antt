@@ -1,5 +1,5 @@
 -- Totals of pairs that a search keeps.
-use Rattle.std.specs.Prelude.{ℕ, List, Option, MatchOption, ⊤}
+use Rattle.std.specs.Prelude.{ℕ, List, Option, MatchOption, ⊤, slice_get}
 use Rattle.ballot_base.specs.Ballots.{Election}
 use Rattle.tie_search.specs.Completions.{IsOpen, IsOutOfReach}
 use Rattle.tie_search.specs.Steps.Near.{IsNarrowed}
@@ -26,9 +26,9 @@ pub record AreKnown (e : Election) (given : HitSums) (known : KnownTotals) : Typ
   pub even : IsKept e given known.even
   pub odd : IsKept e given known.odd
 
--- the same, if it is known what hits give
-abbrev pub AreKnownIf : Election → Option HitSums → KnownTotals → Type 0
-AreKnownIf e sums known = MatchOption sums ⊤ (λ given. AreKnown e given known)
+-- the same of all that are kept, if it is known what hits give
+abbrev pub AreKnownIf : Election → Option HitSums → List KnownTotals → Type 0
+AreKnownIf e sums kept = MatchOption sums ⊤ (λ given. (i : ℕ) → MatchOption (slice_get kept i) ⊤ (AreKnown e given))
 
 -- an answer at a node: the free candidates that can still join, or nothing if no completion reaches the value
 abbrev pub Narrows : (List ℕ → ℕ) → ℕ → Node → ℕ → Option (List ℕ) → Type 0
