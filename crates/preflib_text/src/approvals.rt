@@ -11,14 +11,14 @@ use crate::fault::FaultName;
 use crate::pick::{Kind, Way};
 use ballot_base::{CandSet, MOST_VOTERS};
 
-/// Which numbers of a ballot are taken: a way, where the usual one is spelled out.
+/// Which candidates count as approved: `Way` with the default resolved.
 #[derive(Clone, Copy)]
 pub(crate) enum Taking {
     /// Those of this class, counted from 1.
     Category(u32),
-    /// Those of the fewest first classes that have so many numbers together, or of all.
+    /// Those of the top classes, as many as it takes to reach this many numbers, or of all.
     SetSize(u32),
-    /// Those of so many first classes.
+    /// Those of this many top classes.
     Classes(u32),
 }
 
@@ -45,7 +45,7 @@ pub(crate) struct Terms {
     ghost few: { m ≤ most_candidates },
 }
 
-/// What the lines before the ballots have told of them.
+/// What the metadata says of the ballots.
 #[derive(Clone, Copy)]
 pub(crate) struct Header {
     pub(crate) kind: Kind,

@@ -223,7 +223,7 @@ struct Line {
     marks: Marks,
 }
 
-/// How many voters cast a ballot, and the candidates whom it approves.
+/// How many voters cast a ballot, and the candidates that it approves.
 #[derive(Clone, Copy)]
 pub(crate) struct Ballot {
     pub(crate) count: u64,

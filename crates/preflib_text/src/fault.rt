@@ -13,7 +13,7 @@ use std::fmt;
 pub enum FaultName {
     /// A line has more than [`MOST_LINE_BYTES`](crate::MOST_LINE_BYTES) bytes without its end.
     LongLine,
-    /// The number of alternatives or of categories is no number or is 0, or there are more than
+    /// The number of alternatives or of categories is not a number or is 0, or there are more than
     /// [`MOST_CATEGORIES`](crate::MOST_CATEGORIES) categories.
     BadNumber,
     /// There are more than [`MOST_CANDIDATES`](ballot_base::MOST_CANDIDATES) alternatives.
@@ -22,7 +22,7 @@ pub enum FaultName {
     ConflictingKey,
     /// The first ballot or the end comes, and the number of alternatives was not given.
     NoAlternatives,
-    /// The first ballot comes, and nothing tells the type of the file.
+    /// The first ballot comes, and the type of the file is not known.
     NoKind,
     /// The type of the file that its metadata gives is none of the five.
     BadKind,

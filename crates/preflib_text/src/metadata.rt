@@ -9,7 +9,7 @@ use crate::limits::ABOVE;
 use crate::lines::{trim, trim_start};
 use bstr::ByteSlice;
 
-/// What a metadata line tells.
+/// The fact that a metadata line states.
 #[derive(Clone, Copy)]
 pub(crate) enum Fact<'a> {
     Type(&'a [u8]),
@@ -61,7 +61,7 @@ pub(crate) fn written_number(text: &[u8]) -> Option<u64>
     digits_after(0, text)
 }
 
-/// The first word, and the bytes after it. Where there is none the word is empty.
+/// The first word, and the bytes after it. If there is none, the word is empty.
 fn first_word(text: &[u8]) -> Word<'_>
     ensures word { words_of text.now ≡ words_with result.word.now (words_of result.rest.now) }
     ensures end { result.word.now ≡ [] → result.rest.now ≡ [] }
@@ -92,7 +92,7 @@ fn cut_at_colon(text: &[u8]) -> Option<Entry<'_>>
     })
 }
 
-/// What a key of at most two words tells.
+/// The fact that a key of at most two words states.
 fn told_by_two<'a>(first: &[u8], second: &[u8], value: &'a [u8]) -> Fact<'a>
     ensures { meant result
         ≡ told_by (record { key = words_with first.now (words_with second.now []); value = value.now }) }
@@ -109,7 +109,7 @@ fn told_by_two<'a>(first: &[u8], second: &[u8], value: &'a [u8]) -> Fact<'a>
     Fact::Nothing
 }
 
-/// What a key of three words tells.
+/// The fact that a key of three words states.
 fn told_by_three<'a>(first: &[u8], second: &[u8], third: &[u8], value: &'a [u8]) -> Fact<'a>
     ensures { meant result
         ≡ capped_told (told_by (record { key = first.now ∷ second.now ∷ third.now ∷ []; value = value.now })) }
@@ -123,7 +123,7 @@ fn told_by_three<'a>(first: &[u8], second: &[u8], third: &[u8], value: &'a [u8])
     }
 }
 
-/// What a key tells.
+/// The fact that a key states.
 fn told_by<'a>(key: &[u8], value: &'a [u8]) -> Fact<'a>
     ensures { meant result ≡ capped_told (told_by (record { key = words_of key.now; value = value.now })) }
 {
@@ -139,7 +139,7 @@ fn told_by<'a>(key: &[u8], value: &'a [u8]) -> Fact<'a>
     }
 }
 
-/// What a metadata line tells.
+/// The fact that a metadata line states.
 pub(crate) fn told_of(line: &[u8]) -> Fact<'_>
     ensures { meant result ≡ capped_told (told_of line.now) }
 {

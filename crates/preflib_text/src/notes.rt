@@ -23,7 +23,7 @@ use crate::metadata::{Fact, told_of, written_number};
 use crate::pick::{Kind, Pick, Way};
 use ballot_base::MOST_CANDIDATES;
 
-/// What the lines so far have told.
+/// What is known from the lines so far.
 #[derive(Clone, Copy)]
 pub(crate) struct Notes {
     pub(crate) alternatives: Option<u64>,
@@ -43,7 +43,7 @@ pub(crate) enum Effect<'a> {
     Ballot(Vote),
 }
 
-/// A ballot, and the number of candidates where it is the first.
+/// A ballot, and the number of candidates if it is the first.
 #[derive(Clone, Copy)]
 pub(crate) struct Vote {
     pub(crate) first: Option<u8>,
@@ -150,7 +150,7 @@ impl Notes {
         }
     }
 
-    /// Notes what a metadata line tells.
+    /// Notes the fact that a metadata line states.
     fn take_told<'a>(&mut self, pick: &Pick, told: Fact<'a>) -> Result<Effect<'a>, FaultName>
         requires notes { IsSound self.old }
         requires before { self.old.has_ballot ≡ false }
@@ -213,7 +213,7 @@ impl Notes {
         Effect::Ballot(Vote { first, ballot })
     }
 
-    /// Reads a line, and tells what it does to the profile.
+    /// Reads a line, and returns what it does to the profile.
     pub(crate) fn take_line<'a>(
         &mut self,
         pick: &Pick,

@@ -49,18 +49,18 @@ pub enum Way {
     Usual,
     /// This category of a `cat` file, counted from 1.
     Category(u32),
-    /// The fewest first classes of a ranking that have so many candidates together, or all.
+    /// The top classes of a ranking, as many as it takes to reach this many candidates, or all.
     SetSize(u32),
-    /// So many first classes of a ranking, or all.
+    /// This many top classes of a ranking, or all.
     Classes(u32),
 }
 
 /// How a file is read.
 #[derive(Clone, Copy, Debug, PartialEq, Eq)]
 pub struct Pick {
-    /// The type of the file, where the reader is told.
+    /// The type of the file, if it is given.
     pub kind: Option<Kind>,
-    /// The type that the file's name ends in. It serves where nothing else tells the type.
+    /// The type that the file's name ends in, used if nothing else gives the type.
     pub ending: Option<Kind>,
     /// Which candidates are approved.
     pub way: Way,

@@ -28,7 +28,7 @@ use std::marker::Model;
 /// The room for a line: the longest, a CR at its end and a mark before it.
 const LINE_ROOM: usize = MOST_LINE_BYTES + 4;
 
-/// What the lines that have ended have told.
+/// What is known from the lines that have ended.
 #[derive(Drop)]
 struct EndedLines<A: Allocator + Copy> {
     builder: ProfileBuilder<A>,
@@ -194,7 +194,7 @@ impl<A: Allocator + Copy + Drop> Progress<A> {
     }
 }
 
-/// The answer of a reader with this fault.
+/// What a reader with this fault returns.
 fn answer_of(fault: Option<ReadFault>) -> Result<(), ReadFault>
     ensures { MatchResult result (λ _. fault ≡ None) (λ known. fault ≡ Some known) }
 {
@@ -235,9 +235,9 @@ fn finish_lines<A: Allocator + Copy + Drop>(
     finish(builder, &notes)
 }
 
-/// Reads a ballot file in pieces, however it is cut: what it answers is the outcome of all bytes together.
+/// Reads a ballot file in pieces, however it is cut: it returns the outcome of all bytes together.
 ///
-/// Contracts see how the file is read, all bytes that were fed and the fault that was answered. Kept are the
+/// Contracts see how the file is read, all bytes that were fed and the fault that was returned. Kept are the
 /// unfinished line, the names and the different ballots.
 #[derive(Drop)]
 pub struct LineReader<A: Allocator + Copy = Global> {
@@ -273,8 +273,7 @@ impl<A: Allocator + Copy + Drop> LineReader<A> {
         LineReader::with_hashing(alloc, pick, BallotHashing::fixed())
     }
 
-    /// The same with ballots that are hashed by these numbers. They change the time that ballots take, and nothing
-    /// else.
+    /// Like `new`, but ballots are hashed by these numbers. They change only the time that ballots take.
     pub fn with_hashing(
         alloc: A,
         pick: Pick,
@@ -311,9 +310,9 @@ impl<A: Allocator + Copy + Drop> LineReader<A> {
         })
     }
 
-    /// Reads the next bytes. The first fault of a line comes as soon as its line has ended, and that a line is too long
-    /// as soon as it can no longer come within the limit; it is the first fault of every input that begins with the
-    /// bytes so far, and each later call answers it again. Memory is taken only for names and new ballots.
+    /// Reads the next bytes. The first fault of a line is returned as soon as its line has ended, and `LongLine` as
+    /// soon as the line can no longer come within the limit. It is the first fault of every input that begins with the
+    /// bytes so far, and each later call returns it again. Memory is taken only for names and new ballots.
     pub fn feed(&mut self, bytes: &[u8]) -> Result<(), ReadFault>
         requires { length self.old.fed + length bytes.now < word_limit }
         ensures fed { self.new ≡ feeding self.old.pick (self.old.fed ++ bytes.now) self.new.fault }
@@ -331,7 +330,7 @@ impl<A: Allocator + Copy + Drop> LineReader<A> {
     }
 
     /// How many bytes are kept of the line that has not ended, at most `MOST_LINE_BYTES` and a CR. A CR that may belong
-    /// to the end of the line counts, a mark at the start of the input does not. After a fault the answer is 0.
+    /// to the end of the line counts, a mark at the start of the input does not. After a fault the result is 0.
     pub fn held(&self) -> usize
         ensures held { self.now.fault ≡ None → result ≡ length (unfinished_line self.now.fed) }
         ensures after { IfSome self.now.fault (λ _. result ≡ 0) }
@@ -343,8 +342,8 @@ impl<A: Allocator + Copy + Drop> LineReader<A> {
         unmarked(self.progress.ended.number, &self.progress.held).len()
     }
 
-    /// What all bytes hold: the profile, or the first fault. Memory is taken where the last line has no end, for a name
-    /// or a new ballot. A fault that was answered is answered again.
+    /// The profile of all bytes, or their first fault. Memory is taken if the last line has no end, for a name or a new
+    /// ballot. A fault that was returned before is returned again.
     pub fn finish(self) -> Result<Profile<A>, ReadFault>
         ensures ok { IfOk result (λ profile. Reads self.fed self.pick (Ok profile)) }
         ensures err { IfErr result (λ fault. Reads self.fed self.pick (Err fault)

@@ -138,7 +138,7 @@ pub(crate) fn fault_of_line(number: u64, name: FaultName) -> ReadFault
     ReadFault { name, line }
 }
 
-/// The fault where there was no memory for any profile: that of the first line or, without a line, of the end.
+/// The fault if there was no memory for any profile: that of the first line or, without a line, of the end.
 fn fault_without_memory(pick: &Pick, text: &[u8]) -> ReadFault
     requires { HasNumber pick.now.way }
     ensures none { text.now ≡ [] → result ≡ at_end FaultName.NoAlternatives }
@@ -160,9 +160,9 @@ fn fault_without_memory(pick: &Pick, text: &[u8]) -> ReadFault
 
 /// Reads a ballot file: the whole profile of its ballots, or its first fault.
 ///
-/// Numbers in the file may have any count of digits. A candidate without a name has none in the profile. Memory is
-/// answered with the number of the line where it ran out, and no line up to it has a fault then. It is taken with the
-/// first line, for the names of candidates, and for ballots that no earlier line has.
+/// Numbers in the file may have any count of digits. A candidate without a name has none in the profile. `Memory` is
+/// returned with the number of the line at which memory ran out, and then no line up to it has a fault. Memory is taken
+/// with the first line, for the names of candidates, and for ballots that no earlier line has.
 /// Format: PrefLib, <https://preflib.github.io/PrefLib-Jekyll/format>.
 pub fn read_profile<A: Allocator + Copy + Drop>(
     alloc: A,

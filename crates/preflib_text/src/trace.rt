@@ -4,7 +4,7 @@ ghost use Rattle.std.specs.Borrow.{ftrue};
 
 use std::marker::{Model, PhantomData};
 
-/// All bytes that have passed through a reader. Contracts alone see them: it takes no memory, and its methods do
+/// All bytes that have passed through a reader. Only contracts see them: it takes no memory, and its methods do
 /// nothing at run time.
 #[derive(Drop)]
 pub struct Trace {
