@@ -1,11 +1,10 @@
 -- From votes to parties, and from parties to an allocation.
-use Rattle.std.proofs.Common.{◌≡◌, ℕ, zero, suc, ◌+◌, ◌-◌, ◌<◌, ◌≤◌, Bool, true, false, cond, List, [], ◌∷◌, ◌++◌, refl, sym, ap, ap₂, subst, ◌∙◌, arith, map, sum, length, take, set, get_or, Option, Some, None, is_some, true≢false, ◌==◌}
+use Rattle.std.proofs.Common.{◌≡◌, ℕ, zero, suc, ◌+◌, ◌-◌, ◌<◌, ◌≤◌, Bool, true, false, cond, List, [], ◌∷◌, ◌++◌, refl, sym, ap, subst, ◌∙◌, arith, sum, length, take, drop, Option, Some, None, is_some, true≢false, ◌==◌}
 use Rattle.std.specs.Prelude.{nat_lt}
 use Rattle.seat_share.specs.declared.method.ShareFault.TheVariants.{NoParties, TooManyParties, NoVotes, TooManyVotes}
 use Rattle.seat_share.specs.Faults.{share_fault}
-use Rattle.std.specs.List.{AllByRecursion}
+use Rattle.std.specs.List.{AllByRecursion, refill}
 use Rattle.std.proofs.lemmas.List.Sums.{sum_by-cons}
-use Rattle.std.proofs.lemmas.List.{take_more, length-append}
 use Rattle.seat_share.specs.declared.party.Party.{Party}
 use Rattle.seat_share.specs.declared.method.Method.{Method}
 use Rattle.seat_share.specs.Limits.{most_parties, most_seats, most_votes}
@@ -13,46 +12,10 @@ use Rattle.seat_share.specs.Quotients.{Quotient}
 use Rattle.seat_share.specs.Steps.Claims.{claim}
 use Rattle.seat_share.specs.Allocations.{allocations, later_than}
 use Rattle.seat_share.specs.Steps.Choices.{Standing, choices}
-use Rattle.seat_share.specs.Steps.Standings.{Stands, IsChoosing, MoreAreTied, standings, allocation, allocations_left, choices_from, votes_of, seats_of, tied_count}
+use Rattle.seat_share.specs.Steps.Standings.{Stands, IsChoosing, MoreAreTied, standings, allocations_left, choices_from, votes_of, seats_of, tied_count}
 use Rattle.seat_share.proofs.Threshold.{impossible}
 use Rattle.seat_share.proofs.Chosen.{sure_seats}
 use Rattle.seat_share.proofs.FairChoices.{fair-choices}
-
-module _ {X : Type 0} where
-  pub all-at : (P : X → Type 0) (xs : List X) (i : ℕ) (d : X) → i < length xs → AllByRecursion P xs → P (get_or xs i d)
-  all-at P [] i d less all = impossible (omega (arith, less))
-  all-at P (x ∷ xs) zero d less all = all.0
-  all-at P (x ∷ xs) (suc i) d less all = all-at P xs i d (omega (arith, less)) all.1
-
-  pub all-set : (P : X → Type 0) (xs : List X) (i : ℕ) (y : X) → AllByRecursion P xs → P y → AllByRecursion P (set xs i y)
-  all-set P [] i y all h = tt
-  all-set P (x ∷ xs) zero y all h = (h, all.1)
-  all-set P (x ∷ xs) (suc i) y all h = (all.0, all-set P xs i y all.1 h)
-
-  take-set : (xs : List X) (i : ℕ) (y : X) → i < length xs → take (suc i) (set xs i y) ≡ take i xs ++ y ∷ []
-  take-set [] i y less = impossible (omega (arith, less))
-  take-set (x ∷ xs) zero y less = refl
-  take-set (x ∷ xs) (suc i) y less = ap (λ l. x ∷ l) (take-set xs i y (omega (arith, less)))
-
-  map-push : {Y : Type 0} (f : X → Y) (xs : List X) (x : X) → map f (xs ++ x ∷ []) ≡ map f xs ++ f x ∷ []
-  map-push f [] x = refl
-  map-push f (y ∷ ys) x = ap (λ l. f y ∷ l) (map-push f ys x)
-
--- one more party has its votes
-pub votes-more : (votes : List ℕ) (cs : List Party) (i : ℕ) (c : Party) → i < length votes → i < length cs → c.votes ≡ get_or votes i 0
-    → votes_of (take i cs) ≡ take i votes → votes_of (take (i + 1) (set cs i c)) ≡ take (i + 1) votes
-votes-more votes cs i c within room is so_far =
-    let next : i + 1 ≡ suc i = omega arith in
-    ap (λ n. votes_of (take n (set cs i c))) next ∙ ap votes_of (take-set cs i c room) ∙ map-push (λ (d : Party). d.votes) (take i cs) c
-    ∙ ap₂ (λ l n. l ++ n ∷ []) so_far is ∙ sym (take_more votes i 0 within)
-
--- one more party has its seats
-pub seats-more : (cs : List Party) (list : List ℕ) (i seats : ℕ) (d : Party) → i < length cs → i < length list → seats ≡ (get_or cs i d).seats + cond (get_or cs i d).has_more 1 0
-    → take i list ≡ allocation (take i cs) → take (i + 1) (set list i seats) ≡ allocation (take (i + 1) cs)
-seats-more cs list i seats d within room is so_far =
-    let next : i + 1 ≡ suc i = omega arith in
-    ap (λ n. take n (set list i seats)) next ∙ take-set list i seats room ∙ ap₂ (λ l n. l ++ n ∷ []) so_far is
-    ∙ sym (ap allocation (take_more cs i d within) ∙ map-push (λ (c : Party). c.seats + cond c.has_more 1 0) (take i cs) (get_or cs i d))
 
 -- ---- the choices
 sure-sum : (cs : List Party) → sure_seats (standings cs) ≡ seats_of cs
@@ -146,10 +109,7 @@ take-front [] ys (suc n) h = impossible (omega (arith, h))
 take-front (x ∷ xs) ys zero h = impossible (omega (arith, h))
 take-front (x ∷ xs) ys (suc n) h = ap (λ l. x ∷ l) (take-front xs ys n (omega (arith, h)))
 
-pub long-enough : {X : Type 0} (xs ys : List X) (n : ℕ) → length xs ≡ n → n ≤ length (xs ++ ys)
-long-enough xs ys n h = omega (arith, h, length-append xs ys)
-
 -- after a step the parties are still choosing
-pub still-choosing : (count : ℕ) (old new tail : List Party) → length new ≡ count → IsChoosing old → standings new ≡ standings old → MoreAreTied new → IsChoosing (take count (new ++ tail))
-still-choosing count old new tail long choosing same tied =
-    subst IsChoosing (sym (take-front new tail count long)) (record { more = tied; seats = few-standings old new same choosing.seats })
+pub still-choosing : (old new : List Party) → length new ≡ length old → IsChoosing old → standings new ≡ standings old → MoreAreTied new → IsChoosing (refill (length old) old new)
+still-choosing old new long choosing same tied =
+    subst IsChoosing (sym (take-front new (drop (length new) old) (length old) long)) (record { more = tied; seats = few-standings old new same choosing.seats })

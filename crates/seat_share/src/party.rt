@@ -8,7 +8,7 @@ ghost use Rattle.seat_share.specs.Steps.Standings.{MoreAreTied, allocations_left
 
 /// A party: its votes, its seats, and, where some seats are tied, whether it is tied for one more, and whether it has
 /// that one in the allocation that comes next.
-#[derive(Clone, Copy, Debug)]
+#[derive(Clone, Copy, Debug, Default)]
 pub(crate) struct Party {
     pub(crate) votes: u64,
     pub(crate) seats: u16,
@@ -17,6 +17,19 @@ pub(crate) struct Party {
 }
 
 impl Party {
+    /// A party with these votes, and no seat yet.
+    pub(crate) fn new(votes: u64) -> Party
+        ensures votes { result.votes ≡ votes }
+        ensures seats { result.seats ≡ 0 }
+    {
+        Party {
+            votes,
+            seats: 0,
+            is_tied: false,
+            has_more: false,
+        }
+    }
+
     /// The seats in the allocation that comes next.
     pub(crate) fn next_seats(self) -> u16
         requires { self.seats ≤ most_seats }

@@ -1,5 +1,5 @@
 //! The fair allocations, one after the other.
-ghost use Rattle.std.specs.Prelude.{◌≡◌, ◌≤◌, ◌<◌, ℕ, List, length, take, sum, IfOk, IfErr, IfSome, Some, None};
+ghost use Rattle.std.specs.Prelude.{◌≡◌, ◌≤◌, ◌<◌, ℕ, List, length, sum, IfOk, IfErr, IfSome, Some, None};
 ghost use Rattle.std.specs.List.{AllByRecursion};
 ghost use Rattle.std.specs.Iterator.{YieldsFirst, item_count};
 ghost use Rattle.std.specs.Option.{option_copied};
@@ -13,24 +13,21 @@ use crate::claims::Contest;
 use crate::limits::{MOST_PARTIES, MOST_SEATS, MOST_VOTES};
 use crate::method::{Method, ShareFault};
 use crate::party::{Party, advance, count_tied, place_after, place_last};
+use arrayvec::ArrayVec;
 use std::marker::Model;
 
 /// The seats of each party, in the order of the parties.
 #[derive(Debug, Drop)]
 pub struct Allocation {
-    seats: [u16; MOST_PARTIES],
-    parties: usize,
+    seats: ArrayVec<u16, MOST_PARTIES>,
 }
 
 impl Model for Allocation {
-    ghost use Rattle.std.specs.Prelude.{ℕ, ◌≤◌, List, take};
-    ghost use Rattle.seat_share.specs.Limits.{most_parties};
+    ghost use Rattle.std.specs.Prelude.{ℕ, List};
 
     ghost Value = { List ℕ };
 
-    ghost view = { λ a. take a.parties a.seats };
-
-    ghost invariant = { λ a. a.parties ≤ most_parties };
+    ghost view = { λ a. a.seats.items };
 }
 
 impl Allocation {
@@ -38,29 +35,26 @@ impl Allocation {
     pub fn seats(&self) -> &[u16]
         ensures { result.now ≡ self.now }
     {
-        &self.seats[..self.parties]
+        self.seats.as_slice()
     }
 }
 
 /// All fair allocations of seats by a method, in ascending order. Contracts see the list of those still to come.
 #[derive(Drop)]
 pub struct Shares {
-    parties: [Party; MOST_PARTIES],
-    count: usize,
+    parties: ArrayVec<Party, MOST_PARTIES>,
     is_left: bool,
 }
 
 impl Model for Shares {
-    ghost use Rattle.std.specs.Prelude.{ℕ, ◌≤◌, List, length, take};
-    ghost use Rattle.seat_share.specs.Limits.{most_parties};
+    ghost use Rattle.std.specs.Prelude.{ℕ, List};
     ghost use Rattle.seat_share.specs.Steps.Standings.{allocations_left, IsChoosing};
 
     ghost Value = { List (List ℕ) };
 
-    ghost view = { λ s. allocations_left s.is_left (take s.count s.parties) };
+    ghost view = { λ s. allocations_left s.is_left s.parties.items };
 
-    ghost invariant = { λ s. (s.count ≤ most_parties) × (s.count ≤ length s.parties)
-        × IsChoosing (take s.count s.parties) };
+    ghost invariant = { λ s. IsChoosing s.parties.items };
 }
 
 impl Shares {
@@ -89,12 +83,8 @@ impl Shares {
             seats,
         };
         let mut parties = parties_with(votes);
-        let is_left = choose(contest, &mut parties[..votes.len()], after);
-        Ok(Shares {
-            parties,
-            count: votes.len(),
-            is_left,
-        })
+        let is_left = choose(contest, parties.as_mut_slice(), after);
+        Ok(Shares { parties, is_left })
     }
 }
 
@@ -109,9 +99,8 @@ impl Iterator for Shares {
         if !self.is_left {
             return None;
         }
-        let parties = &mut self.parties[..self.count];
-        let allocation = allocation_of(parties);
-        self.is_left = advance(parties);
+        let allocation = allocation_of(self.parties.as_slice());
+        self.is_left = advance(self.parties.as_mut_slice());
         Some(allocation)
     }
 }
@@ -155,20 +144,14 @@ fn total(votes: &[u64]) -> u128
 }
 
 /// The parties, before a seat is given.
-fn parties_with(votes: &[u64]) -> [Party; MOST_PARTIES]
+fn parties_with(votes: &[u64]) -> ArrayVec<Party, MOST_PARTIES>
     requires { length votes.now ≤ most_parties }
-    ensures votes { votes_of (take (length votes.now) result) ≡ votes.now }
-    ensures fresh { AllByRecursion (λ c. c.seats ≡ 0) (take (length votes.now) result) }
+    ensures votes { votes_of result.items ≡ votes.now }
+    ensures fresh { AllByRecursion (λ c. c.seats ≡ 0) result.items }
 {
-    let nobody = Party {
-        votes: 0,
-        seats: 0,
-        is_tied: false,
-        has_more: false,
-    };
-    let mut parties = [nobody; MOST_PARTIES];
-    for i in 0..votes.len() {
-        parties[i].votes = votes[i];
+    let mut parties = ArrayVec::new();
+    for &votes in votes {
+        parties.push(Party::new(votes));
     }
     parties
 }
@@ -201,12 +184,9 @@ fn allocation_of(parties: &[Party]) -> Allocation
     requires valid { IsChoosing parties.now }
     ensures { result ≡ allocation parties.now }
 {
-    let mut seats = [0; MOST_PARTIES];
-    for i in 0..parties.len() {
-        seats[i] = parties[i].next_seats();
+    let mut seats = ArrayVec::new();
+    for party in parties {
+        seats.push(party.next_seats());
     }
-    Allocation {
-        seats,
-        parties: parties.len(),
-    }
+    Allocation { seats }
 }
