@@ -5,7 +5,7 @@ use Rattle.std.specs.Fmt.{digits}
 use Rattle.std.specs.Prelude.{codes}
 use Rattle.std.proofs.lemmas.Bool.{both_ways}
 use Rattle.ballot_base.specs.Lists.{lists_of}
-use Rattle.ballot_base.specs.Ballots.{Election, Row, election}
+use Rattle.ballot_base.specs.Ballots.{Election, election}
 use Rattle.group_check.specs.declared.property.Property.TheVariants.{Jr, Pjr, Ejr}
 use Rattle.group_check.specs.declared.property.Violation.{Violation}
 use Rattle.group_check.specs.Report.{violation_of, first_violation}

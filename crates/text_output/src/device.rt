@@ -9,7 +9,7 @@ use std::io;
 use std::io::{Read, Write};
 use std::marker::Model;
 
-/// A device that tells whether a call on it has failed so far.
+/// A device that records whether a call on it has failed.
 pub trait Device {
     ghost has_failed: { Self → Bool };
 
@@ -18,16 +18,16 @@ pub trait Device {
         ensures { result ≡ has_failed self.now };
 }
 
-/// What bytes are read from.
+/// A device that bytes are read from.
 pub trait Source: Device {
-    // The bytes that reads will give from here on, where they are known.
+    // The bytes that reads will give from here on, if they are known.
     ghost remaining: { Self → Option (List ℕ) };
 
     // How many bytes reads have given so far.
     ghost given: { Self → ℕ };
 
-    /// Reads into the front of `buf`. A count of 0 for a `buf` with room says that nothing is left. An error of any
-    /// kind is a failed call.
+    /// Reads into the front of `buf`, and returns how many bytes it read. A count of 0 for a `buf` with room says that
+    /// nothing is left. An error of any kind is a failed call.
     fn read(&mut self, buf: &mut [u8]) -> io::Result<usize>
         ensures bound { ReadsAtMost result buf.new }
         ensures bytes { ReadConsumes (remaining self.old) (remaining self.new) result buf.new }
@@ -35,12 +35,12 @@ pub trait Source: Device {
         ensures failed { Self.has_failed self.new ≡ (Self.has_failed self.old || is_err result) };
 }
 
-/// What bytes are written to.
+/// A device that bytes are written to.
 pub trait Sink: Device {
-    // The bytes that were taken, where they are known.
+    // The bytes that were taken, if they are known.
     ghost contents: { Self → Option (List ℕ) };
 
-    /// Takes bytes from the front of `buf`, and answers how many. An error of any kind is a failed call, and so is
+    /// Takes bytes from the front of `buf`, and returns how many. An error of any kind is a failed call, and so is
     /// a count of 0 for one or more bytes.
     fn write(&mut self, buf: &[u8]) -> io::Result<usize>
         ensures bound { WritesAtMost result buf.now }

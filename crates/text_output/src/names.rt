@@ -12,7 +12,7 @@ use std::alloc::Allocator;
 use std::marker::Model;
 
 /// The names that stand beside numbers. Contracts see the list of them from candidate 1 on, with `[]` for one without a
-/// name; or None where none are wanted.
+/// name; or `None` if names are not wanted.
 #[derive(Drop)]
 pub struct Names<'a, A: Allocator + Copy> {
     are_wanted: bool,
@@ -138,7 +138,8 @@ fn print_seated_names<W: Sink, A: Allocator + Copy>(
     Ok(())
 }
 
-/// Prints a tab and the names of the parties with a seat, where names are wanted.
+/// Prints a tab and the names of the parties with a seat, if names are wanted. Parties are numbered from 1, and `seats`
+/// has the seats of each.
 pub fn print_beside_seats<W: Sink, A: Allocator + Copy>(
     printer: &mut Printer<'_, W>,
     names: &Names<'_, A>,
@@ -169,7 +170,7 @@ fn print_beside_members<W: Sink, A: Allocator + Copy>(
     print_member_names(printer, profile, members)
 }
 
-/// Prints the members, and their names beside them where they are wanted.
+/// Prints the numbers of the members, and a tab and their names after them if names are wanted.
 pub fn print_candidates<W: Sink, A: Allocator + Copy>(
     printer: &mut Printer<'_, W>,
     names: &Names<'_, A>,
