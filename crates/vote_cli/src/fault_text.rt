@@ -1,8 +1,8 @@
 //! The text of a fault of the input.
 ghost use Rattle.std.specs.Prelude.{◌≡◌, [], is_ok};
-ghost use Rattle.vote_cli.specs.FaultText.{fault_text};
 ghost use Rattle.text_output.specs.Steps.Printing.{Sends};
 ghost use Rattle.text_output.specs.Text.{line};
+ghost use Rattle.vote_cli.specs.FaultText.{fault_text};
 
 use itoa::Buffer;
 use preflib_text::ReadFault;

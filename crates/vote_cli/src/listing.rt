@@ -2,9 +2,9 @@
 //! answers through one trait.
 ghost use Rattle.std.specs.Prelude.{◌≡◌, ◌≢◌, ◌-◌, ℕ, List, Some, [], is_ok, option_map, false, true};
 ghost use Rattle.std.specs.Iterator.{YieldsFirstBy};
-ghost use Rattle.vote_cli.specs.Listing.{allocation_line, answers_text, committee_line, has_more, last_line};
 ghost use Rattle.text_output.specs.Names.{Names};
 ghost use Rattle.text_output.specs.Steps.Printing.{Prints};
+ghost use Rattle.vote_cli.specs.Listing.{allocation_line, answers_text, committee_line, has_more, last_line};
 
 use ballot_base::CandSet;
 use seat_share::{Allocation, Shares};

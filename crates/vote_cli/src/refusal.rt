@@ -1,9 +1,9 @@
 //! Why a run ends without an answer, or with only a beginning of one.
 ghost use Rattle.std.specs.Prelude.{◌≡◌, ◌++◌, [], codes, is_ok};
-ghost use Rattle.vote_cli.specs.Steps.RequestFaults.{request_fault_word};
-ghost use Rattle.vote_cli.specs.Steps.Refusals.{error_of, status_of};
 ghost use Rattle.text_output.specs.Steps.Printing.{Sends};
 ghost use Rattle.text_output.specs.Text.{line};
+ghost use Rattle.vote_cli.specs.Steps.RequestFaults.{request_fault_word};
+ghost use Rattle.vote_cli.specs.Steps.Refusals.{error_of, status_of};
 
 use crate::fault_text::write_fault;
 use crate::status::{OUT_OF_MEMORY, Status, WRITE_FAILED};

@@ -1,7 +1,7 @@
 //! The text of allocations of seats.
 ghost use Rattle.std.specs.Prelude.{◌≡◌, ◌++◌, is_ok};
-ghost use Rattle.vote_cli.specs.Listing.{allocation_line, answers_text};
 ghost use Rattle.text_output.specs.Steps.Printing.{Prints, Sends};
+ghost use Rattle.vote_cli.specs.Listing.{allocation_line, answers_text};
 ghost use Rattle.vote_cli.specs.ShareText.{share_header};
 
 use crate::listing::print_listing;
