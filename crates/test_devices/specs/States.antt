@@ -1,6 +1,6 @@
 -- What is told of the devices, by what contracts see of them.
 use Rattle.std.specs.Prelude.{ℕ, Bool, List, Some}
-use Rattle.vote_cli.specs.Device.{ReaderState, WriterState}
+use Rattle.text_output.specs.Device.{ReaderState, WriterState}
 use Rattle.test_devices.specs.declared.devices.Fault.{Fault}
 
 -- of a reader over bytes

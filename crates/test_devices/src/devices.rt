@@ -2,7 +2,7 @@
 ghost use Rattle.std.specs.Prelude.{◌≡◌, ◌≢◌, ◌↔◌, ◌≤◌, ◌+◌, ◌-◌, ◌^◌, ◌==◌, ◌||◌, [], Some, true, false, IsErr, is_err, length, min, if◌then◌else◌};
 ghost use Rattle.std.specs.Io.{ReadsAtMost, WritesAtMost};
 ghost use Rattle.std.specs.Io.KnownBytes.{ReadConsumes, WriteAppends};
-ghost use Rattle.vote_cli.specs.Device.{bytes_given, is_failed_write};
+ghost use Rattle.text_output.specs.Device.{bytes_given, is_failed_write};
 ghost use Rattle.test_devices.specs.Faults.{IsDue};
 
 use preflib_text::Trace;
@@ -10,7 +10,7 @@ use std::alloc::Global;
 use std::io;
 use std::io::ErrorKind;
 use std::marker::Model;
-use vote_cli::{Device, Sink, Source};
+use text_output::{Device, Sink, Source};
 
 /// A reader over bytes. Contracts see the bytes that it has still to give, whether a call has failed, how many calls
 /// there are up to the one that fails (0 where none is to), and how many bytes it has given.

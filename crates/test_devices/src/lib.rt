@@ -1,8 +1,6 @@
-//! For tests: devices that fail, and runs over them.
+//! For tests: devices that fail.
 #![tactic(auto)]
 
 pub mod devices;
-pub mod runs;
 
 pub use devices::{Fault, Recorder, SliceReader};
-pub use runs::{Ended, reader, run_on, writer};

@@ -16,8 +16,8 @@ use Rattle.preflib_text.specs.declared.pick.Pick.{Pick}
 use Rattle.preflib_text.proofs.ReadLemmas.{outcome_is_one, some_outcome_is}
 use Rattle.request_words.specs.Request.{Request, Task, electing, checking, sharing, of_ballots, of_votes}
 use Rattle.vote_cli.specs.FaultText.{fault_text}
-use Rattle.vote_cli.specs.Names.{naming}
-use Rattle.vote_cli.specs.CheckText.{holds_text, violation_text}
+use Rattle.text_output.specs.Names.{naming}
+use Rattle.text_output.specs.CheckText.{holds_text, violation_text}
 use Rattle.vote_cli.specs.declared.status.Status.TheVariants.{InputRefused}
 use Rattle.vote_cli.specs.Answer.{Answer, IsAnswer, IsAnswerOver, IsAnswerTo, IsCheckAnswer, answered, ballots_answer, election_answer, may_be_checked, request_refused, refused, share_answer, violated}
 use Rattle.vote_cli.proofs.StartLemmas.{may_be_checked-is}

@@ -14,20 +14,13 @@ use Rattle.tie_walk.specs.Sequences.{hit_weights}
 use Rattle.vote_cli.specs.ElectText.{best_text, elect_answers, elect_header, elect_text, rule_lines, score_text, scored_header}
 use Rattle.request_words.specs.Request.{whole}
 use Rattle.vote_cli.specs.Listing.{allocation_line, answers_text, committee_line, has_more, last_line, listing_text, within_limit}
-use Rattle.vote_cli.specs.Names.{beside, called, candidates_text, joined, name_or_number, names_text, naming}
 use Rattle.vote_cli.specs.Starts.{has_seats_for, may_start}
-use Rattle.vote_cli.specs.Steps.Names.{IsName, listed_name, listed_names, names_in}
 use Rattle.vote_cli.specs.RuleValues.{value_by}
-use Rattle.vote_cli.specs.Steps.Numbers.{following_text}
-use Rattle.vote_cli.specs.Text.{line, numbers_text}
+use Rattle.text_output.specs.Text.{line}
 use Rattle.seat_share.specs.declared.method.Method.TheVariants.{Dhondt, SainteLague, Adams}
 use Rattle.seat_share.specs.Allocations.{lists_with_sum}
-use Rattle.vote_cli.specs.Parties.{has_many_approved, approvals_of, party_votes, seated_parties}
+use Rattle.vote_cli.specs.Parties.{has_many_approved, approvals_of, party_votes}
 use Rattle.vote_cli.specs.ShareText.{share_header, share_text}
-use Rattle.group_check.specs.declared.property.Property.TheVariants.{Jr, Pjr, Ejr}
-use Rattle.group_check.specs.declared.property.Violation.{Violation}
-use Rattle.group_check.specs.Report.{violation_of, first_violation}
-use Rattle.vote_cli.specs.CheckText.{holds_text, set_or_dash, within_text, row_text, level_text, voters_text, group_text, claim_text, violation_text}
 
 -- two voters approve 1 and 2, and one approves 3
 abbrev rows : List Row
@@ -37,20 +30,6 @@ abbrev three : Election
 three = election 3 ([] ∷ [] ∷ [] ∷ []) rows
 
 -- ---- texts
-a_line : line (codes "end") ≡ codes "end" ++ 10 ∷ []
-a_line = refl
-
-numbers : numbers_text (1 ∷ 20 ∷ 3 ∷ []) ≡ codes "1,20,3"
-unfolding digits
-numbers = refl
-
-no_numbers : numbers_text [] ≡ []
-no_numbers = refl
-
-following : following_text (20 ∷ 3 ∷ []) ≡ codes ",20,3"
-unfolding digits
-following = refl
-
 head : scored_header (Thiele Av) 3 1 2 ≡ codes "rule av" ++ 10 ∷ codes "size 1" ++ 10 ∷ codes "score 2/1" ++ 10 ∷ []
 unfolding digits
 head = refl
@@ -71,36 +50,6 @@ sequential_head = refl
 -- candidate 2 has no name
 abbrev red_and_blue : List (List ℕ)
 red_and_blue = codes "Red" ∷ [] ∷ codes "Blue" ∷ []
-
-callings : (called red_and_blue 3 ≡ codes "Blue") × (called red_and_blue 2 ≡ codes "2") × (called red_and_blue 14 ≡ codes "14") × (called [] 1 ≡ codes "1")
-unfolding digits
-callings = (refl, refl, refl, refl)
-
-names_and_numbers : (name_or_number (codes "Red") 7 ≡ codes "Red") × (name_or_number [] 7 ≡ codes "7") × (naming true red_and_blue ≡ Some red_and_blue) × (naming false red_and_blue ≡ None)
-unfolding digits
-names_and_numbers = (refl, refl, refl, refl)
-
-all_names : names_text red_and_blue (1 ∷ 2 ∷ 3 ∷ []) ≡ codes "Red; 2; Blue"
-unfolding digits
-all_names = refl
-
-pieces : joined (codes ", ") (codes "a" ∷ codes "b" ∷ []) ≡ codes "a, b"
-pieces = refl
-
-beside_numbers : (beside (Some red_and_blue) (1 ∷ 3 ∷ []) ≡ 9 ∷ codes "Red; Blue") × (beside (Some red_and_blue) [] ≡ 9 ∷ []) × (beside None (1 ∷ 3 ∷ []) ≡ [])
-beside_numbers = (refl, refl, refl)
-
-named_candidates : (candidates_text (Some red_and_blue) (1 ∷ 3 ∷ []) ≡ codes "1,3" ++ 9 ∷ codes "Red; Blue") × (candidates_text None (1 ∷ 3 ∷ []) ≡ codes "1,3")
-unfolding digits
-named_candidates = (refl, refl)
-
-names_in_a_row : (listed_name false red_and_blue 3 ≡ codes "; Blue") × (listed_names true red_and_blue (1 ∷ 3 ∷ []) ≡ codes "Red; Blue")
-names_in_a_row = (refl, refl)
-
--- without a profile no candidate has a name
-found_names : (names_in None ≡ []) × (names_in (Some (record { ref_ptr = (0, 0); now = three })) ≡ [] ∷ [] ∷ [] ∷ [])
-    × (IsName red_and_blue 2 None) × (IsName red_and_blue 3 (Some (record { ref_ptr = (0, 0); now = codes "Blue" })))
-found_names = (refl, refl, refl, refl)
 
 -- ---- starts
 seats_of_three : (has_seats_for 3 (5 ∷ 0 ∷ 0 ∷ []) ≡ true) × (has_seats_for 3 (4 ∷ 2 ∷ []) ≡ false) × (has_seats_for 3 (10001 ∷ 0 ∷ 0 ∷ []) ≡ false)
@@ -181,90 +130,6 @@ elected_later : elect_text (Scored (Thiele Av)) 1 (record { after = Some (1 ∷ 
 unfolding digits lists_of increments
 elected_later = refl
 
--- ---- reports
--- three voters approve 1 and 2, and one approves 3 and 4
-abbrev divided : Election
-divided = election 4 ([] ∷ [] ∷ [] ∷ [] ∷ []) ((1 ∷ 2 ∷ [], 3) ∷ (3 ∷ 4 ∷ [], 1) ∷ [])
-
--- two voters approve 1, 2 and 3
-abbrev united : Election
-united = election 4 ([] ∷ [] ∷ [] ∷ [] ∷ []) ((1 ∷ 2 ∷ 3 ∷ [], 2) ∷ [])
-
--- with the committee of 3 and 4, the voters of 1 break both properties
-abbrev by_jr : Violation
-by_jr = violation_of Jr divided (3 ∷ 4 ∷ []) 1 (1 ∷ [], [])
-
-abbrev by_pjr : Violation
-by_pjr = violation_of Pjr divided (3 ∷ 4 ∷ []) 1 (1 ∷ [], [])
-
-holds : holds_text ≡ codes "holds" ++ 10 ∷ []
-holds = refl
-
-sets : (set_or_dash (Some red_and_blue) [] ≡ codes "-") × (set_or_dash None (1 ∷ 20 ∷ []) ≡ codes "1,20") × (set_or_dash (Some red_and_blue) (1 ∷ []) ≡ codes "1" ++ 9 ∷ codes "Red")
-unfolding digits
-sets = (refl, refl, refl)
-
-within_texts : (within_text None Pjr (3 ∷ []) ≡ line (codes "within 3")) × (within_text (Some red_and_blue) Pjr [] ≡ line (codes "within -")) × (within_text None Ejr [] ≡ []) × (within_text None Jr [] ≡ [])
-unfolding digits
-within_texts = (refl, refl, refl, refl)
-
-a_row : row_text None (1 ∷ 20 ∷ [], 3) ≡ line (codes "3: 1,20")
-unfolding digits
-a_row = refl
-
-an_empty_row : (row_text None ([], 3) ≡ line (codes "3: ")) × (row_text (Some red_and_blue) ([], 3) ≡ line (codes "3: " ++ 9 ∷ []))
-unfolding digits
-an_empty_row = (refl, refl)
-
-levels : level_text Ejr 20 ≡ line (codes "violated ejr") ++ line (codes "level 20")
-unfolding digits
-levels = refl
-
-group_sizes : voters_text 3 40 ≡ line (codes "voters 3 of 40")
-unfolding digits
-group_sizes = refl
-
--- those who approve 3 and 4 are not in the group
-their_rows : group_text None by_jr divided.rows ≡ line (codes "3: 1,2")
-unfolding digits
-their_rows = refl
-
-claims : claim_text None by_pjr ≡ line (codes "violated pjr") ++ line (codes "level 1") ++ line (codes "candidates 1") ++ line (codes "within -")
-unfolding digits
-claims = refl
-
-report_by_jr : violation_text None by_jr divided
-    ≡ line (codes "violated jr") ++ line (codes "level 1") ++ line (codes "candidates 1") ++ line (codes "voters 3 of 4") ++ line (codes "3: 1,2")
-unfolding digits
-report_by_jr = refl
-
-report_by_pjr : violation_text None by_pjr divided
-    ≡ line (codes "violated pjr") ++ line (codes "level 1") ++ line (codes "candidates 1") ++ line (codes "within -") ++ line (codes "voters 3 of 4") ++ line (codes "3: 1,2")
-unfolding digits
-report_by_pjr = refl
-
--- the same with names
-named_report : violation_text (Some red_and_blue) by_pjr divided
-    ≡ line (codes "violated pjr") ++ line (codes "level 1") ++ line (codes "candidates 1" ++ 9 ∷ codes "Red") ++ line (codes "within -") ++ line (codes "voters 3 of 4") ++ line (codes "3: 1,2" ++ 9 ∷ codes "Red; 2")
-unfolding digits
-named_report = refl
-
--- at level 2 the voters may have 3 alone
-report_within : violation_text None (violation_of Pjr united (3 ∷ 4 ∷ []) 2 (1 ∷ 2 ∷ [], 3 ∷ [])) united
-    ≡ line (codes "violated pjr") ++ line (codes "level 2") ++ line (codes "candidates 1,2") ++ line (codes "within 3") ++ line (codes "voters 2 of 2") ++ line (codes "2: 1,2,3")
-unfolding digits
-report_within = refl
-
-report_by_ejr : violation_text None (violation_of Ejr united (3 ∷ 4 ∷ []) 2 (1 ∷ 2 ∷ [], [])) united
-    ≡ line (codes "violated ejr") ++ line (codes "level 2") ++ line (codes "candidates 1,2") ++ line (codes "voters 2 of 2") ++ line (codes "2: 1,2,3")
-unfolding digits
-report_by_ejr = refl
-
--- and these are the reports of a check
-first_reports : (first_violation Jr divided (3 ∷ 4 ∷ []) 1 ≡ Some by_jr) × (first_violation Pjr divided (3 ∷ 4 ∷ []) 1 ≡ Some by_pjr)
-unfolding lists_of
-first_reports = (refl, refl)
-
 -- ---- seats
 -- of three parties, two voters are for 1 and four for 3, and one is for none
 abbrev party_rows : List Row
@@ -299,9 +164,6 @@ shared_two_ways : share_text Dhondt 2 whole None (party_votes parties)
     ≡ line (codes "method dhondt") ++ line (codes "seats 2") ++ line (codes "0,0,2") ++ line (codes "1,0,1") ++ line (codes "end")
 unfolding digits lists_with_sum
 shared_two_ways = refl
-
-parties_with_seats : (seated_parties (2 ∷ 0 ∷ 1 ∷ []) ≡ 1 ∷ 3 ∷ []) × (seated_parties (0 ∷ 0 ∷ []) ≡ [])
-parties_with_seats = (refl, refl)
 
 -- the first of them, with the names of the parties that have a seat
 shared_with_names : share_text Dhondt 2 (record { after = None; limit = Some 1 }) (Some red_and_blue) (party_votes parties)

@@ -1,10 +1,7 @@
 pub mod AnswerLaws
 pub mod Examples
-pub mod NameLemmas
 pub mod PageLaws
 pub mod PartyLemmas
-pub mod PrintingLemmas
-pub mod ReportLemmas
 pub mod RestLaws
 pub mod RunExamples
 pub mod RunLemmas

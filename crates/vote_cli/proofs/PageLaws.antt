@@ -20,10 +20,10 @@ use Rattle.seat_share.specs.declared.method.ShareFault.{ShareFault}
 use Rattle.vote_cli.specs.FaultText.{fault_text}
 use Rattle.vote_cli.specs.Laws.{IsCut, IsListed, IsListedBy, IsPart, IsSameRefusal, Listed, asked_for, elect_listed, front, is_listing, line_for, page_of, share_listed, with_page}
 use Rattle.vote_cli.specs.Listing.{last_line, listing_text}
-use Rattle.vote_cli.specs.Names.{Names, naming}
+use Rattle.text_output.specs.Names.{Names, naming}
 use Rattle.vote_cli.specs.Parties.{has_many_approved, party_votes}
 use Rattle.vote_cli.specs.Starts.{may_start}
-use Rattle.vote_cli.specs.Text.{line}
+use Rattle.text_output.specs.Text.{line}
 use Rattle.vote_cli.specs.declared.status.Status.TheVariants.{InputRefused}
 use Rattle.vote_cli.specs.Answer.{Answer, IsAnswer, IsAnswerOver, IsAnswerTo, answered, ballots_answer, election_answer, request_refused, refused, share_answer, share_answer_by}
 

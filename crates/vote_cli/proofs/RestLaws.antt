@@ -36,7 +36,7 @@ use Rattle.vote_cli.specs.ElectText.{elect_answers}
 use Rattle.vote_cli.specs.FaultText.{fault_text}
 use Rattle.vote_cli.specs.Laws.{IsListed, IsListedBy, IsRest, Listed, asked_for, elect_listed, front, is_listing, later_of, page_from, share_listed, text_after, with_page}
 use Rattle.vote_cli.specs.Listing.{answers_text, has_more, last_line, within_limit}
-use Rattle.vote_cli.specs.Names.{Names, naming}
+use Rattle.text_output.specs.Names.{Names, naming}
 use Rattle.vote_cli.specs.Parties.{has_many_approved, party_votes}
 use Rattle.vote_cli.specs.RuleValues.{value_by}
 use Rattle.vote_cli.specs.Starts.{has_seats_for, may_start}

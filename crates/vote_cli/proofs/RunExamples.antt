@@ -1,5 +1,5 @@
 -- Answers and what runs leave, computed on small examples.
-use Rattle.std.proofs.Common.{◌≡◌, ℕ, zero, suc, arith, ◌+◌, ◌^◌, List, [], ◌∷◌, ◌++◌, true, false, true≢false, sym, Some, None, Ok, Err, inl, inr, refl, lit≤, Bool, Option}
+use Rattle.std.proofs.Common.{◌≡◌, ℕ, zero, suc, arith, ◌+◌, ◌^◌, List, [], ◌∷◌, ◌++◌, true, false, true≢false, sym, Some, None, Ok, Err, inl, inr, refl, lit≤, Bool}
 use Rattle.std.specs.Prelude.{codes}
 use Rattle.std.specs.List.{range_with_len}
 use Rattle.std.proofs.lemmas.Bool.{both_ways}
@@ -14,19 +14,16 @@ use Rattle.vote_cli.specs.declared.answers.Outcome.TheVariants as outcome
 use Rattle.vote_cli.specs.declared.refusal.RequestFault.TheVariants as request_fault
 use Rattle.vote_cli.specs.declared.refusal.Refusal.TheVariants as refusal
 use Rattle.request_words.specs.Request.{Request, Task, IsPage, Page, electing, checking, of_ballots, of_votes, sharing, whole, InRange}
-use Rattle.vote_cli.specs.Device.{is_failed_write, bytes_given, AppendsBeginning, ReaderState, WriterState, reader_state, writer_state}
+use Rattle.text_output.specs.Device.{ReaderState, WriterState}
 use Rattle.vote_cli.specs.Laws.{IsCut, IsListed, IsPart, IsRest, IsSameRefusal, Listed, asked_for, elect_listed, front, is_listing, later_of, line_for, page_from, share_listed, text_after, with_page}
 use Rattle.vote_cli.specs.Listing.{allocation_line, committee_line}
 use Rattle.vote_cli.specs.Starts.{has_seats_for}
 use Rattle.vote_cli.specs.Status.{code_of}
 use Rattle.vote_cli.specs.Steps.Sharing.{IsShareRefusal, IsSharedOut}
 use Rattle.ballot_base.specs.Increments.{increments}
-use Rattle.vote_cli.specs.Text.{line}
+use Rattle.text_output.specs.Text.{line}
 use Rattle.seat_share.specs.declared.method.Method.TheVariants.{Dhondt}
 use Rattle.seat_share.specs.Allocations.{lists_with_sum}
-use Rattle.std.specs.Borrow.{MutBor}
-use Rattle.vote_cli.specs.declared.printing.Printer.{Printer}
-use Rattle.vote_cli.specs.Steps.Printing.{Prints, Sends}
 use Rattle.vote_cli.specs.Answer.{Answer, answered, violated, refused, request_refused, election_answer, IsCheckAnswer, may_be_checked, share_answer, share_answer_by, ballots_answer, IsAnswer}
 use Rattle.vote_cli.specs.Runs.{Ends, FailsToRead, IsAllRead, IsRight, IsTooLong, ReadsInput, ReadsSoundly, Reports, has_votes, input_for, memory_line, read_failed_line, write_failed_line}
 use Rattle.vote_cli.specs.Steps.Refusals.{IsRefusal, IsUnread, status_of, error_of, ReadsBallots, TellsOfReads, TellsOfWrites, ReadsOn, WritesRight, outcome_status}
@@ -276,18 +273,6 @@ lines : (memory_line ≡ codes "committees: memory" ++ 10 ∷ []) × (read_faile
 lines = (refl, refl, refl)
 
 -- ---- devices
-failed_writes : (is_failed_write {E = ℕ} (Ok 0) (1 ∷ []) ≡ true) × (is_failed_write {E = ℕ} (Ok 0) [] ≡ false)
-    × (is_failed_write {E = ℕ} (Ok 1) (1 ∷ 2 ∷ []) ≡ false) × (is_failed_write {E = ℕ} (Err 1) [] ≡ true)
-failed_writes = (refl, refl, refl, refl)
-
--- a read of five bytes, and a failed one
-given_by_reads : (bytes_given {E = ℕ} (Ok 5) ≡ 5) × (bytes_given {E = ℕ} (Err 7) ≡ 0)
-given_by_reads = (refl, refl)
-
--- two bytes of three are taken
-two_of_three : AppendsBeginning (Some (7 ∷ [])) (Some (7 ∷ 1 ∷ 2 ∷ [])) (1 ∷ 2 ∷ 3 ∷ [])
-two_of_three = (1 ∷ 2 ∷ [], 3 ∷ [], refl, refl)
-
 -- a reader of these bytes that was not read yet, and one that gave five bytes and has failed, or not
 abbrev read_of : List ℕ → Bool → ℕ → ReaderState
 read_of bytes has_failed given = record { remaining = Some bytes; has_failed = has_failed; given = given }
@@ -307,11 +292,6 @@ sound = silent false 5
 abbrev wrote : List ℕ → Bool → WriterState
 wrote bytes has_failed = record { contents = Some bytes; has_failed = has_failed }
 
--- what is told of a device that is a pair or a triple
-states : (reader_state (λ (r : Option (List ℕ) × Bool × ℕ). r.0) (λ r. r.1) (λ r. r.2) (None, true, 5) ≡ broken)
-    × (writer_state (λ (w : List ℕ × Bool). Some w.0) (λ w. w.1) (1 ∷ [], true) ≡ wrote (1 ∷ []) true)
-states = (refl, refl)
-
 sound_reads : ReadsSoundly unread sound
 sound_reads = record { unfailed = refl; few = omega arith }
 
@@ -328,46 +308,6 @@ reported = record { beginning = (line (codes "a"), [], refl, refl); whole = λ u
 
 reported_in_part : Reports (wrote [] false) (wrote (codes "a") true) (line (codes "a"))
 reported_in_part = record { beginning = (codes "a", 10 ∷ [], refl, refl); whole = λ unfailed. absurd (both_ways true unfailed refl) }
-
--- a writer as the bytes that it took, and whether a call on it has failed
-abbrev Taken : Type 0
-Taken = List ℕ × Bool
-
-abbrev taken : Taken → Option (List ℕ)
-taken writer = Some writer.0
-
-abbrev is_broken : Taken → Bool
-is_broken writer = writer.1
-
--- a printer over such a writer, with what waits
-abbrev printer : MutBor Taken → Taken → List ℕ → Printer Taken
-printer out writer waiting = record { out = record out { now = writer }; pending = record { items = waiting } }
-
--- 3 is printed after 1 and 2, of which 1 is sent
-printed : (out : MutBor Taken)
-    → Prints taken is_broken (printer out ([], false) (1 ∷ 2 ∷ [])) (printer out (1 ∷ [], false) (2 ∷ 3 ∷ [])) true (3 ∷ [])
-printed out = record {
-  same_writer = refl;
-  passed = record {
-    sent = 1 ∷ [];
-    rest = 2 ∷ 3 ∷ [];
-    order = refl;
-    took = refl;
-    whole = λ ok. (refl, refl);
-    broken = λ ok. absurd (both_ways true ok refl);
-  };
-}
-
--- a write of 1, 2 and 3 breaks off after 1
-sent_in_part : Sends taken is_broken ([], false) (1 ∷ [], true) false (1 ∷ 2 ∷ 3 ∷ [])
-sent_in_part = record {
-  sent = 1 ∷ [];
-  rest = 2 ∷ 3 ∷ [];
-  order = refl;
-  took = refl;
-  whole = λ ok. absurd (both_ways false refl ok);
-  broken = λ ok. refl;
-}
 
 -- ---- statuses
 status_codes : (code_of Answered ≡ 0) × (code_of Violated ≡ 1) × (code_of InputRefused ≡ 3) × (code_of RequestRefused ≡ 4) × (code_of NoMemory ≡ 5) × (code_of DeviceFailed ≡ 6)

@@ -13,14 +13,14 @@ use Rattle.group_check.specs.declared.property.Property.{Property}
 use Rattle.group_check.specs.declared.property.Violation.{Violation}
 use Rattle.seat_share.specs.declared.method.Method.{Method}
 use Rattle.vote_cli.specs.Parties.{has_many_approved, party_votes}
-use Rattle.vote_cli.specs.CheckText.{holds_text, violation_text}
+use Rattle.text_output.specs.CheckText.{holds_text, violation_text}
 use Rattle.preflib_text.specs.Limits.{word_limit}
 use Rattle.preflib_text.specs.Lines.{lines_of}
 use Rattle.preflib_text.specs.Reading.{Reads}
 use Rattle.preflib_text.specs.Pieces.{LacksMemory}
 use Rattle.preflib_text.specs.declared.fault.ReadFault.{ReadFault}
 use Rattle.preflib_text.specs.declared.pick.Pick.{Pick}
-use Rattle.vote_cli.specs.declared.printing.WriteFailed.{WriteFailed as Broken}
+use Rattle.text_output.specs.declared.printing.WriteFailed.{WriteFailed as Broken}
 use Rattle.vote_cli.specs.declared.answers.Outcome.{Outcome}
 use Rattle.vote_cli.specs.declared.answers.Outcome.TheVariants as outcome
 use Rattle.vote_cli.specs.declared.refusal.Refusal.{Refusal}
@@ -32,13 +32,13 @@ use Rattle.request_words.specs.Request.{Request, Page, Question, of_ballots}
 use Rattle.request_words.specs.declared.request.Rule.{Rule}
 use Rattle.vote_cli.specs.ElectText.{elect_text}
 use Rattle.vote_cli.specs.FaultText.{fault_text}
-use Rattle.vote_cli.specs.Device.{ReaderState, WriterState}
-use Rattle.vote_cli.specs.Names.{Names, naming}
+use Rattle.text_output.specs.Device.{ReaderState, WriterState}
+use Rattle.text_output.specs.Names.{Names, naming}
 use Rattle.vote_cli.specs.Steps.RequestFaults.{request_fault_word}
 use Rattle.vote_cli.specs.Answer.{Answer, IsAnswer, IsAnswerAbout, IsAnswerOver, IsAnswerTo, IsCheckAnswer, ballots_answer, may_be_checked, share_answer, answered, request_refused, refused, violated}
 use Rattle.vote_cli.specs.Runs.{Ends, IsRight, IsTooLong, ReadsSoundly, Reports, input_for}
-use Rattle.vote_cli.specs.Steps.Printing.{Passes}
-use Rattle.vote_cli.proofs.PrintingLemmas.{alone}
+use Rattle.text_output.specs.Steps.Printing.{Passes}
+use Rattle.text_output.proofs.PrintingLemmas.{alone}
 use Rattle.vote_cli.proofs.StartLemmas.{may_be_checked-true}
 use Rattle.vote_cli.specs.Steps.Refusals.{WritesRight, IsRefusal, ReadsBallots, ReadsOn, TellsOfReads, TellsOfWrites, error_of, status_of, outcome_status}
 

@@ -1,8 +1,7 @@
--- The text of lists of numbers, and of listings, in the parts that are printed one after the other.
-use Rattle.std.proofs.Common.{◌≡◌, ℕ, zero, suc, ◌-◌, ◌≤◌, Bool, true, false, List, [], ◌∷◌, ◌++◌, Option, Some, None, refl, sym, ap, ◌∙◌, append_assoc, append-nil, length, take, drop, get_or, arith}
-use Rattle.std.specs.Prelude.{decimal, codes, flat_map, nat_lt, option_map}
+-- The text of listings, in the parts that are printed one after the other.
+use Rattle.std.proofs.Common.{◌≡◌, ℕ, zero, suc, ◌-◌, Bool, true, false, List, [], ◌∷◌, ◌++◌, Option, Some, None, refl, sym, ap, ◌∙◌, append_assoc, length, take, arith}
+use Rattle.std.specs.Prelude.{codes, flat_map, nat_lt, option_map}
 use Rattle.std.proofs.lemmas.Bool.{lt-ltb, le-ltb, ltb-true, ltb-false}
-use Rattle.std.proofs.lemmas.List.{take_all}
 use Rattle.ballot_base.specs.Ballots.{Election}
 use Rattle.ballot_base.specs.Lists.{later_than}
 use Rattle.request_words.specs.Request.{Page}
@@ -15,21 +14,8 @@ use Rattle.tie_walk.specs.Values.{Thiele as Tally, closeness, satisfaction_value
 use Rattle.tie_walk.specs.Winners.{best_value, winners}
 use Rattle.vote_cli.specs.ElectText.{elect_text, scored_header}
 use Rattle.vote_cli.specs.Listing.{answers_text, committee_line, has_more, last_line, listing_text}
-use Rattle.vote_cli.specs.Names.{Names}
-use Rattle.vote_cli.specs.Steps.Numbers.{following_text}
-use Rattle.vote_cli.specs.Text.{line, numbers_text}
-
--- numbers with commas between them are the first, and the others with a comma before each
-pub numbers_text-cons : (n : ℕ) (ns : List ℕ) → numbers_text (n ∷ ns) ≡ decimal n ++ following_text ns
-numbers_text-cons n [] = sym (append-nil (decimal n))
-numbers_text-cons n (next ∷ ns) = ap (λ l. decimal n ++ 44 ∷ l) (numbers_text-cons next ns)
-
--- some numbers, as the first of them and the others
-pub first_and_others : (numbers : List ℕ) → 1 ≤ length numbers → numbers ≡ get_or numbers 0 0 ∷ take (length numbers - 1) (drop 1 numbers)
-first_and_others [] some = absurd (omega (arith, some))
-first_and_others (first ∷ others) some = ap (λ l. first ∷ l) (sym (take_all (length (first ∷ others) - 1) others (omega arith)))
-
--- ---- listings
+use Rattle.text_output.specs.Names.{Names}
+use Rattle.text_output.specs.Text.{line}
 
 -- nothing is left
 pub none_listed : (line_of : List ℕ → List ℕ) (limit : Option ℕ) (answers : List (List ℕ)) → answers ≡ [] → answers_text line_of limit answers ≡ line (codes "end")

@@ -23,12 +23,12 @@ use Rattle.request_words.specs.Request.{Request, Task, Page, Question, electing,
 use Rattle.request_words.specs.Request.{of_ballots, of_votes}
 use Rattle.vote_cli.specs.ElectText.{elect_text}
 use Rattle.vote_cli.specs.FaultText.{fault_text}
-use Rattle.vote_cli.specs.Names.{Names, naming}
+use Rattle.text_output.specs.Names.{Names, naming}
 use Rattle.vote_cli.specs.Parties.{has_many_approved, party_votes}
-use Rattle.vote_cli.specs.CheckText.{holds_text, violation_text}
+use Rattle.text_output.specs.CheckText.{holds_text, violation_text}
 use Rattle.vote_cli.specs.ShareText.{share_text}
 use Rattle.vote_cli.specs.Starts.{has_seats_for, may_start}
-use Rattle.vote_cli.specs.Text.{line}
+use Rattle.text_output.specs.Text.{line}
 
 -- the text, the status, and the error line with its end, or nothing where there is none
 pub record Answer : Type 0 where

@@ -12,9 +12,9 @@ use Rattle.request_words.specs.declared.request.ScoredRule.TheVariants.{Thiele, 
 use Rattle.tie_walk.specs.Sequences.{sequential_winners}
 use Rattle.tie_walk.specs.Winners.{best_value, winners}
 use Rattle.vote_cli.specs.Listing.{committee_line, listing_text}
-use Rattle.vote_cli.specs.Names.{Names}
+use Rattle.text_output.specs.Names.{Names}
 use Rattle.vote_cli.specs.RuleValues.{value_by}
-use Rattle.vote_cli.specs.Text.{line}
+use Rattle.text_output.specs.Text.{line}
 
 -- a score over its denominator, which is not reduced
 abbrev pub score_text : ℕ → ℕ → List ℕ

@@ -13,11 +13,11 @@ use Rattle.seat_share.specs.declared.method.Method.{Method}
 use Rattle.vote_cli.specs.Answer.{Answer, answered, request_refused}
 use Rattle.vote_cli.specs.ElectText.{elect_answers, elect_header}
 use Rattle.vote_cli.specs.Listing.{allocation_line, committee_line, has_more, last_line, listing_text, within_limit}
-use Rattle.vote_cli.specs.Names.{Names, naming}
+use Rattle.text_output.specs.Names.{Names, naming}
 use Rattle.vote_cli.specs.Parties.{party_votes}
 use Rattle.vote_cli.specs.ShareText.{share_header}
 use Rattle.vote_cli.specs.Starts.{has_seats_for, may_start}
-use Rattle.vote_cli.specs.Text.{line}
+use Rattle.text_output.specs.Text.{line}
 
 -- whether the answer to a task is a list of answers
 abbrev pub is_listing : Task → Bool

@@ -1,11 +1,8 @@
 pub mod Answer
-pub mod CheckText
-pub mod Device
 pub mod ElectText
 pub mod FaultText
 pub mod Laws
 pub mod Listing
-pub mod Names
 pub mod Parties
 pub mod RuleValues
 pub mod Runs
@@ -13,4 +10,3 @@ pub mod ShareText
 pub mod Starts
 pub mod Status
 pub mod Steps
-pub mod Text

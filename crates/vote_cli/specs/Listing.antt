@@ -3,9 +3,8 @@ use Rattle.std.specs.Prelude.{ℕ, Bool, true, false, List, ◌++◌, Option, So
 use Rattle.std.specs.Prelude.{codes, flat_map, length, nat_lt, take}
 use Rattle.ballot_base.specs.Lists.{later_than}
 use Rattle.request_words.specs.Request.{Page}
-use Rattle.vote_cli.specs.Names.{Names, beside, candidates_text}
-use Rattle.vote_cli.specs.Parties.{seated_parties}
-use Rattle.vote_cli.specs.Text.{line, numbers_text}
+use Rattle.text_output.specs.Names.{Names, beside, candidates_text, seated_parties}
+use Rattle.text_output.specs.Text.{line, numbers_text}
 
 -- the line of a committee: its members, and their names where they are wanted
 abbrev pub committee_line : Names → List ℕ → List ℕ

@@ -1,5 +1,5 @@
 -- Ballots for one party each.
-use Rattle.std.specs.Prelude.{ℕ, ◌-◌, Bool, List, length, map, filter, nat_lt, slice_index}
+use Rattle.std.specs.Prelude.{ℕ, Bool, List, length, map, filter, nat_lt}
 use Rattle.std.specs.List.{list_any, range_with_len}
 use Rattle.ballot_base.specs.CandSet.{has_member}
 use Rattle.ballot_base.specs.Ballots.{Election, Row, voter_count}
@@ -15,7 +15,3 @@ approvals_of rows candidate = voter_count (filter (λ row. has_member row.0 cand
 -- the votes of the candidates as parties, from the first on: how many voters approve each
 abbrev pub party_votes : Election → List ℕ
 party_votes election = map (approvals_of election.rows) (range_with_len 1 election.m)
-
--- the parties, numbered from 1, that have at least one of these seats
-abbrev pub seated_parties : List ℕ → List ℕ
-seated_parties seats = filter (λ party. nat_lt 0 (slice_index seats (party - 1))) (range_with_len 1 (length seats))

@@ -5,8 +5,8 @@ use Rattle.std.specs.Io.KnownBytes.{Appends}
 use Rattle.preflib_text.specs.Limits.{word_limit}
 use Rattle.request_words.specs.Request.{Request, Task, of_ballots, of_votes}
 use Rattle.vote_cli.specs.Answer.{Answer, IsAnswer}
-use Rattle.vote_cli.specs.Device.{AppendsBeginning, ReaderState, WriterState}
-use Rattle.vote_cli.specs.Text.{line}
+use Rattle.text_output.specs.Device.{AppendsBeginning, ReaderState, WriterState}
+use Rattle.text_output.specs.Text.{line}
 use Rattle.vote_cli.specs.declared.status.Status.{Status}
 use Rattle.vote_cli.specs.declared.status.Status.TheVariants.{NoMemory, DeviceFailed}
 

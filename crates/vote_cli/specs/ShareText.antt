@@ -5,8 +5,8 @@ use Rattle.seat_share.specs.Names.{method_name}
 use Rattle.seat_share.specs.declared.method.Method.{Method}
 use Rattle.request_words.specs.Request.{Page}
 use Rattle.vote_cli.specs.Listing.{allocation_line, listing_text}
-use Rattle.vote_cli.specs.Names.{Names}
-use Rattle.vote_cli.specs.Text.{line}
+use Rattle.text_output.specs.Names.{Names}
+use Rattle.text_output.specs.Text.{line}
 
 -- the lines before the allocations: the method and the seats
 abbrev pub share_header : Method → ℕ → List ℕ

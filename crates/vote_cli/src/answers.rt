@@ -9,12 +9,9 @@ ghost use Rattle.vote_cli.specs.Steps.Refusals.{WritesRight, TellsOfWrites, outc
 ghost use Rattle.vote_cli.specs.Steps.RequestFaults.{request_fault_word};
 ghost use Rattle.vote_cli.specs.Steps.Sharing.{IsShareRefusal, IsSharedOut};
 
-use crate::check_text::{Report, write_holds};
 use crate::committee::committee_of;
-use crate::device::Sink;
 use crate::elect_text::Listing;
 use crate::election::answer_election;
-use crate::names::Names;
 use crate::parties::votes_of;
 use crate::refusal::{Refusal, RequestFault};
 use crate::share_text::Sharing;
@@ -25,6 +22,7 @@ use group_check::{Property, find_violation};
 use request_words::Question;
 use seat_share::Shares;
 use std::alloc::Allocator;
+use text_output::{Names, Report, Sink, write_holds};
 
 /// What an answer that was written says.
 #[derive(Clone, Copy, Debug, PartialEq, Eq)]

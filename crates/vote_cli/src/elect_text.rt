@@ -2,25 +2,23 @@
 ghost use Rattle.std.specs.Prelude.{◌≡◌, ◌≤◌, ◌++◌, IfErr, IfOk, is_ok};
 ghost use Rattle.ballot_base.specs.Limits.{most_members};
 ghost use Rattle.request_words.specs.Request.{page_of};
+ghost use Rattle.text_output.specs.Steps.Printing.{Prints, Sends};
+ghost use Rattle.text_output.specs.Text.{line};
 ghost use Rattle.tie_walk.specs.Winners.{IsStart, best_value, winners};
 ghost use Rattle.vote_cli.specs.Answer.{answered, election_answer, request_refused};
 ghost use Rattle.vote_cli.specs.ElectText.{best_text, elect_text, rule_lines, score_text, scored_header};
 ghost use Rattle.vote_cli.specs.Listing.{answers_text, committee_line, listing_text};
-ghost use Rattle.vote_cli.specs.Steps.Printing.{Prints, Sends};
 ghost use Rattle.vote_cli.specs.Steps.RequestFaults.{request_fault_word};
 ghost use Rattle.vote_cli.specs.Steps.Starts.{IsStart-prop};
-ghost use Rattle.vote_cli.specs.Text.{line};
 
-use crate::device::Sink;
 use crate::listing::print_listing;
-use crate::names::Names;
-use crate::printing::{Printer, WriteFailed};
 use crate::refusal::RequestFault;
 use crate::starts::committee_start;
 use ballot_base::{CandSet, Increments, Profile, common_multiple};
 use itoa::Buffer;
 use request_words::{Page, Rule, ScoredRule};
 use std::alloc::Allocator;
+use text_output::{Names, Printer, Sink, WriteFailed};
 use tie_families::FamilyWinners;
 use tie_walk::{SeqRule, Tally, Winners};
 

@@ -5,12 +5,12 @@ ghost use Rattle.vote_cli.specs.ElectText.{elect_text};
 ghost use Rattle.vote_cli.specs.Steps.Refusals.{TellsOfWrites, WritesRight};
 
 use crate::answers::Outcome;
-use crate::device::Sink;
 use crate::elect_text::Listing;
 use crate::refusal::Refusal;
 use ballot_base::ThieleRule;
 use request_words::{Rule, ScoredRule};
 use std::alloc::Allocator;
+use text_output::Sink;
 use tie_families::{Families, FamilyWinners};
 use tie_search::{ExactTally, MinimaxSearch, ThieleSearch};
 use tie_walk::{SavTally, ThieleTally};

@@ -1,13 +1,12 @@
 //! The text of a fault of the input.
 ghost use Rattle.std.specs.Prelude.{◌≡◌, [], is_ok};
+ghost use Rattle.text_output.specs.Steps.Printing.{Sends};
+ghost use Rattle.text_output.specs.Text.{line};
 ghost use Rattle.vote_cli.specs.FaultText.{fault_text};
-ghost use Rattle.vote_cli.specs.Steps.Printing.{Sends};
-ghost use Rattle.vote_cli.specs.Text.{line};
 
-use crate::device::Sink;
-use crate::printing::{WriteFailed, write_pieces};
 use itoa::Buffer;
 use preflib_text::ReadFault;
+use text_output::{Sink, WriteFailed, write_pieces};
 
 /// Writes a line on a fault.
 pub(crate) fn write_fault<W: Sink>(out: &mut W, fault: ReadFault) -> Result<(), WriteFailed>

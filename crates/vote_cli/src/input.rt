@@ -2,14 +2,14 @@
 ghost use Rattle.std.specs.Prelude.{◌≡◌, ◌<◌, ◌+◌, ◌++◌, length, IfOk, IfErr, IfSome};
 ghost use Rattle.preflib_text.specs.Approvals.{HasNumber};
 ghost use Rattle.preflib_text.specs.Limits.{word_limit};
-ghost use Rattle.vote_cli.specs.Device.{reader_state};
+ghost use Rattle.text_output.specs.Device.{reader_state};
 ghost use Rattle.vote_cli.specs.Steps.Refusals.{IsUnread, ReadsOn};
 
-use crate::device::Source;
 use crate::refusal::Refusal;
 use crate::storage::Storage;
 use preflib_text::{FaultName, LineReader, Pick};
 use std::alloc::Allocator;
+use text_output::Source;
 
 /// How many bytes are read at once.
 const PIECE: usize = 8192;

@@ -2,17 +2,16 @@
 //! answers through one trait.
 ghost use Rattle.std.specs.Prelude.{◌≡◌, ◌≢◌, ◌-◌, ℕ, List, Some, [], is_ok, option_map, false, true};
 ghost use Rattle.std.specs.Iterator.{YieldsFirstBy};
+ghost use Rattle.text_output.specs.Names.{Names};
+ghost use Rattle.text_output.specs.Steps.Printing.{Prints};
 ghost use Rattle.vote_cli.specs.Listing.{allocation_line, answers_text, committee_line, has_more, last_line};
-ghost use Rattle.vote_cli.specs.Names.{Names};
-ghost use Rattle.vote_cli.specs.Steps.Printing.{Prints};
 
-use crate::device::Sink;
-use crate::names::{Names, print_beside_seats, print_candidates};
-use crate::numbers::print_seats;
-use crate::printing::{Printer, WriteFailed};
 use ballot_base::CandSet;
 use seat_share::{Allocation, Shares};
 use std::alloc::Allocator;
+use text_output::{
+    Names, Printer, Sink, WriteFailed, print_beside_seats, print_candidates, print_seats,
+};
 use tie_families::FamilyWinners;
 use tie_walk::{Tally, Winners};
 

@@ -1,17 +1,16 @@
 //! Why a run ends without an answer, or with only a beginning of one.
 ghost use Rattle.std.specs.Prelude.{◌≡◌, ◌++◌, [], codes, is_ok};
+ghost use Rattle.text_output.specs.Steps.Printing.{Sends};
+ghost use Rattle.text_output.specs.Text.{line};
 ghost use Rattle.vote_cli.specs.Steps.RequestFaults.{request_fault_word};
 ghost use Rattle.vote_cli.specs.Steps.Refusals.{error_of, status_of};
-ghost use Rattle.vote_cli.specs.Steps.Printing.{Sends};
-ghost use Rattle.vote_cli.specs.Text.{line};
 
-use crate::device::Sink;
 use crate::fault_text::write_fault;
-use crate::printing::{WriteFailed, write_pieces};
 use crate::status::{OUT_OF_MEMORY, Status, WRITE_FAILED};
 use preflib_text::{FaultName, ReadFault};
 use seat_share::ShareFault;
 use std::alloc::AllocError;
+use text_output::{Sink, WriteFailed, write_pieces};
 
 /// Why a request does not fit the input, or its votes.
 #[derive(Clone, Copy, Debug, PartialEq, Eq)]

@@ -4,15 +4,13 @@
 //! `LeavesRun` (`specs/Runs.antt`) says what a run leaves on its devices.
 ghost use Rattle.std.specs.Prelude.{◌≡◌, ◌≢◌, Err, IfSome, true};
 ghost use Rattle.preflib_text.specs.Approvals.{HasNumber};
-ghost use Rattle.vote_cli.specs.Device.{reader_state, writer_state};
+ghost use Rattle.text_output.specs.Device.{reader_state, writer_state};
 ghost use Rattle.vote_cli.specs.Runs.{IsRight, LeavesRun, Reports, has_votes};
 ghost use Rattle.vote_cli.specs.Steps.Refusals.{WritesRight, ReadsBallots, ReadsOn};
 ghost use Rattle.vote_cli.specs.Steps.Refusals.{TellsOfReads, TellsOfWrites, error_of, status_of};
 
 use crate::answers::{Ballots, Outcome, answer_share};
-use crate::device::{Sink, Source};
 use crate::input::read_to_end;
-use crate::names::Names;
 use crate::refusal::Refusal;
 use crate::share_text::Sharing;
 use crate::status::Status;
@@ -21,6 +19,7 @@ use ballot_base::{BallotHashing, Profile};
 use preflib_text::{LineReader, Pick};
 use request_words::{Request, Task};
 use std::alloc::Allocator;
+use text_output::{Names, Sink, Source};
 
 /// The ballots of what was fed, or why there are none.
 fn ballots_of<A: Allocator + Copy + Drop>(lines: LineReader<A>) -> Result<Profile<A>, Refusal>

@@ -1,17 +1,15 @@
 //! The text of allocations of seats.
 ghost use Rattle.std.specs.Prelude.{◌≡◌, ◌++◌, is_ok};
+ghost use Rattle.text_output.specs.Steps.Printing.{Prints, Sends};
 ghost use Rattle.vote_cli.specs.Listing.{allocation_line, answers_text};
-ghost use Rattle.vote_cli.specs.Steps.Printing.{Prints, Sends};
 ghost use Rattle.vote_cli.specs.ShareText.{share_header};
 
-use crate::device::Sink;
 use crate::listing::print_listing;
-use crate::names::Names;
-use crate::printing::{Printer, WriteFailed};
 use itoa::Buffer;
 use request_words::Page;
 use seat_share::{Method, Shares};
 use std::alloc::Allocator;
+use text_output::{Names, Printer, Sink, WriteFailed};
 
 /// Prints the lines of the method and the seats.
 fn print_header<W: Sink>(

@@ -5,6 +5,7 @@ mod growths;
 mod listings;
 mod long;
 mod rest;
+mod runs;
 mod streams;
 mod support;
 mod tables;

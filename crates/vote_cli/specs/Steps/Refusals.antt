@@ -8,11 +8,11 @@ use Rattle.vote_cli.specs.declared.answers.Outcome.{Outcome}
 use Rattle.vote_cli.specs.declared.answers.Outcome.TheVariants as outcome
 use Rattle.vote_cli.specs.declared.refusal.Refusal.{Refusal}
 use Rattle.vote_cli.specs.declared.refusal.Refusal.TheVariants.{Input, Request, Memory, ReadFailed, WriteFailed}
-use Rattle.vote_cli.specs.Device.{AppendsBeginning, ReaderState}
+use Rattle.text_output.specs.Device.{AppendsBeginning, ReaderState}
 use Rattle.vote_cli.specs.Runs.{FailsToRead, IsAllRead, ReadsInput, ReadsSoundly, has_votes}
 use Rattle.vote_cli.specs.Runs.{memory_line, read_failed_line, write_failed_line}
 use Rattle.vote_cli.specs.Steps.RequestFaults.{request_fault_word}
-use Rattle.vote_cli.specs.Text.{line}
+use Rattle.text_output.specs.Text.{line}
 use Rattle.preflib_text.specs.declared.fault.FaultName.TheVariants as name
 use Rattle.preflib_text.specs.declared.fault.ReadFault.{ReadFault}
 use Rattle.preflib_text.specs.declared.pick.Pick.{Pick}

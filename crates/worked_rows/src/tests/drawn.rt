@@ -1,9 +1,9 @@
 //! Elections of drawn ballots, the same each time.
+use super::runs::{reader, run_on, writer};
 use super::support::{assert_leaves, request};
 use std::alloc::Global;
 use std::fmt::Write;
 use std::process::Abort;
-use test_devices::{reader, run_on, writer};
 
 /// The next state of a linear congruential generator (Knuth's).
 fn next_state(state: u64) -> u64 {

@@ -1,9 +1,10 @@
 //! Reads and writes that fail.
 use super::long::{all_beside_one, report_of_all};
+use super::runs::{reader, run_on, writer};
 use super::support::{ANSWER, THREE, Wanted, assert_ended, ending, request};
 use std::alloc::Global;
 use std::process::Abort;
-use test_devices::{Fault, Recorder, SliceReader, reader, run_on, writer};
+use test_devices::{Fault, Recorder, SliceReader};
 use vote_cli::Request;
 
 const READ_FAILED: &[u8] = b"committees: read failed\n";

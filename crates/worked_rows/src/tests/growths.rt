@@ -1,11 +1,12 @@
 //! Growths that are refused, one after the other.
 ghost use Rattle.std.specs.Prelude.{◌≤◌};
 
+use super::runs::{reader, run_on, writer};
 use super::support::{ANSWER, THREE, assert_ended, ending, request};
 use refusing_heap::Refusing;
 use std::alloc::Global;
 use std::process::Abort;
-use test_devices::{Fault, Recorder, SliceReader, reader, run_on, writer};
+use test_devices::{Fault, Recorder, SliceReader};
 use vote_cli::Request;
 
 /// More growths than any of the calls below asks for.

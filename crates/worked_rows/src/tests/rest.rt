@@ -1,9 +1,10 @@
 //! Answers that a failed write cut off, and the second runs that fetch the rest.
 use super::listings::{LISTINGS, Listing, listing_of};
+use super::runs::{reader, run_on, writer};
 use super::support::{THREE, Wanted, assert_ended, assert_leaves, request};
 use std::alloc::Global;
 use std::process::Abort;
-use test_devices::{Fault, Recorder, reader, run_on, writer};
+use test_devices::{Fault, Recorder};
 
 /// Asserts that a second run fetches what is missing after this beginning of a text: it starts after the last whole
 /// answer, with what is left of the limit. If no answer is whole, or if the limit leaves only the last line missing,

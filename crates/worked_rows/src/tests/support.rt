@@ -2,10 +2,10 @@
 ghost use Rattle.std.specs.Prelude.{◌≡◌, ◌==◌, ◌||◌};
 ghost use Rattle.vote_cli.specs.Status.{code_of};
 
+use super::runs::{Ended, reader, run_on, writer};
 use std::alloc::Global;
 use std::fmt::Write;
 use std::process::Abort;
-use test_devices::{Ended, reader, run_on, writer};
 use vote_cli::{Device, Request, read_request};
 
 /// Three candidates and two ballots: two voters approve 1 and 2, and one voter approves 3.

@@ -8,10 +8,11 @@ mod pages;
 mod refusals;
 mod shares;
 
+use super::runs::{run_on, writer};
 use super::support::{assert_ended, ending, request, written_out};
 use std::alloc::Global;
 use std::process::Abort;
-use test_devices::{SliceReader, run_on, writer};
+use test_devices::SliceReader;
 
 /// Asserts a row of a table over an input, which comes as a whole and in single bytes.
 fn assert_row(rt: &impl Abort, alloc: Global, row: &str, input: &[u8]) {

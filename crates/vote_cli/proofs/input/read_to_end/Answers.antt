@@ -2,7 +2,7 @@ use Rattle.std.proofs.Common.{◌≡◌, ◌<◌, ◌∙◌, ◌++◌, [], ap, a
 use Rattle.std.proofs.lemmas.List.{length-append}
 use Rattle.std.proofs.KnownBytes.{Consumes-trans}
 use Rattle.std.specs.Io.KnownBytes.{Consumes}
-use Rattle.vote_cli.specs.Device.{reader_state}
+use Rattle.text_output.specs.Device.{reader_state}
 use Rattle.vote_cli.proofs.RunLemmas.{fed_whole, none_left, passed_memory, too_many, unfailed}
 use Rattle.vote_cli.proofs.input.read_to_end.Goals as goal
 

@@ -1,8 +1,7 @@
 use Rattle.std.proofs.Common.{refl, sym, [], ◌∷◌, ◌++◌, append_assoc}
-use Rattle.vote_cli.specs.Names.{beside}
-use Rattle.vote_cli.specs.Parties.{seated_parties}
-use Rattle.vote_cli.specs.Text.{numbers_text}
-use Rattle.vote_cli.proofs.PrintingLemmas.{breaks_off, breaks_off_after, goes_on_after, Prints-ok, Prints-last}
+use Rattle.text_output.specs.Names.{beside, seated_parties}
+use Rattle.text_output.specs.Text.{numbers_text}
+use Rattle.text_output.proofs.PrintingLemmas.{breaks_off, breaks_off_after, goes_on_after, Prints-ok, Prints-last}
 use Rattle.vote_cli.proofs.listing.print_allocation.Goals as goal
 
 pub returns-in_err-print_seats : goal.returns-in_err-print_seats

@@ -1,5 +1,5 @@
 use Rattle.std.proofs.Common.{sym, append-nil}
-use Rattle.vote_cli.proofs.PrintingLemmas.{goes_on}
+use Rattle.text_output.proofs.PrintingLemmas.{goes_on}
 use Rattle.vote_cli.proofs.listing.print_answer.Goals as goal
 
 pub returns-then-is_first : goal.returns-then-is_first

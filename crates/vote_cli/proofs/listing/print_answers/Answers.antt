@@ -1,6 +1,6 @@
 use Rattle.std.proofs.Common.{ap, sym, refl, ◌∙◌, ◌++◌, append_assoc, []}
 use Rattle.vote_cli.specs.Listing.{answers_text}
-use Rattle.vote_cli.proofs.PrintingLemmas.{breaks_off_after, goes_on_after, Prints-nothing, Prints-last}
+use Rattle.text_output.proofs.PrintingLemmas.{breaks_off_after, goes_on_after, Prints-nothing, Prints-last}
 use Rattle.vote_cli.proofs.TextLemmas.{none_listed, one_listed, last_listed}
 use Rattle.vote_cli.proofs.listing.print_answers.Goals as goal
 

@@ -1,6 +1,6 @@
 use Rattle.std.proofs.Common.{◌≡◌, ℕ, ◌++◌, List, length, true}
 use Rattle.vote_cli.specs.Listing.{answers_text}
-use Rattle.vote_cli.specs.Steps.Printing.{Prints}
+use Rattle.text_output.specs.Steps.Printing.{Prints}
 use Rattle.vote_cli.proofs.listing.print_answers.Given as goal
 
 -- the answers so far were printed, and the others are left

@@ -1,5 +1,5 @@
 use Rattle.std.proofs.Common.{refl, [], ◌∷◌}
-use Rattle.vote_cli.proofs.PrintingLemmas.{breaks_off, goes_on}
+use Rattle.text_output.proofs.PrintingLemmas.{breaks_off, goes_on}
 use Rattle.vote_cli.proofs.listing.print_committee.Goals as goal
 
 pub returns-in_err-print_candidates : goal.returns-in_err-print_candidates

@@ -1,6 +1,6 @@
 use Rattle.std.proofs.Common.{refl, sym, append-nil, []}
 use Rattle.vote_cli.specs.Listing.{answers_text}
-use Rattle.vote_cli.proofs.PrintingLemmas.{breaks_off, breaks_off_after, goes_on_after, Prints-last, Prints-ok}
+use Rattle.text_output.proofs.PrintingLemmas.{breaks_off, breaks_off_after, goes_on_after, Prints-last, Prints-ok}
 use Rattle.vote_cli.proofs.listing.print_listing.Goals as goal
 
 pub returns-in_err-send-clause-printed : goal.returns-in_err-send-clause-printed

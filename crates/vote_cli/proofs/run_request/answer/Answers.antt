@@ -1,7 +1,7 @@
 use Rattle.std.proofs.Common.{◌∙◌, ap, refl, sym}
 use Rattle.std.proofs.KnownBytes.{Appends-nil}
 use Rattle.request_words.specs.Request.{task_of, question_of}
-use Rattle.vote_cli.specs.Device.{reader_state}
+use Rattle.text_output.specs.Device.{reader_state}
 use Rattle.vote_cli.proofs.RunLemmas.{writes_over, writes_unread}
 use Rattle.vote_cli.proofs.run_request.answer.Goals as goal
 

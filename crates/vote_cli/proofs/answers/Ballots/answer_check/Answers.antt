@@ -1,7 +1,7 @@
 use Rattle.std.proofs.Common.{◌≡◌, false, inl, refl, rules, subst}
 use Rattle.std.proofs.KnownBytes.{Appends-nil}
 use Rattle.vote_cli.specs.Answer.{IsCheckAnswer, answered, may_be_checked, violated}
-use Rattle.vote_cli.specs.CheckText.{holds_text, violation_text}
+use Rattle.text_output.specs.CheckText.{holds_text, violation_text}
 use Rattle.vote_cli.proofs.RunLemmas.{check_holds, check_violated, writes_part, writes_whole}
 use Rattle.vote_cli.proofs.StartLemmas.{may_be_checked-false}
 use Rattle.vote_cli.proofs.answers.Ballots.answer_check.Goals as goal

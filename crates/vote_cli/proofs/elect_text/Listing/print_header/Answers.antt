@@ -1,7 +1,7 @@
 use Rattle.std.proofs.Common.{refl}
 use Rattle.vote_cli.specs.ElectText.{best_text}
-use Rattle.vote_cli.specs.Text.{line}
-use Rattle.vote_cli.proofs.PrintingLemmas.{breaks_off, goes_on}
+use Rattle.text_output.specs.Text.{line}
+use Rattle.text_output.proofs.PrintingLemmas.{breaks_off, goes_on}
 use Rattle.vote_cli.proofs.elect_text.Listing.print_header.Goals as goal
 
 pub returns-in_err-print_rule : goal.returns-in_err-print_rule

@@ -1,6 +1,6 @@
 use Rattle.std.proofs.Common.{rules, ◌∙◌}
 use Rattle.vote_cli.proofs.TextLemmas.{winners_parts}
-use Rattle.vote_cli.proofs.PrintingLemmas.{breaks_off, goes_on, Sends-by, Sends-cut}
+use Rattle.text_output.proofs.PrintingLemmas.{breaks_off, goes_on, Sends-by, Sends-cut}
 use Rattle.vote_cli.proofs.elect_text.Listing.write_scored.Goals as goal
 
 pub returns-in_err-print_header : goal.returns-in_err-print_header

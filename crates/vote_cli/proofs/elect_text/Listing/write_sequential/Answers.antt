@@ -1,5 +1,5 @@
 use Rattle.std.proofs.Common.{refl, rules}
-use Rattle.vote_cli.proofs.PrintingLemmas.{breaks_off, goes_on, Sends-by, Sends-cut}
+use Rattle.text_output.proofs.PrintingLemmas.{breaks_off, goes_on, Sends-by, Sends-cut}
 use Rattle.vote_cli.proofs.elect_text.Listing.write_sequential.Goals as goal
 
 pub returns-in_err-print_rule : goal.returns-in_err-print_rule

@@ -1,5 +1,5 @@
 use Rattle.std.proofs.Common.{refl, rules}
-use Rattle.vote_cli.proofs.PrintingLemmas.{breaks_off, goes_on, Sends-by, Sends-cut}
+use Rattle.text_output.proofs.PrintingLemmas.{breaks_off, goes_on, Sends-by, Sends-cut}
 use Rattle.vote_cli.proofs.share_text.Sharing.write_shares.Goals as goal
 
 pub returns-in_err-print_header : goal.returns-in_err-print_header

@@ -1,0 +1,5 @@
+mod Examples
+pub mod NameLemmas
+pub mod NumberLemmas
+pub mod PrintingLemmas
+pub mod ReportLemmas

@@ -1,0 +1,206 @@
+-- Prints joined one after the other.
+use Rattle.std.proofs.Common.{◌≡◌, ℕ, ◌<◌, ◌≤◌, ◌+◌, ◌-◌, Bool, true, false, not, ◌&&◌, ◌||◌, List, [], ◌++◌, Option, Some, None, Result, Ok, Err, refl, sym, ap, subst, ◌∙◌, append_assoc, append-nil, length, take, drop, take-append-drop, true≢false, arith, length-drop, get_or, suc}
+use Rattle.std.specs.Prelude.{◌==◌, is_ok, IsErr, flat_map}
+use Rattle.std.specs.Io.KnownBytes.{Appends, Keeps}
+use Rattle.std.proofs.KnownBytes.{Appends-nil, Appends-trans}
+use Rattle.std.proofs.Math.Seq.{take-add, drop-cons}
+use Rattle.std.proofs.lemmas.List.{take_rest}
+use Rattle.text_output.specs.Steps.Printing.{Outlet, Passes, Prints, Sends}
+use Rattle.text_output.specs.declared.printing.Printer.{Printer}
+
+-- a text after a text that was printed
+Passes-then : {a b c : Outlet} {x y : List ℕ} {ok : Bool} → Passes a b true x → Passes b c ok y → Passes a c ok (x ++ y)
+Passes-then {a} {b} {c} {x} {y} first second = record {
+  sent = first.sent ++ second.sent;
+  rest = second.rest;
+  order = append_assoc first.sent second.sent second.rest
+      ∙ ap (λ l. first.sent ++ l) second.order
+      ∙ ap (λ l. first.sent ++ (l ++ y)) (sym (first.whole refl).0)
+      ∙ sym (append_assoc first.sent first.rest y)
+      ∙ ap (λ l. l ++ y) first.order
+      ∙ append_assoc a.waiting x y;
+  took = Appends-trans _ _ _ _ _ first.took second.took;
+  whole = λ e. ((second.whole e).0, (second.whole e).1 ∙ (first.whole refl).1);
+  broken = second.broken;
+}
+
+-- what broke off is a beginning of whatever would have come
+Passes-broken : {a b : Outlet} {x : List ℕ} (y : List ℕ) → Passes a b false x → Passes a b false (x ++ y)
+Passes-broken {a} {b} {x} y broken = record {
+  sent = broken.sent;
+  rest = broken.rest ++ y;
+  order = sym (append_assoc broken.sent broken.rest y) ∙ ap (λ l. l ++ y) broken.order ∙ append_assoc a.waiting x y;
+  took = broken.took;
+  whole = λ e. absurd (true≢false (sym e));
+  broken = broken.broken;
+}
+
+-- no text
+Passes-nothing : (a : Outlet) → Passes a a true []
+Passes-nothing a = record {
+  sent = [];
+  rest = a.waiting;
+  order = sym (append-nil a.waiting);
+  took = Appends-nil a.taken;
+  whole = λ e. (refl, refl);
+  broken = λ e. absurd (true≢false e);
+}
+
+-- a result that is an error
+pub is_ok-err : {V E : Type 0} (r : Result V E) → IsErr r → is_ok r ≡ false
+is_ok-err (Ok v) bad = absurd (true≢false (sym bad))
+is_ok-err (Err e) bad = refl
+
+module _ {W : Type 0} {contents : W → Option (List ℕ)} {has_failed : W → Bool} where
+  -- a text after a text that was printed
+  pub Prints-then : {a b c : Printer W} {x y : List ℕ} {ok : Bool} → Prints contents has_failed a b true x
+      → Prints contents has_failed b c ok y → Prints contents has_failed a c ok (x ++ y)
+  Prints-then first second =
+      record { same_writer = second.same_writer ∙ first.same_writer; passed = Passes-then first.passed second.passed }
+
+  -- what broke off is a beginning of whatever would have come
+  pub Prints-broken : {a b : Printer W} {x : List ℕ} (y : List ℕ) → Prints contents has_failed a b false x
+      → Prints contents has_failed a b false (x ++ y)
+  Prints-broken y broken = record { same_writer = broken.same_writer; passed = Passes-broken y broken.passed }
+
+  -- no text
+  pub Prints-nothing : (a : Printer W) → Prints contents has_failed a a true []
+  Prints-nothing a = record { same_writer = refl; passed = Passes-nothing _ }
+
+  -- a text that waits
+  pub Prints-pending : {a b : Printer W} (x : List ℕ) → b.out ≡ a.out → b.pending.items ≡ a.pending.items ++ x
+      → Prints contents has_failed a b true x
+  Prints-pending {a} {b} x kept same = record {
+    same_writer = ap (λ out. out.ghost_name) kept;
+    passed = record {
+      sent = [];
+      rest = a.pending.items ++ x;
+      order = refl;
+      took = subst (λ out. Appends (contents a.out.now) (contents out.now) []) (sym kept) (Appends-nil (contents a.out.now));
+      whole = λ e. (sym same, ap (λ out. has_failed out.now) kept);
+      broken = λ e. absurd (true≢false e);
+    };
+  }
+
+  -- the text of a call that gave `Ok`
+  pub Prints-ok : {a b : Printer W} {x : List ℕ} {V E : Type 0} (r : Result V E) (v : V) → r ≡ Ok v
+      → Prints contents has_failed a b (is_ok r) x → Prints contents has_failed a b true x
+  Prints-ok {a} {b} {x} r v e h = subst (λ s. Prints contents has_failed a b (is_ok s) x) e h
+
+  -- the same text in other words
+  pub Prints-as : {a b : Printer W} {x y : List ℕ} {ok : Bool} → x ≡ y → Prints contents has_failed a b ok x → Prints contents has_failed a b ok y
+  Prints-as {a} {b} {x} {y} {ok} same h = subst (Prints contents has_failed a b ok) same h
+
+  -- what was printed by a call that gave `Ok`, and what was printed after it
+  pub goes_on : {a b c : Printer W} {x y z : List ℕ} {ok : Bool} {V E : Type 0} (r : Result V E) (v : V) → r ≡ Ok v → z ≡ x ++ y
+      → Prints contents has_failed a b (is_ok r) x → Prints contents has_failed b c ok y → Prints contents has_failed a c ok z
+  goes_on r v e same first second = Prints-as (sym same) (Prints-then (Prints-ok r v e first) second)
+
+  -- where a call gave `Err`, and the function passes that on
+  pub breaks_off : {a b : Printer W} {x z : List ℕ} {V U E F : Type 0} (y : List ℕ) (r : Result V E) (e : E) (q : Result U F) → r ≡ Err e → IsErr q
+      → z ≡ x ++ y → Prints contents has_failed a b (is_ok r) x → Prints contents has_failed a b (is_ok q) z
+  breaks_off y r e (Ok w) was bad same first = absurd (true≢false (sym bad))
+  breaks_off {a} {b} {x} {z} y r e (Err f) was bad same first =
+      let broken : Prints contents has_failed a b false x = subst (λ s. Prints contents has_failed a b (is_ok s) x) was first in
+      Prints-as (sym same) (Prints-broken y broken)
+
+  -- the same after a text that was printed before
+  pub goes_on_after : {a b c : Printer W} {done x : List ℕ} {V E : Type 0} (r : Result V E) (v : V) → r ≡ Ok v
+      → Prints contents has_failed a b true done → Prints contents has_failed b c (is_ok r) x → Prints contents has_failed a c true (done ++ x)
+  goes_on_after r v e first second = Prints-then first (Prints-ok r v e second)
+
+  pub breaks_off_after : {a b c : Printer W} {done x z : List ℕ} {V U E F : Type 0} (rest : List ℕ) (r : Result V E) (e : E) (q : Result U F) → r ≡ Err e → IsErr q
+      → done ++ (x ++ rest) ≡ z → Prints contents has_failed a b true done → Prints contents has_failed b c (is_ok r) x → Prints contents has_failed a c (is_ok q) z
+  breaks_off_after {a} {b} {c} {done} {x} {z} rest r e q was bad same first second =
+      breaks_off rest r e q was bad (sym same ∙ sym (append_assoc done x rest)) (Prints-then first second)
+
+  -- a text after what was printed before, as the last
+  pub Prints-last : {a b c : Printer W} {x y z : List ℕ} {ok : Bool} → z ≡ x ++ y → Prints contents has_failed a b true x
+      → Prints contents has_failed b c ok y → Prints contents has_failed a c ok z
+  Prints-last same first second = Prints-as (sym same) (Prints-then first second)
+
+  -- nothing waits, and a text was sent
+  pub Prints-straight : {a b : Printer W} {x : List ℕ} {ok : Bool} → b.out.ghost_name ≡ a.out.ghost_name → a.pending.items ≡ [] → b.pending.items ≡ a.pending.items
+      → Sends contents has_failed a.out.now b.out.now ok x → Prints contents has_failed a b ok x
+  Prints-straight {a} {b} {x} {ok} same none kept h = record {
+    same_writer = same;
+    passed = record {
+      sent = h.sent;
+      rest = h.rest;
+      order = h.order ∙ ap (λ p. p ++ x) (sym none);
+      took = h.took;
+      whole = λ e. ((h.whole e).0 ∙ sym (kept ∙ none), (h.whole e).1);
+      broken = h.broken;
+    };
+  }
+
+  -- what a printer printed from its first byte to its last, its writer was sent
+  pub Sends-by : {a b : Printer W} {before after : W} {x : List ℕ} {ok : Bool} → a.out.now ≡ before → a.pending.items ≡ [] → (ok ≡ true → b.pending.items ≡ [])
+      → b.out.now ≡ after → Prints contents has_failed a b ok x → Sends contents has_failed before after ok x
+  Sends-by {a} {b} {before} {after} {x} {ok} first none done last h = record {
+    sent = h.passed.sent;
+    rest = h.passed.rest;
+    order = h.passed.order ∙ ap (λ p. p ++ x) none;
+    took = subst (λ w. Appends (contents before) (contents w) h.passed.sent) last
+        (subst (λ w. Appends (contents w) (contents b.out.now) h.passed.sent) first h.passed.took);
+    whole = λ e. ((h.passed.whole e).0 ∙ done e, ap has_failed (sym last) ∙ (h.passed.whole e).1 ∙ ap has_failed first);
+    broken = λ e. ap has_failed (sym last) ∙ h.passed.broken e;
+  }
+
+  -- the same of what it printed before a call that failed
+  pub Sends-cut : {a b : Printer W} {before after : W} {x : List ℕ} {V E : Type 0} → a.out.now ≡ before → a.pending.items ≡ [] → (q : Result V E) → IsErr q
+      → b.out.now ≡ after → Prints contents has_failed a b (is_ok q) x → Sends contents has_failed before after (is_ok q) x
+  Sends-cut first none q bad last h = Sends-by first none (λ e. absurd (true≢false (sym e ∙ is_ok-err q bad))) last h
+
+-- ---- pieces
+
+-- the pieces from one on are that piece and those after it
+pub flat_map-drop : {X : Type 0} (f : X → List ℕ) (xs : List X) (i : ℕ) (d : X) → i < length xs → flat_map f (drop i xs) ≡ f (get_or xs i d) ++ flat_map f (drop (i + 1) xs)
+flat_map-drop f xs i d within = ap (flat_map f) (drop-cons xs i d within) ∙ ap (λ k. f (get_or xs i d) ++ flat_map f (drop k xs)) (add-one-sym i)
+  where
+    add-one-sym : (n : ℕ) → suc n ≡ n + 1
+    add-one-sym n = omega arith
+
+-- ---- the loop that writes
+
+-- a writer alone, of which no byte waits
+abbrev pub alone : Option (List ℕ) → Bool → Outlet
+alone taken has_failed = record { taken = taken; waiting = []; has_failed = has_failed }
+
+pub took-more : (a b c : Option (List ℕ)) (xs : List ℕ) (s n : ℕ) → Appends a b (take s xs) → Appends b c (take n (take (length xs - s) (drop s xs))) → Appends a c (take (s + n) xs)
+took-more a b c xs s n first second =
+    let same : take s xs ++ take n (take (length xs - s) (drop s xs)) ≡ take (s + n) xs =
+    ap (λ l. take s xs ++ take n l) (take_rest xs s) ∙ sym (take-add s n xs) in
+    subst (Appends a c) same (Appends-trans a b c _ _ first second)
+
+pub within-more : (xs : List ℕ) (s n : ℕ) → s ≤ length xs → n ≤ length (take (length xs - s) (drop s xs)) → s + n ≤ length xs
+within-more xs s n low h = omega (arith, rw (take_rest xs s, length-drop s xs) at h)
+
+-- a write that took some bytes did not fail
+pub unfailed-write : (before after : Bool) (n : ℕ) (bytes : List ℕ) → 0 < n → after ≡ (before || ((n == 0) && not (length bytes == 0))) → after ≡ before
+unfailed-write before after n bytes some e = grind (arith, e)
+
+-- and one that took none of some bytes did
+pub failed-write : (before after : Bool) (n : ℕ) (bytes : List ℕ) → n ≤ 0 → 0 < length bytes → after ≡ (before || ((n == 0) && not (length bytes == 0))) → after ≡ true
+failed-write before after n bytes none some e = grind (arith, e)
+
+pub Appends-kept : (a b : Option (List ℕ)) → Keeps a b → Appends a b []
+Appends-kept None b h = tt
+Appends-kept (Some x) None h = h
+Appends-kept (Some x) (Some y) h = h ∙ sym (append-nil x)
+
+pub Appends-none : (a b : Option (List ℕ)) (n : ℕ) (xs : List ℕ) → n ≤ 0 → Appends a b (take n xs) → Appends a b []
+Appends-none a b n xs none h =
+    let same : take n xs ≡ [] = ap (λ k. take k xs) (let z : n ≡ 0 = omega arith in z) in
+    subst (Appends a b) same h
+
+-- the loop broke off after the first s bytes
+pub Passes-part : (a b c : Option (List ℕ)) (xs : List ℕ) (s : ℕ) (before after : Bool) → Appends a b (take s xs) → Appends b c [] → after ≡ true → Passes (alone a before) (alone c after) false xs
+Passes-part a b c xs s before after first second failed = record {
+  sent = take s xs;
+  rest = drop s xs;
+  order = take-append-drop s xs;
+  took = subst (Appends a c) (append-nil (take s xs)) (Appends-trans a b c _ _ first second);
+  whole = λ e. absurd (true≢false (sym e));
+  broken = λ e. failed;
+}

@@ -1,0 +1,5 @@
+pub mod CheckText
+pub mod Device
+pub mod Names
+pub mod Steps
+pub mod Text

@@ -1,0 +1,184 @@
+//! The names that stand beside the numbers of candidates and parties.
+ghost use Rattle.std.specs.Prelude.{◌≡◌, [], MatchOption, None, Some, is_ok};
+ghost use Rattle.text_output.specs.Names.{beside, called, candidates_text, names_text, naming, seated_parties};
+ghost use Rattle.text_output.specs.Steps.Names.{IsName, listed_name, names_in};
+ghost use Rattle.text_output.specs.Steps.Printing.{Prints};
+
+use crate::device::Sink;
+use crate::numbers::{print_members, print_number};
+use crate::printing::{Printer, WriteFailed};
+use ballot_base::{CandSet, Profile};
+use std::alloc::Allocator;
+use std::marker::Model;
+
+/// The names that stand beside numbers. Contracts see the list of them from candidate 1 on, with `[]` for one without a
+/// name; or `None` if names are not wanted.
+#[derive(Drop)]
+pub struct Names<'a, A: Allocator + Copy> {
+    are_wanted: bool,
+    profile: Option<&'a Profile<A>>,
+}
+
+impl<'a, A: Allocator + Copy> Model for Names<'a, A> {
+    ghost use Rattle.text_output.specs.Names.{Names, naming};
+    ghost use Rattle.text_output.specs.Steps.Names.{names_in};
+
+    ghost Value = { Names };
+
+    ghost view = { λ names. naming names.are_wanted (names_in names.profile) };
+}
+
+impl<'a, A: Allocator + Copy> Names<'a, A> {
+    /// The names of the candidates of this profile, if they are wanted.
+    pub fn of(profile: &'a Profile<A>, are_wanted: bool) -> Names<'a, A>
+        ensures { result ≡ naming are_wanted profile.now.names }
+    {
+        Names {
+            are_wanted,
+            profile: Some(profile),
+        }
+    }
+
+    /// No candidate has a name, so that, if names are wanted, numbers stand in their place.
+    pub fn numbers(are_wanted: bool) -> Names<'a, A>
+        ensures { result ≡ naming are_wanted [] }
+    {
+        Names {
+            are_wanted,
+            profile: None,
+        }
+    }
+
+    /// The profile whose candidates are named, if there is one, where names are wanted.
+    fn wanted(&self) -> Option<Option<&'a Profile<A>>>
+        ensures { MatchOption result (self.now ≡ None) (λ profile. self.now ≡ Some (names_in profile)) }
+    {
+        if self.are_wanted {
+            Some(self.profile)
+        } else {
+            None
+        }
+    }
+}
+
+/// The name of a candidate, where there is such a candidate and it has one.
+fn name_of<A: Allocator + Copy>(profile: Option<&Profile<A>>, n: usize) -> Option<&[u8]>
+    ensures { IsName (names_in profile.entry) n result }
+{
+    // No candidate has the number 0.
+    profile?.name(u8::try_from(n).unwrap_or(0))
+}
+
+/// Prints the name of a candidate, or the number where it has none.
+fn print_name<W: Sink, A: Allocator + Copy>(
+    printer: &mut Printer<'_, W>,
+    profile: Option<&Profile<A>>,
+    n: usize,
+) -> Result<(), WriteFailed>
+    ensures { Prints W.contents W.has_failed printer.old printer.new (is_ok result)
+        (called (names_in profile.entry) n) }
+{
+    match name_of(profile, n) {
+        Some(name) => printer.print(name),
+        None => print_number(printer, n),
+    }
+}
+
+/// Prints a name in a row of names: all but the first come after `; `.
+fn print_listed_name<W: Sink, A: Allocator + Copy>(
+    printer: &mut Printer<'_, W>,
+    profile: Option<&Profile<A>>,
+    n: usize,
+    is_first: bool,
+) -> Result<(), WriteFailed>
+    ensures { Prints W.contents W.has_failed printer.old printer.new (is_ok result)
+        (listed_name is_first (names_in profile.entry) n) }
+{
+    if is_first {
+        return print_name(printer, profile, n);
+    }
+    printer.print(b"; ")?;
+    print_name(printer, profile, n)
+}
+
+/// Prints the names of the members.
+fn print_member_names<W: Sink, A: Allocator + Copy>(
+    printer: &mut Printer<'_, W>,
+    profile: Option<&Profile<A>>,
+    set: CandSet,
+) -> Result<(), WriteFailed>
+    ensures { Prints W.contents W.has_failed printer.old printer.new (is_ok result)
+        (names_text (names_in profile.entry) set) }
+{
+    let mut is_first = true;
+    for member in set.members() {
+        print_listed_name(printer, profile, usize::from(member), is_first)?;
+        is_first = false;
+    }
+    Ok(())
+}
+
+/// Prints the names of the parties with a seat.
+fn print_seated_names<W: Sink, A: Allocator + Copy>(
+    printer: &mut Printer<'_, W>,
+    profile: Option<&Profile<A>>,
+    seats: &[u16],
+) -> Result<(), WriteFailed>
+    ensures { Prints W.contents W.has_failed printer.old printer.new (is_ok result)
+        (names_text (names_in profile.entry) (seated_parties seats.now)) }
+{
+    let mut is_first = true;
+    for i in 0..seats.len() {
+        if seats[i] == 0 {
+            continue;
+        }
+        print_listed_name(printer, profile, i + 1, is_first)?;
+        is_first = false;
+    }
+    Ok(())
+}
+
+/// Prints a tab and the names of the parties with a seat, if names are wanted. Parties are numbered from 1, and `seats`
+/// has the seats of each.
+pub fn print_beside_seats<W: Sink, A: Allocator + Copy>(
+    printer: &mut Printer<'_, W>,
+    names: &Names<'_, A>,
+    seats: &[u16],
+) -> Result<(), WriteFailed>
+    ensures { Prints W.contents W.has_failed printer.old printer.new (is_ok result)
+        (beside names.now (seated_parties seats.now)) }
+{
+    let Some(profile) = names.wanted() else {
+        return Ok(());
+    };
+    printer.print(b"\t")?;
+    print_seated_names(printer, profile, seats)
+}
+
+/// Prints a tab and the names of the members, where names are wanted.
+fn print_beside_members<W: Sink, A: Allocator + Copy>(
+    printer: &mut Printer<'_, W>,
+    names: &Names<'_, A>,
+    members: CandSet,
+) -> Result<(), WriteFailed>
+    ensures { Prints W.contents W.has_failed printer.old printer.new (is_ok result) (beside names.now members) }
+{
+    let Some(profile) = names.wanted() else {
+        return Ok(());
+    };
+    printer.print(b"\t")?;
+    print_member_names(printer, profile, members)
+}
+
+/// Prints the numbers of the members, and a tab and their names after them if names are wanted.
+pub fn print_candidates<W: Sink, A: Allocator + Copy>(
+    printer: &mut Printer<'_, W>,
+    names: &Names<'_, A>,
+    members: CandSet,
+) -> Result<(), WriteFailed>
+    ensures { Prints W.contents W.has_failed printer.old printer.new (is_ok result)
+        (candidates_text names.now members) }
+{
+    print_members(printer, members)?;
+    print_beside_members(printer, names, members)
+}

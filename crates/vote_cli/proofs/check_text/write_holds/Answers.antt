@@ -1,9 +1,0 @@
-use Rattle.std.proofs.Common.{rules, sym, append-nil}
-use Rattle.vote_cli.specs.CheckText.{holds_text}
-use Rattle.vote_cli.proofs.PrintingLemmas.{Prints-ok, Prints-last, Sends-by}
-use Rattle.vote_cli.proofs.check_text.write_holds.Goals as goal
-
-pub returns : goal.returns
-returns g c =
-    let all = Prints-ok c.print.result _ c.in_ok-print.was c.print.ensures in
-    Sends-by c.new-printer.ensures.writer c.new-printer.ensures.nothing c.finish.ensures.nothing (search rules) (Prints-last (sym (append-nil holds_text)) all c.finish.ensures.printed)
