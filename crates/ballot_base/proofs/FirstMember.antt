@@ -1,5 +1,5 @@
 -- How many members a word has, the least of them, and the order of two words by their members.
-use Rattle.std.proofs.Common.{◌≡◌, ℕ, zero, suc, ◌+◌, ◌-◌, ◌*◌, ◌/◌, ◌%◌, ◌^◌, ◌<◌, ◌≤◌, ◌==◌, Bool, true, false, cond, List, [], ◌∷◌, refl, sym, ap, ◌∙◌, subst, arith, inl, inr, length, add-one, bit_and, bit_xor, w64, Less, Equal, Greater}
+use Rattle.std.proofs.Common.{◌≡◌, ℕ, zero, suc, ◌+◌, ◌-◌, ◌*◌, ◌/◌, ◌%◌, ◌^◌, ◌<◌, ◌≤◌, ◌==◌, Bool, true, false, cond, min, List, [], ◌∷◌, refl, sym, ap, ◌∙◌, subst, arith, inl, inr, length, add-one, bit_and, bit_xor, w64, Less, Equal, Greater}
 use Rattle.std.specs.Int.Count.{ones-ones}
 use Rattle.std.specs.Int.{bit_at, trailing_zeros}
 use Rattle.std.specs.Int.RustNames.{count_ones}
@@ -10,8 +10,8 @@ use Rattle.std.proofs.lemmas.Cmp.{nat_list_cmp_total}
 use Rattle.std.proofs.lemmas.List.Sums.{sum_by-cons}
 use Rattle.std.proofs.Math.Nat.{mod-eq_of_lt}
 use Rattle.std.proofs.lemmas.Bool.{eq-eqb, eqb-true, ne_eqb, lt-ltb, le-ltb, cases_eq, cases_order, cases_lt}
-use Rattle.std.proofs.lemmas.Nat.{mod_below, mod-pow-add, shr-shr, shr_below, ones_cat, ones_le_self, pow_pos, xor_lt}
-use Rattle.std.proofs.lemmas.Nat.Bits.{bit_at-lt, bit_at-zero, bit_at_above, bit_at-trailing_zeros, bit_at_xor, shr_and_one, same_from_bits}
+use Rattle.std.proofs.lemmas.Nat.{mod_below, mod-pow-add, shr-shr, shr_below, ones_cat, ones_le_self, and_le_l, pow_pos, xor_lt}
+use Rattle.std.proofs.lemmas.Nat.Bits.{bit_at-lt, bit_at-zero, bit_at_above, bit_at-trailing_zeros, bit_at_lowest, bit_at-suc, bit_at_and, bit_at_clear_same, bit_at_clear_other, bit_at_xor, shr_and_one, same_from_bits, same_from_bits_below}
 use Rattle.ballot_base.specs.Limits.{most_candidates}
 use Rattle.ballot_base.specs.Lists.{IsIncreasing}
 use Rattle.ballot_base.specs.CandSet.{has_member, without_member}
@@ -99,15 +99,51 @@ split_members bits h ne =
     least_at bits (trailing_zeros w64 bits) (members bits) h (lowest_below bits h ne) refl z.1 z.2
 
 -- the least member, and the word of the others
+-- the lowest bit is off in the number below
+lowest_off : (t bits : ℕ) → bit_at bits t ≡ 1 → ((i : ℕ) → i < t → bit_at bits i ≡ 0)
+    → (i : ℕ) → min (bit_at bits i) (bit_at (bits - 1) i) ≡ cond (i == t) 0 (bit_at bits i)
+lowest_off zero bits one none zero = omega (arith, bit_at_lowest bits, bit_at_lowest (bits - 1), one)
+lowest_off zero bits one none (suc i) =
+    let half : (bits - 1) / 2 ≡ bits / 2 = omega (arith, bit_at_lowest bits, one) in
+    omega (
+      arith,
+      bit_at-suc bits i,
+      bit_at-suc (bits - 1) i,
+      ap (λ n. bit_at n i) half,
+      ap (λ b. cond b 0 (bit_at bits (suc i))) (ne_eqb (suc i) 0 (λ e. absurd (omega (arith, e)))),
+    )
+lowest_off (suc t) bits one none zero =
+    omega (
+      arith,
+      none 0 (omega arith),
+      ap (λ b. cond b 0 (bit_at bits 0)) (ne_eqb 0 (suc t) (λ e. absurd (omega (arith, e)))),
+    )
+lowest_off (suc t) bits one none (suc i) =
+    let half : (bits - 1) / 2 ≡ bits / 2 - 1 = omega (arith, bit_at_lowest bits, none 0 (omega arith)) in
+    let same : (suc i == suc t) ≡ (i == t) = elim (cases_eq i t) [
+      | inl e ↦ eq-eqb (suc i) (suc t) (ap suc e) ∙ sym (eq-eqb i t e)
+      | inr d ↦ ne_eqb (suc i) (suc t) (λ e. d (omega (arith, e))) ∙ sym (ne_eqb i t d)
+    ] in
+    rw (same, bit_at-suc bits i, bit_at-suc (bits - 1) i, half)
+    (lowest_off t (bits / 2) (sym (bit_at-suc bits t) ∙ one) (λ j low. sym (bit_at-suc bits j) ∙ none (suc j) (omega (arith, low))) i)
+
 pub next_members : (bits : ℕ) → bits < 2 ^ most_candidates → (bits ≡ 0 → ⊥)
-    → members bits ≡ (trailing_zeros w64 bits + 1) ∷ members (bit_and bits (2 ^ 64 - 1 - 1 * 2 ^ trailing_zeros w64 bits % 2 ^ 64))
+    → members bits ≡ (trailing_zeros w64 bits + 1) ∷ members (bit_and bits (bits - 1))
 next_members bits h ne =
     let t = trailing_zeros w64 bits in
     let back : t + 1 - 1 ≡ t = omega arith in
     let low = lowest_below bits h ne in
-    let rest : members (bit_and bits (2 ^ 64 - 1 - 1 * 2 ^ t % 2 ^ 64)) ≡ without_member (members bits) (t + 1) =
+    let word : ℕ = bit_and bits (2 ^ 64 - 1 - 1 * 2 ^ t % 2 ^ 64) in
+    let is = bit_at-trailing_zeros w64 bits (omega (arith, ne)) (omega (arith, h)) in
+    let same : bit_and bits (bits - 1) ≡ word =
+    same_from_bits_below 64 (bit_and bits (bits - 1)) word (omega (arith, and_le_l bits (bits - 1), h)) (omega (arith, and_le_l bits (2 ^ 64 - 1 - 1 * 2 ^ t % 2 ^ 64), h))
+    (λ i within. bit_at_and bits (bits - 1) i ∙ lowest_off t bits is.1 is.2 i ∙ sym (elim (cases_eq i t) [
+      | inl e ↦ rw e (bit_at_clear_same w64 bits t is.0) ∙ sym (ap (λ b. cond b 0 (bit_at bits i)) (eq-eqb i t e))
+      | inr d ↦ bit_at_clear_other w64 bits t is.0 i within d ∙ sym (ap (λ b. cond b 0 (bit_at bits i)) (ne_eqb i t d))
+    ])) in
+    let rest : members word ≡ without_member (members bits) (t + 1) =
     subst (λ k. members (bit_and bits (2 ^ 64 - 1 - 1 * 2 ^ k % 2 ^ 64)) ≡ without_member (members bits) (t + 1)) back (members_without bits (t + 1) (omega arith) (omega arith)) in
-    split_members bits h ne ∙ ap (λ set. (t + 1) ∷ set) (sym rest)
+    split_members bits h ne ∙ ap (λ set. (t + 1) ∷ set) (sym rest ∙ ap members (sym same))
 
 -- ---- the order
 -- what a list that begins with a number compares as, against a list of larger numbers

@@ -353,7 +353,7 @@ impl Iterator for Members {
             return None;
         }
         let bit = self.bits.trailing_zeros() as u8;
-        self.bits &= !(1 << bit);
+        self.bits &= self.bits - 1;
         Some(bit + 1)
     }
 }
