@@ -1,5 +1,5 @@
 -- Sums over the voters of a block, bit by bit.
-use Rattle.std.proofs.Common.{◌≡◌, ℕ, zero, suc, ◌+◌, ◌-◌, ◌*◌, ◌/◌, ◌%◌, ◌^◌, ◌<◌, ◌≤◌, ◌==◌, ◌∙◌, Bool, true, false, cond, min, nat_lt, ◌&&◌, set, take, drop, replicate, slice_get, Some, List, [], ◌∷◌, ◌++◌, refl, sym, ap, subst, arith, inl, inr, length, sum_by, get_or, add-one, length-append, bit_and}
+use Rattle.std.proofs.Common.{◌≡◌, ℕ, zero, suc, ◌+◌, ◌-◌, ◌*◌, ◌/◌, ◌%◌, ◌^◌, ◌<◌, ◌≤◌, ◌==◌, ◌∙◌, Bool, true, false, cond, min, nat_lt, ◌&&◌, set, take, drop, replicate, slice_get, Some, List, [], ◌∷◌, ◌++◌, refl, sym, ap, subst, arith, inl, inr, length, sum_by, get_or, add-one, length-append, bit_and, bit_or}
 use Rattle.std.specs.Int.{bit_at}
 use Rattle.std.specs.Int.Count.{ones-ones}
 use Rattle.std.specs.Int.RustNames.{count_ones}
@@ -9,7 +9,7 @@ use Rattle.std.proofs.lemmas.List.{append-nil, append_assoc, take_more, take-app
 use Rattle.std.proofs.lemmas.Option.{get_or_from_slice_get, slice_get_within}
 use Rattle.std.proofs.lemmas.List.Sums.{sum_by-append, sum_by-cons}
 use Rattle.std.proofs.lemmas.Nat.{and_le_l, and_le_r, mod_below, mod-pow-add, ones_cat, ones_le_self}
-use Rattle.std.proofs.lemmas.Nat.Bits.{bit_at-lt, bit_at-zero, bit_at-suc, bit_at_lowest, bit_at_and}
+use Rattle.std.proofs.lemmas.Nat.Bits.{bit_at-lt, bit_at-zero, bit_at-suc, bit_at_lowest, bit_at_and, bit_at_or}
 use Rattle.ballot_base.specs.Limits.{most_candidates}
 use Rattle.ballot_base.specs.Lists.{IsIncreasing}
 use Rattle.ballot_base.specs.CandSet.{has_member}
@@ -58,11 +58,6 @@ total-most f most zero small = omega arith
 total-most f most (suc n) small =
     let spread : suc n * most ≡ n * most + most = omega arith in
     omega (arith, spread, small 0, total-most (λ i. f (suc i)) most n (λ i. small (suc i)))
-
-pub total-ones : (n : ℕ) → total (λ i. 1) n ≡ n
-unfolding total
-total-ones zero = refl
-total-ones (suc n) = omega (arith, total-ones n)
 
 pub total-add : (f : ℕ → ℕ) (a b : ℕ) → total f (a + b) ≡ total f a + total (λ i. f (a + i)) b
 unfolding total
@@ -168,6 +163,22 @@ hit-moves true words (suc h) i all left rest approving more most bit counted =
     ∙ counted h (omega arith)
     ∙ ap (λ n. cond (all == n) 1 0) (let e : h + left ≡ suc h + rest = omega (arith, more) in e)
 
+-- who approves a member, after a member more
+pub cover-grows : (p : Bool) (before approving i all left rest : ℕ) → left ≡ cond p 1 0 + rest → left ≤ all
+    → bit_at approving i ≡ cond p 1 0 → bit_at before i ≡ cond (all == left) 0 1
+    → bit_at (bit_or before approving) i ≡ cond (all == rest) 0 1
+cover-grows false before approving i all left rest more most bit counted =
+    bit_at_or before approving i
+    ∙ omega (arith, bit, counted, ap (λ n. cond {A = ℕ} (all == n) 0 1) (let e : left ≡ rest = omega (arith, more) in e))
+cover-grows true before approving i all left rest more most bit counted =
+    bit_at_or before approving i
+    ∙ omega (
+      arith,
+      bit,
+      let low : bit_at before i < 2 = bit_at-lt before i in low,
+      ap (λ b. cond {A = ℕ} b 0 1) (ne_eqb all rest (λ e. absurd (omega (arith, e, more, most)))),
+    )
+
 -- ---- what a block gives
 
 -- what a voter gives where the hits are below h
@@ -259,21 +270,17 @@ module _ (ballot_at : ℕ → List ℕ) (block : List ℕ) (holds : IsBlock ball
         | inr above ↦ ap (λ b. cond b (get_or weights x 0) 0) (le-ltb x levels above) ∙ sym (none above)
       ]
 
--- a voter has no hit, or approves a member
-either : (x : ℕ) → cond (x == 0) 1 0 + min x 1 ≡ 1
-either zero = refl
-either (suc x) = omega (arith, ap (λ b. cond {A = ℕ} b 1 0) (ne_eqb (suc x) 0 (λ e. absurd (omega (arith, e)))))
-
 -- the voters of a block who approve a member are those who have some hit
-pub zeros-some : (word : ℕ) (set : List ℕ) (ballot_at : ℕ → List ℕ) → word < 2 ^ 64
-    → ((i : ℕ) → i < block_voters → bit_at word i ≡ cond (hits (ballot_at i) set == 0) 1 0)
-    → 64 - count_ones word ≡ total (λ i. approves_some set (ballot_at i)) block_voters
-zeros-some word set ballot_at fits none =
-    let all : total (λ i. bit_at word i + approves_some set (ballot_at i)) block_voters ≡ block_voters =
-    total-same (λ i. bit_at word i + approves_some set (ballot_at i)) (λ i. 1) block_voters
-    (λ i low. ap (λ n. n + approves_some set (ballot_at i)) (none i low) ∙ either (hits (ballot_at i) set))
-    ∙ total-ones block_voters in
-    omega (arith, ones-total word fits, all, total-plus (bit_at word) (λ i. approves_some set (ballot_at i)) block_voters)
+pub ones-some : (word : ℕ) (set : List ℕ) (ballot_at : ℕ → List ℕ) → word < 2 ^ 64
+    → ((i : ℕ) → i < block_voters → bit_at word i ≡ cond (hits (ballot_at i) set == 0) 0 1)
+    → count_ones word ≡ total (λ i. approves_some set (ballot_at i)) block_voters
+ones-some word set ballot_at fits some =
+    ones-total word fits
+    ∙ total-same (bit_at word) (λ i. approves_some set (ballot_at i)) block_voters (λ i low. some i low ∙ once (hits (ballot_at i) set))
+  where
+    once : (x : ℕ) → cond (x == 0) 0 1 ≡ min x 1
+    once zero = refl
+    once (suc x) = omega (arith, ap (λ b. cond {A = ℕ} b 0 1) (ne_eqb (suc x) 0 (λ e. absurd (omega (arith, e)))))
 
 -- ---- voters one after another
 

@@ -69,12 +69,16 @@ fn by_hits(block: &Block, set: CandSet, levels: usize) -> Block
     words
 }
 
-/// Who of a block approve no member of the set.
-fn uncovered(block: &Block, set: CandSet) -> u64
+/// Who of a block approve a member of the set.
+fn covered_by(block: &Block, set: CandSet) -> u64
     ensures { (ballot_at : ℕ → List ℕ) → IsBlock ballot_at block.now → (i : ℕ) → i < block_voters
-        → bit_at result i ≡ (if hits (ballot_at i) set == 0 then 1 else 0) }
+        → bit_at result i ≡ (if hits (ballot_at i) set == 0 then 0 else 1) }
 {
-    by_hits(block, set, 1)[0]
+    let mut covered = 0;
+    for member in set.members() {
+        covered |= block[usize::from(member)];
+    }
+    covered
 }
 
 /// What the voters of a column give: for each number of hits, the weight times the bits that word and column share.
@@ -257,7 +261,7 @@ impl<A: Allocator> Columns<A> {
     {
         let mut covered = 0;
         for block in &self.blocks {
-            covered += BLOCK_VOTERS - uncovered(block, set).count_ones() as usize;
+            covered += covered_by(block, set).count_ones() as usize;
         }
         covered
     }

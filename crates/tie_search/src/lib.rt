@@ -27,6 +27,7 @@ mod prices;
 mod search;
 pub mod searchable;
 pub mod thiele;
+mod trials;
 mod weights;
 mod witness;
 

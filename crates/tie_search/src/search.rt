@@ -19,7 +19,8 @@
 //!
 //! While enough seats are left, a bound by pairs of candidates comes before the gains are counted, and again after each
 //! candidate that was tried (module `pairs`). It counts a voter who approves two members less than twice. A search
-//! begins without it, since a short one is quicker so. If few sets are given up for it, it is left out again.
+//! begins without it, since a short one is quicker so. If few sets are given up for it, it is left out again (module
+//! `trials`).
 //!
 //! The bound needs no sorting in its proof. For any threshold, an added member brings at most the threshold and what
 //! its gain exceeds it by (`laws::thresholds`). The last of the `left` highest gains makes the bound lowest.
@@ -46,69 +47,21 @@ use crate::majorant::HitSums;
 use crate::order::Order;
 use crate::pairs::PairSearch;
 use crate::prices::{Prices, SCALE};
+use crate::trials::Uses;
 use ballot_base::{CandSet, Clones, PLACES, Profile, ThieleRule};
 use std::alloc::Allocator;
-use std::cell::Cell;
 use tie_walk::{Tally, ThieleTally};
 
-/// What a search is helped by: who are clones; columns and prices, if they are worth their making; and what hits give,
-/// for majorants.
+/// What a search is helped by: who are clones; columns and prices, if they are worth their making; what hits give, for
+/// majorants; and which tests helped so far.
 #[derive(Drop)]
 pub(crate) struct Aids<A: Allocator> {
     pub(crate) clones: Clones,
     pub(crate) columns: Option<Columns<A>>,
     pub(crate) prices: Option<Prices>,
     pub(crate) sums: Option<HitSums>,
-    pub(crate) use_of_pairs: UseOfPairs,
+    pub(crate) uses: Uses,
 }
-
-/// How many sets were passed without pairs, how often pairs were counted, and how often a set was given up for them. If
-/// they seldom help, they are counted no more.
-#[derive(Drop)]
-pub(crate) struct UseOfPairs {
-    passed: Cell<u32>,
-    counted: Cell<u32>,
-    given_up: Cell<u32>,
-}
-
-impl UseOfPairs {
-    /// Pairs were not counted yet.
-    pub(crate) fn none() -> UseOfPairs {
-        UseOfPairs {
-            passed: Cell::new(0),
-            counted: Cell::new(0),
-            given_up: Cell::new(0),
-        }
-    }
-
-    /// Notes that a set was passed without pairs.
-    fn pass(&self) {
-        self.passed.set(self.passed.get().saturating_add(1));
-    }
-
-    /// Notes that pairs were counted, and whether the set was given up for them.
-    fn note(&self, given_up: bool) {
-        self.counted.set(self.counted.get().saturating_add(1));
-        self.given_up
-            .set(self.given_up.get().saturating_add(u32::from(given_up)));
-    }
-
-    /// Whether the search is long enough for pairs, and they were not counted often yet or help often enough.
-    fn is_worth_it(&self) -> bool {
-        let counted = self.counted.get();
-        self.passed.get() >= SETS_BEFORE_PAIRS
-            && (counted < TRIALS_OF_PAIRS || self.given_up.get() >= counted / LEAST_HELP_OF_PAIRS)
-    }
-}
-
-/// A search begins without pairs, and counts them after so many sets.
-const SETS_BEFORE_PAIRS: u32 = 2048;
-
-/// So often pairs are counted before their use is judged.
-const TRIALS_OF_PAIRS: u32 = 256;
-
-/// Pairs are worth their counting if one set of so many is given up for them.
-const LEAST_HELP_OF_PAIRS: u32 = 16;
 
 /// A set that may become a committee, its value, the candidates that are free to join it, and how many of them do.
 #[derive(Clone, Copy)]
@@ -328,13 +281,34 @@ impl<A: Allocator + Copy> Search<'_, A> {
         ensures narrowed { Narrows (tally_value self.now.tally.now) self.now.tally.now.election.m node.now
             self.now.least result }
     {
-        if !self.may_suffice(node.set, node.free) {
-            return None;
-        }
-        if !self.may_afford(node.set, node.free, node.left) {
+        if !self.passes(node) {
             return None;
         }
         self.narrowed(known, node)
+    }
+
+    /// Whether a node passes the quick tests: what its free candidates cover, and prices.
+    fn passes(&self, node: &Node) -> bool
+        requires aids { IsAided self.now.tally.now self.now.aids.now }
+        requires opened { IsOpen self.now.tally.now.election.m node.now.set node.now.free }
+        ensures { result ≡ false
+            → IsOutOfReach (tally_value self.now.tally.now) self.now.tally.now.election.m node.now.set node.now.free
+            node.now.left self.now.least }
+    {
+        let uses = &self.aids.uses;
+        if uses.cover.are_due(node.left) {
+            let suffices = self.may_suffice(node.set, node.free);
+            uses.cover.note(!suffices);
+            if !suffices {
+                return false;
+            }
+        }
+        if uses.prices.are_due(node.left) {
+            let affords = self.may_afford(node.set, node.free, node.left);
+            uses.prices.note(!affords);
+            return affords;
+        }
+        true
     }
 
     /// Whether pairs are worth their counting: in a long search, while enough seats are left and they help.
@@ -343,7 +317,7 @@ impl<A: Allocator + Copy> Search<'_, A> {
     {
         self.counts_pairs
             && left >= fewest_seats(self.tally.rule())
-            && self.aids.use_of_pairs.is_worth_it()
+            && self.aids.uses.pairs.are_due()
     }
 
     /// The free candidates of a node that can still join, by pairs. Returns `None` if no completion of its set reaches
@@ -361,7 +335,7 @@ impl<A: Allocator + Copy> Search<'_, A> {
             return Some(node.free);
         };
         if known.is_empty() || !self.sees_pairs(node.left) {
-            self.aids.use_of_pairs.pass();
+            self.aids.uses.pairs.pass();
             return Some(node.free);
         }
         let pairs = PairSearch {
@@ -370,7 +344,7 @@ impl<A: Allocator + Copy> Search<'_, A> {
             least: self.least,
         };
         let narrowed = pairs.narrowed(&mut known[0], node);
-        self.aids.use_of_pairs.note(narrowed.is_none());
+        self.aids.uses.pairs.note(narrowed.is_none());
         narrowed
     }
 

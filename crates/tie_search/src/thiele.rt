@@ -12,8 +12,9 @@ use crate::found::Tied;
 use crate::good::Good;
 use crate::majorant::HitSums;
 use crate::prices::Prices;
-use crate::search::{Aids, Search, UseOfPairs};
+use crate::search::{Aids, Search};
 use crate::searchable::Searchable;
+use crate::trials::Uses;
 use ballot_base::{CandSet, Clones, Profile, ThieleRule};
 use std::alloc::{AllocError, Allocator, Global};
 use std::marker::Model;
@@ -62,7 +63,7 @@ impl<'a, A: Allocator + Copy + Drop> ThieleSearch<'a, A> {
             columns: Columns::of(alloc, profile, rule, k)?,
             prices: Prices::of(alloc, profile, &values, rule, k)?,
             sums: HitSums::of(rule, k),
-            use_of_pairs: UseOfPairs::none(),
+            uses: Uses::none(),
         };
         let good = good_committee(profile, &values, &aids, k);
         Ok(ThieleSearch {

@@ -1,7 +1,7 @@
-use Rattle.std.proofs.Common.{◌≡◌, ℕ, ◌+◌, ◌-◌, ◌*◌, ◌∙◌, List, sym, ap, arith, length}
+use Rattle.std.proofs.Common.{◌≡◌, ℕ, ◌+◌, ◌*◌, ◌∙◌, List, sym, ap, arith, length}
 use Rattle.std.specs.Int.RustNames.{count_ones}
 use Rattle.tie_search.specs.Steps.Columns.{block_voters, total, approves_some, voter_ballot}
-use Rattle.tie_search.proofs.ColumnLemmas.{block-at, total-add, total-zero, zeros-some}
+use Rattle.tie_search.proofs.ColumnLemmas.{block-at, ones-most, ones-some, total-add, total-zero}
 use Rattle.tie_search.proofs.columns.Columns.covered.Goals as goal
 
 pub loop-block-init : goal.loop-block-init
@@ -16,13 +16,13 @@ loop-block-preserved g c = record {
       let f : ℕ → ℕ = λ v. approves_some c.args.set (voter_ballot ballots v) in
       let b = c.loop-block.block-index in
       let ballot_at : ℕ → List ℕ = λ i. voter_ballot ballots (b * block_voters + i) in
-      let here : block_voters - count_ones c.uncovered.result ≡ total (λ i. f (b * block_voters + i)) block_voters =
-      zeros-some c.uncovered.result c.args.set ballot_at c.uncovered.type_inv
-      (c.uncovered.ensures ballot_at (rw c.deref-block-items.ensures.value (block-at ballots c.args.self.now.blocks.items b held up))) in
+      let here : count_ones c.covered_by.result ≡ total (λ i. f (b * block_voters + i)) block_voters =
+      ones-some c.covered_by.result c.args.set ballot_at c.covered_by.type_inv
+      (c.covered_by.ensures ballot_at (rw c.deref-block-items.ensures.value (block-at ballots c.args.self.now.blocks.items b held up))) in
       let more : total f ((b + 1) * block_voters) ≡ total f (b * block_voters) + total (λ i. f (b * block_voters + i)) block_voters =
       ap (total f) (let e : (b + 1) * 64 ≡ b * 64 + 64 = omega arith in e) ∙ total-add f (b * block_voters) block_voters in
       omega (arith, here, more, c.loop-block.invariant.summed ballots held up);
-  most = omega (arith, c.loop-block.invariant.most);
+  most = omega (arith, c.loop-block.invariant.most, ones-most c.covered_by.result c.covered_by.type_inv);
 }
 
 pub returns : goal.returns
@@ -32,4 +32,11 @@ returns g c ballots held up =
 
 pub overflow_add-covered : goal.overflow_add-covered
 overflow_add-covered g c =
-    omega (arith, c.loop-block.invariant.most, c.requires, c.loop-block-test.true, ap length c.deref-block-items.ensures.value)
+    omega (
+      arith,
+      c.loop-block.invariant.most,
+      ones-most c.covered_by.result c.covered_by.type_inv,
+      c.requires,
+      c.loop-block-test.true,
+      ap length c.deref-block-items.ensures.value,
+    )

@@ -1,0 +1,125 @@
+//! Which tests of a set are worth their making.
+//!
+//! A set may be given up since its free candidates cover too few voters, by prices, or by pairs. Which of these tests
+//! help depends on the ballots: prices cut an election among neighbours short, and seldom a random one. So a search
+//! counts how often each test gave a set up. Any test may be left out, so nothing is proved of these counts.
+
+use std::cell::Cell;
+
+/// With more seats left than this, the quick tests are always made: whole branches depend on them.
+const FEW_SEATS: u8 = 5;
+
+/// So often a quick test is made before its use is judged.
+const TRIALS: u32 = 256;
+
+/// A quick test is worth its making if one set of so many is given up for it.
+const LEAST_HELP: u32 = 64;
+
+/// One set of so many has a quick test that is not worth its making, so that its use is judged anew.
+const SAMPLE: u32 = 16;
+
+/// A search begins without pairs, and counts them after so many sets.
+const SETS_BEFORE_PAIRS: u32 = 1024;
+
+/// So often pairs are counted at first.
+const TRIALS_OF_PAIRS: u64 = 48;
+
+/// So often more pairs are counted for each set that was given up for them.
+const TRIALS_FOR_HELP: u64 = 12;
+
+/// What is known of the use of each test.
+#[derive(Drop)]
+pub(crate) struct Uses {
+    pub(crate) cover: Trials,
+    pub(crate) prices: Trials,
+    pub(crate) pairs: PairTrials,
+}
+
+impl Uses {
+    /// No test was made yet.
+    pub(crate) fn none() -> Uses {
+        Uses {
+            cover: Trials::none(),
+            prices: Trials::none(),
+            pairs: PairTrials::none(),
+        }
+    }
+}
+
+/// How often a quick test was asked for and made, and how often a set was given up for it.
+#[derive(Drop)]
+pub(crate) struct Trials {
+    asked: Cell<u32>,
+    made: Cell<u32>,
+    given_up: Cell<u32>,
+}
+
+impl Trials {
+    /// The test was not made yet.
+    fn none() -> Trials {
+        Trials {
+            asked: Cell::new(0),
+            made: Cell::new(0),
+            given_up: Cell::new(0),
+        }
+    }
+
+    /// Whether the test is to be made for a set with so many seats left.
+    pub(crate) fn are_due(&self, left: u8) -> bool {
+        let asked = self.asked.get();
+        self.asked.set(asked.wrapping_add(1));
+        let made = self.made.get();
+        left > FEW_SEATS
+            || made < TRIALS
+            || self.given_up.get() >= made / LEAST_HELP
+            || asked % SAMPLE == 0
+    }
+
+    /// Notes that the test was made, and whether the set was given up for it.
+    pub(crate) fn note(&self, given_up: bool) {
+        add_to(&self.made, 1);
+        add_to(&self.given_up, u32::from(given_up));
+    }
+}
+
+/// How many sets were passed without pairs, how often pairs were counted, and how often a set was given up for them. If
+/// they seldom help, they are counted no more.
+#[derive(Drop)]
+pub(crate) struct PairTrials {
+    passed: Cell<u32>,
+    counted: Cell<u32>,
+    given_up: Cell<u32>,
+}
+
+impl PairTrials {
+    /// Pairs were not counted yet.
+    fn none() -> PairTrials {
+        PairTrials {
+            passed: Cell::new(0),
+            counted: Cell::new(0),
+            given_up: Cell::new(0),
+        }
+    }
+
+    /// Notes that a set was passed without pairs.
+    pub(crate) fn pass(&self) {
+        add_to(&self.passed, 1);
+    }
+
+    /// Notes that pairs were counted, and whether the set was given up for them.
+    pub(crate) fn note(&self, given_up: bool) {
+        add_to(&self.counted, 1);
+        add_to(&self.given_up, u32::from(given_up));
+    }
+
+    /// Whether the search is long enough for pairs, and they help often enough.
+    pub(crate) fn are_due(&self) -> bool {
+        let most = TRIALS_OF_PAIRS + TRIALS_FOR_HELP * u64::from(self.given_up.get());
+        self.passed.get() >= SETS_BEFORE_PAIRS && u64::from(self.counted.get()) < most
+    }
+}
+
+/// Adds to a count, up to the greatest number.
+fn add_to(count: &Cell<u32>, more: u32) {
+    count.set(count.get().saturating_add(more));
+}
