@@ -1,7 +1,6 @@
 //! What is noted of a ballot while it is read: the candidates that it approves, and what is wrong with it.
-ghost use Rattle.std.specs.Prelude.{◌≡◌, ◌+◌, ◌^◌, ◌<◌, ◌≤◌, length};
+ghost use Rattle.std.specs.Prelude.{◌≡◌, ◌+◌, ◌^◌, ◌<◌, ◌≤◌};
 ghost use Rattle.ballot_base.specs.Limits.{most_candidates};
-ghost use Rattle.ballot_base.specs.Lists.{IsIncreasing};
 ghost use Rattle.preflib_text.specs.Limits.{word_limit};
 ghost use Rattle.preflib_text.specs.Reading.{is_strict, is_complete};
 ghost use Rattle.preflib_text.specs.Steps.Marks.{no_marks, taking_of, takes, is_past, wrong_with, with_new};

@@ -1,5 +1,5 @@
 //! Reading a metadata line: its key, its value, and the fact that they state.
-ghost use Rattle.std.specs.Prelude.{◌≡◌, ℕ, ◌==◌, true, false, List, [], ◌∷◌, option_map, MatchOption};
+ghost use Rattle.std.specs.Prelude.{◌≡◌, ◌==◌, true, false, [], ◌∷◌, option_map, MatchOption};
 ghost use Rattle.std.specs.List.{list_any, before_first, after_first};
 ghost use Rattle.preflib_text.specs.Metadata.{words_of, written_number, told_by, told_of};
 ghost use Rattle.preflib_text.specs.Steps.Tokens.{capped};

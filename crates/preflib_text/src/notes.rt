@@ -3,8 +3,7 @@
 //! `proofs/After.antt` has the statement on which both readers rest: what the notes and the profile are after some
 //! lines, and after one more.
 ghost use Rattle.std.specs.Prelude.{◌≡◌, ◌^◌, ◌≤◌, true, false, Some, None, MatchResult, IfOk, if◌then◌else◌};
-ghost use Rattle.ballot_base.specs.Limits.{most_candidates, most_voters};
-ghost use Rattle.preflib_text.specs.Limits.{most_categories};
+ghost use Rattle.ballot_base.specs.Limits.{most_voters};
 ghost use Rattle.preflib_text.specs.Metadata.{AlternativesAre, CategoriesAre, NameIs, written_number};
 ghost use Rattle.preflib_text.specs.Steps.Tells.{meant};
 ghost use Rattle.preflib_text.specs.Reading.{number_fault, is_fitting};

@@ -1,5 +1,5 @@
 //! The type of a file, and which candidates of its ballots count as approved.
-ghost use Rattle.std.specs.Prelude.{◌≡◌, option_map};
+ghost use Rattle.std.specs.Prelude.{◌≡◌};
 ghost use Rattle.preflib_text.specs.Names.{kind_name, kind_named};
 
 /// The type of a ballot file, as PrefLib names it.

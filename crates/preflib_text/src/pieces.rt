@@ -2,7 +2,7 @@
 //! fed.
 ghost use Rattle.std.specs.Prelude.{◌≡◌, ◌⊎◌, ℕ, ◌^◌, ◌<◌, ◌≤◌, ◌+◌, true, false, List, [], ◌∷◌, ◌++◌, length, Some};
 ghost use Rattle.std.specs.Prelude.{None, Result, Ok, Err, MatchResult, IfSome, IfOk, IfErr, OnOk};
-ghost use Rattle.std.specs.Vec.{vec_capacity, vec_len};
+ghost use Rattle.std.specs.Vec.{vec_capacity};
 ghost use Rattle.preflib_text.specs.Limits.{most_line_bytes, word_limit};
 ghost use Rattle.preflib_text.specs.Lines.{lines_of};
 ghost use Rattle.preflib_text.specs.Approvals.{HasNumber};

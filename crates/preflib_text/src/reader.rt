@@ -1,12 +1,12 @@
 //! Reading a whole ballot file: cuts its lines, applies each to the profile, and ends the profile.
-ghost use Rattle.std.specs.Prelude.{◌≡◌, ◌⊎◌, ℕ, ◌^◌, ◌<◌, ◌≤◌, ◌+◌, true, false, List, [], ◌∷◌, not, map, Some};
-ghost use Rattle.std.specs.Prelude.{None, unwrap_or, Result, Ok, Err, nat_lt, MatchResult, IfOk, IfErr, OnOk};
-ghost use Rattle.ballot_base.specs.Limits.{most_candidates, most_voters};
+ghost use Rattle.std.specs.Prelude.{◌≡◌, ◌⊎◌, ℕ, ◌^◌, ◌<◌, ◌≤◌, ◌+◌, true, false, List, [], ◌∷◌, map, Some};
+ghost use Rattle.std.specs.Prelude.{None, unwrap_or, Result, Ok, Err, MatchResult, IfOk, IfErr, OnOk};
+ghost use Rattle.ballot_base.specs.Limits.{most_candidates};
 ghost use Rattle.ballot_base.specs.Lists.{IsIncreasing};
-ghost use Rattle.ballot_base.specs.Ballots.{Election, has_ballot, with_votes, voter_count};
+ghost use Rattle.ballot_base.specs.Ballots.{Election, has_ballot};
 ghost use Rattle.preflib_text.specs.Lines.{pieces_of, without_return};
 ghost use Rattle.preflib_text.specs.Approvals.{HasNumber};
-ghost use Rattle.preflib_text.specs.Reading.{Reads, RunsShort, fault_if, or_else, at_end, at_line};
+ghost use Rattle.preflib_text.specs.Reading.{Reads, RunsShort, or_else, at_end, at_line};
 ghost use Rattle.preflib_text.specs.Steps.Notes.{Casts, IsSound, MayCome, Names, DoneOrRefused, Refuses};
 ghost use Rattle.preflib_text.specs.Steps.Notes.{effect_takes, fresh_notes, line_effect, line_error, line_notes};
 ghost use Rattle.preflib_text.specs.Steps.Notes.{effect_error, effect_of, end_error, with_effect};

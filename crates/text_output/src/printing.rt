@@ -1,6 +1,6 @@
 //! Text on its way to a writer, through a buffer of fixed size. What went out and what waits are together always the
 //! text so far: so a failed write leaves a beginning of the text, and no byte is written twice.
-ghost use Rattle.std.specs.Prelude.{◌≡◌, ℕ, ◌+◌, ◌<◌, ◌≤◌, ◌++◌, List, [], flat_map, length, is_ok, true, false};
+ghost use Rattle.std.specs.Prelude.{◌≡◌, ◌+◌, ◌<◌, ◌≤◌, ◌++◌, [], flat_map, length, is_ok, true};
 ghost use Rattle.text_output.specs.Steps.Printing.{Prints, Sends};
 
 use crate::device::Sink;

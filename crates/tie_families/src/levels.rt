@@ -13,7 +13,7 @@
 //! stays in the levels until enough choices were made to reach its end, and stands for all sets between the two.
 //! `proofs/LevelLemmas.antt` shows, by induction over levels, that the families have exactly the committees that some
 //! sequence of choices makes.
-ghost use Rattle.std.specs.Prelude.{◌≡◌, ℕ, ◌^◌, ◌<◌, ◌≤◌, false, List, None, IfOk, OnOk, fold, map, length, slice_index};
+ghost use Rattle.std.specs.Prelude.{◌≡◌, ℕ, ◌^◌, ◌<◌, ◌≤◌, false, None, IfOk, OnOk, fold, map, length, slice_index};
 ghost use Rattle.std.specs.List.{AllByRecursion};
 ghost use Rattle.std.specs.Str.{bytes_eq};
 ghost use Rattle.indexmap.specs.IndexSet.{insert_all};

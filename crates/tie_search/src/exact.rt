@@ -8,7 +8,7 @@
 //! all. Both are tested by their members and value, so no proof rests on what the cell holds. A committee with the
 //! greatest value shows that the bounds reach it up to the first member outside the set (module `witness`). So `reach`
 //! searches once for many places, and if most committees tie, not at all.
-ghost use Rattle.std.specs.Prelude.{◌≡◌, ℕ, ◌+◌, ◌-◌, ◌≤◌, [], false, MatchOption, length};
+ghost use Rattle.std.specs.Prelude.{◌≡◌, ◌+◌, ◌-◌, ◌≤◌, [], false, MatchOption, length};
 ghost use Rattle.ballot_base.specs.Limits.{most_candidates};
 ghost use Rattle.ballot_base.specs.Lists.{IsIncreasing};
 ghost use Rattle.tie_walk.specs.Ceilings.{IsBound};

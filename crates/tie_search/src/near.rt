@@ -11,13 +11,12 @@
 //! each with a weight. A set is given up if the sum passes what the best free candidates can give, and a candidate
 //! leaves without whom the others fall short (`laws::weighted_needs`; Glover, Surrogate constraints, 1968). Any weights
 //! are right.
-ghost use Rattle.std.specs.Prelude.{◌≡◌, ℕ, ⊤, ◌+◌, ◌-◌, ◌^◌, ◌≤◌, ◌&&◌, [], true, max, nat_le, length};
+ghost use Rattle.std.specs.Prelude.{◌≡◌, ℕ, ◌+◌, ◌-◌, ◌^◌, ◌≤◌, ◌&&◌, [], true, length};
 ghost use Rattle.std.specs.Prelude.{slice_index, MatchOption};
 ghost use Rattle.ballot_base.specs.Ballots.{IsElection};
 ghost use Rattle.ballot_base.specs.Clones.{AreClones};
 ghost use Rattle.ballot_base.specs.CandSet.{has_member};
 ghost use Rattle.ballot_base.specs.Limits.{most_candidates};
-ghost use Rattle.ballot_base.specs.Lists.{IsIncreasing};
 ghost use Rattle.tie_walk.specs.Values.{closeness};
 ghost use Rattle.tie_search.specs.Completions.{IsOpen, IsOutOfReach};
 ghost use Rattle.tie_search.specs.Steps.Near.{AreBranches, AreWeighted, IsNarrowed, IsNearAnswer, IsQuickAnswer, need_weight, share_parts};

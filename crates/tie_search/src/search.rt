@@ -25,15 +25,12 @@
 //! The bound needs no sorting in its proof. For any threshold, an added member brings at most the threshold and what
 //! its gain exceeds it by (`laws::thresholds`). The last of the `left` highest gains makes the bound lowest.
 ghost use Rattle.std.specs.Prelude.{◌≡◌, ℕ, ◌+◌, ◌-◌, ◌*◌, ◌^◌, ◌<◌, ◌≤◌, ◌↔◌, ◌||◌, true, false, List, MatchOption, IsTrue, length, slice_index, sum_by};
-ghost use Rattle.ballot_base.specs.Ballots.{Row};
-ghost use Rattle.ballot_base.specs.Clones.{AreClones};
-ghost use Rattle.ballot_base.specs.Limits.{most_candidates};
 ghost use Rattle.ballot_base.specs.CandSet.{has_member};
 ghost use Rattle.ballot_base.specs.Lists.{IsIncreasing};
 ghost use Rattle.ballot_base.specs.Increments.{increments};
 ghost use Rattle.tie_walk.specs.Sequences.{gain};
 ghost use Rattle.tie_search.specs.Steps.Known.{AreKnownIf, Narrows};
-ghost use Rattle.tie_search.specs.Steps.Searched.{IsAided, KeepsColumns};
+ghost use Rattle.tie_search.specs.Steps.Searched.{IsAided};
 ghost use Rattle.ballot_base.specs.Clones.{are_clones};
 ghost use Rattle.tie_walk.specs.Winners.{best_value};
 ghost use Rattle.tie_search.specs.Steps.Found.{AreListed, AreNew, AreSearched, IsListed};
@@ -155,7 +152,8 @@ impl<A: Allocator + Copy> Search<'_, A> {
     }
 
     /// Searches all completions of a node, none of which is listed yet, for committees of the value that is looked for,
-    /// which rises with what is found.
+    /// which rises with what is found. `known` has the totals of pairs that are kept; if it is empty, no pairs are
+    /// counted.
     fn descend(&self, found: &mut Found, known: &mut [KnownTotals], node: Node)
         requires ballots { self.now.profile.now ≡ self.now.tally.now.election }
         requires aids { IsAided self.now.tally.now self.now.aids.now }

@@ -1,5 +1,5 @@
 //! Values whose committees can be searched for.
-ghost use Rattle.std.specs.Prelude.{ℕ, ◌≤◌, MatchOption, ⊤};
+ghost use Rattle.std.specs.Prelude.{◌≤◌, MatchOption, ⊤};
 ghost use Rattle.tie_search.specs.Completions.{IsOpen, IsOutOfReach, IsReaching};
 ghost use Rattle.tie_search.specs.Tied.{AreTied};
 

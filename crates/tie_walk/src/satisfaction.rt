@@ -1,7 +1,6 @@
 //! The values of satisfaction approval voting. The bound of a prefix is the value of some committee below it, as under
 //! approval voting (`laws::tight_bounds`).
 ghost use Rattle.std.specs.Prelude.{◌≡◌, ℕ, ◌+◌, ◌-◌, ◌*◌, ◌^◌, ◌<◌, ◌≤◌, ◌==◌, length, filter, sum_by, slice_index};
-ghost use Rattle.ballot_base.specs.Lists.{IsIncreasing};
 ghost use Rattle.ballot_base.specs.Ballots.{hits};
 ghost use Rattle.ballot_base.specs.CommonMultiple.{common_multiple};
 ghost use Rattle.tie_walk.specs.Ceilings.{IsTight, ceiling};
