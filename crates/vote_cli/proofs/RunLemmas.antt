@@ -65,11 +65,18 @@ writes_whole {old} {new} {had_failed} {has_failed} text printed done was prints 
     Passes-all (subst (λ p. Passes (alone old had_failed) (alone new has_failed) (is_ok p) text) was prints)
 
 -- the text of an election by a rule was not printed whole
-pub election_part : (asked rule : Rule) (size : ℕ) (page : Page) (names : Names) (e : Election) {printed : List ℕ} {old new : Option (List ℕ)} {had_failed has_failed whole : Bool} (result : Result Outcome Refusal)
-    → asked ≡ rule → printed ≡ elect_text rule size page names e → IsErr result × IsErrAnd result (λ refusal. refusal ≡ WriteFailed) → Passes (alone old had_failed) (alone new has_failed) whole printed
-    → WritesRight (λ answer. answer ≡ answered (elect_text asked size page names e)) old new result
-election_part asked rule size page names e {printed} result is same failed prints =
-    writes_part (λ answer. answer ≡ answered (elect_text asked size page names e)) (answered printed) result (ap answered (same ∙ ap (λ r. elect_text r size page names e) (sym is))) failed prints
+pub election_part : (rule : Rule) (size : ℕ) (page : Page) (names : Names) (e : Election) {printed : List ℕ} {old new : Option (List ℕ)} {had_failed has_failed whole : Bool} (result : Result Outcome Refusal)
+    → printed ≡ elect_text rule size page names e → IsErr result × IsErrAnd result (λ refusal. refusal ≡ WriteFailed) → Passes (alone old had_failed) (alone new has_failed) whole printed
+    → WritesRight (λ answer. answer ≡ answered (elect_text rule size page names e)) old new result
+election_part rule size page names e {printed} result same failed prints =
+    writes_part (λ answer. answer ≡ answered (elect_text rule size page names e)) (answered printed) result (ap answered same) failed prints
+
+-- it was printed whole
+pub election_whole : (rule : Rule) (size : ℕ) (page : Page) (names : Names) (e : Election) {printed : List ℕ} {old new : Option (List ℕ)} {had_failed has_failed : Bool} (written : Result (Unit {0}) Broken) (done : Unit {0})
+    → written ≡ Ok done → printed ≡ elect_text rule size page names e → Passes (alone old had_failed) (alone new has_failed) (is_ok written) printed
+    → WritesRight (λ answer. answer ≡ answered (elect_text rule size page names e)) old new (Ok outcome.Answered)
+election_whole rule size page names e {printed} written done was same prints =
+    (printed, ap answered same, writes_whole printed written done was prints)
 
 -- the answers about a committee that is the list's, among m candidates
 pub check_holds : (property : Property) (with_names : Bool) (e : Election) (m : ℕ) (list committee : List ℕ) → m ≡ e.m → committee ≡ list → IsIncreasing 1 m list → length list ≤ most_members

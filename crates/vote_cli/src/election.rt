@@ -1,5 +1,6 @@
 //! The winners of an election: which algorithm finds them by each rule.
-ghost use Rattle.std.specs.Prelude.{◌≡◌, ◌≢◌, Err};
+ghost use Rattle.std.specs.Prelude.{◌≡◌, ◌≢◌, Err, IfOk};
+ghost use Rattle.tie_walk.specs.Values.{thiele_of};
 ghost use Rattle.vote_cli.specs.Answer.{answered};
 ghost use Rattle.vote_cli.specs.ElectText.{elect_text};
 ghost use Rattle.vote_cli.specs.Steps.Refusals.{TellsOfWrites, WritesRight};
@@ -9,14 +10,13 @@ use crate::elect_text::Listing;
 use crate::refusal::Refusal;
 use ballot_base::ThieleRule;
 use request_words::{Rule, ScoredRule};
-use std::alloc::Allocator;
+use std::alloc::{AllocError, Allocator};
 use text_output::Sink;
 use tie_families::{Families, FamilyWinners};
 use tie_search::{ExactTally, MinimaxSearch, ThieleSearch};
-use tie_walk::{SavTally, ThieleTally};
+use tie_walk::{SavTally, SeqRule, ThieleTally};
 
-/// Writes the winners of an election that are listed. The bounds of approval voting and of satisfaction approval voting
-/// are exact without a search.
+/// Writes the winners of an election that are listed.
 pub(crate) fn answer_election<A: Allocator + Copy + Drop, W: Sink>(
     alloc: A,
     out: &mut W,
@@ -29,31 +29,121 @@ pub(crate) fn answer_election<A: Allocator + Copy + Drop, W: Sink>(
     ensures writes { TellsOfWrites (W.has_failed out.old) (W.has_failed out.new) result }
     ensures unread { result ≢ Err Refusal.ReadFailed }
 {
-    let profile = listing.profile;
-    let size = listing.size;
     match rule {
-        Rule::Scored(ScoredRule::Thiele(ThieleRule::Av)) => {
-            let tally = ThieleTally::new(profile, ThieleRule::Av, size);
-            listing.write_scored(out, &tally, ScoredRule::Thiele(ThieleRule::Av))?;
-        }
-        Rule::Scored(ScoredRule::Thiele(thiele)) => {
-            let search = ThieleSearch::new(alloc, profile, thiele, size)?;
-            let tally = ExactTally::new(search, size);
-            listing.write_scored(out, &tally, ScoredRule::Thiele(thiele))?;
-        }
-        Rule::Scored(ScoredRule::Satisfaction) => {
-            let tally = SavTally::new(profile);
-            listing.write_scored(out, &tally, ScoredRule::Satisfaction)?;
-        }
-        Rule::Scored(ScoredRule::Minimax) => {
-            let tally = ExactTally::new(MinimaxSearch::new(profile), size);
-            listing.write_scored(out, &tally, ScoredRule::Minimax)?;
-        }
-        Rule::Sequential(rule) => {
-            let families = Families::new(alloc, profile, rule, size)?;
-            let winners = FamilyWinners::new(&families, listing.after);
-            listing.write_sequential(out, winners, rule)?;
-        }
+        Rule::Scored(ScoredRule::Thiele(ThieleRule::Av)) => by_approvals(out, listing),
+        Rule::Scored(ScoredRule::Thiele(thiele)) => by_search(alloc, out, thiele, listing),
+        Rule::Scored(ScoredRule::Satisfaction) => by_satisfaction(out, listing),
+        Rule::Scored(ScoredRule::Minimax) => by_distance(out, listing),
+        Rule::Sequential(rule) => by_families(alloc, out, rule, listing),
     }
+}
+
+/// Writes the winners by approval voting, whose bounds are exact without a search.
+// Not inlined: its tally takes many KB of stack, and those of the other rules should not lie beside it.
+#[inline(never)]
+fn by_approvals<A: Allocator + Copy + Drop, W: Sink>(
+    out: &mut W,
+    listing: &Listing<'_, A>,
+) -> Result<Outcome, Refusal>
+    ensures answer { WritesRight (λ answer. answer ≡ answered (elect_text
+        (Rule.Scored (ScoredRule.Thiele ThieleRule.Av)) listing.now.size
+        (record { after = listing.now.after; limit = listing.now.limit }) listing.now.names listing.now.profile.now))
+        (W.contents out.old) (W.contents out.new) result }
+    ensures writes { TellsOfWrites (W.has_failed out.old) (W.has_failed out.new) result }
+    ensures unread { result ≢ Err Refusal.ReadFailed }
+{
+    let tally = ThieleTally::new(listing.profile, ThieleRule::Av, listing.size);
+    listing.write_scored(out, &tally, ScoredRule::Thiele(ThieleRule::Av))?;
+    Ok(Outcome::Answered)
+}
+
+/// Writes the winners by a Thiele rule, which a search finds.
+// Not inlined: its tally takes many KB of stack, and those of the other rules should not lie beside it.
+#[inline(never)]
+fn by_search<A: Allocator + Copy + Drop, W: Sink>(
+    alloc: A,
+    out: &mut W,
+    rule: ThieleRule,
+    listing: &Listing<'_, A>,
+) -> Result<Outcome, Refusal>
+    ensures answer { WritesRight (λ answer. answer ≡ answered (elect_text (Rule.Scored (ScoredRule.Thiele rule))
+        listing.now.size (record { after = listing.now.after; limit = listing.now.limit }) listing.now.names
+        listing.now.profile.now)) (W.contents out.old) (W.contents out.new) result }
+    ensures writes { TellsOfWrites (W.has_failed out.old) (W.has_failed out.new) result }
+    ensures unread { result ≢ Err Refusal.ReadFailed }
+{
+    let search = prepared(alloc, rule, listing)?;
+    let tally = ExactTally::new(search, listing.size);
+    listing.write_scored(out, &tally, ScoredRule::Thiele(rule))?;
+    Ok(Outcome::Answered)
+}
+
+/// A search by a Thiele rule for the winners of an election.
+// Not inlined: what it is made from takes as much stack again, which is given back before anything is searched for.
+#[inline(never)]
+fn prepared<'a, A: Allocator + Copy + Drop>(
+    alloc: A,
+    rule: ThieleRule,
+    listing: &Listing<'a, A>,
+) -> Result<ThieleSearch<'a, A>, AllocError>
+    ensures { IfOk result (λ search. search ≡ thiele_of listing.now.profile.now rule listing.now.size) }
+{
+    ThieleSearch::new(alloc, listing.profile, rule, listing.size)
+}
+
+/// Writes the winners by satisfaction approval voting, whose bounds are exact without a search.
+// Not inlined: its tally takes many KB of stack, and those of the other rules should not lie beside it.
+#[inline(never)]
+fn by_satisfaction<A: Allocator + Copy + Drop, W: Sink>(
+    out: &mut W,
+    listing: &Listing<'_, A>,
+) -> Result<Outcome, Refusal>
+    ensures answer { WritesRight (λ answer. answer ≡ answered (elect_text (Rule.Scored ScoredRule.Satisfaction)
+        listing.now.size (record { after = listing.now.after; limit = listing.now.limit }) listing.now.names
+        listing.now.profile.now)) (W.contents out.old) (W.contents out.new) result }
+    ensures writes { TellsOfWrites (W.has_failed out.old) (W.has_failed out.new) result }
+    ensures unread { result ≢ Err Refusal.ReadFailed }
+{
+    let tally = SavTally::new(listing.profile);
+    listing.write_scored(out, &tally, ScoredRule::Satisfaction)?;
+    Ok(Outcome::Answered)
+}
+
+/// Writes the winners by minimax approval voting, which a search finds.
+// Not inlined: its tally takes many KB of stack, and those of the other rules should not lie beside it.
+#[inline(never)]
+fn by_distance<A: Allocator + Copy + Drop, W: Sink>(
+    out: &mut W,
+    listing: &Listing<'_, A>,
+) -> Result<Outcome, Refusal>
+    ensures answer { WritesRight (λ answer. answer ≡ answered (elect_text (Rule.Scored ScoredRule.Minimax)
+        listing.now.size (record { after = listing.now.after; limit = listing.now.limit }) listing.now.names
+        listing.now.profile.now)) (W.contents out.old) (W.contents out.new) result }
+    ensures writes { TellsOfWrites (W.has_failed out.old) (W.has_failed out.new) result }
+    ensures unread { result ≢ Err Refusal.ReadFailed }
+{
+    let tally = ExactTally::new(MinimaxSearch::new(listing.profile), listing.size);
+    listing.write_scored(out, &tally, ScoredRule::Minimax)?;
+    Ok(Outcome::Answered)
+}
+
+/// Writes the winners by a sequential rule, which come in families.
+// Not inlined: its printer takes 32 KB of stack, and the tallies of the other rules should not lie beside it.
+#[inline(never)]
+fn by_families<A: Allocator + Copy + Drop, W: Sink>(
+    alloc: A,
+    out: &mut W,
+    rule: SeqRule,
+    listing: &Listing<'_, A>,
+) -> Result<Outcome, Refusal>
+    ensures answer { WritesRight (λ answer. answer ≡ answered (elect_text (Rule.Sequential rule)
+        listing.now.size (record { after = listing.now.after; limit = listing.now.limit }) listing.now.names
+        listing.now.profile.now)) (W.contents out.old) (W.contents out.new) result }
+    ensures writes { TellsOfWrites (W.has_failed out.old) (W.has_failed out.new) result }
+    ensures unread { result ≢ Err Refusal.ReadFailed }
+{
+    let families = Families::new(alloc, listing.profile, rule, listing.size)?;
+    let winners = FamilyWinners::new(&families, listing.after);
+    listing.write_sequential(out, winners, rule)?;
     Ok(Outcome::Answered)
 }
