@@ -200,6 +200,10 @@ impl<S: Searchable> Tally for ExactTally<S> {
         Some(end - 1)
     }
 
+    fn is_exact_at(&self, k: u8, best: u128) -> bool {
+        k == self.k && best == self.best
+    }
+
     fn good_committee(&self, k: u8) -> Option<CandSet> {
         if k != self.k {
             return None;

@@ -3,10 +3,10 @@
 //! A walk knows of its tally only what the trait says: the value of a set, the law of the bound, and what `reach`
 //! answers about bounds. So one walk serves rules with plain bounds, bounds found by search, and families of
 //! committees. The sums of the greatest gains are found by one pass over the candidates with a table, and no sorting.
-ghost use Rattle.std.specs.Prelude.{◌≡◌, ℕ, ◌+◌, ◌-◌, ◌*◌, ◌^◌, ◌<◌, ◌≤◌, List, MatchOption, ⊤, length, slice_index, max};
+ghost use Rattle.std.specs.Prelude.{◌≡◌, ℕ, ◌+◌, ◌-◌, ◌*◌, ◌^◌, ◌<◌, ◌≤◌, List, MatchOption, ⊤, length, slice_index, max, true};
 ghost use Rattle.ballot_base.specs.Limits.{most_candidates};
 ghost use Rattle.ballot_base.specs.Lists.{IsIncreasing};
-ghost use Rattle.tie_walk.specs.Ceilings.{IsBound, IsShort, IsReach, greatest_sum};
+ghost use Rattle.tie_walk.specs.Ceilings.{IsBound, IsExactAtBest, IsShort, IsReach, greatest_sum};
 ghost use Rattle.tie_walk.specs.Steps.Tables.{sum_of_worths, AreGreatestSums, IsReachBySums};
 
 use ballot_base::{CandSet, PLACES};
@@ -52,6 +52,15 @@ pub trait Tally {
             return None;
         }
         Some(c)
+    }
+
+    /// Whether the bounds for committees of k are known to be exact at a value: where one reaches it, some committee below
+    /// has at least that value. Then a walk asks for no values of its committees.
+    fn is_exact_at(&self, k: u8, best: u128) -> bool
+        ensures { result ≡ true
+            → IsExactAtBest (value_of self.now) (bound_of self.now) (candidates self.now) k best }
+    {
+        false
     }
 
     /// A committee of k to begin with, where the tally knows a good one: the search for the greatest value passes over

@@ -46,8 +46,8 @@ returns-then-c-m-clause-work g c =
     let made = c.first_below.ensures in
     (from-first c.args.self.now.m c.args.self.now.k c.args.prefix c.first_below.result c.if-c-m.true c.requires.place made.c made.grown made.full).1
 
-pub returns-then-value-best-clause-stride : goal.returns-then-value-best-clause-stride
-returns-then-value-best-clause-stride g c =
+pub returns-then-not-has_best-clause-stride : goal.returns-then-not-has_best-clause-stride
+returns-then-not-has_best-clause-stride g c =
     let value = g.T.Tally.value_of c.args.self.now.tally.now in
     let bound = g.T.Tally.bound_of c.args.self.now.tally.now in
     let p = c.args.prefix in
@@ -55,7 +55,7 @@ returns-then-value-best-clause-stride g c =
     let entered = sym c.enter.ensures.open ∙ c.if-not-enter.false in
     let sizes = open-sizes bound c.args.self.now.m c.args.self.now.k c.args.self.now.best p.c p.set entered in
     let full : length p.set ≡ c.args.self.now.k = omega (arith, sizes, c.if-c-m.false) in
-    let under : nat_le c.args.self.now.best (value p.set) ≡ false = lt-leb c.args.self.now.best (value p.set) (omega (arith, c.if-value-best.true, c.value.ensures)) in
+    let under : nat_le c.args.self.now.best (value p.set) ≡ false = lt-leb c.args.self.now.best (value p.set) (c.has_best.ensures.no c.if-not-has_best.true) in
     let count = entered-last bound c.args.self.now.m c.args.self.now.k c.args.self.now.best p next c.past-self-2.ensures (omega (arith, c.if-c-m.false)) entered in
     record {
       next = reaching-whole value c.args.self.now.best c.args.self.now.m c.args.self.now.k p next c.past-self-2.ensures full
@@ -73,7 +73,7 @@ returns-clause-stride g c =
     let entered = sym c.enter.ensures.open ∙ c.if-not-enter.false in
     let sizes = open-sizes bound c.args.self.now.m c.args.self.now.k c.args.self.now.best p.c p.set entered in
     let full : length p.set ≡ c.args.self.now.k = omega (arith, sizes, c.if-c-m.false) in
-    let over : nat_le c.args.self.now.best (value p.set) ≡ true = le-leb c.args.self.now.best (value p.set) (omega (arith, c.if-value-best.false, c.value.ensures)) in
+    let over : nat_le c.args.self.now.best (value p.set) ≡ true = le-leb c.args.self.now.best (value p.set) (c.has_best.ensures.yes c.if-not-has_best.false) in
     let count = entered-last bound c.args.self.now.m c.args.self.now.k c.args.self.now.best p next c.past-self-2.ensures (omega (arith, c.if-c-m.false)) entered in
     record {
       next = reaching-whole value c.args.self.now.best c.args.self.now.m c.args.self.now.k p next c.past-self-2.ensures full
@@ -102,8 +102,8 @@ returns-then-c-m-clause-raised g c =
       work = omega (arith, asked.once, below.1);
     }
 
-pub returns-then-value-best-clause-raised : goal.returns-then-value-best-clause-raised
-returns-then-value-best-clause-raised g c =
+pub returns-then-not-has_best-clause-raised : goal.returns-then-not-has_best-clause-raised
+returns-then-not-has_best-clause-raised g c =
     let asked = c.enter.ensures in
     record {
       entered = omega (arith, asked.entered);
@@ -140,8 +140,8 @@ returns-then-c-m-clause-wait g c exact =
       wait-first value c.args.self.now.m c.args.self.now.k c.args.self.now.best p c.first_below.result c.if-c-m.true c.requires.place made.c made.grown made.full alive,
     )
 
-pub returns-then-value-best-clause-wait : goal.returns-then-value-best-clause-wait
-returns-then-value-best-clause-wait g c exact =
+pub returns-then-not-has_best-clause-wait : goal.returns-then-not-has_best-clause-wait
+returns-then-not-has_best-clause-wait g c exact =
     let value = g.T.Tally.value_of c.args.self.now.tally.now in
     let bound = g.T.Tally.bound_of c.args.self.now.tally.now in
     let p = c.args.prefix in
@@ -150,7 +150,7 @@ returns-then-value-best-clause-wait g c exact =
     let full : length p.set ≡ c.args.self.now.k = omega (arith, sizes, c.if-c-m.false) in
     let alive = alive-open value c.args.self.now.m c.args.self.now.k c.args.self.now.best bound p.c p.set exact c.requires.place.0 c.requires.place.1 entered in
     let high = alive-whole value c.args.self.now.m c.args.self.now.k c.args.self.now.best p.c p.set full alive in
-    absurd (omega (arith, high, c.if-value-best.true, c.value.ensures))
+    absurd (omega (arith, high, c.has_best.ensures.no c.if-not-has_best.true))
 
 pub returns-clause-wait : goal.returns-clause-wait
 returns-clause-wait g c exact =
