@@ -54,8 +54,8 @@ pub trait Tally {
         Some(c)
     }
 
-    /// Whether the bounds for committees of k are known to be exact at a value: where one reaches it, some committee below
-    /// has at least that value. Then a walk asks for no values of its committees.
+    /// Whether the bounds for committees of k are known to be exact at a value: if one reaches it, some committee below
+    /// has at least that value. Then a walk asks for no values of the committees that it reaches.
     fn is_exact_at(&self, k: u8, best: u128) -> bool
         ensures { result ≡ true
             → IsExactAtBest (value_of self.now) (bound_of self.now) (candidates self.now) k best }
