@@ -21,11 +21,17 @@ const SAMPLE: u32 = 16;
 /// A search begins without pairs, and counts them after so many sets.
 const SETS_BEFORE_PAIRS: u32 = 1024;
 
-/// So often pairs are counted at first.
-const TRIALS_OF_PAIRS: u64 = 48;
+/// So often pairs are counted before they have to help.
+const TRIALS_OF_PAIRS: u32 = 48;
 
 /// So often more pairs are counted for each set that was given up for them.
-const TRIALS_FOR_HELP: u64 = 12;
+const TRIALS_FOR_HELP: u32 = 4;
+
+/// At most so often pairs are counted without help.
+const MOST_TRIALS: u32 = 256;
+
+/// Where pairs do not help, they are counted for one set of so many, so that their use is judged anew.
+const SAMPLE_OF_PAIRS: u32 = 256;
 
 /// What is known of the use of each test.
 #[derive(Drop)]
@@ -82,40 +88,43 @@ impl Trials {
     }
 }
 
-/// How many sets were passed without pairs, how often pairs were counted, and how often a set was given up for them. If
-/// they seldom help, they are counted no more.
+/// How many sets were searched, and how often pairs are counted before they have to help again. They cost much more
+/// than a quick test, so they are soon left out, and come back as soon as they help.
 #[derive(Drop)]
 pub(crate) struct PairTrials {
-    passed: Cell<u32>,
-    counted: Cell<u32>,
-    given_up: Cell<u32>,
+    sets: Cell<u32>,
+    trials: Cell<u32>,
 }
 
 impl PairTrials {
     /// Pairs were not counted yet.
     fn none() -> PairTrials {
         PairTrials {
-            passed: Cell::new(0),
-            counted: Cell::new(0),
-            given_up: Cell::new(0),
+            sets: Cell::new(0),
+            trials: Cell::new(TRIALS_OF_PAIRS),
         }
     }
 
     /// Notes that a set was passed without pairs.
     pub(crate) fn pass(&self) {
-        add_to(&self.passed, 1);
+        add_to(&self.sets, 1);
     }
 
     /// Notes that pairs were counted, and whether the set was given up for them.
     pub(crate) fn note(&self, given_up: bool) {
-        add_to(&self.counted, 1);
-        add_to(&self.given_up, u32::from(given_up));
+        add_to(&self.sets, 1);
+        let trials = self.trials.get();
+        self.trials.set(if given_up {
+            MOST_TRIALS.min(trials.saturating_add(TRIALS_FOR_HELP))
+        } else {
+            trials.saturating_sub(1)
+        });
     }
 
     /// Whether the search is long enough for pairs, and they help often enough.
     pub(crate) fn are_due(&self) -> bool {
-        let most = TRIALS_OF_PAIRS + TRIALS_FOR_HELP * u64::from(self.given_up.get());
-        self.passed.get() >= SETS_BEFORE_PAIRS && u64::from(self.counted.get()) < most
+        let sets = self.sets.get();
+        sets >= SETS_BEFORE_PAIRS && (self.trials.get() > 0 || sets % SAMPLE_OF_PAIRS == 0)
     }
 }
 

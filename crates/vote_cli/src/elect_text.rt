@@ -11,7 +11,7 @@ ghost use Rattle.vote_cli.specs.Listing.{answers_text, committee_line, listing_t
 ghost use Rattle.vote_cli.specs.Steps.RequestFaults.{request_fault_word};
 ghost use Rattle.vote_cli.specs.Steps.Starts.{IsStart-prop};
 
-use crate::listing::print_listing;
+use crate::listing::AnswerPage;
 use crate::refusal::RequestFault;
 use crate::starts::committee_start;
 use ballot_base::{CandSet, Increments, Profile, common_multiple};
@@ -162,7 +162,11 @@ impl<'a, A: Allocator + Copy + Drop> Listing<'a, A> {
         let winners = Winners::new(tally, self.profile.m(), self.size, self.after);
         let mut printer = Printer::new(out);
         self.print_header(&mut printer, rule, winners.best())?;
-        print_listing(&mut printer, &self.names, self.limit, winners)
+        let page = AnswerPage {
+            names: &self.names,
+            limit: self.limit,
+        };
+        page.print(&mut printer, winners)
     }
 
     /// Writes the answer of a sequential rule that has these winners after the start, and flushes the writer.
@@ -178,6 +182,10 @@ impl<'a, A: Allocator + Copy + Drop> Listing<'a, A> {
     {
         let mut printer = Printer::new(out);
         print_rule(&mut printer, Rule::Sequential(rule), self.size)?;
-        print_listing(&mut printer, &self.names, self.limit, winners)
+        let page = AnswerPage {
+            names: &self.names,
+            limit: self.limit,
+        };
+        page.print(&mut printer, winners)
     }
 }

@@ -135,23 +135,6 @@ fn print_allocation<W: Sink, N: Allocator + Copy>(
     printer.print(b"\n")
 }
 
-/// Prints the line of an answer, and sends the first one.
-fn print_answer<W: Sink, N: Allocator + Copy, A: Answers>(
-    printer: &mut Printer<'_, W>,
-    names: &Names<'_, N>,
-    answer: &A::Answer,
-    is_first: bool,
-) -> Result<(), WriteFailed>
-    ensures { Prints W.contents W.has_failed printer.old printer.new (is_ok result)
-        (A.line_of names.now (A.numbers answer.now)) }
-{
-    A::print_line(printer, names, answer)?;
-    if is_first {
-        return printer.send();
-    }
-    Ok(())
-}
-
 /// Prints the last line after as many answers as the limit allows: one look tells whether there is another.
 fn print_last<W: Sink, A: Answers + Drop>(
     printer: &mut Printer<'_, W>,
@@ -165,30 +148,6 @@ fn print_last<W: Sink, A: Answers + Drop>(
         Some(_) => printer.print(b"more\n"),
         None => printer.print(b"end\n"),
     }
-}
-
-/// Prints the answers as far as the limit allows, and the last line.
-fn print_answers<W: Sink, N: Allocator + Copy, A: Answers + Drop>(
-    printer: &mut Printer<'_, W>,
-    names: &Names<'_, N>,
-    limit: Option<u32>,
-    answers: A,
-) -> Result<(), WriteFailed>
-    ensures { Prints W.contents W.has_failed printer.old printer.new (is_ok result)
-        (answers_text (A.line_of names.now) limit (A.left answers)) }
-{
-    let mut answers = answers;
-    let mut room = limit;
-    let mut is_first = true;
-    while has_room(room) {
-        let Some(answer) = answers.next_answer() else {
-            return printer.print(b"end\n");
-        };
-        print_answer::<W, N, A>(printer, names, &answer, is_first)?;
-        is_first = false;
-        room = one_less(room);
-    }
-    print_last(printer, answers)
 }
 
 /// Whether one more answer may be printed.
@@ -212,21 +171,69 @@ fn one_less(room: Option<u32>) -> Option<u32>
     }
 }
 
-/// Prints the answers, as many as the limit allows, and the last line after the lines that were printed before, and
-/// flushes the writer.
-///
-/// Those lines are sent before the first answer is looked for, and that answer before the second one is.
-pub(crate) fn print_listing<W: Sink, N: Allocator + Copy, A: Answers + Drop>(
-    printer: &mut Printer<'_, W>,
-    names: &Names<'_, N>,
-    limit: Option<u32>,
-    answers: A,
-) -> Result<(), WriteFailed>
-    ensures printed { Prints W.contents W.has_failed printer.old printer.new (is_ok result)
-        (answers_text (A.line_of names.now) limit (A.left answers)) }
-    ensures nothing { is_ok result ≡ true → printer.new.pending.items ≡ [] }
-{
-    printer.send()?;
-    print_answers(printer, names, limit, answers)?;
-    printer.finish()
+/// The names beside which answers are printed, and how many answers at most.
+#[derive(Drop)]
+pub(crate) struct AnswerPage<'a, N: Allocator + Copy> {
+    pub(crate) names: &'a Names<'a, N>,
+    pub(crate) limit: Option<u32>,
+}
+
+impl<N: Allocator + Copy> AnswerPage<'_, N> {
+    /// Prints the answers, as many as the limit allows, and the last line after the lines that were printed before, and
+    /// flushes the writer.
+    ///
+    /// Those lines are sent before the first answer is looked for, and that answer before the second one is.
+    pub(crate) fn print<W: Sink, A: Answers + Drop>(
+        &self,
+        printer: &mut Printer<'_, W>,
+        answers: A,
+    ) -> Result<(), WriteFailed>
+        ensures printed { Prints W.contents W.has_failed printer.old printer.new (is_ok result)
+            (answers_text (A.line_of self.now.names.now) self.now.limit (A.left answers)) }
+        ensures nothing { is_ok result ≡ true → printer.new.pending.items ≡ [] }
+    {
+        printer.send()?;
+        self.print_all(printer, answers)?;
+        printer.finish()
+    }
+
+    /// Prints the answers as far as the limit allows, and the last line.
+    fn print_all<W: Sink, A: Answers + Drop>(
+        &self,
+        printer: &mut Printer<'_, W>,
+        answers: A,
+    ) -> Result<(), WriteFailed>
+        ensures { Prints W.contents W.has_failed printer.old printer.new (is_ok result)
+            (answers_text (A.line_of self.now.names.now) self.now.limit (A.left answers)) }
+    {
+        let mut answers = answers;
+        let mut room = self.limit;
+        let mut is_first = true;
+        while has_room(room) {
+            let Some(answer) = answers.next_answer() else {
+                return printer.print(b"end\n");
+            };
+            self.print_one::<W, A>(printer, &answer, is_first)?;
+            is_first = false;
+            room = one_less(room);
+        }
+        print_last(printer, answers)
+    }
+
+    /// Prints the line of an answer, and sends the first one.
+    fn print_one<W: Sink, A: Answers>(
+        &self,
+        printer: &mut Printer<'_, W>,
+        answer: &A::Answer,
+        is_first: bool,
+    ) -> Result<(), WriteFailed>
+        ensures { Prints W.contents W.has_failed printer.old printer.new (is_ok result)
+            (A.line_of self.now.names.now (A.numbers answer.now)) }
+    {
+        A::print_line(printer, self.names, answer)?;
+        if is_first {
+            return printer.send();
+        }
+        Ok(())
+    }
 }

@@ -4,7 +4,7 @@ ghost use Rattle.text_output.specs.Steps.Printing.{Prints, Sends};
 ghost use Rattle.vote_cli.specs.Listing.{allocation_line, answers_text};
 ghost use Rattle.vote_cli.specs.ShareText.{share_header};
 
-use crate::listing::print_listing;
+use crate::listing::AnswerPage;
 use itoa::Buffer;
 use request_words::Page;
 use seat_share::{Method, Shares};
@@ -52,6 +52,10 @@ impl Sharing<'_> {
     {
         let mut printer = Printer::new(out);
         print_header(&mut printer, self.method, self.seats)?;
-        print_listing(&mut printer, names, self.page.limit, shares)
+        let page = AnswerPage {
+            names,
+            limit: self.page.limit,
+        };
+        page.print(&mut printer, shares)
     }
 }

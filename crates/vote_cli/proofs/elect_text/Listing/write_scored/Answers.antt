@@ -16,5 +16,5 @@ returns g c =
     let s = c.args.self.now in
     let parts = winners_parts s.names (g.T.Tally.value_of c.args.tally.now) c.args.rule s.profile.now.m c.m.result s.size c.best.result s.after s.limit c.new-winners.result.left
     c.m.ensures.value (c.best.ensures ∙ c.new-winners.ensures.best) c.new-winners.ensures.left in
-    Sends-by c.new-printer.ensures.writer c.new-printer.ensures.nothing c.print_listing.ensures.nothing (search rules)
-    (goes_on c.print_header.result _ c.in_ok-print_header.was parts c.print_header.ensures c.print_listing.ensures.printed)
+    Sends-by c.new-printer.ensures.writer c.new-printer.ensures.nothing c.print.ensures.nothing (search rules)
+    (goes_on c.print_header.result _ c.in_ok-print_header.was parts c.print_header.ensures c.print.ensures.printed)

@@ -9,5 +9,5 @@ returns-in_err-print_rule g c =
 
 pub returns : goal.returns
 returns g c =
-    Sends-by c.new-printer.ensures.writer c.new-printer.ensures.nothing c.print_listing.ensures.nothing (search rules)
-    (goes_on c.print_rule.result _ c.in_ok-print_rule.was refl c.print_rule.ensures c.print_listing.ensures.printed)
+    Sends-by c.new-printer.ensures.writer c.new-printer.ensures.nothing c.print.ensures.nothing (search rules)
+    (goes_on c.print_rule.result _ c.in_ok-print_rule.was refl c.print_rule.ensures c.print.ensures.printed)
