@@ -1,10 +1,12 @@
 -- Increasing lists: which numbers they have, and that those decide the list.
-use Rattle.std.proofs.Common.{◌≡◌, ℕ, ◌+◌, ◌<◌, ◌≤◌, ◌==◌, ◌||◌, ◌&&◌, Bool, true, false, cond, List, [], ◌∷◌, refl, sym, ap, ◌∙◌, arith, inl, inr, length, filter, ◌++◌, get_or, drop, subst}
+use Rattle.std.proofs.Common.{◌≡◌, ℕ, ◌+◌, ◌<◌, ◌≤◌, ◌==◌, ◌||◌, ◌&&◌, Bool, true, false, cond, List, [], ◌∷◌, refl, sym, ap, ◌∙◌, arith, inl, inr, length, count_by, filter, not, ◌++◌, get_or, drop, subst}
 use Rattle.std.proofs.lemmas.Map.Views.{any-filter_same}
 use Rattle.std.proofs.lemmas.Bool.{eq-eqb, eqb-true, ne_eqb, lt-ltb, le-ltb, cases_order, cases_lt, or_left}
 use Rattle.std.proofs.lemmas.List.{drop_more}
+use Rattle.std.proofs.lemmas.List.Filters.{length-filter_both}
+use Rattle.std.proofs.lemmas.List.Sums.{length-filter}
 use Rattle.ballot_base.specs.Lists.{IsIncreasing}
-use Rattle.ballot_base.specs.CandSet.{has_member, with_member, either_members}
+use Rattle.ballot_base.specs.CandSet.{has_member, with_member, common_members, either_members, other_members}
 
 pub IsIncreasing-lower : (low first last : ℕ) (xs : List ℕ) → low ≤ first → IsIncreasing first last xs → IsIncreasing low last xs
 IsIncreasing-lower low first last [] h i = i
@@ -128,6 +130,48 @@ pub IsIncreasing-either : (first last : ℕ) (set other : List ℕ) → IsIncrea
 IsIncreasing-either first last set [] i j = i
 IsIncreasing-either first last set (x ∷ xs) i j =
     IsIncreasing-either first last (with_member set x) xs (IsIncreasing-with_member first last set x j.0 j.1 i) (IsIncreasing-lower first (x + 1) last xs (omega (arith, j.0)) j.2)
+
+-- of those who are members of either set but not of both, those of one, and those of the other
+of-one : (a b : Bool) → (a && (not (b && a) && (a || b))) ≡ (not b && a)
+of-one true true = refl
+of-one true false = refl
+of-one false true = refl
+of-one false false = refl
+
+of-other : (a b : Bool) → (not a && (not (b && a) && (a || b))) ≡ (not a && b)
+of-other true true = refl
+of-other true false = refl
+of-other false true = refl
+of-other false false = refl
+
+-- the members of either set but not of both are those of one alone and those of the other alone
+pub differing-count : (first last : ℕ) (set other : List ℕ) → IsIncreasing first last set → IsIncreasing first last other
+    → length (other_members (either_members set other) (common_members set other)) ≡ count_by (λ n. not (has_member other n)) set + count_by (λ n. not (has_member set n)) other
+differing-count first last set other i j =
+    let both : List ℕ = common_members set other in
+    let either : List ℕ = either_members set other in
+    let differing : List ℕ = other_members either both in
+    let up : IsIncreasing first last differing = IsIncreasing-filter (λ n. not (has_member both n)) first last either (IsIncreasing-either first last set other i j) in
+    let is : (n : ℕ) → has_member differing n ≡ (not (has_member other n && has_member set n) && (has_member set n || has_member other n)) = λ n.
+    has_member-filter (λ n. not (has_member both n)) either n
+    ∙ ap (λ h. not h && has_member either n) (has_member-filter (has_member other) set n)
+    ∙ ap (λ h. not (has_member other n && has_member set n) && h) (has_member-either set other n) in
+    let one : filter (has_member set) differing ≡ other_members set other =
+    same_increasing first last _ _ (IsIncreasing-filter (has_member set) first last differing up) (IsIncreasing-filter (λ n. not (has_member other n)) first last set i)
+    (λ n. has_member-filter (has_member set) differing n ∙ ap (λ h. has_member set n && h) (is n) ∙ of-one (has_member set n) (has_member other n)
+    ∙ sym (has_member-filter (λ n. not (has_member other n)) set n)) in
+    let rest : filter (λ n. not (has_member set n)) differing ≡ other_members other set =
+    same_increasing first last _ _ (IsIncreasing-filter (λ n. not (has_member set n)) first last differing up) (IsIncreasing-filter (λ n. not (has_member set n)) first last other j)
+    (λ n. has_member-filter (λ n. not (has_member set n)) differing n ∙ ap (λ h. not (has_member set n) && h) (is n) ∙ of-other (has_member set n) (has_member other n)
+    ∙ sym (has_member-filter (λ n. not (has_member set n)) other n)) in
+    omega (
+      arith,
+      length-filter_both (has_member set) (λ n. not (has_member set n)) (λ n. refl) differing,
+      ap length one,
+      ap length rest,
+      length-filter (λ n. not (has_member other n)) set,
+      length-filter (λ n. not (has_member set n)) other,
+    )
 
 -- one more number, above all the others
 pub with_member-above : (first last : ℕ) (set : List ℕ) (n : ℕ) → IsIncreasing first last set → last < n → with_member set n ≡ set ++ n ∷ []

@@ -1,12 +1,12 @@
 -- The members of a word: an increasing list, in which a number stands where its bit is 1.
-use Rattle.std.proofs.Common.{◌≡◌, ℕ, zero, suc, ◌+◌, ◌-◌, ◌*◌, ◌/◌, ◌%◌, ◌^◌, ◌<◌, ◌≤◌, ◌==◌, ◌&&◌, ◌||◌, ◌⊎◌, not, min, max, bit_and, bit_or, w64, false, List, [], ◌∷◌, refl, sym, ap, ◌∙◌, subst, arith, inl, inr}
+use Rattle.std.proofs.Common.{◌≡◌, ℕ, zero, suc, ◌+◌, ◌-◌, ◌*◌, ◌/◌, ◌%◌, ◌^◌, ◌<◌, ◌≤◌, ◌==◌, ◌&&◌, ◌||◌, ◌⊎◌, not, min, max, bit_and, bit_or, bit_xor, w64, false, List, [], ◌∷◌, refl, sym, ap, ◌∙◌, subst, arith, inl, inr}
 use Rattle.std.specs.Int.{bit_at}
 use Rattle.std.proofs.lemmas.Bool.{eq-eqb, eqb-true, ne_eqb, cases_eq, cases_lt, or_left, and_left, and_right, not_from_true}
 use Rattle.std.proofs.lemmas.Bool.Decides.{same_from_decides}
 use Rattle.std.specs.Str.{bytes_eq}
 use Rattle.std.specs.Cmp.Lexicographic.{bytes_decides}
 use Rattle.std.proofs.lemmas.Nat.{pow_below, one_shl, or_lt, and_le_l}
-use Rattle.std.proofs.lemmas.Nat.Bits.{bit_at-lt, bit_at_and, bit_at_or, bit_at_set_same, bit_at_set_other, bit_at_clear_same, bit_at_clear_other, bit_at_not, shr_and_one}
+use Rattle.std.proofs.lemmas.Nat.Bits.{bit_at-lt, bit_at_and, bit_at_or, bit_at_xor, bit_at_set_same, bit_at_set_other, bit_at_clear_same, bit_at_clear_other, bit_at_not, shr_and_one}
 use Rattle.ballot_base.specs.Limits.{most_candidates}
 use Rattle.ballot_base.specs.Lists.{IsIncreasing}
 use Rattle.ballot_base.specs.CandSet.{has_member, with_member, without_member, common_members, either_members, other_members, includes}
@@ -164,6 +164,25 @@ members_either bits other =
     (IsIncreasing-either 1 most_candidates (members bits) (members other) (IsIncreasing-members bits) (IsIncreasing-members other))
     (λ k kl kh. rw (has_member-either (members bits) (members other) k, has_member-members other k kl kh, has_member-members bits k kl kh, bit_at_or bits other (k - 1))
     (some_set (bit_at bits (k - 1)) (bit_at other (k - 1)) (bit_at-lt bits (k - 1)) (bit_at-lt other (k - 1))))
+
+one_set_alone : (a b : ℕ) → a < 2 → b < 2 → ((a + b) % 2 == 1) ≡ (not ((b == 1) && (a == 1)) && ((a == 1) || (b == 1)))
+one_set_alone zero zero h k = refl
+one_set_alone zero (suc zero) h k = refl
+one_set_alone (suc zero) zero h k = refl
+one_set_alone (suc zero) (suc zero) h k = refl
+one_set_alone (suc (suc a)) b h k = absurd (omega arith)
+one_set_alone a (suc (suc b)) h k = absurd (omega arith)
+
+pub members_differing : (bits other : ℕ)
+    → members (bit_xor bits other) ≡ other_members (either_members (members bits) (members other)) (common_members (members bits) (members other))
+members_differing bits other =
+    let set : List ℕ = members bits in
+    let more : List ℕ = members other in
+    let both : List ℕ = common_members set more in
+    same_members (bit_xor bits other) (other_members (either_members set more) both)
+    (IsIncreasing-filter (λ n. not (has_member both n)) 1 most_candidates (either_members set more) (IsIncreasing-either 1 most_candidates set more (IsIncreasing-members bits) (IsIncreasing-members other)))
+    (λ k kl kh. rw (has_member-filter (λ n. not (has_member both n)) (either_members set more) k, has_member-filter (has_member more) set k, has_member-either set more k, has_member-members other k kl kh, has_member-members bits k kl kh, bit_at_xor bits other (k - 1))
+    (one_set_alone (bit_at bits (k - 1)) (bit_at other (k - 1)) (bit_at-lt bits (k - 1)) (bit_at-lt other (k - 1))))
 
 pub members_included : (bits other : ℕ) → other < 2 ^ most_candidates → (bit_and other bits == other) ≡ includes (members bits) (members other)
 members_included bits other small =

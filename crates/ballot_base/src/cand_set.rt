@@ -1,5 +1,5 @@
 //! A set of candidates, in one word.
-ghost use Rattle.std.specs.Prelude.{◌≡◌, ℕ, ◌+◌, ◌-◌, ◌^◌, ◌<◌, ◌≤◌, ◌↔◌, List, [], ◌∷◌, length, IsTrue, MatchOption, SomeIff};
+ghost use Rattle.std.specs.Prelude.{◌≡◌, ℕ, ◌+◌, ◌-◌, ◌^◌, ◌<◌, ◌≤◌, ◌↔◌, List, [], ◌∷◌, not, length, count_by, IsTrue, MatchOption, SomeIff};
 ghost use Rattle.std.specs.Int.{bit_at};
 ghost use Rattle.std.specs.List.{range_with_len};
 ghost use Rattle.std.specs.Iterator.{YieldsFirst, item_count};
@@ -222,6 +222,13 @@ impl CandSet {
         CandSet {
             bits: self.bits & !other.bits,
         }
+    }
+
+    /// How many candidates are members of exactly one of the two sets (the Hamming distance).
+    pub fn distance(self, other: CandSet) -> u8
+        ensures { result ≡ count_by (λ n. not (has_member other n)) self + count_by (λ n. not (has_member self n)) other }
+    {
+        (self.bits ^ other.bits).count_ones() as u8
     }
 
     /// The members that are at most c.

@@ -4,7 +4,7 @@
 ghost use Rattle.std.specs.Prelude.{◌≡◌, ◌≤◌};
 ghost use Rattle.ballot_base.specs.Lists.{IsIncreasing};
 ghost use Rattle.tie_walk.specs.Ceilings.{greatest_distance_upto, closeness_upto};
-ghost use Rattle.tie_walk.specs.Values.{distance, greatest_distance, closeness};
+ghost use Rattle.tie_walk.specs.Values.{greatest_distance, closeness};
 
 use crate::tally::Tally;
 use ballot_base::{CandSet, Profile};
@@ -63,7 +63,7 @@ fn farthest<A: Allocator + Copy>(profile: &Profile<A>, committee: CandSet) -> u8
 {
     let mut greatest = 0;
     for (ballot, _voters) in profile.ballots() {
-        greatest = greatest.max(distance(ballot, committee));
+        greatest = greatest.max(ballot.distance(committee));
     }
     greatest
 }
@@ -77,15 +77,7 @@ fn farthest_upto<A: Allocator + Copy>(profile: &Profile<A>, c: u8, set: CandSet)
 {
     let mut greatest = 0;
     for (ballot, _voters) in profile.ballots() {
-        greatest = greatest.max(distance(ballot.upto(c), set));
+        greatest = greatest.max(ballot.upto(c).distance(set));
     }
     greatest
-}
-
-/// How many candidates stand in exactly one of the two.
-fn distance(ballot: CandSet, committee: CandSet) -> u8
-    ensures { result ≡ distance ballot committee }
-{
-    let common = ballot.common(committee).len();
-    ballot.len() - common + (committee.len() - common)
 }
