@@ -13,7 +13,7 @@ const FEW_SEATS: u8 = 5;
 const TRIALS: u32 = 256;
 
 /// A quick test is worth its making if one set of so many is given up for it.
-const LEAST_HELP: u32 = 64;
+const LEAST_HELP: u32 = 4;
 
 /// One set of so many has a quick test that is not worth its making, so that its use is judged anew.
 const SAMPLE: u32 = 16;
