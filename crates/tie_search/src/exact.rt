@@ -4,8 +4,9 @@
 //! the greatest value is found by searches for more than the best known, until one finds nothing, and questions are
 //! answered by further searches.
 //!
-//! Before such a search, two committees are tried: the one that was found last, and the set with the last candidates of
-//! all. Both are tested by their members and value, so no proof rests on what the cell holds. A committee with the
+//! Before such a search, three committees are tried: the one that was found last, the set with the last candidates of
+//! all, and the one that was found last with clones in the place of others. They are tested by their members and value,
+//! so no proof rests on what the cell holds, nor on who are clones. A committee with the
 //! greatest value shows that the bounds reach it up to the first member outside the set (module `witness`). So `reach`
 //! searches once for many places, and if most committees tie, not at all.
 ghost use Rattle.std.specs.Prelude.{◌≡◌, ◌+◌, ◌-◌, ◌≤◌, [], false, MatchOption, length};
@@ -19,7 +20,7 @@ ghost use Rattle.tie_search.specs.Steps.Witness.{IsReachedTo, IsWitnessed};
 
 use crate::found::Tied;
 use crate::searchable::Searchable;
-use crate::witness::{listed_upto, with_last, witnessed_upto};
+use crate::witness::{exchanged, listed_upto, with_last, witnessed_upto};
 use ballot_base::CandSet;
 use std::cell::Cell;
 use std::marker::Model;
@@ -110,13 +111,9 @@ impl<S: Searchable> ExactTally<S> {
         if self.tied.are_all {
             return listed_upto(&self.tied, self.m, c, set, left);
         }
-        let known = self.witnessed(self.found.get(), c, set, left);
-        if known > c {
-            return known;
-        }
-        let latest = self.witnessed(with_last(set, left, self.m), c, set, left);
-        if latest > c {
-            return latest;
+        let shown = self.shown_upto(c, set, left);
+        if shown > c {
+            return shown;
         }
         let free = those_after(c, self.m);
         match self.search.find(set, free, left, self.best) {
@@ -126,6 +123,29 @@ impl<S: Searchable> ExactTally<S> {
             }
             None => c,
         }
+    }
+
+    /// The end of such a range as far as it is shown without a search: by the committee that was found last, by the
+    /// set with the last candidates of all, or by the committee that was found last with clones in the place of others.
+    fn shown_upto(&self, c: u8, set: CandSet, left: u8) -> u8
+        requires within { c ≤ S.candidates self.now.search }
+        requires candidates { IsIncreasing 1 c set }
+        requires fits { left ≤ S.candidates self.now.search - c }
+        ensures { IsWitnessed (S.value_of self.now.search) (S.candidates self.now.search) set left
+            (best_value (S.value_of self.now.search) (S.candidates self.now.search) self.now.k) c result }
+    {
+        let known = self.witnessed(self.found.get(), c, set, left);
+        if known > c {
+            return known;
+        }
+        let latest = self.witnessed(with_last(set, left, self.m), c, set, left);
+        if latest > c {
+            return latest;
+        }
+        let free = CandSet::after(c, self.m);
+        let alike = exchanged(self.search.clones(), self.found.get(), set, free);
+        self.found.set(alike);
+        self.witnessed(alike, c, set, left)
     }
 
     /// The end of such a range as far as one committee shows: c if it has not the greatest value, or is not of the set

@@ -67,6 +67,10 @@ impl<'a, A: Allocator + Copy> Tally for MinimaxSearch<'a, A> {
 }
 
 impl<'a, A: Allocator + Copy> Searchable for MinimaxSearch<'a, A> {
+    fn clones(&self) -> &Clones {
+        &self.clones
+    }
+
     fn find(&self, set: CandSet, free: CandSet, left: u8, least: u128) -> Option<CandSet> {
         let m = self.profile.m();
         if least > u128::from(m) {

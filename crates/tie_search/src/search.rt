@@ -356,7 +356,7 @@ impl<A: Allocator + Copy> Search<'_, A> {
     {
         match &self.aids.columns {
             Some(columns) => columns.gains_of(set, free),
-            None => self.tally.value_and_gains(set, free).1,
+            None => self.tally.gains(set, free),
         }
     }
 

@@ -4,11 +4,15 @@ ghost use Rattle.tie_search.specs.Completions.{IsOpen, IsOutOfReach, IsReaching}
 ghost use Rattle.tie_search.specs.Tied.{AreTied};
 
 use crate::found::Tied;
-use ballot_base::CandSet;
+use ballot_base::{CandSet, Clones};
 use tie_walk::Tally;
 
 /// Values whose committees can be searched for.
 pub trait Searchable: Tally {
+    /// Who are clones. A committee with clones in the place of members has the same value, so it is tried before a
+    /// search. Any answer is right, since the value is tested.
+    fn clones(&self) -> &Clones;
+
     /// Finds a committee of the set and `left` of the free candidates whose value is at least `least`. None if there is
     /// no such committee.
     fn find(&self, set: CandSet, free: CandSet, left: u8, least: u128) -> Option<CandSet>

@@ -134,6 +134,10 @@ impl<'a, A: Allocator + Copy> Tally for ThieleSearch<'a, A> {
 }
 
 impl<'a, A: Allocator + Copy> Searchable for ThieleSearch<'a, A> {
+    fn clones(&self) -> &Clones {
+        &self.aids.clones
+    }
+
     fn find(&self, set: CandSet, free: CandSet, left: u8, least: u128) -> Option<CandSet> {
         // The walk over the winners asks for many such searches, most of which end after a few sets.
         self.search(least, false).find(set, free, left)

@@ -19,7 +19,7 @@ const LEAST_HELP: u32 = 4;
 const SAMPLE: u32 = 16;
 
 /// A search begins without pairs, and counts them after so many sets.
-const SETS_BEFORE_PAIRS: u32 = 1024;
+const SETS_BEFORE_PAIRS: u32 = 3072;
 
 /// So often pairs are counted before they have to help.
 const TRIALS_OF_PAIRS: u32 = 48;

@@ -7,7 +7,7 @@ ghost use Rattle.tie_search.specs.Steps.Witness.{IsSetAndLater};
 ghost use Rattle.tie_search.specs.Tied.{IsAmong, most_tied};
 
 use crate::found::Tied;
-use ballot_base::CandSet;
+use ballot_base::{CandSet, Clones};
 
 /// The first place from c on at which the committee is not the set and `left` of the candidates after that place, all
 /// candidates being 1 to m: c where it is not so there, else the first member who is not in the set, or the end.
@@ -67,4 +67,42 @@ pub fn with_last(set: CandSet, left: u8, m: u8) -> CandSet
 {
     let others = CandSet::all(m - left).minus(set);
     CandSet::all(m).minus(others)
+}
+
+/// A committee like another one that has all members of the set, and otherwise free candidates: clones take the place
+/// of members who may not stay. Returns the other committee if there are too few of them. Any answer is right.
+pub(crate) fn exchanged(
+    clones: &Clones,
+    committee: CandSet,
+    set: CandSet,
+    free: CandSet,
+) -> CandSet {
+    let mut made = set;
+    let mut settled = CandSet::empty();
+    for member in committee.union(set).members() {
+        if settled.has(member) {
+            continue;
+        }
+        let class = clones.class(member);
+        let seats = committee.common(class).len();
+        let taken = set.common(class).len();
+        let open = class.common(free);
+        if seats < taken || open.len() < seats - taken {
+            return committee;
+        }
+        made = made.union(last_of(open, seats - taken));
+        settled = settled.union(class);
+    }
+    made
+}
+
+/// The last `count` members of the set, or all of them if there are fewer.
+fn last_of(set: CandSet, count: u8) -> CandSet {
+    let mut last = set;
+    for _passed in count..set.len() {
+        if let Some((_first, others)) = last.split_first() {
+            last = others;
+        }
+    }
+    last
 }

@@ -88,8 +88,20 @@ impl<'a, A: Allocator + Copy> ThieleTally<'a, A> {
         self.rule
     }
 
-    /// The value of a set, and what it gains by each of the others, at the candidate's number.
-    pub fn value_and_gains(&self, set: CandSet, others: CandSet) -> (u128, [u128; PLACES])
+    /// What a set gains by each of the others, at the candidate's number.
+    pub fn gains(&self, set: CandSet, others: CandSet) -> [u128; PLACES]
+        ensures gains { (n : ℕ) → has_member others n ≡ true → slice_index result n
+            ≡ gain (increments self.now.rule self.now.k) self.now.election.rows set n }
+        ensures small { (n : ℕ) → slice_index result n ≤ 2 ^ 116 }
+    {
+        if self.sums[PLACES - 1] >= SMALL {
+            return worths(self.profile, Step::Grow, &self.weights, set);
+        }
+        widened(&hits_and_gains(self.profile, &self.weights, set, others).1)
+    }
+
+    /// The value of a set, and what `gains` returns, in one pass where the sums are small.
+    fn value_and_gains(&self, set: CandSet, others: CandSet) -> (u128, [u128; PLACES])
         ensures value { result.0 ≡ thiele_value (increments self.now.rule self.now.k) self.now.election.rows set }
         ensures gains { (n : ℕ) → has_member others n ≡ true → slice_index result.1 n
             ≡ gain (increments self.now.rule self.now.k) self.now.election.rows set n }
@@ -97,7 +109,7 @@ impl<'a, A: Allocator + Copy> ThieleTally<'a, A> {
     {
         if self.sums[PLACES - 1] >= SMALL {
             let value = sum_of_hits(self.profile, &self.sums, set);
-            return (value, worths(self.profile, Step::Grow, &self.weights, set));
+            return (value, self.gains(set, others));
         }
         let (counts, gains) = hits_and_gains(self.profile, &self.weights, set, others);
         let value = sum_of_worths(&counts, &self.sums, self.m);

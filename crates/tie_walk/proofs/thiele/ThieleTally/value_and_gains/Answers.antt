@@ -1,26 +1,14 @@
-use Rattle.std.proofs.Common.{◌≡◌, ℕ, ◌^◌, ◌≤◌, ◌∙◌, cond, ap, arith, get_or}
+use Rattle.std.proofs.Common.{◌≡◌, ◌∙◌, cond, ap, arith}
 use Rattle.ballot_base.specs.Ballots.{Election}
 use Rattle.ballot_base.specs.Increments.{increments}
 use Rattle.tie_walk.specs.Sequences.{gain}
 use Rattle.tie_walk.specs.Values.{thiele_value, Thiele, thiele_of}
-use Rattle.tie_walk.proofs.Gains.{gain-most, weights-small}
 use Rattle.tie_walk.proofs.TableLemmas.{sums-most, weights-least}
 use Rattle.tie_walk.proofs.TableSums.{hits-fit, hits-value}
 use Rattle.tie_walk.proofs.thiele.ThieleTally.value_and_gains.Goals as goal
 
 pub sum_of_hits-value-requires : goal.sum_of_hits-value-requires
 sum_of_hits-value-requires g c x = sums-most c.self.inside.rule c.self.inside.k c.self.inside.sums x c.self.invariant.size c.self.invariant.sums_are
-
-pub worths-requires : goal.worths-requires
-worths-requires g c j =
-    let t = c.self.inside in
-    omega (arith, weights-small t.rule t.k t.weights j c.self.invariant.size c.self.invariant.weights_are)
-
-pub returns-then-self-ge-SMALL-clause-small : goal.returns-then-self-ge-SMALL-clause-small
-returns-then-self-ge-SMALL-clause-small g c n =
-    let t = c.self.inside in
-    let small : (i : ℕ) → get_or t.weights i 0 ≤ 2 ^ 84 = λ i. weights-small t.rule t.k t.weights i c.self.invariant.size c.self.invariant.weights_are in
-    omega (arith, c.worths.ensures n, gain-most t.profile.now t.weights c.args.set n (2 ^ 84) c.self.invariant.election small)
 
 pub hits_and_gains-requires : goal.hits_and_gains-requires
 hits_and_gains-requires g c =
