@@ -44,42 +44,89 @@ pub(crate) fn chosen<A: Allocator + Copy + Drop>(
 {
     let weights = &rounded.weights;
     let m = values.m();
-    let scale = u128::from(SCALE);
     let mut multipliers = alike(alloc, profile.rows(), SCALE * weights[0] / 2)?;
     let mut best = Vec::from_slice(alloc, &multipliers)?;
-    let mut lowest = u128::MAX;
-    let mut committee = CandSet::empty();
-    let mut value = 0;
-    let mut pace = WHOLE;
-    let mut stalled = 0;
+    let mut progress = Progress::none();
     for _round in 0..ROUNDS {
         let worths = prices_of(profile, &multipliers);
         let dearest = dearest(&worths, m, k);
         let bound = base_of(profile, weights, &multipliers) + excess(&worths, dearest, 0);
-        let reached = (values.value(dearest) / rounded.unit).saturating_mul(scale);
-        if reached > value {
-            committee = dearest;
-            value = reached;
-        }
-        stalled += 1;
-        if bound < lowest {
+        progress.meet(dearest, values.value(dearest) / rounded.unit);
+        if progress.lowers(bound) {
             best.copy_from_slice(&multipliers);
-            lowest = bound;
-            stalled = 0;
         }
-        if lowest < value.saturating_add(scale) {
+        if progress.is_over() {
             break;
         }
-        if stalled < PATIENCE {
-            let gap = bound.saturating_sub(value).saturating_mul(pace) / WHOLE;
-            step(profile, weights, &mut multipliers, dearest, gap);
-        } else {
-            multipliers.copy_from_slice(&best);
-            pace /= 2;
-            stalled = 0;
+        match progress.next_gap(bound) {
+            Some(gap) => step(profile, weights, &mut multipliers, dearest, gap),
+            None => multipliers.copy_from_slice(&best),
         }
     }
-    Ok((best, committee))
+    Ok((best, progress.committee))
+}
+
+/// What was met so far, and how long the next step is. Bounds and values are in parts of which a unit has `SCALE`.
+#[derive(Drop)]
+struct Progress {
+    lowest: u128,
+    // The committee of the greatest value.
+    committee: CandSet,
+    value: u128,
+    // How many parts of the gap a step closes.
+    pace: u128,
+    // How many rounds were without a lower bound.
+    stalled: u8,
+}
+
+impl Progress {
+    /// Nothing was met yet.
+    fn none() -> Progress {
+        Progress {
+            lowest: u128::MAX,
+            committee: CandSet::empty(),
+            value: 0,
+            pace: WHOLE,
+            stalled: 0,
+        }
+    }
+
+    /// Keeps the committee if it has more units than the best one.
+    fn meet(&mut self, committee: CandSet, units: u128) {
+        let value = units.saturating_mul(u128::from(SCALE));
+        if value > self.value {
+            self.committee = committee;
+            self.value = value;
+        }
+    }
+
+    /// Whether the bound is lower than all before.
+    fn lowers(&mut self, bound: u128) -> bool {
+        self.stalled = self.stalled.saturating_add(1);
+        if bound >= self.lowest {
+            return false;
+        }
+        self.lowest = bound;
+        self.stalled = 0;
+        true
+    }
+
+    /// Whether no committee is better than the best one by a unit.
+    fn is_over(&self) -> bool {
+        self.lowest < self.value.saturating_add(u128::from(SCALE))
+    }
+
+    /// The gap that the next step closes. Returns `None` if the bound was not lowered for long: the steps then get
+    /// shorter, and begin with the best multipliers again.
+    fn next_gap(&mut self, bound: u128) -> Option<u128> {
+        if self.stalled < PATIENCE {
+            let gap = bound.saturating_sub(self.value).saturating_mul(self.pace);
+            return Some(gap / WHOLE);
+        }
+        self.pace /= 2;
+        self.stalled = 0;
+        None
+    }
 }
 
 /// The same multiplier for each of so many rows.

@@ -8,5 +8,4 @@ invariant-loop-round g l = record {
   now : (j : ℕ) → get_or l.multipliers.items j 0 ≤ 2 ^ 56;
   best_each : length l.best.items ≡ length l.profile.rows;
   best : (j : ℕ) → get_or l.best.items j 0 ≤ 2 ^ 56;
-  stalled : l.stalled ≤ 8;
 }
