@@ -1,6 +1,6 @@
 //! Thiele's rules as values that can be searched.
 ghost use Rattle.std.specs.Prelude.{◌≡◌, ◌≤◌, IfOk};
-ghost use Rattle.ballot_base.specs.Limits.{most_members};
+ghost use Rattle.ballot_base.specs.Limits.{most_candidates, most_members};
 ghost use Rattle.tie_walk.specs.Values.{thiele_of};
 ghost use Rattle.tie_walk.specs.Winners.{best_value};
 ghost use Rattle.tie_walk.specs.Ceilings.{ceiling};
@@ -19,6 +19,9 @@ use ballot_base::{CandSet, Clones, Profile, ThieleRule};
 use std::alloc::{AllocError, Allocator, Global};
 use std::marker::Model;
 use tie_walk::{Tally, ThieleTally};
+
+/// A candidate has many clones if there are so many with itself.
+const MANY_CLONES: u8 = 4;
 
 /// The values under a Thiele rule, times the common denominator of its increments, and what a search among them is
 /// helped by. Contracts see the election, the rule and k.
@@ -144,12 +147,25 @@ impl<'a, A: Allocator + Copy> Searchable for ThieleSearch<'a, A> {
     }
 
     fn tied(&self, k: u8) -> Option<Tied> {
-        // If the good committee is known to be the best, winners come sooner one by one.
-        if self.good.is_best {
+        // Winners come sooner one by one if the good committee is known to be the best, or clones can take their places.
+        if self.good.is_best || are_mostly_clones(&self.aids.clones, self.m()) {
             return None;
         }
         Some(self.search(self.good_value(k), true).tied(k))
     }
+}
+
+/// Whether at least half of the candidates have many clones, as on party lists.
+fn are_mostly_clones(clones: &Clones, m: u8) -> bool
+    requires { m ≤ most_candidates }
+{
+    let mut cloned = CandSet::empty();
+    for candidate in 1..m + 1 {
+        if clones.class(candidate).len() >= MANY_CLONES {
+            cloned = cloned.with(candidate);
+        }
+    }
+    2 * cloned.len() >= m
 }
 
 /// A good committee of k: the one that was met when prices were made, or a better one.
