@@ -3,9 +3,8 @@
 //!
 //! Most numbers of a ballot have one or two digits, and a comma or a brace right beside them. `OrderPlace::read_on` and
 //! `listed_number` read them together; `IsReadOn` says that the outcome is that of the single tokens.
-ghost use Rattle.std.specs.Prelude.{◌≡◌, ℕ, ◌+◌, ◌-◌, ◌*◌, ◌^◌, ◌<◌, ◌≤◌, true, length, List, [], ◌∷◌};
+ghost use Rattle.std.specs.Prelude.{◌≡◌, ℕ, ◌+◌, ◌<◌, ◌≤◌, true, length, List, [], ◌∷◌};
 ghost use Rattle.std.specs.Prelude.{Some, None, MatchOption, IfOk, IfErr, IfSome, if◌then◌else◌};
-ghost use Rattle.std.specs.Char.{is_ascii_digit};
 ghost use Rattle.std.specs.Option.{option_map, option_and_then};
 ghost use Rattle.ballot_base.specs.Limits.{most_candidates, most_voters};
 ghost use Rattle.ballot_base.specs.Lists.{IsIncreasing};
