@@ -122,10 +122,10 @@ impl fmt::Display for ReadFault {
     ghost output = { λ fault. Some (read_fault_text fault) };
 
     fn fmt<W: fmt::Write>(&self, f: &mut fmt::Formatter<W>) -> fmt::Result {
-        if let Some(line) = self.line {
-            write!(f, "line {line}: ")?;
+        match self.line {
+            Some(line) => write!(f, "line {line}: {}", self.name),
+            None => f.write_str(self.name.name()),
         }
-        f.write_str(self.name.name())
     }
 }
 

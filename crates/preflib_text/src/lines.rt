@@ -14,7 +14,7 @@ pub(crate) struct Cut<'a> {
 }
 
 /// What kind of line a line is.
-#[derive(Clone, Copy, Debug, PartialEq, Eq)]
+#[derive(Clone, Copy)]
 pub(crate) enum Sort {
     Blank,
     Metadata,

@@ -219,20 +219,11 @@ fn finish_lines<A: Allocator + Copy + Drop>(
         ⊎ LacksMemory (lines_of fed.now.bytes) pick.now fault) }
     ensures late { IfErr result (λ fault. IsLate (ended_lines fed.now.bytes) fault) }
 {
-    let Progress {
-        fault: _,
-        mut ended,
-        held,
-    } = progress;
-    if let Err(fault) = ended.end_input(&held, pick, fed) {
+    let mut ended = progress.ended;
+    if let Err(fault) = ended.end_input(&progress.held, pick, fed) {
         return Err(fault);
     }
-    let EndedLines {
-        builder,
-        notes,
-        number: _,
-    } = ended;
-    finish(builder, &notes)
+    finish(ended.builder, &ended.notes)
 }
 
 /// Reads a ballot file in pieces, however it is cut: it returns the outcome of all bytes together.

@@ -5,19 +5,19 @@
 //! seat exactly there are tied. `proofs/Threshold.antt` has the theorem behind this: if all seats are given, no party
 //! has a claim to another's seat exactly if each has its certain seats and some tied ones have one more.
 //! `proofs/QuotaLemmas.antt` says the same of Hamilton's remainders.
-ghost use Rattle.std.specs.Prelude.{◌≡◌, ◌+◌, ◌≤◌, ◌<◌, ◌++◌, ◌∷◌, ℕ, List, [], length, sum, true, false, Some};
+ghost use Rattle.std.specs.Prelude.{◌≡◌, ◌+◌, ◌≤◌, ◌<◌, ◌++◌, ◌∷◌, ℕ, List, [], length, sum, cond, true, false, Some};
 ghost use Rattle.std.specs.List.{AllByRecursion};
 ghost use Rattle.seat_share.specs.Limits.{most_parties, most_votes};
 ghost use Rattle.seat_share.specs.Quotients.{Quotient};
 ghost use Rattle.seat_share.specs.Steps.Claims.{claim};
-ghost use Rattle.seat_share.specs.Steps.Standings.{AllKeep, AllStand, AreWithin, IsGreatest};
+ghost use Rattle.seat_share.specs.Steps.Standings.{AllKeep, AllStand, AreWithin, IsGreatest, Keeps, Stands};
 ghost use Rattle.seat_share.specs.Steps.Standings.{votes_of, seats_of, tied_count};
 
 use crate::claims::{Contest, Quotient};
 use crate::party::Party;
 
 /// A party, by its place, and its claim to one more seat.
-#[derive(Clone, Copy, Debug)]
+#[derive(Clone, Copy)]
 struct Claimant {
     place: usize,
     quotient: Quotient,
@@ -94,16 +94,31 @@ pub(crate) fn settle(contest: Contest, low: Quotient, parties: &mut [Party]) -> 
     let Some((first, rest)) = parties.split_first_mut() else {
         return 0;
     };
-    let more = settle(contest, low, rest);
-    if first.votes == 0 {
-        first.is_tied = false;
-        return more;
+    settle(contest, low, rest) + settle_party(contest, low, first)
+}
+
+/// Takes back the party's last seat if it was met at the threshold itself, and marks the party if it is tied there.
+/// Answers how many seats were taken back.
+fn settle_party(contest: Contest, low: Quotient, party: &mut Party) -> usize
+    requires within { (party.old.votes ≤ most_votes) × (party.old.seats ≤ contest.seats) }
+    requires some { 0 < contest.votes }
+    requires kept { let claims = claim contest.method contest.votes contest.seats in
+        Keeps claims contest.seats low party.old.votes party.old.seats }
+    ensures stands { let claims = claim contest.method contest.votes contest.seats in
+        Stands claims contest.seats low party.new.votes party.new.seats party.new.is_tied }
+    ensures votes { party.new.votes ≡ party.old.votes }
+    ensures seats { party.new.seats + result ≡ party.old.seats }
+    ensures tie { result ≤ cond party.new.is_tied 1 0 }
+{
+    if party.votes == 0 {
+        party.is_tied = false;
+        return 0;
     }
-    if first.seats > 0 && low.is_at_least(contest.claim(first.votes, first.seats - 1)) {
-        first.seats -= 1;
-        first.is_tied = true;
-        return more + 1;
+    if party.seats > 0 && low.is_at_least(contest.claim(party.votes, party.seats - 1)) {
+        party.seats -= 1;
+        party.is_tied = true;
+        return 1;
     }
-    first.is_tied = contest.claim(first.votes, first.seats).is_at_least(low);
-    more
+    party.is_tied = contest.claim(party.votes, party.seats).is_at_least(low);
+    0
 }

@@ -10,7 +10,7 @@ use crate::method::Method;
 use std::marker::Model;
 
 /// What is divided, and what it is divided by, which may be 0.
-#[derive(Clone, Copy, Debug)]
+#[derive(Clone, Copy)]
 pub(crate) struct Quotient {
     dividend: u128,
     divisor: u128,
@@ -56,7 +56,7 @@ impl Quotient {
 }
 
 /// A method, all votes, and the seats that are shared out.
-#[derive(Clone, Copy, Debug)]
+#[derive(Clone, Copy)]
 pub(crate) struct Contest {
     pub(crate) method: Method,
     pub(crate) votes: u64,

@@ -8,7 +8,7 @@ ghost use Rattle.seat_share.specs.Steps.Standings.{MoreAreTied, allocations_left
 
 /// A party: its votes, its seats, and, where some seats are tied, whether it is tied for one more, and whether it has
 /// that one in the allocation that comes next.
-#[derive(Clone, Copy, Debug, Default)]
+#[derive(Clone, Copy, Default)]
 pub(crate) struct Party {
     pub(crate) votes: u64,
     pub(crate) seats: u16,

@@ -28,7 +28,7 @@ use indexmap::IndexSet;
 use std::alloc::{AllocError, Allocator};
 use std::hash::{BuildHasherDefault, FoldHasher};
 use tie_walk::SeqRule;
-use tie_walk::sequential::{Step, best_worth, hit_weights, put_in_order, worths};
+use tie_walk::sequential::{Step, best_worth, hit_weights, in_order, worths};
 
 /// The families of a level that were found so far, each once.
 type FoundFamilies<A> = IndexSet<CandSet, BuildHasherDefault<FoldHasher>, A>;
@@ -236,9 +236,7 @@ impl<A: Allocator + Copy + Drop> Levels<'_, A> {
         for set in level {
             self.insert_changes(&mut found, size, *set)?;
         }
-        let mut next = Vec::from_slice(alloc, found.as_slice())?;
-        put_in_order(&mut next);
-        Ok(next)
+        in_order(alloc, &found)
     }
 
     /// The level after this many choices.

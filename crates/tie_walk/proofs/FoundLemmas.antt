@@ -1,5 +1,5 @@
 -- The sets of a level as they are found, each once.
-use Rattle.std.proofs.Common.{◌≡◌, ℕ, zero, suc, ◌+◌, ◌-◌, ◌≤◌, ◌++◌, ◌⊎◌, Bool, true, false, cond, List, [], ◌∷◌, sym, ap, ◌∙◌, subst, inl, inr, arith, map, filter, Contains}
+use Rattle.std.proofs.Common.{◌≡◌, ℕ, zero, suc, ◌+◌, ◌-◌, ◌≤◌, ◌++◌, ◌⊎◌, Bool, true, false, cond, List, [], ◌∷◌, sym, ap, ◌∙◌, subst, inl, inr, arith, map, filter, Contains, Result, Ok, Err, IfOk}
 use Rattle.std.specs.List.{list_any, flat_map, range_with_len}
 use Rattle.std.specs.Str.{bytes_eq}
 use Rattle.std.proofs.lemmas.List.Elements.{Contains-append_cases, Contains-append_left}
@@ -86,3 +86,8 @@ found-in_order sets found next is made = record {
 pub found-next_level : (step : Step) (weights : List ℕ) (m : ℕ) (rows : List Row) (level found next : List (List ℕ))
     → found ≡ insert_all bytes_eq [] (flat_map (changes step weights m rows) level) → IsInOrder found next → IsNextLevel step weights m rows level next
 found-next_level step weights m rows level found next is made = found-in_order (flat_map (changes step weights m rows) level) found next is made
+
+-- what a call answers, put in other words
+pub if_ok : {A E : Type 0} (P Q : A → Type 0) (result : Result A E) → ((x : A) → P x → Q x) → IfOk result P → IfOk result Q
+if_ok P Q (Ok x) next is = next x is
+if_ok P Q (Err e) next is = tt

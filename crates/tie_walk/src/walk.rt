@@ -164,10 +164,7 @@ impl<'a, T: Tally> Walk<'a, T> {
             return None;
         }
         self.place = Prefix { c, set }.past();
-        if !has_best(tally, k, best, set) {
-            return None;
-        }
-        Some(set)
+        has_best(tally, k, best, set).then_some(set)
     }
 
     /// The next winner from where the walk stands.

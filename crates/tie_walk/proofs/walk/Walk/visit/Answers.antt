@@ -1,11 +1,28 @@
-use Rattle.std.proofs.Common.{◌≡◌, ℕ, ◌∙◌, true, false, cond, [], ◌∷◌, ◌++◌, sym, ap, arith, length}
+use Rattle.std.proofs.Common.{◌≡◌, ℕ, ◌+◌, ◌<◌, ◌≤◌, ◌∙◌, Bool, true, false, cond, List, [], ◌∷◌, ◌++◌, Option, Some, refl, sym, ap, arith, length}
+use Rattle.std.specs.Bool.{then_some}
+use Rattle.std.specs.Prelude.{option_to_list}
 use Rattle.std.specs.Prelude.{nat_le}
 use Rattle.std.proofs.lemmas.Bool.{le-leb, lt-leb}
-use Rattle.tie_walk.specs.Steps.Walks.{committees_from, those_reaching}
+use Rattle.tie_walk.specs.declared.prefix.Prefix.{Prefix}
+use Rattle.tie_walk.specs.declared.walk.Counts.{Counts}
+use Rattle.tie_walk.specs.Steps.Walks.{Progress, IsWait, committees_from, those_reaching, waits_from}
 use Rattle.tie_walk.proofs.WalkLemmas.{place-past, work-past}
 use Rattle.tie_walk.proofs.OpenLemmas.{reaching-past, reaching-whole, from-first, open-sizes, passed, entered-first, entered-last}
 use Rattle.tie_walk.proofs.WaitLemmas.{alive-none, alive-open, alive-whole, waits-some, wait-past, wait-first}
 use Rattle.tie_walk.proofs.walk.Walk.visit.Goals as goal
+
+high_by : (best value : ℕ) (b : Bool) → (b ≡ true → best ≤ value) → (b ≡ false → value < best) → nat_le best value ≡ b
+high_by best value true high low = le-leb best value (high refl)
+high_by best value false high low = lt-leb best value (low refl)
+
+found_by : (b : Bool) (set : List ℕ) → option_to_list (then_some b set) ≡ cond b (set ∷ []) []
+found_by true set = refl
+found_by false set = refl
+
+wait_by : (value : List ℕ → ℕ) (m k best : ℕ) (from : Option Prefix) (before : Counts) (rest : Progress) (set : List ℕ) (b : Bool)
+    → (b ≡ true → rest.counts.ceilings ≤ before.ceilings + waits_from value m k best from) → (b ≡ false → ⊥) → IsWait value m k best from before (then_some b set) rest
+wait_by value m k best from before rest set true some none = some refl
+wait_by value m k best from before rest set false some none = absurd (none refl)
 
 pub returns-then-not-enter-clause-stride : goal.returns-then-not-enter-clause-stride
 returns-then-not-enter-clause-stride g c =
@@ -46,24 +63,6 @@ returns-then-c-m-clause-work g c =
     let made = c.first_below.ensures in
     (from-first c.args.self.now.m c.args.self.now.k c.args.prefix c.first_below.result c.if-c-m.true c.requires.place made.c made.grown made.full).1
 
-pub returns-then-not-has_best-clause-stride : goal.returns-then-not-has_best-clause-stride
-returns-then-not-has_best-clause-stride g c =
-    let value = g.T.Tally.value_of c.args.self.now.tally.now in
-    let bound = g.T.Tally.bound_of c.args.self.now.tally.now in
-    let p = c.args.prefix in
-    let next = c.past-self-2.result in
-    let entered = sym c.enter.ensures.open ∙ c.if-not-enter.false in
-    let sizes = open-sizes bound c.args.self.now.m c.args.self.now.k c.args.self.now.best p.c p.set entered in
-    let full : length p.set ≡ c.args.self.now.k = omega (arith, sizes, c.if-c-m.false) in
-    let under : nat_le c.args.self.now.best (value p.set) ≡ false = lt-leb c.args.self.now.best (value p.set) (c.has_best.ensures.no c.if-not-has_best.true) in
-    let count = entered-last bound c.args.self.now.m c.args.self.now.k c.args.self.now.best p next c.past-self-2.ensures (omega (arith, c.if-c-m.false)) entered in
-    record {
-      next = reaching-whole value c.args.self.now.best c.args.self.now.m c.args.self.now.k p next c.past-self-2.ensures full
-          ∙ ap (λ b. cond b (p.set ∷ []) [] ++ those_reaching value c.args.self.now.best (committees_from c.args.self.now.m c.args.self.now.k next)) under;
-      count = omega (arith, count, c.enter.ensures.entered, ap {B = ℕ} (λ b. cond b 1 0) c.if-not-enter.false);
-      place = place-past c.args.self.now.m c.args.self.now.k p next c.requires.place c.past-self-2.ensures;
-    }
-
 pub returns-clause-stride : goal.returns-clause-stride
 returns-clause-stride g c =
     let value = g.T.Tally.value_of c.args.self.now.tally.now in
@@ -73,11 +72,12 @@ returns-clause-stride g c =
     let entered = sym c.enter.ensures.open ∙ c.if-not-enter.false in
     let sizes = open-sizes bound c.args.self.now.m c.args.self.now.k c.args.self.now.best p.c p.set entered in
     let full : length p.set ≡ c.args.self.now.k = omega (arith, sizes, c.if-c-m.false) in
-    let over : nat_le c.args.self.now.best (value p.set) ≡ true = le-leb c.args.self.now.best (value p.set) (c.has_best.ensures.yes c.if-not-has_best.false) in
+    let found = ap (λ b. cond b (p.set ∷ []) []) (high_by c.args.self.now.best (value p.set) c.has_best.result c.has_best.ensures.yes c.has_best.ensures.no)
+    ∙ sym (ap option_to_list c.then_some.ensures ∙ found_by c.has_best.result p.set) in
     let count = entered-last bound c.args.self.now.m c.args.self.now.k c.args.self.now.best p next c.past-self-2.ensures (omega (arith, c.if-c-m.false)) entered in
     record {
       next = reaching-whole value c.args.self.now.best c.args.self.now.m c.args.self.now.k p next c.past-self-2.ensures full
-          ∙ ap (λ b. cond b (p.set ∷ []) [] ++ those_reaching value c.args.self.now.best (committees_from c.args.self.now.m c.args.self.now.k next)) over;
+          ∙ ap (λ l. l ++ those_reaching value c.args.self.now.best (committees_from c.args.self.now.m c.args.self.now.k next)) found;
       count = omega (arith, count, c.enter.ensures.entered, ap {B = ℕ} (λ b. cond b 1 0) c.if-not-enter.false);
       place = place-past c.args.self.now.m c.args.self.now.k p next c.requires.place c.past-self-2.ensures;
     }
@@ -100,15 +100,6 @@ returns-then-c-m-clause-raised g c =
       entered = omega (arith, asked.entered);
       asked = omega (arith, asked.entered, asked.asked);
       work = omega (arith, asked.once, below.1);
-    }
-
-pub returns-then-not-has_best-clause-raised : goal.returns-then-not-has_best-clause-raised
-returns-then-not-has_best-clause-raised g c =
-    let asked = c.enter.ensures in
-    record {
-      entered = omega (arith, asked.entered);
-      asked = omega (arith, asked.entered, asked.asked);
-      work = omega (arith, asked.once, work-past c.args.self.now.m c.args.self.now.k c.args.prefix c.past-self-2.result c.past-self-2.ensures);
     }
 
 pub returns-clause-raised : goal.returns-clause-raised
@@ -140,22 +131,19 @@ returns-then-c-m-clause-wait g c exact =
       wait-first value c.args.self.now.m c.args.self.now.k c.args.self.now.best p c.first_below.result c.if-c-m.true c.requires.place made.c made.grown made.full alive,
     )
 
-pub returns-then-not-has_best-clause-wait : goal.returns-then-not-has_best-clause-wait
-returns-then-not-has_best-clause-wait g c exact =
-    let value = g.T.Tally.value_of c.args.self.now.tally.now in
-    let bound = g.T.Tally.bound_of c.args.self.now.tally.now in
-    let p = c.args.prefix in
-    let entered = sym c.enter.ensures.open ∙ c.if-not-enter.false in
-    let sizes = open-sizes bound c.args.self.now.m c.args.self.now.k c.args.self.now.best p.c p.set entered in
-    let full : length p.set ≡ c.args.self.now.k = omega (arith, sizes, c.if-c-m.false) in
-    let alive = alive-open value c.args.self.now.m c.args.self.now.k c.args.self.now.best bound p.c p.set exact c.requires.place.0 c.requires.place.1 entered in
-    let high = alive-whole value c.args.self.now.m c.args.self.now.k c.args.self.now.best p.c p.set full alive in
-    absurd (omega (arith, high, c.has_best.ensures.no c.if-not-has_best.true))
-
 pub returns-clause-wait : goal.returns-clause-wait
 returns-clause-wait g c exact =
-    omega (
-      arith,
-      c.enter.ensures.once,
-      waits-some (g.T.Tally.value_of c.args.self.now.tally.now) c.args.self.now.m c.args.self.now.k c.args.self.now.best c.args.prefix,
-    )
+    let value = g.T.Tally.value_of c.args.self.now.tally.now in
+    let bound = g.T.Tally.bound_of c.args.self.now.tally.now in
+    let m = c.args.self.now.m in
+    let k = c.args.self.now.k in
+    let best = c.args.self.now.best in
+    let p = c.args.prefix in
+    let entered = sym c.enter.ensures.open ∙ c.if-not-enter.false in
+    let sizes = open-sizes bound m k best p.c p.set entered in
+    let full : length p.set ≡ k = omega (arith, sizes, c.if-c-m.false) in
+    let alive = alive-open value m k best bound p.c p.set exact c.requires.place.0 c.requires.place.1 entered in
+    let high = alive-whole value m k best p.c p.set full alive in
+    let some = waits-some value m k best p in
+    rw c.then_some.ensures
+    (wait_by value m k best (Some p) c.args.self.now.counts _ p.set c.has_best.result (λ _. omega (arith, c.enter.ensures.once, some)) (λ short. omega (arith, high, c.has_best.ensures.no short)))
