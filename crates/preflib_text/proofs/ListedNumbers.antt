@@ -1,7 +1,5 @@
 -- Short numbers with a mark right after them, and marks at the front of a text.
-use Rattle.std.proofs.Common.{◌≡◌, ℕ, ◌+◌, ◌-◌, ◌*◌, ◌<◌, ◌≤◌, true, length, List, ◌∷◌, Option, Some, None, refl, sym, ap, ◌∙◌, arith}
-use Rattle.std.proofs.lemmas.Bool.Decides.{nat_tests}
-use Rattle.std.specs.Char.{is_ascii_digit}
+use Rattle.std.proofs.Common.{◌≡◌, ℕ, ◌<◌, ◌≤◌, length, List, ◌∷◌, Option, Some, None, refl, sym, ap, ◌∙◌, arith}
 use Rattle.std.specs.Option.{option_map}
 use Rattle.ballot_base.specs.Limits.{most_voters}
 use Rattle.preflib_text.specs.declared.ballot.Token.TheVariants.{Number, Comma, Open, Close}
@@ -15,22 +13,6 @@ number_first : (n : ℕ) (text after : List ℕ) → n ≤ 99 → tokens_of text
     → tokens_after (Some n) after ≡ Number n ∷ tokens_of after → length after < length text → IsFirstToken text (Number n) after
 number_first n text after small is ended shorter =
     (Number n, ap (λ (k : ℕ). Number k) (uncapped n (omega arith)), is ∙ ended, shorter)
-
--- a digit begins a number, or goes on with it
-is_digit : (n : ℕ) → n ≤ 9 → is_ascii_digit (48 + n) ≡ true
-is_digit n small = grind (arith, nat_tests)
-
-pub digit_first : (n : ℕ) (text rest : List ℕ) → n ≤ 9 → text ≡ (48 + n) ∷ rest → tokens_of text ≡ tokens_after (Some n) rest
-unfolding tokens_after
-digit_first n text rest small is =
-    let same : 48 + n - 48 ≡ n = omega arith in
-    rw (is, is_digit n small, same) refl
-
-pub digit_next : (m n : ℕ) (text rest : List ℕ) → n ≤ 9 → text ≡ (48 + n) ∷ rest → tokens_after (Some m) text ≡ tokens_after (Some (10 * m + n)) rest
-unfolding tokens_after
-digit_next m n text rest small is =
-    let same : 48 + n - 48 ≡ n = omega arith in
-    rw (is, is_digit n small, same) refl
 
 -- a number of one or two digits with a comma right after it
 pub comma_after : (n : ℕ) (text rest : List ℕ) → n ≤ 99 → tokens_of text ≡ tokens_after (Some n) (44 ∷ rest)

@@ -3,8 +3,9 @@
 //!
 //! Most numbers of a ballot have one or two digits, and a comma or a brace right beside them. `OrderPlace::read_on` and
 //! `listed_number` read them together; `IsReadOn` says that the outcome is that of the single tokens.
-ghost use Rattle.std.specs.Prelude.{◌≡◌, ℕ, ◌+◌, ◌<◌, ◌≤◌, true, length, List, [], ◌∷◌};
+ghost use Rattle.std.specs.Prelude.{◌≡◌, ℕ, ◌+◌, ◌-◌, ◌*◌, ◌^◌, ◌<◌, ◌≤◌, true, length, List, [], ◌∷◌};
 ghost use Rattle.std.specs.Prelude.{Some, None, MatchOption, IfOk, IfErr, IfSome, if◌then◌else◌};
+ghost use Rattle.std.specs.Char.{is_ascii_digit};
 ghost use Rattle.std.specs.Option.{option_map, option_and_then};
 ghost use Rattle.ballot_base.specs.Limits.{most_candidates, most_voters};
 ghost use Rattle.ballot_base.specs.Lists.{IsIncreasing};
@@ -279,41 +280,44 @@ fn next_token(text: &[u8]) -> Option<(Token, &[u8])>
     None
 }
 
-/// The digit at the front of a text, and the text after it.
-fn first_digit(text: &[u8]) -> Option<(u64, &[u8])>
-    ensures digit { IfSome result (λ x. x.0 ≤ 9) }
-    ensures first { IfSome result (λ x. text.now ≡ (48 + x.0) ∷ x.1.now) }
+/// The number of two digits.
+fn two_digits(tens: u8, ones: u8) -> u64
+    requires tens { is_ascii_digit tens ≡ true }
+    requires ones { is_ascii_digit ones ≡ true }
+    ensures { result ≡ 10 * (tens - 48) + (ones - 48) }
 {
-    match text {
-        [digit @ b'0'..=b'9', rest @ ..] => Some((u64::from(*digit - b'0'), rest)),
-        _ => None,
-    }
+    u64::from(10 * (tens - b'0') + (ones - b'0'))
 }
 
 /// The one or two digits at the front of a text, as a number, and the text after them.
+#[tactic(auto, unfolding(crate::specs::Steps::Tokens::tokens_after))]
 fn short_number(text: &[u8]) -> Option<(u64, &[u8])>
     ensures tokens { IfSome result (λ x. tokens_of text.now ≡ tokens_after (Some x.0) x.1.now) }
     ensures small { IfSome result (λ x. x.0 ≤ 99) }
     ensures shorter { IfSome result (λ x. length x.1.now < length text.now) }
 {
-    let Some((first, after)) = first_digit(text) else {
-        return None;
-    };
-    match first_digit(after) {
-        Some((second, rest)) => Some((10 * first + second, rest)),
-        None => Some((first, after)),
+    match text {
+        [tens @ b'0'..=b'9', ones @ b'0'..=b'9', rest @ ..] => {
+            Some((two_digits(*tens, *ones), rest))
+        }
+        [ones @ b'0'..=b'9', rest @ ..] => Some((u64::from(*ones - b'0'), rest)),
+        _ => None,
     }
 }
 
 /// The number at the front of a text that has one or two digits and a comma right after them, and the text after the
 /// comma. Most numbers of a ballot are such.
+#[tactic(auto, unfolding(crate::specs::Steps::Tokens::tokens_after))]
 fn listed_number(text: &[u8]) -> Option<(u64, &[u8])>
     ensures tokens { IfSome result (λ x. tokens_of text.now ≡ tokens_after (Some x.0) (44 ∷ x.1.now)) }
     ensures small { IfSome result (λ x. x.0 ≤ 99) }
     ensures shorter { IfSome result (λ x. length (44 ∷ x.1.now) < length text.now) }
 {
-    match short_number(text) {
-        Some((n, [b',', rest @ ..])) => Some((n, rest)),
+    match text {
+        [tens @ b'0'..=b'9', ones @ b'0'..=b'9', b',', rest @ ..] => {
+            Some((two_digits(*tens, *ones), rest))
+        }
+        [ones @ b'0'..=b'9', b',', rest @ ..] => Some((u64::from(*ones - b'0'), rest)),
         _ => None,
     }
 }

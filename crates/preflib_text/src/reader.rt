@@ -93,13 +93,10 @@ pub(crate) fn finish<A: Allocator + Copy + Drop>(
             line: None,
         });
     }
-    match builder.finish() {
-        Ok(profile) => Ok(profile),
-        Err(_) => Err(ReadFault {
-            name: FaultName::NoVoters,
-            line: None,
-        }),
-    }
+    builder.finish().map_err(|_refused| ReadFault {
+        name: FaultName::NoVoters,
+        line: None,
+    })
 }
 
 /// Reads a line, and does to the profile what it does.

@@ -98,7 +98,7 @@ pub(crate) fn settle(contest: Contest, low: Quotient, parties: &mut [Party]) -> 
 }
 
 /// Takes back the party's last seat if it was met at the threshold itself, and marks the party if it is tied there.
-/// Answers how many seats were taken back.
+/// Returns how many seats were taken back.
 fn settle_party(contest: Contest, low: Quotient, party: &mut Party) -> usize
     requires within { (party.old.votes ≤ most_votes) × (party.old.seats ≤ contest.seats) }
     requires some { 0 < contest.votes }
