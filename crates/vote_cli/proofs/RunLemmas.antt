@@ -29,8 +29,6 @@ use Rattle.vote_cli.specs.declared.refusal.Refusal.TheVariants.{Input, Memory, R
 use Rattle.vote_cli.specs.declared.status.Status.{Status}
 use Rattle.vote_cli.specs.declared.status.Status.TheVariants as status
 use Rattle.request_words.specs.Request.{Request, Page, Question, of_ballots}
-use Rattle.request_words.specs.declared.request.Rule.{Rule}
-use Rattle.vote_cli.specs.ElectText.{elect_text}
 use Rattle.vote_cli.specs.FaultText.{fault_text}
 use Rattle.text_output.specs.Device.{ReaderState, WriterState}
 use Rattle.text_output.specs.Names.{Names, naming}
@@ -64,19 +62,15 @@ pub writes_whole : {old new : Option (List ℕ)} {had_failed has_failed : Bool} 
 writes_whole {old} {new} {had_failed} {has_failed} text printed done was prints =
     Passes-all (subst (λ p. Passes (alone old had_failed) (alone new has_failed) (is_ok p) text) was prints)
 
--- the text of an election by a rule was not printed whole
-pub election_part : (rule : Rule) (size : ℕ) (page : Page) (names : Names) (e : Election) {printed : List ℕ} {old new : Option (List ℕ)} {had_failed has_failed whole : Bool} (result : Result Outcome Refusal)
-    → printed ≡ elect_text rule size page names e → IsErr result × IsErrAnd result (λ refusal. refusal ≡ WriteFailed) → Passes (alone old had_failed) (alone new has_failed) whole printed
-    → WritesRight (λ answer. answer ≡ answered (elect_text rule size page names e)) old new result
-election_part rule size page names e {printed} result same failed prints =
-    writes_part (λ answer. answer ≡ answered (elect_text rule size page names e)) (answered printed) result (ap answered same) failed prints
+-- the text of an answer was printed whole
+pub answer_whole : {old new : Option (List ℕ)} {had_failed has_failed : Bool} (text : List ℕ) (written : Result (Unit {0}) Broken) (done : Unit {0}) → written ≡ Ok done
+    → Passes (alone old had_failed) (alone new has_failed) (is_ok written) text → WritesRight (λ answer. answer ≡ answered text) old new (Ok outcome.Answered)
+answer_whole text written done was prints = (text, refl, writes_whole text written done was prints)
 
--- it was printed whole
-pub election_whole : (rule : Rule) (size : ℕ) (page : Page) (names : Names) (e : Election) {printed : List ℕ} {old new : Option (List ℕ)} {had_failed has_failed : Bool} (written : Result (Unit {0}) Broken) (done : Unit {0})
-    → written ≡ Ok done → printed ≡ elect_text rule size page names e → Passes (alone old had_failed) (alone new has_failed) (is_ok written) printed
-    → WritesRight (λ answer. answer ≡ answered (elect_text rule size page names e)) old new (Ok outcome.Answered)
-election_whole rule size page names e {printed} written done was same prints =
-    (printed, ap answered same, writes_whole printed written done was prints)
+-- the same answer in other words
+pub same_answer : {text other : List ℕ} (old new : Option (List ℕ)) (result : Result Outcome Refusal) → text ≡ other
+    → WritesRight (λ answer. answer ≡ answered text) old new result → WritesRight (λ answer. answer ≡ answered other) old new result
+same_answer old new result same h = subst (λ text. WritesRight (λ answer. answer ≡ answered text) old new result) same h
 
 -- the answers about a committee that is the list's, among m candidates
 pub check_holds : (property : Property) (with_names : Bool) (e : Election) (m : ℕ) (list committee : List ℕ) → m ≡ e.m → committee ≡ list → IsIncreasing 1 m list → length list ≤ most_members

@@ -1,8 +1,10 @@
 -- The text of listings, in the parts that are printed one after the other.
 use Rattle.std.proofs.Common.{◌≡◌, ℕ, zero, suc, ◌-◌, Bool, true, false, List, [], ◌∷◌, ◌++◌, Option, Some, None, refl, sym, ap, ◌∙◌, append_assoc, length, take, arith}
-use Rattle.std.specs.Prelude.{codes, flat_map, nat_lt, option_map}
+use Rattle.std.specs.Prelude.{codes, decimal, flat_map, nat_lt, option_map}
 use Rattle.std.proofs.lemmas.Bool.{lt-ltb, le-ltb, ltb-true, ltb-false}
 use Rattle.ballot_base.specs.Ballots.{Election}
+use Rattle.preflib_text.specs.Names.{fault_name}
+use Rattle.preflib_text.specs.declared.fault.ReadFault.{ReadFault}
 use Rattle.ballot_base.specs.Lists.{later_than}
 use Rattle.request_words.specs.Request.{Page}
 use Rattle.request_words.specs.declared.request.Rule.TheVariants.{Scored}
@@ -12,7 +14,9 @@ use Rattle.ballot_base.specs.declared.increments.ThieleRule.{ThieleRule}
 use Rattle.request_words.specs.declared.request.ScoredRule.TheVariants.{Minimax, Satisfaction, Thiele}
 use Rattle.tie_walk.specs.Values.{Thiele as Tally, closeness, satisfaction_value, thiele_of, thiele_value}
 use Rattle.tie_walk.specs.Winners.{best_value, winners}
-use Rattle.vote_cli.specs.ElectText.{elect_text, scored_header}
+use Rattle.vote_cli.specs.ElectText.{elect_text, score_text, scored_header}
+use Rattle.vote_cli.specs.Steps.ScoredText.{scored_text}
+use Rattle.vote_cli.specs.FaultText.{fault_text}
 use Rattle.vote_cli.specs.Listing.{answers_text, committee_line, has_more, last_line, listing_text}
 use Rattle.text_output.specs.Names.{Names}
 use Rattle.text_output.specs.Text.{line}
@@ -48,6 +52,18 @@ pub last_listed : (line_of : List ℕ → List ℕ) (room : Option ℕ) (answers
     → answers_text line_of room answers ≡ last_line (has_more (Some 0) answers)
 last_listed line_of room answers none = ap (λ r. answers_text line_of r answers) none
 
+-- the line of a score, in the pieces that are printed
+pub score_line : (score denominator : ℕ) (word digits more : List ℕ) → word ≡ codes "score " → digits ≡ decimal score → more ≡ decimal denominator
+    → word ++ (digits ++ (47 ∷ (more ++ (10 ∷ [])))) ≡ line (score_text score denominator)
+score_line score denominator word digits more first one other = rw (first, one, other)
+    (ap (λ l. codes "score " ++ l) (sym (append_assoc (decimal score) (47 ∷ decimal denominator) (10 ∷ []))))
+
+-- the line of a fault at a line of the input, in the pieces that are printed
+pub fault_line : (fault : ReadFault) (number : ℕ) (place digits word : List ℕ) → fault.line ≡ Some number → place ≡ codes "committees: input line " → digits ≡ decimal number
+    → word ≡ fault_name fault.name → place ++ (digits ++ (codes ": " ++ (word ++ (10 ∷ [])))) ≡ line (fault_text fault)
+fault_line fault number place digits word is first one other = rw (is, first, one, other) (ap (λ l. codes "committees: input line " ++ l)
+    (sym (append_assoc (decimal number ++ codes ": ") (fault_name fault.name) (10 ∷ []) ∙ append_assoc (decimal number) (codes ": ") (fault_name fault.name ++ (10 ∷ [])))))
+
 -- the listing of winners, from its first lines on
 pub winners_parts : (names : Names) (value : List ℕ → ℕ) (rule : ScoredRule) (candidates m size best : ℕ) (after : Option (List ℕ)) (limit : Option ℕ) (left : List (List ℕ)) → m ≡ candidates → best ≡ best_value value m size
     → left ≡ later_than after (winners value m size)
@@ -57,18 +73,14 @@ winners_parts names value rule candidates m size best after limit left same is t
 
 -- the text of an election by each kind of rule
 module _ (names : Names) (page : Page) (size : ℕ) (e : Election) where
-  -- what is printed by a value
-  abbrev text_by : ScoredRule → (List ℕ → ℕ) → List ℕ
-  text_by rule value = listing_text (committee_line names) (scored_header rule e.m size (best_value value e.m size)) page (winners value e.m size)
-
   pub thiele_text : (rule : ThieleRule) (tally : Tally) → tally ≡ thiele_of e rule size
-      → text_by (Thiele rule) (thiele_value (increments tally.rule tally.k) tally.election.rows) ≡ elect_text (Scored (Thiele rule)) size page names e
+      → scored_text (Thiele rule) (thiele_value (increments tally.rule tally.k) tally.election.rows) size page names e ≡ elect_text (Scored (Thiele rule)) size page names e
   thiele_text rule tally same = rw same refl
 
   pub satisfaction_text : (tally : Election) → tally ≡ e
-      → text_by Satisfaction (satisfaction_value tally.m tally.rows) ≡ elect_text (Scored Satisfaction) size page names e
+      → scored_text Satisfaction (satisfaction_value tally.m tally.rows) size page names e ≡ elect_text (Scored Satisfaction) size page names e
   satisfaction_text tally same = rw same refl
 
   pub minimax_text : (tally : Election) → tally ≡ e
-      → text_by Minimax (closeness tally.m tally.rows) ≡ elect_text (Scored Minimax) size page names e
+      → scored_text Minimax (closeness tally.m tally.rows) size page names e ≡ elect_text (Scored Minimax) size page names e
   minimax_text tally same = rw same refl

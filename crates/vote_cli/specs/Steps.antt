@@ -1,4 +1,5 @@
 pub mod Refusals
 pub mod RequestFaults
+pub mod ScoredText
 pub mod Sharing
 pub mod Starts

@@ -4,11 +4,12 @@ ghost use Rattle.ballot_base.specs.Limits.{most_members};
 ghost use Rattle.request_words.specs.Request.{page_of};
 ghost use Rattle.text_output.specs.Steps.Printing.{Prints, Sends};
 ghost use Rattle.text_output.specs.Text.{line};
-ghost use Rattle.tie_walk.specs.Winners.{IsStart, best_value, winners};
+ghost use Rattle.tie_walk.specs.Winners.{IsStart};
 ghost use Rattle.vote_cli.specs.Answer.{answered, election_answer, request_refused};
 ghost use Rattle.vote_cli.specs.ElectText.{best_text, elect_text, rule_lines, score_text, scored_header};
-ghost use Rattle.vote_cli.specs.Listing.{answers_text, committee_line, listing_text};
+ghost use Rattle.vote_cli.specs.Listing.{answers_text, committee_line};
 ghost use Rattle.vote_cli.specs.Steps.RequestFaults.{request_fault_word};
+ghost use Rattle.vote_cli.specs.Steps.ScoredText.{scored_text};
 ghost use Rattle.vote_cli.specs.Steps.Starts.{IsStart-prop};
 
 use crate::listing::AnswerPage;
@@ -154,10 +155,9 @@ impl<'a, A: Allocator + Copy + Drop> Listing<'a, A> {
         rule: ScoredRule,
     ) -> Result<(), WriteFailed>
         requires { T.candidates tally.now ≡ self.now.profile.now.m }
-        ensures { let value = T.value_of tally.now in let m = self.now.profile.now.m in let size = self.now.size in
-            Sends W.contents W.has_failed out.old out.new (is_ok result)
-            (listing_text (committee_line self.now.names) (scored_header rule m size (best_value value m size))
-            (record { after = self.now.after; limit = self.now.limit }) (winners value m size)) }
+        ensures { Sends W.contents W.has_failed out.old out.new (is_ok result)
+            (scored_text rule (T.value_of tally.now) self.now.size
+            (record { after = self.now.after; limit = self.now.limit }) self.now.names self.now.profile.now) }
     {
         let winners = Winners::new(tally, self.profile.m(), self.size, self.after);
         let mut printer = Printer::new(out);

@@ -4,6 +4,7 @@ ghost use Rattle.tie_walk.specs.Values.{thiele_of};
 ghost use Rattle.vote_cli.specs.Answer.{answered};
 ghost use Rattle.vote_cli.specs.ElectText.{elect_text};
 ghost use Rattle.vote_cli.specs.Steps.Refusals.{TellsOfWrites, WritesRight};
+ghost use Rattle.vote_cli.specs.Steps.ScoredText.{scored_text};
 
 use crate::answers::Outcome;
 use crate::elect_text::Listing;
@@ -14,7 +15,7 @@ use std::alloc::{AllocError, Allocator};
 use text_output::Sink;
 use tie_families::{Families, FamilyWinners};
 use tie_search::{ExactTally, MinimaxSearch, ThieleSearch};
-use tie_walk::{SavTally, SeqRule, ThieleTally};
+use tie_walk::{SavTally, SeqRule, Tally, ThieleTally};
 
 /// Writes the winners of an election that are listed.
 pub(crate) fn answer_election<A: Allocator + Copy + Drop, W: Sink>(
@@ -53,8 +54,7 @@ fn by_approvals<A: Allocator + Copy + Drop, W: Sink>(
     ensures unread { result ≢ Err Refusal.ReadFailed }
 {
     let tally = ThieleTally::new(listing.profile, ThieleRule::Av, listing.size);
-    listing.write_scored(out, &tally, ScoredRule::Thiele(ThieleRule::Av))?;
-    Ok(Outcome::Answered)
+    by_tally(out, &tally, ScoredRule::Thiele(ThieleRule::Av), listing)
 }
 
 /// Writes the winners by a Thiele rule, which a search finds.
@@ -74,8 +74,7 @@ fn by_search<A: Allocator + Copy + Drop, W: Sink>(
 {
     let search = prepared(alloc, rule, listing)?;
     let tally = ExactTally::new(search, listing.size);
-    listing.write_scored(out, &tally, ScoredRule::Thiele(rule))?;
-    Ok(Outcome::Answered)
+    by_tally(out, &tally, ScoredRule::Thiele(rule), listing)
 }
 
 /// A search by a Thiele rule for the winners of an election.
@@ -105,8 +104,7 @@ fn by_satisfaction<A: Allocator + Copy + Drop, W: Sink>(
     ensures unread { result ≢ Err Refusal.ReadFailed }
 {
     let tally = SavTally::new(listing.profile);
-    listing.write_scored(out, &tally, ScoredRule::Satisfaction)?;
-    Ok(Outcome::Answered)
+    by_tally(out, &tally, ScoredRule::Satisfaction, listing)
 }
 
 /// Writes the winners by minimax approval voting, which a search finds.
@@ -123,7 +121,24 @@ fn by_distance<A: Allocator + Copy + Drop, W: Sink>(
     ensures unread { result ≢ Err Refusal.ReadFailed }
 {
     let tally = ExactTally::new(MinimaxSearch::new(listing.profile), listing.size);
-    listing.write_scored(out, &tally, ScoredRule::Minimax)?;
+    by_tally(out, &tally, ScoredRule::Minimax, listing)
+}
+
+/// Writes the winners by a rule with a value, which the tally computes.
+fn by_tally<A: Allocator + Copy + Drop, W: Sink, T: Tally>(
+    out: &mut W,
+    tally: &T,
+    rule: ScoredRule,
+    listing: &Listing<'_, A>,
+) -> Result<Outcome, Refusal>
+    requires { T.candidates tally.now ≡ listing.now.profile.now.m }
+    ensures answer { WritesRight (λ answer. answer ≡ answered (scored_text rule (T.value_of tally.now) listing.now.size
+        (record { after = listing.now.after; limit = listing.now.limit }) listing.now.names listing.now.profile.now))
+        (W.contents out.old) (W.contents out.new) result }
+    ensures writes { TellsOfWrites (W.has_failed out.old) (W.has_failed out.new) result }
+    ensures unread { result ≢ Err Refusal.ReadFailed }
+{
+    listing.write_scored(out, tally, rule)?;
     Ok(Outcome::Answered)
 }
 

@@ -1,22 +1,10 @@
 use Rattle.request_words.specs.Request.{Page}
-use Rattle.request_words.specs.declared.request.Rule.TheVariants as rule
-use Rattle.request_words.specs.declared.request.ScoredRule.TheVariants as scored
-use Rattle.vote_cli.proofs.RunLemmas.{election_part, election_whole}
+use Rattle.vote_cli.proofs.RunLemmas.{same_answer}
 use Rattle.vote_cli.proofs.TextLemmas.{satisfaction_text}
 use Rattle.vote_cli.proofs.election.by_satisfaction.Goals as goal
-
-pub returns-in_err-write_scored-clause-answer : goal.returns-in_err-write_scored-clause-answer
-returns-in_err-write_scored-clause-answer g c =
-    let l = c.args.listing.now in
-    let page : Page = record { after = l.after; limit = l.limit } in
-    election_part (rule.Scored scored.Satisfaction) l.size page l.names l.profile.now c.from_residual.result
-    (satisfaction_text l.names page l.size l.profile.now c.new-tally.result c.new-tally.ensures.tally)
-    c.from_residual.ensures c.write_scored.ensures
 
 pub returns-clause-answer : goal.returns-clause-answer
 returns-clause-answer g c =
     let l = c.args.listing.now in
     let page : Page = record { after = l.after; limit = l.limit } in
-    election_whole (rule.Scored scored.Satisfaction) l.size page l.names l.profile.now c.write_scored.result c.in_ok-write_scored.field-0 c.in_ok-write_scored.was
-    (satisfaction_text l.names page l.size l.profile.now c.new-tally.result c.new-tally.ensures.tally)
-    c.write_scored.ensures
+    same_answer _ _ c.by_tally.result (satisfaction_text l.names page l.size l.profile.now c.new-tally.result c.new-tally.ensures.tally) c.by_tally.ensures.answer
