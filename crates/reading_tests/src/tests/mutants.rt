@@ -52,6 +52,13 @@ fn with_other_bytes(
     }
 }
 
+/// Adds a line with its end.
+fn push_line(text: &mut Vec<u8>, line: &[u8]) -> Result<(), AllocError> {
+    text.extend_from_slice(line)?;
+    text.push(b'\n')?;
+    Ok(())
+}
+
 /// The file with one line twice, or joined to the next one.
 fn with_other_lines(
     alloc: Global,
@@ -62,14 +69,13 @@ fn with_other_lines(
     let is_joined = numbers.below(2) == 0;
     let mut changed = Vec::new(alloc);
     for (i, line) in file.split(|byte| *byte == b'\n').enumerate() {
-        changed.extend_from_slice(line)?;
         if i == chosen && is_joined {
+            changed.extend_from_slice(line)?;
             continue;
         }
-        changed.push(b'\n')?;
+        push_line(&mut changed, line)?;
         if i == chosen {
-            changed.extend_from_slice(line)?;
-            changed.push(b'\n')?;
+            push_line(&mut changed, line)?;
         }
     }
     Ok(changed)

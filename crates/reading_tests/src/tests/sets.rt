@@ -89,11 +89,15 @@ static INCREMENTS: [(ThieleRule, u8, u128, &[u128]); 4] = [
 ];
 
 #[test]
-fn multiples_and_increments(rt: HostRuntime) {
+fn multiples(rt: HostRuntime) {
     for (n, wanted) in &MULTIPLES {
         let multiple = common_multiple((*n).min(MOST_CANDIDATES));
         assert!(rt; multiple == *wanted, "{n}: {multiple}");
     }
+}
+
+#[test]
+fn first_increments(rt: HostRuntime) {
     for (rule, size, denom, first) in &INCREMENTS {
         let increments = Increments::of(*rule, (*size).clamp(1, MOST_MEMBERS));
         let (front, rest) = increments.w.split_at(first.len().min(40));
