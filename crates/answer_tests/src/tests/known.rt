@@ -95,14 +95,26 @@ const RULES: [ThieleRule; 5] = [
     ThieleRule::Geom4,
 ];
 
-/// Asserts the greatest values times their denominators, and the numbers of winners, under these rules.
+/// Asserts the greatest value times its denominator, and the number of winners, under a rule.
+fn assert_rule(
+    rt: &impl Abort,
+    alloc: Global,
+    profile: &Profile,
+    rule: ThieleRule,
+    known: (u128, usize),
+)
+    requires { SIZE ≤ profile.now.m }
+{
+    let search = ThieleSearch::new(alloc, profile, rule, SIZE).expect(rt, "memory");
+    assert_known(rt, &ExactTally::new(search, SIZE), known.0, known.1);
+}
+
+/// Asserts the same under each of the rules.
 fn assert_thiele(rt: &impl Abort, alloc: Global, profile: &Profile, known: [(u128, usize); 5])
     requires { SIZE ≤ profile.now.m }
 {
     for i in 0..RULES.len() {
-        let (best, winners) = known[i];
-        let search = ThieleSearch::new(alloc, profile, RULES[i], SIZE).expect(rt, "memory");
-        assert_known(rt, &ExactTally::new(search, SIZE), best, winners);
+        assert_rule(rt, alloc, profile, RULES[i], known[i]);
     }
 }
 
@@ -158,6 +170,15 @@ fn thiele_rules(rt: HostRuntime) {
     }
 }
 
+/// Asserts the least greatest distance, and how many committees have it.
+fn assert_minimax(rt: &impl Abort, profile: &Profile, distance: u8, winners: usize)
+    requires { SIZE ≤ profile.now.m }
+{
+    let best = u128::from(profile.m().saturating_sub(distance));
+    let tally = ExactTally::new(MinimaxSearch::new(profile), SIZE);
+    assert_known(rt, &tally, best, winners);
+}
+
 /// A draw, the candidates, the least greatest distance, and how many committees have it.
 static DISTANCES: [(Draw, u8, u8, usize); 8] = [
     (Draw::Independent, 40, 16, 2),
@@ -174,7 +195,6 @@ static DISTANCES: [(Draw, u8, u8, usize); 8] = [
 fn minimax(rt: HostRuntime) {
     for (draw, m, distance, winners) in DISTANCES {
         let profile = election_of(&rt, rt.alloc(), m, &drawn(draw));
-        let tally = ExactTally::new(MinimaxSearch::new(&profile), SIZE);
-        assert_known(&rt, &tally, u128::from(m.saturating_sub(distance)), winners);
+        assert_minimax(&rt, &profile, distance, winners);
     }
 }
