@@ -1,5 +1,5 @@
 //! Elections with clones: against a plain walk, against D'Hondt's method, and large ones that have to end.
-ghost use Rattle.std.specs.Prelude.{Some, ◌≤◌};
+ghost use Rattle.std.specs.Prelude.{Some, ◌≡◌, ◌≤◌};
 ghost use Rattle.ballot_base.specs.Limits.{most_candidates, most_members};
 ghost use Rattle.tie_walk.specs.Winners.{IsStart};
 
@@ -144,18 +144,20 @@ fn assert_as_dhondt(rt: &impl Abort, alloc: Global, lists: Lists<'_>) {
     assert_choices(rt, &ExactTally::new(search, k), k, lists);
 }
 
+/// The candidates of each party, the voters of each, and the seats.
+static PARTIES: [(u8, &[u64], u8); 7] = [
+    (4, &[1, 1, 1], 5),
+    (3, &[53, 24, 23], 4),
+    (5, &[2, 1], 4),
+    (2, &[3, 3, 2, 2], 3),
+    (4, &[6, 3, 2], 6),
+    (1, &[5, 5, 5, 1], 2),
+    (6, &[7, 5], 7),
+];
+
 #[test]
 fn parties_as_by_dhondt(rt: HostRuntime) {
-    let cases: [(u8, &[u64], u8); 7] = [
-        (4, &[1, 1, 1], 5),
-        (3, &[53, 24, 23], 4),
-        (5, &[2, 1], 4),
-        (2, &[3, 3, 2, 2], 3),
-        (4, &[6, 3, 2], 6),
-        (1, &[5, 5, 5, 1], 2),
-        (6, &[7, 5], 7),
-    ];
-    for (size, votes, seats) in cases {
+    for (size, votes, seats) in PARTIES {
         assert_as_dhondt(&rt, rt.alloc(), Lists { size, votes, seats });
     }
 }
@@ -173,23 +175,33 @@ fn spread(sizes: &[u8], word: u64) -> u64 {
     ballot
 }
 
+/// An election of eight candidates in classes of these sizes, whose ballots the seed decides.
+fn election_of_classes(rt: &impl Abort, alloc: Global, sizes: &[u8], seed: u64) -> Profile
+    ensures { result.m ≡ 8 }
+{
+    let mut ballots = random_ballots(Draw::Few, seed, 9, 1);
+    for i in 0..ballots.len() {
+        ballots[i].0 = spread(sizes, ballots[i].0);
+    }
+    election_of(rt, alloc, 8, &ballots)
+}
+
+/// The sizes of classes of clones.
+static CLASSES: [&[u8]; 6] = [
+    &[1, 2, 3],
+    &[2, 2, 2, 1],
+    &[4, 1, 3],
+    &[6, 2],
+    &[1, 1, 1, 5],
+    &[2, 1, 2, 1, 2],
+];
+
 #[test]
 fn random_classes(rt: HostRuntime) {
-    let cases: [&[u8]; 6] = [
-        &[1, 2, 3],
-        &[2, 2, 2, 1],
-        &[4, 1, 3],
-        &[6, 2],
-        &[1, 1, 1, 5],
-        &[2, 1, 2, 1, 2],
-    ];
-    for sizes in cases {
+    for sizes in CLASSES {
         for seed in 1..6 {
-            let mut ballots = random_ballots(Draw::Few, seed, 9, 1);
-            for i in 0..ballots.len() {
-                ballots[i].0 = spread(sizes, ballots[i].0);
-            }
-            assert_all_same(&rt, rt.alloc(), &election_of(&rt, rt.alloc(), 8, &ballots));
+            let profile = election_of_classes(&rt, rt.alloc(), sizes, seed);
+            assert_all_same(&rt, rt.alloc(), &profile);
         }
     }
 }
