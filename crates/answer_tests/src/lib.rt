@@ -1,4 +1,4 @@
-//! Tests of the answers: representation and seats.
+//! Tests of the answers: committees that win, representation and seats.
 #![tactic(auto)]
 
 #[cfg(test)]

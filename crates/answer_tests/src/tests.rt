@@ -1,3 +1,11 @@
-//! One file for groups of voters, one for seats. Expected values are worked by hand, or found by a plainer search.
+//! One file for groups of voters, one for seats, and the others for winners. Expected values are worked by hand, or found
+//! by a plainer search.
+mod clones;
+mod distances;
+mod families;
 mod groups;
+mod known;
+mod searches;
 mod shares;
+mod support;
+mod walks;

@@ -55,13 +55,13 @@ fn kinds() -> [Kind; 10] {
     ]
 }
 
-/// The kind, as a number: its ballots, and then its first clones.
-fn named(kind: &Kind) -> u64 {
+/// An election, as a number: the ballots of its kind, then the first clones, and the seed.
+fn named(kind: &Kind, seed: u64) -> u64 {
     let mut name = kind.ballots;
     for first in kind.firsts {
         name = name.saturating_mul(10).saturating_add(u64::from(first));
     }
-    name
+    name.saturating_mul(100).saturating_add(seed)
 }
 
 /// The candidates whose first clone is in the set.
@@ -268,20 +268,28 @@ fn violation(
     find_violation(profile, committee, property)
 }
 
-/// How many committees of an election lack a property, each compared with what is found by trying all.
-fn count_violated(rt: &impl Abort, profile: &Profile, seed: u64, kind: &Kind) -> u64 {
+/// Whether a committee lacks a property, compared with what is found by trying all. The number names the election.
+fn is_violated(
+    rt: &impl Abort,
+    profile: &Profile,
+    committee: CandSet,
+    property: Property,
+    election: u64,
+) -> bool {
+    let found = violation(rt, profile, committee, property);
+    let is_right = is_right(profile, committee, property, found);
+    assert!(rt; is_right, "{election} {committee:?} {}", property.name());
+    found.is_some()
+}
+
+/// How many committees of an election lack a property.
+fn count_violated(rt: &impl Abort, profile: &Profile, election: u64) -> u64 {
     let mut violated = 0u64;
     for bits in 1..32 {
         let committee = chosen(bits << 1);
-        for property in Property::ALL.iter().copied() {
-            let found = violation(rt, profile, committee, property);
-            violated = violated.saturating_add(u64::from(found.is_some()));
-            assert!(rt;
-                is_right(profile, committee, property, found),
-                "{seed} {bits} {} {}",
-                property.name(),
-                named(kind)
-            );
+        for property in Property::ALL {
+            let is_violated = is_violated(rt, profile, committee, property, election);
+            violated = violated.saturating_add(u64::from(is_violated));
         }
     }
     violated
@@ -294,9 +302,10 @@ fn small_elections(rt: HostRuntime) {
         let mut violated = 0u64;
         for seed in 0..kind.seeds {
             let profile = small_election(&rt, rt.alloc(), seed, &kind);
-            violated = violated.saturating_add(count_violated(&rt, &profile, seed, &kind));
+            let name = named(&kind, seed);
+            violated = violated.saturating_add(count_violated(&rt, &profile, name));
         }
-        assert!(rt; violated > 100, "{violated} {}", named(&kind));
+        assert!(rt; violated > 100, "{violated} {}", named(&kind, 0));
     }
 }
 
@@ -313,14 +322,10 @@ fn large_election(rt: &impl Abort, alloc: Global, voters: u8, alike: CandSet) ->
 
 /// Asserts that the committee of the candidates 1 to 20 lacks EJR and EJR+ where it is violated, and nothing else.
 fn assert_lacks(rt: &impl Abort, profile: &Profile, is_violated: bool) {
-    for property in Property::ALL.iter().copied() {
-        let found = violation(rt, profile, CandSet::all(20), property);
+    for property in Property::ALL {
+        let is_found = violation(rt, profile, CandSet::all(20), property).is_some();
         let is_due = is_violated && matches!(property, Property::Ejr | Property::EjrPlus);
-        assert!(rt;
-            found.is_some() == is_due,
-            "{is_violated} {}",
-            property.name()
-        );
+        assert!(rt; is_found == is_due, "{is_violated} {}", property.name());
     }
 }
 
@@ -371,48 +376,41 @@ fn blocks(rt: &impl Abort, alloc: Global, voters: u8, size: u8, alike: u8) -> Pr
 /// Committees of the first 40 candidates beside clones whom all voters approve: groups of some voters share as many
 /// clones as the level wants, and their own members, alike too, decide whether the committee has PJR. Each line has the
 /// voters, the members of each, the clones, and the level and the voters of the first violation (0 if there is none).
+static BLOCKS: [(u8, u8, u8, u8, u64); 7] = [
+    (4, 10, 22, 0, 0),
+    (5, 8, 18, 0, 0),
+    (5, 8, 22, 0, 0),
+    (6, 6, 22, 13, 2),
+    (7, 5, 22, 11, 2),
+    (8, 5, 22, 0, 0),
+    (9, 4, 14, 13, 3),
+];
+
+/// The violation of PJR at a level by so many voters who share clones, or none at level 0.
+fn shared_by(level: u8, voters: u64) -> Option<Violation> {
+    (level > 0).then_some(Violation {
+        property: Property::Pjr,
+        committee: CandSet::all(40),
+        level,
+        shared: spanned(&[(41, level.saturating_add(40))]),
+        within: spanned(&[(1, level.saturating_sub(1))]),
+        voters,
+    })
+}
+
 #[test]
 fn clones_beside_blocks(rt: HostRuntime) {
-    for (voters, size, alike, level, group) in [
-        (4, 10, 22, 0, 0),
-        (5, 8, 18, 0, 0),
-        (5, 8, 22, 0, 0),
-        (6, 6, 22, 13, 2),
-        (7, 5, 22, 11, 2),
-        (8, 5, 22, 0, 0),
-        (9, 4, 14, 13, 3),
-    ] {
+    for (voters, size, alike, level, group) in BLOCKS {
         let profile = blocks(&rt, rt.alloc(), voters, size, alike);
-        let committee = CandSet::all(40);
-        let property = Property::Pjr;
-        let due = (level > 0).then_some(Violation {
-            property,
-            committee,
-            level,
-            shared: spanned(&[(41, level.saturating_add(40))]),
-            within: spanned(&[(1, level.saturating_sub(1))]),
-            voters: group,
-        });
-        let found = violation(&rt, &profile, committee, property);
-        assert!(rt; found == due, "{voters} voters of {size}, {alike} clones");
+        let found = violation(&rt, &profile, CandSet::all(40), Property::Pjr);
+        let is_due = found == shared_by(level, group);
+        assert!(rt; is_due, "{voters} voters of {size}, {alike} clones");
     }
 }
 
-/// Three voters who share classes of clones two by two. Each approves 25 members of a committee of 39, so any two lack
-/// one where they share a candidate outside it at level 26, and only EJR+ asks no more of them.
-#[test]
-fn clones_of_pairs(rt: HostRuntime) {
-    let profile = election_of(
-        &rt,
-        rt.alloc(),
-        &[
-            spanned(&[(1, 25), (26, 43), (62, 62)]),
-            spanned(&[(1, 25), (44, 61), (63, 63)]),
-            spanned(&[(1, 7), (26, 61), (64, 64)]),
-        ],
-    );
-    let committee = spanned(&[(8, 19), (26, 37), (44, 55), (62, 64)]);
-    for property in Property::ALL.iter().copied() {
+/// Asserts that all three voters lack EJR+ at level 26 by candidate 1, and that the committee has all else.
+fn assert_lacks_only(rt: &impl Abort, profile: &Profile, committee: CandSet) {
+    for property in Property::ALL {
         let due = (property == Property::EjrPlus).then_some(Violation {
             property,
             committee,
@@ -421,7 +419,21 @@ fn clones_of_pairs(rt: HostRuntime) {
             within: CandSet::empty(),
             voters: 3,
         });
-        let found = violation(&rt, &profile, committee, property);
+        let found = violation(rt, profile, committee, property);
         assert!(rt; found == due, "{}", property.name());
     }
+}
+
+/// Three voters who share classes of clones two by two. Each approves 25 members of a committee of 39, so any two lack
+/// one where they share a candidate outside it at level 26, and only EJR+ asks no more of them.
+#[test]
+fn clones_of_pairs(rt: HostRuntime) {
+    let ballots = [
+        spanned(&[(1, 25), (26, 43), (62, 62)]),
+        spanned(&[(1, 25), (44, 61), (63, 63)]),
+        spanned(&[(1, 7), (26, 61), (64, 64)]),
+    ];
+    let profile = election_of(&rt, rt.alloc(), &ballots);
+    let committee = spanned(&[(8, 19), (26, 37), (44, 55), (62, 64)]);
+    assert_lacks_only(&rt, &profile, committee);
 }

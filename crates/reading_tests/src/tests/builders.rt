@@ -64,14 +64,36 @@ fn take<A: Allocator + Copy + Drop>(builder: &mut ProfileBuilder<A>, step: Step)
     }
 }
 
-/// The profile that comes of these steps, each of which is taken once more where a growth was refused.
-fn built<'a>(rt: &impl Abort, heap: &'a Refusing, steps: &[Step]) -> Profile<&'a Refusing> {
+/// A builder that gave no profile, for want of voters.
+fn begun<'a>(rt: &impl Abort, heap: &'a Refusing) -> ProfileBuilder<&'a Refusing>
+    ensures { result.m ≡ most_candidates }
+{
     let builder = ProfileBuilder::new(heap, MOST_CANDIDATES).expect(rt, "a builder");
-    let (fault, mut builder) = builder.finish().err().expect(rt, "no ballot was added");
+    let (fault, builder) = builder.finish().err().expect(rt, "no ballot was added");
     assert!(rt; fault == FinishFault::NoVoters);
+    builder
+}
+
+/// Takes the step of this number, once more where a growth was refused.
+fn assert_done(
+    rt: &impl Abort,
+    heap: &Refusing,
+    builder: &mut ProfileBuilder<&Refusing>,
+    i: usize,
+    step: Step,
+)
+    requires { builder.old.m ≡ most_candidates }
+    ensures { builder.new.m ≡ most_candidates }
+{
+    let is_done = take(builder, step) || has_refused(heap) && take(builder, step);
+    assert!(rt; is_done, "step {i}");
+}
+
+/// The profile that comes of these steps.
+fn built<'a>(rt: &impl Abort, heap: &'a Refusing, steps: &[Step]) -> Profile<&'a Refusing> {
+    let mut builder = begun(rt, heap);
     for (i, step) in steps.iter().enumerate() {
-        let is_done = take(&mut builder, *step) || has_refused(heap) && take(&mut builder, *step);
-        assert!(rt; is_done, "step {i}");
+        assert_done(rt, heap, &mut builder, i, *step);
     }
     builder.finish().ok().expect(rt, "ballots were added")
 }

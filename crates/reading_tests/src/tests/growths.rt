@@ -83,12 +83,19 @@ fn count_growths(
     Ok(growths)
 }
 
+/// Asserts that a reading has growths, and that each is refused at one of these lines.
+fn assert_growths(rt: &impl Abort, alloc: Global, pick: Pick, file: &str, growing: &[u64])
+    requires { HasNumber pick.way }
+{
+    let told = count_growths(alloc, pick, file.as_bytes(), growing);
+    assert!(rt; matches!(told, Ok(3..MANY)), "{file:?}: {told:?}");
+}
+
 #[test]
 fn each_growth_of_a_reading(rt: HostRuntime) {
     let pick = reading_as(&rt, rt.alloc(), "");
     for (file, growing) in &GROWING {
-        let told = count_growths(rt.alloc(), pick, file.as_bytes(), growing);
-        assert!(rt; matches!(told, Ok(3..MANY)), "{file:?}: {told:?}");
+        assert_growths(&rt, rt.alloc(), pick, file, growing);
     }
 }
 
@@ -112,15 +119,22 @@ static FIRST_GROWTHS: [(&str, FaultName, Option<u64>); 7] = [
     ),
 ];
 
+/// Asserts the fault of a reading that begins with a refused growth.
+fn assert_fault(rt: &impl Abort, alloc: Global, pick: Pick, file: &str, wanted: ReadFault)
+    requires { HasNumber pick.way }
+{
+    let (fault, _) = fault_at(alloc, pick, file.as_bytes(), 1);
+    assert!(rt; fault == Some(wanted), "{file:?}: {fault:?}");
+}
+
 #[test]
 fn the_first_growth_of_a_reading(rt: HostRuntime) {
     let pick = reading_as(&rt, rt.alloc(), "");
     for (file, name, line) in &FIRST_GROWTHS {
-        let (fault, _) = fault_at(rt.alloc(), pick, file.as_bytes(), 1);
         let wanted = ReadFault {
             name: *name,
             line: *line,
         };
-        assert!(rt; fault == Some(wanted), "{file:?}: {fault:?}");
+        assert_fault(&rt, rt.alloc(), pick, file, wanted);
     }
 }

@@ -1,10 +1,12 @@
 //! Files with changes at random, whole and in pieces.
 ghost use Rattle.std.specs.Prelude.{◌<◌};
+ghost use Rattle.preflib_text.specs.Approvals.{HasNumber};
 
 use super::pieces::FILES;
 use super::support::{assert_outcome, in_pieces, outcome, reading_as};
-use preflib_text::read_profile;
+use preflib_text::{Pick, read_profile};
 use std::alloc::{AllocError, Global};
+use std::process::Abort;
 
 /// How many changed files are read.
 const MUTANTS: u32 = 100_000;
@@ -52,6 +54,13 @@ fn with_other_bytes(
     }
 }
 
+/// Adds a line with its end.
+fn push_line(text: &mut Vec<u8>, line: &[u8]) -> Result<(), AllocError> {
+    text.extend_from_slice(line)?;
+    text.push(b'\n')?;
+    Ok(())
+}
+
 /// The file with one line twice, or joined to the next one.
 fn with_other_lines(
     alloc: Global,
@@ -62,14 +71,13 @@ fn with_other_lines(
     let is_joined = numbers.below(2) == 0;
     let mut changed = Vec::new(alloc);
     for (i, line) in file.split(|byte| *byte == b'\n').enumerate() {
-        changed.extend_from_slice(line)?;
         if i == chosen && is_joined {
+            changed.extend_from_slice(line)?;
             continue;
         }
-        changed.push(b'\n')?;
+        push_line(&mut changed, line)?;
         if i == chosen {
-            changed.extend_from_slice(line)?;
-            changed.push(b'\n')?;
+            push_line(&mut changed, line)?;
         }
     }
     Ok(changed)
@@ -88,7 +96,19 @@ fn mutant(alloc: Global, file: &[u8], numbers: &mut Numbers) -> Result<Vec<u8>, 
     Ok(changed)
 }
 
-/// Each changed file has one outcome, as a whole and in pieces. Some changes leave a profile, and some a fault.
+/// Whether a file holds a profile. It has one outcome, as a whole and in pieces of this size.
+fn is_profile(rt: &impl Abort, alloc: Global, pick: Pick, file: &[u8], size: usize) -> bool
+    requires { HasNumber pick.way }
+{
+    let whole = read_profile(alloc, file, &pick);
+    let is_profile = whole.is_ok();
+    let whole = outcome(rt, alloc, whole);
+    let pieces = in_pieces(alloc, pick, file, size, size, size);
+    assert_outcome(rt, alloc, pieces, whole.as_str(), file, size as u64);
+    is_profile
+}
+
+/// Each changed file has one outcome. Some changes leave a profile, and some a fault.
 #[test]
 fn one_outcome_each(rt: HostRuntime) {
     let alloc = rt.alloc();
@@ -99,11 +119,8 @@ fn one_outcome_each(rt: HostRuntime) {
         let file = FILES[numbers.below(FILES.len())].0;
         let changed = mutant(alloc, file, &mut numbers).expect(&rt, "a changed file");
         let size = numbers.below(20) + 1;
-        let whole = read_profile(alloc, &changed, &pick);
-        profiles = profiles.saturating_add(u32::from(whole.is_ok()));
-        let whole = outcome(&rt, alloc, whole);
-        let pieces = in_pieces(alloc, pick, &changed, size, size, size);
-        assert_outcome(&rt, alloc, pieces, whole.as_str(), &changed, size as u64);
+        let is_profile = is_profile(&rt, alloc, pick, &changed, size);
+        profiles = profiles.saturating_add(u32::from(is_profile));
     }
     assert!(rt;
         profiles > MUTANTS / 20 && profiles < MUTANTS / 2,

@@ -7,6 +7,7 @@ use super::support::{MANY, assert_holds, assert_outcome, in_pieces, outcome, rea
 use preflib_text::{LineReader, Pick};
 use refusing_heap::Refusing;
 use std::alloc::Global;
+use std::fmt;
 use std::process::Abort;
 
 /// A file of each type, with names, blank lines and ends of all kinds, and what it holds.
@@ -47,14 +48,19 @@ fn three_pieces(rt: HostRuntime) {
     }
 }
 
+/// Adds what is told of a piece.
+fn push_told(rt: &impl Abort, text: &mut String, told: &impl fmt::Display) {
+    write!(text, "{told}; ").expect(rt, "memory");
+}
+
 /// Feeds a piece, and tells how many bytes are held of an unfinished line then, or the fault.
 fn feed(rt: &impl Abort, text: &mut String, reader: &mut LineReader<&Refusing>, piece: &[u8])
     requires { length reader.old.fed + length piece.now < word_limit }
     ensures { reader.new.fed ≡ reader.old.fed ++ piece.now }
 {
     match reader.feed(piece) {
-        Ok(()) => write!(text, "{}; ", reader.held()).expect(rt, "memory"),
-        Err(fault) => write!(text, "{fault}; ").expect(rt, "memory"),
+        Ok(()) => push_told(rt, text, &reader.held()),
+        Err(fault) => push_told(rt, text, &fault),
     }
 }
 
@@ -158,13 +164,18 @@ static CUTS: [Cut<'static>; 7] = [
     ),
 ];
 
+/// A file of a front, so many bytes `#`, and a back.
+fn marked_file(rt: &impl Abort, alloc: Global, front: &str, marks: usize, back: &str) -> String {
+    let marks = "#".repeat(alloc, marks).expect(rt, front);
+    format!(in alloc; "{front}{marks}{back}").expect(rt, front)
+}
+
 /// Asserts what is held after each piece of a file, and what comes of it.
 fn assert_cut(rt: &impl Abort, alloc: Global, pick: Pick, cut: &Cut<'_>)
     requires { HasNumber pick.way }
 {
     let (front, marks, back, first, second, refused, wanted) = *cut;
-    let marks = "#".repeat(alloc, marks).expect(rt, wanted);
-    let file = format!(in alloc; "{front}{marks}{back}").expect(rt, wanted);
+    let file = marked_file(rt, alloc, front, marks, back);
     let first = file.len().saturating_sub(first);
     let second = file.len().saturating_sub(second);
     let heap = Refusing::new(alloc, refused.max(1));

@@ -2,7 +2,6 @@
 use ballot_base::{
     CandSet, Increments, KSets, MOST_CANDIDATES, MOST_MEMBERS, ThieleRule, common_multiple,
 };
-use std::alloc::Global;
 use std::process::Abort;
 
 /// Lists, and how the set of each is shown.
@@ -51,24 +50,24 @@ fn pairs_of_sets(rt: HostRuntime) {
 }
 
 /// Asserts which sets come, one after the other.
-fn assert_sets(rt: &impl Abort, alloc: Global, sets: KSets, wanted: &str) {
-    let mut text = String::new(alloc);
-    for set in sets {
-        write!(text, "{set:?}").expect(rt, wanted);
+fn assert_sets(rt: &impl Abort, mut sets: KSets, lists: &[&[u8]]) {
+    for list in lists {
+        assert!(rt; sets.next() == CandSet::of_list(list), "{list:?}");
     }
-    assert!(rt; text.as_str() == wanted, "{wanted}: {text}");
+    assert!(rt; sets.next().is_none(), "after all");
 }
 
-/// The pairs of four candidates, from the first on, and after two of them.
+/// The pairs of four candidates.
+static ORDERED: [&[u8]; 6] = [&[1, 2], &[1, 3], &[1, 4], &[2, 3], &[2, 4], &[3, 4]];
+
+/// The pairs come from the first on, and after two of them.
 #[test]
 fn pairs_in_order(rt: HostRuntime) {
-    let alloc = rt.alloc();
-    let all = "{1, 2}{1, 3}{1, 4}{2, 3}{2, 4}{3, 4}";
-    assert_sets(&rt, alloc, KSets::new(4, 2), all);
+    assert_sets(&rt, KSets::new(4, 2), &ORDERED);
     let middle = CandSet::empty().with(1).with(4);
-    assert_sets(&rt, alloc, KSets::after(4, 2, middle), "{2, 3}{2, 4}{3, 4}");
+    assert_sets(&rt, KSets::after(4, 2, middle), &ORDERED[3..]);
     let last = CandSet::empty().with(3).with(4);
-    assert_sets(&rt, alloc, KSets::after(4, 2, last), "");
+    assert_sets(&rt, KSets::after(4, 2, last), &[]);
 }
 
 /// Numbers n, and the least common multiple of the numbers 1 to n.
@@ -89,11 +88,15 @@ static INCREMENTS: [(ThieleRule, u8, u128, &[u128]); 4] = [
 ];
 
 #[test]
-fn multiples_and_increments(rt: HostRuntime) {
+fn multiples(rt: HostRuntime) {
     for (n, wanted) in &MULTIPLES {
         let multiple = common_multiple((*n).min(MOST_CANDIDATES));
         assert!(rt; multiple == *wanted, "{n}: {multiple}");
     }
+}
+
+#[test]
+fn first_increments(rt: HostRuntime) {
     for (rule, size, denom, first) in &INCREMENTS {
         let increments = Increments::of(*rule, (*size).clamp(1, MOST_MEMBERS));
         let (front, rest) = increments.w.split_at(first.len().min(40));

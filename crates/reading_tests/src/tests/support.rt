@@ -18,21 +18,22 @@ pub(super) fn has_refused(heap: &Refusing) -> bool {
     heap.left.get() == 0
 }
 
-/// The words of a line, after the program's name, read as a request. `·` in a word is a blank, and `''` is a word of
-/// no bytes.
+/// A word of a line: `·` in it is a blank, and `''` is a word of no bytes.
+fn word_of(rt: &impl Abort, alloc: Global, word: &str) -> String {
+    let word = if word == "''" { "" } else { word };
+    word.replace(alloc, '·', " ").expect(rt, word)
+}
+
+/// The words of a line, after the program's name, read as a request.
 pub(super) fn read_line(rt: &impl Abort, alloc: Global, line: &str) -> Result<Request, LineFault> {
     let mut words = Vec::new(alloc);
     words
         .push(String::from_str(alloc, "committees").expect(rt, line))
         .expect(rt, line);
     for word in line.split(' ') {
-        if word.is_empty() {
-            continue;
+        if !word.is_empty() {
+            words.push(word_of(rt, alloc, word)).expect(rt, line);
         }
-        let word = if word == "''" { "" } else { word };
-        words
-            .push(word.replace(alloc, '·', " ").expect(rt, line))
-            .expect(rt, line);
     }
     read_request(alloc, words.as_slice())
 }
@@ -75,24 +76,42 @@ impl fmt::Display for NameText<'_> {
     }
 }
 
-/// A profile as a text: the number of candidates, a line for each name, and one for each ballot.
+/// The names of a profile, a line for each.
 #[derive(Drop)]
-struct ProfileText<'a, A: Allocator + Copy>(&'a Profile<A>);
+struct NameLines<'a, A: Allocator + Copy>(&'a Profile<A>);
 
-impl<A: Allocator + Copy> fmt::Display for ProfileText<'_, A> {
+impl<A: Allocator + Copy> fmt::Display for NameLines<'_, A> {
     fn fmt<W: fmt::Write>(&self, f: &mut fmt::Formatter<W>) -> fmt::Result {
-        let profile = self.0;
-        write!(f, "{}", profile.m())?;
-        for n in 1..=profile.m() {
-            if let Some(name) = profile.name(n) {
+        for n in 1..=self.0.m() {
+            if let Some(name) = self.0.name(n) {
                 write!(f, "\n{n} {}", NameText(name))?;
             }
         }
-        for (ballot, voters) in profile.ballots() {
+        Ok(())
+    }
+}
+
+/// The ballots of a profile, a line for each.
+#[derive(Drop)]
+struct BallotLines<'a, A: Allocator + Copy>(&'a Profile<A>);
+
+impl<A: Allocator + Copy> fmt::Display for BallotLines<'_, A> {
+    fn fmt<W: fmt::Write>(&self, f: &mut fmt::Formatter<W>) -> fmt::Result {
+        for (ballot, voters) in self.0.ballots() {
             write!(f, "\n{voters}: {}", Members(ballot))?;
         }
         Ok(())
     }
+}
+
+/// A profile as a text: the number of candidates, the names and the ballots.
+fn profile_text<A: Allocator + Copy + Drop>(
+    rt: &impl Abort,
+    alloc: Global,
+    profile: &Profile<A>,
+) -> String {
+    let (names, ballots) = (NameLines(profile), BallotLines(profile));
+    format!(in alloc; "{}{names}{ballots}", profile.m()).expect(rt, "a profile")
 }
 
 /// What comes of reading, as a text: the profile, or the fault.
@@ -102,8 +121,8 @@ pub(super) fn outcome<A: Allocator + Copy + Drop>(
     read: Result<Profile<A>, ReadFault>,
 ) -> String {
     match &read {
-        Ok(profile) => format!(in alloc; "{}", ProfileText(profile)).expect(rt, "a profile"),
-        Err(fault) => format!(in alloc; "{}", fault).expect(rt, "a fault"),
+        Ok(profile) => profile_text(rt, alloc, profile),
+        Err(fault) => format!(in alloc; "{fault}").expect(rt, "a fault"),
     }
 }
 

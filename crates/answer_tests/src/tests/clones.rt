@@ -1,0 +1,264 @@
+//! Elections with clones: against a plain walk, against D'Hondt's method, and large ones that have to end.
+ghost use Rattle.std.specs.Prelude.{Some, ◌≡◌, ◌≤◌};
+ghost use Rattle.ballot_base.specs.Limits.{most_candidates, most_members};
+ghost use Rattle.tie_walk.specs.Winners.{IsStart};
+
+use super::searches::assert_all_same;
+use super::support::{Draw, ballot_of, election_of, first_committee, random_ballots};
+use ballot_base::{CandSet, Profile, ThieleRule};
+use seat_share::{Method, Shares};
+use std::alloc::Global;
+use std::process::Abort;
+use tie_search::{ExactTally, ThieleSearch};
+use tie_walk::{Tally, Winners};
+
+/// More winners than any of these elections has.
+const MOST_COUNTED: usize = 100_000;
+
+/// Parties of candidates whom the same voters approve, and the seats to fill.
+#[derive(Clone, Copy)]
+struct Lists<'a> {
+    /// The candidates of each party.
+    size: u8,
+    /// The voters of each party.
+    votes: &'a [u64],
+    seats: u8,
+}
+
+/// The bits of the candidates of a party: those of one follow those of another.
+fn party_word(size: u8, party: usize) -> u64 {
+    let mut word = 0;
+    for n in 0..usize::from(size) {
+        word |= 1 << (party.wrapping_mul(usize::from(size)).wrapping_add(n) % 64);
+    }
+    word
+}
+
+impl Lists<'_> {
+    /// The number of candidates, at most 64.
+    fn candidates(self) -> u8
+        ensures least { 1 ≤ result }
+        ensures most { result ≤ most_candidates }
+    {
+        let all = usize::from(self.size).saturating_mul(self.votes.len());
+        u8::try_from(all).unwrap_or(64).clamp(1, 64)
+    }
+
+    /// The election in which each voter approves the candidates of one party.
+    fn election(self, rt: &impl Abort, alloc: Global) -> Profile {
+        let mut ballots = Vec::new(alloc);
+        for party in 0..self.votes.len() {
+            let ballot = (party_word(self.size, party), self.votes[party]);
+            ballots.push(ballot).expect(rt, "memory");
+        }
+        election_of(rt, alloc, self.candidates(), &ballots)
+    }
+
+    /// The seats that a committee gives a party.
+    fn seats_of(self, committee: CandSet, party: usize) -> u16 {
+        let members = ballot_of(self.candidates(), party_word(self.size, party));
+        u16::from(committee.common(members).len())
+    }
+
+    /// Whether a committee gives the parties these seats.
+    fn gives(self, committee: CandSet, seats: &[u16]) -> bool {
+        for party in 0..seats.len() {
+            if self.seats_of(committee, party) != seats[party] {
+                return false;
+            }
+        }
+        true
+    }
+
+    /// How many committees give the parties these seats.
+    fn committees(self, seats: &[u16]) -> u64 {
+        let mut count: u64 = 1;
+        for seats in seats {
+            count = count.wrapping_mul(choices(u64::from(self.size), u64::from(*seats)));
+        }
+        count
+    }
+}
+
+/// How many choices of `k` of `n` candidates there are.
+fn choices(n: u64, k: u64) -> u64 {
+    let mut count: u64 = 1;
+    for i in 0..k {
+        count = count.wrapping_mul(n.saturating_sub(i)) / (i + 1);
+    }
+    count
+}
+
+/// A committee size that fits.
+fn fitting(seats: u8, m: u8) -> u8
+    requires { 1 ≤ m }
+    ensures least { 1 ≤ result }
+    ensures most { result ≤ most_members }
+    ensures fits { result ≤ m }
+{
+    seats.clamp(1, 40).min(m)
+}
+
+/// Asserts that all committees that give the parties these seats win, and answers how many they are.
+fn assert_all_win<T: Tally>(
+    rt: &impl Abort,
+    tally: &T,
+    k: u8,
+    lists: Lists<'_>,
+    seats: &[u16],
+) -> u64
+    requires some { 1 ≤ k }
+    requires fits { k ≤ T.candidates tally.now }
+{
+    let mut found: u64 = 0;
+    for committee in Winners::new(tally, tally.m(), k, None) {
+        found = found.wrapping_add(u64::from(lists.gives(committee, seats)));
+    }
+    let wanted = lists.committees(seats);
+    assert!(rt; found == wanted, "{seats:?}: {found} of {wanted}");
+    found
+}
+
+/// Asserts that the winners are exactly all choices of candidates for each of D'Hondt's allocations.
+fn assert_choices<T: Tally>(rt: &impl Abort, tally: &T, k: u8, lists: Lists<'_>)
+    requires some { 1 ≤ k }
+    requires fits { k ≤ T.candidates tally.now }
+{
+    let seats = u16::from(lists.seats);
+    let allocations = Shares::new(lists.votes, Method::Dhondt, seats, None);
+    let mut all = 0;
+    for allocation in allocations.expect(rt, "allocations") {
+        let found = assert_all_win(rt, tally, k, lists, allocation.seats());
+        all = found.wrapping_add(all);
+    }
+    let winners = Winners::new(tally, tally.m(), k, None);
+    let count = winners.take(MOST_COUNTED).count() as u64;
+    assert!(rt; count == all, "{count} winners of {seats} seats");
+}
+
+/// Asserts that the winners by `pav` are as D'Hondt's method shares out the seats.
+fn assert_as_dhondt(rt: &impl Abort, alloc: Global, lists: Lists<'_>) {
+    let profile = lists.election(rt, alloc);
+    let k = fitting(lists.seats, profile.m());
+    let search = ThieleSearch::new(alloc, &profile, ThieleRule::Pav, k).expect(rt, "memory");
+    assert_choices(rt, &ExactTally::new(search, k), k, lists);
+}
+
+/// The candidates of each party, the voters of each, and the seats.
+static PARTIES: [(u8, &[u64], u8); 7] = [
+    (4, &[1, 1, 1], 5),
+    (3, &[53, 24, 23], 4),
+    (5, &[2, 1], 4),
+    (2, &[3, 3, 2, 2], 3),
+    (4, &[6, 3, 2], 6),
+    (1, &[5, 5, 5, 1], 2),
+    (6, &[7, 5], 7),
+];
+
+#[test]
+fn parties_as_by_dhondt(rt: HostRuntime) {
+    for (size, votes, seats) in PARTIES {
+        assert_as_dhondt(&rt, rt.alloc(), Lists { size, votes, seats });
+    }
+}
+
+/// A ballot over classes of clones, where the word has a bit for each class.
+fn spread(sizes: &[u8], word: u64) -> u64 {
+    let mut ballot = 0;
+    let mut place: u32 = 0;
+    for class in 0..sizes.len() {
+        for _ in 0..sizes[class] {
+            ballot |= (word >> (class % 64) & 1) << (place % 64);
+            place = place.wrapping_add(1);
+        }
+    }
+    ballot
+}
+
+/// An election of eight candidates in classes of these sizes, whose ballots the seed decides.
+fn election_of_classes(rt: &impl Abort, alloc: Global, sizes: &[u8], seed: u64) -> Profile
+    ensures { result.m ≡ 8 }
+{
+    let mut ballots = random_ballots(Draw::Few, seed, 9, 1);
+    for i in 0..ballots.len() {
+        ballots[i].0 = spread(sizes, ballots[i].0);
+    }
+    election_of(rt, alloc, 8, &ballots)
+}
+
+/// The sizes of classes of clones.
+static CLASSES: [&[u8]; 6] = [
+    &[1, 2, 3],
+    &[2, 2, 2, 1],
+    &[4, 1, 3],
+    &[6, 2],
+    &[1, 1, 1, 5],
+    &[2, 1, 2, 1, 2],
+];
+
+#[test]
+fn random_classes(rt: HostRuntime) {
+    for sizes in CLASSES {
+        for seed in 1..6 {
+            let profile = election_of_classes(&rt, rt.alloc(), sizes, seed);
+            assert_all_same(&rt, rt.alloc(), &profile);
+        }
+    }
+}
+
+/// A committee of k of the candidates 1 to m that are next to each other, from candidate 2 on if there are enough.
+fn second_committee(m: u8, k: u8) -> CandSet
+    requires most { m ≤ most_candidates }
+    requires fits { k ≤ m }
+    ensures { IsStart m k (Some result) }
+{
+    let mut word = 0;
+    for n in 1..=k {
+        word |= 1 << (usize::from(n) % 64);
+    }
+    let second = ballot_of(m, word);
+    if second.len() == k {
+        return second;
+    }
+    first_committee(m, k)
+}
+
+/// Asserts that 1,000 winners come after a start, or from the first on.
+fn assert_thousand<T: Tally>(rt: &impl Abort, tally: &T, k: u8, start: Option<CandSet>)
+    requires some { 1 ≤ k }
+    requires fits { k ≤ T.candidates tally.now }
+    requires start { IsStart (T.candidates tally.now) k start }
+{
+    let found = Winners::new(tally, tally.m(), k, start).take(1000).count();
+    assert!(rt; found == 1000, "{found} winners of {k} after {start:?}");
+}
+
+/// Asserts that the first 1,000 winners come, after a start or from the first on.
+fn assert_ends(rt: &impl Abort, alloc: Global, rule: ThieleRule, lists: Lists<'_>) {
+    let profile = lists.election(rt, alloc);
+    let m = profile.m();
+    let k = fitting(lists.seats, m);
+    let search = ThieleSearch::new(alloc, &profile, rule, k).expect(rt, "memory");
+    let tally = ExactTally::new(search, k);
+    assert_thousand(rt, &tally, k, None);
+    assert_thousand(rt, &tally, k, Some(second_committee(m, k)));
+}
+
+/// Small files over which a search without clones does not end in a minute.
+#[test]
+fn party_lists_end(rt: HostRuntime) {
+    let five: &[u64] = &[53, 24, 23, 11, 7];
+    let cases: [(ThieleRule, u8, &[u64], u8); 8] = [
+        (ThieleRule::Pav, 12, &[1, 1, 1], 12),
+        (ThieleRule::Pav, 12, five, 20),
+        (ThieleRule::Geom2, 12, five, 20),
+        (ThieleRule::Geom4, 12, five, 20),
+        (ThieleRule::Geom3, 64, &[1], 40),
+        (ThieleRule::Pav, 40, &[1], 31),
+        (ThieleRule::Cc, 8, &[1, 1, 1, 1, 1, 1, 1, 1], 20),
+        (ThieleRule::Pav, 32, &[3, 2], 40),
+    ];
+    for (rule, size, votes, seats) in cases {
+        assert_ends(&rt, rt.alloc(), rule, Lists { size, votes, seats });
+    }
+}

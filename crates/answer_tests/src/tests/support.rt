@@ -1,0 +1,207 @@
+//! Ballots, elections and a comparison of more than one file of tests.
+ghost use Rattle.std.specs.Prelude.{Some, ◌≡◌, ◌≤◌};
+ghost use Rattle.ballot_base.specs.Limits.{most_candidates};
+ghost use Rattle.ballot_base.specs.Lists.{IsIncreasing};
+ghost use Rattle.tie_walk.specs.Winners.{IsStart};
+
+use ballot_base::{CandSet, Profile, ProfileBuilder};
+use std::alloc::Global;
+use std::cell::Cell;
+use std::process::Abort;
+use tie_search::{ExactTally, Searchable};
+use tie_walk::{Tally, Winners};
+
+/// The candidates 1 to m whose bit of the word is 1.
+pub(super) fn ballot_of(m: u8, word: u64) -> CandSet
+    requires { m ≤ most_candidates }
+    ensures { IsIncreasing 1 m result }
+{
+    let mut set = CandSet::empty();
+    for n in 1..m + 1 {
+        if word >> (n - 1) & 1 == 1 {
+            set = set.with(n);
+        }
+    }
+    set
+}
+
+/// An election of m candidates and of these ballots, as words with a bit for each candidate, and their voters. A ballot
+/// without voters is left out.
+pub(super) fn election_of(rt: &impl Abort, alloc: Global, m: u8, ballots: &[(u64, u64)]) -> Profile
+    requires some { 1 ≤ m }
+    requires most { m ≤ most_candidates }
+    ensures { result.m ≡ m }
+{
+    let mut builder = ProfileBuilder::new(alloc, m).expect(rt, "a builder");
+    for (word, voters) in ballots {
+        let count = *voters;
+        if count > 0 {
+            builder
+                .add(ballot_of(m, *word), count)
+                .expect(rt, "a ballot");
+        }
+    }
+    match builder.finish() {
+        Ok(profile) => profile,
+        Err(_) => panic!(rt; "no voters"),
+    }
+}
+
+/// How voters approve candidates: few of them, many, neighbours, or almost the same.
+#[derive(Clone, Copy)]
+pub(super) enum Draw {
+    Few,
+    Many,
+    Neighbours,
+    Alike,
+}
+
+/// Whom a voter approves, as the bits of a word, of a random word.
+fn approved(draw: Draw, word: u64) -> u64 {
+    match draw {
+        Draw::Few => word >> 20 & word >> 40,
+        Draw::Many => word >> 20 | word >> 40,
+        Draw::Neighbours => 7 << (word >> 40) % 6,
+        Draw::Alike => 11 ^ word >> 20 & word >> 30 & word >> 40,
+    }
+}
+
+/// The random word after a word.
+pub(super) fn next_word(word: u64) -> u64 {
+    word.wrapping_mul(6_364_136_223_846_793_005)
+        .wrapping_add(1_442_695_040_888_963_407)
+}
+
+/// How many ballots are drawn at most.
+const MOST_DRAWN: usize = 150;
+
+/// So many ballots that the seed decides, 150 at most, each of up to three times so many voters.
+pub(super) fn random_ballots(
+    draw: Draw,
+    seed: u64,
+    count: usize,
+    times: u64,
+) -> [(u64, u64); MOST_DRAWN] {
+    let mut ballots = [(0, 0); MOST_DRAWN];
+    let mut word = seed;
+    for i in 0..count.min(MOST_DRAWN) {
+        word = next_word(word);
+        ballots[i] = (approved(draw, word), times.wrapping_mul(1 + word % 3));
+    }
+    ballots
+}
+
+/// The committee of the k candidates whose bit of the word is 1.
+pub(super) fn committee_of(rt: &impl Abort, m: u8, k: u8, word: u64) -> CandSet
+    requires { m ≤ most_candidates }
+    ensures { IsStart m k (Some result) }
+{
+    let set = ballot_of(m, word);
+    assert!(rt; set.len() == k, "a committee of {k}");
+    set
+}
+
+/// The first committee of k of the candidates 1 to m.
+pub(super) fn first_committee(m: u8, k: u8) -> CandSet
+    requires most { m ≤ most_candidates }
+    requires fits { k ≤ m }
+    ensures { IsStart m k (Some result) }
+{
+    CandSet::all(k)
+}
+
+/// Asserts that two tallies have the same winners, those later than the start or all of them.
+pub(super) fn assert_same_winners<P: Tally, S: Tally>(
+    rt: &impl Abort,
+    plain: &P,
+    searched: &S,
+    k: u8,
+    start: Option<CandSet>,
+)
+    requires candidates { P.candidates plain.now ≡ S.candidates searched.now }
+    requires some { 1 ≤ k }
+    requires fits { k ≤ P.candidates plain.now }
+    requires start { IsStart (P.candidates plain.now) k start }
+{
+    let m = plain.m();
+    let wanted = Winners::new(plain, m, k, start);
+    let found = Winners::new(searched, m, k, start);
+    let is_best = found.best() == wanted.best();
+    assert!(rt; is_best && found.eq(wanted), "{k} of {m} after {start:?}");
+}
+
+/// Asserts that the search begins with a winner, and that it and the walk with plain bounds find the same winners, all
+/// of them and those later than the first committee.
+pub(super) fn assert_searched<P: Tally, S: Searchable + Drop>(
+    rt: &impl Abort,
+    plain: &P,
+    search: S,
+    k: u8,
+)
+    requires candidates { P.candidates plain.now ≡ S.candidates search }
+    requires some { 1 ≤ k }
+    requires fits { k ≤ P.candidates plain.now }
+{
+    let searched = ExactTally::new(search, k);
+    let good = searched.good_committee(k).expect(rt, "a good committee");
+    assert!(rt; searched.value(good) == searched.best(), "{good:?}");
+    assert_same_winners(rt, plain, &searched, k, None);
+    assert_same_winners(rt, plain, &searched, k, Some(first_committee(plain.m(), k)));
+}
+
+/// A tally that hands on only its number of candidates, its values and its bounds, and counts the calls of the last
+/// two.
+#[derive(Drop)]
+pub(super) struct Counting<'a, T: Tally> {
+    pub(super) tally: &'a T,
+    values: Cell<u64>,
+    bounds: Cell<u64>,
+}
+
+impl<'a, T: Tally> Counting<'a, T> {
+    pub(super) fn new(tally: &'a T) -> Counting<'a, T>
+        ensures { result.tally.now ≡ tally.now }
+    {
+        Counting {
+            tally,
+            values: Cell::new(0),
+            bounds: Cell::new(0),
+        }
+    }
+
+    /// How many bounds were asked for so far.
+    pub(super) fn bounds(&self) -> u64 {
+        self.bounds.get()
+    }
+
+    /// How many values and bounds were asked for so far.
+    pub(super) fn calls(&self) -> u64 {
+        self.values.get().saturating_add(self.bounds.get())
+    }
+}
+
+fn count(calls: &Cell<u64>) {
+    calls.set(calls.get().saturating_add(1));
+}
+
+impl<'a, T: Tally> Tally for Counting<'a, T> {
+    ghost candidates = { λ counting. T.candidates counting.tally.now };
+
+    ghost value_of = { λ counting. T.value_of counting.tally.now };
+
+    ghost bound_of = { λ counting. T.bound_of counting.tally.now };
+
+    fn m(&self) -> u8 {
+        self.tally.m()
+    }
+
+    fn value(&self, set: CandSet) -> u128 {
+        count(&self.values);
+        self.tally.value(set)
+    }
+
+    fn bound(&self, c: u8, set: CandSet, left: u8) -> u128 {
+        count(&self.bounds);
+        self.tally.bound(c, set, left)
+    }
+}

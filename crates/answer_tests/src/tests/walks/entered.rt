@@ -1,0 +1,179 @@
+//! How many prefixes the walk enters: against live prefixes counted by their definition, and in elections worked out by
+//! hand.
+ghost use Rattle.std.specs.Prelude.{◌≡◌, ◌≤◌, length};
+ghost use Rattle.ballot_base.specs.Limits.{most_candidates};
+ghost use Rattle.ballot_base.specs.Lists.{IsIncreasing};
+
+use super::super::support::{Counting, Draw, ballot_of, committee_of, election_of, random_ballots};
+use ballot_base::{CandSet, KSets, MOST_CANDIDATES, ThieleRule};
+use std::process::Abort;
+use tie_walk::{MinimaxTally, SavTally, Tally, ThieleTally, Winners};
+
+/// Asserts that the first 20 of 40 candidates alone win, by a walk over 41 prefixes, and at most 10,000 calls in all.
+fn assert_few_calls<T: Tally>(rt: &impl Abort, tally: &T)
+    requires { T.candidates tally.now ≡ 40 }
+{
+    let counting = Counting::new(tally);
+    let mut winners = Winners::new(&counting, 40, 20, None);
+    let is_only = winners.next() == Some(CandSet::all(20)) && winners.next().is_none();
+    assert!(rt; is_only, "the first 20 win");
+    let (entered, calls) = (winners.entered(), counting.calls());
+    assert!(rt;
+        entered == 41 && calls <= 10_000,
+        "{entered} prefixes, {calls} calls"
+    );
+}
+
+/// Of 40 candidates a voter approves the first 20, who win 20 seats.
+#[test]
+fn twenty_of_forty_in_few_calls(rt: HostRuntime) {
+    let profile = election_of(&rt, rt.alloc(), 40, &[((1 << 20) - 1, 1)]);
+    assert_few_calls(&rt, &ThieleTally::new(&profile, ThieleRule::Av, 20));
+}
+
+/// How many prefixes a walk enters in four calls, where it enters at least one before them, and never more than these.
+fn entered_in_four<T: Tally>(rt: &impl Abort, winners: &mut Winners<T>, most: u128) -> u128 {
+    for _ in 0..4 {
+        let entered = winners.entered();
+        assert!(rt; entered >= 1 && entered <= most, "{entered} of {most}");
+        let _winner = winners.next();
+    }
+    winners.entered()
+}
+
+/// Two voters approve 1 and 2, and one voter 3: nine prefixes are live, and four after 1 and 3.
+#[test]
+fn entered_for_two_seats(rt: HostRuntime) {
+    let profile = election_of(&rt, rt.alloc(), 3, &[(0b011, 2), (0b100, 1)]);
+    let tally = ThieleTally::new(&profile, ThieleRule::Pav, 2);
+    let all = entered_in_four(&rt, &mut Winners::new(&tally, 3, 2, None), 12);
+    let start = Some(committee_of(&rt, 3, 2, 0b101));
+    let later = entered_in_four(&rt, &mut Winners::new(&tally, 3, 2, start), 7);
+    assert!(rt;
+        all == 9 && later >= 4,
+        "{all} prefixes, {later} after 1 and 3"
+    );
+}
+
+/// Whether all beginnings of a prefix are open, whose members are the candidates 1 to c whose bit of the word is 1.
+fn is_open<T: Tally>(tally: &T, m: u8, k: u8, best: u128, c: u8, word: u64) -> bool
+    requires candidates { m ≡ T.candidates tally.now }
+    requires most { m ≤ most_candidates }
+    requires within { c ≤ m }
+{
+    for d in 0..c + 1 {
+        let set = ballot_of(d, word);
+        let len = set.len();
+        if len > k || len + (m - d) < k || tally.bound(d, set, k - len) < best {
+            return false;
+        }
+    }
+    true
+}
+
+/// Whether a committee after the start has exactly the members of this prefix up to c.
+fn is_ahead(m: u8, k: u8, start: CandSet, c: u8, word: u64) -> bool
+    requires most { m ≤ most_candidates }
+    requires within { c ≤ m }
+    requires fits { k ≤ m }
+    requires members { IsIncreasing 1 m start }
+    requires size { length start ≡ k }
+{
+    let set = ballot_of(c, word);
+    for committee in KSets::after(m, k, start) {
+        if committee.upto(c) == set {
+            return true;
+        }
+    }
+    false
+}
+
+/// Asserts that the walk over all winners enters exactly the live prefixes.
+fn assert_all_live<T: Tally>(rt: &impl Abort, tally: &T, m: u8, k: u8)
+    requires candidates { m ≡ T.candidates tally.now }
+    requires most { m ≤ 10 }
+    requires some { 1 ≤ k }
+    requires fits { k ≤ m }
+{
+    let mut winners = Winners::new(tally, m, k, None);
+    let best = winners.best();
+    let mut live = 0_u32;
+    for c in 0..m + 1 {
+        for word in 0..1_u64 << c {
+            live = live.saturating_add(u32::from(is_open(tally, m, k, best, c, word)));
+        }
+    }
+    for _winner in &mut winners {}
+    assert!(rt; winners.entered() == u128::from(live), "{k} of {m}");
+}
+
+/// Asserts that the walk after a start enters few more than the live prefixes.
+fn assert_live_after<T: Tally>(rt: &impl Abort, tally: &T, m: u8, k: u8, start: CandSet)
+    requires candidates { m ≡ T.candidates tally.now }
+    requires most { m ≤ 10 }
+    requires some { 1 ≤ k }
+    requires fits { k ≤ m }
+    requires members { IsIncreasing 1 m start }
+    requires size { length start ≡ k }
+{
+    let mut winners = Winners::new(tally, m, k, Some(start));
+    let best = winners.best();
+    let mut live = 0_u32;
+    for c in 0..m + 1 {
+        for word in 0..1_u64 << c {
+            let counts = is_open(tally, m, k, best, c, word) && is_ahead(m, k, start, c, word);
+            live = live.saturating_add(u32::from(counts));
+        }
+    }
+    for _winner in &mut winners {}
+    let live = u128::from(live);
+    let expected = live..=live.saturating_add(u128::from(m));
+    assert!(rt;
+        expected.contains(&winners.entered()),
+        "{k} of {m} after {start:?}"
+    );
+}
+
+/// Asserts both, after each start.
+fn assert_live<T: Tally>(rt: &impl Abort, tally: &T, m: u8, k: u8)
+    requires candidates { m ≡ T.candidates tally.now }
+    requires most { m ≤ 10 }
+    requires some { 1 ≤ k }
+    requires fits { k ≤ m }
+{
+    assert_all_live(rt, tally, m, k);
+    for start in KSets::new(m, k) {
+        assert_live_after(rt, tally, m, k, start);
+    }
+}
+
+#[test]
+fn live_prefixes_of_small_elections(rt: HostRuntime) {
+    let alloc = rt.alloc();
+    for seed in 0..8 {
+        let m = 3 + (seed % 3) as u8;
+        let profile = election_of(&rt, alloc, m, &random_ballots(Draw::Few, seed, 5, 1));
+        for k in 1..m + 1 {
+            assert_live(&rt, &ThieleTally::new(&profile, ThieleRule::Pav, k), m, k);
+            assert_live(&rt, &SavTally::new(&profile), m, k);
+            assert_live(&rt, &MinimaxTally::new(&profile), m, k);
+        }
+    }
+}
+
+/// Asserts that the first winners of 32 of 64 candidates are the first committees.
+fn assert_first<T: Tally>(rt: &impl Abort, tally: &T)
+    requires { T.candidates tally.now ≡ most_candidates }
+{
+    let mut winners = Winners::new(tally, MOST_CANDIDATES, 32, None);
+    for committee in KSets::new(MOST_CANDIDATES, 32).take(100) {
+        assert!(rt; winners.next() == Some(committee), "{committee:?}");
+    }
+}
+
+/// Of 64 candidates a voter approves all: all committees of 32 tie, and the first come soon.
+#[test]
+fn the_first_of_all_tied_committees(rt: HostRuntime) {
+    let profile = election_of(&rt, rt.alloc(), MOST_CANDIDATES, &[(u64::MAX, 1)]);
+    assert_first(&rt, &SavTally::new(&profile));
+}

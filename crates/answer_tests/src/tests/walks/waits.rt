@@ -1,0 +1,119 @@
+//! How many bounds the walk asks for from one winner to the next.
+ghost use Rattle.std.specs.Prelude.{◌≡◌, ◌*◌, ◌≤◌};
+ghost use Rattle.ballot_base.specs.Limits.{most_members};
+ghost use Rattle.tie_walk.specs.Ceilings.{IsTight};
+ghost use Rattle.tie_walk.specs.Winners.{IsStart};
+
+use super::super::support::{Counting, committee_of, election_of};
+use ballot_base::{CandSet, MOST_CANDIDATES, Profile, ThieleRule};
+use std::process::Abort;
+use tie_walk::laws::short_waits;
+use tie_walk::{SavTally, Tally, ThieleTally, Winners};
+
+/// Asserts how many bounds were asked for before each call for a winner.
+fn assert_bounds<T: Tally>(rt: &impl Abort, winners: &mut Winners<T>, counts: &[u128]) {
+    for count in counts {
+        let bounds = winners.ceilings();
+        assert!(rt; bounds == *count, "{bounds} bounds, not {count}");
+        let _winner = winners.next();
+    }
+}
+
+/// Two voters approve 1 and 2, and one voter 3, for one seat: one bound before the first winner, three on the way down
+/// to each of 1 and 2, and one that tells that 3 is no winner. Twelve would be few.
+#[test]
+fn bounds_for_one_seat(rt: HostRuntime) {
+    let profile = election_of(&rt, rt.alloc(), 3, &[(0b011, 2), (0b100, 1)]);
+    let tally = ThieleTally::new(&profile, ThieleRule::Av, 1);
+    assert_bounds(&rt, &mut Winners::new(&tally, 3, 1, None), &[1, 4, 7, 8, 8]);
+}
+
+/// How many bounds a call for a winner asks for if no bound of the tally is too high: few, by the contracts alone.
+fn bounds_to_the_next<T: Tally>(winners: &mut Winners<T>) -> u128
+    requires { IsTight (T.value_of winners.old.tally) (T.bound_of winners.old.tally) winners.old.m winners.old.k }
+    ensures { result ≤ 4 * winners.old.m }
+{
+    short_waits::<T>();
+    let before = winners.ceilings();
+    let _winner = winners.next();
+    winners.ceilings() - before
+}
+
+/// How many bounds a call for the first winner asks for under approval voting.
+fn bounds_of_approval(profile: &Profile, k: u8) -> u128
+    requires some { 1 ≤ k }
+    requires size { k ≤ most_members }
+    requires fits { k ≤ profile.now.m }
+    ensures { result ≤ 4 * profile.now.m }
+{
+    let tally = ThieleTally::new(profile, ThieleRule::Av, k);
+    let mut winners = Winners::new(&tally, profile.m(), k, None);
+    bounds_to_the_next(&mut winners)
+}
+
+/// How many bounds a call for the first winner asks for under satisfaction approval voting.
+fn bounds_of_satisfaction(profile: &Profile, k: u8) -> u128
+    requires some { 1 ≤ k }
+    requires fits { k ≤ profile.now.m }
+    ensures { result ≤ 4 * profile.now.m }
+{
+    let tally = SavTally::new(profile);
+    let mut winners = Winners::new(&tally, profile.m(), k, None);
+    bounds_to_the_next(&mut winners)
+}
+
+/// How many winners come in so many calls. Each call has to count just the bounds that it asks a tally for that answers
+/// nothing else, at most four for each candidate.
+fn count_with_waits<T: Tally>(
+    rt: &impl Abort,
+    tally: &T,
+    k: u8,
+    after: Option<CandSet>,
+    calls: u16,
+) -> u16
+    requires some { 1 ≤ k }
+    requires fits { k ≤ T.candidates tally.now }
+    requires start { IsStart (T.candidates tally.now) k after }
+{
+    let counting = Counting::new(tally);
+    let m = counting.m();
+    let mut winners = Winners::new(&counting, m, k, after);
+    let mut found = 0_u16;
+    for call in 0..calls {
+        let (before, asked) = (winners.ceilings(), counting.bounds());
+        let winner = winners.next();
+        let bounds = winners.ceilings().saturating_sub(before);
+        let is_counted = bounds == u128::from(counting.bounds().saturating_sub(asked));
+        assert!(rt;
+            is_counted && bounds <= 4 * u128::from(m),
+            "{bounds} bounds in call {call}"
+        );
+        found = found.saturating_add(u16::from(winner.is_some()));
+    }
+    found
+}
+
+/// Of 64 candidates a voter approves all, so that all committees of 32 tie: the first 1,000 of them, and those after 1
+/// to 31 and 64.
+#[test]
+fn waits_for_tied_committees(rt: HostRuntime) {
+    let profile = election_of(&rt, rt.alloc(), MOST_CANDIDATES, &[(u64::MAX, 1)]);
+    let bounds = bounds_of_approval(&profile, 32).min(bounds_of_satisfaction(&profile, 32));
+    assert!(rt; bounds >= 32, "a bound for each of 1 to 32");
+    let tally = SavTally::new(&profile);
+    let all = count_with_waits(&rt, &tally, 32, None, 1000);
+    let start = committee_of(&rt, MOST_CANDIDATES, 32, (1 << 31) - 1 | 1 << 63);
+    let later = count_with_waits(&rt, &tally, 32, Some(start), 1000);
+    assert!(rt; all == 1000 && later == 1000, "{all} and {later} winners");
+}
+
+/// Of 40 candidates a voter approves the first 20, who win 20 seats.
+#[test]
+fn waits_for_the_only_winner(rt: HostRuntime) {
+    let profile = election_of(&rt, rt.alloc(), 40, &[((1 << 20) - 1, 1)]);
+    let tally = ThieleTally::new(&profile, ThieleRule::Av, 20);
+    assert!(rt;
+        count_with_waits(&rt, &tally, 20, None, 3) == 1,
+        "the only winner"
+    );
+}

@@ -1,0 +1,98 @@
+//! The walk against a pass over all committees.
+ghost use Rattle.std.specs.Prelude.{◌≡◌, ◌≤◌, length};
+ghost use Rattle.ballot_base.specs.Limits.{most_candidates, most_members};
+ghost use Rattle.ballot_base.specs.Lists.{IsIncreasing};
+
+use super::super::support::{Draw, election_of, random_ballots};
+use ballot_base::{CandSet, KSets, Profile, ThieleRule};
+use std::process::Abort;
+use tie_walk::{MinimaxTally, SavTally, Tally, ThieleTally, Winners};
+
+/// The greatest value, by a pass over all committees.
+fn plain_best<T: Tally>(tally: &T, m: u8, k: u8) -> u128
+    requires candidates { m ≡ T.candidates tally.now }
+    requires most { m ≤ most_candidates }
+    requires fits { k ≤ m }
+{
+    let mut best = 0;
+    for committee in KSets::new(m, k) {
+        best = best.max(tally.value(committee));
+    }
+    best
+}
+
+/// Asserts that the winners after a start are those that a pass over the committees after it finds.
+fn assert_after<T: Tally>(rt: &impl Abort, tally: &T, m: u8, k: u8, best: u128, start: CandSet)
+    requires candidates { m ≡ T.candidates tally.now }
+    requires most { m ≤ most_candidates }
+    requires some { 1 ≤ k }
+    requires fits { k ≤ m }
+    requires members { IsIncreasing 1 m start }
+    requires size { length start ≡ k }
+{
+    let mut winners = Winners::new(tally, m, k, Some(start));
+    assert!(rt; winners.best() == best, "the best of {k} is not {best}");
+    for committee in KSets::after(m, k, start) {
+        if tally.value(committee) == best {
+            assert!(rt; winners.next() == Some(committee), "{k} after {start:?}");
+        }
+    }
+    assert!(rt; winners.next().is_none(), "{k} after {start:?}");
+}
+
+/// Asserts the same of all winners.
+fn assert_all<T: Tally>(rt: &impl Abort, tally: &T, m: u8, k: u8, best: u128)
+    requires candidates { m ≡ T.candidates tally.now }
+    requires most { m ≤ most_candidates }
+    requires some { 1 ≤ k }
+    requires fits { k ≤ m }
+{
+    let mut winners = Winners::new(tally, m, k, None);
+    assert!(rt; winners.best() == best, "the best of {k} is not {best}");
+    for committee in KSets::new(m, k) {
+        if tally.value(committee) == best {
+            assert!(rt; winners.next() == Some(committee), "all of {k}");
+        }
+    }
+    assert!(rt; winners.next().is_none(), "all of {k}");
+}
+
+/// Asserts the same after each start, and without one.
+fn assert_walks<T: Tally>(rt: &impl Abort, tally: &T, m: u8, k: u8)
+    requires candidates { m ≡ T.candidates tally.now }
+    requires most { m ≤ most_candidates }
+    requires some { 1 ≤ k }
+    requires fits { k ≤ m }
+{
+    let best = plain_best(tally, m, k);
+    assert_all(rt, tally, m, k, best);
+    for start in KSets::new(m, k) {
+        assert_after(rt, tally, m, k, best, start);
+    }
+}
+
+/// Asserts the same under every rule.
+fn assert_rules(rt: &impl Abort, profile: &Profile, m: u8, k: u8)
+    requires candidates { m ≡ profile.now.m }
+    requires most { m ≤ most_members }
+    requires some { 1 ≤ k }
+    requires fits { k ≤ m }
+{
+    for rule in ThieleRule::ALL {
+        assert_walks(rt, &ThieleTally::new(profile, rule, k), m, k);
+    }
+    assert_walks(rt, &SavTally::new(profile), m, k);
+    assert_walks(rt, &MinimaxTally::new(profile), m, k);
+}
+
+#[test]
+fn walks_over_small_elections(rt: HostRuntime) {
+    let alloc = rt.alloc();
+    for seed in 0..20 {
+        let m = 3 + (seed % 4) as u8;
+        let profile = election_of(&rt, alloc, m, &random_ballots(Draw::Few, seed, 5, 1));
+        for k in 1..m + 1 {
+            assert_rules(&rt, &profile, m, k);
+        }
+    }
+}

@@ -1,5 +1,0 @@
-//! Tests of the committees that win.
-#![tactic(auto)]
-
-#[cfg(test)]
-mod tests;
