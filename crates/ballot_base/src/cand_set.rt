@@ -226,10 +226,8 @@ impl CandSet {
 
     /// How many candidates are members of exactly one of the two sets (the Hamming distance).
     pub fn distance(self, other: CandSet) -> u8
-        ensures {
-            result
-            ≡ count_by (λ n. not (has_member other n)) self + count_by (λ n. not (has_member self n)) other
-        }
+        ensures { result
+            ≡ count_by (λ n. not (has_member other n)) self + count_by (λ n. not (has_member self n)) other }
     {
         (self.bits ^ other.bits).count_ones() as u8
     }
