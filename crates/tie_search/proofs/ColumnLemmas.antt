@@ -1,6 +1,6 @@
 -- Sums over the voters of a block, bit by bit.
-use Rattle.std.proofs.Common.{◌≡◌, ℕ, zero, suc, ◌+◌, ◌*◌, ◌/◌, ◌%◌, ◌^◌, ◌<◌, ◌≤◌, ◌==◌, ◌∙◌, Bool, true, false, cond, min, nat_lt, ◌&&◌, set, take, drop, replicate, slice_get, Some, List, [], ◌∷◌, ◌++◌, refl, sym, ap, subst, arith, inl, inr, length, sum_by, get_or, add-one, length-append, bit_and, bit_or}
-use Rattle.std.specs.Int.{bit_at}
+use Rattle.std.proofs.Common.{◌≡◌, ℕ, zero, suc, ◌+◌, ◌-◌, ◌*◌, ◌/◌, ◌%◌, ◌^◌, ◌<◌, ◌≤◌, ◌==◌, ◌∙◌, Bool, true, false, cond, min, nat_lt, ◌&&◌, set, take, drop, replicate, slice_get, Some, List, [], ◌∷◌, ◌++◌, refl, sym, ap, subst, arith, inl, inr, length, sum_by, get_or, add-one, length-append, bit_and, bit_or, w64}
+use Rattle.std.specs.Int.{bit_at, bit_not}
 use Rattle.std.specs.Int.Count.{ones-ones}
 use Rattle.std.specs.Int.RustNames.{count_ones}
 use Rattle.std.proofs.Math.Nat.{mul-le-mul}
@@ -9,7 +9,7 @@ use Rattle.std.proofs.lemmas.List.{append-nil, append_assoc, take_more, take-app
 use Rattle.std.proofs.lemmas.Option.{get_or_from_slice_get, slice_get_within}
 use Rattle.std.proofs.lemmas.List.Sums.{sum_by-append, sum_by-cons}
 use Rattle.std.proofs.lemmas.Nat.{and_le_l, and_le_r, mod_below, mod-pow-add, ones_cat, ones_le_self}
-use Rattle.std.proofs.lemmas.Nat.Bits.{bit_at-lt, bit_at-zero, bit_at-suc, bit_at_lowest, bit_at_and, bit_at_or}
+use Rattle.std.proofs.lemmas.Nat.Bits.{bit_at-lt, bit_at-zero, bit_at-suc, bit_at_lowest, bit_at_and, bit_at_or, bit_at_not}
 use Rattle.ballot_base.specs.Limits.{most_candidates}
 use Rattle.ballot_base.specs.Lists.{IsIncreasing}
 use Rattle.ballot_base.specs.CandSet.{has_member}
@@ -20,6 +20,7 @@ use Rattle.std.specs.List.{AllByRecursion}
 use Rattle.tie_walk.specs.Sequences.{gain, weight, supporters}
 use Rattle.tie_walk.specs.Values.{Thiele}
 use Rattle.tie_search.proofs.PriceLemmas.{hits-turned}
+use Rattle.tie_search.proofs.OverlapLemmas.{first-gone, first-in, others-same}
 use Rattle.tie_search.proofs.SearchLemmas.{rest-increasing}
 use Rattle.tie_search.specs.Steps.Columns.{block_voters, total, shared, voter_ballot, given, approves_some, word_before, IsBlock, AreByHits, AreColumns, AreColumnsOf, AreRising, voters_of}
 
@@ -269,6 +270,81 @@ module _ (ballot_at : ℕ → List ℕ) (block : List ℕ) (holds : IsBlock ball
         | inl below ↦ ap (λ b. cond b (get_or weights x 0) 0) (lt-ltb x levels below)
         | inr above ↦ ap (λ b. cond b (get_or weights x 0) 0) (le-ltb x levels above) ∙ sym (none above)
       ]
+
+-- only those with no hit give, if only the first hit counts
+first-only : (p : Bool) (x : ℕ) (w : List ℕ) → ((j : ℕ) → 1 ≤ j → get_or w j 0 ≡ 0)
+    → get_or w 0 0 * min (cond p 1 0) (1 - cond (x == 0) 0 1) ≡ cond p (get_or w x 0) 0
+first-only false x w end =
+    let none : min 0 (1 - cond {A = ℕ} (x == 0) 0 1) ≡ 0 = omega arith in
+    omega (arith, ap (λ n. get_or w 0 0 * n) none)
+first-only true zero w end = omega arith
+first-only true (suc x) w end =
+    let hit : cond {A = ℕ} (suc x == 0) 0 1 ≡ 1 = ap (λ b. cond {A = ℕ} b 0 1) (ne_eqb (suc x) 0 (λ e. absurd (omega (arith, e)))) in
+    let none : min 1 (1 - cond {A = ℕ} (suc x == 0) 0 1) ≡ 0 = omega (arith, hit) in
+    omega (arith, ap (λ n. get_or w 0 0 * n) none, end (suc x) (omega arith))
+
+pub given-first : (ballot_at : ℕ → List ℕ) (block : List ℕ) → IsBlock ballot_at block → (weights set : List ℕ) (c covered : ℕ) → covered < 2 ^ 64
+    → ((i : ℕ) → i < block_voters → bit_at covered i ≡ cond (hits (ballot_at i) set == 0) 0 1) → ((j : ℕ) → 1 ≤ j → get_or weights j 0 ≡ 0)
+    → get_or weights 0 0 * shared (get_or block c 0) (bit_not w64 covered) ≡ total (λ i. given weights set c (ballot_at i)) block_voters
+given-first ballot_at block holds weights set c covered fits some end =
+    sym (total-times (get_or weights 0 0) common block_voters)
+    ∙ total-same (λ i. get_or weights 0 0 * common i) (λ i. given weights set c (ballot_at i)) block_voters here
+  where
+    common : ℕ → ℕ
+    common i = min (bit_at (get_or block c 0) i) (bit_at (bit_not w64 covered) i)
+
+    here : (i : ℕ) → i < block_voters → get_or weights 0 0 * common i ≡ given weights set c (ballot_at i)
+    here i within =
+        ap (λ n. get_or weights 0 0 * n) (ap (λ n. min n (bit_at (bit_not w64 covered) i)) (holds.approves c i within)
+        ∙ ap (λ n. min (cond (has_member (ballot_at i) c) 1 0) n) (bit_at_not w64 covered i fits within ∙ ap (λ n. 1 - n) (some i within)))
+        ∙ first-only (has_member (ballot_at i) c) (hits (ballot_at i) set) weights end
+
+-- ---- one candidate after another
+
+module _ (gains left rest : List ℕ) (first x : ℕ) (is : left ≡ first ∷ rest) (up : IsIncreasing 1 most_candidates left) (inside : first < length gains) where
+  -- one of those who are left has got its part
+  pub one-added : (c wanted : ℕ) (part : ℕ → ℕ) → x ≡ part first → get_or gains c 0 + cond (has_member left c) (part c) 0 ≡ wanted
+      → get_or (set gains first (get_or gains first 0 + x)) c 0 + cond (has_member rest c) (part c) 0 ≡ wanted
+  one-added c wanted part more before = elim (cases_eq c first) [
+    | inl here ↦ omega (
+      arith,
+      before,
+      more,
+      ap (λ j. get_or (set gains first (get_or gains first 0 + x)) j 0) here,
+      get_or-set_same gains first (get_or gains first 0 + x) 0 inside,
+      ap (λ j. get_or gains j 0) here,
+      ap part here,
+      ap (λ b. cond b (part c) 0) (ap (has_member left) here ∙ first-in left rest first is up),
+      ap (λ b. cond b (part c) 0) (ap (has_member rest) here ∙ first-gone left rest first is up),
+    )
+    | inr other ↦ omega (
+      arith,
+      before,
+      get_or-set_other gains first c (get_or gains first 0 + x) 0 other,
+      ap (λ b. cond b (part c) 0) (others-same left rest first is up c other),
+    )
+  ]
+
+  pub one-most : (c begun most : ℕ) → x ≤ most → get_or gains c 0 ≤ begun + cond (has_member left c) 0 most
+      → get_or (set gains first (get_or gains first 0 + x)) c 0 ≤ begun + cond (has_member rest c) 0 most
+  one-most c begun most small before = elim (cases_eq c first) [
+    | inl here ↦ omega (
+      arith,
+      before,
+      small,
+      ap (λ j. get_or (set gains first (get_or gains first 0 + x)) j 0) here,
+      get_or-set_same gains first (get_or gains first 0 + x) 0 inside,
+      ap (λ j. get_or gains j 0) here,
+      ap (λ b. cond b 0 most) (ap (has_member left) here ∙ first-in left rest first is up),
+      ap (λ b. cond b 0 most) (ap (has_member rest) here ∙ first-gone left rest first is up),
+    )
+    | inr other ↦ omega (
+      arith,
+      before,
+      get_or-set_other gains first c (get_or gains first 0 + x) 0 other,
+      ap (λ b. cond b 0 most) (others-same left rest first is up c other),
+    )
+  ]
 
 -- the voters of a block who approve a member are those who have some hit
 pub ones-some : (word : ℕ) (set : List ℕ) (ballot_at : ℕ → List ℕ) → word < 2 ^ 64

@@ -94,6 +94,15 @@ fn given_by(words: &Block, column: u64, weights: &HitWeights, levels: usize) -> 
     }
 }
 
+/// What those voters of a column give who are among the uncovered ones.
+fn given_first(column: u64, uncovered: u64, weight: u128) -> u128
+    requires { weight ≤ 2 ^ 84 }
+    ensures sum { result ≡ weight * shared column uncovered }
+    ensures most { result ≤ 2 ^ 90 }
+{
+    weight * u128::from((column & uncovered).count_ones())
+}
+
 /// What the voters of a column give, by small weights.
 fn given_by_small(words: &Block, column: u64, weights: &Weights, levels: usize) -> u64
     requires few { levels ≤ most_members }
@@ -275,11 +284,39 @@ impl<A: Allocator> Columns<A> {
             ≡ slice_index gains.old c + total (λ i. given self.now.weights set c (ballot_at i)) block_voters }
         ensures most { (c : ℕ) → slice_index gains.new c ≤ slice_index gains.old c + most_members * 2 ^ 90 }
     {
+        if self.levels == 1 {
+            self.add_first_hits(gains, block, set, among);
+            return;
+        }
         let levels = self.levels.min(usize::from(set.len()) + 1);
         let words = by_hits(block, set, levels);
         for candidate in among.members() {
             let c = usize::from(candidate);
             gains[c] += given_by(&words, block[c], &self.weights, levels);
+        }
+    }
+
+    /// The same if only a voter's first hit counts: those who approve no member of the set give for a candidate.
+    fn add_first_hits(
+        &self,
+        gains: &mut [u128; PLACES],
+        block: &Block,
+        set: CandSet,
+        among: CandSet,
+    )
+        requires weights { AreWeights self.now.weights self.now.levels }
+        requires first { self.now.levels ≡ 1 }
+        requires fits { (c : ℕ) → slice_index gains.old c < 2 ^ 106 }
+        ensures sum { (ballot_at : ℕ → List ℕ) → IsBlock ballot_at block.now
+            → (c : ℕ) → has_member among c ≡ true → slice_index gains.new c
+            ≡ slice_index gains.old c + total (λ i. given self.now.weights set c (ballot_at i)) block_voters }
+        ensures most { (c : ℕ) → slice_index gains.new c ≤ slice_index gains.old c + most_members * 2 ^ 90 }
+    {
+        let uncovered = !covered_by(block, set);
+        let weight = self.weights.first();
+        for candidate in among.members() {
+            let c = usize::from(candidate);
+            gains[c] += given_first(block[c], uncovered, weight);
         }
     }
 }

@@ -40,6 +40,13 @@ impl HitWeights {
             small: small_weights(weights),
         }
     }
+
+    /// What a voter gives for the first hit.
+    pub(crate) fn first(&self) -> u128
+        ensures { result ≡ slice_index self.now 0 }
+    {
+        self.all[0]
+    }
 }
 
 /// The same weights in smaller words, if none is too large to be added up there.

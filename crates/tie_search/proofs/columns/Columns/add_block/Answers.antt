@@ -1,62 +1,13 @@
-use Rattle.std.proofs.Common.{◌≡◌, ℕ, ◌+◌, ◌*◌, ◌^◌, ◌<◌, ◌≤◌, ◌∙◌, cond, List, ◌∷◌, sym, ap, arith, inl, inr, length, get_or, set}
+use Rattle.std.proofs.Common.{◌≡◌, ℕ, ◌+◌, ◌*◌, ◌^◌, ◌<◌, ◌∙◌, cond, ◌∷◌, sym, ap, arith, length, get_or}
 use Rattle.std.proofs.Math.ListN.{length-set}
-use Rattle.std.proofs.lemmas.Bool.{cases_eq}
-use Rattle.std.proofs.lemmas.List.{get_or-set_same, get_or-set_other}
 use Rattle.ballot_base.specs.Limits.{most_candidates, most_members}
-use Rattle.ballot_base.specs.Lists.{IsIncreasing}
 use Rattle.ballot_base.specs.CandSet.{has_member}
 use Rattle.ballot_base.specs.Ballots.{hits}
 use Rattle.tie_walk.proofs.TightLemmas.{hits-most}
 use Rattle.tie_search.specs.Steps.Columns.{block_voters, total, shared, given}
-use Rattle.tie_search.proofs.ColumnLemmas.{given_below, given-sum, given-whole}
-use Rattle.tie_search.proofs.OverlapLemmas.{first-gone, first-in, others-same}
+use Rattle.tie_search.proofs.ColumnLemmas.{given_below, given-sum, given-whole, one-added, one-most}
 use Rattle.tie_search.proofs.SearchLemmas.{rest-increasing}
 use Rattle.tie_search.proofs.columns.Columns.add_block.Goals as goal
-
-module _ (gains left rest : List ℕ) (first x : ℕ) (is : left ≡ first ∷ rest) (up : IsIncreasing 1 most_candidates left) (inside : first < length gains) where
-  -- one of those who are left has got its part
-  one-added : (c wanted : ℕ) (part : ℕ → ℕ) → x ≡ part first → get_or gains c 0 + cond (has_member left c) (part c) 0 ≡ wanted
-      → get_or (set gains first (get_or gains first 0 + x)) c 0 + cond (has_member rest c) (part c) 0 ≡ wanted
-  one-added c wanted part more before = elim (cases_eq c first) [
-    | inl here ↦ omega (
-      arith,
-      before,
-      more,
-      ap (λ j. get_or (set gains first (get_or gains first 0 + x)) j 0) here,
-      get_or-set_same gains first (get_or gains first 0 + x) 0 inside,
-      ap (λ j. get_or gains j 0) here,
-      ap part here,
-      ap (λ b. cond b (part c) 0) (ap (has_member left) here ∙ first-in left rest first is up),
-      ap (λ b. cond b (part c) 0) (ap (has_member rest) here ∙ first-gone left rest first is up),
-    )
-    | inr other ↦ omega (
-      arith,
-      before,
-      get_or-set_other gains first c (get_or gains first 0 + x) 0 other,
-      ap (λ b. cond b (part c) 0) (others-same left rest first is up c other),
-    )
-  ]
-
-  one-most : (c begun most : ℕ) → x ≤ most → get_or gains c 0 ≤ begun + cond (has_member left c) 0 most
-      → get_or (set gains first (get_or gains first 0 + x)) c 0 ≤ begun + cond (has_member rest c) 0 most
-  one-most c begun most small before = elim (cases_eq c first) [
-    | inl here ↦ omega (
-      arith,
-      before,
-      small,
-      ap (λ j. get_or (set gains first (get_or gains first 0 + x)) j 0) here,
-      get_or-set_same gains first (get_or gains first 0 + x) 0 inside,
-      ap (λ j. get_or gains j 0) here,
-      ap (λ b. cond b 0 most) (ap (has_member left) here ∙ first-in left rest first is up),
-      ap (λ b. cond b 0 most) (ap (has_member rest) here ∙ first-gone left rest first is up),
-    )
-    | inr other ↦ omega (
-      arith,
-      before,
-      get_or-set_other gains first c (get_or gains first 0 + x) 0 other,
-      ap (λ b. cond b 0 most) (others-same left rest first is up c other),
-    )
-  ]
 
 pub loop-candidate-preserved : goal.loop-candidate-preserved
 loop-candidate-preserved g c =

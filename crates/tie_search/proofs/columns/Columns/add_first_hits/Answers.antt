@@ -1,0 +1,40 @@
+use Rattle.std.proofs.Common.{◌≡◌, ℕ, ◌+◌, ◌*◌, ◌^◌, ◌<◌, ◌∙◌, cond, ◌∷◌, sym, ap, arith, length, get_or, w64}
+use Rattle.std.specs.Int.{bit_not}
+use Rattle.std.proofs.Math.ListN.{length-set}
+use Rattle.ballot_base.specs.Limits.{most_candidates, most_members}
+use Rattle.ballot_base.specs.CandSet.{has_member}
+use Rattle.tie_search.specs.Steps.Columns.{block_voters, total, shared, given}
+use Rattle.tie_search.proofs.ColumnLemmas.{given-first, one-added, one-most}
+use Rattle.tie_search.proofs.SearchLemmas.{rest-increasing}
+use Rattle.tie_search.proofs.columns.Columns.add_first_hits.Goals as goal
+
+pub loop-candidate-preserved : goal.loop-candidate-preserved
+loop-candidate-preserved g c =
+    let gains = c.loop-candidate.gains in
+    let left = c.loop-candidate.candidate-iterator in
+    let rest = c.next.new.self in
+    let at = c.from-c.result in
+    let is : left ≡ at ∷ rest = c.in-Some.ensures.steps ∙ ap (λ n. n ∷ rest) (sym c.from-c.ensures) in
+    let up = c.loop-candidate.invariant.rises in
+    let next = rest-increasing most_candidates left rest at is up in
+    let inside : at < length gains = omega (arith, next.0, c.loop-candidate.invariant.long) in
+    record {
+      long = length-set gains at (get_or gains at 0 + c.given_first.result) ∙ c.loop-candidate.invariant.long;
+      rises = next.1;
+      made = λ n. one-added gains left rest at c.given_first.result is up inside n _
+          (λ j. c.first-weight.result * shared (get_or c.args.block.now j 0) (bit_not w64 c.covered_by-uncovered.result))
+          c.given_first.ensures.sum (c.loop-candidate.invariant.made n);
+      most = λ n. one-most gains left rest at c.given_first.result is up inside n (get_or c.args.gains.now n 0) (most_members * 2 ^ 90)
+          (omega (arith, c.given_first.ensures.most)) (c.loop-candidate.invariant.most n);
+    }
+
+pub returns-clause-sum : goal.returns-clause-sum
+returns-clause-sum g c ballot_at block n in_ =
+    let weights = c.args.self.now.weights in
+    let part : ℕ = c.first-weight.result * shared (get_or c.args.block.now n 0) (bit_not w64 c.covered_by-uncovered.result) in
+    let made : get_or c.loop-candidate.gains n 0 + cond (has_member c.loop-candidate.candidate-iterator n) part 0 ≡ get_or c.args.gains.now n 0 + cond (has_member c.args.among n) part 0 = c.loop-candidate.invariant.made n in
+    let whole : part ≡ total (λ i. given weights c.args.set n (ballot_at i)) block_voters =
+    ap (λ w. w * shared (get_or c.args.block.now n 0) (bit_not w64 c.covered_by-uncovered.result)) c.first-weight.ensures
+    ∙ given-first ballot_at c.args.block.now block weights c.args.set n c.covered_by-uncovered.result c.covered_by-uncovered.type_inv (c.covered_by-uncovered.ensures ballot_at block)
+    (λ j high. c.requires.weights.end j (omega (arith, high, c.requires.first))) in
+    omega (arith, made, whole, ap (λ l. cond (has_member l n) part 0) c.in-None.ensures.steps.0, ap (λ b. cond b part 0) in_)
