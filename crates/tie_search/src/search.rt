@@ -301,9 +301,15 @@ impl<A: Allocator + Copy> Search<'_, A> {
                 return false;
             }
         }
-        if uses.prices.are_due(node.left) {
+        // A search that counts no pairs answers a question of the walk.
+        let prices = if self.counts_pairs {
+            &uses.prices
+        } else {
+            &uses.prices_in_walk
+        };
+        if prices.are_due(node.left) {
             let affords = self.may_afford(node.set, node.free, node.left);
-            uses.prices.note(!affords);
+            prices.note(!affords);
             return affords;
         }
         true

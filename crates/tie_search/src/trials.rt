@@ -4,6 +4,7 @@
 //! help depends on the ballots: prices cut an election among neighbours short, and seldom a random one. So a search
 //! counts how often each test gave a set up. Any test may be left out, so nothing is proved of these counts.
 
+use ballot_base::MOST_CANDIDATES;
 use std::cell::Cell;
 
 /// With more seats left than this, the quick tests are always made: whole branches depend on them.
@@ -14,6 +15,9 @@ const TRIALS: u32 = 256;
 
 /// A quick test is worth its making if one set of so many is given up for it.
 const LEAST_HELP: u32 = 4;
+
+/// Questions of the walk are many and mostly short, so prices have to help more often there.
+const LEAST_HELP_IN_WALK: u32 = 2;
 
 /// One set of so many has a quick test that is not worth its making, so that its use is judged anew.
 const SAMPLE: u32 = 16;
@@ -38,6 +42,7 @@ const SAMPLE_OF_PAIRS: u32 = 256;
 pub(crate) struct Uses {
     pub(crate) cover: Trials,
     pub(crate) prices: Trials,
+    pub(crate) prices_in_walk: Trials,
     pub(crate) pairs: PairTrials,
 }
 
@@ -45,8 +50,9 @@ impl Uses {
     /// No test was made yet.
     pub(crate) fn none() -> Uses {
         Uses {
-            cover: Trials::none(),
-            prices: Trials::none(),
+            cover: Trials::none(FEW_SEATS, LEAST_HELP),
+            prices: Trials::none(FEW_SEATS, LEAST_HELP),
+            prices_in_walk: Trials::none(MOST_CANDIDATES, LEAST_HELP_IN_WALK),
             pairs: PairTrials::none(),
         }
     }
@@ -55,6 +61,10 @@ impl Uses {
 /// How often a quick test was asked for and made, and how often a set was given up for it.
 #[derive(Drop)]
 pub(crate) struct Trials {
+    // With more seats left than this, the test is always made.
+    few_seats: u8,
+    // It is worth its making if one set of so many is given up for it.
+    least_help: u32,
     asked: Cell<u32>,
     made: Cell<u32>,
     given_up: Cell<u32>,
@@ -62,8 +72,10 @@ pub(crate) struct Trials {
 
 impl Trials {
     /// The test was not made yet.
-    fn none() -> Trials {
+    fn none(few_seats: u8, least_help: u32) -> Trials {
         Trials {
+            few_seats,
+            least_help,
             asked: Cell::new(0),
             made: Cell::new(0),
             given_up: Cell::new(0),
@@ -75,9 +87,9 @@ impl Trials {
         let asked = self.asked.get();
         self.asked.set(asked.wrapping_add(1));
         let made = self.made.get();
-        left > FEW_SEATS
+        left > self.few_seats
             || made < TRIALS
-            || self.given_up.get() >= made / LEAST_HELP
+            || self.given_up.get().saturating_mul(self.least_help) >= made
             || asked % SAMPLE == 0
     }
 
