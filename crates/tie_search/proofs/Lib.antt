@@ -1,6 +1,7 @@
 pub mod CloneLemmas
 pub mod ColumnLemmas
 pub mod CoverLemmas
+mod ExchangeLemmas
 mod FoundLemmas
 pub mod CompletionLemmas
 mod Examples

@@ -1,15 +1,17 @@
 -- A committee with a clone in a member's place is as near.
 use Rattle.std.proofs.Common.{◌≡◌, ℕ, ◌-◌, ◌≤◌, ◌∙◌, true, false, List, [], ◌∷◌, refl, ap, arith, fold, max}
+use Rattle.std.specs.Prelude.{slice_index_or}
 use Rattle.std.specs.List.{AllByRecursion}
 use Rattle.ballot_base.specs.Lists.{IsIncreasing}
 use Rattle.ballot_base.specs.CandSet.{has_member, without_member}
-use Rattle.ballot_base.specs.Ballots.{Row, hits}
-use Rattle.ballot_base.specs.Clones.{are_clones}
+use Rattle.ballot_base.specs.Ballots.{Election, IsElection, Row, hits}
+use Rattle.ballot_base.specs.Clones.{AreClones, are_clones}
 use Rattle.ballot_base.proofs.CloneLemmas.{clones-same}
 use Rattle.ballot_base.proofs.Increasing.{IsIncreasing-with_member}
 use Rattle.tie_walk.specs.Values.{closeness, distance}
 use Rattle.tie_walk.proofs.Gains.{bit, hits-with}
-use Rattle.tie_search.proofs.CloneLemmas.{back, exchanged, exchanged-size, gone, less-out, less-up}
+use Rattle.tie_search.specs.Completions.{AreAlike}
+use Rattle.tie_search.proofs.CloneLemmas.{back, class-are, exchanged, exchanged-size, gone, less-out, less-up}
 use Rattle.tie_search.proofs.NeedLemmas.{distance-hits}
 
 distances-same : (low : ℕ) (rows : List Row) (xs ys : List ℕ) → AllByRecursion (λ (row : Row). distance row.0 xs ≡ distance row.0 ys) rows
@@ -44,3 +46,8 @@ module _ (m : ℕ) (committee : List ℕ) (c d : ℕ) (up : IsIncreasing 1 m com
           → AllByRecursion (λ (row : Row). distance row.0 (exchanged committee c d) ≡ distance row.0 committee) rows
       all [] up same = tt
       all (row ∷ rows) up same = (distance-exchanged row.0 up.0 same.0, all rows up.1 same.1)
+
+-- the classes of clones are alike
+pub alike : (e : Election) → IsElection e → (classes : List (List ℕ)) → AreClones e.m e.rows classes → AreAlike (closeness e.m e.rows) e.m classes
+alike e valid classes are committee c d up low high class here out =
+    closeness-exchanged e.m committee c d up here out low high e.rows valid.ballots (class-are e.m e.rows c (slice_index_or classes c []) (are c low high) d class)

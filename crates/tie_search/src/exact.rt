@@ -20,11 +20,11 @@ ghost use Rattle.tie_search.specs.Steps.Witness.{IsReachedTo, IsWitnessed};
 
 use crate::found::Tied;
 use crate::searchable::Searchable;
-use crate::witness::{exchanged, listed_upto, with_last, witnessed_upto};
+use crate::witness::{exchanged, is_exchange, listed_upto, with_last, witnessed_upto};
 use ballot_base::CandSet;
 use std::cell::Cell;
 use std::marker::Model;
-use tie_walk::{Tally, those_after};
+use tie_walk::{Prefix, Tally, those_after};
 
 /// A tally that searches for what its bounds are. If a set and the number of candidates to add make a committee of k,
 /// the bound is the greatest value of all if some such committee has it, and less if none has: a walk over the winners
@@ -218,6 +218,12 @@ impl<S: Searchable> Tally for ExactTally<S> {
             return None;
         }
         Some(end - 1)
+    }
+
+    fn is_no_better(&self, prefix: Prefix, than: Prefix, left: u8) -> bool {
+        self.k == prefix.set.len() + left
+            && than.c <= prefix.c
+            && is_exchange(self.search.clones(), prefix.set, than.set)
     }
 
     fn is_exact_at(&self, k: u8, best: u128) -> bool {

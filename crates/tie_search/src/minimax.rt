@@ -15,13 +15,15 @@ use tie_walk::{MinimaxTally, Tally};
 #[derive(Drop)]
 pub struct MinimaxSearch<'a, A: Allocator + Copy = Global> {
     profile: &'a Profile<A>,
+    // The number of candidates.
+    m: u8,
     clones: Clones,
     shares: Shares,
 }
 
 impl<'a, A: Allocator + Copy> Model for MinimaxSearch<'a, A> {
-    ghost use Rattle.std.specs.Prelude.{ℕ, ◌≤◌, slice_index};
-    ghost use Rattle.ballot_base.specs.Ballots.{Election};
+    ghost use Rattle.std.specs.Prelude.{◌≡◌, ℕ, ◌≤◌, slice_index};
+    ghost use Rattle.ballot_base.specs.Ballots.{Election, IsElection};
     ghost use Rattle.ballot_base.specs.Clones.{AreClones};
     ghost use Rattle.tie_search.specs.Steps.Near.{share_parts};
 
@@ -29,7 +31,8 @@ impl<'a, A: Allocator + Copy> Model for MinimaxSearch<'a, A> {
 
     ghost view = { λ t. t.profile.now };
 
-    ghost invariant = { λ t. AreClones t.profile.now.m t.profile.now.rows t.clones
+    ghost invariant = { λ t. IsElection t.profile.now × (t.m ≡ t.profile.now.m)
+        × AreClones t.profile.now.m t.profile.now.rows t.clones
         × ((n : ℕ) → slice_index t.shares n ≤ share_parts) };
 }
 
@@ -40,6 +43,7 @@ impl<'a, A: Allocator + Copy> MinimaxSearch<'a, A> {
     {
         MinimaxSearch {
             profile,
+            m: profile.m(),
             clones: Clones::of(profile),
             shares: equal_shares(),
         }
@@ -54,7 +58,7 @@ impl<'a, A: Allocator + Copy> Tally for MinimaxSearch<'a, A> {
     ghost bound_of = { λ tally c set left. closeness_upto tally.m tally.rows c set };
 
     fn m(&self) -> u8 {
-        self.profile.m()
+        self.m
     }
 
     fn value(&self, set: CandSet) -> u128 {
@@ -72,15 +76,14 @@ impl<'a, A: Allocator + Copy> Searchable for MinimaxSearch<'a, A> {
     }
 
     fn find(&self, set: CandSet, free: CandSet, left: u8, least: u128) -> Option<CandSet> {
-        let m = self.profile.m();
-        if least > u128::from(m) {
+        if least > u128::from(self.m) {
             return None;
         }
         let search = NearSearch {
             profile: self.profile,
             clones: &self.clones,
             shares: &self.shares,
-            most: m - least as u8,
+            most: self.m - least as u8,
         };
         search.find_near(set, free, left)
     }

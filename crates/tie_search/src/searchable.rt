@@ -1,6 +1,6 @@
 //! Values whose committees can be searched for.
 ghost use Rattle.std.specs.Prelude.{◌≤◌, MatchOption, ⊤};
-ghost use Rattle.tie_search.specs.Completions.{IsOpen, IsOutOfReach, IsReaching};
+ghost use Rattle.tie_search.specs.Completions.{AreAlike, IsOpen, IsOutOfReach, IsReaching};
 ghost use Rattle.tie_search.specs.Tied.{AreTied};
 
 use crate::found::Tied;
@@ -9,9 +9,9 @@ use tie_walk::Tally;
 
 /// Values whose committees can be searched for.
 pub trait Searchable: Tally {
-    /// Who are clones. A committee with clones in the place of members has the same value, so it is tried before a
-    /// search. Any answer is right, since the value is tested.
-    fn clones(&self) -> &Clones;
+    /// Who are clones: with one in the place of another, a committee has the same value.
+    fn clones(&self) -> &Clones
+        ensures { AreAlike (Self.value_of self.now) (Self.candidates self.now) result.now };
 
     /// Finds a committee of the set and `left` of the free candidates whose value is at least `least`. None if there is
     /// no such committee.

@@ -1,9 +1,9 @@
 //! How far a committee with a value shows that prefixes of the walk still have a completion with that value.
-ghost use Rattle.std.specs.Prelude.{◌≡◌, ℕ, ◌+◌, ◌-◌, ◌<◌, ◌≤◌, true, List};
+ghost use Rattle.std.specs.Prelude.{◌≡◌, ℕ, ◌+◌, ◌-◌, ◌<◌, ◌≤◌, true, List, MatchOption, ⊤, [], ◌∷◌};
 ghost use Rattle.ballot_base.specs.CandSet.{has_member};
 ghost use Rattle.ballot_base.specs.Limits.{most_candidates};
 ghost use Rattle.ballot_base.specs.Lists.{IsIncreasing};
-ghost use Rattle.tie_search.specs.Steps.Witness.{IsSetAndLater};
+ghost use Rattle.tie_search.specs.Steps.Witness.{IsExchange, IsSetAndLater};
 ghost use Rattle.tie_search.specs.Tied.{IsAmong, most_tied};
 
 use crate::found::Tied;
@@ -94,6 +94,24 @@ pub(crate) fn exchanged(
         settled = settled.union(class);
     }
     made
+}
+
+/// Whether the set is the other one with a clone in the place of one member.
+pub(crate) fn is_exchange(clones: &Clones, set: CandSet, other: CandSet) -> bool
+    ensures { result ≡ true → IsExchange clones.now set other }
+{
+    match (only_member(other.minus(set)), only_member(set.minus(other))) {
+        (Some(gone), Some(joined)) => clones.class(gone).has(joined),
+        _ => false,
+    }
+}
+
+/// The member of a set of one.
+fn only_member(set: CandSet) -> Option<u8>
+    ensures { MatchOption result ⊤ (λ member. set ≡ member ∷ []) }
+{
+    let (member, others) = set.split_first()?;
+    others.is_empty().then_some(member)
 }
 
 /// The last `count` members of the set, or all of them if there are fewer.
