@@ -147,7 +147,7 @@ impl<'a, A: Allocator + Copy> Searchable for ThieleSearch<'a, A> {
     }
 
     fn tied(&self, k: u8) -> Option<Tied> {
-        // Winners come sooner one by one if the good committee is known to be the best, or clones can take their places.
+        // Winners come sooner one by one if the good committee is known to be the best, or most candidates are clones.
         if self.good.is_best || are_mostly_clones(&self.aids.clones, self.m()) {
             return None;
         }

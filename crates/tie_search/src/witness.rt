@@ -108,10 +108,10 @@ pub(crate) fn is_exchange(clones: &Clones, set: CandSet, other: CandSet) -> bool
 
 /// The member of a set of one.
 fn only_member(set: CandSet) -> Option<u8>
-    ensures { MatchOption result ⊤ (λ member. set ≡ member ∷ []) }
+    ensures { MatchOption result ⊤ (λ member. (set ≡ member ∷ []) × (member ≤ most_candidates)) }
 {
-    let (member, others) = set.split_first()?;
-    others.is_empty().then_some(member)
+    let (member, _others) = set.split_first()?;
+    (set.len() == 1).then_some(member)
 }
 
 /// The last `count` members of the set, or all of them if there are fewer.
