@@ -121,8 +121,8 @@ module _ (worth : ℕ → ℕ) where
       let count : m - (m - passed) ≡ passed = omega (arith, within) in
       rw count at (table-done (m - passed) m size (omega arith))
 
-  pub sums-begun : (m left : ℕ) → AreGreatestSums worth m 0 left (replicate (most_candidates + 1) 0)
-  sums-begun m left j h = no_total (most_candidates + 1) j ∙ sym (none m j) ∙ table-at m 0 j (omega arith)
+  pub sums-begun : (m fewest left : ℕ) → AreGreatestSums worth m 0 fewest left (replicate (most_candidates + 1) 0)
+  sums-begun m fewest left j low h = no_total (most_candidates + 1) j ∙ sym (none m j) ∙ table-at m 0 j (omega arith)
     where
       none : (m j : ℕ) → best_of 0 (m + 1 - 0) j ≡ 0
       none m zero = best_of-none 0 (m + 1 - 0)
@@ -175,24 +175,24 @@ module _ (worth : ℕ → ℕ) where
       }
 
   -- one candidate more was looked at
-  module _ (m passed left most worth' : ℕ) (old new : List ℕ) (inside : passed < m) (number : worth' ≡ worth (m - passed))
+  module _ (m passed fewest left most worth' : ℕ) (old new : List ℕ) (inside : passed < m) (number : worth' ≡ worth (m - passed))
       (most-is : most ≡ min left (passed + 1))
-      (made : (j : ℕ) → j ≤ left → get_or old j 0 ≡ best_of passed (m + 1 - passed) j)
+      (made : (j : ℕ) → fewest - 1 ≤ j → j ≤ left → get_or old j 0 ≡ best_of passed (m + 1 - passed) j)
       (first-is : get_or new 0 0 ≡ get_or old 0 0)
-      (within-are : (j : ℕ) → j < most → get_or new (j + 1) 0 ≡ max (get_or old (j + 1) 0) (get_or old j 0 + worth'))
+      (within-are : (j : ℕ) → fewest ≤ j + 1 → j < most → get_or new (j + 1) 0 ≡ max (get_or old (j + 1) 0) (get_or old j 0 + worth'))
       (after-are : (j : ℕ) → most < j → get_or new j 0 ≡ get_or old j 0) where
-    pub table-step : (j : ℕ) → j ≤ left → get_or new j 0 ≡ best_of (passed + 1) (m + 1 - (passed + 1)) j
-    table-step zero h = first-is ∙ made 0 h ∙ best_of-none passed (m + 1 - passed) ∙ sym (best_of-none (passed + 1) (m + 1 - (passed + 1)))
-    table-step (suc i) h = elim (cases_lt i most) [
+    pub table-step : (j : ℕ) → fewest ≤ j → j ≤ left → get_or new j 0 ≡ best_of (passed + 1) (m + 1 - (passed + 1)) j
+    table-step zero few h = first-is ∙ made 0 (omega arith) h ∙ best_of-none passed (m + 1 - passed) ∙ sym (best_of-none (passed + 1) (m + 1 - (passed + 1)))
+    table-step (suc i) few h = elim (cases_lt i most) [
       | inl low ↦
           let e : i + 1 ≡ suc i = omega arith in
           rw e at (
-          within-are i low ∙ ap (λ n. max n (get_or old i 0 + worth')) (made (i + 1) (omega arith))
-          ∙ ap (λ n. max (best_of passed (m + 1 - passed) (i + 1)) (n + worth')) (made i (omega arith))
+          within-are i (omega arith) low ∙ ap (λ n. max n (get_or old i 0 + worth')) (made (i + 1) (omega arith) (omega arith))
+          ∙ ap (λ n. max (best_of passed (m + 1 - passed) (i + 1)) (n + worth')) (made i (omega arith) (omega arith))
           ∙ ap (λ n. max (best_of passed (m + 1 - passed) (i + 1)) (best_of passed (m + 1 - passed) i + n)) number
           ∙ sym (table-within m passed i inside (omega arith)))
       | inr high ↦
-          after-are (suc i) (omega arith) ∙ made (suc i) h ∙ table-short m passed (suc i) (omega arith)
+          after-are (suc i) (omega arith) ∙ made (suc i) (omega arith) h ∙ table-short m passed (suc i) (omega arith)
     ]
 
   -- there is room for the next one

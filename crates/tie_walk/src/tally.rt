@@ -122,7 +122,8 @@ impl Amounts<'_> {
     {
         let mut sums = [0; PLACES];
         for passed in 0..self.m - c {
-            self.pass(&mut sums, passed, left);
+            let later = self.m - c - passed - 1;
+            self.pass(&mut sums, passed, left.saturating_sub(later), left);
         }
         sums[usize::from(left)]
     }
@@ -140,7 +141,8 @@ impl Amounts<'_> {
             if passed >= left && sums[usize::from(left)] >= least {
                 return Some(self.m - passed);
             }
-            self.pass(&mut sums, passed, left);
+            let later = self.m - c - passed - 1;
+            self.pass(&mut sums, passed, left.saturating_sub(later), left);
         }
         if sums[usize::from(left)] >= least {
             return Some(c);
@@ -148,29 +150,39 @@ impl Amounts<'_> {
         None
     }
 
-    /// Takes one candidate more into the greatest sums of up to `left` of the last `passed` candidates.
-    fn pass(&self, sums: &mut [u128; PLACES], passed: u8, left: u8)
+    /// Takes one candidate more into the greatest sums of `fewest` to `left` of the last `passed` candidates. Smaller
+    /// sums are not needed, as too few candidates are still to come.
+    fn pass(&self, sums: &mut [u128; PLACES], passed: u8, fewest: u8, left: u8)
         requires more { passed < self.now.m }
         requires few { left ≤ self.now.m }
-        requires sums { AreGreatestSums (slice_index self.now.each.now) self.now.m passed left sums.old }
-        ensures { AreGreatestSums (slice_index self.now.each.now) self.now.m (passed + 1) left sums.new }
+        requires sums { AreGreatestSums (slice_index self.now.each.now) self.now.m passed (fewest - 1) left sums.old }
+        ensures { AreGreatestSums (slice_index self.now.each.now) self.now.m (passed + 1) fewest left sums.new }
     {
         let most = left.min(passed + 1);
-        add_candidate(sums, self.each[usize::from(self.m - passed)], most);
+        add_candidate(
+            sums,
+            self.each[usize::from(self.m - passed)],
+            fewest.max(1),
+            most,
+        );
     }
 }
 
-/// The greatest sums of 1 to `most` candidates, each at their number, where one more may be among them.
-fn add_candidate(sums: &mut [u128; PLACES], worth: u128, most: u8)
+/// The greatest sums of `fewest` to `most` candidates, each at their number, where one more may be among them.
+fn add_candidate(sums: &mut [u128; PLACES], worth: u128, fewest: u8, most: u8)
+    requires some { 1 ≤ fewest }
     requires most { most ≤ most_candidates }
-    requires fits { (j : ℕ) → j < most → slice_index sums.old j + worth < 2 ^ 128 }
+    requires fits { (j : ℕ) → fewest ≤ j + 1 → j < most → slice_index sums.old j + worth < 2 ^ 128 }
     ensures first { slice_index sums.new 0 ≡ slice_index sums.old 0 }
-    ensures within { (j : ℕ) → j < most
+    ensures within { (j : ℕ) → fewest ≤ j + 1 → j < most
         → slice_index sums.new (j + 1) ≡ max (slice_index sums.old (j + 1)) (slice_index sums.old j + worth) }
     ensures after { (j : ℕ) → most < j → slice_index sums.new j ≡ slice_index sums.old j }
 {
-    let mut before = sums[0];
-    for j in 1..usize::from(most) + 1 {
+    if fewest > most {
+        return;
+    }
+    let mut before = sums[usize::from(fewest) - 1];
+    for j in usize::from(fewest)..usize::from(most) + 1 {
         let here = sums[j];
         sums[j] = here.max(before + worth);
         before = here;

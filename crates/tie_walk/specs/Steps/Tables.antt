@@ -22,10 +22,10 @@ abbrev pub sum_of_worths : List ℕ → List ℕ → ℕ → ℕ
 sum_of_worths counts worths most =
     sum (map (λ j. slice_index counts j * slice_index worths j) (range_with_len 0 (most + 1)))
 
--- at each number up to `left`, the greatest sum of that many of the last `passed` of m candidates
-abbrev pub AreGreatestSums : (ℕ → ℕ) → ℕ → ℕ → ℕ → List ℕ → Type 0
-AreGreatestSums worth m passed left sums =
-    (j : ℕ) → j ≤ left → slice_index sums j ≡ greatest_sum worth (m - passed + 1) m j
+-- at each number from `fewest` up to `left`, the greatest sum of that many of the last `passed` of m candidates
+abbrev pub AreGreatestSums : (ℕ → ℕ) → ℕ → ℕ → ℕ → ℕ → List ℕ → Type 0
+AreGreatestSums worth m passed fewest left sums =
+    (j : ℕ) → fewest ≤ j → j ≤ left → slice_index sums j ≡ greatest_sum worth (m - passed + 1) m j
 
 -- a candidate, from c on, up to whom the greatest sum of `left` of what the candidates after each have is so great
 pub record IsReachBySums (worth : ℕ → ℕ) (c m left least last : ℕ) : Type 0 where
