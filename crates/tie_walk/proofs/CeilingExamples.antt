@@ -9,7 +9,7 @@ use Rattle.ballot_base.specs.CommonMultiple.{common_multiple}
 use Rattle.ballot_base.specs.Increments.{increments}
 use Rattle.ballot_base.specs.declared.increments.ThieleRule.TheVariants.{Av, Pav}
 use Rattle.tie_walk.specs.Ceilings.{greatest_sum, gain_at, IsSubmodular, IsBound, IsAdded, IsTight, IsExactAtBest, IsNoBetter, IsShort, IsReach, ceiling, greatest_distance_upto, closeness_upto, Prefix, is_open, is_ahead, IsLive, live_below, live_count}
-use Rattle.tie_walk.specs.Steps.Tables.{IsReachBySums}
+use Rattle.tie_walk.specs.Steps.Tables.{IsReachBySums, IsThreshold}
 use Rattle.tie_walk.specs.Values.{thiele_value, satisfaction_value}
 use Rattle.tie_walk.proofs.GreatestSums.{ceiling-whole}
 use Rattle.tie_walk.proofs.WaitLemmas.{tight-exact}
@@ -28,6 +28,10 @@ sav_of_three set = satisfaction_value 3 two_and_one set
 greatest_of_four : greatest_sum (λ n. 9 * (n - 2) - 14 * (n - 3)) 1 4 2 ≡ 13
 unfolding lists_of
 greatest_of_four = refl
+
+-- two of them are 4 or more, and one is 5 or more
+threshold_of_two : IsThreshold (λ n. 9 * (n - 2) - 14 * (n - 3)) (1 ∷ 2 ∷ 3 ∷ 4 ∷ []) 2 4
+threshold_of_two = (lit≤ tt, lit≤ tt)
 
 sizes_are_submodular : IsSubmodular length
 sizes_are_submodular set added n =

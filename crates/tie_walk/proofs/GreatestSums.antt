@@ -1,18 +1,15 @@
 -- The greatest sum of so many numbers, one number more at a time.
-use Rattle.std.proofs.Common.{◌≡◌, min, ℕ, zero, suc, ◌+◌, ◌-◌, ◌*◌, ◌<◌, ◌≤◌, ◌∙◌, List, replicate, [], ◌∷◌, ◌++◌, refl, sym, ap, arith, inl, inr, get_or, map, max, sum_by}
-use Rattle.std.proofs.Math.Nat.{mul-le-mul_right}
+use Rattle.std.proofs.Common.{◌≡◌, ℕ, zero, suc, ◌+◌, ◌-◌, ◌*◌, ◌<◌, ◌≤◌, ◌∙◌, List, [], ◌∷◌, ◌++◌, refl, sym, ap, arith, inl, inr, map, max, sum_by}
 use Rattle.std.specs.Prelude.{fold}
 use Rattle.std.specs.List.{AllByRecursion}
 use Rattle.std.proofs.lemmas.Bool.{cases_lt}
 use Rattle.std.proofs.lemmas.List.{append-nil, map-append}
 use Rattle.std.proofs.lemmas.List.Sums.{sum_by-cons, fold-append}
-use Rattle.ballot_base.specs.Limits.{most_candidates}
 use Rattle.ballot_base.specs.Lists.{IsIncreasing, lists_of, increasing_lists}
 use Rattle.ballot_base.proofs.Committees.{IsChosen, increasing_lists-chosen}
 use Rattle.tie_walk.specs.Ceilings.{IsBound, ceiling, gain_at, greatest_sum}
-use Rattle.tie_walk.specs.Steps.Tables.{AreGreatestSums, IsReachBySums}
+use Rattle.tie_walk.specs.Steps.Tables.{IsReachBySums}
 use Rattle.tie_walk.proofs.WinnersLemmas.{greatest}
-use Rattle.tie_walk.proofs.WorthLemmas.{no_total}
 
 pub lists-short : (n first size : ℕ) → n < size → lists_of n first size ≡ []
 unfolding lists_of
@@ -96,40 +93,13 @@ module _ (worth : ℕ → ℕ) where
         )
   ]
 
-  -- ---- the table of the code: `passed` numbers up to m were looked at
-
-  pub table-within : (m passed j : ℕ) → passed < m → j ≤ passed
-      → best_of (passed + 1) (m + 1 - (passed + 1)) (j + 1) ≡ max (best_of passed (m + 1 - passed) (j + 1)) (best_of passed (m + 1 - passed) j + worth (m - passed))
-  table-within m passed j inside enough =
-      let first : m + 1 - (passed + 1) ≡ m - passed = omega arith in
-      let next : m - passed + 1 ≡ m + 1 - passed = omega arith in
-      let number : passed + 1 ≡ suc passed = omega arith in
-      let size : j + 1 ≡ suc j = omega arith in
-      rw (first, number, size, ← next) (best_of-more passed (m - passed) j enough)
-
-  pub table-short : (m passed j : ℕ) → passed + 1 < j → best_of passed (m + 1 - passed) j ≡ best_of (passed + 1) (m + 1 - (passed + 1)) j
-  table-short m passed j h = best_of-short passed (m + 1 - passed) j (omega arith) ∙ sym (best_of-short (passed + 1) (m + 1 - (passed + 1)) j h)
-
-  pub table-done : (c m size : ℕ) → c ≤ m → best_of (m - c) (m + 1 - (m - c)) size ≡ greatest_sum worth (c + 1) m size
-  table-done c m size h =
+  pub sum-of : (c m size : ℕ) → greatest_sum worth (c + 1) m size ≡ best_of (m - c) (c + 1) size
+  sum-of c m size =
       let count : m + 1 - (c + 1) ≡ m - c = omega arith in
-      let first : m + 1 - (m - c) ≡ c + 1 = omega arith in
-      rw (count, first)
-
-  pub table-at : (m passed size : ℕ) → passed ≤ m → best_of passed (m + 1 - passed) size ≡ greatest_sum worth (m - passed + 1) m size
-  table-at m passed size within =
-      let count : m - (m - passed) ≡ passed = omega (arith, within) in
-      rw count at (table-done (m - passed) m size (omega arith))
-
-  pub sums-begun : (m fewest left : ℕ) → AreGreatestSums worth m 0 fewest left (replicate (most_candidates + 1) 0)
-  sums-begun m fewest left j low h = no_total (most_candidates + 1) j ∙ sym (none m j) ∙ table-at m 0 j (omega arith)
-    where
-      none : (m j : ℕ) → best_of 0 (m + 1 - 0) j ≡ 0
-      none m zero = best_of-none 0 (m + 1 - 0)
-      none m (suc j) = best_of-short 0 (m + 1 - 0) (suc j) (omega arith)
+      ap (λ n. best_of n (c + 1) size) count
 
   -- more numbers to choose from
-  best_of-next : (n first size : ℕ) → best_of n (first + 1) size ≤ best_of (suc n) first size
+  pub best_of-next : (n first size : ℕ) → best_of n (first + 1) size ≤ best_of (suc n) first size
   best_of-next n first zero = omega (arith, best_of-none n (first + 1), best_of-none (suc n) first)
   best_of-next n first (suc size) = elim (cases_lt n size) [
     | inl few ↦ omega (arith, best_of-short n (first + 1) (suc size) (omega arith))
@@ -163,44 +133,13 @@ module _ (worth : ℕ → ℕ) where
         ap (λ k. best_of k (c + 1) size) count,
       )
 
-  -- a candidate whose sum is large enough, as those of the ones before are
-  pub reaching-found : (c m left least passed last : ℕ) → left ≤ passed → last + passed ≡ m → c ≤ last → least ≤ greatest_sum worth (m - passed + 1) m left
-      → IsReachBySums worth c m left least last
-  reaching-found c m left least passed last enough here low large =
-      let at : m - passed + 1 ≡ last + 1 = omega (arith, here) in
-      record {
-        low = low;
-        high = omega (arith, enough, here);
-        reached = λ n from to. omega (arith, large, ap (λ f. greatest_sum worth f m left) at, sum-later n last m left to (omega (arith, here)));
-      }
-
-  -- one candidate more was looked at
-  module _ (m passed fewest left most worth' : ℕ) (old new : List ℕ) (inside : passed < m) (number : worth' ≡ worth (m - passed))
-      (most-is : most ≡ min left (passed + 1))
-      (made : (j : ℕ) → fewest - 1 ≤ j → j ≤ left → get_or old j 0 ≡ best_of passed (m + 1 - passed) j)
-      (first-is : get_or new 0 0 ≡ get_or old 0 0)
-      (within-are : (j : ℕ) → fewest ≤ j + 1 → j < most → get_or new (j + 1) 0 ≡ max (get_or old (j + 1) 0) (get_or old j 0 + worth'))
-      (after-are : (j : ℕ) → most < j → get_or new j 0 ≡ get_or old j 0) where
-    pub table-step : (j : ℕ) → fewest ≤ j → j ≤ left → get_or new j 0 ≡ best_of (passed + 1) (m + 1 - (passed + 1)) j
-    table-step zero few h = first-is ∙ made 0 (omega arith) h ∙ best_of-none passed (m + 1 - passed) ∙ sym (best_of-none (passed + 1) (m + 1 - (passed + 1)))
-    table-step (suc i) few h = elim (cases_lt i most) [
-      | inl low ↦
-          let e : i + 1 ≡ suc i = omega arith in
-          rw e at (
-          within-are i (omega arith) low ∙ ap (λ n. max n (get_or old i 0 + worth')) (made (i + 1) (omega arith) (omega arith))
-          ∙ ap (λ n. max (best_of passed (m + 1 - passed) (i + 1)) (n + worth')) (made i (omega arith) (omega arith))
-          ∙ ap (λ n. max (best_of passed (m + 1 - passed) (i + 1)) (best_of passed (m + 1 - passed) i + n)) number
-          ∙ sym (table-within m passed i inside (omega arith)))
-      | inr high ↦
-          after-are (suc i) (omega arith) ∙ made (suc i) (omega arith) h ∙ table-short m passed (suc i) (omega arith)
-    ]
-
-  -- there is room for the next one
-  pub table-fits : (most m passed left j worth' : ℕ) (old : List ℕ) → ((n : ℕ) → worth n ≤ most) → worth' ≤ most → j ≤ 63 → get_or old j 0 ≡ best_of passed (m + 1 - passed) j
-      → get_or old j 0 + worth' ≤ 64 * most
-  table-fits most m passed left j worth' old each here few made =
-      let product : j * most ≤ 63 * most = mul-le-mul_right most few in
-      omega (arith, product, made, best_of-most most each passed (m + 1 - passed) j)
+  -- a place whose sum is large enough, as those of the places before are
+  pub reaching-found : (c m left least last : ℕ) → c ≤ last → last + left ≤ m → least ≤ greatest_sum worth (last + 1) m left → IsReachBySums worth c m left least last
+  reaching-found c m left least last low high large = record {
+    low = low;
+    high = high;
+    reached = λ n from to. omega (arith, large, sum-later n last m left to (omega (arith, high)));
+  }
 
 module _ (f g : ℕ → ℕ) (first last : ℕ) (same : (n : ℕ) → first ≤ n → n ≤ last → f n ≡ g n) where
   same_sum : (low : ℕ) (list : List ℕ) → first ≤ low → IsIncreasing low last list → sum_by f list ≡ sum_by g list

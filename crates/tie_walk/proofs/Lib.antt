@@ -26,6 +26,7 @@ pub mod StepLemmas
 pub mod Submodular
 pub mod TableLemmas
 pub mod TableSums
+pub mod Thresholds
 pub mod HitWeights
 pub mod TightLemmas
 pub mod TotalLemmas

@@ -2,15 +2,17 @@
 //!
 //! A walk knows of its tally only what the trait says: the value of a set, the law of the bound, and what `reach`
 //! answers about bounds. So one walk serves rules with plain bounds, bounds found by search, and families of
-//! committees. The sums of the greatest gains are found by one pass over the candidates with a table, and no sorting.
-ghost use Rattle.std.specs.Prelude.{◌≡◌, ℕ, ◌+◌, ◌-◌, ◌*◌, ◌^◌, ◌<◌, ◌≤◌, List, MatchOption, ⊤, length, slice_index, max, true};
+//! committees. The sums of the greatest gains are found by the least of them, and no sorting.
+ghost use Rattle.std.specs.Prelude.{◌≡◌, ℕ, ◌+◌, ◌-◌, ◌*◌, ◌^◌, ◌<◌, ◌≤◌, List, [], MatchOption, ⊤, filter, length, nat_le, slice_index, sum_by, true};
+ghost use Rattle.std.specs.List.{range_with_len};
+ghost use Rattle.ballot_base.specs.CandSet.{has_member};
 ghost use Rattle.ballot_base.specs.Limits.{most_candidates};
 ghost use Rattle.ballot_base.specs.Lists.{IsIncreasing};
 ghost use Rattle.tie_walk.specs.Ceilings.{IsBound, IsExactAtBest, IsNoBetter, IsShort, IsReach, greatest_sum};
-ghost use Rattle.tie_walk.specs.Steps.Tables.{sum_of_worths, AreGreatestSums, IsReachBySums};
+ghost use Rattle.tie_walk.specs.Steps.Tables.{sum_of_worths, IsReachBySums, IsThreshold};
 
 use crate::prefix::Prefix;
-use ballot_base::{CandSet, PLACES};
+use ballot_base::{CandSet, MOST_CANDIDATES, PLACES};
 
 /// What gives a committee its value.
 pub trait Tally {
@@ -120,71 +122,107 @@ impl Amounts<'_> {
         ensures value { result ≡ greatest_sum (slice_index self.now.each.now) (c + 1) self.now.m left }
         ensures most { (most : ℕ) → ((n : ℕ) → slice_index self.now.each.now n ≤ most) → result ≤ left * most }
     {
-        let mut sums = [0; PLACES];
-        for passed in 0..self.m - c {
-            let later = self.m - c - passed - 1;
-            self.pass(&mut sums, passed, left.saturating_sub(later), left);
-        }
-        sums[usize::from(left)]
+        let candidates = CandSet::after(c, self.m);
+        let threshold = self.threshold(candidates, left);
+        self.sum_above(candidates, left, threshold)
     }
 
-    /// The last candidate, from c on, after whom the greatest sum of `left` candidates is still at least `least`.
-    /// Returns `None` if that sum is less even after c.
+    /// A place from c on up to which the greatest sums of `left` candidates after it are as great as that after c.
+    /// Returns `None` if that one is less than `least`.
     pub(crate) fn last_reaching(&self, c: u8, left: u8, least: u128) -> Option<u8>
         requires within { c ≤ self.now.m }
         requires fits { left ≤ self.now.m - c }
         ensures { MatchOption result (greatest_sum (slice_index self.now.each.now) (c + 1) self.now.m left < least)
             (IsReachBySums (slice_index self.now.each.now) c self.now.m left least) }
     {
-        let mut sums = [0; PLACES];
-        for passed in 0..self.m - c {
-            if passed >= left && sums[usize::from(left)] >= least {
-                return Some(self.m - passed);
-            }
-            let later = self.m - c - passed - 1;
-            self.pass(&mut sums, passed, left.saturating_sub(later), left);
+        let candidates = CandSet::after(c, self.m);
+        let threshold = self.threshold(candidates, left);
+        if self.sum_above(candidates, left, threshold) < least {
+            return None;
         }
-        if sums[usize::from(left)] >= least {
-            return Some(c);
-        }
-        None
+        Some(self.last_with(c, left, threshold))
     }
 
-    /// Takes one candidate more into the greatest sums of `fewest` to `left` of the last `passed` candidates. Smaller
-    /// sums are not needed, as too few candidates are still to come.
-    fn pass(&self, sums: &mut [u128; PLACES], passed: u8, fewest: u8, left: u8)
-        requires more { passed < self.now.m }
-        requires few { left ≤ self.now.m }
-        requires sums { AreGreatestSums (slice_index self.now.each.now) self.now.m passed (fewest - 1) left sums.old }
-        ensures { AreGreatestSums (slice_index self.now.each.now) self.now.m (passed + 1) fewest left sums.new }
+    /// The `left`-th greatest amount of the candidates: at least `left` of them reach it, and no more than `left` exceed
+    /// it. Found by halves, as in a search for a rank (Hoare, Algorithm 65: Find, 1961).
+    fn threshold(&self, candidates: CandSet, left: u8) -> u128
+        requires { left ≤ length candidates }
+        ensures { IsThreshold (slice_index self.now.each.now) candidates left result }
     {
-        let most = left.min(passed + 1);
-        add_candidate(
-            sums,
-            self.each[usize::from(self.m - passed)],
-            fewest.max(1),
-            most,
-        );
+        let mut threshold = 0;
+        // Those above the threshold whose amounts are not known to be too great for it.
+        let mut open = candidates;
+        while let Some(candidate) = middle(open) {
+            let amount = self.each[usize::from(candidate)];
+            let reaching = self.reaching(candidates, amount);
+            if reaching.len() >= left {
+                threshold = amount;
+                open = self.reaching(open, amount + 1);
+            } else {
+                open = open.minus(reaching);
+            }
+        }
+        threshold
+    }
+
+    /// Those of the candidates whose amount is at least `least`.
+    fn reaching(&self, candidates: CandSet, least: u128) -> CandSet
+        ensures { result ≡ filter (λ n. nat_le least (slice_index self.now.each.now n)) candidates }
+    {
+        let mut reaching = candidates;
+        for candidate in candidates.members() {
+            if self.each[usize::from(candidate)] < least {
+                reaching = reaching.without(candidate);
+            }
+        }
+        reaching
+    }
+
+    /// `left` times the threshold, and what the candidates' amounts exceed it by.
+    fn sum_above(&self, candidates: CandSet, left: u8, threshold: u128) -> u128
+        requires { left * threshold + sum_by (λ n. slice_index self.now.each.now n - threshold) candidates < 2 ^ 128 }
+        ensures { result ≡ left * threshold + sum_by (λ n. slice_index self.now.each.now n - threshold) candidates }
+    {
+        let mut sum = u128::from(left) * threshold;
+        for candidate in candidates.members() {
+            sum += self.each[usize::from(candidate)].saturating_sub(threshold);
+        }
+        sum
+    }
+
+    /// The last place, from c on, that no candidate above the threshold is passed on the way to, and after which `left`
+    /// still reach it.
+    fn last_with(&self, c: u8, left: u8, threshold: u128) -> u8
+        requires within { c ≤ self.now.m }
+        requires threshold { IsThreshold (slice_index self.now.each.now) (range_with_len (c + 1) (self.now.m - c)) left
+            threshold }
+        ensures { (least : ℕ) → least ≤ greatest_sum (slice_index self.now.each.now) (c + 1) self.now.m left
+            → IsReachBySums (slice_index self.now.each.now) c self.now.m left least result }
+    {
+        let mut spare = self.reaching(CandSet::after(c, self.m), threshold).len() - left;
+        let mut last = c;
+        while last < self.m {
+            let amount = self.each[usize::from(last) + 1];
+            if amount > threshold || amount == threshold && spare == 0 {
+                return last;
+            }
+            if amount == threshold {
+                spare -= 1;
+            }
+            last += 1;
+        }
+        last
     }
 }
 
-/// The greatest sums of `fewest` to `most` candidates, each at their number, where one more may be among them.
-fn add_candidate(sums: &mut [u128; PLACES], worth: u128, fewest: u8, most: u8)
-    requires some { 1 ≤ fewest }
-    requires most { most ≤ most_candidates }
-    requires fits { (j : ℕ) → fewest ≤ j + 1 → j < most → slice_index sums.old j + worth < 2 ^ 128 }
-    ensures first { slice_index sums.new 0 ≡ slice_index sums.old 0 }
-    ensures within { (j : ℕ) → fewest ≤ j + 1 → j < most
-        → slice_index sums.new (j + 1) ≡ max (slice_index sums.old (j + 1)) (slice_index sums.old j + worth) }
-    ensures after { (j : ℕ) → most < j → slice_index sums.new j ≡ slice_index sums.old j }
+/// A member of a set, in the middle of its members if they follow each other.
+fn middle(set: CandSet) -> Option<u8>
+    ensures { MatchOption result (set ≡ []) (λ n. (has_member set n ≡ true) × (n ≤ most_candidates)) }
 {
-    if fewest > most {
-        return;
-    }
-    let mut before = sums[usize::from(fewest) - 1];
-    for j in usize::from(fewest)..usize::from(most) + 1 {
-        let here = sums[j];
-        sums[j] = here.max(before + worth);
-        before = here;
+    let (first, _others) = set.split_first()?;
+    let passed = (first + set.len() / 2 - 1).min(MOST_CANDIDATES);
+    match set.minus(CandSet::all(passed)).split_first() {
+        Some((middle, _others)) => Some(middle),
+        None => Some(first),
     }
 }

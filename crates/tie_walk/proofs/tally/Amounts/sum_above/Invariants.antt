@@ -1,0 +1,12 @@
+use Rattle.std.proofs.Common.{◌≡◌, ◌+◌, ◌-◌, ◌*◌, get_or, sum_by}
+use Rattle.ballot_base.specs.Limits.{most_candidates}
+use Rattle.ballot_base.specs.Lists.{IsIncreasing}
+use Rattle.tie_walk.proofs.tally.Amounts.sum_above.Given as goal
+
+-- with what is still to be added, the sum is the whole
+abbrev pub invariant-loop-candidate : goal.invariant-loop-candidate
+invariant-loop-candidate l = record {
+  members : IsIncreasing 1 most_candidates l.candidate-iterator;
+  summed : l.sum + sum_by (λ n. get_or l.self.each.now n 0 - l.threshold) l.candidate-iterator
+      ≡ l.left * l.threshold + sum_by (λ n. get_or l.self.each.now n 0 - l.threshold) l.fn.candidates;
+}
