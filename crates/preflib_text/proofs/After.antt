@@ -13,7 +13,7 @@ use Rattle.preflib_text.specs.declared.fault.FaultName.{FaultName}
 use Rattle.preflib_text.specs.declared.fault.FaultName.TheVariants.{LongLine, BadNumber, TooManyCandidates, NoAlternatives, NoKind, NoVoters, PickMisfit, TooManyVoters}
 use Rattle.preflib_text.specs.declared.notes.Notes.{Notes}
 use Rattle.preflib_text.specs.Lines.{is_ballot_line, lines_of, pieces_of, without_return}
-use Rattle.preflib_text.specs.Metadata.{Fact, TypeIs, AlternativesAre, CategoriesAre, NameIs, Nothing, told_of, written_number}
+use Rattle.preflib_text.specs.Metadata.{Fact, AlternativesAre, CategoriesAre, NameIs, told_of, written_number}
 use Rattle.preflib_text.specs.Approvals.{approved}
 use Rattle.preflib_text.specs.Steps.Tokens.{ballot_of}
 use Rattle.preflib_text.specs.Reading.{Cast, or_else, fault_if, told_before, kind_or_usual, is_fitting, ballot_fault, alternatives_in, categories_in, casts_in, rows_in, election_in, line_fault, told_fault, first_fault, first_faulty_line, FaultyLine, faulty_line, fault_of_line, end_fault, at_end, is_empty, may_be_candidate, is_name, is_growth, takes_memory, kind_in, at_line, cast_fault, kind_fault, ballot_line_fault, number_fault, kind_or, kind_by}
@@ -71,22 +71,17 @@ ballot_error-is pick before line notes e is = by notes.alternatives ∙ ap (ball
     by (Some m) = kind_error-is pick before line m notes e notes.kind is ∙ ap (kind_fault pick ballot_of before m line) is.told.kind
 
 told_error-is : (pick : Pick) (before : List (List ℕ)) (notes : Notes) (e : Election) (told : Fact) → IsAfter pick before notes e → told_error notes told ≡ told_fault before told
-told_error-is pick before notes e (TypeIs value) is = refl
 told_error-is pick before notes e (AlternativesAre value) is = ap (λ o. number_fault (Some TooManyCandidates) most_candidates o (written_number value)) is.told.alternatives
 told_error-is pick before notes e (CategoriesAre value) is = ap (λ o. number_fault (Some BadNumber) most_categories o (written_number value)) is.told.categories
-told_error-is pick before notes e (NameIs n value) is = refl
-told_error-is pick before notes e Nothing is = refl
+told_error-is pick before notes e told is = refl
 
 pub told_effect-fine : (e : Election) (notes : Notes) (told : Fact) → effect_error e (told_effect notes told) ≡ None
-told_effect-fine e notes (TypeIs value) = refl
-told_effect-fine e notes (AlternativesAre value) = refl
-told_effect-fine e notes (CategoriesAre value) = refl
 told_effect-fine e notes (NameIs n value) = by (may_be_candidate notes.alternatives n)
   where
     by : (t : Bool) → effect_error e (cond t (Names n value) NoEffect) ≡ None
     by true = refl
     by false = refl
-told_effect-fine e notes Nothing = refl
+told_effect-fine e notes told = refl
 
 -- the refusals are the faults
 pub line_error-is : (pick : Pick) (before : List (List ℕ)) (line : List ℕ) (notes : Notes) (e : Election) → IsAfter pick before notes e
@@ -145,12 +140,6 @@ told_again (Some k) n most same = let equal : k ≡ n = grind arith in omega ari
 -- the names that a line before the first ballot leaves
 names_told : (pick : Pick) (tolds : List Fact) (notes : Notes) (told : Fact) (e : Election) → IsSound notes → told_error notes told ≡ None → HoldsNames tolds notes e
     → HoldsNames (tolds ++ told ∷ []) (told_notes pick notes told) (with_effect e (told_effect notes told))
-names_told pick tolds notes (TypeIs value) e sound fine (m_is, empty, names) =
-    (m_is, empty, names ∙ last_names-kept tolds (TypeIs value) (unwrap_or notes.alternatives most_candidates) (λ k low high. refl))
-names_told pick tolds notes (CategoriesAre value) e sound fine (m_is, empty, names) =
-    (m_is, empty, names ∙ last_names-kept tolds (CategoriesAre value) (unwrap_or notes.alternatives most_candidates) (λ k low high. refl))
-names_told pick tolds notes Nothing e sound fine (m_is, empty, names) =
-    (m_is, empty, names ∙ last_names-kept tolds Nothing (unwrap_or notes.alternatives most_candidates) (λ k low high. refl))
 names_told pick tolds notes (AlternativesAre value) e sound fine (m_is, empty, names) =
     let (n, is, low, high, same) = number_within TooManyCandidates most_candidates notes.alternatives (written_number value) fine in
     let kept : take n e.names ≡ last_names (tolds ++ AlternativesAre value ∷ []) n =
@@ -165,25 +154,21 @@ names_told pick tolds notes (NameIs n value) e sound fine (m_is, empty, names) =
     by : (t : Bool) → may_be_candidate notes.alternatives n ≡ t → HoldsNames (tolds ++ NameIs n value ∷ []) notes (with_effect e (cond t (Names n value) NoEffect))
     by true within = (m_is, empty, take-set most (n - 1) e.names value ∙ ap (λ l. slice_set l (n - 1) value) names ∙ last_names-told tolds n most value (grind arith) (grind arith))
     by false outside = (m_is, empty, names ∙ last_names-kept tolds (NameIs n value) most (λ k low high. name_value-other n k value (λ same. absurd (grind arith))))
+names_told pick tolds notes told e sound fine (m_is, empty, names) =
+    (m_is, empty, names ∙ last_names-kept tolds told (unwrap_or notes.alternatives most_candidates) (λ k low high. refl))
 
 -- what is told leaves the ballots
 told_notes-ballots : (pick : Pick) (notes : Notes) (told : Fact) → (told_notes pick notes told).has_ballot ≡ notes.has_ballot
-told_notes-ballots pick notes (TypeIs value) = refl
-told_notes-ballots pick notes (AlternativesAre value) = refl
-told_notes-ballots pick notes (CategoriesAre value) = refl
 told_notes-ballots pick notes (NameIs n value) = refl
-told_notes-ballots pick notes Nothing = refl
+told_notes-ballots pick notes told = refl
 
 told_effect-rows : (e : Election) (notes : Notes) (told : Fact) → (with_effect e (told_effect notes told)).rows ≡ e.rows
-told_effect-rows e notes (TypeIs value) = refl
-told_effect-rows e notes (AlternativesAre value) = refl
-told_effect-rows e notes (CategoriesAre value) = refl
-told_effect-rows e notes Nothing = refl
 told_effect-rows e notes (NameIs n value) = by (may_be_candidate notes.alternatives n)
   where
     by : (t : Bool) → (with_effect e (cond t (Names n value) NoEffect)).rows ≡ e.rows
     by true = refl
     by false = refl
+told_effect-rows e notes told = refl
 
 -- no ballot, before the first ballot
 after-told : (pick : Pick) (before : List (List ℕ)) (line : List ℕ) (notes : Notes) (e : Election) → IsAfter pick before notes e → notes.has_ballot ≡ false → is_ballot_line line ≡ false
@@ -197,12 +182,9 @@ after-told pick before line notes e is none other fine =
       told = subst (λ t. IsTold pick t (told_notes pick notes (told_of line))) tolds (told-step pick (told_before before) notes (told_of line) is.told fine);
       ballots = still ∙ sym none_yet;
       opened = λ h. subst (λ t. HoldsNames t (told_notes pick notes (told_of line)) (with_effect e (told_effect notes (told_of line)))) tolds (names_told pick (told_before before) notes (told_of line) e is.told.sound fine (is.opened none));
-      begun = λ h. false_true still h;
+      begun = λ h. absurd (cc (still, h));
       votes = ap voter_count (told_effect-rows e notes (told_of line)) ∙ is.votes ∙ sym (ap (λ c. sum_by (λ (x : Cast). x.count) c) (casts_in-other pick ballot_of before line other));
     }
-  where
-    false_true : {t : Bool} {X : Type 0} → t ≡ false → t ≡ true → X
-    false_true h i = absurd (cc)
 
 -- no ballot, after the first ballot
 after-skipped : (pick : Pick) (before : List (List ℕ)) (line : List ℕ) (notes : Notes) (e : Election) → IsAfter pick before notes e → notes.has_ballot ≡ true → is_ballot_line line ≡ false
@@ -216,7 +198,7 @@ after-skipped pick before line notes e is some other =
     record {
       told = subst (λ t. IsTold pick t notes) tolds is.told;
       ballots = some ∙ sym (has_ballot_line-more before line ∙ more);
-      opened = λ h. false_true some h;
+      opened = λ h. absurd (cc (some, h));
       begun = λ h. (
         m,
         alternatives,
@@ -226,9 +208,6 @@ after-skipped pick before line notes e is some other =
       );
       votes = is.votes ∙ ap (λ c. sum_by (λ (x : Cast). x.count) c) casts;
     }
-  where
-    false_true : {t : Bool} {X : Type 0} → t ≡ true → t ≡ false → X
-    false_true h i = absurd (cc)
 
 -- what a ballot line without a fault is
 abbrev pub IsCast : Pick → List (List ℕ) → List ℕ → Notes → Type 0
@@ -353,15 +332,12 @@ or_first false b h = absurd (cc)
 
 -- a name of a candidate, which has bytes
 takes_name : (before : List (List ℕ)) (notes : Notes) (e : Election) (told : Fact) → notes.alternatives ≡ alternatives_in before → effect_takes e (told_effect notes told) ≡ true → is_name before told ≡ true
-takes_name before notes e (TypeIs value) is h = absurd (cc)
-takes_name before notes e (AlternativesAre value) is h = absurd (cc)
-takes_name before notes e (CategoriesAre value) is h = absurd (cc)
-takes_name before notes e Nothing is h = absurd (cc)
 takes_name before notes e (NameIs n value) is h = ap (λ o. may_be_candidate o n && not (is_empty value)) (sym is) ∙ by (may_be_candidate notes.alternatives n) h
   where
     by : (t : Bool) → effect_takes e (cond t (Names n value) NoEffect) ≡ true → (t && not (is_empty value)) ≡ true
     by true g = g
     by false g = absurd (cc)
+takes_name before notes e told is h = absurd (cc)
 
 not_true : (t : Bool) → not t ≡ true → t ≡ false
 not_true true h = absurd (cc)

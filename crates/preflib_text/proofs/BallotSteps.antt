@@ -10,7 +10,7 @@ use Rattle.preflib_text.specs.declared.approvals.Taking.{Taking}
 use Rattle.preflib_text.specs.declared.approvals.Taking.TheVariants.{Category, SetSize, Classes}
 use Rattle.preflib_text.specs.declared.approvals.Marks.{Marks}
 use Rattle.preflib_text.specs.declared.ballot.Token.{Token}
-use Rattle.preflib_text.specs.declared.ballot.Token.TheVariants.{Number, Colon, Comma, Open, Close, Other}
+use Rattle.preflib_text.specs.declared.ballot.Token.TheVariants.{Number, Comma, Open, Close}
 use Rattle.preflib_text.specs.declared.ballot.OrderPlace.{OrderPlace}
 use Rattle.preflib_text.specs.declared.ballot.OrderPlace.TheVariants.{Order, Class, Between, Opened, Inner, Listed}
 use Rattle.preflib_text.specs.Lines.{onto_first}
@@ -56,11 +56,7 @@ with_read-capped m way Opened (Number n) marks h = with_number-capped m way mark
 with_read-capped m way Inner (Number n) marks h = with_number-capped m way marks n h
 with_read-capped m way Between (Number n) marks h = refl
 with_read-capped m way Listed (Number n) marks h = refl
-with_read-capped m way place Colon marks h = refl
-with_read-capped m way place Comma marks h = refl
-with_read-capped m way place Open marks h = refl
-with_read-capped m way place Close marks h = refl
-with_read-capped m way place Other marks h = refl
+with_read-capped m way place token marks h = refl
 
 next_place-capped : (place : OrderPlace) (token : Token) → next_place place (capped_token token) ≡ next_place place token
 next_place-capped Order (Number n) = refl
@@ -69,11 +65,7 @@ next_place-capped Opened (Number n) = refl
 next_place-capped Inner (Number n) = refl
 next_place-capped Between (Number n) = refl
 next_place-capped Listed (Number n) = refl
-next_place-capped place Colon = refl
-next_place-capped place Comma = refl
-next_place-capped place Open = refl
-next_place-capped place Close = refl
-next_place-capped place Other = refl
+next_place-capped place token = refl
 
 none_of : (o : Option FaultName) → is_some o ≡ false → o ≡ None
 none_of None e = refl
@@ -184,16 +176,12 @@ module _ (m : ℕ) (way : Taking) where
   listed_more Class next n text rest marks h l e = marks_more Between next Comma (44 ∷ rest) rest (with_read m way Class (Number n) marks) h l.1 e ∙ marks_more Class Between (Number n) text (44 ∷ rest) marks h l.0 refl
   listed_more Opened next n text rest marks h l e = marks_more Listed next Comma (44 ∷ rest) rest (with_read m way Opened (Number n) marks) h l.1 e ∙ marks_more Opened Listed (Number n) text (44 ∷ rest) marks h l.0 refl
   listed_more Inner next n text rest marks h l e = marks_more Listed next Comma (44 ∷ rest) rest (with_read m way Inner (Number n) marks) h l.1 e ∙ marks_more Inner Listed (Number n) text (44 ∷ rest) marks h l.0 refl
-  listed_more Between next n text rest marks h l e = absurd (cc)
-  listed_more Listed next n text rest marks h l e = absurd (cc)
+  listed_more place next n text rest marks h l e = absurd (cc)
 
   pub listed_fail : (place : OrderPlace) (n : ℕ) (text rest : List ℕ) (marks : Marks) → IsListedNumber text n rest → option_and_then (λ at. next_place at Comma) (next_place place (Number n)) ≡ None → marked marks (order_at place (tokens_of text)) ≡ None
   listed_fail Between n text rest marks l e = marks_fail Between (Number n) text (44 ∷ rest) marks l.0 refl
   listed_fail Listed n text rest marks l e = marks_fail Listed (Number n) text (44 ∷ rest) marks l.0 refl
-  listed_fail Order n text rest marks l e = absurd (cc)
-  listed_fail Class n text rest marks l e = absurd (cc)
-  listed_fail Opened n text rest marks l e = absurd (cc)
-  listed_fail Inner n text rest marks l e = absurd (cc)
+  listed_fail place n text rest marks l e = absurd (cc)
 
   -- ---- how many classes and numbers there are
 
@@ -220,9 +208,6 @@ module _ (m : ℕ) (way : Taking) where
   counts_read Class (Number n) marks = counts_bare marks n
   counts_read Opened (Number n) marks = let c = counts_number marks n in record { classes = omega (arith, c.classes); numbers = c.numbers }
   counts_read Inner (Number n) marks = let c = counts_number marks n in record { classes = omega (arith, c.classes); numbers = c.numbers }
-  counts_read Between (Number n) marks = record { classes = omega arith; numbers = omega arith }
-  counts_read Listed (Number n) marks = record { classes = omega arith; numbers = omega arith }
-  counts_read Opened Close marks = record { classes = omega arith; numbers = omega arith }
   counts_read Listed Close marks = record { classes = omega arith; numbers = omega arith }
   counts_read place token marks = record { classes = omega arith; numbers = omega arith }
 

@@ -8,7 +8,7 @@ use Rattle.preflib_text.specs.declared.approvals.Taking.TheVariants.{Category, S
 use Rattle.preflib_text.specs.declared.pick.Way.{Way}
 use Rattle.preflib_text.specs.declared.pick.Way.TheVariants as given
 use Rattle.preflib_text.specs.declared.pick.Kind.{Kind}
-use Rattle.preflib_text.specs.declared.pick.Kind.TheVariants.{Cat, Soc, Soi, Toc, Toi}
+use Rattle.preflib_text.specs.declared.pick.Kind.TheVariants.{Cat}
 use Rattle.preflib_text.specs.Approvals.{HasNumber, usual_numbers, first_numbers, taken_numbers}
 use Rattle.preflib_text.specs.Steps.Marks.{usual_taking, taking_of, takes}
 
@@ -68,10 +68,7 @@ size_is n classes h = size_at n 0 0 n classes (omega arith) h
 
 usual_is : (kind : Kind) (classes : List (List ℕ)) → taken_from (usual_taking kind) 0 0 classes ≡ usual_numbers kind classes
 usual_is Cat classes = category_is 1 classes (omega arith)
-usual_is Soc classes = size_is 1 classes (omega arith)
-usual_is Soi classes = size_is 1 classes (omega arith)
-usual_is Toc classes = size_is 1 classes (omega arith)
-usual_is Toi classes = size_is 1 classes (omega arith)
+usual_is kind classes = size_is 1 classes (omega arith)
 
 pub taken_is : (kind : Kind) (way : Way) (classes : List (List ℕ)) → HasNumber way → taken_from (taking_of kind way) 0 0 classes ≡ taken_numbers kind way classes
 taken_is kind given.Usual classes h = usual_is kind classes

@@ -10,7 +10,7 @@ use Rattle.preflib_text.specs.declared.fault.FaultName.TheVariants.{LongLine, Ba
 use Rattle.preflib_text.specs.declared.notes.Notes.{Notes}
 use Rattle.preflib_text.specs.declared.notes.Effect as rust
 use Rattle.preflib_text.specs.Lines.{is_ballot_line, pieces_of, without_return}
-use Rattle.preflib_text.specs.Metadata.{Fact, TypeIs, AlternativesAre, CategoriesAre, NameIs, Nothing, told_of}
+use Rattle.preflib_text.specs.Metadata.{Fact, NameIs, told_of}
 use Rattle.preflib_text.specs.Steps.Tokens.{capped}
 use Rattle.preflib_text.specs.Steps.Tells.{capped_told}
 use Rattle.preflib_text.specs.Reading.{Cast, or_else, fault_if, is_fitting, ballot_fault, kind_or_usual}
@@ -25,18 +25,12 @@ use Rattle.preflib_text.specs.Steps.Notes.{Effect, Names, NoEffect, Casts, cast_
 -- ---- numbers above 2^32 are all alike
 
 pub told_error-capped : (notes : Notes) (told : Fact) → told_error notes (capped_told told) ≡ told_error notes told
-told_error-capped notes (TypeIs value) = refl
-told_error-capped notes (AlternativesAre value) = refl
-told_error-capped notes (CategoriesAre value) = refl
 told_error-capped notes (NameIs n value) = refl
-told_error-capped notes Nothing = refl
+told_error-capped notes told = refl
 
 pub told_notes-capped : (pick : Pick) (notes : Notes) (told : Fact) → told_notes pick notes (capped_told told) ≡ told_notes pick notes told
-told_notes-capped pick notes (TypeIs value) = refl
-told_notes-capped pick notes (AlternativesAre value) = refl
-told_notes-capped pick notes (CategoriesAre value) = refl
 told_notes-capped pick notes (NameIs n value) = refl
-told_notes-capped pick notes Nothing = refl
+told_notes-capped pick notes told = refl
 
 -- the numbers that a candidate may have are few
 few : (alternatives : Option ℕ) → IfSome alternatives (λ m. (1 ≤ m) × (m ≤ most_candidates)) → unwrap_or alternatives most_candidates ≤ most_candidates
@@ -64,11 +58,8 @@ capped_name most n value small = ap (λ t. cond t (Names (capped n) value) NoEff
     by false e = refl
 
 pub told_effect-capped : (notes : Notes) (told : Fact) → IsSound notes → told_effect notes (capped_told told) ≡ told_effect notes told
-told_effect-capped notes (TypeIs value) sound = refl
-told_effect-capped notes (AlternativesAre value) sound = refl
-told_effect-capped notes (CategoriesAre value) sound = refl
 told_effect-capped notes (NameIs n value) sound = capped_name (unwrap_or notes.alternatives most_candidates) n value (few notes.alternatives sound)
-told_effect-capped notes Nothing sound = refl
+told_effect-capped notes told sound = refl
 
 -- ---- a metadata line before the first ballot
 

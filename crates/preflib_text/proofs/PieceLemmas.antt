@@ -10,7 +10,7 @@ use Rattle.ballot_base.specs.Limits.{most_candidates}
 use Rattle.preflib_text.specs.Limits.{most_line_bytes}
 use Rattle.preflib_text.specs.declared.pick.Pick.{Pick}
 use Rattle.preflib_text.specs.declared.fault.FaultName.{FaultName}
-use Rattle.preflib_text.specs.declared.fault.FaultName.TheVariants.{LongLine, BadNumber, TooManyCandidates, ConflictingKey, NoAlternatives, NoKind, BadKind, BadBallot, BadCount, NoSuchCandidate, RepeatedCandidate, NotStrict, Incomplete, TooManyClasses, NoVoters, TooManyVoters, PickMisfit, Memory}
+use Rattle.preflib_text.specs.declared.fault.FaultName.TheVariants.{LongLine, Memory}
 use Rattle.preflib_text.specs.declared.fault.ReadFault.{ReadFault}
 use Rattle.preflib_text.specs.declared.notes.Notes.{Notes}
 use Rattle.preflib_text.specs.Lines.{lines_of, pieces_of, without_return, without_mark}
@@ -519,27 +519,6 @@ on_err (Err e) P Q is from = from e is
 none_left : (rest : List ℕ) → (length rest == 0) ≡ true → rest ≡ []
 none_left [] h = refl
 none_left (b ∷ rest) h = absurd (grind arith)
-
--- a fault of a line that has not ended before
-line_after : (before number : ℕ) (name : FaultName) → before ≤ number → IfSome (at_line (number + 1) name).line (λ n. before < n)
-line_after before number LongLine h = omega (arith, h)
-line_after before number BadNumber h = omega (arith, h)
-line_after before number TooManyCandidates h = omega (arith, h)
-line_after before number ConflictingKey h = omega (arith, h)
-line_after before number NoAlternatives h = tt
-line_after before number NoKind h = omega (arith, h)
-line_after before number BadKind h = omega (arith, h)
-line_after before number BadBallot h = omega (arith, h)
-line_after before number BadCount h = omega (arith, h)
-line_after before number NoSuchCandidate h = omega (arith, h)
-line_after before number RepeatedCandidate h = omega (arith, h)
-line_after before number NotStrict h = omega (arith, h)
-line_after before number Incomplete h = omega (arith, h)
-line_after before number TooManyClasses h = omega (arith, h)
-line_after before number NoVoters h = omega (arith, h)
-line_after before number TooManyVoters h = omega (arith, h)
-line_after before number PickMisfit h = omega (arith, h)
-line_after before number Memory h = omega (arith, h)
 
 -- the bytes before the first LF, and those after it
 pub cut_at_end : (rest : List ℕ) (at : ℕ) → at < length rest → (get_or rest at 0 == 10) ≡ true → take at rest ++ 10 ∷ take (length rest - (at + 1)) (drop (at + 1) rest) ≡ rest

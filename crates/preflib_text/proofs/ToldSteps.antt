@@ -12,7 +12,7 @@ use Rattle.preflib_text.specs.declared.fault.FaultName.{FaultName}
 use Rattle.preflib_text.specs.declared.fault.FaultName.TheVariants.{BadNumber, TooManyCandidates, ConflictingKey}
 use Rattle.preflib_text.specs.declared.notes.Notes.{Notes}
 use Rattle.preflib_text.specs.Lines.{is_ballot_line}
-use Rattle.preflib_text.specs.Metadata.{Fact, TypeIs, AlternativesAre, CategoriesAre, NameIs, Nothing, told_of, written_number}
+use Rattle.preflib_text.specs.Metadata.{Fact, TypeIs, AlternativesAre, CategoriesAre, told_of, written_number}
 use Rattle.preflib_text.specs.Reading.{or_else, told_before, alternatives_value, categories_value, type_value, last_of, kind_by, number_fault}
 use Rattle.preflib_text.specs.Steps.Notes.{kind_with, told_error, told_notes}
 use Rattle.preflib_text.specs.Steps.After.{first_number, IsTold}
@@ -151,5 +151,4 @@ told-step pick tolds notes (TypeIs value) is fine =
       no_categories = λ none. values-kept categories_value tolds told refl ∙ is.no_categories none;
       sound = is.sound;
     }
-told-step pick tolds notes (NameIs n value) is fine = told-other pick tolds notes (NameIs n value) is refl refl refl
-told-step pick tolds notes Nothing is fine = told-other pick tolds notes Nothing is refl refl refl
+told-step pick tolds notes told is fine = told-other pick tolds notes told is refl refl refl

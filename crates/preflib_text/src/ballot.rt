@@ -162,41 +162,26 @@ impl OrderPlace {
     {
         let mut read = *marks;
         let taken = read.takes(terms.taking);
-        let start = Position {
-            place: self,
-            rest: text,
-        };
-        let end = start.read_members(&mut read, terms.m, taken);
+        let end = self.read_members(text, &mut read, terms.m, taken);
         *marks = read;
         end
     }
 
-    /// Whether an order may end here.
-    fn is_end(self) -> bool
-        ensures { result ≡ is_end self }
-    {
-        matches!(self, OrderPlace::Order | OrderPlace::Between)
-    }
-}
-
-impl<'a> Position<'a> {
     /// Reads numbers between braces, taken or not, that have a comma or the closing brace right after each, as long as
     /// nothing is wrong with them. A comma right after the closing brace is read, too. Returns the position after them.
     #[inline(always)]
-    fn read_members(self, marks: &mut Marks, m: u8, taken: bool) -> Position<'a>
+    fn read_members<'a>(self, text: &'a [u8], marks: &mut Marks, m: u8, taken: bool) -> Position<'a>
         requires candidates { m ≤ most_candidates }
-        requires classes { marks.old.classes + length self.rest.now + 1 < word_limit }
-        requires numbers { marks.old.before + marks.old.numbers + length self.rest.now + 1 < word_limit }
-        requires inside { next_place self.place (Token.Number 0) ≡ Some OrderPlace.Listed }
+        requires classes { marks.old.classes + length text.now + 1 < word_limit }
+        requires numbers { marks.old.before + marks.old.numbers + length text.now + 1 < word_limit }
+        requires inside { next_place self (Token.Number 0) ≡ Some OrderPlace.Listed }
         ensures read { (taking : Taking) → taken ≡ takes taking marks.old.classes marks.old.before
-            → IsReadOn m taking self.entry.place self.entry.rest.now marks.old result.place result.rest.now marks.new }
+            → IsReadOn m taking self text.now marks.old result.place result.rest.now marks.new }
         ensures classes { marks.old.classes ≤ marks.new.classes }
         ensures before { marks.old.before ≤ marks.new.before }
     {
-        let Position {
-            mut place,
-            mut rest,
-        } = self;
+        let mut place = self;
+        let mut rest = text;
         while let Some((n, after)) = short_number(rest) {
             let Some((is_last, after)) = past_delimiter(after) else {
                 break;
@@ -214,13 +199,13 @@ impl<'a> Position<'a> {
         }
         Position { place, rest }
     }
-}
 
-/// A ballot line that was read.
-#[derive(Clone, Copy)]
-struct Line {
-    count: u64,
-    marks: Marks,
+    /// Whether an order may end here.
+    fn is_end(self) -> bool
+        ensures { result ≡ is_end self }
+    {
+        matches!(self, OrderPlace::Order | OrderPlace::Between)
+    }
 }
 
 /// How many voters cast a ballot, and the candidates that it approves.
@@ -402,11 +387,9 @@ fn read_classes<'a>(text: &'a [u8], marks: &mut Marks, terms: Terms) -> Position
     let mut place = OrderPlace::Class;
     let mut rest = read_singles(text, &mut read, terms);
     while let Some(inside) = after_byte(rest, b'{') {
-        let start = Position {
-            place: OrderPlace::Opened,
-            rest: inside,
-        };
-        Position { place, rest } = start.read_members(&mut read, terms.m, false);
+        Position { place, rest } = OrderPlace::Opened.read_members(
+            inside, &mut read, terms.m, false,
+        );
         let OrderPlace::Class = place else {
             break;
         };
@@ -438,9 +421,9 @@ fn read_order(text: &[u8], terms: Terms) -> Option<Marks>
 }
 
 /// The count and the marks of a line, if it has the shape of a ballot line.
-fn read_line(line: &[u8], terms: Terms) -> Option<Line>
+fn read_line(line: &[u8], terms: Terms) -> Option<(u64, Marks)>
     ensures { MatchOption result (ballot_of line.now ≡ None)
-        (λ read. HasMarks terms.m terms.taking line.now read.count read.marks) }
+        (λ read. HasMarks terms.m terms.taking line.now read.0 read.1) }
 {
     let Some((Token::Number(count), rest)) = next_token(line) else {
         return None;
@@ -448,8 +431,7 @@ fn read_line(line: &[u8], terms: Terms) -> Option<Line>
     let Some((Token::Colon, order)) = next_token(rest) else {
         return None;
     };
-    let marks = read_order(order, terms)?;
-    Some(Line { count, marks })
+    Some((count, read_order(order, terms)?))
 }
 
 /// Reads the line of a ballot, without its end. A line of another shape has the fault `BadBallot`.
@@ -465,15 +447,13 @@ pub(crate) fn read_ballot(line: &[u8], header: Header, way: Way) -> Result<Ballo
         m: header.m,
         taking: Taking::new(header.kind, way),
     };
-    let Some(read) = read_line(line, terms) else {
+    let Some((count, marks)) = read_line(line, terms) else {
         return Err(FaultName::BadBallot);
     };
-    match read.marks.fault(header, read.count) {
+    let approved = marks.approved;
+    match marks.fault(header, count) {
         Some(fault) => Err(fault),
-        None => Ok(Ballot {
-            count: read.count,
-            approved: read.marks.approved,
-        }),
+        None => Ok(Ballot { count, approved }),
     }
 }
 

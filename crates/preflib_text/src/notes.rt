@@ -49,31 +49,27 @@ pub(crate) struct Vote {
     pub(crate) ballot: Ballot,
 }
 
-/// A number of the metadata, from 1 to `most`, beside the one that was noted before.
-fn number_told(
-    noted: Option<u64>,
+/// Notes a number of the metadata, from 1 to `most`, beside the one that was noted before.
+fn note_number(
+    noted: &mut Option<u64>,
     most: u64,
     too_large: FaultName,
     text: &[u8],
-) -> Result<u64, FaultName>
+) -> Result<(), FaultName>
     requires { most ≤ most_voters }
     ensures { MatchResult result
-        (λ n. (written_number text.now ≡ Some n)
-        × (number_fault (Some too_large) most noted (written_number text.now) ≡ None))
-        (λ name. number_fault (Some too_large) most noted (written_number text.now) ≡ Some name) }
+        (λ _. (number_fault (Some too_large) most noted.old (written_number text.now) ≡ None)
+        × (noted.new ≡ written_number text.now))
+        (λ name. number_fault (Some too_large) most noted.old (written_number text.now) ≡ Some name) }
 {
-    let Some(number) = written_number(text) else {
-        return Err(FaultName::BadNumber);
-    };
-    if number == 0 {
-        return Err(FaultName::BadNumber);
-    }
-    if number > most {
-        return Err(too_large);
-    }
-    match noted {
-        Some(before) if before != number => Err(FaultName::ConflictingKey),
-        _ => Ok(number),
+    match (written_number(text), *noted) {
+        (None | Some(0), _) => Err(FaultName::BadNumber),
+        (Some(n), _) if n > most => Err(too_large),
+        (Some(n), Some(before)) if n != before => Err(FaultName::ConflictingKey),
+        (number, _) => {
+            *noted = number;
+            Ok(())
+        }
     }
 }
 
@@ -111,31 +107,6 @@ impl Notes {
         }
     }
 
-    /// Notes the number of alternatives.
-    fn take_alternatives<'a>(&mut self, text: &[u8]) -> Result<Effect<'a>, FaultName>
-        ensures { MatchResult result
-            (λ effect. (told_error self.old (AlternativesAre text.now) ≡ None)
-            × (self.new ≡ record self.old { alternatives = written_number text.now }) × (effect ≡ Effect.Nothing))
-            (λ name. told_error self.old (AlternativesAre text.now) ≡ Some name) }
-    {
-        let most = u64::from(MOST_CANDIDATES);
-        let number = number_told(self.alternatives, most, FaultName::TooManyCandidates, text)?;
-        self.alternatives = Some(number);
-        Ok(Effect::Nothing)
-    }
-
-    /// Notes the number of categories.
-    fn take_categories<'a>(&mut self, text: &[u8]) -> Result<Effect<'a>, FaultName>
-        ensures { MatchResult result
-            (λ effect. (told_error self.old (CategoriesAre text.now) ≡ None)
-            × (self.new ≡ record self.old { categories = written_number text.now }) × (effect ≡ Effect.Nothing))
-            (λ name. told_error self.old (CategoriesAre text.now) ≡ Some name) }
-    {
-        let number = number_told(self.categories, MOST_CATEGORIES, FaultName::BadNumber, text)?;
-        self.categories = Some(number);
-        Ok(Effect::Nothing)
-    }
-
     /// What a name does. That of a number which no candidate can have does nothing.
     fn name_effect<'a>(&self, number: u64, name: &'a [u8]) -> Effect<'a>
         requires { IsSound self.now }
@@ -165,8 +136,25 @@ impl Notes {
                 self.take_type(pick, text);
                 Ok(Effect::Nothing)
             }
-            Fact::Alternatives(text) => self.take_alternatives(text),
-            Fact::Categories(text) => self.take_categories(text),
+            Fact::Alternatives(text) => {
+                let most = u64::from(MOST_CANDIDATES);
+                note_number(
+                    &mut self.alternatives,
+                    most,
+                    FaultName::TooManyCandidates,
+                    text,
+                )?;
+                Ok(Effect::Nothing)
+            }
+            Fact::Categories(text) => {
+                note_number(
+                    &mut self.categories,
+                    MOST_CATEGORIES,
+                    FaultName::BadNumber,
+                    text,
+                )?;
+                Ok(Effect::Nothing)
+            }
             Fact::Name(number, name) => Ok(self.name_effect(number, name)),
             Fact::Nothing => Ok(Effect::Nothing),
         }

@@ -19,19 +19,6 @@ use crate::pick::Pick;
 use ballot_base::{MOST_CANDIDATES, Profile, ProfileBuilder};
 use std::alloc::Allocator;
 
-/// Adds a ballot.
-fn add_ballot<A: Allocator + Copy + Drop>(
-    builder: &mut ProfileBuilder<A>,
-    ballot: Ballot,
-) -> Result<(), FaultName>
-    requires set { IsIncreasing 1 builder.old.m ballot.approved }
-    requires count { 1 ≤ ballot.count }
-    ensures { DoneOrRefused result builder.old builder.new (Casts None ballot.approved ballot.count) }
-{
-    builder.add(ballot.approved, ballot.count)?;
-    Ok(())
-}
-
 /// Adds a ballot. The first one settles the number of candidates.
 fn add_vote<A: Allocator + Copy + Drop>(
     builder: &mut ProfileBuilder<A>,
@@ -41,25 +28,11 @@ fn add_vote<A: Allocator + Copy + Drop>(
     ensures { DoneOrRefused result builder.old builder.new
         (Casts vote.first vote.ballot.approved vote.ballot.count) }
 {
-    match vote.first {
-        Some(m) => {
-            builder.narrow(m);
-            add_ballot(builder, vote.ballot)
-        }
-        None => add_ballot(builder, vote.ballot),
+    let Vote { first, ballot } = vote;
+    if let Some(m) = first {
+        builder.narrow(m);
     }
-}
-
-/// Gives a candidate a name.
-fn set_name<A: Allocator + Copy + Drop>(
-    builder: &mut ProfileBuilder<A>,
-    number: u8,
-    name: &[u8],
-) -> Result<(), FaultName>
-    requires { MayCome builder.old (Names number name.now) }
-    ensures { DoneOrRefused result builder.old builder.new (Names number name.now) }
-{
-    builder.set_name(number, name)?;
+    builder.add(ballot.approved, ballot.count)?;
     Ok(())
 }
 
@@ -73,7 +46,7 @@ fn apply<A: Allocator + Copy + Drop>(
 {
     match effect {
         Effect::Nothing => Ok(()),
-        Effect::Name(number, name) => set_name(builder, *number, name),
+        Effect::Name(number, name) => Ok(builder.set_name(*number, name)?),
         Effect::Ballot(vote) => add_vote(builder, *vote),
     }
 }

@@ -18,12 +18,12 @@ returns-in_default-clause-err c =
 
 pub returns-in-Some-fault-clause-err : goal.returns-in-Some-fault-clause-err
 returns-in-Some-fault-clause-err c =
-    fault_read c.args.header.kind c.args.header.m c.args.header.categories c.args.way c.args.line.now c.in-Some.read.count c.in-Some.read.marks c.in-Some-fault.fault (given c.args.header.m c.args.header.kind c.args.way c.new.result c.args.line.now _ _ c.new.ensures c.in-Some.ensures) (sym c.in-Some-fault.ensures)
+    fault_read c.args.header.kind c.args.header.m c.args.header.categories c.args.way c.args.line.now c.in-Some.count c.in-Some.marks c.in-Some-fault.fault (given c.args.header.m c.args.header.kind c.args.way c.new.result c.args.line.now _ _ c.new.ensures c.in-Some.ensures) (sym c.in-Some-fault.ensures)
 
 pub returns-in-None-clause-ok : goal.returns-in-None-clause-ok
 returns-in-None-clause-ok c =
-    good_read c.args.header.kind c.args.header.m c.args.header.categories c.args.way c.args.line.now c.in-Some.read.count c.in-Some.read.marks c.requires (given c.args.header.m c.args.header.kind c.args.way c.new.result c.args.line.now _ _ c.new.ensures c.in-Some.ensures) (sym c.in-None.ensures)
+    good_read c.args.header.kind c.args.header.m c.args.header.categories c.args.way c.args.line.now c.in-Some.count c.in-Some.marks c.requires (given c.args.header.m c.args.header.kind c.args.way c.new.result c.args.line.now _ _ c.new.ensures c.in-Some.ensures) (sym c.in-None.ensures)
 
 pub returns-in-None-clause-candidates : goal.returns-in-None-clause-candidates
 returns-in-None-clause-candidates c =
-    set_read c.args.header.kind c.args.header.m c.args.header.categories c.args.way c.args.line.now c.in-Some.read.count c.in-Some.read.marks (given c.args.header.m c.args.header.kind c.args.way c.new.result c.args.line.now _ _ c.new.ensures c.in-Some.ensures)
+    set_read c.args.header.kind c.args.header.m c.args.header.categories c.args.way c.args.line.now c.in-Some.count c.in-Some.marks (given c.args.header.m c.args.header.kind c.args.way c.new.result c.args.line.now _ _ c.new.ensures c.in-Some.ensures)

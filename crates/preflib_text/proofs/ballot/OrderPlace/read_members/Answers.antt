@@ -5,7 +5,7 @@ use Rattle.preflib_text.specs.declared.approvals.Marks.{Marks}
 use Rattle.preflib_text.specs.declared.ballot.OrderPlace.TheVariants.{Inner, Between}
 use Rattle.preflib_text.proofs.ListedNumbers.{comma_after, brace_after}
 use Rattle.preflib_text.proofs.BallotSteps.{read_then, member_read, last_member_read, passed_read, new_number}
-use Rattle.preflib_text.proofs.ballot.Position.read_members.Goals as goal
+use Rattle.preflib_text.proofs.ballot.OrderPlace.read_members.Goals as goal
 
 pub returns-then-is_last-clause-read : goal.returns-then-is_last-clause-read
 returns-then-is_last-clause-read c taking is =
@@ -19,8 +19,8 @@ returns-then-is_last-clause-read c taking is =
     let last = brace_after n loop.rest.now after before.small (before.tokens ∙ ap (tokens_after (Some n)) brace) (omega (arith, before.shorter, ap length brace)) in
     let read = loop.invariant.read taking is in
     let added = new_number m taking loop.marks c.add_new.new.self c.args.taken n (search rules) read.0 c.add_new.ensures in
-    read_then m taking c.args.self.place Between c.after_class.result.place c.args.self.rest.now after c.after_class.result.rest.now c.args.marks.now ended ended
-    (read_then m taking c.args.self.place loop.place Between c.args.self.rest.now loop.rest.now after c.args.marks.now loop.marks ended read.1
+    read_then m taking c.args.self Between c.after_class.result.place c.args.text.now after c.after_class.result.rest.now c.args.marks.now ended ended
+    (read_then m taking c.args.self loop.place Between c.args.text.now loop.rest.now after c.args.marks.now loop.marks ended read.1
     (last_member_read m taking loop.place n loop.rest.now after loop.marks ended c.requires.candidates loop.invariant.inside last (c.end_class.ensures ∙ ap with_end added)))
     (passed_read m taking Between c.after_class.result.place after c.after_class.result.rest.now ended c.after_class.ensures.order c.after_class.ensures.shorter)
 
@@ -40,7 +40,7 @@ loop-n-preserved c =
           let read = loop.invariant.read taking is in
           let added = new_number m taking loop.marks next c.args.taken n (search rules) read.0 new in (
             read.0 ∙ ap (λ (x : Marks). takes taking x.classes x.before) (sym new),
-            read_then m taking c.args.self.place loop.place Inner c.args.self.rest.now loop.rest.now after c.args.marks.now loop.marks next read.1
+            read_then m taking c.args.self loop.place Inner c.args.text.now loop.rest.now after c.args.marks.now loop.marks next read.1
                 (member_read m taking loop.place n loop.rest.now after loop.marks next c.requires.candidates loop.invariant.inside listed added),
           );
       classes-more = omega (arith, loop.invariant.classes-more, ap (λ (x : Marks). x.classes) new);
