@@ -1,6 +1,7 @@
 -- What a metadata line does to the notes.
 use Rattle.std.proofs.Common.{◌≡◌, ℕ, ◌≤◌, ◌&&◌, Bool, true, false, cond, List, [], ◌∷◌, map, ◌==◌, refl, sym, ap, subst, ◌∙◌, arith, length, Option, Some, None, IfSome, unwrap_or, MatchOption, MatchResult, Result, Ok, Err, not}
 use Rattle.std.specs.Prelude.{nat_lt, nat_le}
+use Rattle.std.specs.Bool.{then_some}
 use Rattle.ballot_base.specs.Limits.{most_candidates}
 use Rattle.preflib_text.specs.Limits.{most_line_bytes}
 use Rattle.preflib_text.specs.declared.pick.Kind.{Kind}
@@ -109,14 +110,18 @@ ballot-refused pick notes m kind line fault alternatives known fits is =
     ballot_error-fits pick notes m kind (ballot_of line) alternatives known fits
     ∙ cast_error-fault kind m notes.categories (ballot_of line) fault (fault_cast kind m notes.categories line fault is)
 
-pub ballot-taken : (pick : Pick) (notes : Notes) (m : ℕ) (kind : Kind) (line : List ℕ) (count : ℕ) (set : List ℕ) → notes.alternatives ≡ Some m → notes.kind ≡ Ok kind → is_fitting kind notes.categories pick.way ≡ true
+first_if : (t : Bool) (m : ℕ) → then_some (not t) m ≡ cond t None (Some m)
+first_if true m = refl
+first_if false m = refl
+
+pub ballot-taken : (pick : Pick) (notes : Notes) (m : ℕ) (kind : Kind) (line : List ℕ) (count : ℕ) (set : List ℕ) (first : Option ℕ) → first ≡ then_some (not notes.has_ballot) m → notes.alternatives ≡ Some m → notes.kind ≡ Ok kind → is_fitting kind notes.categories pick.way ≡ true
     → IsGoodBallot line kind m notes.categories pick.way count set
-    → (ballot_error pick notes (ballot_of line) ≡ None) × (Casts (cond notes.has_ballot None (Some m)) set count ≡ cast_effect pick notes (ballot_of line))
-ballot-taken pick notes m kind line count set alternatives known fits good =
+    → (ballot_error pick notes (ballot_of line) ≡ None) × (Casts first set count ≡ cast_effect pick notes (ballot_of line))
+ballot-taken pick notes m kind line count set first is alternatives known fits good =
     let (classes, read, fine, taken) = good_cast kind m notes.categories pick.way line count set good in
     let set_is : set ≡ approved (kind_or_usual notes.kind) pick.way classes = taken ∙ ap (λ k. approved (kind_or_usual k) pick.way classes) (sym known) in (
       ballot_error-fits pick notes m kind (ballot_of line) alternatives known fits ∙ ap (cast_error kind m notes.categories) read ∙ fine,
-      ap (λ s. Casts (cond notes.has_ballot None (Some m)) s count) set_is ∙ ap (λ a. Casts (cond notes.has_ballot None a) (approved (kind_or_usual notes.kind) pick.way classes) count) (sym alternatives)
+      ap (λ f. Casts f set count) (is ∙ first_if notes.has_ballot m) ∙ ap (λ s. Casts (cond notes.has_ballot None (Some m)) s count) set_is ∙ ap (λ a. Casts (cond notes.has_ballot None a) (approved (kind_or_usual notes.kind) pick.way classes) count) (sym alternatives)
           ∙ ap (cast_effect pick notes) (sym read),
     )
 

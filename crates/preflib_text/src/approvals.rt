@@ -2,7 +2,6 @@
 ghost use Rattle.std.specs.Prelude.{◌≡◌, ◌+◌, ◌^◌, ◌<◌, ◌≤◌};
 ghost use Rattle.ballot_base.specs.Limits.{most_candidates};
 ghost use Rattle.preflib_text.specs.Limits.{word_limit};
-ghost use Rattle.preflib_text.specs.Reading.{is_strict, is_complete};
 ghost use Rattle.preflib_text.specs.Steps.Marks.{no_marks, taking_of, takes, is_past, wrong_with, with_new};
 ghost use Rattle.preflib_text.specs.Steps.Marks.{with_number, with_end, fault_of};
 
@@ -177,10 +176,10 @@ impl Marks {
         if self.wrong.is_some() {
             return self.wrong;
         }
-        if is_strict(header.kind) && !self.strict {
+        if matches!(header.kind, Kind::Soc | Kind::Soi) && !self.strict {
             return Some(FaultName::NotStrict);
         }
-        if is_complete(header.kind) && self.seen.len() < header.m {
+        if matches!(header.kind, Kind::Soc | Kind::Toc) && self.seen.len() < header.m {
             return Some(FaultName::Incomplete);
         }
         match (header.kind, header.categories) {
@@ -188,18 +187,4 @@ impl Marks {
             _ => None,
         }
     }
-}
-
-/// Whether rankings of this type have one number in each class.
-fn is_strict(kind: Kind) -> bool
-    ensures { result ≡ is_strict kind }
-{
-    matches!(kind, Kind::Soc | Kind::Soi)
-}
-
-/// Whether all candidates stand in rankings of this type.
-fn is_complete(kind: Kind) -> bool
-    ensures { result ≡ is_complete kind }
-{
-    matches!(kind, Kind::Soc | Kind::Toc)
 }

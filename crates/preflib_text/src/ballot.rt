@@ -80,16 +80,13 @@ impl OrderPlace {
                 }
                 _ => None,
             },
-            Token::Comma => match self {
-                OrderPlace::Between => Some(OrderPlace::Class),
-                OrderPlace::Listed => Some(OrderPlace::Inner),
-                _ => None,
-            },
+            Token::Comma => self.after_comma(),
             Token::Colon | Token::Other => None,
         }
     }
 
     /// The place after a number, if it may come here.
+    #[inline(always)]
     fn after_number(self, n: u64, marks: &mut Marks, terms: Terms) -> Option<OrderPlace>
         requires classes { marks.old.classes + 1 < word_limit }
         requires numbers { marks.old.before + marks.old.numbers + 1 < word_limit }
@@ -119,17 +116,17 @@ impl OrderPlace {
             (next_place self (Token.Number n)) }
         ensures marks { marks.new ≡ with_read terms.m terms.taking self (Token.Number n) marks.old }
     {
+        self.after_number(n, marks, terms)?.after_comma()
+    }
+
+    /// The place after a comma, if it may come here.
+    fn after_comma(self) -> Option<OrderPlace>
+        ensures { result ≡ next_place self Token.Comma }
+    {
         match self {
-            OrderPlace::Order | OrderPlace::Class => {
-                marks.add_number(terms, n);
-                marks.end_class();
-                Some(OrderPlace::Class)
-            }
-            OrderPlace::Opened | OrderPlace::Inner => {
-                marks.add_number(terms, n);
-                Some(OrderPlace::Inner)
-            }
-            OrderPlace::Between | OrderPlace::Listed => None,
+            OrderPlace::Between => Some(OrderPlace::Class),
+            OrderPlace::Listed => Some(OrderPlace::Inner),
+            _ => None,
         }
     }
 

@@ -184,20 +184,13 @@ impl Notes {
             categories: self.categories,
         };
         match read_ballot(line, header, pick.way) {
-            Ok(ballot) => Ok(self.take_vote(header.m, ballot)),
+            Ok(ballot) => {
+                let first = (!self.has_ballot).then_some(header.m);
+                self.has_ballot = true;
+                Ok(Effect::Ballot(Vote { first, ballot }))
+            }
             Err(name) => Err(name),
         }
-    }
-
-    /// Notes that a ballot came.
-    fn take_vote<'a>(&mut self, m: u8, ballot: Ballot) -> Effect<'a>
-        ensures notes { self.new ≡ record self.old { has_ballot = true } }
-        ensures effect { effect_of result
-            ≡ Casts (if self.old.has_ballot then None else Some m) ballot.approved ballot.count }
-    {
-        let first = (!self.has_ballot).then_some(m);
-        self.has_ballot = true;
-        Effect::Ballot(Vote { first, ballot })
     }
 
     /// Reads a line, and returns what it does to the profile.

@@ -18,7 +18,7 @@ use crate::limits::MOST_LINE_BYTES;
 use crate::lines::{without_mark, without_return};
 use crate::notes::Notes;
 use crate::pick::Pick;
-use crate::reader::{fault_of_line, finish, take_line};
+use crate::reader::{at_end, fault_of_line, finish, take_line};
 use crate::trace::Trace;
 use ballot_base::{BallotHashing, MOST_CANDIDATES, Profile, ProfileBuilder};
 use bstr::ByteSlice;
@@ -274,10 +274,7 @@ impl<A: Allocator + Copy + Drop> LineReader<A> {
         ensures ok { IfOk result (λ reader. reader ≡ feeding pick [] None) }
         ensures err { IfErr result (λ fault. fault ≡ at_end FaultName.Memory) }
     {
-        let memory = ReadFault {
-            name: FaultName::Memory,
-            line: None,
-        };
+        let memory = at_end(FaultName::Memory);
         let Ok(builder) = ProfileBuilder::with_hashing(alloc, MOST_CANDIDATES, hashing) else {
             return Err(memory);
         };

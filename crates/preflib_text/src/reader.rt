@@ -51,6 +51,13 @@ fn apply<A: Allocator + Copy + Drop>(
     }
 }
 
+/// The fault of the end.
+pub(crate) fn at_end(name: FaultName) -> ReadFault
+    ensures { result ≡ at_end name }
+{
+    ReadFault { name, line: None }
+}
+
 /// The profile of the lines, or the fault of the end.
 pub(crate) fn finish<A: Allocator + Copy + Drop>(
     builder: ProfileBuilder<A>,
@@ -61,15 +68,11 @@ pub(crate) fn finish<A: Allocator + Copy + Drop>(
         (λ fault. (end_error notes.now builder ≡ Some fault.name) × (fault.line ≡ None)) }
 {
     if notes.alternatives.is_none() {
-        return Err(ReadFault {
-            name: FaultName::NoAlternatives,
-            line: None,
-        });
+        return Err(at_end(FaultName::NoAlternatives));
     }
-    builder.finish().map_err(|_refused| ReadFault {
-        name: FaultName::NoVoters,
-        line: None,
-    })
+    builder
+        .finish()
+        .map_err(|_refused| at_end(FaultName::NoVoters))
 }
 
 /// Reads a line, and does to the profile what it does.
@@ -119,10 +122,7 @@ fn fault_without_memory(pick: &Pick, text: &[u8]) -> ReadFault
         → result ≡ at_line 1 (unwrap_or (line_error pick.now (fresh_notes pick.now) line) FaultName.Memory) }
 {
     if text.is_empty() {
-        return ReadFault {
-            name: FaultName::NoAlternatives,
-            line: None,
-        };
+        return at_end(FaultName::NoAlternatives);
     }
     let name = match Notes::new(pick).take_line(pick, first_line(text).line) {
         Ok(_) => FaultName::Memory,
