@@ -1,8 +1,10 @@
 -- The notes and the profile after some lines, and after one more.
+use Rattle.preflib_text.proofs.BallotFaults.{or_else-parts, or_else-assoc, or_else-none}
+use Rattle.std.proofs.Math.Bool.{or-false}
 use Rattle.std.proofs.Common.{◌==◌, ◌<◌, ◌≡◌, ◌≢◌, ℕ, zero, suc, ◌+◌, ◌-◌, ◌≤◌, ◌&&◌, ◌||◌, Bool, true, false, not, cond, List, [], ◌∷◌, ◌++◌, refl, sym, ap, subst, ◌∙◌, arith, length, map, take, sum_by, Option, Some, None, option_map, unwrap_or, is_some, Result, Ok, Err, replicate}
 use Rattle.std.specs.Prelude.{nat_lt, slice_set}
 use Rattle.std.proofs.lemmas.List.{append_assoc, append-nil, take-take}
-use Rattle.std.proofs.lemmas.Bool.{lt-ltb}
+use Rattle.std.proofs.lemmas.Bool.{lt-ltb, or_left, or_right, not-true}
 use Rattle.std.proofs.lemmas.List.FromFn.{take-map-range_with_len}
 use Rattle.ballot_base.specs.Ballots.{Election, Row, election, has_ballot, with_votes, voter_count}
 use Rattle.ballot_base.specs.Limits.{most_candidates, most_voters}
@@ -38,14 +40,6 @@ is_after-none pick = record {
     by None ending = refl
 
 -- ---- the faults of a line
-
-or_else-none : {X : Type 0} (o : Option X) → or_else o None ≡ o
-or_else-none None = refl
-or_else-none (Some x) = refl
-
-pub or_else-assoc : {X : Type 0} (a b c : Option X) → or_else (or_else a b) c ≡ or_else a (or_else b c)
-or_else-assoc None b c = refl
-or_else-assoc (Some x) b c = refl
 
 cast_error-is : (pick : Pick) (before : List (List ℕ)) (kind : Kind) (m : ℕ) (notes : Notes) (e : Election) (cast : Option Cast) → IsAfter pick before notes e
     → or_else (cast_error kind m notes.categories cast) (effect_error e (cast_effect pick notes cast)) ≡ cast_fault pick ballot_of before kind m cast
@@ -107,11 +101,7 @@ line_error-is pick before line notes e is =
 
 -- whether a ballot is among them then
 has_ballot_line-more : (before : List (List ℕ)) (line : List ℕ) → has_ballot_line (before ++ line ∷ []) ≡ (has_ballot_line before || is_ballot_line line)
-has_ballot_line-more [] line = or_false (is_ballot_line line)
-  where
-    or_false : (t : Bool) → (t || false) ≡ t
-    or_false true = refl
-    or_false false = refl
+has_ballot_line-more [] line = or-false (is_ballot_line line)
 has_ballot_line-more (first ∷ before) line = ap (λ t. is_ballot_line first || t) (has_ballot_line-more before line) ∙ by (is_ballot_line first)
   where
     by : (t : Bool) → (t || (has_ballot_line before || is_ballot_line line)) ≡ ((t || has_ballot_line before) || is_ballot_line line)
@@ -288,14 +278,6 @@ after-ballot pick before line notes e is some ballot (m, kind, cast, alternative
           ∙ sym (votes_in-ballot pick ballot_of before line cast ballot read);
     }
 
-pub or_else-first : {X : Type 0} (a b : Option X) → or_else a b ≡ None → a ≡ None
-or_else-first None b h = refl
-or_else-first (Some x) b h = absurd (cc)
-
-pub or_else-second : {X : Type 0} (a b : Option X) → or_else a b ≡ None → b ≡ None
-or_else-second None b h = h
-or_else-second (Some x) b h = absurd (cc)
-
 -- the rows are those of the lines
 rows_are : (pick : Pick) (before : List (List ℕ)) (notes : Notes) (e : Election) → IsAfter pick before notes e → e.rows ≡ rows_in pick ballot_of before
 rows_are pick before notes e is = by notes.has_ballot refl
@@ -311,7 +293,7 @@ rows_are pick before notes e is = by notes.has_ballot refl
 -- a line without a fault
 pub after-line : (pick : Pick) (before : List (List ℕ)) (line : List ℕ) (notes : Notes) (e : Election) → IsAfter pick before notes e → line_error pick notes line ≡ None
     → IsAfter pick (before ++ line ∷ []) (line_notes pick notes line) (with_effect e (line_effect pick notes line))
-after-line pick before line notes e is fine = by (is_ballot_line line) notes.has_ballot refl refl (or_else-second (fault_if (nat_lt most_line_bytes (length line)) LongLine) _ fine)
+after-line pick before line notes e is fine = by (is_ballot_line line) notes.has_ballot refl refl (or_else-parts (fault_if (nat_lt most_line_bytes (length line)) LongLine) _ fine).1
   where
     by : (b s : Bool) → is_ballot_line line ≡ b → notes.has_ballot ≡ s → cond b (ballot_error pick notes (ballot_of line)) (cond s None (told_error notes (told_of line))) ≡ None
         → IsAfter pick (before ++ line ∷ []) (cond b (record notes { has_ballot = true }) (cond s notes (told_notes pick notes (told_of line)))) (with_effect e (cond b (cast_effect pick notes (ballot_of line)) (cond s NoEffect (told_effect notes (told_of line)))))
@@ -322,14 +304,6 @@ after-line pick before line notes e is fine = by (is_ballot_line line) notes.has
 
 -- ---- a line that takes memory
 
-or_second : (a b : Bool) → b ≡ true → (a || b) ≡ true
-or_second true b h = refl
-or_second false b h = h
-
-or_first : (a b : Bool) → a ≡ true → (a || b) ≡ true
-or_first true b h = refl
-or_first false b h = absurd (cc)
-
 -- a name of a candidate, which has bytes
 takes_name : (before : List (List ℕ)) (notes : Notes) (e : Election) (told : Fact) → notes.alternatives ≡ alternatives_in before → effect_takes e (told_effect notes told) ≡ true → is_name before told ≡ true
 takes_name before notes e (NameIs n value) is h = ap (λ o. may_be_candidate o n && not (is_empty value)) (sym is) ∙ by (may_be_candidate notes.alternatives n) h
@@ -339,14 +313,10 @@ takes_name before notes e (NameIs n value) is h = ap (λ o. may_be_candidate o n
     by false g = absurd (cc)
 takes_name before notes e told is h = absurd (cc)
 
-not_true : (t : Bool) → not t ≡ true → t ≡ false
-not_true true h = absurd (cc)
-not_true false h = refl
-
 -- a ballot that makes a new row
 takes_row : (e : Election) (has : Bool) (alternatives : Option ℕ) (m : ℕ) (set : List ℕ) (count : ℕ) → alternatives ≡ Some m → (has ≡ false → e.rows ≡ [])
     → effect_takes e (Casts (cond has None alternatives) set count) ≡ true → length e.rows < length (with_effect e (Casts (cond has None alternatives) set count)).rows
-takes_row e true alternatives m set count is empty h = length-with_votes e.rows set count (not_true (has_ballot e.rows set) h)
+takes_row e true alternatives m set count is empty h = length-with_votes e.rows set count (not-true (has_ballot e.rows set) h)
 takes_row e false None m set count is empty h = absurd (cc)
 takes_row e false (Some k) m set count is empty h = omega (arith, ap length (empty refl))
 
@@ -354,7 +324,7 @@ takes_row e false (Some k) m set count is empty h = omega (arith, ap length (emp
 pub is_growth-is : (pick : Pick) (before : List (List ℕ)) (line : List ℕ) (notes : Notes) (e : Election) → IsAfter pick before notes e → line_error pick notes line ≡ None
     → effect_takes e (line_effect pick notes line) ≡ true → is_growth pick ballot_of before line ≡ true
 is_growth-is pick before line notes e is fine takes =
-    by (is_ballot_line line) notes.has_ballot refl refl (or_else-second (fault_if (nat_lt most_line_bytes (length line)) LongLine) _ fine) takes
+    by (is_ballot_line line) notes.has_ballot refl refl (or_else-parts (fault_if (nat_lt most_line_bytes (length line)) LongLine) _ fine).1 takes
   where
     name : Bool
     name = not (has_ballot_line before) && is_name before (told_of line)
@@ -380,13 +350,13 @@ is_growth-is pick before line notes e is fine takes =
 
     by : (b s : Bool) → is_ballot_line line ≡ b → notes.has_ballot ≡ s → cond b (ballot_error pick notes (ballot_of line)) (cond s None (told_error notes (told_of line))) ≡ None
         → effect_takes e (cond b (cast_effect pick notes (ballot_of line)) (cond s NoEffect (told_effect notes (told_of line)))) ≡ true → (name || row) ≡ true
-    by true s f g h t = or_second name row (of_ballot f (is_cast pick before line notes h) t)
+    by true s f g h t = or_right name row (of_ballot f (is_cast pick before line notes h) t)
     by false true f g h t = absurd (cc)
-    by false false f g h t = or_first name row (ap (λ b. not b && is_name before (told_of line)) (sym is.ballots ∙ g) ∙ takes_name before notes e (told_of line) is.told.alternatives t)
+    by false false f g h t = or_left name row (ap (λ b. not b && is_name before (told_of line)) (sym is.ballots ∙ g) ∙ takes_name before notes e (told_of line) is.told.alternatives t)
 
 pub takes_memory-is : (pick : Pick) (before : List (List ℕ)) (line : List ℕ) (notes : Notes) (e : Election) → IsAfter pick before notes e → line_error pick notes line ≡ None
     → effect_takes e (line_effect pick notes line) ≡ true → takes_memory pick ballot_of before line ≡ true
-takes_memory-is pick before line notes e is fine takes = or_second (length before == 0) _ (is_growth-is pick before line notes e is fine takes)
+takes_memory-is pick before line notes e is fine takes = or_right (length before == 0) _ (is_growth-is pick before line notes e is fine takes)
 
 -- ---- the end
 
@@ -418,7 +388,7 @@ election_in-is pick lines notes e is fine = by notes.has_ballot refl
         ∙ ap (λ n. election n (last_names (told_before lines) n) (rows_in pick ballot_of lines)) (ap (λ o. unwrap_or o 0) (sym number ∙ is.told.alternatives))
     by false h =
         let empty : e.rows ≡ [] = (is.opened h).1 in
-        absurd (no_voters e.rows empty (or_else-second (fault_if (not (is_some notes.alternatives)) NoAlternatives) (fault_if (is_empty e.rows) NoVoters) fine))
+        absurd (no_voters e.rows empty (or_else-parts (fault_if (not (is_some notes.alternatives)) NoAlternatives) (fault_if (is_empty e.rows) NoVoters) fine).1)
       where
         no_voters : (rows : List Row) → rows ≡ [] → fault_if (is_empty rows) NoVoters ≡ None → ⊥
         no_voters [] g i = absurd (cc)

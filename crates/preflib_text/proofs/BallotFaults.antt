@@ -1,4 +1,5 @@
 -- What the marks of the classes of a ballot say.
+use Rattle.std.proofs.Math.Bool.{or-false}
 use Rattle.std.proofs.Common.{◌≡◌, ℕ, ◌+◌, ◌≤◌, Bool, true, false, cond, not, eqb, ◌==◌, ◌||◌, ◌&&◌, List, [], ◌∷◌, ◌++◌, length, Option, Some, None, refl, sym, ap, ◌∙◌, arith, inl, inr}
 use Rattle.std.specs.Prelude.{fold, flat_map, unwrap_or, nat_lt}
 use Rattle.std.specs.List.{list_any, range_with_len}
@@ -22,15 +23,15 @@ use Rattle.preflib_text.proofs.BallotSteps.{with_number-wrong}
 
 -- ---- faults in order
 
-or_else-none : (first : Option FaultName) → or_else first None ≡ first
+pub or_else-none : {X : Type 0} (o : Option X) → or_else o None ≡ o
 or_else-none None = refl
-or_else-none (Some name) = refl
+or_else-none (Some x) = refl
 
-or_else-assoc : (a b c : Option FaultName) → or_else (or_else a b) c ≡ or_else a (or_else b c)
+pub or_else-assoc : {X : Type 0} (a b c : Option X) → or_else (or_else a b) c ≡ or_else a (or_else b c)
 or_else-assoc None b c = refl
-or_else-assoc (Some name) b c = refl
+or_else-assoc (Some x) b c = refl
 
-pub or_else-parts : (a b : Option FaultName) → or_else a b ≡ None → (a ≡ None) × (b ≡ None)
+pub or_else-parts : {X : Type 0} (a b : Option X) → or_else a b ≡ None → (a ≡ None) × (b ≡ None)
 or_else-parts None b e = (refl, e)
 or_else-parts (Some name) b e = absurd cc
 
@@ -218,12 +219,8 @@ module _ (m : ℕ) (way : Taking) where
   strict_more true one rest = refl
   strict_more false one rest = refl
 
-  strict_none : (s : Bool) → not s ≡ (not s || false)
-  strict_none true = refl
-  strict_none false = refl
-
   strict_classes : (marks : Marks) (classes : List (List ℕ)) → marks.numbers ≡ 0 → not (with_classes m way marks classes).strict ≡ (not marks.strict || list_any not_one classes)
-  strict_classes marks [] none = strict_none marks.strict
+  strict_classes marks [] none = sym (or-false (not marks.strict))
   strict_classes marks (class ∷ classes) none =
       let k = kept marks class in
       let size : (fold (with_number m way) marks class).numbers ≡ length class = omega (arith, k.numbers) in

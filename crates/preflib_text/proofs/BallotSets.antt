@@ -1,4 +1,5 @@
 -- Sets of the numbers of a ballot.
+use Rattle.std.proofs.Math.Bool.{or-false}
 use Rattle.std.proofs.Common.{◌≡◌, ℕ, zero, suc, ◌+◌, ◌<◌, ◌≤◌, Bool, true, false, not, ltb, eqb, ◌||◌, List, [], ◌∷◌, length, refl, sym, ap, ◌∙◌, arith, inl, inr}
 use Rattle.std.specs.Prelude.{fold}
 use Rattle.std.specs.List.{list_any, range_with_len}
@@ -9,11 +10,7 @@ use Rattle.ballot_base.proofs.Increasing.{has_member-with_member, has_member-bel
 
 -- the members of a set with more numbers
 pub has_member-fold : (ns set : List ℕ) (x : ℕ) → has_member (fold with_member set ns) x ≡ (has_member set x || has_member ns x)
-has_member-fold [] set x = or_none (has_member set x)
-  where
-    or_none : (b : Bool) → b ≡ (b || false)
-    or_none true = refl
-    or_none false = refl
+has_member-fold [] set x = sym (or-false (has_member set x))
 has_member-fold (n ∷ ns) set x =
     has_member-fold ns (with_member set n) x ∙ ap (λ (b : Bool). b || has_member ns x) (has_member-with_member set n x) ∙ turned (eqb n x) (has_member set x) (has_member ns x)
   where

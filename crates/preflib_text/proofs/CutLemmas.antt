@@ -2,7 +2,7 @@
 use Rattle.std.proofs.Common.{◌≡◌, ◌≢◌, ℕ, zero, suc, ◌+◌, ◌-◌, ◌<◌, ◌≤◌, ◌==◌, ◌&&◌, Bool, true, false, not, cond, List, [], ◌∷◌, ◌++◌, refl, sym, ap, subst, ◌∙◌, arith, length, take, drop, get_or, reverse}
 use Rattle.std.specs.Prelude.{nat_eq}
 use Rattle.std.specs.List.{list_all, starts_with}
-use Rattle.std.proofs.lemmas.Bool.{eq-eqb, ne_eqb}
+use Rattle.std.proofs.lemmas.Bool.{eq-eqb, ne_eqb, eqb-true}
 use Rattle.std.proofs.lemmas.List.{reverse-append, reverse-reverse, take_rest}
 use Rattle.preflib_text.specs.Lines.{onto_first, pieces_of, without_return, is_blank, trim_start, is_metadata_line, is_ballot_line}
 
@@ -33,15 +33,12 @@ pieces_of-whole (b ∷ c ∷ bytes) some none =
     pieces_of-byte b (c ∷ bytes) (none 0 (omega arith))
     ∙ ap (onto_first b) (pieces_of-whole (c ∷ bytes) (omega arith) (λ i h. none (suc i) (omega arith)))
 
-pub equal_byte : (n : ℕ) → (n == 10) ≡ true → n ≡ 10
-equal_byte n h = grind arith
-
 -- the same, as a search for LF says it
 pub cut_at : (bytes : List ℕ) (at : ℕ) → at < length bytes → (get_or bytes at 0 == 10) ≡ true → ((k : ℕ) → 0 ≤ k → k < at → (get_or bytes k 0 == 10) ≡ true → ⊥)
     → pieces_of bytes ≡ take at bytes ∷ pieces_of (take (length bytes - (at + 1)) (drop (at + 1) bytes))
 cut_at bytes at within is before =
     let step : suc at ≡ at + 1 = omega arith in
-    pieces_of-cut bytes at within (equal_byte (get_or bytes at 0) is) (λ i h e. before i (omega arith) h (eq-eqb (get_or bytes i 0) 10 e))
+    pieces_of-cut bytes at within (eqb-true (get_or bytes at 0) 10 is) (λ i h e. before i (omega arith) h (eq-eqb (get_or bytes i 0) 10 e))
     ∙ ap (λ k. take at bytes ∷ pieces_of (drop k bytes)) step ∙ ap (λ l. take at bytes ∷ pieces_of l) (sym (take_rest bytes (at + 1)))
 
 pub cut_nowhere : (bytes : List ℕ) → 0 < length bytes → ((k : ℕ) → 0 ≤ k → k < length bytes → (get_or bytes k 0 == 10) ≡ true → ⊥) → pieces_of bytes ≡ bytes ∷ pieces_of []

@@ -1,15 +1,16 @@
 -- The lines that have ended, and what has come of the next.
+use Rattle.std.proofs.Math.Bool.{and-false}
 use Rattle.std.proofs.Common.{◌≡◌, ◌≢◌, ◌⊎◌, inl, inr, ℕ, zero, suc, ◌-◌, ◌<◌, ◌≤◌, ◌==◌, ◌&&◌, Bool, true, false, not, cond, List, [], ◌∷◌, ◌++◌, refl, sym, ap, ◌∙◌, arith, length, map, take, drop, get_or, reverse}
 use Rattle.std.specs.Prelude.{nat_eq}
 use Rattle.std.specs.List.{list_all, starts_with, take_while}
-use Rattle.std.proofs.lemmas.Bool.{ne_eqb}
-use Rattle.std.proofs.lemmas.List.{append_assoc, reverse-append, reverse-reverse, length-append, length-map, map-append, take-append-le, take_all}
+use Rattle.std.proofs.lemmas.Bool.{ne_eqb, and_parts, and_right, eqb-true}
+use Rattle.std.proofs.lemmas.List.{append_assoc, reverse-append, reverse-reverse, length-append, length-map, map-append, take-append-le, take_all, length-drop}
 use Rattle.std.proofs.lemmas.List.Folds.{list_all-append}
 use Rattle.std.proofs.lemmas.List.Sums.{take_while-cons}
 use Rattle.preflib_text.specs.Lines.{onto_first, pieces_of, without_mark, without_return, lines_of}
 use Rattle.preflib_text.specs.Pieces.{unfinished, ended, ended_lines, unfinished_line}
 use Rattle.preflib_text.specs.Steps.Pieces.{unmarked, line_with}
-use Rattle.preflib_text.proofs.CutLemmas.{pieces_of-line, pieces_of-byte, equal_byte}
+use Rattle.preflib_text.proofs.CutLemmas.{pieces_of-line, pieces_of-byte}
 
 -- ---- bytes without LF
 
@@ -19,14 +20,6 @@ is_content b = not (b == 10)
 -- no byte is LF
 abbrev pub NoEnd : List ℕ → Type 0
 NoEnd bytes = list_all is_content bytes ≡ true
-
-and_first : (a b : Bool) → (a && b) ≡ true → a ≡ true
-and_first true b h = refl
-and_first false b h = h
-
-and_second : (a b : Bool) → (a && b) ≡ true → b ≡ true
-and_second true b h = h
-and_second false b h = absurd (cc)
 
 not_LF : (b : ℕ) → is_content b ≡ true → b ≢ 10
 not_LF b h = λ e. absurd (grind (arith, h, e))
@@ -43,7 +36,7 @@ no_end_search (b ∷ bytes) (suc at) none = by (no_end_search bytes at (λ k low
 pub no_end_drop : (n : ℕ) (bytes : List ℕ) → NoEnd bytes → NoEnd (drop n bytes)
 no_end_drop zero bytes none = none
 no_end_drop (suc n) [] none = none
-no_end_drop (suc n) (b ∷ bytes) none = no_end_drop n bytes (and_second (is_content b) _ none)
+no_end_drop (suc n) (b ∷ bytes) none = no_end_drop n bytes (and_parts (is_content b) _ none).1
 
 pub no_end_append : (xs ys : List ℕ) → NoEnd xs → NoEnd ys → NoEnd (xs ++ ys)
 no_end_append xs ys a b = list_all-append is_content xs ys ∙ ap (λ t. t && list_all is_content ys) a ∙ b
@@ -52,7 +45,7 @@ no_end_reverse : (xs : List ℕ) → NoEnd xs → NoEnd (reverse xs)
 no_end_reverse [] none = refl
 no_end_reverse (x ∷ xs) none =
     ap (list_all is_content) (reverse-append (x ∷ []) xs)
-    ∙ no_end_append (reverse xs) (x ∷ []) (no_end_reverse xs (and_second (is_content x) _ none)) (ap (λ t. t && true) (and_first (is_content x) _ none))
+    ∙ no_end_append (reverse xs) (x ∷ []) (no_end_reverse xs (and_parts (is_content x) _ none).1) (ap (λ t. t && true) (and_parts (is_content x) _ none).0)
 
 -- up to the last LF, and after it
 abbrev IsSplitLast : List ℕ → Type 0
@@ -64,7 +57,7 @@ split_last (b ∷ bytes) = by (split_last bytes) (b == 10) refl
   where
     by : IsSplitLast bytes → (t : Bool) → (b == 10) ≡ t → IsSplitLast (b ∷ bytes)
     by (inr (front, part, is, none)) t e = inr (b ∷ front, part, ap (λ l. b ∷ l) is, none)
-    by (inl none) true e = inr ([], bytes, ap (λ c. c ∷ bytes) (equal_byte b e), none)
+    by (inl none) true e = inr ([], bytes, ap (λ c. c ∷ bytes) (eqb-true b 10 e), none)
     by (inl none) false e = inl (ap (λ t. not t && list_all is_content bytes) e ∙ none)
 
 -- up to the first LF, and after it
@@ -76,7 +69,7 @@ split_first [] = inl refl
 split_first (b ∷ bytes) = by (split_first bytes) (b == 10) refl
   where
     by : IsSplitFirst bytes → (t : Bool) → (b == 10) ≡ t → IsSplitFirst (b ∷ bytes)
-    by s true e = inr ([], bytes, ap (λ c. c ∷ bytes) (equal_byte b e), refl)
+    by s true e = inr ([], bytes, ap (λ c. c ∷ bytes) (eqb-true b 10 e), refl)
     by (inr (part, after, is, none)) false e = inr (b ∷ part, after, ap (λ l. b ∷ l) is, ap (λ t. not t && list_all is_content part) e ∙ none)
     by (inl none) false e = inl (ap (λ t. not t && list_all is_content bytes) e ∙ none)
 
@@ -86,8 +79,8 @@ take_while-all : (xs ys : List ℕ) → NoEnd xs → take_while is_content (xs +
 take_while-all [] ys none = refl
 take_while-all (x ∷ xs) ys none =
     take_while-cons is_content x (xs ++ ys)
-    ∙ ap (λ t. cond t (x ∷ take_while is_content (xs ++ ys)) []) (and_first (is_content x) _ none)
-    ∙ ap (λ l. x ∷ l) (take_while-all xs ys (and_second (is_content x) _ none))
+    ∙ ap (λ t. cond t (x ∷ take_while is_content (xs ++ ys)) []) (and_parts (is_content x) _ none).0
+    ∙ ap (λ l. x ∷ l) (take_while-all xs ys (and_parts (is_content x) _ none).1)
 
 pub unfinished_more : (bytes part : List ℕ) → NoEnd part → unfinished (bytes ++ part) ≡ unfinished bytes ++ part
 unfinished_more bytes part none =
@@ -157,16 +150,12 @@ mark = 239 ∷ 187 ∷ 191 ∷ []
 not_marked : (bytes : List ℕ) → starts_with nat_eq bytes mark ≡ false → without_mark bytes ≡ bytes
 not_marked bytes h = ap (λ t. cond t (drop 3 bytes) bytes) h
 
-and_false : (t : Bool) → (t && false) ≡ false
-and_false true = refl
-and_false false = refl
-
 and_and_false : (s t : Bool) → (s && (t && false)) ≡ false
-and_and_false s t = ap (λ r. s && r) (and_false t) ∙ and_false s
+and_and_false s t = and_right s (t && false) (and-false t)
 
 pub mark_line : (front after : List ℕ) → without_mark (front ++ 10 ∷ after) ≡ without_mark front ++ 10 ∷ after
 mark_line [] after = refl
-mark_line (a ∷ []) after = not_marked (a ∷ 10 ∷ after) (and_false _) ∙ ap (λ l. l ++ 10 ∷ after) (sym (not_marked (a ∷ []) (and_false _)))
+mark_line (a ∷ []) after = not_marked (a ∷ 10 ∷ after) (and-false _) ∙ ap (λ l. l ++ 10 ∷ after) (sym (not_marked (a ∷ []) (and-false _)))
 mark_line (a ∷ b ∷ []) after = not_marked (a ∷ b ∷ 10 ∷ after) (and_and_false _ _) ∙ ap (λ l. l ++ 10 ∷ after) (sym (not_marked (a ∷ b ∷ []) (and_and_false _ _)))
 mark_line (a ∷ b ∷ c ∷ front) after = by (starts_with nat_eq (a ∷ b ∷ c ∷ []) mark)
   where
@@ -214,15 +203,15 @@ no_end_unmarked number bytes none = by (number == 0)
 pieces_line : (part after : List ℕ) → NoEnd part → pieces_of (part ++ 10 ∷ after) ≡ part ∷ pieces_of after
 pieces_line [] after none = pieces_of-line after
 pieces_line (b ∷ part) after none =
-    pieces_of-byte b (part ++ 10 ∷ after) (not_LF b (and_first (is_content b) _ none))
-    ∙ ap (onto_first b) (pieces_line part after (and_second (is_content b) _ none))
+    pieces_of-byte b (part ++ 10 ∷ after) (not_LF b (and_parts (is_content b) _ none).0)
+    ∙ ap (onto_first b) (pieces_line part after (and_parts (is_content b) _ none).1)
 
 pub pieces_whole : (b : ℕ) (part : List ℕ) → NoEnd (b ∷ part) → pieces_of (b ∷ part) ≡ (b ∷ part) ∷ []
 unfolding pieces_of
-pieces_whole b [] none = pieces_of-byte b [] (not_LF b (and_first (is_content b) _ none))
+pieces_whole b [] none = pieces_of-byte b [] (not_LF b (and_parts (is_content b) _ none).0)
 pieces_whole b (c ∷ part) none =
-    pieces_of-byte b (c ∷ part) (not_LF b (and_first (is_content b) _ none))
-    ∙ ap (onto_first b) (pieces_whole c part (and_second (is_content b) _ none))
+    pieces_of-byte b (c ∷ part) (not_LF b (and_parts (is_content b) _ none).0)
+    ∙ ap (onto_first b) (pieces_whole c part (and_parts (is_content b) _ none).1)
 
 pub pieces_none : pieces_of [] ≡ []
 unfolding pieces_of
@@ -234,7 +223,7 @@ some_piece (b ∷ front) after = by (some_piece front after) (b == 10) refl
   where
     by : ((piece : List ℕ) × (pieces : List (List ℕ)) × (pieces_of (front ++ 10 ∷ after) ≡ piece ∷ pieces)) → (t : Bool) → (b == 10) ≡ t
         → (piece : List ℕ) × (pieces : List (List ℕ)) × (pieces_of (b ∷ (front ++ 10 ∷ after)) ≡ piece ∷ pieces)
-    by (piece, pieces, is) true e = ([], pieces_of (front ++ 10 ∷ after), ap (λ c. pieces_of (c ∷ (front ++ 10 ∷ after))) (equal_byte b e) ∙ pieces_of-line (front ++ 10 ∷ after))
+    by (piece, pieces, is) true e = ([], pieces_of (front ++ 10 ∷ after), ap (λ c. pieces_of (c ∷ (front ++ 10 ∷ after))) (eqb-true b 10 e) ∙ pieces_of-line (front ++ 10 ∷ after))
     by (piece, pieces, is) false e = (b ∷ piece, pieces, pieces_of-byte b (front ++ 10 ∷ after) (λ same. absurd (grind (arith, e, same))) ∙ ap (onto_first b) is)
 
 pieces_more : (front after : List ℕ) → pieces_of (front ++ 10 ∷ after) ≡ pieces_of (front ++ 10 ∷ []) ++ pieces_of after
@@ -245,8 +234,8 @@ pieces_more (b ∷ front) after = by (pieces_more front after) (some_piece front
     by : pieces_of (front ++ 10 ∷ after) ≡ pieces_of (front ++ 10 ∷ []) ++ pieces_of after → ((piece : List ℕ) × (pieces : List (List ℕ)) × (pieces_of (front ++ 10 ∷ []) ≡ piece ∷ pieces)) → (t : Bool) → (b == 10) ≡ t
         → pieces_of (b ∷ (front ++ 10 ∷ after)) ≡ pieces_of (b ∷ (front ++ 10 ∷ [])) ++ pieces_of after
     by more some true e =
-        ap (λ c. pieces_of (c ∷ (front ++ 10 ∷ after))) (equal_byte b e) ∙ pieces_of-line (front ++ 10 ∷ after) ∙ ap (λ l. [] ∷ l) more
-        ∙ sym (ap (λ l. l ++ pieces_of after) (ap (λ c. pieces_of (c ∷ (front ++ 10 ∷ []))) (equal_byte b e) ∙ pieces_of-line (front ++ 10 ∷ [])))
+        ap (λ c. pieces_of (c ∷ (front ++ 10 ∷ after))) (eqb-true b 10 e) ∙ pieces_of-line (front ++ 10 ∷ after) ∙ ap (λ l. [] ∷ l) more
+        ∙ sym (ap (λ l. l ++ pieces_of after) (ap (λ c. pieces_of (c ∷ (front ++ 10 ∷ []))) (eqb-true b 10 e) ∙ pieces_of-line (front ++ 10 ∷ [])))
     by more (piece, pieces, is) false e =
         let other : b ≢ 10 = λ same. absurd (grind (arith, e, same)) in
         pieces_of-byte b (front ++ 10 ∷ after) other ∙ ap (onto_first b) (more ∙ ap (λ l. l ++ pieces_of after) is)
@@ -334,11 +323,6 @@ pieces_within (b ∷ bytes) = by (b == 10) (pieces_of bytes) (pieces_within byte
 pub lines_within : (bytes : List ℕ) → length (lines_of bytes) ≤ length bytes
 lines_within bytes = by (starts_with nat_eq bytes mark)
   where
-    dropped : (n : ℕ) (l : List ℕ) → length (drop n l) ≤ length l
-    dropped zero l = omega arith
-    dropped (suc n) [] = omega arith
-    dropped (suc n) (b ∷ l) = let rest = dropped n l in omega (arith, rest)
-
     by : (t : Bool) → length (map without_return (pieces_of (cond t (drop 3 bytes) bytes))) ≤ length bytes
-    by true = let rest = dropped 3 bytes in let pieces = pieces_within (drop 3 bytes) in let same = length-map (pieces_of (drop 3 bytes)) without_return in omega (arith, rest, pieces, same)
+    by true = let rest = length-drop 3 bytes in let pieces = pieces_within (drop 3 bytes) in let same = length-map (pieces_of (drop 3 bytes)) without_return in omega (arith, rest, pieces, same)
     by false = let pieces = pieces_within bytes in let same = length-map (pieces_of bytes) without_return in omega (arith, pieces, same)

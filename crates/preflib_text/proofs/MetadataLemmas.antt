@@ -1,4 +1,5 @@
 -- Words, numbers and keys of metadata lines.
+use Rattle.std.proofs.lemmas.Bool.{false_from_ne_true}
 use Rattle.std.proofs.Common.{◌≡◌, ℕ, zero, suc, ◌+◌, ◌-◌, ◌*◌, ◌<◌, ◌≤◌, ◌==◌, ◌||◌, ◌&&◌, Bool, true, false, cond, List, [], ◌∷◌, refl, sym, ap, subst, ◌∙◌, arith, length, take, drop, get_or, true≢false, Some, None, option_map}
 use Rattle.std.specs.Prelude.{nat_lt, codes}
 use Rattle.std.specs.List.{list_any, before_first, after_first, position_or_len}
@@ -16,23 +17,19 @@ use Rattle.preflib_text.specs.Metadata.{words_of, begins_blank, written_number, 
 use Rattle.preflib_text.specs.Steps.Tokens.{capped}
 use Rattle.preflib_text.specs.Steps.Tells.{words_with, digits_after, capped_told}
 
-false_of : (t : Bool) → (t ≡ true → ⊥) → t ≡ false
-false_of true impossible = absurd (impossible refl)
-false_of false impossible = refl
-
 -- ---- the first colon
 
 pub colon_at : (bytes : List ℕ) (at : ℕ) → at < length bytes → (get_or bytes at 0 == 58) ≡ true → ((k : ℕ) → 0 ≤ k → k < at → (get_or bytes k 0 == 58) ≡ true → ⊥)
     → (list_any (λ b. b == 58) bytes ≡ true) × (take at bytes ≡ before_first (λ b. b == 58) bytes) × (take (length bytes - (at + 1)) (drop (at + 1) bytes) ≡ after_first (λ b. b == 58) bytes)
 colon_at bytes at within is before =
     let place : position_or_len (λ b. b == 58) bytes ≡ at =
-    position_or_len_is (λ b. b == 58) bytes at 0 (omega arith) (λ k h. false_of (get_or bytes k 0 == 58) (before k (omega arith) h)) (λ h. is) in
+    position_or_len_is (λ b. b == 58) bytes at 0 (omega arith) (λ k h. false_from_ne_true (get_or bytes k 0 == 58) (before k (omega arith) h)) (λ h. is) in
     (list_any_at (λ b. b == 58) bytes at 0 within is, ap (λ n. take n bytes) (sym place), take_rest bytes (at + 1) ∙ ap (λ n. drop (n + 1) bytes) (sym place))
 
 pub no_colon : (bytes : List ℕ) → ((k : ℕ) → 0 ≤ k → k < length bytes → (get_or bytes k 0 == 58) ≡ true → ⊥) → list_any (λ b. b == 58) bytes ≡ false
 no_colon [] none = refl
 no_colon (b ∷ bytes) none =
-    ap (λ t. t || list_any (λ c. c == 58) bytes) (false_of (b == 58) (none 0 (omega arith) (omega arith)))
+    ap (λ t. t || list_any (λ c. c == 58) bytes) (false_from_ne_true (b == 58) (none 0 (omega arith) (omega arith)))
     ∙ no_colon bytes (λ k h i. none (suc k) (omega arith) (omega arith))
 
 -- ---- words
@@ -105,13 +102,13 @@ pub word_at : (bytes text : List ℕ) (at : ℕ) → text ≡ trim_start bytes �
     → words_of bytes ≡ words_with (take at text) (words_of (take (length text - at) (drop at text)))
 word_at bytes text at trimmed within is before =
     words_of-trim_start bytes ∙ ap words_of (sym trimmed)
-    ∙ words_of-cut text at within (sym (is_in-blank (get_or text at 0)) ∙ is) (λ k h. sym (is_in-blank (get_or text k 0)) ∙ false_of (is_in (32 ∷ 9 ∷ []) (get_or text k 0)) (before k (omega arith) h))
+    ∙ words_of-cut text at within (sym (is_in-blank (get_or text at 0)) ∙ is) (λ k h. sym (is_in-blank (get_or text k 0)) ∙ false_from_ne_true (is_in (32 ∷ 9 ∷ []) (get_or text k 0)) (before k (omega arith) h))
     ∙ ap (λ l. words_with (take at text) (words_of l)) (sym (take_rest text at))
 
 pub word_is_last : (bytes text : List ℕ) → text ≡ trim_start bytes → ((k : ℕ) → 0 ≤ k → k < length text → is_in (32 ∷ 9 ∷ []) (get_or text k 0) ≡ true → ⊥) → words_of bytes ≡ words_with text (words_of [])
 word_is_last bytes text trimmed none =
     words_of-trim_start bytes ∙ ap words_of (sym trimmed)
-    ∙ words_of-whole text (λ k h. sym (is_in-blank (get_or text k 0)) ∙ false_of (is_in (32 ∷ 9 ∷ []) (get_or text k 0)) (none k (omega arith) h))
+    ∙ words_of-whole text (λ k h. sym (is_in-blank (get_or text k 0)) ∙ false_from_ne_true (is_in (32 ∷ 9 ∷ []) (get_or text k 0)) (none k (omega arith) h))
     ∙ ap (words_with text) (sym words_of-none)
 
 -- a word has bytes where something is left

@@ -1,10 +1,11 @@
 -- What is kept of the bytes that were fed, and what they tell.
-use Rattle.std.proofs.Common.{◌≡◌, ◌⊎◌, inl, inr, ℕ, zero, suc, ◌+◌, ◌-◌, ◌<◌, ◌≤◌, ◌==◌, ◌&&◌, ◌||◌, Bool, true, false, not, cond, List, [], ◌∷◌, ◌++◌, refl, sym, ap, subst, ◌∙◌, arith, length, map, take, drop, get_or, append-nil, replicate, Option, Some, None, IfSome, is_some, option_map, unwrap_or, Result, Ok, Err, OnOk, IfErr}
+use Rattle.preflib_text.proofs.BallotFaults.{or_else-parts, or_else-assoc}
+use Rattle.std.proofs.Common.{◌≡◌, ◌⊎◌, inl, inr, ℕ, ◌+◌, ◌-◌, ◌<◌, ◌≤◌, ◌==◌, ◌&&◌, ◌||◌, Bool, true, false, not, cond, List, [], ◌∷◌, ◌++◌, refl, sym, ap, subst, ◌∙◌, arith, length, map, take, drop, get_or, append-nil, replicate, Option, Some, None, IfSome, is_some, option_map, unwrap_or, Ok, Err}
 use Rattle.std.specs.Prelude.{nat_lt, nat_eq}
 use Rattle.std.specs.List.{starts_with, list_all, list_any}
 use Rattle.std.proofs.Math.Path.{fun_ext}
-use Rattle.std.proofs.lemmas.Bool.{lt-ltb}
-use Rattle.std.proofs.lemmas.List.{append_assoc, length-append, take-append-drop, drop_more, take_rest, take_all}
+use Rattle.std.proofs.lemmas.Bool.{lt-ltb, ltb-true, ltb-false, eqb-true}
+use Rattle.std.proofs.lemmas.List.{append_assoc, length-append, take-append-drop, drop_more, take_rest, take_all, length-drop}
 use Rattle.ballot_base.specs.Ballots.{Election, election}
 use Rattle.ballot_base.specs.Limits.{most_candidates}
 use Rattle.preflib_text.specs.Limits.{most_line_bytes}
@@ -21,9 +22,8 @@ use Rattle.preflib_text.specs.Steps.Notes.{Refuses, effect_takes, fresh_notes, l
 use Rattle.preflib_text.specs.Steps.After.{IsAfter, IsFine}
 use Rattle.preflib_text.specs.Steps.Pieces.{line_room, unmarked, line_with, IsReady, IsRead, IsRefused, IsFed, Agrees}
 use Rattle.preflib_text.proofs.BallotLines.{ballot_of_reads, one_reading}
-use Rattle.preflib_text.proofs.After.{is_after-none, is_fine-none, is_fine-more, fault_at_end, line_error-is, after-line, end_error-is, election_in-is, none_faulty, is_growth-is, or_else-assoc, or_else-first}
+use Rattle.preflib_text.proofs.After.{is_after-none, is_fine-none, is_fine-more, fault_at_end, line_error-is, after-line, end_error-is, election_in-is, none_faulty, is_growth-is}
 use Rattle.preflib_text.proofs.ReadLemmas.{reads_fault, reads_election}
-use Rattle.preflib_text.proofs.CutLemmas.{equal_byte}
 use Rattle.preflib_text.proofs.EndLemmas.{NoEnd, no_end_search, split_first, unfinished_more, unfinished_end, ended_more, no_end_unfinished, no_end_unmarked, no_end_append, ended_and_unfinished, mark_more, pieces_whole, pieces_none, lines_from, lines_cut, ended_lines_cut, none_ended, unfinished_line-is, lines_within}
 
 -- ---- how long lines are
@@ -38,16 +38,11 @@ length-without_return (b ∷ []) = by (b == 13)
     by false = (omega arith, omega arith)
 length-without_return (b ∷ c ∷ bytes) = let (low, high) = length-without_return (c ∷ bytes) in (omega arith, omega arith)
 
-length-drop : (n : ℕ) (bytes : List ℕ) → (length bytes ≤ length (drop n bytes) + n) × (length (drop n bytes) ≤ length bytes)
-length-drop zero bytes = (omega arith, omega arith)
-length-drop (suc n) [] = (omega arith, omega arith)
-length-drop (suc n) (b ∷ bytes) = let (low, high) = length-drop n bytes in (omega arith, omega arith)
-
 length-unmarked : (number : ℕ) (bytes : List ℕ) → (length bytes ≤ length (unmarked number bytes) + 3) × (length (unmarked number bytes) ≤ length bytes)
 length-unmarked number bytes = by (number == 0) (starts_with nat_eq bytes (239 ∷ 187 ∷ 191 ∷ []))
   where
     by : (s t : Bool) → (length bytes ≤ length (cond s (cond t (drop 3 bytes) bytes) bytes) + 3) × (length (cond s (cond t (drop 3 bytes) bytes) bytes) ≤ length bytes)
-    by true true = length-drop 3 bytes
+    by true true = let rest = length-drop 3 bytes in (omega (arith, rest), omega (arith, rest))
     by true false = (omega arith, omega arith)
     by false t = (omega arith, omega arith)
 
@@ -57,31 +52,25 @@ too_long number bytes long =
     let line_long = (length-without_return (unmarked number bytes)).0 in
     lt-ltb most_line_bytes (length (without_return (unmarked number bytes))) (omega (arith, unmarked_long, line_long))
 
-is_long : (n : ℕ) → nat_lt most_line_bytes n ≡ true → most_line_bytes < n
-is_long n h = grind (arith, h)
-
-not_long : (n : ℕ) → nat_lt most_line_bytes n ≡ false → n ≤ most_line_bytes
-not_long n h = grind (arith, h)
-
 pub room_left : (number : ℕ) (bytes : List ℕ) → is_too_long (unmarked number bytes) ≡ false → length bytes ≤ line_room
 room_left number bytes short =
     let unmarked_long = (length-unmarked number bytes).0 in
     let line_long = (length-without_return (unmarked number bytes)).0 in
-    let within = not_long (length (without_return (unmarked number bytes))) short in
+    let within = ltb-false most_line_bytes (length (without_return (unmarked number bytes))) short in
     omega (arith, unmarked_long, line_long, within)
 
 -- the unfinished line has at most one byte more than the longest
 pub most_held : (bytes : List ℕ) → is_too_long bytes ≡ false → length bytes ≤ most_line_bytes + 1
 most_held bytes short =
     let line_long = (length-without_return bytes).0 in
-    let within = not_long (length (without_return bytes)) short in
+    let within = ltb-false most_line_bytes (length (without_return bytes)) short in
     omega (arith, line_long, within)
 
 -- a line that is too long stays so
 longer : (number : ℕ) (bytes more : List ℕ) → is_too_long (unmarked number bytes) ≡ true → is_too_long (unmarked number (bytes ++ more)) ≡ true
 longer number bytes [] long = ap (λ l. is_too_long (unmarked number l)) (append-nil bytes) ∙ long
 longer number bytes (m ∷ more) long =
-    let past = is_long (length (without_return (unmarked number bytes))) long in
+    let past = ltb-true most_line_bytes (length (without_return (unmarked number bytes))) long in
     let line_short = (length-without_return (unmarked number bytes)).1 in
     let short = (length-unmarked number bytes).1 in
     let whole : unmarked number (bytes ++ m ∷ more) ≡ unmarked number bytes ++ m ∷ more = by (number == 0) (omega (arith, past, line_short, short)) in
@@ -371,7 +360,7 @@ module _ (pick : Pick) (bytes : List ℕ) (notes : Notes) (e : Election) (number
               ballot_of,
               ballot_of_reads,
               none_faulty pick (ended_lines bytes ++ line ∷ []) (is_fine-more pick (ended_lines bytes) line is.fine no_fault),
-              is_growth-is pick (ended_lines bytes) line notes e is.after (or_else-first _ _ error) takes,
+              is_growth-is pick (ended_lines bytes) line notes e is.after (or_else-parts _ _ error).0 takes,
             ),
           )
 
@@ -482,7 +471,7 @@ module _ (pick : Pick) (bytes : List ℕ) (notes : Notes) (e : Election) (number
             ballot_of,
             ballot_of_reads,
             none_faulty pick (ended_lines bytes ++ line ∷ []) (is_fine-more pick (ended_lines bytes) line is.fine no_fault),
-            is_growth-is pick (ended_lines bytes) line notes e is.after (or_else-first _ _ error) takes,
+            is_growth-is pick (ended_lines bytes) line notes e is.after (or_else-parts _ _ error).0 takes,
           )
 
 module _ (pick : Pick) (bytes : List ℕ) (notes : Notes) (e : Election) (fine : IsFine pick (lines_of bytes)) (after : IsAfter pick (lines_of bytes) notes e) where
@@ -504,16 +493,6 @@ long_refusal pick notes e number bytes fault long is =
     let error : line_error pick notes (line_with number bytes) ≡ Some LongLine = or_else-kept (fault_if (nat_lt most_line_bytes (length (line_with number bytes))) LongLine) _ LongLine (ap (λ t. fault_if t LongLine) long) in
     (LongLine, is, inl (or_else-kept (line_error pick notes (line_with number bytes)) _ LongLine error))
 
--- ---- the outcome of a call
-
-pub on_ok : {T E : Type 0} (r : Result T E) (P Q : Type 0) → OnOk r P → (P → Q) → OnOk r Q
-on_ok (Ok x) P Q is from = from is
-on_ok (Err e) P Q is from = tt
-
-pub on_err : {T E : Type 0} (r : Result T E) (P Q : E → Type 0) → IfErr r P → ((e : E) → P e → Q e) → IfErr r Q
-on_err (Ok x) P Q is from = tt
-on_err (Err e) P Q is from = from e is
-
 -- ---- the loop over a piece
 
 none_left : (rest : List ℕ) → (length rest == 0) ≡ true → rest ≡ []
@@ -523,7 +502,7 @@ none_left (b ∷ rest) h = absurd (grind arith)
 -- the bytes before the first LF, and those after it
 pub cut_at_end : (rest : List ℕ) (at : ℕ) → at < length rest → (get_or rest at 0 == 10) ≡ true → take at rest ++ 10 ∷ take (length rest - (at + 1)) (drop (at + 1) rest) ≡ rest
 cut_at_end rest at within is =
-    ap (λ l. take at rest ++ 10 ∷ l) (take_rest rest (at + 1)) ∙ ap (λ b. take at rest ++ b ∷ drop (at + 1) rest) (sym (equal_byte (get_or rest at 0) is))
+    ap (λ l. take at rest ++ 10 ∷ l) (take_rest rest (at + 1)) ∙ ap (λ b. take at rest ++ b ∷ drop (at + 1) rest) (sym (eqb-true (get_or rest at 0) 10 is))
     ∙ ap (λ l. take at rest ++ l) (sym (drop_more rest at 0 within)) ∙ take-append-drop at rest
 
 module _ (pick : Pick) (all pre rest : List ℕ) (notes : Notes) (e : Election) (number : ℕ) (held : List ℕ) (joined : pre ++ rest ≡ all) (fed : IsFed pick pre notes e number held) where
@@ -682,7 +661,7 @@ pub one_line : (bytes : List ℕ) → list_any (λ b. b == 10) (unfinished_line 
 one_line bytes = no_end_any (unfinished_line bytes) (no_end_unfinished (without_mark bytes))
 
 pub fits : (line : List ℕ) → is_too_long line ≡ false → length (without_return line) ≤ most_line_bytes
-fits line short = not_long (length (without_return line)) short
+fits line short = ltb-false most_line_bytes (length (without_return line)) short
 
 pub lacks_short : (bytes : List ℕ) (pick : Pick) (fault : ReadFault) → LacksMemory (lines_of bytes) pick fault → RunsShort bytes pick fault
 lacks_short bytes pick fault (before, line, after, is, fault_is, read, reads, none, growth) =

@@ -1,9 +1,10 @@
 -- The reading of a whole input, from its first line to its end.
-use Rattle.std.proofs.Common.{◌≡◌, ◌⊎◌, inl, inr, ℕ, zero, suc, ◌+◌, ◌<◌, ◌≤◌, ◌==◌, Bool, true, false, cond, List, [], ◌∷◌, ◌++◌, refl, sym, ap, subst, ◌∙◌, arith, length, map, drop, append-nil, replicate, Option, Some, None, option_map, unwrap_or, Result, Ok, Err, MatchResult, IfOk, IfErr}
+use Rattle.preflib_text.proofs.BallotFaults.{or_else-parts}
+use Rattle.std.proofs.Common.{◌≡◌, ◌⊎◌, inl, inr, ℕ, ◌+◌, ◌<◌, ◌≤◌, ◌==◌, Bool, true, false, cond, List, [], ◌∷◌, ◌++◌, refl, sym, ap, subst, ◌∙◌, arith, length, map, drop, append-nil, replicate, Option, Some, None, option_map, unwrap_or, Result, Ok, Err, MatchResult, IfOk, IfErr}
 use Rattle.std.specs.Prelude.{nat_lt, nat_eq}
 use Rattle.std.proofs.Math.Path.{fun_ext}
 use Rattle.std.specs.List.{starts_with}
-use Rattle.std.proofs.lemmas.List.{append_assoc}
+use Rattle.std.proofs.lemmas.List.{append_assoc, length_push, length-drop}
 use Rattle.ballot_base.specs.Ballots.{Election, election}
 use Rattle.ballot_base.specs.Limits.{most_candidates}
 use Rattle.preflib_text.specs.Limits.{most_line_bytes}
@@ -19,7 +20,7 @@ use Rattle.preflib_text.specs.Reading.{Cast, outcome_in, Reads, RunsShort, or_el
 use Rattle.preflib_text.specs.Steps.Notes.{Refuses, effect_takes, fresh_notes, told_error, told_effect, ballot_error, cast_effect, line_error, line_notes, line_effect, effect_error, with_effect, end_error}
 use Rattle.preflib_text.proofs.BallotLines.{ballot_of_reads, one_reading}
 use Rattle.preflib_text.specs.Steps.After.{IsAfter, IsFine}
-use Rattle.preflib_text.proofs.After.{IsAt, is_after-none, is_fine-none, is_fine-more, fault_at, line_error-is, after-line, end_error-is, election_in-is, none_faulty, fault_at_end, takes_memory-is, or_else-first, or_else-second, told_effect-fine}
+use Rattle.preflib_text.proofs.After.{IsAt, is_after-none, is_fine-none, is_fine-more, fault_at, line_error-is, after-line, end_error-is, election_in-is, none_faulty, fault_at_end, takes_memory-is, told_effect-fine}
 
 -- ---- what an input holds
 
@@ -41,13 +42,8 @@ runs_short bytes pick before line after is fine takes =
 length-without_mark : (bytes : List ℕ) → length (without_mark bytes) ≤ length bytes
 length-without_mark bytes = by (starts_with nat_eq bytes (239 ∷ 187 ∷ 191 ∷ []))
   where
-    length-drop : (n : ℕ) (l : List ℕ) → length (drop n l) ≤ length l
-    length-drop zero l = omega arith
-    length-drop (suc n) [] = omega arith
-    length-drop (suc n) (b ∷ l) = let rest = length-drop n l in omega arith
-
     by : (t : Bool) → length (cond t (drop 3 bytes) bytes) ≤ length bytes
-    by true = length-drop 3 bytes
+    by true = let rest = length-drop 3 bytes in omega (arith, rest)
     by false = omega arith
 
 pub at_start : (pick : Pick) (bytes rest : List ℕ) (notes : Notes) (e : Election) → rest ≡ without_mark bytes → notes ≡ fresh_notes pick → e ≡ election most_candidates (replicate most_candidates []) []
@@ -92,13 +88,9 @@ module _ (pick : Pick) (bytes rest line after : List ℕ) (notes : Notes) (e : E
               fine = is_fine-more pick before line is.fine no_fault;
               after = subst (λ n. IsAfter pick (before ++ line ∷ []) n next) (sym notes_are) (subst (IsAfter pick (before ++ line ∷ []) (line_notes pick notes line)) (sym next_is) (after-line pick before line notes e is.after no_error));
             },
-            ap (λ n. n + 1) count ∙ sym (length-more before),
+            ap (λ n. n + 1) count ∙ sym (length_push before line),
             omega arith,
           )
-        where
-          length-more : (l : List (List ℕ)) → length (l ++ line ∷ []) ≡ length l + 1
-          length-more [] = refl
-          length-more (x ∷ l) = let more = length-more l in omega arith
 
   pub at_fault : (name : FaultName) → Refuses (or_else (line_error pick notes line) (effect_error e (line_effect pick notes line))) (effect_takes e (line_effect pick notes line)) name
       → (fault : ReadFault) → fault ≡ at_line (number + 1) name → Reads bytes pick (Err fault) ⊎ RunsShort bytes pick fault
@@ -116,7 +108,7 @@ module _ (pick : Pick) (bytes rest line after : List ℕ) (notes : Notes) (e : E
       by (before, is, count, room) (piece, pieces, line_is) (inr (memory, none, takes)) =
           let lines = lines_at bytes rest line after piece before is.lines pieces line_is in
           let no_fault = sym (line_error-is pick before line notes e is.after) ∙ none in
-          inr (subst (RunsShort bytes pick) (ap (λ n. at_line (n + 1) Memory) (sym count) ∙ ap (at_line (number + 1)) (sym memory)) (runs_short bytes pick before line (map without_return (pieces_of after)) lines (is_fine-more pick before line is.fine no_fault) (takes_memory-is pick before line notes e is.after (or_else-first _ _ none) takes)))
+          inr (subst (RunsShort bytes pick) (ap (λ n. at_line (n + 1) Memory) (sym count) ∙ ap (at_line (number + 1)) (sym memory)) (runs_short bytes pick before line (map without_return (pieces_of after)) lines (is_fine-more pick before line is.fine no_fault) (takes_memory-is pick before line notes e is.after (or_else-parts _ _ none).0 takes)))
 
 -- ---- the end
 
@@ -153,7 +145,7 @@ module _ (pick : Pick) (bytes rest : List ℕ) (notes : Notes) (e : Election) (n
 -- ---- no memory for any profile
 
 no_effect-fresh : (pick : Pick) (line : List ℕ) (e : Election) → line_error pick (fresh_notes pick) line ≡ None → effect_error e (line_effect pick (fresh_notes pick) line) ≡ None
-no_effect-fresh pick line e fine = by (is_ballot_line line) (or_else-second (fault_if (nat_lt most_line_bytes (length line)) LongLine) _ fine)
+no_effect-fresh pick line e fine = by (is_ballot_line line) (or_else-parts (fault_if (nat_lt most_line_bytes (length line)) LongLine) _ fine).1
   where
     by : (t : Bool) → cond t (ballot_error pick (fresh_notes pick) (ballot_of line)) (told_error (fresh_notes pick) (told_of line)) ≡ None → effect_error e (cond t (cast_effect pick (fresh_notes pick) (ballot_of line)) (told_effect (fresh_notes pick) (told_of line))) ≡ None
     by true h = absurd (cc)

@@ -1,7 +1,8 @@
 -- What the lines before the first ballot tell, line by line.
-use Rattle.std.proofs.Common.{◌≡◌, ℕ, suc, ◌+◌, ◌≤◌, ◌==◌, ◌||◌, Bool, true, false, not, cond, List, [], ◌∷◌, ◌++◌, refl, sym, ap, ◌∙◌, arith, map, take, filter_map, append-nil, Option, Some, None, option_and_then, unwrap_or, Result}
+use Rattle.std.proofs.lemmas.List.Sums.{take_while-cons}
+use Rattle.std.proofs.Common.{◌≡◌, ℕ, ◌≤◌, ◌==◌, ◌||◌, Bool, true, false, not, cond, List, [], ◌∷◌, ◌++◌, refl, sym, ap, ◌∙◌, arith, map, filter_map, append-nil, Option, Some, None, option_and_then, unwrap_or, Result}
 use Rattle.std.specs.Prelude.{nat_lt, slice_get}
-use Rattle.std.specs.List.{list_any, take_while, prefix_len, cons_option}
+use Rattle.std.specs.List.{list_any, take_while, cons_option}
 use Rattle.std.proofs.lemmas.List.{reverse-append}
 use Rattle.std.proofs.lemmas.List.Elements.{filter_map-append}
 use Rattle.ballot_base.specs.Limits.{most_candidates}
@@ -19,19 +20,19 @@ use Rattle.preflib_text.specs.Steps.After.{first_number, IsTold}
 
 -- ---- what is told when a line more comes
 
-take_while-yes : (p : List ℕ → Bool) (line : List ℕ) (lines : List (List ℕ)) → p line ≡ true → take_while p (line ∷ lines) ≡ line ∷ take_while p lines
-take_while-yes p line lines passes =
-    let step : 1 + prefix_len p lines ≡ suc (prefix_len p lines) = omega arith in
-    ap (λ t. take (cond t (1 + prefix_len p lines) 0) (line ∷ lines)) passes ∙ ap (λ n. take n (line ∷ lines)) step
-
-take_while-no : (p : List ℕ → Bool) (line : List ℕ) (lines : List (List ℕ)) → p line ≡ false → take_while p (line ∷ lines) ≡ []
-take_while-no p line lines fails = ap (λ t. take (cond t (1 + prefix_len p lines) 0) (line ∷ lines)) fails
+-- a line that passes a test that no ballot line does, or does not
+told_before-cons : (line : List ℕ) (lines : List (List ℕ)) → told_before (line ∷ lines) ≡ cond (is_ballot_line line) [] (told_of line ∷ told_before lines)
+told_before-cons line lines = ap (map told_of) (take_while-cons (λ l. not (is_ballot_line l)) line lines) ∙ by (is_ballot_line line)
+  where
+    by : (t : Bool) → map told_of (cond (not t) (line ∷ take_while (λ l. not (is_ballot_line l)) lines) []) ≡ cond t [] (told_of line ∷ told_before lines)
+    by true = refl
+    by false = refl
 
 told_before-ballot : (line : List ℕ) (lines : List (List ℕ)) → is_ballot_line line ≡ true → told_before (line ∷ lines) ≡ []
-told_before-ballot line lines is = ap (map told_of) (take_while-no (λ l. not (is_ballot_line l)) line lines (ap not is))
+told_before-ballot line lines is = told_before-cons line lines ∙ ap (λ t. cond t [] (told_of line ∷ told_before lines)) is
 
 told_before-other : (line : List ℕ) (lines : List (List ℕ)) → is_ballot_line line ≡ false → told_before (line ∷ lines) ≡ told_of line ∷ told_before lines
-told_before-other line lines other = ap (map told_of) (take_while-yes (λ l. not (is_ballot_line l)) line lines (ap not other))
+told_before-other line lines other = told_before-cons line lines ∙ ap (λ t. cond t [] (told_of line ∷ told_before lines)) other
 
 -- from the first ballot on nothing is told
 pub told_before-kept : (before : List (List ℕ)) (line : List ℕ) → (list_any is_ballot_line before || is_ballot_line line) ≡ true → told_before (before ++ line ∷ []) ≡ told_before before

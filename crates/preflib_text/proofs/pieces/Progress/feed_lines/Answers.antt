@@ -1,6 +1,9 @@
-use Rattle.std.proofs.Common.{◌≡◌, ℕ, ◌≤◌, ◌==◌, false, List, [], ◌∷◌, sym, ◌∙◌, length, refl, arith}
+use Rattle.std.proofs.lemmas.Result.{on_ok_weaker, IfErr-weaker}
+use Rattle.preflib_text.specs.Pieces.{is_too_long}
+use Rattle.preflib_text.specs.Steps.Pieces.{unmarked}
+use Rattle.std.proofs.Common.{◌++◌, ◌≡◌, ℕ, ◌≤◌, ◌==◌, false, List, [], ◌∷◌, sym, ◌∙◌, length, refl, arith}
 use Rattle.std.proofs.lemmas.List.{length-append}
-use Rattle.preflib_text.proofs.PieceLemmas.{loop_count, loop_refused, loop_next, loop_kept, loop_long, ready, room_left, held_short, on_ok, on_err}
+use Rattle.preflib_text.proofs.PieceLemmas.{loop_count, loop_refused, loop_next, loop_kept, loop_long, ready, room_left, held_short}
 use Rattle.preflib_text.proofs.pieces.Progress.feed_lines.Goals as goal
 
 pub loop-at-init : goal.loop-at-init
@@ -49,7 +52,7 @@ pub hold-requires-clause-held : goal.hold-requires-clause-held
 hold-requires-clause-held g c = room_left c.loop-at.self.ended.number c.loop-at.self.held.items (held_short _ _ _ _ _ _ c.loop-at.invariant.0.2)
 
 pub returns-clause-ok : goal.returns-clause-ok
-returns-clause-ok g c = on_ok c.hold.result _ _ c.hold.ensures.ok (λ h. rw c.hold.ensures.ended (loop_kept _ _ _ _ _ _ _ _ c.loop-at.invariant.0.1 c.loop-at.invariant.0.2 c.in_default.ensures _ h.0 h.1))
+returns-clause-ok g c = on_ok_weaker c.hold.result (λ (h : (c.hold.new.self.held.items ≡ c.loop-at.self.held.items ++ c.loop-at.rest.now) × (is_too_long (unmarked c.loop-at.self.ended.number (c.loop-at.self.held.items ++ c.loop-at.rest.now)) ≡ false)). rw c.hold.ensures.ended (loop_kept _ _ _ _ _ _ _ _ c.loop-at.invariant.0.1 c.loop-at.invariant.0.2 c.in_default.ensures _ h.0 h.1)) c.hold.ensures.ok
 
 pub returns-clause-err : goal.returns-clause-err
-returns-clause-err g c = on_err c.hold.result _ _ c.hold.ensures.err (λ fault h. loop_long _ _ _ _ _ _ _ _ c.loop-at.invariant.0.1 c.loop-at.invariant.0.2 c.in_default.ensures fault h.0 h.1)
+returns-clause-err g c = IfErr-weaker c.hold.result _ _ (λ fault h. loop_long _ _ _ _ _ _ _ _ c.loop-at.invariant.0.1 c.loop-at.invariant.0.2 c.in_default.ensures fault h.0 h.1) c.hold.ensures.err
