@@ -18,7 +18,7 @@ use Rattle.preflib_text.specs.Lines.{is_ballot_line, lines_of, pieces_of, withou
 use Rattle.preflib_text.specs.Metadata.{Fact, AlternativesAre, CategoriesAre, NameIs, told_of, written_number}
 use Rattle.preflib_text.specs.Approvals.{approved}
 use Rattle.preflib_text.specs.Steps.Tokens.{ballot_of}
-use Rattle.preflib_text.specs.Reading.{Cast, or_else, fault_if, told_before, kind_or_usual, is_fitting, ballot_fault, alternatives_in, categories_in, casts_in, rows_in, election_in, line_fault, told_fault, first_fault, first_faulty_line, FaultyLine, faulty_line, fault_of_line, end_fault, at_end, is_empty, may_be_candidate, is_name, is_growth, takes_memory, kind_in, at_line, cast_fault, kind_fault, ballot_line_fault, number_fault, kind_or, kind_by}
+use Rattle.preflib_text.specs.Reading.{Cast, or_else, fault_if, told_before, kind_or_usual, is_fitting, ballot_fault, alternatives_in, categories_in, casts_in, rows_in, election_in, line_fault, told_fault, first_fault, first_faulty_line, FaultyLine, faulty_line, fault_of_line, end_fault, at_end, is_empty, may_be_candidate, is_name, is_growth, kind_in, cast_fault, kind_fault, ballot_line_fault, number_fault, kind_or, kind_by}
 use Rattle.preflib_text.specs.Steps.Notes.{Effect, NoEffect, Names, Casts, fresh_notes, first_kind, told_error, told_notes, told_effect, cast_error, kind_error, alternatives_error, ballot_error, cast_effect, line_error, line_notes, line_effect, effect_error, with_effect, end_error, effect_takes, IsSound}
 use Rattle.preflib_text.specs.Steps.After.{IsTold, last_name, last_names, cast_rows, has_ballot_line, HoldsNames, IsAfter, IsFine}
 use Rattle.preflib_text.proofs.ToldSteps.{number_within, told-step, told_before-kept, told_before-more}
@@ -354,10 +354,6 @@ is_growth-is pick before line notes e is fine takes =
     by false true f g h t = absurd (cc)
     by false false f g h t = or_left name row (ap (λ b. not b && is_name before (told_of line)) (sym is.ballots ∙ g) ∙ takes_name before notes e (told_of line) is.told.alternatives t)
 
-pub takes_memory-is : (pick : Pick) (before : List (List ℕ)) (line : List ℕ) (notes : Notes) (e : Election) → IsAfter pick before notes e → line_error pick notes line ≡ None
-    → effect_takes e (line_effect pick notes line) ≡ true → takes_memory pick ballot_of before line ≡ true
-takes_memory-is pick before line notes e is fine takes = or_right (length before == 0) _ (is_growth-is pick before line notes e is fine takes)
-
 -- ---- the end
 
 pub end_error-is : (pick : Pick) (lines : List (List ℕ)) (notes : Notes) (e : Election) → IsAfter pick lines notes e → end_error notes e ≡ end_fault lines
@@ -417,14 +413,16 @@ pub fault_at_end : (pick : Pick) (lines : List (List ℕ)) → IsFine pick lines
 fault_at_end pick lines fine = fault_of_lines pick lines None (none_faulty pick lines fine)
 
 -- the first line with a fault
-pub fault_at : (pick : Pick) (before : List (List ℕ)) (line : List ℕ) (more : List (List ℕ)) (name : FaultName) → IsFine pick before → line_fault pick ballot_of before line ≡ Some name
-    → first_fault pick ballot_of (before ++ line ∷ more) ≡ Some (at_line (length before + 1) name)
-fault_at pick before line more name fine fault =
-    fault_of_lines pick (before ++ line ∷ more) (Some (faulty_line (length before + 1) name))
-    (fine (line ∷ more) ∙ ap (λ o. or_else (option_map (faulty_line (length before + 1)) o) (first_faulty_line pick ballot_of (before ++ line ∷ []) more)) fault)
+pub faulty_at : (pick : Pick) (before : List (List ℕ)) (line : List ℕ) (more : List (List ℕ)) (name : FaultName) → IsFine pick before → line_fault pick ballot_of before line ≡ Some name
+    → first_faulty_line pick ballot_of [] (before ++ line ∷ more) ≡ Some (faulty_line (length before + 1) name)
+faulty_at pick before line more name fine fault =
+    fine (line ∷ more) ∙ ap (λ o. or_else (option_map (faulty_line (length before + 1)) o) (first_faulty_line pick ballot_of (before ++ line ∷ []) more)) fault
 
 -- a place in an input: the lines before it, none with a fault, and what was made of them
-pub record IsAt (pick : Pick) (bytes : List ℕ) (rest : List ℕ) (notes : Notes) (e : Election) (before : List (List ℕ)) : Type 0 where
+pub record IsAt (pick : Pick) (bytes : List ℕ) (rest : List ℕ) (notes : Notes) (e : Election) (number : ℕ) : Type 0 where
+  pub before : List (List ℕ)
   pub lines : lines_of bytes ≡ before ++ map without_return (pieces_of rest)
   pub fine : IsFine pick before
   pub after : IsAfter pick before notes e
+  pub count : number ≡ length before
+  pub room : number + length rest ≤ length bytes

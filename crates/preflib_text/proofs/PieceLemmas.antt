@@ -1,6 +1,6 @@
 -- What is kept of the bytes that were fed, and what they tell.
-use Rattle.preflib_text.proofs.BallotFaults.{or_else-parts, or_else-assoc}
-use Rattle.std.proofs.Common.{◌≡◌, ◌⊎◌, inl, inr, ℕ, ◌+◌, ◌-◌, ◌<◌, ◌≤◌, ◌==◌, ◌&&◌, ◌||◌, Bool, true, false, not, cond, List, [], ◌∷◌, ◌++◌, refl, sym, ap, subst, ◌∙◌, arith, length, map, take, drop, get_or, append-nil, replicate, Option, Some, None, IfSome, is_some, option_map, unwrap_or, Ok, Err}
+use Rattle.preflib_text.proofs.BallotFaults.{or_else-assoc}
+use Rattle.std.proofs.Common.{◌≡◌, ◌⊎◌, inl, inr, ℕ, ◌+◌, ◌-◌, ◌<◌, ◌≤◌, ◌==◌, ◌&&◌, ◌||◌, Bool, true, false, not, cond, List, [], ◌∷◌, ◌++◌, refl, sym, ap, subst, ◌∙◌, arith, length, map, take, drop, get_or, append-nil, replicate, Option, Some, None, IfSome, is_some, option_map, unwrap_or, Err}
 use Rattle.std.specs.Prelude.{nat_lt, nat_eq}
 use Rattle.std.specs.List.{starts_with, list_all, list_any}
 use Rattle.std.proofs.Math.Path.{fun_ext}
@@ -15,15 +15,15 @@ use Rattle.preflib_text.specs.declared.fault.FaultName.TheVariants.{LongLine, Me
 use Rattle.preflib_text.specs.declared.fault.ReadFault.{ReadFault}
 use Rattle.preflib_text.specs.declared.notes.Notes.{Notes}
 use Rattle.preflib_text.specs.Lines.{lines_of, pieces_of, without_return, without_mark}
-use Rattle.preflib_text.specs.Reading.{Cast, IsReading, Reads, RunsShort, FaultyLine, faulty_line, fault_of_line, or_else, fault_if, first_fault, first_faulty_line, is_growth, line_fault, at_end, at_line, end_fault, outcome_by, election_in}
+use Rattle.preflib_text.specs.Reading.{Cast, Reads, FaultyLine, faulty_line, fault_of_line, or_else, fault_if, first_faulty_line, line_fault, at_line}
 use Rattle.preflib_text.specs.Pieces.{unfinished, ended, ended_lines, unfinished_line, is_too_long, known_fault, Tells, LacksMemory, IsLate, feeding, IsTrue}
 use Rattle.preflib_text.specs.Steps.Tokens.{ballot_of}
-use Rattle.preflib_text.specs.Steps.Notes.{Refuses, effect_takes, fresh_notes, line_error, line_notes, line_effect, effect_error, end_error}
+use Rattle.preflib_text.specs.Steps.Notes.{fresh_notes, line_error}
 use Rattle.preflib_text.specs.Steps.After.{IsAfter, IsFine}
-use Rattle.preflib_text.specs.Steps.Pieces.{line_room, unmarked, line_with, IsReady, IsRead, IsRefused, IsFed, Agrees}
+use Rattle.preflib_text.specs.Steps.Pieces.{line_room, unmarked, line_with, IsRead, IsLineRefused, IsRefused, IsFed, Agrees}
 use Rattle.preflib_text.proofs.BallotLines.{ballot_of_reads, one_reading}
-use Rattle.preflib_text.proofs.After.{is_after-none, is_fine-none, is_fine-more, fault_at_end, line_error-is, after-line, end_error-is, election_in-is, none_faulty, is_growth-is}
-use Rattle.preflib_text.proofs.ReadLemmas.{reads_fault, reads_election}
+use Rattle.preflib_text.proofs.After.{is_after-none, is_fine-none, is_fine-more, none_faulty}
+use Rattle.preflib_text.proofs.ReadLemmas.{reads_by, read_fine, read_after, IsRefusal, refusal_is, outcome_refused}
 use Rattle.preflib_text.proofs.EndLemmas.{NoEnd, no_end_search, split_first, unfinished_more, unfinished_end, ended_more, no_end_unfinished, no_end_unmarked, no_end_append, ended_and_unfinished, mark_more, pieces_whole, pieces_none, lines_from, lines_cut, ended_lines_cut, none_ended, unfinished_line-is, lines_within}
 
 -- ---- how long lines are
@@ -229,10 +229,6 @@ stays_true pick bytes more fault (inl (read, reads, is)) = inl (read, reads, by 
         ap Some fault_is ∙ sym (known-line pick read (bytes ++ more) (faulty_line (length (ended_lines bytes) + 1) LongLine)
         (ap (first_faulty_line pick read []) lines ∙ faulty_line-at pick read (ended_lines bytes) line (map without_return (pieces_of (ended after))) LongLine none (long_line pick read (ended_lines bytes) line line_long)))
 
-reads_by : (pick : Pick) (read : List ℕ → Option Cast) → IsReading read → (bytes : List ℕ) (faulty : FaultyLine) (fault : ReadFault) → fault ≡ fault_of_line faulty → first_faulty_line pick read [] (lines_of bytes) ≡ Some faulty → Reads bytes pick (Err fault)
-reads_by pick read reads bytes faulty fault is first =
-    (read, reads, ap Err is ∙ sym (ap (λ o. outcome_by (election_in pick read (lines_of bytes)) (or_else (option_map fault_of_line o) (option_map at_end (end_fault (lines_of bytes))))) first))
-
 -- a fault that bytes tell is that of every input that begins with them
 pub told_everywhere : (bytes more : List ℕ) (pick : Pick) (fault : ReadFault) → Tells bytes pick (Some fault) → Reads (bytes ++ more) pick (Err fault)
 told_everywhere bytes more pick fault (read, reads, is) = by (known_cases pick read bytes fault is)
@@ -281,15 +277,6 @@ module _ (pick : Pick) (bytes : List ℕ) (notes : Notes) (e : Election) (number
   line_is : (part : List ℕ) → line_with number (held ++ part) ≡ line_with (length (ended_lines bytes)) (unfinished bytes ++ part)
   line_is part = ap (λ n. line_with n (held ++ part)) is.count ∙ ap (λ l. line_with (length (ended_lines bytes)) (l ++ part)) is.kept
 
-  read_fine : (line : List ℕ) (next_notes : Notes) (next : Election) → IsRead pick notes e line next_notes next → line_fault pick ballot_of (ended_lines bytes) line ≡ None
-  read_fine line next_notes next read =
-      sym (line_error-is pick (ended_lines bytes) line notes e is.after) ∙ ap (λ o. or_else o (effect_error e (line_effect pick notes line))) read.no_error ∙ read.no_effect
-
-  read_after : (line : List ℕ) (next_notes : Notes) (next : Election) → IsRead pick notes e line next_notes next → IsAfter pick (ended_lines bytes ++ line ∷ []) next_notes next
-  read_after line next_notes next read =
-      subst (λ n. IsAfter pick (ended_lines bytes ++ line ∷ []) n next) (sym read.notes_are)
-      (subst (IsAfter pick (ended_lines bytes ++ line ∷ []) (line_notes pick notes line)) (sym read.next_is) (after-line pick (ended_lines bytes) line notes e is.after read.no_error))
-
   pub line_fed : (part : List ℕ) (next_notes : Notes) (next : Election) (next_number : ℕ) (next_held : List ℕ) → NoEnd part → IsRead pick notes e (line_with number (held ++ part)) next_notes next
       → next_number ≡ number + 1 → next_held ≡ [] → IsFed pick (bytes ++ (part ++ 10 ∷ [])) next_notes next next_number next_held
   line_fed part next_notes next next_number next_held none read_held next_count emptied =
@@ -298,12 +285,17 @@ module _ (pick : Pick) (bytes : List ℕ) (notes : Notes) (e : Election) (number
       let lines : ended_lines (bytes ++ (part ++ 10 ∷ [])) ≡ ended_lines bytes ++ line ∷ [] = ended_lines_cut bytes part [] none ∙ ap (λ l. ended_lines bytes ++ line ∷ map without_return l) pieces_none in
       let rest : unfinished (bytes ++ (part ++ 10 ∷ [])) ≡ [] = ap unfinished (sym (append_assoc bytes part (10 ∷ []))) ∙ unfinished_end (bytes ++ part) in
       record {
-        fine = subst (IsFine pick) (sym lines) (is_fine-more pick (ended_lines bytes) line is.fine (read_fine line next_notes next read));
-        after = subst (λ l. IsAfter pick l next_notes next) (sym lines) (read_after line next_notes next read);
+        fine = subst (IsFine pick) (sym lines) (is_fine-more pick (ended_lines bytes) line is.fine (read_fine pick (ended_lines bytes) notes e is.after line next_notes next read));
+        after = subst (λ l. IsAfter pick l next_notes next) (sym lines) (read_after pick (ended_lines bytes) notes e is.after line next_notes next read);
         count = next_count ∙ ap (λ n. n + 1) is.count ∙ sym (ap length lines ∙ length-append (ended_lines bytes) (line ∷ []));
         kept = emptied ∙ sym rest;
         short = ap is_too_long (unfinished_line-is (bytes ++ (part ++ 10 ∷ []))) ∙ ap (λ l. is_too_long (unmarked (length (ended_lines (bytes ++ (part ++ 10 ∷ [])))) l)) rest ∙ short_none (length (ended_lines (bytes ++ (part ++ 10 ∷ []))));
       }
+
+  grown : (part : List ℕ) → NoEnd part → unfinished_line (bytes ++ part) ≡ unmarked number (held ++ part)
+  grown part none =
+      unfinished_line-is (bytes ++ part) ∙ ap (λ l. unmarked (length l) (unfinished (bytes ++ part))) (same_lines bytes part none)
+      ∙ ap (unmarked (length (ended_lines bytes))) (unfinished_more bytes part none ∙ ap (λ l. l ++ part) (sym is.kept)) ∙ ap (λ n. unmarked n (held ++ part)) (sym is.count)
 
   pub more_fed : (part next_held : List ℕ) → NoEnd part → next_held ≡ held ++ part → is_too_long (unmarked number (held ++ part)) ≡ false → IsFed pick (bytes ++ part) notes e number next_held
   more_fed part next_held none same short =
@@ -315,15 +307,10 @@ module _ (pick : Pick) (bytes : List ℕ) (notes : Notes) (e : Election) (number
         kept = same ∙ ap (λ l. l ++ part) is.kept ∙ sym (unfinished_more bytes part none);
         short = ap is_too_long (grown part none) ∙ short;
       }
-    where
-      grown : (part : List ℕ) → NoEnd part → unfinished_line (bytes ++ part) ≡ unmarked number (held ++ part)
-      grown part none =
-          unfinished_line-is (bytes ++ part) ∙ ap (λ l. unmarked (length l) (unfinished (bytes ++ part))) (same_lines bytes part none)
-          ∙ ap (unmarked (length (ended_lines bytes))) (unfinished_more bytes part none ∙ ap (λ l. l ++ part) (sym is.kept)) ∙ ap (λ n. unmarked n (held ++ part)) (sym is.count)
 
   -- a line is refused
   pub line_refused : (part after : List ℕ) (fault : ReadFault) → NoEnd part → IsRefused pick notes e (line_with number (held ++ part)) (number + 1) fault → IsTrue (feeding pick (bytes ++ (part ++ 10 ∷ after)) (Some fault))
-  line_refused part after fault none (name, fault_is, refuses) = by (subst (λ l. Refuses (or_else (line_error pick notes l) (effect_error e (line_effect pick notes l))) (effect_takes e (line_effect pick notes l)) name) (line_is part) refuses)
+  line_refused part after fault none (name, placed, refused) = by (refusal_is pick (ended_lines bytes) notes e is.after line tail name is.fine (subst (λ l. IsLineRefused pick notes e l name) (line_is part) refused))
     where
       line : List ℕ
       line = line_with (length (ended_lines bytes)) (unfinished bytes ++ part)
@@ -334,47 +321,22 @@ module _ (pick : Pick) (bytes : List ℕ) (notes : Notes) (e : Election) (number
       lines : ended_lines (bytes ++ (part ++ 10 ∷ after)) ≡ ended_lines bytes ++ line ∷ tail
       lines = ended_lines_cut bytes part after none
 
-      placed : (other : FaultName) → name ≡ other → fault ≡ at_line (length (ended_lines bytes) + 1) other
-      placed other same = fault_is ∙ ap (at_line (number + 1)) same ∙ ap (λ n. at_line (n + 1) other) is.count
+      fault_is : fault ≡ at_line (length (ended_lines bytes) + 1) name
+      fault_is = placed ∙ ap (λ n. at_line (n + 1) name) is.count
 
-      by : Refuses (or_else (line_error pick notes line) (effect_error e (line_effect pick notes line))) (effect_takes e (line_effect pick notes line)) name → IsTrue (feeding pick (bytes ++ (part ++ 10 ∷ after)) (Some fault))
-      by (inl error) =
-          let has : line_fault pick ballot_of (ended_lines bytes) line ≡ Some name = sym (line_error-is pick (ended_lines bytes) line notes e is.after) ∙ error in
-          inl (
-            ballot_of,
-            ballot_of_reads,
-            ap Some (placed name refl) ∙ sym (known-line pick ballot_of (bytes ++ (part ++ 10 ∷ after)) (faulty_line (length (ended_lines bytes) + 1) name)
-                (ap (first_faulty_line pick ballot_of []) lines ∙ faulty_line-at pick ballot_of (ended_lines bytes) line tail name (none_faulty pick (ended_lines bytes) is.fine) has)),
-          )
-      by (inr (memory, error, takes)) =
-          let no_fault = sym (line_error-is pick (ended_lines bytes) line notes e is.after) ∙ error in
-          inr (
-            fault,
-            refl,
-            (
-              ended_lines bytes,
-              line,
-              tail,
-              lines,
-              placed Memory memory,
-              ballot_of,
-              ballot_of_reads,
-              none_faulty pick (ended_lines bytes ++ line ∷ []) (is_fine-more pick (ended_lines bytes) line is.fine no_fault),
-              is_growth-is pick (ended_lines bytes) line notes e is.after (or_else-parts _ _ error).0 takes,
-            ),
-          )
+      by : IsRefusal pick (ended_lines bytes) line tail name → IsTrue (feeding pick (bytes ++ (part ++ 10 ∷ after)) (Some fault))
+      by (inl first) = inl (ballot_of, ballot_of_reads, ap Some fault_is ∙ sym (known-line pick ballot_of (bytes ++ (part ++ 10 ∷ after)) (faulty_line (length (ended_lines bytes) + 1) name) (ap (first_faulty_line pick ballot_of []) lines ∙ first)))
+      by (inr lacks) = inr (fault, refl, subst (λ l. LacksMemory l pick fault) (sym lines) (subst (LacksMemory (ended_lines bytes ++ line ∷ tail) pick) (sym fault_is) lacks))
 
   pub long_refused : (part : List ℕ) (fault : ReadFault) → NoEnd part → is_too_long (unmarked number (held ++ part)) ≡ true → fault ≡ at_line (number + 1) LongLine → IsTrue (feeding pick (bytes ++ part) (Some fault))
   long_refused part fault none long fault_is =
       let lines = same_lines bytes part none in
-      let grown = unfinished_line-is (bytes ++ part) ∙ ap (λ l. unmarked (length l) (unfinished (bytes ++ part))) lines
-      ∙ ap (unmarked (length (ended_lines bytes))) (unfinished_more bytes part none ∙ ap (λ l. l ++ part) (sym is.kept)) ∙ ap (λ n. unmarked n (held ++ part)) (sym is.count) in
       let count : number ≡ length (ended_lines (bytes ++ part)) = is.count ∙ sym (ap length lines) in
       inl (
         ballot_of,
         ballot_of_reads,
         ap Some (fault_is ∙ ap (λ n. at_line (n + 1) LongLine) count)
-            ∙ sym (known-long pick ballot_of (bytes ++ part) (ap (first_faulty_line pick ballot_of []) lines ∙ none_faulty pick (ended_lines bytes) is.fine) (ap is_too_long grown ∙ long)),
+            ∙ sym (known-long pick ballot_of (bytes ++ part) (ap (first_faulty_line pick ballot_of []) lines ∙ none_faulty pick (ended_lines bytes) is.fine) (ap is_too_long (grown part none) ∙ long)),
       )
 
   -- no fault so far
@@ -420,23 +382,14 @@ module _ (pick : Pick) (bytes : List ℕ) (notes : Notes) (e : Election) (number
       let piece : pieces_of (unmarked number held) ≡ unmarked number held ∷ [] = ap pieces_of begun ∙ pieces_whole b rest (subst NoEnd begun content) ∙ ap (λ l. l ∷ []) (sym begun) in
       ap lines_of (sym (append-nil bytes)) ∙ lines_from bytes [] ∙ ap (λ l. ended_lines bytes ++ map without_return (pieces_of l)) same ∙ ap (λ l. ended_lines bytes ++ map without_return l) piece
 
-  -- ---- what the next line asks for
-
-  pub ready : IsReady notes e
-  ready = record {
-    sound = is.after.told.sound;
-    opened = λ none. ((is.after.opened none).0, (is.after.opened none).1);
-    begun = λ some. let (m, number_is, profile, rows) = is.after.begun some in number_is ∙ ap (λ (f : Election). Some f.m) (sym profile);
-  }
-
   -- ---- the end of the input
 
   pub end_read : (next_notes : Notes) (next : Election) → (b : ℕ) (rest : List ℕ) → unmarked number held ≡ b ∷ rest → IsRead pick notes e (line_with number held) next_notes next
       → IsFine pick (lines_of bytes) × IsAfter pick (lines_of bytes) next_notes next
   end_read next_notes next b rest some read =
       let lines = last_line b rest some in (
-        subst (IsFine pick) (sym lines) (is_fine-more pick (ended_lines bytes) (line_with number held) is.fine (read_fine (line_with number held) next_notes next read)),
-        subst (λ l. IsAfter pick l next_notes next) (sym lines) (read_after (line_with number held) next_notes next read),
+        subst (IsFine pick) (sym lines) (is_fine-more pick (ended_lines bytes) (line_with number held) is.fine (read_fine pick (ended_lines bytes) notes e is.after (line_with number held) next_notes next read)),
+        subst (λ l. IsAfter pick l next_notes next) (sym lines) (read_after pick (ended_lines bytes) notes e is.after (line_with number held) next_notes next read),
       )
 
   pub end_none : unmarked number held ≡ [] → IsFine pick (lines_of bytes) × IsAfter pick (lines_of bytes) notes e
@@ -444,47 +397,8 @@ module _ (pick : Pick) (bytes : List ℕ) (notes : Notes) (e : Election) (number
 
   pub end_refused : (fault : ReadFault) (b : ℕ) (rest : List ℕ) → unmarked number held ≡ b ∷ rest → IsRefused pick notes e (line_with number held) (number + 1) fault
       → Reads bytes pick (Err fault) ⊎ LacksMemory (lines_of bytes) pick fault
-  end_refused fault b rest some (name, fault_is, refuses) = by refuses
-    where
-      line : List ℕ
-      line = line_with number held
-
-      lines : lines_of bytes ≡ ended_lines bytes ++ line ∷ []
-      lines = last_line b rest some
-
-      placed : (other : FaultName) → name ≡ other → fault ≡ at_line (length (ended_lines bytes) + 1) other
-      placed other same = fault_is ∙ ap (at_line (number + 1)) same ∙ ap (λ n. at_line (n + 1) other) is.count
-
-      by : Refuses (or_else (line_error pick notes line) (effect_error e (line_effect pick notes line))) (effect_takes e (line_effect pick notes line)) name → Reads bytes pick (Err fault) ⊎ LacksMemory (lines_of bytes) pick fault
-      by (inl error) =
-          let has : line_fault pick ballot_of (ended_lines bytes) line ≡ Some name = sym (line_error-is pick (ended_lines bytes) line notes e is.after) ∙ error in
-          inl (reads_by pick ballot_of ballot_of_reads bytes (faulty_line (length (ended_lines bytes) + 1) name) fault (placed name refl)
-          (ap (first_faulty_line pick ballot_of []) lines ∙ faulty_line-at pick ballot_of (ended_lines bytes) line [] name (none_faulty pick (ended_lines bytes) is.fine) has))
-      by (inr (memory, error, takes)) =
-          let no_fault = sym (line_error-is pick (ended_lines bytes) line notes e is.after) ∙ error in
-          inr (
-            ended_lines bytes,
-            line,
-            [],
-            lines,
-            placed Memory memory,
-            ballot_of,
-            ballot_of_reads,
-            none_faulty pick (ended_lines bytes ++ line ∷ []) (is_fine-more pick (ended_lines bytes) line is.fine no_fault),
-            is_growth-is pick (ended_lines bytes) line notes e is.after (or_else-parts _ _ error).0 takes,
-          )
-
-module _ (pick : Pick) (bytes : List ℕ) (notes : Notes) (e : Election) (fine : IsFine pick (lines_of bytes)) (after : IsAfter pick (lines_of bytes) notes e) where
-  first_is : first_fault pick ballot_of (lines_of bytes) ≡ option_map at_end (end_error notes e)
-  first_is = fault_at_end pick (lines_of bytes) fine ∙ ap (option_map at_end) (sym (end_error-is pick (lines_of bytes) notes e after))
-
-  pub finished-ok : (profile : Election) → end_error notes e ≡ None → profile ≡ e → Reads bytes pick (Ok profile)
-  finished-ok profile none same = reads_election bytes pick (lines_of bytes) profile refl (first_is ∙ ap (option_map at_end) none) (same ∙ election_in-is pick (lines_of bytes) notes e after none)
-
-  pub finished-fault : (fault : ReadFault) → end_error notes e ≡ Some fault.name → fault.line ≡ None → Reads bytes pick (Err fault)
-  finished-fault fault error line =
-      let same : at_end fault.name ≡ fault = ap (λ l. record { name = fault.name; line = l }) (sym line) in
-      reads_fault bytes pick (lines_of bytes) fault refl (first_is ∙ ap (option_map at_end) error ∙ ap Some same)
+  end_refused fault b rest some (name, placed, refused) =
+      outcome_refused pick (ended_lines bytes) notes e is.after bytes (line_with number held) [] name fault is.fine (last_line b rest some) (placed ∙ ap (λ n. at_line (n + 1) name) is.count) refused
 
 -- a line that is too long is refused
 pub long_refusal : (pick : Pick) (notes : Notes) (e : Election) (number : ℕ) (bytes : List ℕ) (fault : ReadFault) → is_too_long (unmarked number bytes) ≡ true → fault ≡ at_line (number + 1) LongLine
@@ -662,11 +576,3 @@ one_line bytes = no_end_any (unfinished_line bytes) (no_end_unfinished (without_
 
 pub fits : (line : List ℕ) → is_too_long line ≡ false → length (without_return line) ≤ most_line_bytes
 fits line short = ltb-false most_line_bytes (length (without_return line)) short
-
-pub lacks_short : (bytes : List ℕ) (pick : Pick) (fault : ReadFault) → LacksMemory (lines_of bytes) pick fault → RunsShort bytes pick fault
-lacks_short bytes pick fault (before, line, after, is, fault_is, read, reads, none, growth) =
-    (before, line, after, is, fault_is, read, reads, none, by (length before == 0))
-  where
-    by : (t : Bool) → (t || is_growth pick read before line) ≡ true
-    by true = refl
-    by false = growth

@@ -1,6 +1,6 @@
 -- The reading of a whole input, from its first line to its end.
 use Rattle.preflib_text.proofs.BallotFaults.{or_else-parts}
-use Rattle.std.proofs.Common.{◌≡◌, ◌⊎◌, inl, inr, ℕ, ◌+◌, ◌<◌, ◌≤◌, ◌==◌, Bool, true, false, cond, List, [], ◌∷◌, ◌++◌, refl, sym, ap, subst, ◌∙◌, arith, length, map, drop, append-nil, replicate, Option, Some, None, option_map, unwrap_or, Result, Ok, Err, MatchResult, IfOk, IfErr}
+use Rattle.std.proofs.Common.{◌||◌, ◌≡◌, ◌⊎◌, inl, inr, ℕ, ◌+◌, ◌<◌, ◌≤◌, ◌==◌, Bool, true, false, cond, List, [], ◌∷◌, ◌++◌, refl, sym, ap, subst, ◌∙◌, arith, length, map, drop, append-nil, replicate, Option, Some, None, option_map, unwrap_or, Result, Ok, Err, MatchResult, IfOk, IfErr}
 use Rattle.std.specs.Prelude.{nat_lt, nat_eq}
 use Rattle.std.proofs.Math.Path.{fun_ext}
 use Rattle.std.specs.List.{starts_with}
@@ -16,11 +16,13 @@ use Rattle.preflib_text.specs.declared.notes.Notes.{Notes}
 use Rattle.preflib_text.specs.Lines.{is_ballot_line, lines_of, pieces_of, without_return, without_mark, onto_first}
 use Rattle.preflib_text.specs.Metadata.{told_of}
 use Rattle.preflib_text.specs.Steps.Tokens.{ballot_of}
-use Rattle.preflib_text.specs.Reading.{Cast, outcome_in, Reads, RunsShort, or_else, fault_if, first_fault, takes_memory, line_fault, at_end, at_line, outcome_by, election_in}
-use Rattle.preflib_text.specs.Steps.Notes.{Refuses, effect_takes, fresh_notes, told_error, told_effect, ballot_error, cast_effect, line_error, line_notes, line_effect, effect_error, with_effect, end_error}
+use Rattle.preflib_text.specs.Reading.{Cast, IsReading, outcome_in, Reads, RunsShort, or_else, fault_if, first_fault, first_faulty_line, FaultyLine, faulty_line, fault_of_line, is_growth, end_fault, takes_memory, line_fault, at_end, at_line, outcome_by, election_in}
+use Rattle.preflib_text.specs.Pieces.{LacksMemory}
+use Rattle.preflib_text.specs.Steps.Pieces.{IsReady, IsRead, IsLineRefused}
+use Rattle.preflib_text.specs.Steps.Notes.{fresh_notes, told_error, told_effect, ballot_error, cast_effect, line_error, line_notes, line_effect, effect_error, end_error}
 use Rattle.preflib_text.proofs.BallotLines.{ballot_of_reads, one_reading}
 use Rattle.preflib_text.specs.Steps.After.{IsAfter, IsFine}
-use Rattle.preflib_text.proofs.After.{IsAt, is_after-none, is_fine-none, is_fine-more, fault_at, line_error-is, after-line, end_error-is, election_in-is, none_faulty, fault_at_end, takes_memory-is, told_effect-fine}
+use Rattle.preflib_text.proofs.After.{IsAt, is_after-none, is_fine-none, is_fine-more, faulty_at, is_growth-is, line_error-is, after-line, end_error-is, election_in-is, none_faulty, fault_at_end, told_effect-fine}
 
 -- ---- what an input holds
 
@@ -37,6 +39,18 @@ runs_short : (bytes : List ℕ) (pick : Pick) (before : List (List ℕ)) (line :
 runs_short bytes pick before line after is fine takes =
     (before, line, after, is, refl, ballot_of, ballot_of_reads, none_faulty pick (before ++ line ∷ []) fine, takes)
 
+pub reads_by : (pick : Pick) (read : List ℕ → Option Cast) → IsReading read → (bytes : List ℕ) (faulty : FaultyLine) (fault : ReadFault) → fault ≡ fault_of_line faulty → first_faulty_line pick read [] (lines_of bytes) ≡ Some faulty → Reads bytes pick (Err fault)
+reads_by pick read reads bytes faulty fault is first =
+    (read, reads, ap Err is ∙ sym (ap (λ o. outcome_by (election_in pick read (lines_of bytes)) (or_else (option_map fault_of_line o) (option_map at_end (end_fault (lines_of bytes))))) first))
+
+pub lacks_short : (bytes : List ℕ) (pick : Pick) (fault : ReadFault) → LacksMemory (lines_of bytes) pick fault → RunsShort bytes pick fault
+lacks_short bytes pick fault (before, line, after, is, fault_is, read, reads, none, growth) =
+    (before, line, after, is, fault_is, read, reads, none, by (length before == 0))
+  where
+    by : (t : Bool) → (t || is_growth pick read before line) ≡ true
+    by true = refl
+    by false = growth
+
 -- ---- the start
 
 length-without_mark : (bytes : List ℕ) → length (without_mark bytes) ≤ length bytes
@@ -46,69 +60,89 @@ length-without_mark bytes = by (starts_with nat_eq bytes (239 ∷ 187 ∷ 191 �
     by true = let rest = length-drop 3 bytes in omega (arith, rest)
     by false = omega arith
 
-pub at_start : (pick : Pick) (bytes rest : List ℕ) (notes : Notes) (e : Election) → rest ≡ without_mark bytes → notes ≡ fresh_notes pick → e ≡ election most_candidates (replicate most_candidates []) []
-    → (before : List (List ℕ)) × IsAt pick bytes rest notes e before × (0 ≡ length before) × (0 + length rest ≤ length bytes)
-at_start pick bytes rest notes e is fresh empty = (
-  [],
-  record {
-    lines = ap (λ l. map without_return (pieces_of l)) (sym is);
-    fine = is_fine-none pick;
-    after = subst (λ n. IsAfter pick [] n e) (sym fresh) (subst (IsAfter pick [] (fresh_notes pick)) (sym empty) (is_after-none pick));
-  },
-  refl,
-  subst (λ l. 0 + length l ≤ length bytes) (sym is) (shorter (length-without_mark bytes)),
-)
-  where
-    shorter : {n m : ℕ} → n ≤ m → 0 + n ≤ m
-    shorter h = omega arith
+pub at_start : (pick : Pick) (bytes rest : List ℕ) (notes : Notes) (e : Election) → rest ≡ without_mark bytes → notes ≡ fresh_notes pick → e ≡ election most_candidates (replicate most_candidates []) [] → IsAt pick bytes rest notes e 0
+at_start pick bytes rest notes e is fresh empty =
+    let shorter = length-without_mark bytes in
+    let same = ap length is in
+    record {
+      before = [];
+      lines = ap (λ l. map without_return (pieces_of l)) (sym is);
+      fine = is_fine-none pick;
+      after = subst (λ n. IsAfter pick [] n e) (sym fresh) (subst (IsAfter pick [] (fresh_notes pick)) (sym empty) (is_after-none pick));
+      count = refl;
+      room = omega (arith, shorter, same);
+    }
 
 -- ---- a line
 
--- the lines, cut before this one
-lines_at : (bytes rest line after piece : List ℕ) (before : List (List ℕ)) → lines_of bytes ≡ before ++ map without_return (pieces_of rest) → pieces_of rest ≡ piece ∷ pieces_of after → line ≡ without_return piece
-    → lines_of bytes ≡ before ++ line ∷ map without_return (pieces_of after)
-lines_at bytes rest line after piece before lines cut is = lines ∙ ap (λ p. before ++ map without_return p) cut ∙ ap (λ l. before ++ l ∷ map without_return (pieces_of after)) (sym is)
+-- a line that was refused has the first fault, or lacks memory
+abbrev pub IsRefusal : Pick → List (List ℕ) → List ℕ → List (List ℕ) → FaultName → Type 0
+IsRefusal pick before line tail name = (first_faulty_line pick ballot_of [] (before ++ line ∷ tail) ≡ Some (faulty_line (length before + 1) name)) ⊎ LacksMemory (before ++ line ∷ tail) pick (at_line (length before + 1) name)
 
-module _ (pick : Pick) (bytes rest line after : List ℕ) (notes : Notes) (e : Election) (number : ℕ)
-    (inv : (before : List (List ℕ)) × IsAt pick bytes rest notes e before × (number ≡ length before) × (number + length rest ≤ length bytes))
+module _ (pick : Pick) (before : List (List ℕ)) (notes : Notes) (e : Election) (is : IsAfter pick before notes e) where
+  pub ready : IsReady notes e
+  ready = record {
+    sound = is.told.sound;
+    opened = λ none. ((is.opened none).0, (is.opened none).1);
+    begun = λ some. let (m, number_is, profile, rows) = is.begun some in number_is ∙ ap (λ (f : Election). Some f.m) (sym profile);
+  }
+
+  pub read_fine : (line : List ℕ) (next_notes : Notes) (next : Election) → IsRead pick notes e line next_notes next → line_fault pick ballot_of before line ≡ None
+  read_fine line next_notes next read = sym (line_error-is pick before line notes e is) ∙ ap (λ o. or_else o (effect_error e (line_effect pick notes line))) read.no_error ∙ read.no_effect
+
+  pub read_after : (line : List ℕ) (next_notes : Notes) (next : Election) → IsRead pick notes e line next_notes next → IsAfter pick (before ++ line ∷ []) next_notes next
+  read_after line next_notes next read =
+      subst (λ n. IsAfter pick (before ++ line ∷ []) n next) (sym read.notes_are) (subst (IsAfter pick (before ++ line ∷ []) (line_notes pick notes line)) (sym read.next_is) (after-line pick before line notes e is read.no_error))
+
+  pub refusal_is : (line : List ℕ) (tail : List (List ℕ)) (name : FaultName) → IsFine pick before → IsLineRefused pick notes e line name → IsRefusal pick before line tail name
+  refusal_is line tail name fine (inl error) = inl (faulty_at pick before line tail name fine (sym (line_error-is pick before line notes e is) ∙ error))
+  refusal_is line tail name fine (inr (memory, error, takes)) =
+      let no_fault = sym (line_error-is pick before line notes e is) ∙ error in
+      inr (
+        before,
+        line,
+        tail,
+        refl,
+        ap (at_line (length before + 1)) memory,
+        ballot_of,
+        ballot_of_reads,
+        none_faulty pick (before ++ line ∷ []) (is_fine-more pick before line fine no_fault),
+        is_growth-is pick before line notes e is (or_else-parts _ _ error).0 takes,
+      )
+
+  pub outcome_refused : (bytes line : List ℕ) (tail : List (List ℕ)) (name : FaultName) (fault : ReadFault) → IsFine pick before → lines_of bytes ≡ before ++ line ∷ tail → fault ≡ at_line (length before + 1) name
+      → IsLineRefused pick notes e line name → Reads bytes pick (Err fault) ⊎ LacksMemory (lines_of bytes) pick fault
+  outcome_refused bytes line tail name fault fine lines placed refused = by (refusal_is line tail name fine refused)
+    where
+      by : IsRefusal pick before line tail name → Reads bytes pick (Err fault) ⊎ LacksMemory (lines_of bytes) pick fault
+      by (inl first) = inl (reads_by pick ballot_of ballot_of_reads bytes (faulty_line (length before + 1) name) fault placed (ap (first_faulty_line pick ballot_of []) lines ∙ first))
+      by (inr lacks) = inr (subst (λ l. LacksMemory l pick fault) (sym lines) (subst (LacksMemory (before ++ line ∷ tail) pick) (sym placed) lacks))
+
+module _ (pick : Pick) (bytes rest line after : List ℕ) (notes : Notes) (e : Election) (number : ℕ) (at : IsAt pick bytes rest notes e number)
     (cut : (piece : List ℕ) × (pieces_of rest ≡ piece ∷ pieces_of after) × (line ≡ without_return piece)) where
-  pub at_next : (next_notes : Notes) (next : Election) → length after < length rest
-      → (line_error pick notes line ≡ None) × (effect_error e (line_effect pick notes line) ≡ None) × (next_notes ≡ line_notes pick notes line) × (next ≡ with_effect e (line_effect pick notes line))
-      → (before : List (List ℕ)) × IsAt pick bytes after next_notes next before × (number + 1 ≡ length before) × (number + 1 + length after ≤ length bytes)
-  at_next next_notes next shorter (no_error, no_effect, notes_are, next_is) = by inv cut
-    where
-      by : ((before : List (List ℕ)) × IsAt pick bytes rest notes e before × (number ≡ length before) × (number + length rest ≤ length bytes))
-          → ((piece : List ℕ) × (pieces_of rest ≡ piece ∷ pieces_of after) × (line ≡ without_return piece))
-          → (before : List (List ℕ)) × IsAt pick bytes after next_notes next before × (number + 1 ≡ length before) × (number + 1 + length after ≤ length bytes)
-      by (before, is, count, room) (piece, pieces, line_is) =
-          let no_fault : line_fault pick ballot_of before line ≡ None = sym (line_error-is pick before line notes e is.after) ∙ ap (λ o. or_else o (effect_error e (line_effect pick notes line))) no_error ∙ no_effect in (
-            before ++ line ∷ [],
-            record {
-              lines = lines_at bytes rest line after piece before is.lines pieces line_is ∙ sym (append_assoc before (line ∷ []) (map without_return (pieces_of after)));
-              fine = is_fine-more pick before line is.fine no_fault;
-              after = subst (λ n. IsAfter pick (before ++ line ∷ []) n next) (sym notes_are) (subst (IsAfter pick (before ++ line ∷ []) (line_notes pick notes line)) (sym next_is) (after-line pick before line notes e is.after no_error));
-            },
-            ap (λ n. n + 1) count ∙ sym (length_push before line),
-            omega arith,
-          )
+  -- the lines, cut before this one
+  lines_at : lines_of bytes ≡ at.before ++ line ∷ map without_return (pieces_of after)
+  lines_at = at.lines ∙ ap (λ p. at.before ++ map without_return p) cut.1 ∙ ap (λ l. at.before ++ l ∷ map without_return (pieces_of after)) (sym cut.2)
 
-  pub at_fault : (name : FaultName) → Refuses (or_else (line_error pick notes line) (effect_error e (line_effect pick notes line))) (effect_takes e (line_effect pick notes line)) name
-      → (fault : ReadFault) → fault ≡ at_line (number + 1) name → Reads bytes pick (Err fault) ⊎ RunsShort bytes pick fault
-  at_fault name refused fault placed = subst (λ f. Reads bytes pick (Err f) ⊎ RunsShort bytes pick f) (sym placed) (by inv cut refused)
+  pub at_next : (next_notes : Notes) (next : Election) → length after < length rest → IsRead pick notes e line next_notes next → IsAt pick bytes after next_notes next (number + 1)
+  at_next next_notes next shorter read =
+      let room = at.room in
+      record {
+        before = at.before ++ line ∷ [];
+        lines = lines_at ∙ sym (append_assoc at.before (line ∷ []) (map without_return (pieces_of after)));
+        fine = is_fine-more pick at.before line at.fine (read_fine pick at.before notes e at.after line next_notes next read);
+        after = read_after pick at.before notes e at.after line next_notes next read;
+        count = ap (λ n. n + 1) at.count ∙ sym (length_push at.before line);
+        room = omega (arith, room, shorter);
+      }
+
+  pub at_fault : (name : FaultName) → IsLineRefused pick notes e line name → (fault : ReadFault) → fault ≡ at_line (number + 1) name → Reads bytes pick (Err fault) ⊎ RunsShort bytes pick fault
+  at_fault name refused fault placed =
+      by (outcome_refused pick at.before notes e at.after bytes line (map without_return (pieces_of after)) name fault at.fine lines_at (placed ∙ ap (λ n. at_line (n + 1) name) at.count) refused)
     where
-      by : ((before : List (List ℕ)) × IsAt pick bytes rest notes e before × (number ≡ length before) × (number + length rest ≤ length bytes))
-          → ((piece : List ℕ) × (pieces_of rest ≡ piece ∷ pieces_of after) × (line ≡ without_return piece))
-          → Refuses (or_else (line_error pick notes line) (effect_error e (line_effect pick notes line))) (effect_takes e (line_effect pick notes line)) name
-          → Reads bytes pick (Err (at_line (number + 1) name)) ⊎ RunsShort bytes pick (at_line (number + 1) name)
-      by (before, is, count, room) (piece, pieces, line_is) (inl fault) =
-          let lines = lines_at bytes rest line after piece before is.lines pieces line_is in
-          let has = sym (line_error-is pick before line notes e is.after) ∙ fault in
-          inl (reads_fault bytes pick (before ++ line ∷ map without_return (pieces_of after)) (at_line (number + 1) name) lines
-          (fault_at pick before line (map without_return (pieces_of after)) name is.fine has ∙ ap (λ n. Some (at_line (n + 1) name)) (sym count)))
-      by (before, is, count, room) (piece, pieces, line_is) (inr (memory, none, takes)) =
-          let lines = lines_at bytes rest line after piece before is.lines pieces line_is in
-          let no_fault = sym (line_error-is pick before line notes e is.after) ∙ none in
-          inr (subst (RunsShort bytes pick) (ap (λ n. at_line (n + 1) Memory) (sym count) ∙ ap (at_line (number + 1)) (sym memory)) (runs_short bytes pick before line (map without_return (pieces_of after)) lines (is_fine-more pick before line is.fine no_fault) (takes_memory-is pick before line notes e is.after (or_else-parts _ _ none).0 takes)))
+      by : Reads bytes pick (Err fault) ⊎ LacksMemory (lines_of bytes) pick fault → Reads bytes pick (Err fault) ⊎ RunsShort bytes pick fault
+      by (inl reads) = inl reads
+      by (inr lacks) = inr (lacks_short bytes pick fault lacks)
 
 -- ---- the end
 
@@ -117,30 +151,22 @@ unfolding pieces_of
 no_pieces [] h = refl
 no_pieces (b ∷ rest) h = absurd (grind arith)
 
-module _ (pick : Pick) (bytes rest : List ℕ) (notes : Notes) (e : Election) (number : ℕ)
-    (inv : (before : List (List ℕ)) × IsAt pick bytes rest notes e before × (number ≡ length before) × (number + length rest ≤ length bytes)) (none_left : (length rest == 0) ≡ true) where
-  ends : (before : List (List ℕ)) → IsAt pick bytes rest notes e before → (lines_of bytes ≡ before) × (first_fault pick ballot_of before ≡ option_map at_end (end_error notes e))
-  ends before is = (
-    is.lines ∙ ap (λ l. before ++ map without_return l) (no_pieces rest none_left) ∙ append-nil before,
-    fault_at_end pick before is.fine ∙ ap (option_map at_end) (sym (end_error-is pick before notes e is.after)),
-  )
+pub at_last : (pick : Pick) (bytes rest : List ℕ) (notes : Notes) (e : Election) (number : ℕ) → IsAt pick bytes rest notes e number → (length rest == 0) ≡ true → IsFine pick (lines_of bytes) × IsAfter pick (lines_of bytes) notes e
+at_last pick bytes rest notes e number at none_left =
+    let lines = at.lines ∙ ap (λ l. at.before ++ map without_return l) (no_pieces rest none_left) ∙ append-nil at.before in
+    (subst (IsFine pick) (sym lines) at.fine, subst (λ l. IsAfter pick l notes e) (sym lines) at.after)
 
-  pub at_end-ok : (profile : Election) → end_error notes e ≡ None → profile ≡ e → Reads bytes pick (Ok profile)
-  at_end-ok profile fine same = by inv
-    where
-      by : ((before : List (List ℕ)) × IsAt pick bytes rest notes e before × (number ≡ length before) × (number + length rest ≤ length bytes)) → Reads bytes pick (Ok profile)
-      by (before, is, count, room) =
-          let (lines, first) = ends before is in
-          reads_election bytes pick before profile lines (first ∙ ap (option_map at_end) fine) (same ∙ election_in-is pick before notes e is.after fine)
+module _ (pick : Pick) (bytes : List ℕ) (notes : Notes) (e : Election) (fine : IsFine pick (lines_of bytes)) (after : IsAfter pick (lines_of bytes) notes e) where
+  first_is : first_fault pick ballot_of (lines_of bytes) ≡ option_map at_end (end_error notes e)
+  first_is = fault_at_end pick (lines_of bytes) fine ∙ ap (option_map at_end) (sym (end_error-is pick (lines_of bytes) notes e after))
 
-  pub at_end-fault : (fault : ReadFault) → end_error notes e ≡ Some fault.name → fault.line ≡ None → Reads bytes pick (Err fault)
-  at_end-fault fault error line = by inv
-    where
-      by : ((before : List (List ℕ)) × IsAt pick bytes rest notes e before × (number ≡ length before) × (number + length rest ≤ length bytes)) → Reads bytes pick (Err fault)
-      by (before, is, count, room) =
-          let (lines, first) = ends before is in
-          let same : at_end fault.name ≡ fault = ap (λ l. record { name = fault.name; line = l }) (sym line) in
-          reads_fault bytes pick before fault lines (first ∙ ap (option_map at_end) error ∙ ap Some same)
+  pub finished-ok : (profile : Election) → end_error notes e ≡ None → profile ≡ e → Reads bytes pick (Ok profile)
+  finished-ok profile none same = reads_election bytes pick (lines_of bytes) profile refl (first_is ∙ ap (option_map at_end) none) (same ∙ election_in-is pick (lines_of bytes) notes e after none)
+
+  pub finished-fault : (fault : ReadFault) → end_error notes e ≡ Some fault.name → fault.line ≡ None → Reads bytes pick (Err fault)
+  finished-fault fault error line =
+      let same : at_end fault.name ≡ fault = ap (λ l. record { name = fault.name; line = l }) (sym line) in
+      reads_fault bytes pick (lines_of bytes) fault refl (first_is ∙ ap (option_map at_end) error ∙ ap Some same)
 
 -- ---- no memory for any profile
 
@@ -174,7 +200,7 @@ without_memory pick bytes (b ∷ rest) fault is none some = by (some_line b rest
     of_error : (line : List ℕ) (lines : List (List ℕ)) → lines_of bytes ≡ line ∷ lines → (error : Option FaultName) → line_error pick (fresh_notes pick) line ≡ error → fault ≡ at_line 1 (unwrap_or error Memory) → Reads bytes pick (Err fault) ⊎ RunsShort bytes pick fault
     of_error line lines cut (Some name) error same =
         let has : line_fault pick ballot_of [] line ≡ Some name = sym (line_error-is pick [] line (fresh_notes pick) (election most_candidates (replicate most_candidates []) []) start) ∙ ap (λ o. or_else o (effect_error (election most_candidates (replicate most_candidates []) []) (line_effect pick (fresh_notes pick) line))) error in
-        inl (reads_fault bytes pick (line ∷ lines) fault cut (fault_at pick [] line lines name (is_fine-none pick) has ∙ ap Some (sym same)))
+        inl (reads_by pick ballot_of ballot_of_reads bytes (faulty_line 1 name) fault same (ap (first_faulty_line pick ballot_of []) cut ∙ faulty_at pick [] line lines name (is_fine-none pick) has))
     of_error line lines cut None error same =
         let none_here : line_fault pick ballot_of [] line ≡ None = sym (line_error-is pick [] line (fresh_notes pick) (election most_candidates (replicate most_candidates []) []) start)
         ∙ ap (λ o. or_else o (effect_error (election most_candidates (replicate most_candidates []) []) (line_effect pick (fresh_notes pick) line))) error ∙ no_effect-fresh pick line (election most_candidates (replicate most_candidates []) []) error in

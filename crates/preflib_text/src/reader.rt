@@ -1,15 +1,13 @@
 //! Reading a whole ballot file: cuts its lines, applies each to the profile, and ends the profile.
-ghost use Rattle.std.specs.Prelude.{◌≡◌, ◌⊎◌, ℕ, ◌^◌, ◌<◌, ◌≤◌, ◌+◌, true, false, List, [], ◌∷◌, map, Some};
-ghost use Rattle.std.specs.Prelude.{None, unwrap_or, Result, Ok, Err, MatchResult, IfOk, IfErr, OnOk};
-ghost use Rattle.ballot_base.specs.Limits.{most_candidates};
-ghost use Rattle.ballot_base.specs.Lists.{IsIncreasing};
-ghost use Rattle.ballot_base.specs.Ballots.{Election, has_ballot};
+ghost use Rattle.std.specs.Prelude.{◌≡◌, ◌⊎◌, ℕ, ◌^◌, ◌<◌, List, [], ◌∷◌, map, Some, None, unwrap_or};
+ghost use Rattle.std.specs.Prelude.{Result, Ok, Err, MatchResult, IfOk, IfErr, OnOk};
+ghost use Rattle.ballot_base.specs.Ballots.{Election};
 ghost use Rattle.preflib_text.specs.Lines.{pieces_of, without_return};
 ghost use Rattle.preflib_text.specs.Approvals.{HasNumber};
-ghost use Rattle.preflib_text.specs.Reading.{Reads, RunsShort, or_else, at_end, at_line};
-ghost use Rattle.preflib_text.specs.Steps.Notes.{Casts, IsSound, MayCome, Names, DoneOrRefused, Refuses};
-ghost use Rattle.preflib_text.specs.Steps.Notes.{effect_takes, fresh_notes, line_effect, line_error, line_notes};
-ghost use Rattle.preflib_text.specs.Steps.Notes.{effect_error, effect_of, end_error, with_effect};
+ghost use Rattle.preflib_text.specs.Reading.{Reads, RunsShort, at_end, at_line};
+ghost use Rattle.preflib_text.specs.Steps.Notes.{Casts, MayCome, DoneOrRefused, effect_of, end_error, fresh_notes};
+ghost use Rattle.preflib_text.specs.Steps.Notes.{line_error};
+ghost use Rattle.preflib_text.specs.Steps.Pieces.{IsReady, IsRead, IsLineRefused};
 
 use crate::ballot::Ballot;
 use crate::fault::{FaultName, ReadFault};
@@ -83,19 +81,9 @@ pub(crate) fn take_line<A: Allocator + Copy + Drop>(
     line: &[u8],
 ) -> Result<(), FaultName>
     requires way { HasNumber pick.now.way }
-    requires notes { IsSound notes.old }
-    requires opened { notes.old.has_ballot ≡ false
-        → (builder.old.m ≡ most_candidates) × (builder.old.rows ≡ []) }
-    requires begun { notes.old.has_ballot ≡ true → notes.old.alternatives ≡ Some builder.old.m }
-    ensures ok { OnOk result
-        ((line_error pick.now notes.old line.now ≡ None)
-        × (effect_error builder.old (line_effect pick.now notes.old line.now) ≡ None)
-        × (notes.new ≡ line_notes pick.now notes.old line.now)
-        × (builder.new ≡ with_effect builder.old (line_effect pick.now notes.old line.now))) }
-    ensures err { IfErr result (λ name. Refuses
-        (or_else (line_error pick.now notes.old line.now)
-        (effect_error builder.old (line_effect pick.now notes.old line.now)))
-        (effect_takes builder.old (line_effect pick.now notes.old line.now)) name) }
+    requires ready { IsReady notes.old builder.old }
+    ensures ok { OnOk result (IsRead pick.now notes.old builder.old line.now notes.new builder.new) }
+    ensures err { IfErr result (λ name. IsLineRefused pick.now notes.old builder.old line.now name) }
 {
     match notes.take_line(pick, line) {
         Ok(effect) => apply(builder, &effect),

@@ -40,11 +40,15 @@ pub record IsRead (pick : Pick) (notes : Notes) (e : Election) (line : List ℕ)
   pub notes_are : next_notes ≡ line_notes pick notes line
   pub next_is : next ≡ with_effect e (line_effect pick notes line)
 
--- a line with this number was refused
-abbrev pub IsRefused : Pick → Notes → Election → List ℕ → ℕ → ReadFault → Type 0
-IsRefused pick notes e line number fault = (name : FaultName) × (fault ≡ at_line number name)
-    × Refuses (or_else (line_error pick notes line) (effect_error e (line_effect pick notes line)))
+-- a line was refused, and a line with this number was
+abbrev pub IsLineRefused : Pick → Notes → Election → List ℕ → FaultName → Type 0
+IsLineRefused pick notes e line name =
+    Refuses (or_else (line_error pick notes line) (effect_error e (line_effect pick notes line)))
     (effect_takes e (line_effect pick notes line)) name
+
+abbrev pub IsRefused : Pick → Notes → Election → List ℕ → ℕ → ReadFault → Type 0
+IsRefused pick notes e line number fault =
+    (name : FaultName) × (fault ≡ at_line number name) × IsLineRefused pick notes e line name
 
 -- these bytes were fed, without a fault so far
 pub record IsFed (pick : Pick) (bytes : List ℕ) (notes : Notes) (e : Election) (number : ℕ) (held : List ℕ)

@@ -1,4 +1,5 @@
-use Rattle.preflib_text.proofs.PieceLemmas.{told_once, told_some, told_everywhere, lacks_short}
+use Rattle.preflib_text.proofs.PieceLemmas.{told_once, told_some, told_everywhere}
+use Rattle.preflib_text.proofs.ReadLemmas.{lacks_short}
 use Rattle.preflib_text.proofs.laws.pieces.Goals as goal
 
 pub returns-clause-one : goal.returns-clause-one

@@ -1,7 +1,6 @@
 use Rattle.std.proofs.Common.{inl, sym, subst}
 use Rattle.preflib_text.specs.Steps.Pieces.{IsFed}
-use Rattle.preflib_text.proofs.ReadLemmas.{if_ok, if_err}
-use Rattle.preflib_text.proofs.PieceLemmas.{finished-ok, finished-fault}
+use Rattle.preflib_text.proofs.ReadLemmas.{if_ok, if_err, finished-ok, finished-fault}
 use Rattle.preflib_text.proofs.pieces.finish_lines.Goals as goal
 
 pub end_input-requires-clause-fed : goal.end_input-requires-clause-fed

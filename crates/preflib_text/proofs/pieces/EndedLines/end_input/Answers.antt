@@ -1,13 +1,14 @@
+use Rattle.preflib_text.proofs.ReadLemmas.{ready}
 use Rattle.std.proofs.lemmas.Result.{on_ok_weaker, IfErr-weaker}
 use Rattle.std.proofs.Common.{arith, sym, ◌∙◌}
-use Rattle.preflib_text.proofs.PieceLemmas.{ready, input_ended, input_count, input_read, input_refused}
+use Rattle.preflib_text.proofs.PieceLemmas.{input_ended, input_count, input_read, input_refused}
 use Rattle.preflib_text.proofs.pieces.EndedLines.end_input.Goals as goal
 
 pub returns-then-is_empty-clause-ok : goal.returns-then-is_empty-clause-ok
 returns-then-is_empty-clause-ok g c = input_ended _ _ _ _ _ _ c.requires.fed c.unmarked.result.now c.unmarked.ensures (sym c.is_empty.ensures ∙ c.if-is_empty.true)
 
 pub take-requires-clause-ready : goal.take-requires-clause-ready
-take-requires-clause-ready g c = ready _ _ _ _ _ _ c.requires.fed
+take-requires-clause-ready g c = ready _ _ _ _ c.requires.fed.after
 
 pub take-requires-clause-number : goal.take-requires-clause-number
 take-requires-clause-number g c =

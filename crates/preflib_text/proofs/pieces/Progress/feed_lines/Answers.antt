@@ -1,16 +1,17 @@
+use Rattle.preflib_text.proofs.ReadLemmas.{ready}
 use Rattle.std.proofs.lemmas.Result.{on_ok_weaker, IfErr-weaker}
 use Rattle.preflib_text.specs.Pieces.{is_too_long}
 use Rattle.preflib_text.specs.Steps.Pieces.{unmarked}
 use Rattle.std.proofs.Common.{◌++◌, ◌≡◌, ℕ, ◌≤◌, ◌==◌, false, List, [], ◌∷◌, sym, ◌∙◌, length, refl, arith}
 use Rattle.std.proofs.lemmas.List.{length-append}
-use Rattle.preflib_text.proofs.PieceLemmas.{loop_count, loop_refused, loop_next, loop_kept, loop_long, ready, room_left, held_short}
+use Rattle.preflib_text.proofs.PieceLemmas.{loop_count, loop_refused, loop_next, loop_kept, loop_long, room_left, held_short}
 use Rattle.preflib_text.proofs.pieces.Progress.feed_lines.Goals as goal
 
 pub loop-at-init : goal.loop-at-init
 loop-at-init g c = ((c.args._fed.now.bytes, refl, c.requires.fed), omega arith)
 
 pub end_line-requires-clause-ready : goal.end_line-requires-clause-ready
-end_line-requires-clause-ready g c = ready _ _ _ _ _ _ c.loop-at.invariant.0.2
+end_line-requires-clause-ready g c = ready _ _ _ _ c.loop-at.invariant.0.2.after
 
 pub end_line-requires-clause-number : goal.end_line-requires-clause-number
 end_line-requires-clause-number g c =
