@@ -485,11 +485,11 @@ agrees_true pick bytes None notes e number held is = fed_true pick bytes notes e
 agrees_true pick bytes (Some fault) notes e number held is = is
 
 -- a reader that has answered a fault
-pub agrees_more : (pick : Pick) (bytes more : List ℕ) (fault : Option ReadFault) (notes next_notes : Notes) (e next : Election) (number next_number : ℕ) (held next_held : List ℕ) → is_some fault ≡ true
+pub agrees_more : (pick : Pick) (bytes more : List ℕ) (fault : Option ReadFault) (notes next_notes : Notes) (e next : Election) (number next_number : ℕ) (held next_held : List ℕ) (known : ReadFault) → fault ≡ Some known
     → Agrees pick bytes fault notes e number held → Agrees pick (bytes ++ more) fault next_notes next next_number next_held
 unfolding Agrees
-agrees_more pick bytes more None notes next_notes e next number next_number held next_held h is = absurd (cc)
-agrees_more pick bytes more (Some fault) notes next_notes e next number next_number held next_held h is = stays_true pick bytes more fault is
+agrees_more pick bytes more None notes next_notes e next number next_number held next_held known h is = absurd (cc)
+agrees_more pick bytes more (Some fault) notes next_notes e next number next_number held next_held known h is = stays_true pick bytes more fault is
 
 pub agrees_fed : (pick : Pick) (bytes : List ℕ) (fault : Option ReadFault) (notes : Notes) (e : Election) (number : ℕ) (held : List ℕ) → fault ≡ None → Agrees pick bytes fault notes e number held → IsFed pick bytes notes e number held
 unfolding Agrees

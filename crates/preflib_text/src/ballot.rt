@@ -9,12 +9,11 @@ ghost use Rattle.std.specs.Char.{is_ascii_digit};
 ghost use Rattle.std.specs.Option.{option_map, option_and_then};
 ghost use Rattle.ballot_base.specs.Limits.{most_candidates, most_voters};
 ghost use Rattle.ballot_base.specs.Lists.{IsIncreasing};
-ghost use Rattle.preflib_text.specs.Limits.{word_limit};
 ghost use Rattle.preflib_text.specs.Ballot.{IsBallotLine};
 ghost use Rattle.preflib_text.specs.Approvals.{HasNumber};
 ghost use Rattle.preflib_text.specs.Steps.Tokens.{token_of, tokens_after, tokens_of, capped, IsFirstToken};
 ghost use Rattle.preflib_text.specs.Steps.Tokens.{next_place, is_end, order_at, ballot_of};
-ghost use Rattle.preflib_text.specs.Steps.Marks.{no_marks, takes, is_past, with_classes, with_read, IsReadOn};
+ghost use Rattle.preflib_text.specs.Steps.Marks.{no_marks, takes, is_past, with_classes, with_read, HasRoom, IsReadOn};
 ghost use Rattle.preflib_text.specs.Steps.Answers.{HasMarks, IsGoodBallot, IsBallotFault};
 
 use crate::approvals::{Header, Marks, Taking, Terms};
@@ -62,8 +61,7 @@ struct Position<'a> {
 impl OrderPlace {
     /// The place after a token, if it may come here. Its number, or the end of its class, goes into the marks.
     fn after(self, token: Token, marks: &mut Marks, terms: Terms) -> Option<OrderPlace>
-        requires classes { marks.old.classes + 1 < word_limit }
-        requires numbers { marks.old.before + marks.old.numbers + 1 < word_limit }
+        requires { HasRoom marks.old 0 }
         ensures place { result ≡ next_place self token }
         ensures marks { marks.new ≡ with_read terms.m terms.taking self token marks.old }
     {
@@ -88,8 +86,7 @@ impl OrderPlace {
     /// The place after a number, if it may come here.
     #[inline(always)]
     fn after_number(self, n: u64, marks: &mut Marks, terms: Terms) -> Option<OrderPlace>
-        requires classes { marks.old.classes + 1 < word_limit }
-        requires numbers { marks.old.before + marks.old.numbers + 1 < word_limit }
+        requires { HasRoom marks.old 0 }
         ensures place { result ≡ next_place self (Token.Number n) }
         ensures marks { marks.new ≡ with_read terms.m terms.taking self (Token.Number n) marks.old }
     {
@@ -110,8 +107,7 @@ impl OrderPlace {
     /// The place after a number and a comma, if they may come here. The number, or the end of its class, goes into the
     /// marks.
     fn after_listed(self, n: u64, marks: &mut Marks, terms: Terms) -> Option<OrderPlace>
-        requires classes { marks.old.classes + 1 < word_limit }
-        requires numbers { marks.old.before + marks.old.numbers + 1 < word_limit }
+        requires { HasRoom marks.old 0 }
         ensures place { result ≡ option_and_then (λ place. next_place place Token.Comma)
             (next_place self (Token.Number n)) }
         ensures marks { marks.new ≡ with_read terms.m terms.taking self (Token.Number n) marks.old }
@@ -132,8 +128,7 @@ impl OrderPlace {
 
     /// Reads the common numbers that come at this place. Returns the position after them.
     fn read_on<'a>(self, text: &'a [u8], marks: &mut Marks, terms: Terms) -> Position<'a>
-        requires classes { marks.old.classes + length text.now + 1 < word_limit }
-        requires numbers { marks.old.before + marks.old.numbers + length text.now + 1 < word_limit }
+        requires { HasRoom marks.old (length text.now) }
         ensures { IsReadOn terms.m terms.taking self text.now marks.old result.place result.rest.now marks.new }
     {
         let inside = match self {
@@ -152,8 +147,7 @@ impl OrderPlace {
     /// Reads on between braces like `read_members`, on marks of its own, which the compiler keeps in registers.
     #[inline(never)]
     fn read_braces<'a>(self, text: &'a [u8], marks: &mut Marks, terms: Terms) -> Position<'a>
-        requires classes { marks.old.classes + length text.now + 1 < word_limit }
-        requires numbers { marks.old.before + marks.old.numbers + length text.now + 1 < word_limit }
+        requires room { HasRoom marks.old (length text.now) }
         requires inside { next_place self (Token.Number 0) ≡ Some OrderPlace.Listed }
         ensures { IsReadOn terms.m terms.taking self text.now marks.old result.place result.rest.now marks.new }
     {
@@ -169,8 +163,7 @@ impl OrderPlace {
     #[inline(always)]
     fn read_members<'a>(self, text: &'a [u8], marks: &mut Marks, m: u8, taken: bool) -> Position<'a>
         requires candidates { m ≤ most_candidates }
-        requires classes { marks.old.classes + length text.now + 1 < word_limit }
-        requires numbers { marks.old.before + marks.old.numbers + length text.now + 1 < word_limit }
+        requires room { HasRoom marks.old (length text.now) }
         requires inside { next_place self (Token.Number 0) ≡ Some OrderPlace.Listed }
         ensures read { (taking : Taking) → taken ≡ takes taking marks.old.classes marks.old.before
             → IsReadOn m taking self text.now marks.old result.place result.rest.now marks.new }
@@ -347,8 +340,7 @@ fn after_class(text: &[u8]) -> Position<'_>
 /// is taken any more. What is left of the text comes after a comma between classes, too.
 #[inline(always)]
 fn read_singles<'a>(text: &'a [u8], marks: &mut Marks, terms: Terms) -> &'a [u8]
-    requires classes { marks.old.classes + length text.now + 1 < word_limit }
-    requires numbers { marks.old.before + marks.old.numbers + length text.now + 1 < word_limit }
+    requires room { HasRoom marks.old (length text.now) }
     requires past { is_past terms.taking marks.old.classes marks.old.before ≡ true }
     ensures read { IsReadOn terms.m terms.taking OrderPlace.Class text.now marks.old OrderPlace.Class result.now
         marks.new }
@@ -370,19 +362,16 @@ fn read_singles<'a>(text: &'a [u8], marks: &mut Marks, terms: Terms) -> &'a [u8]
 /// class is taken any more. Returns the position after them.
 #[inline(never)]
 fn read_classes<'a>(text: &'a [u8], marks: &mut Marks, terms: Terms) -> Position<'a>
-    requires classes { marks.old.classes + length text.now + 1 < word_limit }
-    requires numbers { marks.old.before + marks.old.numbers + length text.now + 1 < word_limit }
+    requires { HasRoom marks.old (length text.now) }
     ensures { IsReadOn terms.m terms.taking OrderPlace.Class text.now marks.old result.place result.rest.now marks.new }
 {
+    let mut place = OrderPlace::Class;
+    let mut rest = text;
     if !marks.is_past(terms.taking) {
-        return Position {
-            place: OrderPlace::Class,
-            rest: text,
-        };
+        return Position { place, rest };
     }
     let mut read = *marks;
-    let mut place = OrderPlace::Class;
-    let mut rest = read_singles(text, &mut read, terms);
+    rest = read_singles(rest, &mut read, terms);
     while let Some(inside) = after_byte(rest, b'{') {
         Position { place, rest } = OrderPlace::Opened.read_members(
             inside, &mut read, terms.m, false,

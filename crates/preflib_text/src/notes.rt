@@ -2,14 +2,14 @@
 //!
 //! `proofs/After.antt` has the statement on which both readers rest: what the notes and the profile are after some
 //! lines, and after one more.
-ghost use Rattle.std.specs.Prelude.{◌≡◌, ◌^◌, ◌≤◌, true, false, Some, None, MatchResult, IfOk, if◌then◌else◌};
+ghost use Rattle.std.specs.Prelude.{◌≡◌, ◌^◌, ◌≤◌, true, false, Some, None, MatchResult, IfOk};
 ghost use Rattle.ballot_base.specs.Limits.{most_voters};
-ghost use Rattle.preflib_text.specs.Metadata.{AlternativesAre, CategoriesAre, NameIs, written_number};
+ghost use Rattle.preflib_text.specs.Metadata.{NameIs, written_number};
 ghost use Rattle.preflib_text.specs.Steps.Tells.{meant};
 ghost use Rattle.preflib_text.specs.Reading.{number_fault, is_fitting};
-ghost use Rattle.preflib_text.specs.Steps.Notes.{fresh_notes, kind_with, told_error, told_notes, told_effect};
+ghost use Rattle.preflib_text.specs.Steps.Notes.{fresh_notes, told_error, told_notes, told_effect};
 ghost use Rattle.preflib_text.specs.Steps.Notes.{ballot_error, cast_effect, line_error, line_notes, line_effect};
-ghost use Rattle.preflib_text.specs.Steps.Notes.{effect_of, Casts, IsProper, IsSound};
+ghost use Rattle.preflib_text.specs.Steps.Notes.{effect_of, IsProper, IsSound};
 ghost use Rattle.preflib_text.specs.Approvals.{HasNumber};
 ghost use Rattle.preflib_text.specs.Steps.Tokens.{ballot_of};
 
@@ -98,15 +98,6 @@ impl Notes {
         }
     }
 
-    /// Notes the type of the file.
-    fn take_type(&mut self, pick: &Pick, text: &[u8])
-        ensures { self.new ≡ record self.old { kind = kind_with pick.now.kind self.old.kind text.now } }
-    {
-        if pick.kind.is_none() {
-            self.kind = Kind::named(text).ok_or(FaultName::BadKind);
-        }
-    }
-
     /// What a name does. That of a number which no candidate can have does nothing.
     fn name_effect<'a>(&self, number: u64, name: &'a [u8]) -> Effect<'a>
         requires { IsSound self.now }
@@ -133,7 +124,9 @@ impl Notes {
     {
         match told {
             Fact::Type(text) => {
-                self.take_type(pick, text);
+                if pick.kind.is_none() {
+                    self.kind = Kind::named(text).ok_or(FaultName::BadKind);
+                }
                 Ok(Effect::Nothing)
             }
             Fact::Alternatives(text) => {

@@ -171,36 +171,29 @@ impl<A: Allocator + Copy + Drop> Progress<A> {
         self.hold(rest)
     }
 
-    /// Reads a piece, if no fault was returned before, up to its first fault.
+    /// Reads a piece up to its first fault, unless a fault was returned before. Returns the first fault.
     #[tactic(auto, unfolding(crate::specs::Steps::Pieces::Agrees))]
-    fn feed(&mut self, pick: &Pick, fed: &Trace, bytes: &[u8])
+    fn feed(&mut self, pick: &Pick, fed: &Trace, bytes: &[u8]) -> Result<(), ReadFault>
         requires way { HasNumber pick.now.way }
         requires fed { Agrees pick.now fed.now.bytes self.old.fault self.old.ended.notes self.old.ended.builder
             self.old.ended.number self.old.held.items }
         requires length { length fed.now.bytes + length bytes.now < word_limit }
         ensures agrees { Agrees pick.now (fed.now.bytes ++ bytes.now) self.new.fault self.new.ended.notes
             self.new.ended.builder self.new.ended.number self.new.held.items }
+        ensures answer { MatchResult result (λ _. self.new.fault ≡ None) (λ fault. self.new.fault ≡ Some fault) }
         ensures again { IfSome self.old.fault (λ fault. self.new.fault ≡ Some fault) }
         ensures late { self.old.fault ≡ None
             → IfSome self.new.fault (λ fault. IsLate (ended_lines fed.now.bytes) fault) }
     {
-        if self.fault.is_some() {
-            return;
+        if let Some(fault) = self.fault {
+            return Err(fault);
         }
-        self.fault = match self.feed_lines(pick, fed, bytes) {
+        let read = self.feed_lines(pick, fed, bytes);
+        self.fault = match read {
             Ok(()) => None,
             Err(fault) => Some(fault),
         };
-    }
-}
-
-/// What a reader with this fault returns.
-fn answer_of(fault: Option<ReadFault>) -> Result<(), ReadFault>
-    ensures { MatchResult result (λ _. fault ≡ None) (λ known. fault ≡ Some known) }
-{
-    match fault {
-        None => Ok(()),
-        Some(known) => Err(known),
+        read
     }
 }
 
@@ -312,9 +305,9 @@ impl<A: Allocator + Copy + Drop> LineReader<A> {
         ensures every { IfErr result (λ fault. (more : List ℕ) → Reads (self.new.fed ++ more) self.new.pick (Err fault)
             ⊎ LacksMemory (lines_of (self.new.fed ++ more)) self.new.pick fault) }
     {
-        self.progress.feed(&self.pick, &self.fed, bytes);
+        let answer = self.progress.feed(&self.pick, &self.fed, bytes);
         self.fed.add(bytes);
-        answer_of(self.progress.fault)
+        answer
     }
 
     /// How many bytes are kept of the line that has not ended, at most `MOST_LINE_BYTES` and a CR. A CR that may belong

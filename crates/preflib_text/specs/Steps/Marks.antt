@@ -1,7 +1,8 @@
 -- What is noted of a ballot while its classes come, and what that says at the end.
-use Rattle.std.specs.Prelude.{◌≡◌, ◌≤◌, ℕ, ◌+◌, ◌==◌, ◌&&◌, ◌||◌, Bool, true, not, List, [], length, fold}
+use Rattle.std.specs.Prelude.{◌≡◌, ◌<◌, ◌≤◌, ℕ, ◌+◌, ◌==◌, ◌&&◌, ◌||◌, Bool, true, not, List, [], length, fold}
 use Rattle.std.specs.Prelude.{Option, Some, None, option_map, unwrap_or, nat_le, nat_lt, if◌then◌else◌}
 use Rattle.ballot_base.specs.Limits.{most_voters}
+use Rattle.preflib_text.specs.Limits.{word_limit}
 use Rattle.ballot_base.specs.CandSet.{has_member, with_member}
 use Rattle.preflib_text.specs.declared.pick.Kind.{Kind}
 use Rattle.preflib_text.specs.declared.pick.Kind.TheVariants.{Cat}
@@ -106,6 +107,11 @@ pub record IsReadOn (m : ℕ) (taking : Taking) (place : OrderPlace) (text : Lis
   pub shorter : length rest ≤ length text
   pub classes : after.classes + length rest ≤ marks.classes + length text
   pub numbers : after.before + after.numbers + length rest ≤ marks.before + marks.numbers + length text
+
+-- the counts stay words, with so many bytes to come and a class or number more
+abbrev pub HasRoom : Marks → ℕ → Type 0
+HasRoom marks bytes =
+    (marks.classes + bytes + 1 < word_limit) × (marks.before + marks.numbers + bytes + 1 < word_limit)
 
 -- what is wrong with a ballot of this count
 abbrev pub fault_of : Kind → ℕ → Option ℕ → ℕ → Marks → Option FaultName

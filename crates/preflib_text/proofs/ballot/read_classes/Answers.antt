@@ -18,17 +18,11 @@ next_read m taking place text rest inside left first marks after h read brace pa
     read_then m taking Class Class place text rest left first marks after read
     (braces_read m taking place rest inside left marks after h brace (braces taking (past_takes taking marks.classes marks.before past)))
 
-pub read_singles-rest-requires-in-Some-clause-classes : goal.read_singles-rest-requires-in-Some-clause-classes
-read_singles-rest-requires-in-Some-clause-classes c =
+pub read_singles-rest-requires-in-Some-clause-room : goal.read_singles-rest-requires-in-Some-clause-room
+read_singles-rest-requires-in-Some-clause-room c =
     let read = next_read c.args.terms.m c.args.terms.taking c.read_members.result.place c.args.text.now c.loop-inside.rest.now c.in-Some.inside.now c.read_members.result.rest.now c.args.marks.now c.loop-inside.read c.read_members.new.marks
     c.args.terms.few c.loop-inside.invariant.read c.in-Some.ensures c.loop-inside.invariant.past c.read_members.ensures.read in
-    omega (arith, read.classes, c.requires.classes)
-
-pub read_singles-rest-requires-in-Some-clause-numbers : goal.read_singles-rest-requires-in-Some-clause-numbers
-read_singles-rest-requires-in-Some-clause-numbers c =
-    let read = next_read c.args.terms.m c.args.terms.taking c.read_members.result.place c.args.text.now c.loop-inside.rest.now c.in-Some.inside.now c.read_members.result.rest.now c.args.marks.now c.loop-inside.read c.read_members.new.marks
-    c.args.terms.few c.loop-inside.invariant.read c.in-Some.ensures c.loop-inside.invariant.past c.read_members.ensures.read in
-    omega (arith, read.numbers, c.requires.numbers)
+    (omega (arith, read.classes, c.requires.0), omega (arith, read.numbers, c.requires.1))
 
 pub loop-inside-preserved : goal.loop-inside-preserved
 loop-inside-preserved c =

@@ -18,13 +18,15 @@ loop-rest-preserved g c =
 
 pub returns-clause-ok : goal.returns-clause-ok
 returns-clause-ok g c =
+    if_ok c.finish.result _ _ _ c.finish.ensures (λ profile h.
     let (fine, after) = at_last c.args.pick.now c.args.bytes.now c.loop-rest.rest.now _ _ c.loop-rest.number c.loop-rest.invariant (sym c.loop-rest-test.ensures) in
-    if_ok c.finish.result _ _ _ c.finish.ensures (λ profile h. finished-ok c.args.pick.now c.args.bytes.now c.loop-rest.notes c.loop-rest.builder fine after profile h.0 h.1)
+    finished-ok c.args.pick.now c.args.bytes.now c.loop-rest.notes c.loop-rest.builder fine after profile h.0 h.1)
 
 pub returns-clause-err : goal.returns-clause-err
 returns-clause-err g c =
+    if_err c.finish.result _ _ _ c.finish.ensures (λ fault h.
     let (fine, after) = at_last c.args.pick.now c.args.bytes.now c.loop-rest.rest.now _ _ c.loop-rest.number c.loop-rest.invariant (sym c.loop-rest-test.ensures) in
-    if_err c.finish.result _ _ _ c.finish.ensures (λ fault h. inl (finished-fault c.args.pick.now c.args.bytes.now c.loop-rest.notes c.loop-rest.builder fine after fault h.0 h.1))
+    inl (finished-fault c.args.pick.now c.args.bytes.now c.loop-rest.notes c.loop-rest.builder fine after fault h.0 h.1))
 
 pub take_line-requires-clause-ready : goal.take_line-requires-clause-ready
 take_line-requires-clause-ready g c = ready _ _ _ _ c.loop-rest.invariant.after
