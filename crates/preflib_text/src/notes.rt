@@ -50,16 +50,16 @@ pub(crate) struct Vote {
 }
 
 /// Notes a number of the metadata, from 1 to `most`, beside the one that was noted before.
-fn note_number(
+fn note_number<'a>(
     noted: &mut Option<u64>,
     most: u64,
     too_large: FaultName,
     text: &[u8],
-) -> Result<(), FaultName>
+) -> Result<Effect<'a>, FaultName>
     requires { most ≤ most_voters }
     ensures { MatchResult result
-        (λ _. (number_fault (Some too_large) most noted.old (written_number text.now) ≡ None)
-        × (noted.new ≡ written_number text.now))
+        (λ effect. (number_fault (Some too_large) most noted.old (written_number text.now) ≡ None)
+        × (noted.new ≡ written_number text.now) × (effect ≡ Effect.Nothing))
         (λ name. number_fault (Some too_large) most noted.old (written_number text.now) ≡ Some name) }
 {
     match (written_number(text), *noted) {
@@ -68,7 +68,7 @@ fn note_number(
         (Some(n), Some(before)) if n != before => Err(FaultName::ConflictingKey),
         (number, _) => {
             *noted = number;
-            Ok(())
+            Ok(Effect::Nothing)
         }
     }
 }
@@ -79,7 +79,7 @@ fn is_fitting(kind: Kind, categories: Option<u64>, way: Way) -> bool
 {
     match (kind, way) {
         (_, Way::Usual) => true,
-        (Kind::Cat, Way::Category(n)) => categories.is_none_or(|most| u64::from(n) <= most),
+        (Kind::Cat, Way::Category(n)) => u64::from(n) <= categories.unwrap_or(u64::from(n)),
         (Kind::Cat, _) | (_, Way::Category(_)) => false,
         _ => true,
     }
@@ -129,25 +129,18 @@ impl Notes {
                 }
                 Ok(Effect::Nothing)
             }
-            Fact::Alternatives(text) => {
-                let most = u64::from(MOST_CANDIDATES);
-                note_number(
-                    &mut self.alternatives,
-                    most,
-                    FaultName::TooManyCandidates,
-                    text,
-                )?;
-                Ok(Effect::Nothing)
-            }
-            Fact::Categories(text) => {
-                note_number(
-                    &mut self.categories,
-                    MOST_CATEGORIES,
-                    FaultName::BadNumber,
-                    text,
-                )?;
-                Ok(Effect::Nothing)
-            }
+            Fact::Alternatives(text) => note_number(
+                &mut self.alternatives,
+                u64::from(MOST_CANDIDATES),
+                FaultName::TooManyCandidates,
+                text,
+            ),
+            Fact::Categories(text) => note_number(
+                &mut self.categories,
+                MOST_CATEGORIES,
+                FaultName::BadNumber,
+                text,
+            ),
             Fact::Name(number, name) => Ok(self.name_effect(number, name)),
             Fact::Nothing => Ok(Effect::Nothing),
         }

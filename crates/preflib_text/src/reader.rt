@@ -68,9 +68,10 @@ pub(crate) fn finish<A: Allocator + Copy + Drop>(
     if notes.alternatives.is_none() {
         return Err(at_end(FaultName::NoAlternatives));
     }
-    builder
-        .finish()
-        .map_err(|_refused| at_end(FaultName::NoVoters))
+    let Ok(profile) = builder.finish() else {
+        return Err(at_end(FaultName::NoVoters));
+    };
+    Ok(profile)
 }
 
 /// Reads a line, and does to the profile what it does.
