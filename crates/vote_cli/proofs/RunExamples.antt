@@ -1,5 +1,5 @@
 -- Answers and what runs leave, computed on small examples.
-use Rattle.std.proofs.Common.{◌≡◌, ℕ, zero, suc, arith, ◌+◌, ◌^◌, List, [], ◌∷◌, ◌++◌, true, false, true≢false, sym, Some, None, Ok, Err, inl, inr, refl, lit≤, Bool}
+use Rattle.std.proofs.Common.{Option, ◌≡◌, ℕ, zero, suc, arith, ◌+◌, ◌^◌, List, [], ◌∷◌, ◌++◌, true, false, true≢false, sym, Some, None, Ok, Err, inl, inr, refl, lit≤, Bool}
 use Rattle.std.specs.Prelude.{codes}
 use Rattle.std.specs.List.{range_with_len}
 use Rattle.std.proofs.lemmas.Bool.{both_ways}
@@ -26,7 +26,7 @@ use Rattle.seat_share.specs.declared.method.Method.TheVariants.{Dhondt}
 use Rattle.seat_share.specs.Allocations.{lists_with_sum}
 use Rattle.vote_cli.specs.Answer.{Answer, answered, violated, refused, request_refused, election_answer, IsCheckAnswer, may_be_checked, share_answer, share_answer_by, ballots_answer, IsAnswer}
 use Rattle.vote_cli.specs.Runs.{Ends, FailsToRead, IsAllRead, IsRight, IsTooLong, ReadsInput, ReadsSoundly, Reports, has_votes, input_for, memory_line, read_failed_line, write_failed_line}
-use Rattle.vote_cli.specs.Steps.Refusals.{IsRefusal, IsUnread, status_of, error_of, ReadsBallots, TellsOfReads, TellsOfWrites, ReadsOn, WritesRight, outcome_status}
+use Rattle.vote_cli.specs.Steps.Refusals.{IsRefusal, IsUnread, status_of, error_of, ReadsBallots, TellsOfReads, TellsOfWrites, ReadsOn, WritesRight, WritesText}
 use Rattle.vote_cli.specs.Steps.RequestFaults.{request_fault_word}
 use Rattle.ballot_base.specs.Lists.{IsIncreasing}
 use Rattle.group_check.specs.declared.property.Property.TheVariants.{Jr}
@@ -416,8 +416,5 @@ prepared = (reads_three, reads_nothing, tt)
 concluded : WritesRight (IsRight (seats 4) (read_of example_text false 0)) (Some []) (Some []) (Err (refusal.Request request_fault.SizeTooLarge))
 concluded = (right_answer, refl)
 
-concluded_whole : WritesRight (λ answer. answer ≡ answered (codes "a")) (Some []) (Some (codes "a")) (Ok outcome.Answered)
-concluded_whole = (codes "a", refl, refl)
-
-statuses_of_outcomes : (outcome_status outcome.Answered ≡ Answered) × (outcome_status outcome.Violated ≡ Violated)
-statuses_of_outcomes = (refl, refl)
+concluded_whole : WritesText (λ (w : Option (List ℕ)). w) (λ w. false) (Some []) (Some (codes "a")) (Ok outcome.Answered) (codes "a")
+concluded_whole = record { answer = (codes "a", refl, refl); writes = refl; unread = λ e. cc }

@@ -15,9 +15,7 @@ use Rattle.seat_share.specs.declared.method.Method.{Method}
 use Rattle.vote_cli.specs.Parties.{has_many_approved, party_votes}
 use Rattle.text_output.specs.CheckText.{holds_text, violation_text}
 use Rattle.preflib_text.specs.Limits.{word_limit}
-use Rattle.preflib_text.specs.Lines.{lines_of}
 use Rattle.preflib_text.specs.Reading.{Reads}
-use Rattle.preflib_text.specs.Pieces.{LacksMemory}
 use Rattle.preflib_text.specs.declared.fault.ReadFault.{ReadFault}
 use Rattle.preflib_text.specs.declared.pick.Pick.{Pick}
 use Rattle.text_output.specs.declared.printing.WriteFailed.{WriteFailed as Broken}
@@ -34,11 +32,11 @@ use Rattle.text_output.specs.Device.{ReaderState, WriterState}
 use Rattle.text_output.specs.Names.{Names, naming}
 use Rattle.vote_cli.specs.Steps.RequestFaults.{request_fault_word}
 use Rattle.vote_cli.specs.Answer.{Answer, IsAnswer, IsAnswerAbout, IsAnswerOver, IsAnswerTo, IsCheckAnswer, ballots_answer, may_be_checked, share_answer, answered, request_refused, refused, violated}
-use Rattle.vote_cli.specs.Runs.{Ends, IsRight, IsTooLong, ReadsSoundly, Reports, input_for}
-use Rattle.text_output.specs.Steps.Printing.{Passes}
+use Rattle.vote_cli.specs.Runs.{Ends, EndsAnswered, IsRight, IsTooLong, ReadsInput, ReadsSoundly, Reports, input_for}
+use Rattle.text_output.specs.Steps.Printing.{Passes, Sends}
 use Rattle.text_output.proofs.PrintingLemmas.{alone}
 use Rattle.vote_cli.proofs.StartLemmas.{may_be_checked-true}
-use Rattle.vote_cli.specs.Steps.Refusals.{WritesRight, IsRefusal, ReadsBallots, ReadsOn, TellsOfReads, TellsOfWrites, error_of, status_of, outcome_status}
+use Rattle.vote_cli.specs.Steps.Refusals.{WritesRight, Writes, ReadsBallots, ReadsOn, TellsOfReads, TellsOfWrites, error_of, status_of}
 
 -- a writer of errors that was not called
 Reports-nothing : (err : WriterState) → Reports err err []
@@ -48,29 +46,34 @@ Reports-nothing err = record { beginning = ([], [], refl, Appends-nil err.conten
 Passes-all : {old new : Option (List ℕ)} {had_failed has_failed : Bool} {text : List ℕ} → Passes (alone old had_failed) (alone new has_failed) true text → Appends old new text
 Passes-all {old} {new} h = subst (Appends old new) (sym (append-nil h.sent) ∙ ap (λ rest. h.sent ++ rest) (sym (h.whole refl).0) ∙ h.order) h.took
 
-module _ (IsRight : Answer → Type 0) {old new : Option (List ℕ)} {had_failed has_failed : Bool} where
+module _ {W : Type 0} {contents : W → Option (List ℕ)} {has_failed : W → Bool} (IsRight : Answer → Type 0) {old new : W} where
   -- the text of a right answer was not printed whole
-  pub writes_part : (answer : Answer) {whole : Bool} (result : Result Outcome Refusal) → IsRight answer
-      → IsErr result × IsErrAnd result (λ refusal. refusal ≡ WriteFailed) → Passes (alone old had_failed) (alone new has_failed) whole answer.text → WritesRight IsRight old new result
-  writes_part answer (Ok ended) right failed prints = absurd (true≢false (sym failed.0))
-  writes_part answer (Err refusal) right failed prints =
-      subst (λ r. WritesRight IsRight old new (Err r)) (sym failed.1) (answer, right, (prints.sent, prints.rest, prints.order, prints.took))
+  pub writes_part : (answer : Answer) (result : Result Outcome Refusal) {ok : Bool} → IsRight answer
+      → IsErr result × IsErrAnd result (λ refusal. refusal ≡ WriteFailed) → ok ≡ false → Sends contents has_failed old new ok answer.text
+      → Writes contents has_failed old new result IsRight
+  writes_part answer (Ok ended) right failed broke prints = absurd (true≢false (sym failed.0))
+  writes_part answer (Err refusal) right failed broke prints =
+      subst (λ r. Writes contents has_failed old new (Err r) IsRight) (sym failed.1)
+      (record { answer = (answer, right, (prints.sent, prints.rest, prints.order, prints.took)); writes = prints.broken broke; unread = λ e. cc })
 
--- a text was printed whole
-pub writes_whole : {old new : Option (List ℕ)} {had_failed has_failed : Bool} (text : List ℕ) (printed : Result (Unit {0}) Broken) (done : Unit {0}) → printed ≡ Ok done
-    → Passes (alone old had_failed) (alone new has_failed) (is_ok printed) text → Appends old new text
-writes_whole {old} {new} {had_failed} {has_failed} text printed done was prints =
-    Passes-all (subst (λ p. Passes (alone old had_failed) (alone new has_failed) (is_ok p) text) was prints)
+  -- the text of a right answer was printed whole
+  pub writes_answered : (text : List ℕ) (printed : Result (Unit {0}) Broken) (done : Unit {0}) → IsRight (answered text) → printed ≡ Ok done
+      → Sends contents has_failed old new (is_ok printed) text → Writes contents has_failed old new (Ok outcome.Answered) IsRight
+  writes_answered text printed done right was prints =
+      let whole : Sends contents has_failed old new true text = subst (λ p. Sends contents has_failed old new (is_ok p) text) was prints in
+      record { answer = (text, right, Passes-all whole); writes = (whole.whole refl).1; unread = λ e. cc }
 
--- the text of an answer was printed whole
-pub answer_whole : {old new : Option (List ℕ)} {had_failed has_failed : Bool} (text : List ℕ) (written : Result (Unit {0}) Broken) (done : Unit {0}) → written ≡ Ok done
-    → Passes (alone old had_failed) (alone new has_failed) (is_ok written) text → WritesRight (λ answer. answer ≡ answered text) old new (Ok outcome.Answered)
-answer_whole text written done was prints = (text, refl, writes_whole text written done was prints)
+  pub writes_violated : (text : List ℕ) (printed : Result (Unit {0}) Broken) (done : Unit {0}) → IsRight (violated text) → printed ≡ Ok done
+      → Sends contents has_failed old new (is_ok printed) text → Writes contents has_failed old new (Ok outcome.Violated) IsRight
+  writes_violated text printed done right was prints =
+      let whole : Sends contents has_failed old new true text = subst (λ p. Sends contents has_failed old new (is_ok p) text) was prints in
+      record { answer = (text, right, Passes-all whole); writes = (whole.whole refl).1; unread = λ e. cc }
 
--- the same answer in other words
-pub same_answer : {text other : List ℕ} (old new : Option (List ℕ)) (result : Result Outcome Refusal) → text ≡ other
-    → WritesRight (λ answer. answer ≡ answered text) old new result → WritesRight (λ answer. answer ≡ answered other) old new result
-same_answer old new result same h = subst (λ text. WritesRight (λ answer. answer ≡ answered text) old new result) same h
+-- the same right answer in other words
+pub writes_as : {W : Type 0} {contents : W → Option (List ℕ)} {has_failed : W → Bool} {old new : W} {result : Result Outcome Refusal} {one other : Answer} → one ≡ other
+    → Writes contents has_failed old new result (λ answer. answer ≡ one) → Writes contents has_failed old new result (λ answer. answer ≡ other)
+writes_as {contents = contents} {has_failed = has_failed} {old = old} {new = new} {result = result} same h =
+    subst (λ it. Writes contents has_failed old new result (λ answer. answer ≡ it)) same h
 
 -- the answers about a committee that is the list's, among m candidates
 pub check_holds : (property : Property) (with_names : Bool) (e : Election) (m : ℕ) (list committee : List ℕ) → m ≡ e.m → committee ≡ list → IsIncreasing 1 m list → length list ≤ most_members
@@ -95,26 +98,11 @@ writes_wider P Q old new (Err ReadFailed) wider h = h
 writes_wider P Q old new (Err WriteFailed) wider h = (h.0, wider h.0 h.1, h.2)
 
 -- the answer about the votes of ballots that approve one candidate at most
-pub writes_ballots : (method : Method) (seats : ℕ) (page : Page) (with_names : Bool) (e : Election) (names : Names) (votes : List ℕ) (old new : Option (List ℕ)) (result : Result Outcome Refusal)
-    → has_many_approved e ≡ false → names ≡ naming with_names e.names → votes ≡ party_votes e → WritesRight (λ answer. answer ≡ share_answer method seats page names votes) old new result
-    → WritesRight (λ answer. answer ≡ ballots_answer method seats page with_names e) old new result
-writes_ballots method seats page with_names e names votes old new result single called same h =
-    let is : share_answer method seats page names votes ≡ ballots_answer method seats page with_names e =
+pub ballots_share : (method : Method) (seats : ℕ) (page : Page) (with_names : Bool) (e : Election) (names : Names) (votes : List ℕ)
+    → has_many_approved e ≡ false → names ≡ naming with_names e.names → votes ≡ party_votes e → share_answer method seats page names votes ≡ ballots_answer method seats page with_names e
+ballots_share method seats page with_names e names votes single called same =
     ap₂ (share_answer method seats page) called same
-    ∙ ap (λ b. if b then request_refused (codes "ManyApproved") else share_answer method seats page (naming with_names e.names) (party_votes e)) (sym single) in
-    writes_wider (λ answer. answer ≡ share_answer method seats page names votes) (λ answer. answer ≡ ballots_answer method seats page with_names e) old new result (λ answer it. it ∙ is) h
-
--- the refusal of an input with a fault, or of one for which memory ran out
-pub ballots_refused : (pick : Pick) (bytes : List ℕ) (fault : ReadFault) (refusal : Refusal)
-    → Reads bytes pick (Err fault) ⊎ LacksMemory (lines_of bytes) pick fault → IsRefusal fault refusal
-    → ReadsBallots pick bytes (Err refusal) × (refusal ≢ ReadFailed) × (refusal ≢ WriteFailed)
-ballots_refused pick bytes fault (Input reported) (inl reads) is =
-    (subst (λ f. Reads bytes pick (Err f)) (sym is.0) reads, λ e. cc, λ e. cc)
-ballots_refused pick bytes fault (Input reported) (inr short) is = absurd (is.1 (ap (λ (f : ReadFault). f.name) short.4))
-ballots_refused pick bytes fault (reason.Request misfit) told is = elim is [ ]
-ballots_refused pick bytes fault Memory told is = (tt, λ e. cc, λ e. cc)
-ballots_refused pick bytes fault ReadFailed told is = elim is [ ]
-ballots_refused pick bytes fault WriteFailed told is = elim is [ ]
+    ∙ ap (λ b. if b then request_refused (codes "ManyApproved") else share_answer method seats page (naming with_names e.names) (party_votes e)) (sym single)
 
 -- ---- what is right of the ballots that were read
 
@@ -202,17 +190,18 @@ too_many (Some bytes) (Some rest) read consumed long =
 
 module _ (asked : Request) (read_old read_new : ReaderState) (out_old out_new err_old err_new : WriterState) where
   -- an answer that was written whole
-  pub ends_answered : (ended : Outcome) (ends : Status) → ends ≡ outcome_status ended → err_new ≡ err_old
-      → WritesRight (IsRight asked read_old) out_old.contents out_new.contents (Ok ended) → TellsOfReads {T = Outcome} asked.task read_old read_new (Ok ended)
-      → TellsOfWrites {T = Outcome} out_old.has_failed out_new.has_failed (Ok ended) → Ends asked read_old read_new out_old out_new err_old err_new ends
-  ends_answered ended ends is silent h reads writes = subst (Ends asked read_old read_new out_old out_new err_old err_new) (sym is) (go ended h)
-    where
-      nothing : Reports err_old err_new []
-      nothing = subst (λ e. Reports err_old e []) (sym silent) (Reports-nothing err_old)
-
-      go : (o : Outcome) → WritesRight (IsRight asked read_old) out_old.contents out_new.contents (Ok o) → Ends asked read_old read_new out_old out_new err_old err_new (outcome_status o)
-      go outcome.Answered h = record { answer = answered h.0; right = h.1; status_is = refl; input = reads; wrote = writes; text = h.2; error = nothing }
-      go outcome.Violated h = record { answer = violated h.0; right = h.1; status_is = refl; input = reads; wrote = writes; text = h.2; error = nothing }
+  pub ends_answered : (answer : Answer) → IsRight asked read_old answer → answer.error ≡ [] → err_new ≡ err_old → ReadsInput read_old read_new asked.task
+      → out_new.has_failed ≡ out_old.has_failed → Appends out_old.contents out_new.contents answer.text
+      → EndsAnswered asked read_old read_new out_old out_new err_old err_new answer.status
+  ends_answered answer right none silent reads writes text = record {
+    answer = answer;
+    right = right;
+    status_is = refl;
+    input = reads;
+    wrote = writes;
+    text = text;
+    error = subst (λ e. Reports err_old e answer.error) (sym silent) (subst (Reports err_old err_old) (sym none) (Reports-nothing err_old));
+  }
 
   -- a refusal, with its line
   pub ends_refused : (refusal : Refusal) (ends : Status) → ends ≡ status_of refusal → Reports err_old err_new (error_of refusal)

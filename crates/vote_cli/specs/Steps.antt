@@ -1,3 +1,4 @@
+pub mod Listed
 pub mod Refusals
 pub mod RequestFaults
 pub mod ScoredText

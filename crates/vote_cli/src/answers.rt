@@ -5,7 +5,7 @@ ghost use Rattle.request_words.specs.Request.{IsInRange, page_of, question_of};
 ghost use Rattle.seat_share.specs.Faults.{has_other_length};
 ghost use Rattle.vote_cli.specs.Answer.{IsAnswerAbout, IsCheckAnswer, ballots_answer, share_answer};
 ghost use Rattle.vote_cli.specs.Starts.{has_seats_for, may_start};
-ghost use Rattle.vote_cli.specs.Steps.Refusals.{WritesRight, TellsOfWrites, outcome_status};
+ghost use Rattle.vote_cli.specs.Steps.Refusals.{Writes};
 ghost use Rattle.vote_cli.specs.Steps.RequestFaults.{request_fault_word};
 ghost use Rattle.vote_cli.specs.Steps.Sharing.{IsShareRefusal, IsSharedOut};
 
@@ -16,7 +16,6 @@ use crate::parties::votes_of;
 use crate::refusal::{Refusal, RequestFault};
 use crate::share_text::Sharing;
 use crate::starts::seats_start;
-use crate::status::Status;
 use ballot_base::Profile;
 use group_check::{Property, find_violation};
 use request_words::Question;
@@ -31,17 +30,6 @@ pub(crate) enum Outcome {
     Answered,
     /// It is the report of a property that does not hold.
     Violated,
-}
-
-impl Outcome {
-    pub(crate) fn status(self) -> Status
-        ensures { result ≡ outcome_status self }
-    {
-        match self {
-            Outcome::Answered => Status::Answered,
-            Outcome::Violated => Status::Violated,
-        }
-    }
 }
 
 /// The fair allocations later than a start that has a number of seats for each party.
@@ -86,11 +74,8 @@ pub(crate) fn answer_share<A: Allocator + Copy, W: Sink>(
     sharing: &Sharing<'_>,
     names: &Names<'_, A>,
 ) -> Result<Outcome, Refusal>
-    ensures answer { WritesRight (λ answer. answer
-        ≡ share_answer sharing.now.method sharing.now.seats (page_of sharing.now.page.now) names.now votes.now)
-        (W.contents out.old) (W.contents out.new) result }
-    ensures writes { TellsOfWrites (W.has_failed out.old) (W.has_failed out.new) result }
-    ensures unread { result ≢ Err Refusal.ReadFailed }
+    ensures wrote { Writes W.contents W.has_failed out.old out.new result (λ answer. answer
+        ≡ share_answer sharing.now.method sharing.now.seats (page_of sharing.now.page.now) names.now votes.now) }
     ensures memory { result ≢ Err Refusal.Memory }
 {
     let shares = shares_of(votes, sharing)?;
@@ -116,10 +101,8 @@ impl<A: Allocator + Copy + Drop> Ballots<'_, A> {
         list: &[u64],
     ) -> Result<Outcome, Refusal>
         requires some { list.now ≢ [] }
-        ensures answer { WritesRight (IsCheckAnswer property list.now self.now.with_names self.now.profile.now)
-            (W.contents out.old) (W.contents out.new) result }
-        ensures writes { TellsOfWrites (W.has_failed out.old) (W.has_failed out.new) result }
-        ensures unread { result ≢ Err Refusal.ReadFailed }
+        ensures wrote { Writes W.contents W.has_failed out.old out.new result
+            (IsCheckAnswer property list.now self.now.with_names self.now.profile.now) }
         ensures memory { result ≢ Err Refusal.Memory }
     {
         let Some(committee) = committee_of(list, self.profile.m()) else {
@@ -140,11 +123,9 @@ impl<A: Allocator + Copy + Drop> Ballots<'_, A> {
 
     /// Writes the fair allocations that are asked for. Each voter counts for the one party that the ballot approves.
     fn answer_share<W: Sink>(&self, out: &mut W, sharing: &Sharing<'_>) -> Result<Outcome, Refusal>
-        ensures answer { let asked = sharing.now in
-            WritesRight (λ answer. answer ≡ ballots_answer asked.method asked.seats (page_of asked.page.now)
-            self.now.with_names self.now.profile.now) (W.contents out.old) (W.contents out.new) result }
-        ensures writes { TellsOfWrites (W.has_failed out.old) (W.has_failed out.new) result }
-        ensures unread { result ≢ Err Refusal.ReadFailed }
+        ensures wrote { let asked = sharing.now in Writes W.contents W.has_failed out.old out.new result
+            (λ answer. answer ≡ ballots_answer asked.method asked.seats (page_of asked.page.now)
+            self.now.with_names self.now.profile.now) }
         ensures memory { result ≢ Err Refusal.Memory }
     {
         let Some(votes) = votes_of(self.profile) else {
@@ -162,10 +143,8 @@ impl<A: Allocator + Copy + Drop> Ballots<'_, A> {
         question: &Question,
     ) -> Result<Outcome, Refusal>
         requires asked { IsInRange (question_of question.now) }
-        ensures answer { WritesRight (IsAnswerAbout self.now.with_names (question_of question.now) self.now.profile.now)
-            (W.contents out.old) (W.contents out.new) result }
-        ensures writes { TellsOfWrites (W.has_failed out.old) (W.has_failed out.new) result }
-        ensures unread { result ≢ Err Refusal.ReadFailed }
+        ensures { Writes W.contents W.has_failed out.old out.new result
+            (IsAnswerAbout self.now.with_names (question_of question.now) self.now.profile.now) }
     {
         match question {
             Question::Elect(rule, size, page) => {

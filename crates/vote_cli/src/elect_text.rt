@@ -2,18 +2,20 @@
 ghost use Rattle.std.specs.Prelude.{◌≡◌, ◌≤◌, ◌++◌, IfErr, IfOk, is_ok};
 ghost use Rattle.ballot_base.specs.Limits.{most_members};
 ghost use Rattle.request_words.specs.Request.{page_of};
-ghost use Rattle.text_output.specs.Steps.Printing.{Prints, Sends};
+ghost use Rattle.text_output.specs.Steps.Printing.{Prints};
 ghost use Rattle.text_output.specs.Text.{line};
 ghost use Rattle.tie_walk.specs.Winners.{IsStart};
 ghost use Rattle.vote_cli.specs.Answer.{answered, election_answer, request_refused};
 ghost use Rattle.vote_cli.specs.ElectText.{best_text, elect_text, rule_lines, score_text, scored_header};
 ghost use Rattle.vote_cli.specs.Listing.{answers_text, committee_line};
+ghost use Rattle.vote_cli.specs.Steps.Refusals.{WritesText};
 ghost use Rattle.vote_cli.specs.Steps.RequestFaults.{request_fault_word};
 ghost use Rattle.vote_cli.specs.Steps.ScoredText.{scored_text};
 ghost use Rattle.vote_cli.specs.Steps.Starts.{IsStart-prop};
 
+use crate::answers::Outcome;
 use crate::listing::AnswerPage;
-use crate::refusal::RequestFault;
+use crate::refusal::{Refusal, RequestFault};
 use crate::starts::committee_start;
 use ballot_base::{CandSet, Increments, Profile, common_multiple};
 use itoa::Buffer;
@@ -153,9 +155,9 @@ impl<'a, A: Allocator + Copy + Drop> Listing<'a, A> {
         out: &mut W,
         tally: &T,
         rule: ScoredRule,
-    ) -> Result<(), WriteFailed>
+    ) -> Result<Outcome, Refusal>
         requires { T.candidates tally.now ≡ self.now.profile.now.m }
-        ensures { Sends W.contents W.has_failed out.old out.new (is_ok result)
+        ensures { WritesText W.contents W.has_failed out.old out.new result
             (scored_text rule (T.value_of tally.now) self.now.size
             (record { after = self.now.after; limit = self.now.limit }) self.now.names self.now.profile.now) }
     {
@@ -166,7 +168,8 @@ impl<'a, A: Allocator + Copy + Drop> Listing<'a, A> {
             names: &self.names,
             limit: self.limit,
         };
-        page.print(&mut printer, winners)
+        page.print(&mut printer, winners)?;
+        Ok(Outcome::Answered)
     }
 
     /// Writes the answer of a sequential rule that has these winners after the start, and flushes the writer.
@@ -175,8 +178,8 @@ impl<'a, A: Allocator + Copy + Drop> Listing<'a, A> {
         out: &mut W,
         winners: FamilyWinners<'_, A>,
         rule: SeqRule,
-    ) -> Result<(), WriteFailed>
-        ensures { Sends W.contents W.has_failed out.old out.new (is_ok result)
+    ) -> Result<Outcome, Refusal>
+        ensures { WritesText W.contents W.has_failed out.old out.new result
             (rule_lines (Rule.Sequential rule) self.now.size
             ++ answers_text (committee_line self.now.names) self.now.limit winners.entry) }
     {
@@ -186,6 +189,7 @@ impl<'a, A: Allocator + Copy + Drop> Listing<'a, A> {
             names: &self.names,
             limit: self.limit,
         };
-        page.print(&mut printer, winners)
+        page.print(&mut printer, winners)?;
+        Ok(Outcome::Answered)
     }
 }

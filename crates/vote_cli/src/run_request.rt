@@ -128,7 +128,8 @@ pub fn run_with_hashing<A: Allocator + Copy + Drop, R: Source, W: Sink, E: Sink>
         request.now reader.old reader.new out.old out.new err.old err.new result }
 {
     match answer(storage, request, reader, out) {
-        Ok(outcome) => outcome.status(),
+        Ok(Outcome::Answered) => Status::Answered,
+        Ok(Outcome::Violated) => Status::Violated,
         Err(refusal) => refuse(err, refusal),
     }
 }

@@ -21,11 +21,7 @@ use Rattle.vote_cli.specs.FaultText.{fault_text}
 use Rattle.vote_cli.specs.Answer.{Answer, answered, violated, refused, request_refused}
 use Rattle.request_words.specs.Request.{Task}
 
--- the statuses of outcomes and refusals
-abbrev pub outcome_status : Outcome → Status
-outcome_status outcome.Answered = status.Answered
-outcome_status outcome.Violated = status.Violated
-
+-- the status of a refusal
 abbrev pub status_of : Refusal → Status
 status_of (Input fault) = status.InputRefused
 status_of (Request fault) = status.RequestRefused
@@ -92,3 +88,14 @@ WritesRight IsRight old new (Err Memory) = Appends old new []
 WritesRight IsRight old new (Err ReadFailed) = Appends old new []
 WritesRight IsRight old new (Err WriteFailed) =
     (answer : Answer) × IsRight answer × AppendsBeginning old new answer.text
+
+module _ {W : Type 0} (contents : W → Option (List ℕ)) (has_failed : W → Bool) where
+  -- how an answer was written, and that no reader is blamed
+  pub record Writes (old new : W) (result : Result Outcome Refusal) (IsRight : Answer → Type 0) : Type 0 where
+    pub answer : WritesRight IsRight (contents old) (contents new) result
+    pub writes : TellsOfWrites (has_failed old) (has_failed new) result
+    pub unread : result ≢ Err ReadFailed
+
+  -- the same of the one right answer, which has this text
+  abbrev pub WritesText : W → W → Result Outcome Refusal → List ℕ → Type 0
+  WritesText old new result text = Writes old new result (λ answer. answer ≡ answered text)

@@ -1,10 +1,11 @@
-use Rattle.request_words.specs.Request.{Page}
-use Rattle.vote_cli.proofs.RunLemmas.{same_answer}
+use Rattle.std.proofs.Common.{ap}
+use Rattle.vote_cli.specs.Answer.{answered}
+use Rattle.vote_cli.proofs.RunLemmas.{writes_as}
 use Rattle.vote_cli.proofs.TextLemmas.{satisfaction_text}
 use Rattle.vote_cli.proofs.election.by_satisfaction.Goals as goal
 
-pub returns-clause-answer : goal.returns-clause-answer
-returns-clause-answer g c =
+pub returns : goal.returns
+returns g c =
     let l = c.args.listing.now in
-    let page : Page = record { after = l.after; limit = l.limit } in
-    same_answer _ _ c.by_tally.result (satisfaction_text l.names page l.size l.profile.now c.new-tally.result c.new-tally.ensures.tally) c.by_tally.ensures.answer
+    writes_as (ap answered (satisfaction_text l.names (record { after = l.after; limit = l.limit }) l.size l.profile.now c.new-tally.result c.new-tally.ensures.tally))
+    c.write_scored.ensures
