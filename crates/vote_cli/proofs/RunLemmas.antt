@@ -1,5 +1,5 @@
 -- What is known of the input and of the writers, joined to the answer.
-use Rattle.std.proofs.Common.{arith, length, ◌≤◌, ◌≡◌, ◌≢◌, ◌⊎◌, inl, inr, ℕ, Bool, true, false, List, [], Option, Some, None, Ok, Err, IfSome, Result, is_ok, refl, sym, ap, ap₂, subst, ◌∙◌, ◌++◌, append-nil, true≢false}
+use Rattle.std.proofs.Common.{arith, length, ◌≤◌, ◌≡◌, inl, inr, ℕ, Bool, true, false, List, [], Option, Some, None, Ok, Err, IfSome, Result, is_ok, refl, sym, ap, ap₂, subst, ◌∙◌, ◌++◌, append-nil, true≢false}
 use Rattle.std.specs.Prelude.{◌||◌, IsErr, IsErrAnd, codes, if◌then◌else◌}
 use Rattle.std.specs.Io.KnownBytes.{Appends, Consumes, IsAtEnd}
 use Rattle.std.proofs.KnownBytes.{Appends-nil}
@@ -15,8 +15,6 @@ use Rattle.seat_share.specs.declared.method.Method.{Method}
 use Rattle.vote_cli.specs.Parties.{has_many_approved, party_votes}
 use Rattle.text_output.specs.CheckText.{holds_text, violation_text}
 use Rattle.preflib_text.specs.Limits.{word_limit}
-use Rattle.preflib_text.specs.Reading.{Reads}
-use Rattle.preflib_text.specs.declared.fault.ReadFault.{ReadFault}
 use Rattle.preflib_text.specs.declared.pick.Pick.{Pick}
 use Rattle.text_output.specs.declared.printing.WriteFailed.{WriteFailed as Broken}
 use Rattle.vote_cli.specs.declared.answers.Outcome.{Outcome}

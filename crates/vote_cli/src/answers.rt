@@ -9,13 +9,12 @@ ghost use Rattle.vote_cli.specs.Steps.Refusals.{Writes};
 ghost use Rattle.vote_cli.specs.Steps.RequestFaults.{request_fault_word};
 ghost use Rattle.vote_cli.specs.Steps.Sharing.{IsShareRefusal, IsSharedOut};
 
-use crate::committee::committee_of;
 use crate::elect_text::Listing;
 use crate::election::answer_election;
 use crate::parties::votes_of;
 use crate::refusal::{Refusal, RequestFault};
 use crate::share_text::Sharing;
-use crate::starts::seats_start;
+use crate::starts::{committee_of, seats_start};
 use ballot_base::Profile;
 use group_check::{Property, find_violation};
 use request_words::Question;

@@ -25,8 +25,7 @@ pub(crate) fn answer_election<A: Allocator + Copy + Drop, W: Sink>(
     rule: Rule,
     listing: &Listing<'_, A>,
 ) -> Result<Outcome, Refusal>
-    ensures { WritesText W.contents W.has_failed out.old out.new result
-        (listed_text listing.now rule) }
+    ensures { WritesText W.contents W.has_failed out.old out.new result (listed_text listing.now rule) }
 {
     match rule {
         Rule::Scored(ScoredRule::Thiele(ThieleRule::Av)) => by_approvals(out, listing),

@@ -6,10 +6,8 @@
 #![tactic(auto)]
 
 mod answers;
-mod committee;
 mod elect_text;
 mod election;
-mod fault_text;
 mod input;
 pub mod laws;
 mod listing;

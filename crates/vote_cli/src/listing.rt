@@ -15,32 +15,66 @@ use text_output::{
 use tie_families::FamilyWinners;
 use tie_walk::{Tally, Winners};
 
-/// What hands out the answers to a request one by one. Each answer is a list of numbers: the members of a committee, or
-/// the seats of the parties.
-pub(crate) trait Answers {
-    type Answer: Drop;
-
-    // the answers still to come
-    ghost left: { Self → List (List ℕ) };
-
-    // the numbers of an answer
-    ghost numbers: { Self.Answer → List ℕ };
+/// An answer to a request: a list of numbers, the members of a committee or the seats of the parties.
+pub(crate) trait Answer: Drop {
+    // its numbers
+    ghost numbers: { Self → List ℕ };
 
     // the line of the answer with these numbers
     ghost line_of: { Names → List ℕ → List ℕ };
 
-    /// The first of the answers still to come.
-    fn next_answer(&mut self) -> Option<Self::Answer>
-        ensures { YieldsFirstBy Self.numbers Self.left self.old result self.new };
-
-    /// Prints the line of an answer.
+    /// Prints its line.
     fn print_line<W: Sink, N: Allocator + Copy>(
+        &self,
         printer: &mut Printer<'_, W>,
         names: &Names<'_, N>,
-        answer: &Self::Answer,
     ) -> Result<(), WriteFailed>
         ensures { Prints W.contents W.has_failed printer.old printer.new (is_ok result)
-            (Self.line_of names.now (Self.numbers answer.now)) };
+            (Self.line_of names.now (Self.numbers self.now)) };
+}
+
+impl Answer for CandSet {
+    ghost numbers = { λ committee. committee };
+
+    ghost line_of = { committee_line };
+
+    fn print_line<W: Sink, N: Allocator + Copy>(
+        &self,
+        printer: &mut Printer<'_, W>,
+        names: &Names<'_, N>,
+    ) -> Result<(), WriteFailed> {
+        print_candidates(printer, names, *self)?;
+        printer.print(b"\n")
+    }
+}
+
+impl Answer for Allocation {
+    ghost numbers = { λ allocation. allocation };
+
+    ghost line_of = { allocation_line };
+
+    fn print_line<W: Sink, N: Allocator + Copy>(
+        &self,
+        printer: &mut Printer<'_, W>,
+        names: &Names<'_, N>,
+    ) -> Result<(), WriteFailed> {
+        let seats = self.seats();
+        print_seats(printer, seats)?;
+        print_beside_seats(printer, names, seats)?;
+        printer.print(b"\n")
+    }
+}
+
+/// What hands out the answers to a request one by one.
+pub(crate) trait Answers {
+    type Answer: Answer;
+
+    // the answers still to come
+    ghost left: { Self → List (List ℕ) };
+
+    /// The first of the answers still to come.
+    fn next_answer(&mut self) -> Option<Self::Answer>
+        ensures { YieldsFirstBy Self.Answer.numbers Self.left self.old result self.new };
 }
 
 impl<'a, T: Tally> Answers for Winners<'a, T> {
@@ -48,20 +82,8 @@ impl<'a, T: Tally> Answers for Winners<'a, T> {
 
     ghost left = { λ winners. winners.left };
 
-    ghost numbers = { λ committee. committee };
-
-    ghost line_of = { committee_line };
-
     fn next_answer(&mut self) -> Option<CandSet> {
         self.next()
-    }
-
-    fn print_line<W: Sink, N: Allocator + Copy>(
-        printer: &mut Printer<'_, W>,
-        names: &Names<'_, N>,
-        answer: &CandSet,
-    ) -> Result<(), WriteFailed> {
-        print_committee(printer, names, *answer)
     }
 }
 
@@ -70,20 +92,8 @@ impl<'a, A: Allocator + Copy> Answers for FamilyWinners<'a, A> {
 
     ghost left = { λ winners. winners };
 
-    ghost numbers = { λ committee. committee };
-
-    ghost line_of = { committee_line };
-
     fn next_answer(&mut self) -> Option<CandSet> {
         self.next()
-    }
-
-    fn print_line<W: Sink, N: Allocator + Copy>(
-        printer: &mut Printer<'_, W>,
-        names: &Names<'_, N>,
-        answer: &CandSet,
-    ) -> Result<(), WriteFailed> {
-        print_committee(printer, names, *answer)
     }
 }
 
@@ -92,47 +102,9 @@ impl Answers for Shares {
 
     ghost left = { λ shares. shares };
 
-    ghost numbers = { λ allocation. allocation };
-
-    ghost line_of = { allocation_line };
-
     fn next_answer(&mut self) -> Option<Allocation> {
         self.next()
     }
-
-    fn print_line<W: Sink, N: Allocator + Copy>(
-        printer: &mut Printer<'_, W>,
-        names: &Names<'_, N>,
-        answer: &Allocation,
-    ) -> Result<(), WriteFailed> {
-        print_allocation(printer, names, answer.seats())
-    }
-}
-
-/// Prints the line of a committee.
-fn print_committee<W: Sink, N: Allocator + Copy>(
-    printer: &mut Printer<'_, W>,
-    names: &Names<'_, N>,
-    members: CandSet,
-) -> Result<(), WriteFailed>
-    ensures { Prints W.contents W.has_failed printer.old printer.new (is_ok result) (committee_line names.now members) }
-{
-    print_candidates(printer, names, members)?;
-    printer.print(b"\n")
-}
-
-/// Prints the line of an allocation.
-fn print_allocation<W: Sink, N: Allocator + Copy>(
-    printer: &mut Printer<'_, W>,
-    names: &Names<'_, N>,
-    seats: &[u16],
-) -> Result<(), WriteFailed>
-    ensures { Prints W.contents W.has_failed printer.old printer.new (is_ok result)
-        (allocation_line names.now seats.now) }
-{
-    print_seats(printer, seats)?;
-    print_beside_seats(printer, names, seats)?;
-    printer.print(b"\n")
 }
 
 /// Prints the last line after as many answers as the limit allows: one look tells whether there is another.
@@ -155,10 +127,7 @@ fn has_room(room: Option<u32>) -> bool
     ensures some { result ≡ true → room ≢ Some 0 }
     ensures none { result ≡ false → room ≡ Some 0 }
 {
-    match room {
-        Some(n) => n > 0,
-        None => true,
-    }
+    !matches!(room, Some(0))
 }
 
 /// The room that is left after one answer.
@@ -189,7 +158,7 @@ impl<N: Allocator + Copy> AnswerPage<'_, N> {
         answers: A,
     ) -> Result<(), WriteFailed>
         ensures printed { Prints W.contents W.has_failed printer.old printer.new (is_ok result)
-            (answers_text (A.line_of self.now.names.now) self.now.limit (A.left answers)) }
+            (answers_text (A.Answer.line_of self.now.names.now) self.now.limit (A.left answers)) }
         ensures nothing { is_ok result ≡ true → printer.new.pending.items ≡ [] }
     {
         printer.send()?;
@@ -204,7 +173,7 @@ impl<N: Allocator + Copy> AnswerPage<'_, N> {
         answers: A,
     ) -> Result<(), WriteFailed>
         ensures { Prints W.contents W.has_failed printer.old printer.new (is_ok result)
-            (answers_text (A.line_of self.now.names.now) self.now.limit (A.left answers)) }
+            (answers_text (A.Answer.line_of self.now.names.now) self.now.limit (A.left answers)) }
     {
         let mut answers = answers;
         let mut room = self.limit;
@@ -228,9 +197,9 @@ impl<N: Allocator + Copy> AnswerPage<'_, N> {
         is_first: bool,
     ) -> Result<(), WriteFailed>
         ensures { Prints W.contents W.has_failed printer.old printer.new (is_ok result)
-            (A.line_of self.now.names.now (A.numbers answer.now)) }
+            (A.Answer.line_of self.now.names.now (A.Answer.numbers answer.now)) }
     {
-        A::print_line(printer, self.names, answer)?;
+        answer.print_line(printer, self.names)?;
         if is_first {
             return printer.send();
         }

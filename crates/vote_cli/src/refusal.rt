@@ -2,11 +2,12 @@
 ghost use Rattle.std.specs.Prelude.{◌≡◌, ◌++◌, [], codes, is_ok};
 ghost use Rattle.text_output.specs.Steps.Printing.{Sends};
 ghost use Rattle.text_output.specs.Text.{line};
+ghost use Rattle.vote_cli.specs.FaultText.{fault_text};
 ghost use Rattle.vote_cli.specs.Steps.RequestFaults.{request_fault_word};
 ghost use Rattle.vote_cli.specs.Steps.Refusals.{error_of, status_of};
 
-use crate::fault_text::write_fault;
 use crate::status::{OUT_OF_MEMORY, Status, WRITE_FAILED};
+use itoa::Buffer;
 use preflib_text::{FaultName, ReadFault};
 use seat_share::ShareFault;
 use std::alloc::AllocError;
@@ -88,13 +89,32 @@ impl Refusal {
         ensures { Sends E.contents E.has_failed err.old err.new (is_ok result) (error_of self) }
     {
         match self {
-            Refusal::Input(fault) => write_fault(err, fault),
+            Refusal::Input(fault) => write_input_fault(err, fault),
             Refusal::Request(fault) => write_request_fault(err, fault),
             Refusal::Memory => write_pieces(err, &[OUT_OF_MEMORY.as_bytes(), b"\n"]),
             Refusal::ReadFailed => write_pieces(err, &[b"committees: read failed\n"]),
             Refusal::WriteFailed => write_pieces(err, &[WRITE_FAILED.as_bytes(), b"\n"]),
         }
     }
+}
+
+/// Writes a line on a fault of the input.
+fn write_input_fault<E: Sink>(err: &mut E, fault: ReadFault) -> Result<(), WriteFailed>
+    ensures { Sends E.contents E.has_failed err.old err.new (is_ok result) (line (fault_text fault)) }
+{
+    let word = fault.name.name().as_bytes();
+    let Some(number) = fault.line else {
+        return write_pieces(err, &[b"committees: input: ", word, b"\n"]);
+    };
+    let mut digits = Buffer::new();
+    let pieces = [
+        b"committees: input line ".as_slice(),
+        digits.format(number).as_bytes(),
+        b": ",
+        word,
+        b"\n",
+    ];
+    write_pieces(err, &pieces)
 }
 
 /// Writes a line on a request that does not fit.

@@ -1,18 +1,40 @@
-//! The lists after which answers start.
+//! The committee of a check, and the lists after which answers start.
 ghost use Rattle.std.specs.Prelude.{◌≡◌, ◌≤◌, ℕ, IfOk, IfErr, IfSome, None, false, true, length};
 ghost use Rattle.ballot_base.specs.Limits.{most_candidates, most_members};
-ghost use Rattle.ballot_base.specs.Lists.{is_committee};
+ghost use Rattle.ballot_base.specs.Lists.{IsIncreasing, is_committee};
 ghost use Rattle.request_words.specs.Request.{page_of};
 ghost use Rattle.seat_share.specs.Limits.{most_parties};
 ghost use Rattle.tie_walk.specs.Winners.{IsStart};
 ghost use Rattle.vote_cli.specs.Starts.{has_seats_for, may_start};
 
-use crate::committee::committee_of;
 use crate::refusal::RequestFault;
 use arrayvec::ArrayVec;
-use ballot_base::CandSet;
+use ballot_base::{CandSet, MOST_MEMBERS};
 use request_words::Page;
 use seat_share::{MOST_PARTIES, MOST_SEATS};
+
+/// The committee of these numbers, in increasing order, of the candidates 1 to m. There is none where the list is not
+/// increasing, has another number, or has more than `MOST_MEMBERS`.
+pub(crate) fn committee_of(list: &[u64], m: u8) -> Option<CandSet>
+    requires { m ≤ most_candidates }
+    ensures some { IfSome result (λ committee. committee ≡ list.now) }
+    ensures fits { IfSome result (λ _. IsIncreasing 1 m list.now × (length list.now ≤ most_members)) }
+    ensures none { result ≡ None → length list.now ≤ most_members → IsIncreasing 1 m list.now → ⊥ }
+{
+    if list.len() > usize::from(MOST_MEMBERS) {
+        return None;
+    }
+    let mut committee = CandSet::empty();
+    let mut last = 0;
+    for n in list {
+        if *n <= last || *n > u64::from(m) {
+            return None;
+        }
+        committee = committee.with(*n as u8);
+        last = *n;
+    }
+    Some(committee)
+}
 
 /// The committee of k of the candidates 1 to m after which winners are asked for, if there is a start. It need not win.
 /// A list that is no such committee is a misfit.

@@ -3,7 +3,7 @@ use Rattle.std.proofs.lemmas.List.{take_more}
 use Rattle.ballot_base.specs.Lists.{IsIncreasing}
 use Rattle.ballot_base.specs.CandSet.{with_member}
 use Rattle.ballot_base.proofs.Increasing.{with_member-above, IsIncreasing-push, next_increasing, increasing_from_next}
-use Rattle.vote_cli.proofs.committee.committee_of.Goals as goal
+use Rattle.vote_cli.proofs.starts.committee_of.Goals as goal
 
 pub loop-n-preserved : goal.loop-n-preserved
 loop-n-preserved c =

@@ -1,6 +1,6 @@
 use Rattle.std.proofs.Common.{refl, [], ◌∷◌}
 use Rattle.text_output.proofs.PrintingLemmas.{breaks_off, goes_on}
-use Rattle.vote_cli.proofs.listing.print_committee.Goals as goal
+use Rattle.vote_cli.proofs.listing.CandSetAnswer.print_line.Goals as goal
 
 pub returns-in_err-print_candidates : goal.returns-in_err-print_candidates
 returns-in_err-print_candidates g c =

@@ -1,6 +1,6 @@
 use Rattle.std.proofs.Common.{◌≡◌, ◌+◌, take, drop}
 use Rattle.ballot_base.specs.Lists.{IsIncreasing}
-use Rattle.vote_cli.proofs.committee.committee_of.Given as goal
+use Rattle.vote_cli.proofs.starts.committee_of.Given as goal
 
 -- the numbers so far are increasing and were taken, and the list is increasing exactly where those after them go on so
 abbrev pub invariant-loop-n : goal.invariant-loop-n
