@@ -1,6 +1,6 @@
 -- Each request has one answer over each input.
-use Rattle.std.proofs.Common.{◌≡◌, ◌⊎◌, ℕ, zero, suc, ◌+◌, ◌≤◌, Bool, true, false, List, [], length, Option, Some, None, Result, Ok, Err, inl, inr, refl, sym, subst, ap, ◌∙◌, arith, true≢false}
-use Rattle.std.specs.Prelude.{MatchResult, codes, is_some}
+use Rattle.std.proofs.Common.{◌≡◌, ◌⊎◌, ℕ, zero, suc, ◌+◌, ◌≤◌, Bool, true, false, List, [], length, Option, Some, None, Result, Ok, Err, inl, inr, refl, sym, ap, ◌∙◌, arith, true≢false}
+use Rattle.std.specs.Prelude.{codes, is_some}
 use Rattle.std.proofs.lemmas.Bool.{cases_Bool}
 use Rattle.ballot_base.specs.Lists.{IsIncreasing}
 use Rattle.ballot_base.specs.Ballots.{Election}
@@ -13,13 +13,14 @@ use Rattle.group_check.proofs.ReportLemmas.{NoneBelow, none_more, one_report, re
 use Rattle.preflib_text.specs.Reading.{Reads}
 use Rattle.preflib_text.specs.declared.fault.ReadFault.{ReadFault}
 use Rattle.preflib_text.specs.declared.pick.Pick.{Pick}
-use Rattle.preflib_text.proofs.ReadLemmas.{outcome_is_one, some_outcome_is}
+use Rattle.preflib_text.proofs.ReadLemmas.{some_outcome_is}
 use Rattle.request_words.specs.Request.{Request, Task, electing, checking, sharing, of_ballots, of_votes}
 use Rattle.vote_cli.specs.FaultText.{fault_text}
 use Rattle.text_output.specs.Names.{naming}
 use Rattle.text_output.specs.CheckText.{holds_text, violation_text}
 use Rattle.vote_cli.specs.declared.status.Status.TheVariants.{InputRefused}
 use Rattle.vote_cli.specs.Answer.{Answer, IsAnswer, IsAnswerOver, IsAnswerTo, IsCheckAnswer, answered, ballots_answer, election_answer, may_be_checked, request_refused, refused, share_answer, violated}
+use Rattle.vote_cli.proofs.PageLaws.{related_over}
 use Rattle.vote_cli.proofs.StartLemmas.{may_be_checked-is}
 
 -- ---- a committee has the property, or there is a report
@@ -66,19 +67,9 @@ one_check_answer property list with_names e a b (inr (inr x)) (inr (inl y)) =
 one_check_answer property list with_names e a b (inr (inr x)) (inr (inr y)) =
     x.1.2 ∙ ap (λ report. violated (violation_text (naming with_names e.names) report e)) (one_report property e list x.1.0 y.1.0 x.1.1 y.1.1) ∙ sym y.1.2
 
-module _ (IsRight : Election → Answer → Type 0) (one : (e : Election) (a b : Answer) → IsRight e a → IsRight e b → a ≡ b)
-    (pick : Pick) (bytes : List ℕ) where
-  one_of_outcome : (read : Result Election ReadFault) (a b : Answer)
-      → MatchResult read (λ e. IsRight e a) (λ fault. a ≡ refused InputRefused (fault_text fault))
-      → MatchResult read (λ e. IsRight e b) (λ fault. b ≡ refused InputRefused (fault_text fault)) → a ≡ b
-  one_of_outcome (Ok e) a b x y = one e a b x y
-  one_of_outcome (Err fault) a b x y = x ∙ sym y
-
-  one_over : (a b : Answer) → IsAnswerOver IsRight pick bytes a → IsAnswerOver IsRight pick bytes b → a ≡ b
-  one_over a b x y =
-      one_of_outcome x.0 a b x.2
-      (subst (λ read. MatchResult read (λ e. IsRight e b) (λ fault. b ≡ refused InputRefused (fault_text fault)))
-      (outcome_is_one bytes pick y.0 x.0 y.1 x.1) y.2)
+one_over : (IsRight : Election → Answer → Type 0) (one : (e : Election) (a b : Answer) → IsRight e a → IsRight e b → a ≡ b) (pick : Pick) (bytes : List ℕ)
+    (a b : Answer) → IsAnswerOver IsRight pick bytes a → IsAnswerOver IsRight pick bytes b → a ≡ b
+one_over IsRight one pick bytes = related_over (λ a b. a ≡ b) (λ answer none. refl) IsRight IsRight pick bytes (λ e a b reads x y. one e a b x y)
 
 one_answer_to : (with_names : Bool) (task : Task) (pick : Pick) (bytes : List ℕ) (a b : Answer) → IsAnswerTo with_names task pick bytes a → IsAnswerTo with_names task pick bytes b → a ≡ b
 one_answer_to with_names (of_ballots (electing rule size page)) pick bytes a b x y =

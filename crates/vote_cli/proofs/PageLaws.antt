@@ -15,17 +15,16 @@ use Rattle.preflib_text.specs.declared.pick.Pick.{Pick}
 use Rattle.preflib_text.proofs.ReadLemmas.{outcome_is_one}
 use Rattle.request_words.specs.Request.{Request, Task, Page, electing, checking, sharing, whole, of_ballots, of_votes}
 use Rattle.seat_share.specs.Faults.{share_fault}
-use Rattle.seat_share.specs.declared.method.Method.{Method}
 use Rattle.seat_share.specs.declared.method.ShareFault.{ShareFault}
 use Rattle.vote_cli.specs.FaultText.{fault_text}
 use Rattle.vote_cli.specs.Laws.{IsCut, IsListed, IsListedBy, IsPart, IsSameRefusal, Listed, asked_for, elect_listed, front, is_listing, line_for, page_of, share_listed, with_page}
 use Rattle.vote_cli.specs.Listing.{last_line, listing_text}
-use Rattle.text_output.specs.Names.{Names, naming}
+use Rattle.text_output.specs.Names.{naming}
 use Rattle.vote_cli.specs.Parties.{has_many_approved, party_votes}
 use Rattle.vote_cli.specs.Starts.{may_start}
 use Rattle.text_output.specs.Text.{line}
 use Rattle.vote_cli.specs.declared.status.Status.TheVariants.{InputRefused}
-use Rattle.vote_cli.specs.Answer.{Answer, IsAnswer, IsAnswerOver, IsAnswerTo, answered, ballots_answer, election_answer, request_refused, refused, share_answer, share_answer_by}
+use Rattle.vote_cli.specs.Answer.{Answer, IsAnswer, IsAnswerOver, IsAnswerTo, answered, ballots_answer, election_answer, request_refused, refused, share_answer_by}
 
 -- an election whose text is this one, by whether the size is too large, and whether the start fits
 abbrev pub elected_by : Bool → Bool → List ℕ → Answer
@@ -48,7 +47,7 @@ module _ (R : Answer → Answer → Type 0) (refusals : HoldsOfRefusals R) where
     related_read (Ok e) a b reads x y = step e a b reads x y
     related_read (Err fault) a b reads x y = subst (λ l. R l b) (sym x) (subst (R (refused InputRefused (fault_text fault))) (sym y) (refusals (refused InputRefused (fault_text fault)) refl))
 
-    related_over : (a b : Answer) → IsAnswerOver P pick bytes a → IsAnswerOver Q pick bytes b → R a b
+    pub related_over : (a b : Answer) → IsAnswerOver P pick bytes a → IsAnswerOver Q pick bytes b → R a b
     related_over a b x y =
         related_read x.0 a b x.1 x.2
         (subst (λ read. MatchResult read (λ e. Q e b) (λ fault. b ≡ refused InputRefused (fault_text fault))) (outcome_is_one bytes pick y.0 x.0 y.1 x.1) y.2)
@@ -71,6 +70,51 @@ related_refusals IsOf R answer none = inl (none, refl)
 -- the text of a page of what is listed
 abbrev pub text_of : Listed → Page → List ℕ
 text_of listed page = listing_text listed.line_of listed.header page listed.answers
+
+-- ---- two pages of what a request lists
+module _ (p q : Page) (R : Listed → Answer → Answer → Type 0) (pages : (IsOf : Listed → Type 0) (listed : Listed) → IsOf listed → Related IsOf R (page_of listed p) (page_of listed q)) where
+  module _ (IsOf : Listed → Type 0) (listed : Listed) (is : IsOf listed) where
+    -- answers that are pages, unless something else is refused before
+    paged_by : (P : Bool → List ℕ → Answer) → ((starts : Bool) (text : List ℕ) → P starts text ≡ if starts then answered text else request_refused (codes "AfterMisfit"))
+        → Related IsOf R (P (may_start listed.may_follow p.after) (text_of listed p)) (P (may_start listed.may_follow q.after) (text_of listed q))
+    paged_by P same = related (Related IsOf R) (related_refusals IsOf R) _ _ _ _ (same _ _) (same _ _) (pages IsOf listed is)
+
+    paged_election : (low : Bool) → Related IsOf R (elected_by low (may_start listed.may_follow p.after) (text_of listed p)) (elected_by low (may_start listed.may_follow q.after) (text_of listed q))
+    paged_election true = inl (refl, refl)
+    paged_election false = paged_by (elected_by false) same
+      where
+        same : (starts : Bool) (text : List ℕ) → elected_by false starts text ≡ if starts then answered text else request_refused (codes "AfterMisfit")
+        same true text = refl
+        same false text = refl
+
+    paged_shares : (found : Option ShareFault)
+        → Related IsOf R (share_answer_by found (may_start listed.may_follow p.after) (text_of listed p)) (share_answer_by found (may_start listed.may_follow q.after) (text_of listed q))
+    paged_shares (Some fault) = inl (refl, refl)
+    paged_shares None = paged_by (share_answer_by None) same
+      where
+        same : (starts : Bool) (text : List ℕ) → share_answer_by None starts text ≡ if starts then answered text else request_refused (codes "AfterMisfit")
+        same true text = refl
+        same false text = refl
+
+  paged_to : (with_names : Bool) (task : Task) (pick : Pick) (bytes : List ℕ) (a b : Answer) → is_listing task ≡ true
+      → IsAnswerTo with_names (with_page p task) pick bytes a → IsAnswerTo with_names (with_page q task) pick bytes b → Related (IsListedBy with_names task pick bytes) R a b
+  paged_to with_names (of_ballots (electing rule size page)) pick bytes a b lists x y =
+      let IsOf = IsListedBy with_names (of_ballots (electing rule size page)) pick bytes in
+      let refusals = related_refusals IsOf R in
+      related_over (Related IsOf R) refusals (λ e answer. answer ≡ election_answer rule size p with_names e) (λ e answer. answer ≡ election_answer rule size q with_names e) pick bytes
+      (λ e c d reads left right. related (Related IsOf R) refusals c d _ _ left right (paged_election IsOf (elect_listed with_names rule size e) (e, reads, refl) (nat_lt e.m size)))
+      a b x y
+  paged_to with_names (of_ballots (checking property list)) pick bytes a b lists x y = let h : false ≡ true = lists in cc
+  paged_to with_names (of_ballots (sharing method seats page)) pick bytes a b lists x y =
+      let IsOf = IsListedBy with_names (of_ballots (sharing method seats page)) pick bytes in
+      let refusals = related_refusals IsOf R in
+      related_over (Related IsOf R) refusals (λ e answer. answer ≡ ballots_answer method seats p with_names e) (λ e answer. answer ≡ ballots_answer method seats q with_names e) pick bytes
+      (λ e c d reads left right. related (Related IsOf R) refusals c d _ _ left right (counted (Related IsOf R) refusals (has_many_approved e) _ _
+      (paged_shares IsOf (share_listed (naming with_names e.names) method seats (party_votes e)) (e, reads, refl) (share_fault (party_votes e) seats None))))
+      a b x y
+  paged_to with_names (of_votes votes method seats page) pick bytes a b lists x y =
+      let IsOf = IsListedBy with_names (of_votes votes method seats page) pick bytes in
+      related (Related IsOf R) (related_refusals IsOf R) a b _ _ x y (paged_shares IsOf (share_listed (naming with_names []) method seats votes) refl (share_fault votes seats None))
 
 -- ---- a limit
 abbrev unlimited : Option (List ℕ) → Page
@@ -121,104 +165,22 @@ cut_listed listed after n = record {
   cut_is = ap answered (cut_front listed n (later_than after listed.answers));
 }
 
-module _ (IsOf : Listed → Type 0) (listed : Listed) (is : IsOf listed) (after : Option (List ℕ)) (n : ℕ) where
-  cut_elected : (low starts : Bool)
-      → Related IsOf (CutOf after n) (elected_by low starts (text_of listed (unlimited after))) (elected_by low starts (text_of listed (up_to after n)))
-  cut_elected true starts = inl (refl, refl)
-  cut_elected false false = inl (refl, refl)
-  cut_elected false true = inr (listed, is, cut_listed listed after n)
-
-  cut_shared : (found : Option ShareFault) (starts : Bool)
-      → Related IsOf (CutOf after n) (share_answer_by found starts (text_of listed (unlimited after))) (share_answer_by found starts (text_of listed (up_to after n)))
-  cut_shared (Some fault) starts = inl (refl, refl)
-  cut_shared None false = inl (refl, refl)
-  cut_shared None true = inr (listed, is, cut_listed listed after n)
-
-cut_votes : (IsOf : Listed → Type 0) (method : Method) (seats : ℕ) (after : Option (List ℕ)) (n : ℕ) (names : Names) (votes : List ℕ) → IsOf (share_listed names method seats votes)
-    → Related IsOf (CutOf after n) (share_answer method seats (unlimited after) names votes) (share_answer method seats (up_to after n) names votes)
-cut_votes IsOf method seats after n names votes is =
-    cut_shared IsOf (share_listed names method seats votes) is after n (share_fault votes seats None) (may_start (share_listed names method seats votes).may_follow after)
-
-cut_to : (with_names : Bool) (task : Task) (pick : Pick) (bytes : List ℕ) (after : Option (List ℕ)) (n : ℕ) (all cut : Answer) → is_listing task ≡ true
-    → IsAnswerTo with_names (with_page (unlimited after) task) pick bytes all → IsAnswerTo with_names (with_page (up_to after n) task) pick bytes cut
-    → Related (IsListedBy with_names task pick bytes) (CutOf after n) all cut
-cut_to with_names (of_ballots (electing rule size page)) pick bytes after n all cut lists x y =
-    let IsOf = IsListedBy with_names (of_ballots (electing rule size page)) pick bytes in
-    let refusals = related_refusals IsOf (CutOf after n) in
-    related_over (Related IsOf (CutOf after n)) refusals
-    (λ e answer. answer ≡ election_answer rule size (unlimited after) with_names e) (λ e answer. answer ≡ election_answer rule size (up_to after n) with_names e) pick bytes
-    (λ e a b reads left right. related (Related IsOf (CutOf after n)) refusals a b _ _ left right
-    (cut_elected IsOf (elect_listed with_names rule size e) (e, reads, refl) after n (nat_lt e.m size) (may_start (elect_listed with_names rule size e).may_follow after)))
-    all cut x y
-cut_to with_names (of_ballots (checking property list)) pick bytes after n all cut lists x y = let h : false ≡ true = lists in cc
-cut_to with_names (of_ballots (sharing method seats page)) pick bytes after n all cut lists x y =
-    let IsOf = IsListedBy with_names (of_ballots (sharing method seats page)) pick bytes in
-    let refusals = related_refusals IsOf (CutOf after n) in
-    related_over (Related IsOf (CutOf after n)) refusals
-    (λ e answer. answer ≡ ballots_answer method seats (unlimited after) with_names e) (λ e answer. answer ≡ ballots_answer method seats (up_to after n) with_names e) pick bytes
-    (λ e a b reads left right. related (Related IsOf (CutOf after n)) refusals a b _ _ left right
-    (counted (Related IsOf (CutOf after n)) refusals (has_many_approved e) _ _ (cut_votes IsOf method seats after n (naming with_names e.names) (party_votes e) (e, reads, refl))))
-    all cut x y
-cut_to with_names (of_votes votes method seats page) pick bytes after n all cut lists x y =
-    let IsOf = IsListedBy with_names (of_votes votes method seats page) pick bytes in
-    related (Related IsOf (CutOf after n)) (related_refusals IsOf (CutOf after n)) all cut _ _ x y (cut_votes IsOf method seats after n (naming with_names []) votes refl)
+cut_page : (after : Option (List ℕ)) (n : ℕ) (IsOf : Listed → Type 0) (listed : Listed) → IsOf listed → Related IsOf (CutOf after n) (page_of listed (unlimited after)) (page_of listed (up_to after n))
+cut_page after n IsOf listed is = by (may_start listed.may_follow after)
+  where
+    by : (starts : Bool) → Related IsOf (CutOf after n) (if starts then answered (text_of listed (unlimited after)) else request_refused (codes "AfterMisfit"))
+        (if starts then answered (text_of listed (up_to after n)) else request_refused (codes "AfterMisfit"))
+    by true = inr (listed, is, cut_listed listed after n)
+    by false = inl (refl, refl)
 
 pub limited : (asked : Request) (bytes : List ℕ) (after : Option (List ℕ)) (n : ℕ) (all cut : Answer) → is_listing asked.task ≡ true
     → IsAnswer (asked_for (unlimited after) asked) bytes all → IsAnswer (asked_for (up_to after n) asked) bytes cut
     → IsSameRefusal all cut ⊎ ((listed : Listed) × IsListed asked bytes listed × IsCut listed (later_than after listed.answers) n all cut)
-limited asked bytes after n all cut lists x y = cut_to asked.names asked.task asked.pick bytes after n all cut lists x y
+limited asked bytes after n = paged_to (unlimited after) (up_to after n) (CutOf after n) (cut_page after n) asked.names asked.task asked.pick bytes
 
 -- ---- a page
-abbrev PartOf : Page → Listed → Answer → Answer → Type 0
-PartOf page listed = IsPart listed page
-
-module _ (IsOf : Listed → Type 0) (listed : Listed) (is : IsOf listed) (page : Page) where
-  abbrev started : Bool → Answer
-  started starts = if starts then answered (text_of listed page) else request_refused (codes "AfterMisfit")
-
-  part_listed : (part : Answer) → part ≡ page_of listed page → Related IsOf (PartOf page) (answered (text_of listed whole)) part
-  part_listed part is_part = inr (listed, is, record { all_is = refl; part_is = is_part })
-
-  part_elected : (low starts : Bool) → starts ≡ may_start listed.may_follow page.after
-      → Related IsOf (PartOf page) (elected_by low true (text_of listed whole)) (elected_by low starts (text_of listed page))
-  part_elected true starts fits = inl (refl, refl)
-  part_elected false false fits = part_listed (request_refused (codes "AfterMisfit")) (ap started fits)
-  part_elected false true fits = part_listed (answered (text_of listed page)) (ap started fits)
-
-  part_shared : (found : Option ShareFault) (starts : Bool) → starts ≡ may_start listed.may_follow page.after
-      → Related IsOf (PartOf page) (share_answer_by found true (text_of listed whole)) (share_answer_by found starts (text_of listed page))
-  part_shared (Some fault) starts fits = inl (refl, refl)
-  part_shared None false fits = part_listed (request_refused (codes "AfterMisfit")) (ap started fits)
-  part_shared None true fits = part_listed (answered (text_of listed page)) (ap started fits)
-
-part_votes : (IsOf : Listed → Type 0) (page : Page) (method : Method) (seats : ℕ) (names : Names) (votes : List ℕ) → IsOf (share_listed names method seats votes)
-    → Related IsOf (PartOf page) (share_answer method seats whole names votes) (share_answer method seats page names votes)
-part_votes IsOf page method seats names votes is =
-    part_shared IsOf (share_listed names method seats votes) is page (share_fault votes seats None) (may_start (share_listed names method seats votes).may_follow page.after) refl
-
-part_to : (with_names : Bool) (task : Task) (pick : Pick) (bytes : List ℕ) (page : Page) (all part : Answer) → is_listing task ≡ true
-    → IsAnswerTo with_names (with_page whole task) pick bytes all → IsAnswerTo with_names (with_page page task) pick bytes part
-    → Related (IsListedBy with_names task pick bytes) (PartOf page) all part
-part_to with_names (of_ballots (electing rule size old)) pick bytes page all part lists x y =
-    let IsOf = IsListedBy with_names (of_ballots (electing rule size old)) pick bytes in
-    let refusals = related_refusals IsOf (PartOf page) in
-    related_over (Related IsOf (PartOf page)) refusals (λ e answer. answer ≡ election_answer rule size whole with_names e) (λ e answer. answer ≡ election_answer rule size page with_names e) pick bytes
-    (λ e a b reads left right. related (Related IsOf (PartOf page)) refusals a b _ _ left right
-    (part_elected IsOf (elect_listed with_names rule size e) (e, reads, refl) page (nat_lt e.m size) (may_start (elect_listed with_names rule size e).may_follow page.after) refl))
-    all part x y
-part_to with_names (of_ballots (checking property list)) pick bytes page all part lists x y = let h : false ≡ true = lists in cc
-part_to with_names (of_ballots (sharing method seats old)) pick bytes page all part lists x y =
-    let IsOf = IsListedBy with_names (of_ballots (sharing method seats old)) pick bytes in
-    let refusals = related_refusals IsOf (PartOf page) in
-    related_over (Related IsOf (PartOf page)) refusals (λ e answer. answer ≡ ballots_answer method seats whole with_names e) (λ e answer. answer ≡ ballots_answer method seats page with_names e) pick bytes
-    (λ e a b reads left right. related (Related IsOf (PartOf page)) refusals a b _ _ left right
-    (counted (Related IsOf (PartOf page)) refusals (has_many_approved e) _ _ (part_votes IsOf page method seats (naming with_names e.names) (party_votes e) (e, reads, refl))))
-    all part x y
-part_to with_names (of_votes votes method seats old) pick bytes page all part lists x y =
-    let IsOf = IsListedBy with_names (of_votes votes method seats old) pick bytes in
-    related (Related IsOf (PartOf page)) (related_refusals IsOf (PartOf page)) all part _ _ x y (part_votes IsOf page method seats (naming with_names []) votes refl)
-
 pub paged : (asked : Request) (bytes : List ℕ) (page : Page) (all part : Answer) → is_listing asked.task ≡ true
     → IsAnswer (asked_for whole asked) bytes all → IsAnswer (asked_for page asked) bytes part
     → IsSameRefusal all part ⊎ ((listed : Listed) × IsListed asked bytes listed × IsPart listed page all part)
-paged asked bytes page all part lists x y = part_to asked.names asked.task asked.pick bytes page all part lists x y
+paged asked bytes page =
+    paged_to whole page (λ listed. IsPart listed page) (λ IsOf listed is. inr (listed, is, record { all_is = refl; part_is = refl })) asked.names asked.task asked.pick bytes

@@ -1,10 +1,11 @@
 -- The votes of parties, as rows are counted one after the other.
-use Rattle.std.proofs.Common.{◌≡◌, ℕ, zero, suc, ◌+◌, ◌-◌, ◌<◌, ◌≤◌, ◌∙◌, Bool, true, false, cond, List, [], ◌∷◌, ◌++◌, Some, refl, sym, subst, ap, ap₂, arith, inl, inr, length, length-set, map, filter, take, get_or, set, slice_get, drop, replicate, take-append-drop}
-use Rattle.std.specs.Prelude.{nat_lt, ◌||◌}
-use Rattle.std.specs.List.{AllByRecursion, list_any, range_with_len}
+use Rattle.std.proofs.Common.{◌≡◌, ℕ, ◌+◌, ◌-◌, ◌<◌, ◌≤◌, ◌∙◌, Bool, true, false, cond, List, [], ◌∷◌, ◌++◌, Some, refl, sym, subst, ap, ap₂, arith, inl, inr, length, length-set, map, filter, take, get_or, set, slice_get, drop, replicate, take-append-drop}
+use Rattle.std.specs.Prelude.{nat_lt, not, ◌||◌}
+use Rattle.std.specs.List.{list_any, range_with_len}
 use Rattle.std.proofs.lemmas.Bool.{cases_eq, eq-eqb, ne_eqb, lt-ltb, le-ltb, or_left, or_right}
 use Rattle.std.proofs.lemmas.List.{ext_get_or, get_or-set_same, get_or-set_other}
 use Rattle.std.proofs.lemmas.List.Elements.{filter_more}
+use Rattle.std.proofs.lemmas.List.Filters.{sum_by-filter_both}
 use Rattle.std.proofs.lemmas.List.Folds.{list_any_more, list_any-append}
 use Rattle.std.proofs.lemmas.List.FromFn.{length-map-range_with_len, get_or-map-range_with_len, take-map-range_with_len}
 use Rattle.std.proofs.lemmas.List.Sums.{sum_by-append, sum_by-cons, sum_by_more_le}
@@ -13,6 +14,7 @@ use Rattle.ballot_base.specs.CandSet.{has_member}
 use Rattle.ballot_base.specs.Limits.{most_candidates}
 use Rattle.ballot_base.specs.Lists.{IsIncreasing}
 use Rattle.ballot_base.specs.Ballots.{Election, IsElection, Row, voter_count}
+use Rattle.tie_walk.proofs.Distances.{ballot-found}
 use Rattle.vote_cli.specs.Parties.{approvals_of}
 
 -- the voters of a row who approve a candidate
@@ -81,12 +83,7 @@ tallies-at rows i few = get_or-map-range_with_len (approvals_of rows) 1 most_can
 
 -- a candidate has no more voters than there are
 filter-most : (p : Row → Bool) (rows : List Row) → voter_count (filter p rows) ≤ voter_count rows
-filter-most p [] = omega arith
-filter-most p (row ∷ rows) = by (p row) (filter-most p rows)
-  where
-    by : (b : Bool) → voter_count (filter p rows) ≤ voter_count rows → voter_count (cond b (row ∷ filter p rows) (filter p rows)) ≤ voter_count (row ∷ rows)
-    by true less = omega (arith, less, sum_by-cons (λ (r : Row). r.1) row rows, sum_by-cons (λ (r : Row). r.1) row (filter p rows))
-    by false less = omega (arith, less, sum_by-cons (λ (r : Row). r.1) row rows)
+filter-most p rows = omega (arith, sum_by-filter_both p (λ row. not (p row)) (λ row. refl) (λ (r : Row). r.1) rows)
 
 -- the votes so far and the next row's voters
 pub tallies-bound : (rows : List Row) (i : ℕ) (row : Row) (at : ℕ) → slice_get rows i ≡ Some row → at < most_candidates
@@ -137,17 +134,9 @@ pub alone : (ballot others : List ℕ) (first : ℕ) → ballot ≡ first ∷ ot
 alone ballot [] first parts few = parts
 alone ballot (next ∷ others) first parts few = absurd (omega (arith, few, ap length parts))
 
--- the ballot of a row
-ballot_found : (m : ℕ) (rows : List Row) (i : ℕ) (row : Row) → AllByRecursion (λ (r : Row). IsIncreasing 1 m r.0) rows
-    → slice_get rows i ≡ Some row → IsIncreasing 1 m row.0
-ballot_found m [] i row all found = absurd (omega (arith, slice_get_within [] i row found))
-ballot_found m (r ∷ rows) zero row all found =
-    subst (λ (x : Row). IsIncreasing 1 m x.0) (get_or_from_slice_get (r ∷ rows) 0 row r found) all.0
-ballot_found m (r ∷ rows) (suc i) row all found = ballot_found m rows i row all.1 found
-
 -- the first candidate of a ballot is one that there may be
 pub first_within : (e : Election) (i : ℕ) (row : Row) (others : List ℕ) (first : ℕ) → IsElection e → slice_get e.rows i ≡ Some row
     → row.0 ≡ first ∷ others → (1 ≤ first) × (first ≤ most_candidates)
 first_within e i row others first valid found parts =
-    let same : IsIncreasing 1 e.m (first ∷ others) = subst (IsIncreasing 1 e.m) parts (ballot_found e.m e.rows i row valid.ballots found) in
+    let same : IsIncreasing 1 e.m (first ∷ others) = subst (IsIncreasing 1 e.m) parts (ballot-found e.m e.rows i row valid.ballots found) in
     (same.0, omega (arith, same.1, valid.most))
