@@ -92,9 +92,8 @@ impl<A: Allocator + Copy> Report<'_, A> {
 
     /// Prints the line of the voters of the group, and of all voters.
     fn print_voters<W: Sink>(&self, printer: &mut Printer<'_, W>) -> Result<(), WriteFailed>
-        ensures { let total = voter_count self.now.profile.now.rows in
-            Prints W.contents W.has_failed printer.old printer.new (is_ok result)
-            (voters_text self.now.violation.now.voters total) }
+        ensures { Prints W.contents W.has_failed printer.old printer.new (is_ok result)
+            (voters_text self.now.violation.now.voters (voter_count self.now.profile.now.rows)) }
     {
         let mut voters_digits = Buffer::new();
         let mut total_digits = Buffer::new();

@@ -1,5 +1,5 @@
 //! The names that stand beside the numbers of candidates and parties.
-ghost use Rattle.std.specs.Prelude.{◌≡◌, [], MatchOption, None, Some, is_ok};
+ghost use Rattle.std.specs.Prelude.{◌≡◌, [], is_ok};
 ghost use Rattle.text_output.specs.Names.{beside, called, candidates_text, names_text, naming, seated_parties};
 ghost use Rattle.text_output.specs.Steps.Names.{IsName, listed_name, names_in};
 ghost use Rattle.text_output.specs.Steps.Printing.{Prints};
@@ -15,17 +15,18 @@ use std::marker::Model;
 /// name; or `None` if names are not wanted.
 #[derive(Drop)]
 pub struct Names<'a, A: Allocator + Copy> {
-    are_wanted: bool,
-    profile: Option<&'a Profile<A>>,
+    /// The profile whose candidates are named, if there is one, where names are wanted.
+    wanted: Option<Option<&'a Profile<A>>>,
 }
 
 impl<'a, A: Allocator + Copy> Model for Names<'a, A> {
-    ghost use Rattle.text_output.specs.Names.{Names, naming};
+    ghost use Rattle.std.specs.Prelude.{option_map};
+    ghost use Rattle.text_output.specs.Names.{Names};
     ghost use Rattle.text_output.specs.Steps.Names.{names_in};
 
     ghost Value = { Names };
 
-    ghost view = { λ names. naming names.are_wanted (names_in names.profile) };
+    ghost view = { λ names. option_map names_in names.wanted };
 }
 
 impl<'a, A: Allocator + Copy> Names<'a, A> {
@@ -34,8 +35,7 @@ impl<'a, A: Allocator + Copy> Names<'a, A> {
         ensures { result ≡ naming are_wanted profile.now.names }
     {
         Names {
-            are_wanted,
-            profile: Some(profile),
+            wanted: are_wanted.then_some(Some(profile)),
         }
     }
 
@@ -44,19 +44,7 @@ impl<'a, A: Allocator + Copy> Names<'a, A> {
         ensures { result ≡ naming are_wanted [] }
     {
         Names {
-            are_wanted,
-            profile: None,
-        }
-    }
-
-    /// The profile whose candidates are named, if there is one, where names are wanted.
-    fn wanted(&self) -> Option<Option<&'a Profile<A>>>
-        ensures { MatchOption result (self.now ≡ None) (λ profile. self.now ≡ Some (names_in profile)) }
-    {
-        if self.are_wanted {
-            Some(self.profile)
-        } else {
-            None
+            wanted: are_wanted.then_some(None),
         }
     }
 }
@@ -148,26 +136,11 @@ pub fn print_beside_seats<W: Sink, A: Allocator + Copy>(
     ensures { Prints W.contents W.has_failed printer.old printer.new (is_ok result)
         (beside names.now (seated_parties seats.now)) }
 {
-    let Some(profile) = names.wanted() else {
+    let Some(profile) = names.wanted else {
         return Ok(());
     };
     printer.print(b"\t")?;
     print_seated_names(printer, profile, seats)
-}
-
-/// Prints a tab and the names of the members, where names are wanted.
-fn print_beside_members<W: Sink, A: Allocator + Copy>(
-    printer: &mut Printer<'_, W>,
-    names: &Names<'_, A>,
-    members: CandSet,
-) -> Result<(), WriteFailed>
-    ensures { Prints W.contents W.has_failed printer.old printer.new (is_ok result) (beside names.now members) }
-{
-    let Some(profile) = names.wanted() else {
-        return Ok(());
-    };
-    printer.print(b"\t")?;
-    print_member_names(printer, profile, members)
 }
 
 /// Prints the numbers of the members, and a tab and their names after them if names are wanted.
@@ -180,5 +153,9 @@ pub fn print_candidates<W: Sink, A: Allocator + Copy>(
         (candidates_text names.now members) }
 {
     print_members(printer, members)?;
-    print_beside_members(printer, names, members)
+    let Some(profile) = names.wanted else {
+        return Ok(());
+    };
+    printer.print(b"\t")?;
+    print_member_names(printer, profile, members)
 }
