@@ -152,6 +152,41 @@ module _ {W : Type 0} {contents : W → Option (List ℕ)} {has_failed : W → B
       → b.out.now ≡ after → Prints contents has_failed a b (is_ok q) x → Sends contents has_failed before after (is_ok q) x
   Sends-cut first none q bad last h = Sends-by first none (λ e. absurd (true≢false (sym e ∙ is_ok-err q bad))) last h
 
+-- ---- a loop that prints
+
+module _ {W : Type 0} (contents : W → Option (List ℕ)) (has_failed : W → Bool) where
+  -- a beginning of the whole text was printed, and this is left of it
+  pub record Underway (before now : Printer W) (left whole : List ℕ) : Type 0 where
+    pub done : List ℕ
+    pub printed : Prints contents has_failed before now true done
+    pub parts : done ++ left ≡ whole
+
+module _ {W : Type 0} {contents : W → Option (List ℕ)} {has_failed : W → Bool} where
+  pub starts : (a : Printer W) {whole left : List ℕ} → left ≡ whole → Underway contents has_failed a a left whole
+  starts a same = record { done = []; printed = Prints-nothing a; parts = same }
+
+  -- a text more
+  pub next : {a b c : Printer W} {left rest x whole : List ℕ} {V E : Type 0} → Underway contents has_failed a b left whole → left ≡ x ++ rest → (r : Result V E) (v : V) → r ≡ Ok v
+      → Prints contents has_failed b c (is_ok r) x → Underway contents has_failed a c rest whole
+  next {rest = rest} {x = x} so_far parts r v was here = record {
+    done = so_far.done ++ x;
+    printed = goes_on_after r v was so_far.printed here;
+    parts = append_assoc so_far.done x rest ∙ ap (λ l. so_far.done ++ l) (sym parts) ∙ so_far.parts;
+  }
+
+  -- a text that was not printed whole
+  pub stops : {a b c : Printer W} {left x whole : List ℕ} {V U E F : Type 0} (rest : List ℕ) → Underway contents has_failed a b left whole → left ≡ x ++ rest → (r : Result V E) (e : E) (q : Result U F)
+      → r ≡ Err e → IsErr q → Prints contents has_failed b c (is_ok r) x → Prints contents has_failed a c (is_ok q) whole
+  stops rest so_far parts r e q was bad here = breaks_off_after rest r e q was bad (ap (λ l. so_far.done ++ l) (sym parts) ∙ so_far.parts) so_far.printed here
+
+  -- what is left, in other words
+  pub passes_on : {a b : Printer W} {left other whole : List ℕ} → left ≡ other → Underway contents has_failed a b left whole → Underway contents has_failed a b other whole
+  passes_on {a} {b} {left} {other} {whole} same h = subst (λ l. Underway contents has_failed a b l whole) same h
+
+  -- the last text
+  pub ends_with : {a b c : Printer W} {left whole : List ℕ} {ok : Bool} → Underway contents has_failed a b left whole → Prints contents has_failed b c ok left → Prints contents has_failed a c ok whole
+  ends_with so_far last = Prints-last (sym so_far.parts) so_far.printed last
+
 -- ---- pieces
 
 -- the pieces from one on are that piece and those after it

@@ -1,11 +1,9 @@
-use Rattle.std.proofs.Common.{◌≡◌, ℕ, ◌++◌, List, true}
 use Rattle.text_output.specs.Names.{names_text}
 use Rattle.text_output.specs.Steps.Names.{listed_names, names_in}
-use Rattle.text_output.specs.Steps.Printing.{Prints}
+use Rattle.text_output.proofs.PrintingLemmas.{Underway}
 use Rattle.text_output.proofs.names.print_member_names.Given as goal
 
--- the names so far were printed, and those of the rest are left
+-- the names of the members so far were printed
 abbrev pub invariant-loop-member : goal.invariant-loop-member
-invariant-loop-member g l = (done : List ℕ)
-    × Prints g.W.Sink.contents g.W.Device.has_failed l.initial.printer l.printer true done
-    × (done ++ listed_names l.is_first (names_in l.fn.profile) l.member-iterator ≡ names_text (names_in l.fn.profile) l.fn.set)
+invariant-loop-member g l = Underway g.W.Sink.contents g.W.Device.has_failed l.initial.printer l.printer
+    (listed_names l.is_first (names_in l.fn.profile) l.member-iterator) (names_text (names_in l.fn.profile) l.fn.set)

@@ -1,12 +1,10 @@
-use Rattle.std.proofs.Common.{◌≡◌, ℕ, ◌++◌, List, true}
 use Rattle.text_output.specs.Names.{names_text, seated_parties}
 use Rattle.text_output.specs.Steps.Names.{listed_names, names_in}
-use Rattle.text_output.specs.Steps.Printing.{Prints}
 use Rattle.text_output.proofs.NameLemmas.{seated_from}
+use Rattle.text_output.proofs.PrintingLemmas.{Underway}
 use Rattle.text_output.proofs.names.print_seated_names.Given as goal
 
--- the names of the parties so far were printed, and those of the others are left
+-- the names of the parties so far were printed
 abbrev pub invariant-loop-i : goal.invariant-loop-i
-invariant-loop-i g l = (done : List ℕ)
-    × Prints g.W.Sink.contents g.W.Device.has_failed l.initial.printer l.printer true done
-    × (done ++ listed_names l.is_first (names_in l.fn.profile) (seated_from l.fn.seats l.i) ≡ names_text (names_in l.fn.profile) (seated_parties l.fn.seats))
+invariant-loop-i g l = Underway g.W.Sink.contents g.W.Device.has_failed l.initial.printer l.printer
+    (listed_names l.is_first (names_in l.fn.profile) (seated_from l.fn.seats l.i)) (names_text (names_in l.fn.profile) (seated_parties l.fn.seats))
