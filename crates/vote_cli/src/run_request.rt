@@ -1,6 +1,6 @@
 //! A whole run, from the bytes of the input to the bytes of the answer.
 //!
-//! Each function of `answers` says by `WritesRight` what it wrote. This module joins that to what was read, and
+//! Each function of `answers` says by `Writes` what it wrote. This module joins that to what was read, and
 //! `LeavesRun` (`specs/Runs.antt`) says what a run leaves on its devices.
 ghost use Rattle.std.specs.Prelude.{◌≡◌, ◌≢◌, Err, IfSome, true};
 ghost use Rattle.preflib_text.specs.Approvals.{HasNumber};
