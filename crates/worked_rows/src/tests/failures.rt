@@ -1,6 +1,8 @@
 //! Reads and writes that fail.
+ghost use Rattle.std.specs.Prelude.{◌≤◌};
+
 use super::long::{all_beside_one, report_of_all};
-use super::runs::{reader, run_on, writer};
+use super::runs::{reader, run_on, run_over, writer};
 use super::support::{ANSWER, THREE, Wanted, assert_ended, ending, request};
 use std::alloc::Global;
 use std::process::Abort;
@@ -48,19 +50,29 @@ static CASES: [Case<'static>; 7] = [
     ),
 ];
 
-/// Asserts that a run ends with a failed read exactly where one of its reads fails, and that its flush comes once. The
-/// bytes come in pieces of 16, and a last read finds the end.
+/// Asserts that a run ends so whose read of this number is to fail, and that its flush comes once if it answers. The
+/// bytes come in pieces of 16.
+fn assert_read(rt: &impl Abort, alloc: Global, request: &Request, case: Case<'_>, call: usize) {
+    let (words, bytes, left) = case;
+    let source = SliceReader::failing(bytes, 16, call as u64);
+    let ended = run_over(alloc, alloc, request, source);
+    let wanted = ending(left);
+    assert_ended(rt, words, call, &ended, wanted);
+    let flushes = ended.out.flushes();
+    assert!(rt;
+        flushes == u64::from(wanted.err.is_empty()),
+        "{words} {call}: {flushes} flushes"
+    );
+}
+
+/// Asserts that a run ends with a failed read exactly where one of its reads fails. A last read finds the end.
 fn assert_reads(rt: &impl Abort, alloc: Global, case: Case<'_>) {
     let (words, bytes, text) = case;
     let request = request(rt, alloc, words);
     let reads = bytes.len().div_ceil(16) + 1;
     for call in 1..=reads + 1 {
-        let source = SliceReader::failing(bytes, 16, call as u64);
-        let ended = run_on(alloc, &request, source, writer(alloc), writer(alloc));
         let left = if call <= reads { READ_FAILED } else { text };
-        assert_ended(rt, words, call, &ended, ending(left));
-        let is_answer = call > reads && !text.starts_with(b"committees: ");
-        assert_eq!(rt; ended.out.flushes(), u64::from(is_answer), "{words} {call}");
+        assert_read(rt, alloc, &request, (words, bytes, left), call);
     }
 }
 
@@ -76,10 +88,10 @@ fn assert_beginning(
     rt: &impl Abort,
     alloc: Global,
     request: &Request,
-    bytes: &[u8],
-    text: &[u8],
+    case: Case<'_>,
     taken: usize,
 ) {
+    let (_words, bytes, text) = case;
     let faults = [
         (usize::MAX, Fault::ErrorAfter(taken)),
         (usize::MAX, Fault::ZeroAfter(taken)),
@@ -103,16 +115,27 @@ fn assert_beginning(
     }
 }
 
+/// Asserts the same from the first byte on, by steps of so many bytes.
+fn assert_beginnings(rt: &impl Abort, alloc: Global, case: Case<'_>, step: usize)
+    requires { 1 ≤ step }
+{
+    let (words, _bytes, text) = case;
+    let request = request(rt, alloc, words);
+    for taken in (0..=text.len()).step_by(step) {
+        assert_beginning(rt, alloc, &request, case, taken);
+    }
+}
+
+/// Whether a run that leaves this text refuses its input or its request.
+fn is_refusal(text: &[u8]) -> bool {
+    text.starts_with(b"committees: ")
+}
+
 #[test]
 fn each_byte_of_the_output_is_not_taken(rt: HostRuntime) {
-    let alloc = rt.alloc();
-    for (words, bytes, text) in &CASES {
-        if text.starts_with(b"committees: ") {
-            continue;
-        }
-        let request = request(&rt, alloc, words);
-        for taken in 0..=text.len() {
-            assert_beginning(&rt, alloc, &request, bytes, text, taken);
+    for case in &CASES {
+        if !is_refusal(case.2) {
+            assert_beginnings(&rt, rt.alloc(), *case, 1);
         }
     }
 }
@@ -123,34 +146,42 @@ fn a_long_report_is_not_taken(rt: HostRuntime) {
     let alloc = rt.alloc();
     let file = all_beside_one(&rt, alloc, "{", "}");
     let report = report_of_all(&rt, alloc);
-    let request = request(&rt, alloc, "check --property jr --committee 40 --kind cat");
-    for taken in (0..=report.len()).step_by(997) {
-        let text = report.as_bytes();
-        assert_beginning(&rt, alloc, &request, file.as_bytes(), text, taken);
-    }
+    let words = "check --property jr --committee 40 --kind cat";
+    let case = (words, file.as_bytes(), report.as_bytes());
+    assert_beginnings(&rt, alloc, case, 997);
 }
 
-/// Asserts that the status and the output stay, and that a beginning of the line is taken, wherever a write of the
-/// errors fails.
-fn assert_errors(rt: &impl Abort, alloc: Global, case: Case<'_>) {
+/// A writer of the errors: how many bytes it takes at once, its fault, and how many it takes in all.
+type Writer = (usize, Fault, usize);
+
+/// Asserts that the status and the output stay, and that a beginning of the line is taken, where this writer fails.
+fn assert_error(
+    rt: &impl Abort,
+    alloc: Global,
+    request: &Request,
+    case: Case<'_>,
+    writer_of: Writer,
+) {
     let (words, bytes, line) = case;
+    let (piece, fault, taken) = writer_of;
+    let err = Recorder::new(alloc, piece, fault);
+    let ended = run_on(alloc, request, reader(bytes), writer(alloc), err);
+    let mut wanted = ending(line);
+    wanted.err = &line[..taken.min(line.len())];
+    assert_ended(rt, words, taken, &ended, wanted);
+}
+
+/// Asserts the same wherever a write of the errors fails.
+fn assert_errors(rt: &impl Abort, alloc: Global, case: Case<'_>) {
+    let (words, _bytes, line) = case;
     let request = request(rt, alloc, words);
     for taken in 0..=line.len() {
-        for (piece, fault) in [
-            (usize::MAX, Fault::ErrorAfter(taken)),
-            (taken.max(1), Fault::ZeroAfter(taken)),
-            (1, Fault::AtFlush),
+        for failing in [
+            (usize::MAX, Fault::ErrorAfter(taken), taken),
+            (taken.max(1), Fault::ZeroAfter(taken), taken),
+            (1, Fault::AtFlush, line.len()),
         ] {
-            let err = Recorder::new(alloc, piece, fault);
-            let ended = run_on(alloc, &request, reader(bytes), writer(alloc), err);
-            let kept = if fault == Fault::AtFlush {
-                line.len()
-            } else {
-                taken
-            };
-            let mut wanted = ending(line);
-            wanted.err = &line[..kept];
-            assert_ended(rt, words, taken, &ended, wanted);
+            assert_error(rt, alloc, &request, case, failing);
         }
     }
 }
@@ -158,7 +189,7 @@ fn assert_errors(rt: &impl Abort, alloc: Global, case: Case<'_>) {
 #[test]
 fn each_byte_of_the_errors_is_not_taken(rt: HostRuntime) {
     for case in &CASES {
-        if case.2.starts_with(b"committees: ") {
+        if is_refusal(case.2) {
             assert_errors(&rt, rt.alloc(), *case);
         }
     }

@@ -1,7 +1,7 @@
 //! Growths that are refused, one after the other.
 ghost use Rattle.std.specs.Prelude.{◌≤◌};
 
-use super::runs::{reader, run_on, writer};
+use super::runs::{reader, run_on, run_over};
 use super::support::{ANSWER, THREE, assert_ended, ending, request};
 use refusing_heap::Refusing;
 use std::alloc::Global;
@@ -21,16 +21,39 @@ fn has_refused(heap: &Refusing) -> bool {
     heap.left.get() == 0
 }
 
+/// A request, the words that it is from, an input, and what a run over it leaves.
+#[derive(Clone, Copy)]
+struct Case<'a> {
+    words: &'a str,
+    request: &'a Request,
+    bytes: &'a [u8],
+    text: &'a [u8],
+}
+
+/// Asserts that a run ends out of memory if the growth of this number is refused, and otherwise as the case says.
+/// Answers whether it was.
+fn is_refused(rt: &impl Abort, alloc: Global, case: Case<'_>, growth: u64) -> bool
+    requires { 1 ≤ growth }
+{
+    let heap = Refusing::new(alloc, growth);
+    let ended = run_over(alloc, &heap, case.request, reader(case.bytes));
+    let is_refused = has_refused(&heap);
+    let left = if is_refused { MEMORY } else { case.text };
+    assert_ended(rt, case.words, growth as usize, &ended, ending(left));
+    is_refused
+}
+
 /// Asserts that a run ends so exactly where no growth is refused, and answers how many growths it asks for.
 fn growths_of_run(rt: &impl Abort, alloc: Global, words: &str, bytes: &[u8], text: &[u8]) -> u64 {
-    let request = request(rt, alloc, words);
+    let request = &request(rt, alloc, words);
+    let case = Case {
+        words,
+        request,
+        bytes,
+        text,
+    };
     for n in 1..=MANY {
-        let heap = Refusing::new(alloc, n);
-        let ended = run_on(&heap, &request, reader(bytes), writer(alloc), writer(alloc));
-        let is_refused = has_refused(&heap);
-        let wanted = ending(if is_refused { MEMORY } else { text });
-        assert_ended(rt, words, n as usize, &ended, wanted);
-        if !is_refused {
+        if !is_refused(rt, alloc, case, n) {
             return n - 1;
         }
     }
@@ -116,27 +139,40 @@ fn each_growth_of_a_run(rt: HostRuntime) {
 /// How many growths a run asks for before its read of this number, which fails. The bytes come in pieces of 16.
 fn growths_before(alloc: Global, request: &Request, bytes: &[u8], call: u64) -> u64 {
     let heap = Refusing::new(alloc, MANY);
-    let source = SliceReader::failing(bytes, 16, call);
-    run_on(&heap, request, source, writer(alloc), writer(alloc));
+    run_over(alloc, &heap, request, SliceReader::failing(bytes, 16, call));
     MANY.saturating_sub(heap.left.get())
+}
+
+/// Asserts that a run ends so in which the growth of one number is refused and the read of another number fails.
+fn assert_first(rt: &impl Abort, alloc: Global, case: Case<'_>, growth: u64, call: u64)
+    requires { 1 ≤ growth }
+{
+    let heap = Refusing::new(alloc, growth);
+    let source = SliceReader::failing(case.bytes, 16, call);
+    let ended = run_over(alloc, &heap, case.request, source);
+    let wanted = ending(case.text);
+    assert_ended(rt, case.words, growth as usize, &ended, wanted);
 }
 
 /// Asserts that a run in which a growth is refused and a read fails ends by what comes first, with nothing written.
 fn assert_first_decides(rt: &impl Abort, alloc: Global, run: Run<'_>, growths: u64) {
     let (words, bytes, _text, _least) = run;
-    let request = request(rt, alloc, words);
+    let request = &request(rt, alloc, words);
     for call in 1..=bytes.len().div_ceil(16) as u64 + 1 {
-        let before = growths_before(alloc, &request, bytes, call);
+        let before = growths_before(alloc, request, bytes, call);
         for growth in 1..=growths {
-            let heap = Refusing::new(alloc, growth);
-            let source = SliceReader::failing(bytes, 16, call);
-            let ended = run_on(&heap, &request, source, writer(alloc), writer(alloc));
-            let left = if growth <= before {
+            let text = if growth <= before {
                 MEMORY
             } else {
                 READ_FAILED
             };
-            assert_ended(rt, words, growth as usize, &ended, ending(left));
+            let case = Case {
+                words,
+                request,
+                bytes,
+                text,
+            };
+            assert_first(rt, alloc, case, growth, call);
         }
     }
 }
@@ -150,26 +186,45 @@ fn a_growth_and_a_read(rt: HostRuntime) {
     }
 }
 
+/// How the two writers fail, and what is written to the second.
+type Writers = (Fault, Fault, &'static [u8]);
+
+static WRITERS: [Writers; 6] = [
+    (Fault::ErrorAfter(0), Fault::Sound, MEMORY),
+    (Fault::ZeroAfter(0), Fault::Sound, MEMORY),
+    (Fault::AtFlush, Fault::Sound, MEMORY),
+    (Fault::Sound, Fault::ErrorAfter(0), b""),
+    (Fault::Sound, Fault::ZeroAfter(0), b""),
+    (Fault::Sound, Fault::AtFlush, MEMORY),
+];
+
+/// Asserts that a run whose growth of this number is refused ends out of memory, with nothing written but this.
+fn assert_memory(rt: &impl Abort, alloc: Global, case: Case<'_>, growth: u64, writers: Writers)
+    requires { 1 ≤ growth }
+{
+    let heap = Refusing::new(alloc, growth);
+    let out = Recorder::new(alloc, usize::MAX, writers.0);
+    let err = Recorder::new(alloc, usize::MAX, writers.1);
+    let ended = run_on(&heap, case.request, reader(case.bytes), out, err);
+    let mut wanted = ending(MEMORY);
+    wanted.err = writers.2;
+    assert_ended(rt, case.words, growth as usize, &ended, wanted);
+}
+
 /// Asserts that a run whose growth of this number is refused ends out of memory, with nothing written, whichever writer
 /// fails later.
 fn assert_growth_decides(rt: &impl Abort, alloc: Global, run: Run<'_>, growth: u64)
     requires { 1 ≤ growth }
 {
-    let (words, bytes, _text, _least) = run;
-    let request = request(rt, alloc, words);
-    for fault in [Fault::ErrorAfter(0), Fault::ZeroAfter(0), Fault::AtFlush] {
-        let heap = Refusing::new(alloc, growth);
-        let out = Recorder::new(alloc, usize::MAX, fault);
-        let ended = run_on(&heap, &request, reader(bytes), out, writer(alloc));
-        assert_ended(rt, words, growth as usize, &ended, ending(MEMORY));
-        let heap = Refusing::new(alloc, growth);
-        let err = Recorder::new(alloc, usize::MAX, fault);
-        let ended = run_on(&heap, &request, reader(bytes), writer(alloc), err);
-        let mut wanted = ending(MEMORY);
-        if fault != Fault::AtFlush {
-            wanted.err = b"";
-        }
-        assert_ended(rt, words, growth as usize, &ended, wanted);
+    let (words, bytes, text, _least) = run;
+    let case = Case {
+        words,
+        request: &request(rt, alloc, words),
+        bytes,
+        text,
+    };
+    for writers in &WRITERS {
+        assert_memory(rt, alloc, case, growth, *writers);
     }
 }
 

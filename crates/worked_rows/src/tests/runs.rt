@@ -50,3 +50,13 @@ pub(super) fn run_on<'a, A: Allocator + Copy + Drop>(
         err,
     }
 }
+
+/// Runs a request over a reader, and over writers that never fail.
+pub(super) fn run_over<'a, A: Allocator + Copy + Drop>(
+    alloc: Global,
+    heap: A,
+    request: &Request,
+    reader: SliceReader<'a>,
+) -> Ended<'a> {
+    run_on(heap, request, reader, writer(alloc), writer(alloc))
+}

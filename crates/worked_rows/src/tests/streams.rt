@@ -3,23 +3,42 @@ use super::support::{ANSWER, THREE, request};
 use std::alloc::Global;
 use std::hash::RandomState;
 use std::process::Abort;
-use vote_cli::{BallotHashing, Device, Status, Storage, Told, run, run_with_hashing};
+use vote_cli::{BallotHashing, Device, Request, Status, Storage, Told, run, run_with_hashing};
+
+/// The streams of a run.
+#[derive(Drop)]
+struct Streams {
+    reader: Told<&'static [u8]>,
+    out: Told<Vec<u8>>,
+    err: Told<Vec<u8>>,
+}
+
+/// The status of a run over these streams, with these numbers of the hash where there are some.
+fn status_of(
+    alloc: Global,
+    request: &Request,
+    hashing: Option<BallotHashing>,
+    streams: &mut Streams,
+) -> Status {
+    let Streams { reader, out, err } = streams;
+    match hashing {
+        Some(hashing) => run_with_hashing(Storage { alloc, hashing }, request, reader, out, err),
+        None => run(alloc, request, reader, out, err),
+    }
+}
 
 /// Asserts that a run over `THREE` answers, with these numbers of the hash where there are some.
 fn assert_answers(rt: &impl Abort, alloc: Global, hashing: Option<BallotHashing>) {
     let request = request(rt, alloc, "elect --rule av --size 1 a.cat");
     assert!(rt; request.file() == Some("a.cat"));
-    let mut reader = Told::new(THREE);
-    let mut out = Told::new(Vec::new(alloc));
-    let mut err = Told::new(Vec::new(alloc));
-    let status = match hashing {
-        Some(hashing) => {
-            let storage = Storage { alloc, hashing };
-            run_with_hashing(storage, &request, &mut reader, &mut out, &mut err)
-        }
-        None => run(alloc, &request, &mut reader, &mut out, &mut err),
+    let mut streams = Streams {
+        reader: Told::new(THREE),
+        out: Told::new(Vec::new(alloc)),
+        err: Told::new(Vec::new(alloc)),
     };
-    assert_eq!(rt; status, Status::Answered);
+    let status = status_of(alloc, &request, hashing, &mut streams);
+    assert!(rt; status == Status::Answered, "{status:?}");
+    let Streams { reader, out, err } = &streams;
     assert!(rt; !reader.failed() && !out.failed() && !err.failed());
 }
 

@@ -2,7 +2,7 @@
 ghost use Rattle.std.specs.Prelude.{◌≡◌, ◌==◌, ◌||◌};
 ghost use Rattle.vote_cli.specs.Status.{code_of};
 
-use super::runs::{Ended, reader, run_on, writer};
+use super::runs::{Ended, reader, run_over};
 use std::alloc::Global;
 use std::fmt::Write;
 use std::process::Abort;
@@ -15,16 +15,18 @@ pub(super) const THREE: &[u8] =
 /// The answer to it by approval voting, for one seat.
 pub(super) const ANSWER: &[u8] = b"rule av\nsize 1\nscore 2/1\n1\n2\nend\n";
 
+/// Adds a word.
+fn push_word(rt: &impl Abort, alloc: Global, words: &mut Vec<String>, word: &str) {
+    let word = String::from_str(alloc, word).expect(rt, word);
+    words.push(word).expect(rt, "memory");
+}
+
 /// The request of the words of a line, after the program's name.
 pub(super) fn request(rt: &impl Abort, alloc: Global, line: &str) -> Request {
     let mut words = Vec::new(alloc);
-    words
-        .push(String::from_str(alloc, "committees").expect(rt, line))
-        .expect(rt, line);
+    push_word(rt, alloc, &mut words, "committees");
     for word in line.split_whitespace() {
-        words
-            .push(String::from_str(alloc, word).expect(rt, line))
-            .expect(rt, line);
+        push_word(rt, alloc, &mut words, word);
     }
     read_request(alloc, words.as_slice()).expect(rt, line)
 }
@@ -75,25 +77,16 @@ pub(super) fn assert_ended(
     ensures out { ended.now.out.0 ≡ wanted.entry.out.now }
     ensures err { ended.now.err.0 ≡ wanted.entry.err.now }
 {
-    assert_eq!(rt;
-        ended.status.code(),
-        wanted.status,
-        "the status of {case} {number}"
-    );
-    assert_eq!(rt;
-        ended.reader.failed() || ended.out.failed(),
-        wanted.status == 6,
-        "the devices of {case} {number}"
-    );
-    assert_eq!(rt;
-        ended.out.taken(),
-        wanted.out,
-        "the output of {case} {number}"
-    );
-    assert_eq!(rt;
-        ended.err.taken(),
-        wanted.err,
-        "the errors of {case} {number}"
+    let status = ended.status.code();
+    let has_failed = ended.reader.failed() || ended.out.failed();
+    let (out, err) = (ended.out.taken(), ended.err.taken());
+    let is_right = status == wanted.status
+        && has_failed == (wanted.status == 6)
+        && out == wanted.out
+        && err == wanted.err;
+    assert!(rt;
+        is_right,
+        "{case} {number}: status {status}, failed {has_failed}, {out:?} {err:?}"
     );
 }
 
@@ -106,7 +99,7 @@ pub(super) fn assert_leaves(
     text: &[u8],
 ) {
     let request = request(rt, alloc, words);
-    let ended = run_on(alloc, &request, reader(bytes), writer(alloc), writer(alloc));
+    let ended = run_over(alloc, alloc, &request, reader(bytes));
     assert_ended(rt, words, 0, &ended, ending(text));
 }
 

@@ -8,7 +8,7 @@ mod pages;
 mod refusals;
 mod shares;
 
-use super::runs::{run_on, writer};
+use super::runs::run_over;
 use super::support::{assert_ended, ending, request, written_out};
 use std::alloc::Global;
 use std::process::Abort;
@@ -22,7 +22,7 @@ fn assert_row(rt: &impl Abort, alloc: Global, row: &str, input: &[u8]) {
     text.push_str("\n").expect(rt, row);
     for piece in [usize::MAX, 1] {
         let reader = SliceReader::new(input, piece);
-        let ended = run_on(alloc, &request, reader, writer(alloc), writer(alloc));
+        let ended = run_over(alloc, alloc, &request, reader);
         assert_ended(rt, row, piece, &ended, ending(text.as_bytes()));
     }
 }
