@@ -95,11 +95,12 @@ fn a_long_answer(rt: HostRuntime) {
 /// Of 40 candidates, one voter for each two of 2 to 39, who approves 1 beside them: the lines of the ballots, after a
 /// header, or as a report has them.
 pub(super) fn all_beside_one(rt: &impl Abort, alloc: Global, open: &str, close: &str) -> String {
-    let mut text = String::new(alloc);
-    if !open.is_empty() {
-        text.push_str("# NUMBER ALTERNATIVES: 40\n")
-            .expect(rt, "memory");
-    }
+    let header = if open.is_empty() {
+        ""
+    } else {
+        "# NUMBER ALTERNATIVES: 40\n"
+    };
+    let mut text = String::from_str(alloc, header).expect(rt, "memory");
     for first in 2..39u8 {
         for second in first + 1..=39 {
             writeln!(text, "1: {open}1,{first},{second}{close}").expect(rt, "memory");

@@ -77,18 +77,22 @@ static CUTS: [(usize, usize, &str, &str); 4] = [
     (38, 41, " --after 2,3", "end\n"),
 ];
 
-/// Asserts that the rest comes from the start of the row that this number of bytes is of.
-fn assert_rest(rt: &impl Abort, alloc: Global, words: &str, taken: usize) {
-    let mut is_fetched = false;
+/// The start of the second run, and what it prints after the lines before the answers, if this number of bytes is taken.
+fn rest_of(rt: &impl Abort, taken: usize) -> (&'static str, &'static str) {
     for (first, last, start, rest) in &CUTS {
         if *first <= taken && taken <= *last {
-            is_fetched = true;
-            let words = format!(in alloc; "{words}{start}").expect(rt, start);
-            let text = format!(in alloc; "{HEADER}{rest}").expect(rt, start);
-            assert_leaves(rt, alloc, words.as_str(), THREE, text.as_bytes());
+            return (start, rest);
         }
     }
-    assert!(rt; is_fetched, "a row of {taken} bytes");
+    panic!(rt; "a row of {taken} bytes")
+}
+
+/// Asserts that the rest comes from the start of the row that this number of bytes is of.
+fn assert_rest(rt: &impl Abort, alloc: Global, words: &str, taken: usize) {
+    let (start, rest) = rest_of(rt, taken);
+    let words = format!(in alloc; "{words}{start}").expect(rt, start);
+    let text = format!(in alloc; "{HEADER}{rest}").expect(rt, start);
+    assert_leaves(rt, alloc, words.as_str(), THREE, text.as_bytes());
 }
 
 /// Asserts that the text is cut off where the output fails after each of its bytes, and that the rest is fetched.

@@ -28,15 +28,18 @@ fn status_of(
 }
 
 /// Asserts that a run over `THREE` answers, with these numbers of the hash where there are some.
-fn assert_answers(rt: &impl Abort, alloc: Global, hashing: Option<BallotHashing>) {
-    let request = request(rt, alloc, "elect --rule av --size 1 a.cat");
-    assert!(rt; request.file() == Some("a.cat"));
+fn assert_answers(
+    rt: &impl Abort,
+    alloc: Global,
+    request: &Request,
+    hashing: Option<BallotHashing>,
+) {
     let mut streams = Streams {
         reader: Told::new(THREE),
         out: Told::new(Vec::new(alloc)),
         err: Told::new(Vec::new(alloc)),
     };
-    let status = status_of(alloc, &request, hashing, &mut streams);
+    let status = status_of(alloc, request, hashing, &mut streams);
     assert!(rt; status == Status::Answered, "{status:?}");
     let Streams { reader, out, err } = &streams;
     assert!(rt; !reader.failed() && !out.failed() && !err.failed());
@@ -44,9 +47,12 @@ fn assert_answers(rt: &impl Abort, alloc: Global, hashing: Option<BallotHashing>
 
 #[test]
 fn streams_of_std(rt: HostRuntime) {
-    assert_answers(&rt, rt.alloc(), None);
+    let request = request(&rt, rt.alloc(), "elect --rule av --size 1 a.cat");
+    assert!(rt; request.file() == Some("a.cat"));
+    assert_answers(&rt, rt.alloc(), &request, None);
     let state = RandomState::new(&rt).expect(&rt, "random numbers");
-    assert_answers(&rt, rt.alloc(), Some(BallotHashing::secret(&state)));
+    let hashing = BallotHashing::secret(&state);
+    assert_answers(&rt, rt.alloc(), &request, Some(hashing));
 }
 
 /// What a run writes to a vector.
@@ -58,20 +64,21 @@ fn bytes_of_an_answer(rt: HostRuntime) {
     let mut out = Told::new(&mut written);
     let mut err = Told::new(Vec::new(alloc));
     run(alloc, &request, &mut Told::new(THREE), &mut out, &mut err);
-    assert_eq!(rt; written.as_slice(), ANSWER);
+    assert!(rt; written.as_slice() == ANSWER, "{written:?}");
 }
+
+static CODES: [(Status, u8); 6] = [
+    (Status::Answered, 0),
+    (Status::Violated, 1),
+    (Status::InputRefused, 3),
+    (Status::RequestRefused, 4),
+    (Status::NoMemory, 5),
+    (Status::DeviceFailed, 6),
+];
 
 #[test]
 fn codes_of_statuses(rt: HostRuntime) {
-    let cases = [
-        (Status::Answered, 0),
-        (Status::Violated, 1),
-        (Status::InputRefused, 3),
-        (Status::RequestRefused, 4),
-        (Status::NoMemory, 5),
-        (Status::DeviceFailed, 6),
-    ];
-    for (status, code) in cases {
-        assert_eq!(rt; status.code(), code, "{status:?}");
+    for (status, code) in &CODES {
+        assert!(rt; status.code() == *code, "{status:?}");
     }
 }

@@ -116,15 +116,18 @@ fn push_range(rt: &impl Abort, text: &mut String, first: u8, last: u8) {
     }
 }
 
+/// The number that a text is.
+fn number_of(rt: &impl Abort, text: &str) -> u8 {
+    text.parse().expect(rt, text)
+}
+
 /// Adds a list in brackets: `1..4` is `1,2,3,4`, and `0*3` is `0,0,0`.
 fn push_list(rt: &impl Abort, text: &mut String, list: &str) {
     if let Some((first, last)) = list.split_once("..") {
-        let first = first.parse().expect(rt, list);
-        return push_range(rt, text, first, last.parse().expect(rt, list));
+        return push_range(rt, text, number_of(rt, first), number_of(rt, last));
     }
     let (number, count) = list.split_once('*').expect(rt, list);
-    let count: u8 = count.parse().expect(rt, list);
-    for i in 0..count {
+    for i in 0..number_of(rt, count) {
         let comma = if i > 0 { "," } else { "" };
         write!(text, "{comma}{number}").expect(rt, list);
     }

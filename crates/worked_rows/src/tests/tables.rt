@@ -13,18 +13,32 @@ use super::support::{assert_ended, ending, request, written_out};
 use std::alloc::Global;
 use std::process::Abort;
 use test_devices::SliceReader;
+use vote_cli::Request;
 
-/// Asserts a row of a table over an input, which comes as a whole and in single bytes.
+/// An input, and what a run over it leaves.
+#[derive(Clone, Copy)]
+struct Texts<'a> {
+    input: &'a [u8],
+    left: &'a [u8],
+}
+
+/// Asserts what a run leaves over an input that comes as a whole and in single bytes.
+fn assert_texts(rt: &impl Abort, alloc: Global, row: &str, request: &Request, texts: Texts<'_>) {
+    for piece in [usize::MAX, 1] {
+        let reader = SliceReader::new(texts.input, piece);
+        let ended = run_over(alloc, alloc, request, reader);
+        assert_ended(rt, row, piece, &ended, ending(texts.left));
+    }
+}
+
+/// Asserts a row of a table over an input.
 fn assert_row(rt: &impl Abort, alloc: Global, row: &str, input: &[u8]) {
     let (words, wanted) = row.split_once(" | ").expect(rt, row);
     let request = request(rt, alloc, written_out(rt, alloc, words).as_str());
     let mut text = written_out(rt, alloc, wanted);
     text.push_str("\n").expect(rt, row);
-    for piece in [usize::MAX, 1] {
-        let reader = SliceReader::new(input, piece);
-        let ended = run_over(alloc, alloc, &request, reader);
-        assert_ended(rt, row, piece, &ended, ending(text.as_bytes()));
-    }
+    let left = text.as_bytes();
+    assert_texts(rt, alloc, row, &request, Texts { input, left });
 }
 
 /// Asserts each row of a table. A row has the words after the program's name, a bar, and what the run leaves, without
