@@ -233,15 +233,23 @@ fn assert_thousand<T: Tally>(rt: &impl Abort, tally: &T, k: u8, start: Option<Ca
     assert!(rt; found == 1000, "{found} winners of {k} after {start:?}");
 }
 
-/// Asserts that the first 1,000 winners come, after a start or from the first on.
+/// Asserts that the first 1,000 winners come, and 1,000 after a start.
+fn assert_thousands<T: Tally>(rt: &impl Abort, tally: &T, k: u8, start: CandSet)
+    requires some { 1 ≤ k }
+    requires fits { k ≤ T.candidates tally.now }
+    requires start { IsStart (T.candidates tally.now) k (Some start) }
+{
+    assert_thousand(rt, tally, k, None);
+    assert_thousand(rt, tally, k, Some(start));
+}
+
+/// Asserts that the first 1,000 winners of an election come, and 1,000 after a start.
 fn assert_ends(rt: &impl Abort, alloc: Global, rule: ThieleRule, lists: Lists<'_>) {
     let profile = lists.election(rt, alloc);
-    let m = profile.m();
-    let k = fitting(lists.seats, m);
+    let k = fitting(lists.seats, profile.m());
     let search = ThieleSearch::new(alloc, &profile, rule, k).expect(rt, "memory");
-    let tally = ExactTally::new(search, k);
-    assert_thousand(rt, &tally, k, None);
-    assert_thousand(rt, &tally, k, Some(second_committee(m, k)));
+    let start = second_committee(profile.m(), k);
+    assert_thousands(rt, &ExactTally::new(search, k), k, start);
 }
 
 /// Small files over which a search without clones does not end in a minute.

@@ -1,5 +1,5 @@
 //! Winners by families against those by plain levels.
-ghost use Rattle.std.specs.Prelude.{◌≤◌};
+ghost use Rattle.std.specs.Prelude.{◌≡◌, ◌≤◌};
 ghost use Rattle.ballot_base.specs.Limits.{most_candidates};
 ghost use Rattle.ballot_base.specs.Lists.{IsIncreasing};
 ghost use Rattle.tie_walk.specs.Winners.{IsStart};
@@ -110,13 +110,15 @@ fn approved(number: u64) -> u64 {
     digits >> 1
 }
 
-/// A ballot of one voter for each of these numbers, of at most sixteen.
-fn ballots_of_digits(numbers: &[u64]) -> [(u64, u64); 16] {
+/// The election of nine candidates with a ballot of one voter for each of these numbers, of at most sixteen.
+fn election_of_digits(rt: &impl Abort, alloc: Global, numbers: &[u64]) -> Profile
+    ensures { result.m ≡ 9 }
+{
     let mut ballots = [(0, 0); 16];
     for i in 0..numbers.len().min(16) {
         ballots[i] = (approved(numbers[i]), 1);
     }
-    ballots
+    election_of(rt, alloc, 9, &ballots)
 }
 
 /// Asserts that both find the same winners of each rule after a start.
@@ -131,27 +133,33 @@ fn assert_same_after(rt: &impl Abort, alloc: Global, profile: &Profile, start: C
     }
 }
 
-#[test]
-fn ties_after_each_start(rt: HostRuntime) {
-    let alloc = rt.alloc();
-    for numbers in TIES {
-        let profile = election_of(&rt, alloc, 9, &ballots_of_digits(numbers));
-        assert_all(&rt, alloc, &profile);
-        for word in 1..1 << 9 {
-            assert_same_after(&rt, alloc, &profile, ballot_of(9, word));
-        }
+/// Asserts that both find the same winners of an election with ties, all of them and those after each start.
+fn assert_ties(rt: &impl Abort, alloc: Global, numbers: &[u64]) {
+    let profile = election_of_digits(rt, alloc, numbers);
+    assert_all(rt, alloc, &profile);
+    for word in 1..1 << 9 {
+        assert_same_after(rt, alloc, &profile, ballot_of(9, word));
     }
 }
 
-/// A ballot of one voter for each of the candidates 1 to m.
-fn a_voter_each(m: u8) -> [(u64, u64); MOST_CANDIDATES as usize]
-    requires { m ≤ most_candidates }
+#[test]
+fn ties_after_each_start(rt: HostRuntime) {
+    for numbers in &TIES {
+        assert_ties(&rt, rt.alloc(), numbers);
+    }
+}
+
+/// The election of the candidates 1 to m with a voter each.
+fn a_voter_each(rt: &impl Abort, alloc: Global, m: u8) -> Profile
+    requires some { 1 ≤ m }
+    requires most { m ≤ most_candidates }
+    ensures { result.m ≡ m }
 {
     let mut ballots = [(0, 0); MOST_CANDIDATES as usize];
     for n in 0..m {
         ballots[usize::from(n)] = (1 << n, 1);
     }
-    ballots
+    election_of(rt, alloc, m, &ballots)
 }
 
 /// Asserts that the first winners of each rule are so many of the first committees.
@@ -175,7 +183,7 @@ fn first_of_many_winners(rt: HostRuntime) {
     let alloc = rt.alloc();
     let single = election_of(&rt, alloc, MOST_CANDIDATES, &[(1, 1)]);
     assert_first(&rt, alloc, &single, 40, 2);
-    let each = election_of(&rt, alloc, 40, &a_voter_each(40));
+    let each = a_voter_each(&rt, alloc, 40);
     assert_first(&rt, alloc, &each, 20, 1000);
 }
 
@@ -191,7 +199,7 @@ fn winners_of_six(rt: &impl Abort, alloc: Global, profile: &Profile, rule: SeqRu
 #[test]
 fn many_winners_are_counted(rt: HostRuntime) {
     let alloc = rt.alloc();
-    let profile = election_of(&rt, alloc, 20, &a_voter_each(20));
+    let profile = a_voter_each(&rt, alloc, 20);
     for rule in SeqRule::ALL {
         assert!(rt;
             winners_of_six(&rt, alloc, &profile, rule) == 38_760,

@@ -28,32 +28,19 @@ struct Kind {
     firsts: [u8; 5],
 }
 
-impl Kind {
-    fn new(seeds: u64, ballots: u64, most: u64, firsts: [u8; 5]) -> Kind {
-        Kind {
-            seeds,
-            ballots,
-            most,
-            firsts,
-        }
-    }
-}
-
 /// Elections without clones, and with classes of one to three.
-fn kinds() -> [Kind; 10] {
-    [
-        Kind::new(100, 6, 3, [1, 2, 3, 4, 5]),
-        Kind::new(50, FEW_VOTERS, 1, [1, 2, 3, 4, 5]),
-        Kind::new(100, 6, 3, [1, 1, 3, 4, 5]),
-        Kind::new(100, 6, 3, [1, 2, 2, 1, 5]),
-        Kind::new(100, 6, 3, [1, 2, 3, 3, 3]),
-        Kind::new(100, FEW_VOTERS, 1, [1, 2, 1, 2, 1]),
-        Kind::new(100, FEW_VOTERS, 1, [1, 1, 1, 4, 4]),
-        Kind::new(100, FEW_VOTERS, 1, [1, 2, 3, 1, 3]),
-        Kind::new(100, 4, 3, [1, 2, 2, 2, 1]),
-        Kind::new(100, 4, 3, [1, 2, 1, 4, 4]),
-    ]
-}
+static KINDS: [(u64, u64, u64, [u8; 5]); 10] = [
+    (100, 6, 3, [1, 2, 3, 4, 5]),
+    (50, FEW_VOTERS, 1, [1, 2, 3, 4, 5]),
+    (100, 6, 3, [1, 1, 3, 4, 5]),
+    (100, 6, 3, [1, 2, 2, 1, 5]),
+    (100, 6, 3, [1, 2, 3, 3, 3]),
+    (100, FEW_VOTERS, 1, [1, 2, 1, 2, 1]),
+    (100, FEW_VOTERS, 1, [1, 1, 1, 4, 4]),
+    (100, FEW_VOTERS, 1, [1, 2, 3, 1, 3]),
+    (100, 4, 3, [1, 2, 2, 2, 1]),
+    (100, 4, 3, [1, 2, 1, 4, 4]),
+];
 
 /// An election, as a number: the ballots of its kind, then the first clones, and the seed.
 fn named(kind: &Kind, seed: u64) -> u64 {
@@ -75,21 +62,31 @@ fn with_clones(set: CandSet, firsts: &[u8; 5]) -> CandSet {
     all
 }
 
+/// An election of these ballots and their voters, of whom each ballot has one at least.
+fn election_of(rt: &impl Abort, alloc: Global, ballots: &[(CandSet, u64)]) -> Profile {
+    let mut builder = ProfileBuilder::new(alloc, MOST_CANDIDATES).expect(rt, "memory");
+    for (ballot, voters) in ballots {
+        ballot.valid();
+        builder
+            .add(*ballot, (*voters).max(1))
+            .expect(rt, "a ballot");
+    }
+    builder.finish().ok().expect(rt, "a profile")
+}
+
 /// A small election of a kind, the same for the same seed.
 fn small_election(rt: &impl Abort, alloc: Global, seed: u64, kind: &Kind) -> Profile {
-    let mut builder = ProfileBuilder::new(alloc, MOST_CANDIDATES).expect(rt, "memory");
+    let mut ballots = Vec::new(alloc);
     let mut state = seed;
     for _round in 0..kind.ballots {
         state = state
             .wrapping_mul(6_364_136_223_846_793_005)
             .wrapping_add(1_442_695_040_888_963_407);
         let ballot = with_clones(chosen(state >> 32), &kind.firsts);
-        ballot.valid();
-        builder
-            .add(ballot, (state >> 60) % kind.most.max(1) + 1)
-            .expect(rt, "a ballot");
+        let voters = (state >> 60) % kind.most.max(1) + 1;
+        ballots.push((ballot, voters)).expect(rt, "memory");
     }
-    builder.finish().ok().expect(rt, "a profile")
+    election_of(rt, alloc, &ballots)
 }
 
 /// A group of voters, which may have any part of those of a row.
@@ -295,35 +292,46 @@ fn count_violated(rt: &impl Abort, profile: &Profile, election: u64) -> u64 {
     violated
 }
 
-/// All committees of small elections.
+/// Asserts what is found of all committees of the elections of a kind, of whom many lack a property.
+fn assert_kind(rt: &impl Abort, alloc: Global, kind: &Kind) {
+    let mut violated = 0u64;
+    for seed in 0..kind.seeds {
+        let profile = small_election(rt, alloc, seed, kind);
+        let name = named(kind, seed);
+        violated = violated.saturating_add(count_violated(rt, &profile, name));
+    }
+    assert!(rt; violated > 100, "{violated} {}", named(kind, 0));
+}
+
 #[test]
 fn small_elections(rt: HostRuntime) {
-    for kind in kinds() {
-        let mut violated = 0u64;
-        for seed in 0..kind.seeds {
-            let profile = small_election(&rt, rt.alloc(), seed, &kind);
-            let name = named(&kind, seed);
-            violated = violated.saturating_add(count_violated(&rt, &profile, name));
-        }
-        assert!(rt; violated > 100, "{violated} {}", named(&kind, 0));
+    for (seeds, ballots, most, firsts) in &KINDS {
+        let kind = Kind {
+            seeds: *seeds,
+            ballots: *ballots,
+            most: *most,
+            firsts: *firsts,
+        };
+        assert_kind(&rt, rt.alloc(), &kind);
     }
 }
 
 /// So many voters who approve a candidate of their own each, and these candidates.
 fn large_election(rt: &impl Abort, alloc: Global, voters: u8, alike: CandSet) -> Profile {
-    let mut builder = ProfileBuilder::new(alloc, MOST_CANDIDATES).expect(rt, "memory");
+    let mut ballots = Vec::new(alloc);
     for candidate in 1..=voters.min(MOST_CANDIDATES) {
         let ballot = alike.with(candidate);
-        ballot.valid();
-        builder.add(ballot, 1).expect(rt, "a ballot");
+        ballots.push((ballot, 1)).expect(rt, "memory");
     }
-    builder.finish().ok().expect(rt, "a profile")
+    election_of(rt, alloc, &ballots)
 }
 
-/// Asserts that the committee of the candidates 1 to 20 lacks EJR and EJR+ where it is violated, and nothing else.
-fn assert_lacks(rt: &impl Abort, profile: &Profile, is_violated: bool) {
+/// Asserts that in such an election the committee of the candidates 1 to 20 lacks EJR and EJR+ if it is violated, and
+/// nothing else.
+fn assert_lacks(rt: &impl Abort, alloc: Global, voters: u8, alike: CandSet, is_violated: bool) {
+    let profile = large_election(rt, alloc, voters, alike);
     for property in Property::ALL {
-        let is_found = violation(rt, profile, CandSet::all(20), property).is_some();
+        let is_found = violation(rt, &profile, CandSet::all(20), property).is_some();
         let is_due = is_violated && matches!(property, Property::Ejr | Property::EjrPlus);
         assert!(rt; is_found == is_due, "{is_violated} {}", property.name());
     }
@@ -333,11 +341,8 @@ fn assert_lacks(rt: &impl Abort, profile: &Profile, is_violated: bool) {
 /// approve one member each, and forty who approve one candidate each.
 #[test]
 fn many_lists(rt: HostRuntime) {
-    let others = CandSet::after(20, 40);
-    for (voters, alike, is_violated) in [(20, others, true), (40, CandSet::empty(), false)] {
-        let profile = large_election(&rt, rt.alloc(), voters, alike);
-        assert_lacks(&rt, &profile, is_violated);
-    }
+    assert_lacks(&rt, rt.alloc(), 20, CandSet::after(20, 40), true);
+    assert_lacks(&rt, rt.alloc(), 40, CandSet::empty(), false);
 }
 
 /// The candidates of these spans, each from its first to its last.
@@ -351,16 +356,6 @@ fn spanned(spans: &[(u8, u8)]) -> CandSet {
     all
 }
 
-/// An election of one voter a ballot.
-fn election_of(rt: &impl Abort, alloc: Global, ballots: &[CandSet]) -> Profile {
-    let mut builder = ProfileBuilder::new(alloc, MOST_CANDIDATES).expect(rt, "memory");
-    for ballot in ballots.iter().copied() {
-        ballot.valid();
-        builder.add(ballot, 1).expect(rt, "a ballot");
-    }
-    builder.finish().ok().expect(rt, "a profile")
-}
-
 /// So many voters who approve so many members of their own each, from 1 on, and candidates from 41 on whom all approve.
 fn blocks(rt: &impl Abort, alloc: Global, voters: u8, size: u8, alike: u8) -> Profile {
     let mut ballots = Vec::new(alloc);
@@ -368,7 +363,7 @@ fn blocks(rt: &impl Abort, alloc: Global, voters: u8, size: u8, alike: u8) -> Pr
         let last = voter.saturating_mul(size);
         let first = last.saturating_sub(size).saturating_add(1);
         let ballot = spanned(&[(first, last), (41, alike.saturating_add(40))]);
-        ballots.push(ballot).expect(rt, "memory");
+        ballots.push((ballot, 1)).expect(rt, "memory");
     }
     election_of(rt, alloc, &ballots)
 }
@@ -376,7 +371,9 @@ fn blocks(rt: &impl Abort, alloc: Global, voters: u8, size: u8, alike: u8) -> Pr
 /// Committees of the first 40 candidates beside clones whom all voters approve: groups of some voters share as many
 /// clones as the level wants, and their own members, alike too, decide whether the committee has PJR. Each line has the
 /// voters, the members of each, the clones, and the level and the voters of the first violation (0 if there is none).
-static BLOCKS: [(u8, u8, u8, u8, u64); 7] = [
+type Block = (u8, u8, u8, u8, u64);
+
+static BLOCKS: [Block; 7] = [
     (4, 10, 22, 0, 0),
     (5, 8, 18, 0, 0),
     (5, 8, 22, 0, 0),
@@ -398,13 +395,19 @@ fn shared_by(level: u8, voters: u64) -> Option<Violation> {
     })
 }
 
+/// Asserts the violation of a line.
+fn assert_block(rt: &impl Abort, alloc: Global, block: Block) {
+    let (voters, size, alike, level, group) = block;
+    let profile = blocks(rt, alloc, voters, size, alike);
+    let found = violation(rt, &profile, CandSet::all(40), Property::Pjr);
+    let is_due = found == shared_by(level, group);
+    assert!(rt; is_due, "{voters} voters of {size}, {alike} clones");
+}
+
 #[test]
 fn clones_beside_blocks(rt: HostRuntime) {
-    for (voters, size, alike, level, group) in BLOCKS {
-        let profile = blocks(&rt, rt.alloc(), voters, size, alike);
-        let found = violation(&rt, &profile, CandSet::all(40), Property::Pjr);
-        let is_due = found == shared_by(level, group);
-        assert!(rt; is_due, "{voters} voters of {size}, {alike} clones");
+    for block in &BLOCKS {
+        assert_block(&rt, rt.alloc(), *block);
     }
 }
 
@@ -429,9 +432,9 @@ fn assert_lacks_only(rt: &impl Abort, profile: &Profile, committee: CandSet) {
 #[test]
 fn clones_of_pairs(rt: HostRuntime) {
     let ballots = [
-        spanned(&[(1, 25), (26, 43), (62, 62)]),
-        spanned(&[(1, 25), (44, 61), (63, 63)]),
-        spanned(&[(1, 7), (26, 61), (64, 64)]),
+        (spanned(&[(1, 25), (26, 43), (62, 62)]), 1),
+        (spanned(&[(1, 25), (44, 61), (63, 63)]), 1),
+        (spanned(&[(1, 7), (26, 61), (64, 64)]), 1),
     ];
     let profile = election_of(&rt, rt.alloc(), &ballots);
     let committee = spanned(&[(8, 19), (26, 37), (44, 55), (62, 64)]);

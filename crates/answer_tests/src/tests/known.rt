@@ -3,7 +3,7 @@
 ghost use Rattle.std.specs.Prelude.{◌≤◌};
 
 use super::support::election_of;
-use ballot_base::{Profile, ThieleRule};
+use ballot_base::{MOST_CANDIDATES, Profile, ThieleRule};
 use std::alloc::Global;
 use std::process::Abort;
 use tie_search::{ExactTally, MinimaxSearch, ThieleSearch};
@@ -60,8 +60,10 @@ fn approved(draw: Draw, all: u64, a: u64, b: u64, c: u64) -> u64 {
     }
 }
 
-/// The ballots, each of one voter.
-fn drawn(draw: Draw) -> [(u64, u64); VOTERS] {
+/// The election of m candidates, of as many as there may be and as a committee has, with drawn ballots of one voter.
+fn drawn_election(rt: &impl Abort, alloc: Global, draw: Draw, m: u8) -> Profile
+    ensures { SIZE ≤ result.m }
+{
     let mut state = 7;
     let all = random_word(&mut state) & random_word(&mut state);
     let mut ballots = [(0, 1); VOTERS];
@@ -71,7 +73,7 @@ fn drawn(draw: Draw) -> [(u64, u64); VOTERS] {
         let c = random_word(&mut state);
         ballots[i] = (approved(draw, all, a, b, c), 1);
     }
-    ballots
+    election_of(rt, alloc, m.clamp(SIZE, MOST_CANDIDATES), &ballots)
 }
 
 /// Asserts the greatest value, and how many committees have it.
@@ -110,7 +112,7 @@ fn assert_rule(
 }
 
 /// Asserts the same under each of the rules.
-fn assert_thiele(rt: &impl Abort, alloc: Global, profile: &Profile, known: [(u128, usize); 5])
+fn assert_thiele(rt: &impl Abort, alloc: Global, profile: &Profile, known: &[(u128, usize); 5])
     requires { SIZE ≤ profile.now.m }
 {
     for i in 0..RULES.len() {
@@ -119,53 +121,53 @@ fn assert_thiele(rt: &impl Abort, alloc: Global, profile: &Profile, known: [(u12
 }
 
 /// A draw, the candidates, and the greatest values and numbers of winners under the rules.
-static KNOWN: [(Draw, u8, [(u128, usize); 5]); 8] = [
+static KNOWN: [(Draw, u8, &[(u128, usize); 5]); 8] = [
     (
         Draw::Independent,
         40,
-        [(5192, 1), (60, 189), (2704, 1), (18288, 1), (72768, 1)],
+        &[(5192, 1), (60, 189), (2704, 1), (18288, 1), (72768, 1)],
     ),
     (
         Draw::Independent,
         64,
-        [(5260, 1), (60, 795), (2724, 1), (18324, 1), (72848, 1)],
+        &[(5260, 1), (60, 795), (2724, 1), (18324, 1), (72848, 1)],
     ),
     (
         Draw::Resampled,
         40,
-        [(7962, 3), (60, 1000), (3659, 1), (21664, 1), (81657, 1)],
+        &[(7962, 3), (60, 1000), (3659, 1), (21664, 1), (81657, 1)],
     ),
     (
         Draw::Resampled,
         64,
-        [(8034, 1), (60, 1000), (3667, 1), (21681, 1), (81688, 1)],
+        &[(8034, 1), (60, 1000), (3667, 1), (21681, 1), (81688, 1)],
     ),
     (
         Draw::Popular,
         40,
-        [(6574, 1), (60, 1000), (3263, 1), (20488, 1), (78877, 1)],
+        &[(6574, 1), (60, 1000), (3263, 1), (20488, 1), (78877, 1)],
     ),
     (
         Draw::Popular,
         64,
-        [(6574, 1), (60, 1000), (3264, 1), (20523, 1), (79032, 1)],
+        &[(6574, 1), (60, 1000), (3264, 1), (20523, 1), (79032, 1)],
     ),
     (
         Draw::Square,
         40,
-        [(4035, 3), (53, 156), (2136, 1), (14904, 7), (60608, 4)],
+        &[(4035, 3), (53, 156), (2136, 1), (14904, 7), (60608, 4)],
     ),
     (
         Draw::Square,
         64,
-        [(4200, 5), (60, 33), (2240, 4), (16038, 2), (65792, 1)],
+        &[(4200, 5), (60, 33), (2240, 4), (16038, 2), (65792, 1)],
     ),
 ];
 
 #[test]
 fn thiele_rules(rt: HostRuntime) {
-    for (draw, m, known) in KNOWN {
-        let profile = election_of(&rt, rt.alloc(), m, &drawn(draw));
+    for (draw, m, known) in &KNOWN {
+        let profile = drawn_election(&rt, rt.alloc(), *draw, *m);
         assert_thiele(&rt, rt.alloc(), &profile, known);
     }
 }
@@ -193,8 +195,8 @@ static DISTANCES: [(Draw, u8, u8, usize); 8] = [
 
 #[test]
 fn minimax(rt: HostRuntime) {
-    for (draw, m, distance, winners) in DISTANCES {
-        let profile = election_of(&rt, rt.alloc(), m, &drawn(draw));
-        assert_minimax(&rt, &profile, distance, winners);
+    for (draw, m, distance, winners) in &DISTANCES {
+        let profile = drawn_election(&rt, rt.alloc(), *draw, *m);
+        assert_minimax(&rt, &profile, *distance, *winners);
     }
 }

@@ -1,5 +1,6 @@
 //! Allocations one by one, and requests that are refused.
 use seat_share::{Method, ShareFault, Shares};
+use std::process::Abort;
 
 /// The votes, the method, the seats and a start; and the first allocation, if one is left, and whether there are more.
 type Case = (
@@ -82,35 +83,44 @@ static FIRST_ALLOCATIONS: [Case; 6] = [
     ),
 ];
 
+/// Asserts the first allocation of a row, and whether there are more.
+fn assert_first(rt: &impl Abort, case: &Case) {
+    let (votes, method, seats, start, first, has_more) = *case;
+    let mut shares = Shares::new(votes, method, seats, start).expect(rt, "no fault");
+    let is_first = match shares.next() {
+        Some(allocation) => allocation.seats() == first,
+        None => first.is_empty(),
+    };
+    let is_right = is_first
+        && shares.next().is_some() == has_more
+        && shares.next().is_some() == has_more;
+    assert!(rt; is_right, "{seats} seats, first {first:?}");
+}
+
 #[test]
 fn first_allocations(rt: HostRuntime) {
-    for (votes, method, seats, start, first, has_more) in &FIRST_ALLOCATIONS {
-        let mut shares = Shares::new(votes, *method, *seats, *start).expect(&rt, "no fault");
-        let is_first = match shares.next() {
-            Some(allocation) => allocation.seats() == *first,
-            None => first.is_empty(),
-        };
-        let goes_on = shares.next().is_some();
-        assert!(rt;
-            is_first && goes_on == *has_more && shares.next().is_some() == goes_on,
-            "{seats} seats, first {first:?}"
-        );
+    for case in &FIRST_ALLOCATIONS {
+        assert_first(&rt, case);
     }
+}
+
+/// The allocations of eight seats to sixteen equal parties that come after a start, or all of them.
+fn eight_seats(rt: &impl Abort, start: Option<&[u16]>) -> Shares {
+    Shares::new(&[1; 16], Method::Adams, 8, start).expect(rt, "no fault")
 }
 
 /// All 12,870 allocations by one walk, and each by a walk of its own that starts after the one before.
 #[test]
 fn one_at_a_time(rt: HostRuntime) {
-    let votes = [1; 16];
-    let mut walk = Shares::new(&votes, Method::Adams, 8, None).expect(&rt, "all");
-    let mut rest = Shares::new(&votes, Method::Adams, 8, None).expect(&rt, "all");
+    let mut walk = eight_seats(&rt, None);
+    let mut next = eight_seats(&rt, None).next();
     for place in 0..12870 {
         let allocation = walk.next().expect(&rt, "an allocation");
-        let next = rest.next().expect(&rt, "an allocation after a start");
-        assert!(rt; next.seats() == allocation.seats(), "{place}");
-        rest = Shares::new(&votes, Method::Adams, 8, Some(next.seats())).expect(&rt, "the rest");
+        let after = next.expect(&rt, "an allocation after a start");
+        assert!(rt; after.seats() == allocation.seats(), "{place}");
+        next = eight_seats(&rt, Some(after.seats())).next();
     }
-    assert!(rt; walk.next().is_none() && rest.next().is_none());
+    assert!(rt; walk.next().is_none() && next.is_none());
 }
 
 /// Votes, seats and a start that no method takes, and why not.

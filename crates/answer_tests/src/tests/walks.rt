@@ -25,17 +25,23 @@ fn pair(rt: &impl Abort, list: &[u8]) -> CandSet
     set
 }
 
+/// Asserts that only these winners are left.
+fn assert_left<T: Tally>(rt: &impl Abort, winners: &mut Winners<T>, lists: &[&[u8]]) {
+    for list in lists {
+        assert!(rt; winners.next() == CandSet::of_list(list), "{list:?}");
+    }
+    assert!(rt; winners.next().is_none(), "after the winners");
+}
+
 /// Asserts that only these pairs come after the start under Chamberlin-Courant, where each of four voters approves a
 /// member of a winner.
 fn assert_after<T: Tally>(rt: &impl Abort, tally: &T, start: &[u8], lists: &[&[u8]])
     requires { T.candidates tally.now ≡ most_candidates }
 {
-    let mut winners = Winners::new(tally, MOST_CANDIDATES, 2, Some(pair(rt, start)));
+    let start = Some(pair(rt, start));
+    let mut winners = Winners::new(tally, MOST_CANDIDATES, 2, start);
     assert!(rt; winners.best() == 4, "each voter has a member");
-    for list in lists {
-        assert!(rt; winners.next() == CandSet::of_list(list), "{list:?}");
-    }
-    assert!(rt; winners.next().is_none(), "after the winners");
+    assert_left(rt, &mut winners, lists);
 }
 
 /// Asserts the same of the sequential rule.

@@ -1,11 +1,11 @@
 //! How many prefixes the walk enters: against live prefixes counted by their definition, and in elections worked out by
 //! hand.
-ghost use Rattle.std.specs.Prelude.{◌≡◌, ◌≤◌, length};
+ghost use Rattle.std.specs.Prelude.{◌≡◌, ◌≤◌};
 ghost use Rattle.ballot_base.specs.Limits.{most_candidates};
-ghost use Rattle.ballot_base.specs.Lists.{IsIncreasing};
+ghost use Rattle.tie_walk.specs.Winners.{IsStart};
 
 use super::super::support::{Counting, Draw, ballot_of, committee_of, election_of, random_ballots};
-use ballot_base::{CandSet, KSets, MOST_CANDIDATES, ThieleRule};
+use ballot_base::{CandSet, KSets, MOST_CANDIDATES, Profile, ThieleRule};
 use std::process::Abort;
 use tie_walk::{MinimaxTally, SavTally, Tally, ThieleTally, Winners};
 
@@ -31,8 +31,13 @@ fn twenty_of_forty_in_few_calls(rt: HostRuntime) {
     assert_few_calls(&rt, &ThieleTally::new(&profile, ThieleRule::Av, 20));
 }
 
-/// How many prefixes a walk enters in four calls, where it enters at least one before them, and never more than these.
-fn entered_in_four<T: Tally>(rt: &impl Abort, winners: &mut Winners<T>, most: u128) -> u128 {
+/// How many prefixes a walk for two seats enters in four calls, where it enters at least one before them, and never
+/// more than these.
+fn entered_in_four<T: Tally>(rt: &impl Abort, tally: &T, start: Option<CandSet>, most: u128) -> u128
+    requires candidates { T.candidates tally.now ≡ 3 }
+    requires start { IsStart 3 2 start }
+{
+    let mut winners = Winners::new(tally, 3, 2, start);
     for _ in 0..4 {
         let entered = winners.entered();
         assert!(rt; entered >= 1 && entered <= most, "{entered} of {most}");
@@ -46,9 +51,9 @@ fn entered_in_four<T: Tally>(rt: &impl Abort, winners: &mut Winners<T>, most: u1
 fn entered_for_two_seats(rt: HostRuntime) {
     let profile = election_of(&rt, rt.alloc(), 3, &[(0b011, 2), (0b100, 1)]);
     let tally = ThieleTally::new(&profile, ThieleRule::Pav, 2);
-    let all = entered_in_four(&rt, &mut Winners::new(&tally, 3, 2, None), 12);
-    let start = Some(committee_of(&rt, 3, 2, 0b101));
-    let later = entered_in_four(&rt, &mut Winners::new(&tally, 3, 2, start), 7);
+    let start = committee_of(&rt, 3, 2, 0b101);
+    let all = entered_in_four(&rt, &tally, None, 12);
+    let later = entered_in_four(&rt, &tally, Some(start), 7);
     assert!(rt;
         all == 9 && later >= 4,
         "{all} prefixes, {later} after 1 and 3"
@@ -71,16 +76,18 @@ fn is_open<T: Tally>(tally: &T, m: u8, k: u8, best: u128, c: u8, word: u64) -> b
     true
 }
 
-/// Whether a committee after the start has exactly the members of this prefix up to c.
-fn is_ahead(m: u8, k: u8, start: CandSet, c: u8, word: u64) -> bool
+/// Whether a committee after the start, if there is one, has exactly the members of this prefix up to c.
+fn is_ahead(m: u8, k: u8, start: &Option<CandSet>, c: u8, word: u64) -> bool
     requires most { m ≤ most_candidates }
     requires within { c ≤ m }
     requires fits { k ≤ m }
-    requires members { IsIncreasing 1 m start }
-    requires size { length start ≡ k }
+    requires start { IsStart m k start.now }
 {
+    let Some(start) = start else {
+        return true;
+    };
     let set = ballot_of(c, word);
-    for committee in KSets::after(m, k, start) {
+    for committee in KSets::after(m, k, *start) {
         if committee.upto(c) == set {
             return true;
         }
@@ -88,36 +95,13 @@ fn is_ahead(m: u8, k: u8, start: CandSet, c: u8, word: u64) -> bool
     false
 }
 
-/// Asserts that the walk over all winners enters exactly the live prefixes.
-fn assert_all_live<T: Tally>(rt: &impl Abort, tally: &T, m: u8, k: u8)
+/// How many prefixes are live after the start, if there is one.
+fn count_live<T: Tally>(tally: &T, m: u8, k: u8, best: u128, start: &Option<CandSet>) -> u128
     requires candidates { m ≡ T.candidates tally.now }
     requires most { m ≤ 10 }
-    requires some { 1 ≤ k }
     requires fits { k ≤ m }
+    requires start { IsStart m k start.now }
 {
-    let mut winners = Winners::new(tally, m, k, None);
-    let best = winners.best();
-    let mut live = 0_u32;
-    for c in 0..m + 1 {
-        for word in 0..1_u64 << c {
-            live = live.saturating_add(u32::from(is_open(tally, m, k, best, c, word)));
-        }
-    }
-    for _winner in &mut winners {}
-    assert!(rt; winners.entered() == u128::from(live), "{k} of {m}");
-}
-
-/// Asserts that the walk after a start enters few more than the live prefixes.
-fn assert_live_after<T: Tally>(rt: &impl Abort, tally: &T, m: u8, k: u8, start: CandSet)
-    requires candidates { m ≡ T.candidates tally.now }
-    requires most { m ≤ 10 }
-    requires some { 1 ≤ k }
-    requires fits { k ≤ m }
-    requires members { IsIncreasing 1 m start }
-    requires size { length start ≡ k }
-{
-    let mut winners = Winners::new(tally, m, k, Some(start));
-    let best = winners.best();
     let mut live = 0_u32;
     for c in 0..m + 1 {
         for word in 0..1_u64 << c {
@@ -125,11 +109,25 @@ fn assert_live_after<T: Tally>(rt: &impl Abort, tally: &T, m: u8, k: u8, start: 
             live = live.saturating_add(u32::from(counts));
         }
     }
+    u128::from(live)
+}
+
+/// Asserts that the walk over all winners enters exactly the live prefixes, and a walk after a start few more.
+fn assert_live_from<T: Tally>(rt: &impl Abort, tally: &T, m: u8, k: u8, start: Option<CandSet>)
+    requires candidates { m ≡ T.candidates tally.now }
+    requires most { m ≤ 10 }
+    requires some { 1 ≤ k }
+    requires fits { k ≤ m }
+    requires start { IsStart m k start }
+{
+    let mut winners = Winners::new(tally, m, k, start);
+    let live = count_live(tally, m, k, winners.best(), &start);
     for _winner in &mut winners {}
-    let live = u128::from(live);
-    let expected = live..=live.saturating_add(u128::from(m));
+    let more = if start.is_some() { m } else { 0 };
+    let most = live.saturating_add(u128::from(more));
+    let entered = winners.entered();
     assert!(rt;
-        expected.contains(&winners.entered()),
+        live <= entered && entered <= most,
         "{k} of {m} after {start:?}"
     );
 }
@@ -141,10 +139,22 @@ fn assert_live<T: Tally>(rt: &impl Abort, tally: &T, m: u8, k: u8)
     requires some { 1 ≤ k }
     requires fits { k ≤ m }
 {
-    assert_all_live(rt, tally, m, k);
+    assert_live_from(rt, tally, m, k, None);
     for start in KSets::new(m, k) {
-        assert_live_after(rt, tally, m, k, start);
+        assert_live_from(rt, tally, m, k, Some(start));
     }
+}
+
+/// Asserts the same under a rule of each sort.
+fn assert_rules(rt: &impl Abort, profile: &Profile, m: u8, k: u8)
+    requires candidates { m ≡ profile.now.m }
+    requires most { m ≤ 10 }
+    requires some { 1 ≤ k }
+    requires fits { k ≤ m }
+{
+    assert_live(rt, &ThieleTally::new(profile, ThieleRule::Pav, k), m, k);
+    assert_live(rt, &SavTally::new(profile), m, k);
+    assert_live(rt, &MinimaxTally::new(profile), m, k);
 }
 
 #[test]
@@ -154,9 +164,7 @@ fn live_prefixes_of_small_elections(rt: HostRuntime) {
         let m = 3 + (seed % 3) as u8;
         let profile = election_of(&rt, alloc, m, &random_ballots(Draw::Few, seed, 5, 1));
         for k in 1..m + 1 {
-            assert_live(&rt, &ThieleTally::new(&profile, ThieleRule::Pav, k), m, k);
-            assert_live(&rt, &SavTally::new(&profile), m, k);
-            assert_live(&rt, &MinimaxTally::new(&profile), m, k);
+            assert_rules(&rt, &profile, m, k);
         }
     }
 }

@@ -62,8 +62,27 @@ fn bounds_of_satisfaction(profile: &Profile, k: u8) -> u128
     bounds_to_the_next(&mut winners)
 }
 
-/// How many winners come in so many calls. Each call has to count just the bounds that it asks a tally for that answers
-/// nothing else, at most four for each candidate.
+/// Whether a call gives a winner. It has to count just the bounds that it asks the tally for, at most four for each
+/// candidate.
+fn gives_winner<T: Tally>(
+    rt: &impl Abort,
+    counting: &Counting<'_, T>,
+    winners: &mut Winners<Counting<'_, T>>,
+    call: u16,
+) -> bool {
+    let (before, asked) = (winners.ceilings(), counting.bounds());
+    let winner = winners.next();
+    let bounds = winners.ceilings().saturating_sub(before);
+    let is_counted = bounds == u128::from(counting.bounds().saturating_sub(asked));
+    let most = 4 * u128::from(counting.m());
+    assert!(rt;
+        is_counted && bounds <= most,
+        "{bounds} bounds in call {call}"
+    );
+    winner.is_some()
+}
+
+/// How many winners come in so many calls, whose bounds are counted by a tally that answers nothing else.
 fn count_with_waits<T: Tally>(
     rt: &impl Abort,
     tally: &T,
@@ -76,19 +95,11 @@ fn count_with_waits<T: Tally>(
     requires start { IsStart (T.candidates tally.now) k after }
 {
     let counting = Counting::new(tally);
-    let m = counting.m();
-    let mut winners = Winners::new(&counting, m, k, after);
+    let mut winners = Winners::new(&counting, counting.m(), k, after);
     let mut found = 0_u16;
     for call in 0..calls {
-        let (before, asked) = (winners.ceilings(), counting.bounds());
-        let winner = winners.next();
-        let bounds = winners.ceilings().saturating_sub(before);
-        let is_counted = bounds == u128::from(counting.bounds().saturating_sub(asked));
-        assert!(rt;
-            is_counted && bounds <= 4 * u128::from(m),
-            "{bounds} bounds in call {call}"
-        );
-        found = found.saturating_add(u16::from(winner.is_some()));
+        let is_found = gives_winner(rt, &counting, &mut winners, call);
+        found = found.saturating_add(u16::from(is_found));
     }
     found
 }

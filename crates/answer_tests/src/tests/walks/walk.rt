@@ -1,7 +1,8 @@
 //! The walk against a pass over all committees.
-ghost use Rattle.std.specs.Prelude.{◌≡◌, ◌≤◌, length};
+ghost use Rattle.std.specs.Prelude.{◌≡◌, ◌≤◌};
 ghost use Rattle.ballot_base.specs.Limits.{most_candidates, most_members};
-ghost use Rattle.ballot_base.specs.Lists.{IsIncreasing};
+ghost use Rattle.ballot_base.specs.Lists.{increasing_lists, later_than};
+ghost use Rattle.tie_walk.specs.Winners.{IsStart};
 
 use super::super::support::{Draw, election_of, random_ballots};
 use ballot_base::{CandSet, KSets, Profile, ThieleRule};
@@ -21,40 +22,35 @@ fn plain_best<T: Tally>(tally: &T, m: u8, k: u8) -> u128
     best
 }
 
-/// Asserts that the winners after a start are those that a pass over the committees after it finds.
-fn assert_after<T: Tally>(rt: &impl Abort, tally: &T, m: u8, k: u8, best: u128, start: CandSet)
-    requires candidates { m ≡ T.candidates tally.now }
+/// The committees of k after a start, or all of them.
+fn later_committees(m: u8, k: u8, start: Option<CandSet>) -> KSets
     requires most { m ≤ most_candidates }
-    requires some { 1 ≤ k }
     requires fits { k ≤ m }
-    requires members { IsIncreasing 1 m start }
-    requires size { length start ≡ k }
+    requires start { IsStart m k start }
+    ensures { result ≡ later_than start (increasing_lists 1 m k) }
 {
-    let mut winners = Winners::new(tally, m, k, Some(start));
+    match start {
+        Some(start) => KSets::after(m, k, start),
+        None => KSets::new(m, k),
+    }
+}
+
+/// Asserts that the winners after a start, or all of them, are those that a pass over the committees finds.
+fn assert_later<T: Tally>(rt: &impl Abort, tally: &T, k: u8, best: u128, start: Option<CandSet>)
+    requires most { T.candidates tally.now ≤ most_candidates }
+    requires some { 1 ≤ k }
+    requires fits { k ≤ T.candidates tally.now }
+    requires start { IsStart (T.candidates tally.now) k start }
+{
+    let m = tally.m();
+    let mut winners = Winners::new(tally, m, k, start);
     assert!(rt; winners.best() == best, "the best of {k} is not {best}");
-    for committee in KSets::after(m, k, start) {
+    for committee in later_committees(m, k, start) {
         if tally.value(committee) == best {
             assert!(rt; winners.next() == Some(committee), "{k} after {start:?}");
         }
     }
     assert!(rt; winners.next().is_none(), "{k} after {start:?}");
-}
-
-/// Asserts the same of all winners.
-fn assert_all<T: Tally>(rt: &impl Abort, tally: &T, m: u8, k: u8, best: u128)
-    requires candidates { m ≡ T.candidates tally.now }
-    requires most { m ≤ most_candidates }
-    requires some { 1 ≤ k }
-    requires fits { k ≤ m }
-{
-    let mut winners = Winners::new(tally, m, k, None);
-    assert!(rt; winners.best() == best, "the best of {k} is not {best}");
-    for committee in KSets::new(m, k) {
-        if tally.value(committee) == best {
-            assert!(rt; winners.next() == Some(committee), "all of {k}");
-        }
-    }
-    assert!(rt; winners.next().is_none(), "all of {k}");
 }
 
 /// Asserts the same after each start, and without one.
@@ -65,9 +61,9 @@ fn assert_walks<T: Tally>(rt: &impl Abort, tally: &T, m: u8, k: u8)
     requires fits { k ≤ m }
 {
     let best = plain_best(tally, m, k);
-    assert_all(rt, tally, m, k, best);
+    assert_later(rt, tally, k, best, None);
     for start in KSets::new(m, k) {
-        assert_after(rt, tally, m, k, best, start);
+        assert_later(rt, tally, k, best, Some(start));
     }
 }
 
