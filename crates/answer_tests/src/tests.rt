@@ -1,5 +1,5 @@
-//! One file for groups of voters, one for seats, and the others for winners. Expected values are worked by hand, or found
-//! by a plainer search.
+//! One file for groups of voters, one for seats, and the others for winners. Expected values are worked by hand, or
+//! found by a plainer search.
 mod clones;
 mod distances;
 mod families;

@@ -79,7 +79,7 @@ fn is_fitting(kind: Kind, categories: Option<u64>, way: Way) -> bool
 {
     match (kind, way) {
         (_, Way::Usual) => true,
-        (Kind::Cat, Way::Category(n)) => u64::from(n) <= categories.unwrap_or(u64::from(n)),
+        (Kind::Cat, Way::Category(n)) => categories.is_none_or(|most| u64::from(n) <= most),
         (Kind::Cat, _) | (_, Way::Category(_)) => false,
         _ => true,
     }

@@ -160,10 +160,10 @@ fn assert_error(
     alloc: Global,
     request: &Request,
     case: Case<'_>,
-    writer_of: Writer,
+    failing: Writer,
 ) {
     let (words, bytes, line) = case;
-    let (piece, fault, taken) = writer_of;
+    let (piece, fault, taken) = failing;
     let err = Recorder::new(alloc, piece, fault);
     let ended = run_on(alloc, request, reader(bytes), writer(alloc), err);
     let mut wanted = ending(line);
