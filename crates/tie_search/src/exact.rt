@@ -7,8 +7,8 @@
 //! Before such a search, three committees are tried: the one that was found last, the set with the last candidates of
 //! all, and the one that was found last with clones in the place of others. They are tested by their members and value,
 //! so no proof rests on what the cell holds. A committee with the greatest value shows that the bounds reach it up to
-//! the first member outside the set (module `witness`). So `reach` searches once for many places, and if most committees
-//! tie, not at all. After a search that found nothing, none is made for a set with a clone in a member's place
+//! the first member outside the set (module `witness`). So `reach` searches once for many places, and not at all if
+//! most committees tie. After a search that found nothing, none is made for a set with a clone in a member's place
 //! (`is_no_better`; `proofs/ExchangeLemmas.antt`).
 ghost use Rattle.std.specs.Prelude.{◌≡◌, ◌+◌, ◌-◌, ◌≤◌, [], false, MatchOption, length};
 ghost use Rattle.ballot_base.specs.Limits.{most_candidates};

@@ -2,7 +2,7 @@
 //!
 //! A walk knows of its tally only what the trait says: the value of a set, the law of the bound, and what `reach`
 //! answers about bounds. So one walk serves rules with plain bounds, bounds found by search, and families of
-//! committees. The sums of the greatest gains are found by the least of them, and no sorting.
+//! committees. A sum of the greatest gains is found from the least of them, without sorting.
 ghost use Rattle.std.specs.Prelude.{◌≡◌, ℕ, ◌+◌, ◌-◌, ◌*◌, ◌^◌, ◌<◌, ◌≤◌, List, [], MatchOption, ⊤, filter, length, nat_le, slice_index, sum_by, true};
 ghost use Rattle.std.specs.List.{range_with_len};
 ghost use Rattle.ballot_base.specs.CandSet.{has_member};
@@ -143,8 +143,8 @@ impl Amounts<'_> {
         Some(self.last_with(c, left, threshold))
     }
 
-    /// The `left`-th greatest amount of the candidates: at least `left` of them reach it, and no more than `left` exceed
-    /// it. Found by halves, as in a search for a rank (Hoare, Algorithm 65: Find, 1961).
+    /// The `left`-th greatest amount of the candidates: at least `left` of them reach it, and at most `left` exceed it.
+    /// (Hoare, Algorithm 65: Find, 1961)
     fn threshold(&self, candidates: CandSet, left: u8) -> u128
         requires { left ≤ length candidates }
         ensures { IsThreshold (slice_index self.now.each.now) candidates left result }

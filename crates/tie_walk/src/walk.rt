@@ -2,8 +2,8 @@
 //! whose bound reaches it; and the counts of its steps.
 //!
 //! Below one set candidates are removed one after another, so the walk asks `Tally::reach` once how far the bounds of
-//! the set reach, and keeps the answer for each number of members. If a bound is too low, the walk keeps the prefix, and
-//! a tally that knows of another one that it is no better (`Tally::is_no_better`) is not asked for its bound.
+//! the set reach, and keeps the answer for each number of members. If a bound is too low, the walk keeps the prefix. It
+//! does not ask for the bound of another one that is no better (`Tally::is_no_better`).
 //!
 //! `proofs/WalkLemmas.antt` shows that what the walk leaves out has no winner, `LiveLemmas.antt` and `OpenLemmas.antt`
 //! that each prefix it enters is live.
@@ -276,7 +276,8 @@ fn keep(levels: &mut Levels, known: Known)
 
 /// The prefix with as many members as the set whose bound was the last to be too low.
 fn last_low(lows: &Lows, set: CandSet) -> Option<Prefix>
-    ensures { (bound : ℕ → List ℕ → ℕ → ℕ) (m k best : ℕ) → AreLow bound m k best lows.now → IsLow bound m k best result }
+    ensures { (bound : ℕ → List ℕ → ℕ → ℕ) (m k best : ℕ) → AreLow bound m k best lows.now
+        → IsLow bound m k best result }
 {
     lows[usize::from(set.len())]
 }

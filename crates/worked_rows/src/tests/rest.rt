@@ -77,7 +77,7 @@ static CUTS: [(usize, usize, &str, &str); 4] = [
     (38, 41, " --after 2,3", "end\n"),
 ];
 
-/// The start of the second run, and what it prints after the lines before the answers, if this number of bytes is taken.
+/// The start of the second run, and what it prints after the lines before the answers, if so many bytes are taken.
 fn rest_of(rt: &impl Abort, taken: usize) -> (&'static str, &'static str) {
     for (first, last, start, rest) in &CUTS {
         if *first <= taken && taken <= *last {

@@ -42,7 +42,7 @@ fn assert_row(rt: &impl Abort, alloc: Global, row: &str, input: &[u8]) {
 }
 
 /// Asserts each row of a table. A row has the words after the program's name, a bar, and what the run leaves, without
-/// the end of its last line. A row that begins with `<` is the input of the rows after it, and one that begins with `//`
+/// the end of its last line. A row that begins with `<` is the input of the rows after it. One that begins with `//`
 /// says what they are.
 fn assert_table(rt: &impl Abort, alloc: Global, table: &str) {
     let mut input = String::new(alloc);
