@@ -60,7 +60,7 @@ fn approved(draw: Draw, all: u64, a: u64, b: u64, c: u64) -> u64 {
     }
 }
 
-/// The election of m candidates, of as many as there may be and as a committee has, with drawn ballots of one voter.
+/// The election of m candidates, at least as many as a committee has, with drawn ballots of one voter each.
 fn drawn_election(rt: &impl Abort, alloc: Global, draw: Draw, m: u8) -> Profile
     ensures { SIZE ≤ result.m }
 {
