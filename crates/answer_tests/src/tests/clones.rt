@@ -5,11 +5,12 @@ ghost use Rattle.tie_walk.specs.Winners.{IsStart};
 
 use super::searches::assert_all_same;
 use super::support::{Draw, ballot_of, election_of, first_committee, random_ballots};
-use ballot_base::{CandSet, Profile, ThieleRule};
+use ballot_base::{CandSet, Clones, Profile, ThieleRule};
 use seat_share::{Method, Shares};
 use std::alloc::Global;
+use std::cell::Cell;
 use std::process::Abort;
-use tie_search::{ExactTally, ThieleSearch};
+use tie_search::{ExactTally, Searchable, ThieleSearch, Tied};
 use tie_walk::{Tally, Winners};
 
 /// More winners than any of these elections has.
@@ -268,5 +269,76 @@ fn party_lists_end(rt: HostRuntime) {
     ];
     for (rule, size, votes, seats) in cases {
         assert_ends(&rt, rt.alloc(), rule, Lists { size, votes, seats });
+    }
+}
+
+/// What is searched, where each search counts. It lists no tied committees.
+#[derive(Drop)]
+struct Searched<'a, S: Searchable> {
+    search: &'a S,
+    searches: &'a Cell<u64>,
+}
+
+impl<'a, S: Searchable> Tally for Searched<'a, S> {
+    ghost candidates = { λ searched. S.candidates searched.search.now };
+
+    ghost value_of = { λ searched. S.value_of searched.search.now };
+
+    ghost bound_of = { λ searched. S.bound_of searched.search.now };
+
+    fn m(&self) -> u8 {
+        self.search.m()
+    }
+
+    fn value(&self, set: CandSet) -> u128 {
+        self.search.value(set)
+    }
+
+    fn bound(&self, c: u8, set: CandSet, left: u8) -> u128 {
+        self.search.bound(c, set, left)
+    }
+}
+
+impl<'a, S: Searchable> Searchable for Searched<'a, S> {
+    fn clones(&self) -> &Clones {
+        self.search.clones()
+    }
+
+    fn find(&self, set: CandSet, free: CandSet, left: u8, least: u128) -> Option<CandSet> {
+        self.searches.set(self.searches.get().saturating_add(1));
+        self.search.find(set, free, left, least)
+    }
+
+    fn tied(&self, _k: u8) -> Option<Tied> {
+        None
+    }
+}
+
+/// More searches than the first 1,000 winners ask for. With one for each clone there would be thousands.
+const MANY_SEARCHES: u64 = 500;
+
+/// Asserts that the first 1,000 winners ask for few searches. No clause says so.
+fn assert_few_searches(rt: &impl Abort, alloc: Global, lists: Lists<'_>) {
+    let profile = lists.election(rt, alloc);
+    let k = fitting(lists.seats, profile.m());
+    let search = ThieleSearch::new(alloc, &profile, ThieleRule::Geom3, k).expect(rt, "memory");
+    let searches = Cell::new(0);
+    let searched = Searched {
+        search: &search,
+        searches: &searches,
+    };
+    assert_thousand(rt, &ExactTally::new(searched, k), k, None);
+    assert!(rt;
+        searches.get() < MANY_SEARCHES,
+        "{} searches",
+        searches.get()
+    );
+}
+
+#[test]
+fn party_lists_ask_for_few_searches(rt: HostRuntime) {
+    let cases: [(u8, &[u64], u8); 2] = [(12, &[53, 24, 23, 11, 7], 20), (16, &[9, 60, 1, 20], 30)];
+    for (size, votes, seats) in cases {
+        assert_few_searches(&rt, rt.alloc(), Lists { size, votes, seats });
     }
 }
