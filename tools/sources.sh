@@ -31,11 +31,19 @@ digest() {
     if command -v sha256sum >/dev/null 2>&1; then sha256sum "$@"; else cksum "$@"; fi
 }
 
-# The checksum of all that a build in folder $1 reads: its lines of crates.txt, its code, its definitions and its proofs.
-# Times and places do not count, so a copy of a built checkout is built.
-checksum() (
+# The checksum of what the proofs of the crates $2.. read in folder $1: their lines of crates.txt, their code, their
+# definitions and their proofs. Times and places do not count, so a copy of a built checkout is built.
+sum_of() (
     cd -- "$1"
-    files=$(find $(names_for . committees | sed 's:.*:crates/&:') \( -name out -o -name must-fail \) -prune -o \
+    shift
+    folders=
+    for crate in "$@"; do folders="$folders crates/$crate"; done
+    files=$(find $folders \( -name out -o -name must-fail \) -prune -o \
         -type f \( -name '*.rt' -o -name '*.antt' \) -print | LC_ALL=C sort)
-    { lines_for . committees; digest $files; } | digest | sed 's/ .*//'
+    { for crate in "$@"; do grep "^$crate[ :]" crates.txt; done; digest $files; } | digest | sed 's/ .*//'
 )
+
+# The checksum of all that a build of the program reads in folder $1.
+checksum() {
+    sum_of "$1" $(names_for "$1" committees)
+}

@@ -2,19 +2,22 @@
 -- of the candidates 1 to 3 the best has 2 and 3.
 use Rattle.std.proofs.Common.{◌≡◌, ◌+◌, ◌*◌, ◌^◌, ◌<◌, ℕ, zero, suc, true, false, List, [], ◌∷◌, refl, sym, ap, subst, length, sum, lit≤, lit<, arith}
 use Rattle.std.specs.Prelude.{slice_index_or}
-use Rattle.ballot_base.specs.Ballots.{hits}
+use Rattle.ballot_base.specs.Ballots.{IsElection, Row, election, hits, with_votes}
+use Rattle.ballot_base.specs.Clones.{AreClones}
+use Rattle.ballot_base.proofs.Rows.{distinct-with_votes}
 use Rattle.ballot_base.specs.Lists.{lists_of}
 use Rattle.tie_walk.specs.Ceilings.{ceiling, closeness_upto}
 use Rattle.tie_walk.specs.Values.{closeness, distance}
 use Rattle.tie_walk.specs.Winners.{best_value}
 use Rattle.tie_search.specs.Needs.{hits_needed, weighted_needs, weighted_support}
-use Rattle.tie_search.specs.Completions.{IsOpen, IsCompletion, IsReaching, IsOutOfReach, IsWinnerFrom, is_reached, exact_bound}
+use Rattle.tie_search.specs.Completions.{AreAlike, IsOpen, IsCompletion, IsReaching, IsOutOfReach, IsWinnerFrom, is_reached, exact_bound}
 use Rattle.tie_search.specs.Pairs.{IsMajorant, all_kept, all_overlap, all_worth, pair_sum, row_sum, worth_beside}
 use Rattle.tie_search.specs.Prices.{kept, base, price}
 use Rattle.tie_search.specs.Tied.{AreBest, AreDistinct, AreTied, IsAmong, IsBest}
 use Rattle.tie_search.specs.Steps.Near.{need_weight}
-use Rattle.tie_search.specs.Steps.Witness.{IsSetAndLater}
+use Rattle.tie_search.specs.Steps.Witness.{IsExchange, IsSetAndLater}
 use Rattle.tie_search.specs.Steps.Columns.{voter_ballot, given, total, voters_of}
+use Rattle.tie_search.proofs.NearClones.{alike}
 
 best-at_root : exact_bound sum (ceiling sum 3) 3 2 0 [] 2 ≡ 5
 unfolding lists_of
@@ -58,6 +61,43 @@ wins-from_one = record {
 -- it is the empty set and two of the candidates after 1
 joined-at_one : IsSetAndLater 3 1 [] 2 (2 ∷ 3 ∷ [])
 joined-at_one = (2 ∷ 3 ∷ [], (((lit≤ tt, lit≤ tt, (lit≤ tt, lit≤ tt, tt)), refl), refl))
+
+-- ---- clones: one voter approves 1 and 2 of three candidates
+
+approving_two : List Row
+approving_two = with_votes [] (1 ∷ 2 ∷ []) 1
+
+approving_two-is_election : IsElection (election 3 ([] ∷ [] ∷ [] ∷ []) approving_two)
+unfolding approving_two
+approving_two-is_election = record {
+  least = lit≤ tt;
+  most = lit≤ tt;
+  names = refl;
+  ballots = ((lit≤ tt, lit≤ tt, (lit≤ tt, lit≤ tt, tt)), tt);
+  distinct = distinct-with_votes [] (1 ∷ 2 ∷ []) 1 (λ i j d l h. absurd (omega arith));
+  counts = (lit≤ tt, tt);
+  voters = lit≤ tt;
+}
+
+classes : List (List ℕ)
+classes = [] ∷ (1 ∷ 2 ∷ []) ∷ (1 ∷ 2 ∷ []) ∷ (3 ∷ []) ∷ []
+
+are_classes : AreClones 3 approving_two classes
+unfolding approving_two classes
+are_classes zero low high = absurd (omega (arith, low))
+are_classes (suc zero) low high = refl
+are_classes (suc (suc zero)) low high = refl
+are_classes (suc (suc (suc zero))) low high = refl
+are_classes (suc (suc (suc (suc c)))) low high = absurd (omega (arith, high))
+
+-- 1 in the place of 2, or 2 in the place of 1, leaves a committee as close to the voter as it was
+are_alike : AreAlike (closeness 3 approving_two) 3 classes
+are_alike = alike (election 3 ([] ∷ [] ∷ [] ∷ []) approving_two) approving_two-is_election classes are_classes
+
+-- 2 and 3 are 1 and 3 with 2 in the place of 1
+is_exchange : IsExchange classes (2 ∷ 3 ∷ []) (1 ∷ 3 ∷ [])
+unfolding classes
+is_exchange = record { gone = 1; joined = 2; class = refl; was = refl; is = refl }
 
 -- ---- committees that complete a set
 

@@ -12,8 +12,8 @@ use Rattle.tie_walk.specs.Winners.{best_value}
 abbrev pub tally_value : Thiele → List ℕ → ℕ
 tally_value tally set = thiele_value (increments tally.rule tally.k) tally.election.rows set
 
--- at each candidate's number a class: with the candidate in the place of one of its class, a committee of the candidates 1
--- to m has the same value
+-- at each candidate's number a class: with the candidate in the place of one of its class, a committee of the
+-- candidates 1 to m has the same value
 abbrev pub AreAlike : (List ℕ → ℕ) → ℕ → List (List ℕ) → Type 0
 AreAlike value m classes = (committee : List ℕ) (c d : ℕ) → IsIncreasing 1 m committee → 1 ≤ c → c ≤ m
     → has_member (slice_index_or classes c []) d ≡ true → has_member committee d ≡ true → has_member committee c ≡ false
