@@ -4,13 +4,15 @@ ghost use Rattle.ballot_base.specs.Limits.{most_candidates, most_members};
 ghost use Rattle.tie_walk.specs.Winners.{IsStart};
 
 use super::searches::assert_all_same;
-use super::support::{Draw, ballot_of, election_of, first_committee, random_ballots};
+use super::support::{
+    Draw, assert_of, ballot_of, election_of, first_committee, random_ballots, search_of,
+};
 use ballot_base::{CandSet, Clones, Profile, ThieleRule};
 use seat_share::{Method, Shares};
 use std::alloc::Global;
 use std::cell::Cell;
 use std::process::Abort;
-use tie_search::{ExactTally, Searchable, ThieleSearch, Tied};
+use tie_search::{ExactTally, Searchable, Tied};
 use tie_walk::{Tally, Winners};
 
 /// More winners than any of these elections has.
@@ -120,8 +122,16 @@ fn assert_all_win<T: Tally>(
     found
 }
 
-/// Asserts that the winners are exactly all choices of candidates for each of D'Hondt's allocations.
-fn assert_choices<T: Tally>(rt: &impl Abort, tally: &T, k: u8, lists: Lists<'_>)
+/// Asserts that the winners of a search are exactly all choices of candidates for each of D'Hondt's allocations.
+fn assert_choices<S: Searchable + Drop>(rt: &impl Abort, search: S, k: u8, lists: Lists<'_>)
+    requires some { 1 ≤ k }
+    requires fits { k ≤ S.candidates search }
+{
+    assert_allocations(rt, &ExactTally::new(search, k), k, lists);
+}
+
+/// Asserts the same of a tally.
+fn assert_allocations<T: Tally>(rt: &impl Abort, tally: &T, k: u8, lists: Lists<'_>)
     requires some { 1 ≤ k }
     requires fits { k ≤ T.candidates tally.now }
 {
@@ -134,15 +144,16 @@ fn assert_choices<T: Tally>(rt: &impl Abort, tally: &T, k: u8, lists: Lists<'_>)
     }
     let winners = Winners::new(tally, tally.m(), k, None);
     let count = winners.take(MOST_COUNTED).count() as u64;
-    assert!(rt; count == all, "{count} winners of {seats} seats");
+    let is_all = count == all;
+    assert_of(rt, is_all, "winners, seats", count as u128, seats as u128);
 }
 
 /// Asserts that the winners by `pav` are as D'Hondt's method shares out the seats.
 fn assert_as_dhondt(rt: &impl Abort, alloc: Global, lists: Lists<'_>) {
     let profile = lists.election(rt, alloc);
     let k = fitting(lists.seats, profile.m());
-    let search = ThieleSearch::new(alloc, &profile, ThieleRule::Pav, k).expect(rt, "memory");
-    assert_choices(rt, &ExactTally::new(search, k), k, lists);
+    let search = search_of(rt, alloc, &profile, ThieleRule::Pav, k);
+    assert_choices(rt, search, k, lists);
 }
 
 /// The candidates of each party, the voters of each, and the seats.
@@ -158,8 +169,13 @@ static PARTIES: [(u8, &[u64], u8); 7] = [
 
 #[test]
 fn parties_as_by_dhondt(rt: HostRuntime) {
-    for (size, votes, seats) in PARTIES {
-        assert_as_dhondt(&rt, rt.alloc(), Lists { size, votes, seats });
+    for (size, votes, seats) in &PARTIES {
+        let lists = Lists {
+            size: *size,
+            votes: *votes,
+            seats: *seats,
+        };
+        assert_as_dhondt(&rt, rt.alloc(), lists);
     }
 }
 
@@ -199,7 +215,7 @@ static CLASSES: [&[u8]; 6] = [
 
 #[test]
 fn random_classes(rt: HostRuntime) {
-    for sizes in CLASSES {
+    for sizes in &CLASSES {
         for seed in 1..6 {
             let profile = election_of_classes(&rt, rt.alloc(), sizes, seed);
             assert_all_same(&rt, rt.alloc(), &profile);
@@ -234,41 +250,56 @@ fn assert_thousand<T: Tally>(rt: &impl Abort, tally: &T, k: u8, start: Option<Ca
     assert!(rt; found == 1000, "{found} winners of {k} after {start:?}");
 }
 
-/// Asserts that the first 1,000 winners come, and 1,000 after a start.
-fn assert_thousands<T: Tally>(rt: &impl Abort, tally: &T, k: u8, start: CandSet)
+/// Asserts that the first 1,000 winners of a search come, and 1,000 after a start.
+fn assert_thousands<S: Searchable + Drop>(rt: &impl Abort, search: S, k: u8, start: CandSet)
     requires some { 1 ≤ k }
-    requires fits { k ≤ T.candidates tally.now }
-    requires start { IsStart (T.candidates tally.now) k (Some start) }
+    requires fits { k ≤ S.candidates search }
+    requires start { IsStart (S.candidates search) k (Some start) }
 {
-    assert_thousand(rt, tally, k, None);
-    assert_thousand(rt, tally, k, Some(start));
+    let tally = ExactTally::new(search, k);
+    assert_thousand(rt, &tally, k, None);
+    assert_thousand(rt, &tally, k, Some(start));
+}
+
+/// Asserts that the first 1,000 winners of a search come.
+fn assert_first_thousand<S: Searchable + Drop>(rt: &impl Abort, search: S, k: u8)
+    requires some { 1 ≤ k }
+    requires fits { k ≤ S.candidates search }
+{
+    assert_thousand(rt, &ExactTally::new(search, k), k, None);
 }
 
 /// Asserts that the first 1,000 winners of an election come, and 1,000 after a start.
 fn assert_ends(rt: &impl Abort, alloc: Global, rule: ThieleRule, lists: Lists<'_>) {
     let profile = lists.election(rt, alloc);
     let k = fitting(lists.seats, profile.m());
-    let search = ThieleSearch::new(alloc, &profile, rule, k).expect(rt, "memory");
+    let search = search_of(rt, alloc, &profile, rule, k);
     let start = second_committee(profile.m(), k);
-    assert_thousands(rt, &ExactTally::new(search, k), k, start);
+    assert_thousands(rt, search, k, start);
 }
+
+/// The rules, the candidates of each party, the voters of each, and the seats.
+static LARGE: [(ThieleRule, u8, &[u64], u8); 8] = [
+    (ThieleRule::Pav, 12, &[1, 1, 1], 12),
+    (ThieleRule::Pav, 12, &[53, 24, 23, 11, 7], 20),
+    (ThieleRule::Geom2, 12, &[53, 24, 23, 11, 7], 20),
+    (ThieleRule::Geom4, 12, &[53, 24, 23, 11, 7], 20),
+    (ThieleRule::Geom3, 64, &[1], 40),
+    (ThieleRule::Pav, 40, &[1], 31),
+    (ThieleRule::Cc, 8, &[1, 1, 1, 1, 1, 1, 1, 1], 20),
+    (ThieleRule::Pav, 32, &[3, 2], 40),
+];
 
 /// Small files over which a search without clones does not end in a minute.
 #[test]
 fn party_lists_end(rt: HostRuntime) {
-    let five: &[u64] = &[53, 24, 23, 11, 7];
-    let cases: [(ThieleRule, u8, &[u64], u8); 8] = [
-        (ThieleRule::Pav, 12, &[1, 1, 1], 12),
-        (ThieleRule::Pav, 12, five, 20),
-        (ThieleRule::Geom2, 12, five, 20),
-        (ThieleRule::Geom4, 12, five, 20),
-        (ThieleRule::Geom3, 64, &[1], 40),
-        (ThieleRule::Pav, 40, &[1], 31),
-        (ThieleRule::Cc, 8, &[1, 1, 1, 1, 1, 1, 1, 1], 20),
-        (ThieleRule::Pav, 32, &[3, 2], 40),
-    ];
-    for (rule, size, votes, seats) in cases {
-        assert_ends(&rt, rt.alloc(), rule, Lists { size, votes, seats });
+    for (rule, size, votes, seats) in &LARGE {
+        let lists = Lists {
+            size: *size,
+            votes: *votes,
+            seats: *seats,
+        };
+        assert_ends(&rt, rt.alloc(), *rule, lists);
     }
 }
 
@@ -318,27 +349,40 @@ impl<'a, S: Searchable> Searchable for Searched<'a, S> {
 const MANY_SEARCHES: u64 = 500;
 
 /// Asserts that the first 1,000 winners ask for few searches. No clause says so.
+fn assert_few<S: Searchable>(rt: &impl Abort, search: &S, k: u8)
+    requires some { 1 ≤ k }
+    requires fits { k ≤ S.candidates search.now }
+{
+    let cell = Cell::new(0);
+    let searches = &cell;
+    let searched = Searched { search, searches };
+    assert_first_thousand(rt, searched, k);
+    let count = searches.get();
+    assert!(rt; count < MANY_SEARCHES, "{count} searches");
+}
+
+/// Asserts the same of an election of parties.
 fn assert_few_searches(rt: &impl Abort, alloc: Global, lists: Lists<'_>) {
     let profile = lists.election(rt, alloc);
     let k = fitting(lists.seats, profile.m());
-    let search = ThieleSearch::new(alloc, &profile, ThieleRule::Geom3, k).expect(rt, "memory");
-    let searches = Cell::new(0);
-    let searched = Searched {
-        search: &search,
-        searches: &searches,
-    };
-    assert_thousand(rt, &ExactTally::new(searched, k), k, None);
-    assert!(rt;
-        searches.get() < MANY_SEARCHES,
-        "{} searches",
-        searches.get()
-    );
+    let search = search_of(rt, alloc, &profile, ThieleRule::Geom3, k);
+    assert_few(rt, &search, k);
 }
+
+/// The candidates of each party, the voters of each, and the seats.
+static SEARCHED: [(u8, &[u64], u8); 2] = [
+    (12, &[53, 24, 23, 11, 7], 20),
+    (16, &[9, 60, 1, 20], 30),
+];
 
 #[test]
 fn party_lists_ask_for_few_searches(rt: HostRuntime) {
-    let cases: [(u8, &[u64], u8); 2] = [(12, &[53, 24, 23, 11, 7], 20), (16, &[9, 60, 1, 20], 30)];
-    for (size, votes, seats) in cases {
-        assert_few_searches(&rt, rt.alloc(), Lists { size, votes, seats });
+    for (size, votes, seats) in &SEARCHED {
+        let lists = Lists {
+            size: *size,
+            votes: *votes,
+            seats: *seats,
+        };
+        assert_few_searches(&rt, rt.alloc(), lists);
     }
 }

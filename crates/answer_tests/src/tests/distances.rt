@@ -1,6 +1,9 @@
 //! Winners by search against a walk with plain bounds.
+ghost use Rattle.std.specs.Prelude.{◌≤◌};
+
 use super::support::{Draw, assert_searched, election_of, random_ballots};
 use ballot_base::Profile;
+use std::alloc::Global;
 use std::process::Abort;
 use tie_search::MinimaxSearch;
 use tie_walk::MinimaxTally;
@@ -17,15 +20,24 @@ fn assert_all_sizes(rt: &impl Abort, profile: &Profile) {
     }
 }
 
+/// Asserts the same of an election of m candidates and `more` more ballots than that.
+fn assert_drawn(rt: &impl Abort, alloc: Global, draw: Draw, m: u8, more: u8)
+    requires some { 1 ≤ m }
+    requires few { m ≤ 8 }
+    requires more { more ≤ 8 }
+{
+    let count = m + more;
+    let seed = u64::from(m) << 8 | u64::from(count);
+    let ballots = random_ballots(draw, seed, usize::from(count), 1);
+    assert_all_sizes(rt, &election_of(rt, alloc, m, &ballots));
+}
+
 #[test]
 fn the_same_winners(rt: HostRuntime) {
-    for draw in [Draw::Few, Draw::Many, Draw::Neighbours, Draw::Alike] {
+    for draw in &[Draw::Few, Draw::Many, Draw::Neighbours, Draw::Alike] {
         for m in 4..9 {
             for more in 1..7 {
-                let count = m + more;
-                let seed = u64::from(m) << 8 | u64::from(count);
-                let ballots = random_ballots(draw, seed, usize::from(count), 1);
-                assert_all_sizes(&rt, &election_of(&rt, rt.alloc(), m, &ballots));
+                assert_drawn(&rt, rt.alloc(), *draw, m, more);
             }
         }
     }

@@ -2,6 +2,7 @@
 ghost use Rattle.std.specs.Prelude.{◌≡◌, ◌≤◌};
 ghost use Rattle.ballot_base.specs.Limits.{most_candidates};
 ghost use Rattle.ballot_base.specs.Lists.{IsIncreasing};
+ghost use Rattle.tie_families.specs.Families.{sequential_of};
 ghost use Rattle.tie_walk.specs.Winners.{IsStart};
 
 use super::support::{ballot_of, election_of, next_word};
@@ -10,6 +11,21 @@ use std::alloc::Global;
 use std::process::Abort;
 use tie_families::{Families, FamilyWinners};
 use tie_walk::{SeqRule, SeqWinners};
+
+/// The families of committees of k under a rule.
+fn families_of<'a>(
+    rt: &impl Abort,
+    alloc: Global,
+    profile: &'a Profile,
+    rule: SeqRule,
+    k: u8,
+) -> Families<'a>
+    requires some { 1 ≤ k }
+    requires fits { k ≤ profile.now.m }
+    ensures { result ≡ sequential_of profile.now rule k }
+{
+    Families::new(alloc, profile, rule, k).expect(rt, "families")
+}
 
 /// Asserts that both find the same winners, those later than the start or all of them.
 fn assert_same(
@@ -24,7 +40,7 @@ fn assert_same(
     requires fits { k ≤ profile.now.m }
     requires start { IsStart profile.now.m k start }
 {
-    let families = Families::new(alloc, profile, rule, k).expect(rt, "families");
+    let families = families_of(rt, alloc, profile, rule, k);
     let wanted = SeqWinners::new(alloc, profile, rule, k, start).expect(rt, "levels");
     let found = FamilyWinners::new(&families, start);
     assert!(rt; found.eq(wanted), "{rule:?}: {k} after {start:?}");
@@ -32,9 +48,9 @@ fn assert_same(
 
 /// Asserts that both find the same winners of each rule and size.
 fn assert_all(rt: &impl Abort, alloc: Global, profile: &Profile) {
-    for rule in SeqRule::ALL {
+    for rule in &SeqRule::ALL {
         for k in 1..profile.m() + 1 {
-            assert_same(rt, alloc, profile, rule, k, None);
+            assert_same(rt, alloc, profile, *rule, k, None);
         }
     }
 }
@@ -66,16 +82,28 @@ fn ballots_of_kinds(kinds: u8, seed: u64) -> [(u64, u64); 3]
     ballots
 }
 
+/// Asserts the same of elections of m candidates with this many kinds of ballots.
+fn assert_kinds(rt: &impl Abort, alloc: Global, m: u8, kinds: u8)
+    requires some { 1 ≤ m }
+    requires most { m ≤ most_candidates }
+    requires kinds { 1 ≤ kinds }
+    requires few { kinds ≤ 64 }
+{
+    for seed in 1..5 {
+        let profile = election_of(rt, alloc, m, &ballots_of_kinds(kinds, seed));
+        assert_all(rt, alloc, &profile);
+    }
+}
+
 #[test]
 fn the_same_winners(rt: HostRuntime) {
     let alloc = rt.alloc();
     for m in 1..8 {
-        for kinds in [1, 2, 3, 5, 8] {
-            for seed in 1..5 {
-                let profile = election_of(&rt, alloc, m, &ballots_of_kinds(kinds, seed));
-                assert_all(&rt, alloc, &profile);
-            }
-        }
+        assert_kinds(&rt, alloc, m, 1);
+        assert_kinds(&rt, alloc, m, 2);
+        assert_kinds(&rt, alloc, m, 3);
+        assert_kinds(&rt, alloc, m, 5);
+        assert_kinds(&rt, alloc, m, 8);
     }
 }
 
@@ -127,8 +155,8 @@ fn assert_same_after(rt: &impl Abort, alloc: Global, profile: &Profile, start: C
 {
     let k = start.len();
     if 1 <= k && k <= profile.m() {
-        for rule in SeqRule::ALL {
-            assert_same(rt, alloc, profile, rule, k, Some(start));
+        for rule in &SeqRule::ALL {
+            assert_same(rt, alloc, profile, *rule, k, Some(start));
         }
     }
 }
@@ -167,8 +195,8 @@ fn assert_first(rt: &impl Abort, alloc: Global, profile: &Profile, k: u8, count:
     requires some { 1 ≤ k }
     requires fits { k ≤ profile.now.m }
 {
-    for rule in SeqRule::ALL {
-        let families = Families::new(alloc, profile, rule, k).expect(rt, "families");
+    for rule in &SeqRule::ALL {
+        let families = families_of(rt, alloc, profile, *rule, k);
         let first = KSets::new(profile.m(), k).take(count);
         assert!(rt;
             FamilyWinners::new(&families, None).take(count).eq(first),
@@ -177,21 +205,26 @@ fn assert_first(rt: &impl Abort, alloc: Global, profile: &Profile, k: u8, count:
     }
 }
 
+/// Asserts that the first 1,000 committees of 20 win if each of 40 candidates has a voter.
+fn assert_first_of_each(rt: &impl Abort, alloc: Global) {
+    let each = a_voter_each(rt, alloc, 40);
+    assert_first(rt, alloc, &each, 20, 1000);
+}
+
 /// All committees win where one voter approves the first of 64 candidates, and where each of 40 has a voter.
 #[test]
 fn first_of_many_winners(rt: HostRuntime) {
     let alloc = rt.alloc();
     let single = election_of(&rt, alloc, MOST_CANDIDATES, &[(1, 1)]);
     assert_first(&rt, alloc, &single, 40, 2);
-    let each = a_voter_each(&rt, alloc, 40);
-    assert_first(&rt, alloc, &each, 20, 1000);
+    assert_first_of_each(&rt, alloc);
 }
 
 /// How many committees of six win, 40,000 at most.
 fn winners_of_six(rt: &impl Abort, alloc: Global, profile: &Profile, rule: SeqRule) -> usize
     requires { 6 ≤ profile.now.m }
 {
-    let families = Families::new(alloc, profile, rule, 6).expect(rt, "families");
+    let families = families_of(rt, alloc, profile, rule, 6);
     FamilyWinners::new(&families, None).take(40_000).count()
 }
 
@@ -200,9 +233,9 @@ fn winners_of_six(rt: &impl Abort, alloc: Global, profile: &Profile, rule: SeqRu
 fn many_winners_are_counted(rt: HostRuntime) {
     let alloc = rt.alloc();
     let profile = a_voter_each(&rt, alloc, 20);
-    for rule in SeqRule::ALL {
+    for rule in &SeqRule::ALL {
         assert!(rt;
-            winners_of_six(&rt, alloc, &profile, rule) == 38_760,
+            winners_of_six(&rt, alloc, &profile, *rule) == 38_760,
             "{rule:?}"
         );
     }

@@ -45,8 +45,8 @@ static KINDS: [(u64, u64, u64, [u8; 5]); 10] = [
 /// An election, as a number: the ballots of its kind, then the first clones, and the seed.
 fn named(kind: &Kind, seed: u64) -> u64 {
     let mut name = kind.ballots;
-    for first in kind.firsts {
-        name = name.saturating_mul(10).saturating_add(u64::from(first));
+    for first in &kind.firsts {
+        name = name.saturating_mul(10).saturating_add(u64::from(*first));
     }
     name.saturating_mul(100).saturating_add(seed)
 }
@@ -102,6 +102,14 @@ struct Group {
 }
 
 impl Group {
+    /// Adds voters of a ballot.
+    fn add(&mut self, committee: CandSet, ballot: CandSet, voters: u64) {
+        self.voters = self.voters.saturating_add(voters);
+        self.common = self.common.common(ballot);
+        self.missed = self.missed.minus(ballot);
+        self.most_hits = self.most_hits.max(ballot.common(committee).len());
+    }
+
     /// Whether the group breaks the property at this level, of `all` voters, by its definition.
     fn breaks(&self, committee: CandSet, all: u64, property: Property, level: u8) -> bool {
         let size = u64::from(committee.len());
@@ -128,6 +136,14 @@ enum Members<'a> {
     Numbered(u64),
 }
 
+/// How many of the voters of a ballot are members; a number tells it by its digit at this place value.
+fn voters_of(members: Members<'_>, ballot: CandSet, count: u64, divisor: u64) -> u64 {
+    match members {
+        Members::Reported(report) => if report.contains(ballot) { count } else { 0 },
+        Members::Numbered(number) => number / divisor.max(1) % count.saturating_add(1),
+    }
+}
+
 /// The group of these voters.
 fn group_of(profile: &Profile, committee: CandSet, members: Members<'_>) -> Group {
     let mut group = Group {
@@ -138,17 +154,10 @@ fn group_of(profile: &Profile, committee: CandSet, members: Members<'_>) -> Grou
     };
     let mut divisor = 1u64;
     for (ballot, count) in profile.ballots() {
-        let base = count.saturating_add(1);
-        let voters = match members {
-            Members::Reported(report) => if report.contains(ballot) { count } else { 0 },
-            Members::Numbered(number) => number / divisor.max(1) % base,
-        };
-        divisor = divisor.saturating_mul(base);
+        let voters = voters_of(members, ballot, count, divisor);
+        divisor = divisor.saturating_mul(count.saturating_add(1));
         if voters > 0 {
-            group.voters = group.voters.saturating_add(voters);
-            group.common = group.common.common(ballot);
-            group.missed = group.missed.minus(ballot);
-            group.most_hits = group.most_hits.max(ballot.common(committee).len());
+            group.add(committee, ballot, voters);
         }
     }
     group
@@ -284,8 +293,8 @@ fn count_violated(rt: &impl Abort, profile: &Profile, election: u64) -> u64 {
     let mut violated = 0u64;
     for bits in 1..32 {
         let committee = chosen(bits << 1);
-        for property in Property::ALL {
-            let is_violated = is_violated(rt, profile, committee, property, election);
+        for property in &Property::ALL {
+            let is_violated = is_violated(rt, profile, committee, *property, election);
             violated = violated.saturating_add(u64::from(is_violated));
         }
     }
@@ -330,9 +339,9 @@ fn large_election(rt: &impl Abort, alloc: Global, voters: u8, alike: CandSet) ->
 /// nothing else.
 fn assert_lacks(rt: &impl Abort, alloc: Global, voters: u8, alike: CandSet, is_violated: bool) {
     let profile = large_election(rt, alloc, voters, alike);
-    for property in Property::ALL {
-        let is_found = violation(rt, &profile, CandSet::all(20), property).is_some();
-        let is_due = is_violated && matches!(property, Property::Ejr | Property::EjrPlus);
+    for property in &Property::ALL {
+        let is_found = violation(rt, &profile, CandSet::all(20), *property).is_some();
+        let is_due = is_violated && matches!(*property, Property::Ejr | Property::EjrPlus);
         assert!(rt; is_found == is_due, "{is_violated} {}", property.name());
     }
 }
@@ -348,9 +357,9 @@ fn many_lists(rt: HostRuntime) {
 /// The candidates of these spans, each from its first to its last.
 fn spanned(spans: &[(u8, u8)]) -> CandSet {
     let mut all = CandSet::empty();
-    for (first, last) in spans.iter().copied() {
-        let last = last.min(MOST_CANDIDATES);
-        let before = first.saturating_sub(1).min(last);
+    for (first, last) in spans {
+        let last = (*last).min(MOST_CANDIDATES);
+        let before = (*first).saturating_sub(1).min(last);
         all = all.union(CandSet::after(before, last));
     }
     all
@@ -413,16 +422,16 @@ fn clones_beside_blocks(rt: HostRuntime) {
 
 /// Asserts that all three voters lack EJR+ at level 26 by candidate 1, and that the committee has all else.
 fn assert_lacks_only(rt: &impl Abort, profile: &Profile, committee: CandSet) {
-    for property in Property::ALL {
-        let due = (property == Property::EjrPlus).then_some(Violation {
-            property,
+    for property in &Property::ALL {
+        let due = (*property == Property::EjrPlus).then_some(Violation {
+            property: *property,
             committee,
             level: 26,
             shared: CandSet::all(1),
             within: CandSet::empty(),
             voters: 3,
         });
-        let found = violation(rt, profile, committee, property);
+        let found = violation(rt, profile, committee, *property);
         assert!(rt; found == due, "{}", property.name());
     }
 }

@@ -2,11 +2,11 @@
 //! ceilings too.
 ghost use Rattle.std.specs.Prelude.{◌≤◌};
 
-use super::support::election_of;
+use super::support::{assert_of, election_of, search_of};
 use ballot_base::{MOST_CANDIDATES, Profile, ThieleRule};
 use std::alloc::Global;
 use std::process::Abort;
-use tie_search::{ExactTally, MinimaxSearch, ThieleSearch};
+use tie_search::{ExactTally, MinimaxSearch, Searchable};
 use tie_walk::{Tally, Winners};
 
 /// The size of the committees.
@@ -83,10 +83,15 @@ fn assert_known<T: Tally>(rt: &impl Abort, tally: &T, best: u128, winners: usize
     let found = Winners::new(tally, tally.m(), SIZE, None);
     let greatest = found.best();
     let count = found.take(MOST_COUNTED).count();
-    assert!(rt;
-        greatest == best && count == winners,
-        "{count} of value {greatest}"
-    );
+    let is_known = greatest == best && count == winners;
+    assert_of(rt, is_known, "winners, value", count as u128, greatest);
+}
+
+/// Asserts the same of a search.
+fn assert_search<S: Searchable + Drop>(rt: &impl Abort, search: S, best: u128, winners: usize)
+    requires { SIZE ≤ S.candidates search }
+{
+    assert_known(rt, &ExactTally::new(search, SIZE), best, winners);
 }
 
 const RULES: [ThieleRule; 5] = [
@@ -107,8 +112,8 @@ fn assert_rule(
 )
     requires { SIZE ≤ profile.now.m }
 {
-    let search = ThieleSearch::new(alloc, profile, rule, SIZE).expect(rt, "memory");
-    assert_known(rt, &ExactTally::new(search, SIZE), known.0, known.1);
+    let search = search_of(rt, alloc, profile, rule, SIZE);
+    assert_search(rt, search, known.0, known.1);
 }
 
 /// Asserts the same under each of the rules.
@@ -177,8 +182,7 @@ fn assert_minimax(rt: &impl Abort, profile: &Profile, distance: u8, winners: usi
     requires { SIZE ≤ profile.now.m }
 {
     let best = u128::from(profile.m().saturating_sub(distance));
-    let tally = ExactTally::new(MinimaxSearch::new(profile), SIZE);
-    assert_known(rt, &tally, best, winners);
+    assert_search(rt, MinimaxSearch::new(profile), best, winners);
 }
 
 /// A draw, the candidates, the least greatest distance, and how many committees have it.

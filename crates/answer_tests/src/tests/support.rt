@@ -1,15 +1,27 @@
 //! Ballots, elections and a comparison of more than one file of tests.
 ghost use Rattle.std.specs.Prelude.{Some, ◌≡◌, ◌≤◌};
-ghost use Rattle.ballot_base.specs.Limits.{most_candidates};
+ghost use Rattle.ballot_base.specs.Limits.{most_candidates, most_members};
 ghost use Rattle.ballot_base.specs.Lists.{IsIncreasing};
+ghost use Rattle.tie_walk.specs.Values.{thiele_of};
 ghost use Rattle.tie_walk.specs.Winners.{IsStart};
 
-use ballot_base::{CandSet, Profile, ProfileBuilder};
+use ballot_base::{CandSet, Profile, ProfileBuilder, ThieleRule};
 use std::alloc::Global;
 use std::cell::Cell;
 use std::process::Abort;
-use tie_search::{ExactTally, Searchable};
+use tie_search::{ExactTally, Searchable, ThieleSearch};
 use tie_walk::{Tally, Winners};
+
+/// Asserts something about two numbers, and shows both if it fails. One message serves many tests, since each message of
+/// its own takes seconds to prove.
+pub(super) fn assert_of(rt: &impl Abort, is_right: bool, what: &str, first: u128, second: u128) {
+    assert!(rt; is_right, "{what}: {first}, {second}");
+}
+
+/// Asserts something about the committees of k of m candidates that come after a start, or about all of them.
+pub(super) fn assert_after(rt: &impl Abort, is_right: bool, k: u8, m: u8, start: &Option<CandSet>) {
+    assert!(rt; is_right, "{k} of {m} after {start:?}");
+}
 
 /// The candidates 1 to m whose bit of the word is 1.
 pub(super) fn ballot_of(m: u8, word: u64) -> CandSet
@@ -110,6 +122,22 @@ pub(super) fn first_committee(m: u8, k: u8) -> CandSet
     CandSet::all(k)
 }
 
+/// A search for committees of k under a rule.
+pub(super) fn search_of<'a>(
+    rt: &impl Abort,
+    alloc: Global,
+    profile: &'a Profile,
+    rule: ThieleRule,
+    k: u8,
+) -> ThieleSearch<'a>
+    requires some { 1 ≤ k }
+    requires size { k ≤ most_members }
+    requires fits { k ≤ profile.now.m }
+    ensures { result ≡ thiele_of profile.now rule k }
+{
+    ThieleSearch::new(alloc, profile, rule, k).expect(rt, "memory")
+}
+
 /// Asserts that two tallies have the same winners, those later than the start or all of them.
 pub(super) fn assert_same_winners<P: Tally, S: Tally>(
     rt: &impl Abort,
@@ -127,7 +155,7 @@ pub(super) fn assert_same_winners<P: Tally, S: Tally>(
     let wanted = Winners::new(plain, m, k, start);
     let found = Winners::new(searched, m, k, start);
     let is_best = found.best() == wanted.best();
-    assert!(rt; is_best && found.eq(wanted), "{k} of {m} after {start:?}");
+    assert_after(rt, is_best && found.eq(wanted), k, m, &start);
 }
 
 /// Asserts that the search begins with a winner, and that it and the walk with plain bounds find the same winners, all

@@ -44,6 +44,18 @@ fn assert_after<T: Tally>(rt: &impl Abort, tally: &T, start: &[u8], lists: &[&[u
     assert_left(rt, &mut winners, lists);
 }
 
+/// Asserts the same of an election.
+fn assert_covering(rt: &impl Abort, profile: &Profile, start: &[u8], lists: &[&[u8]])
+    requires { profile.now.m ≡ most_candidates }
+{
+    assert_after(
+        rt,
+        &ThieleTally::new(profile, ThieleRule::Cc, 2),
+        start,
+        lists,
+    );
+}
+
 /// Asserts the same of the sequential rule.
 fn assert_sequential(
     rt: &impl Abort,
@@ -77,23 +89,27 @@ static STARTS: [(&[u8], &[&[u8]]); 5] = [
 #[test]
 fn winners_after_a_start(rt: HostRuntime) {
     let profile = election_of(&rt, rt.alloc(), MOST_CANDIDATES, &TWO_PAIRS);
-    let tally = ThieleTally::new(&profile, ThieleRule::Cc, 2);
-    for (start, lists) in STARTS {
-        assert_after(&rt, &tally, start, lists);
+    for (start, lists) in &STARTS {
+        assert_covering(&rt, &profile, start, lists);
         assert_sequential(&rt, rt.alloc(), &profile, start, lists);
     }
 }
 
+/// Asserts that only the first 63 candidates win by the reverse sequential rule.
+fn assert_first_63(rt: &impl Abort, alloc: Global, profile: &Profile)
+    requires { profile.now.m ≡ most_candidates }
+{
+    let winners = SeqWinners::new(alloc, profile, SeqRule::RevSeqPav, 63, None);
+    let mut left = winners.expect(rt, "levels");
+    let is_only = left.next() == Some(CandSet::all(63)) && left.next().is_none();
+    assert!(rt; is_only, "the first 63 win");
+}
+
+const ALL_HITS: [(u64, u64); 2] = [(u64::MAX, 1), (u64::MAX >> 1, 1)];
+
 /// Of 64 candidates, one voter approves all, and one all but the last: the last hit of each counts.
 #[test]
 fn the_last_of_64_hits(rt: HostRuntime) {
-    let alloc = rt.alloc();
-    let ballots = [(u64::MAX, 1), (u64::MAX >> 1, 1)];
-    let profile = election_of(&rt, alloc, MOST_CANDIDATES, &ballots);
-    let size = MOST_CANDIDATES - 1;
-    let mut left = SeqWinners::new(alloc, &profile, SeqRule::RevSeqPav, size, None).expect(
-        &rt, "levels",
-    );
-    let is_only = left.next() == Some(CandSet::all(size)) && left.next().is_none();
-    assert!(rt; is_only, "the first 63 win");
+    let profile = election_of(&rt, rt.alloc(), MOST_CANDIDATES, &ALL_HITS);
+    assert_first_63(&rt, rt.alloc(), &profile);
 }

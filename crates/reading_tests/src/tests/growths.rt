@@ -55,6 +55,14 @@ fn fault_at(alloc: Global, pick: Pick, file: &[u8], refused: u64) -> (Option<Rea
     (fault, has_refused(&heap))
 }
 
+/// The line of a fault, if there is one, and whether it is out of memory.
+fn line_of(fault: Option<ReadFault>, last: u64) -> (u64, bool) {
+    match fault {
+        Some(ReadFault { name, line }) => (line.unwrap_or(0), name == FaultName::Memory),
+        None => (last, false),
+    }
+}
+
 /// How many growths of a reading are refused, where each is refused at one of these lines, the later ones at no earlier
 /// line, and the file is read where none is; or the number of another growth, and its fault.
 fn count_growths(
@@ -69,10 +77,7 @@ fn count_growths(
     let mut growths = 0;
     for n in 1..=MANY {
         let (fault, is_refused) = fault_at(alloc, pick, file, n);
-        let (line, is_memory) = match fault {
-            Some(ReadFault { name, line }) => (line.unwrap_or(0), name == FaultName::Memory),
-            None => (last, false),
-        };
+        let (line, is_memory) = line_of(fault, last);
         let is_due = is_memory && growing.contains(&line) && last <= line;
         if is_refused != is_due || is_refused != fault.is_some() {
             return Err((n, fault));

@@ -5,7 +5,7 @@ ghost use Rattle.preflib_text.specs.Approvals.{HasNumber};
 use super::pieces::FILES;
 use super::support::{assert_outcome, in_pieces, outcome, reading_as};
 use preflib_text::{Pick, read_profile};
-use std::alloc::{AllocError, Global};
+use std::alloc::Global;
 use std::process::Abort;
 
 /// How many changed files are read.
@@ -35,65 +35,61 @@ impl Numbers {
 
 /// The file with a change of its bytes at some place: one bit turned, another byte there, a byte more, a byte less, or
 /// the end cut off.
-fn with_other_bytes(
-    alloc: Global,
-    file: &[u8],
-    numbers: &mut Numbers,
-) -> Result<Vec<u8>, AllocError> {
+fn with_other_bytes(rt: &impl Abort, alloc: Global, file: &[u8], numbers: &mut Numbers) -> Vec<u8> {
     let (before, after) = file.split_at(numbers.below(file.len().max(1)));
     let byte = numbers.below(256) as u8;
     let Some((first, rest)) = after.split_first() else {
-        return [before, &[byte]].concat(alloc);
+        return joined(rt, alloc, before, &[byte], &[]);
     };
     match numbers.below(5) {
-        0 => [before, &[*first ^ 1 << (byte % 8)], rest].concat(alloc),
-        1 => [before, &[byte], rest].concat(alloc),
-        2 => [before, &[byte, *first], rest].concat(alloc),
-        3 => [before, rest].concat(alloc),
-        _ => Vec::from_slice(alloc, before),
+        0 => joined(rt, alloc, before, &[*first ^ 1 << (byte % 8)], rest),
+        1 => joined(rt, alloc, before, &[byte], rest),
+        2 => joined(rt, alloc, before, &[byte, *first], rest),
+        3 => joined(rt, alloc, before, &[], rest),
+        _ => joined(rt, alloc, before, &[], &[]),
     }
 }
 
+/// Three parts of a file, one after the other.
+fn joined(rt: &impl Abort, alloc: Global, front: &[u8], middle: &[u8], back: &[u8]) -> Vec<u8> {
+    [front, middle, back].concat(alloc).expect(rt, "memory")
+}
+
 /// Adds a line with its end.
-fn push_line(text: &mut Vec<u8>, line: &[u8]) -> Result<(), AllocError> {
-    text.extend_from_slice(line)?;
-    text.push(b'\n')?;
-    Ok(())
+fn push_line(rt: &impl Abort, text: &mut Vec<u8>, line: &[u8]) {
+    text.extend_from_slice(line).expect(rt, "memory");
+    text.push(b'\n').expect(rt, "memory");
 }
 
 /// The file with one line twice, or joined to the next one.
-fn with_other_lines(
-    alloc: Global,
-    file: &[u8],
-    numbers: &mut Numbers,
-) -> Result<Vec<u8>, AllocError> {
+fn with_other_lines(rt: &impl Abort, alloc: Global, file: &[u8], numbers: &mut Numbers) -> Vec<u8> {
     let chosen = numbers.below(10);
     let is_joined = numbers.below(2) == 0;
     let mut changed = Vec::new(alloc);
     for (i, line) in file.split(|byte| *byte == b'\n').enumerate() {
         if i == chosen && is_joined {
-            changed.extend_from_slice(line)?;
+            changed.extend_from_slice(line).expect(rt, "memory");
             continue;
         }
-        push_line(&mut changed, line)?;
+        push_line(rt, &mut changed, line);
         if i == chosen {
-            push_line(&mut changed, line)?;
+            push_line(rt, &mut changed, line);
         }
     }
-    Ok(changed)
+    changed
 }
 
 /// The file with a few changes.
-fn mutant(alloc: Global, file: &[u8], numbers: &mut Numbers) -> Result<Vec<u8>, AllocError> {
-    let mut changed = Vec::from_slice(alloc, file)?;
+fn mutant(rt: &impl Abort, alloc: Global, file: &[u8], numbers: &mut Numbers) -> Vec<u8> {
+    let mut changed = joined(rt, alloc, file, &[], &[]);
     for _ in 0..numbers.below(MOST_CHANGES) + 1 {
         changed = if numbers.below(4) == 0 {
-            with_other_lines(alloc, changed.as_slice(), numbers)?
+            with_other_lines(rt, alloc, changed.as_slice(), numbers)
         } else {
-            with_other_bytes(alloc, changed.as_slice(), numbers)?
+            with_other_bytes(rt, alloc, changed.as_slice(), numbers)
         };
     }
-    Ok(changed)
+    changed
 }
 
 /// Whether a file holds a profile. It has one outcome, as a whole and in pieces of this size.
@@ -108,6 +104,16 @@ fn is_profile(rt: &impl Abort, alloc: Global, pick: Pick, file: &[u8], size: usi
     is_profile
 }
 
+/// Whether the next changed file holds a profile. It has one outcome.
+fn is_next_profile(rt: &impl Abort, alloc: Global, pick: Pick, numbers: &mut Numbers) -> bool
+    requires { HasNumber pick.way }
+{
+    let file = FILES[numbers.below(FILES.len())].0;
+    let changed = mutant(rt, alloc, file, numbers);
+    let size = numbers.below(20) + 1;
+    is_profile(rt, alloc, pick, &changed, size)
+}
+
 /// Each changed file has one outcome. Some changes leave a profile, and some a fault.
 #[test]
 fn one_outcome_each(rt: HostRuntime) {
@@ -116,10 +122,7 @@ fn one_outcome_each(rt: HostRuntime) {
     let mut numbers = Numbers { state: 20_261_123 };
     let mut profiles = 0u32;
     for _ in 0..MUTANTS {
-        let file = FILES[numbers.below(FILES.len())].0;
-        let changed = mutant(alloc, file, &mut numbers).expect(&rt, "a changed file");
-        let size = numbers.below(20) + 1;
-        let is_profile = is_profile(&rt, alloc, pick, &changed, size);
+        let is_profile = is_next_profile(&rt, alloc, pick, &mut numbers);
         profiles = profiles.saturating_add(u32::from(is_profile));
     }
     assert!(rt;

@@ -10,8 +10,11 @@ use std::alloc::Global;
 use std::fmt;
 use std::process::Abort;
 
+/// A file, and what it holds.
+type File = (&'static [u8], &'static str);
+
 /// A file of each type, with names, blank lines and ends of all kinds, and what it holds.
-pub(super) static FILES: [(&[u8], &str); 5] = [
+pub(super) static FILES: [File; 5] = [
     (
         b"\xEF\xBB\xBF# DATA TYPE: cat\r\n# NUMBER ALTERNATIVES: 3\n# NUMBER CATEGORIES: 2\r\n2: {1,2},3\n1: 3\r",
         "3\n2: 1,2\n1: 3",
@@ -34,15 +37,24 @@ pub(super) static FILES: [(&[u8], &str); 5] = [
     ),
 ];
 
+/// Asserts what a file holds that is cut before the bytes of two numbers.
+fn assert_three(rt: &impl Abort, alloc: Global, pick: Pick, row: File, cuts: (usize, usize))
+    requires { HasNumber pick.way }
+{
+    let (file, held) = row;
+    let (first, second) = cuts;
+    let size = second.saturating_sub(first);
+    let read = in_pieces(alloc, pick, file, first, size, file.len());
+    assert_outcome(rt, alloc, read, held, file, first as u64);
+}
+
 #[test]
 fn three_pieces(rt: HostRuntime) {
     let pick = reading_as(&rt, rt.alloc(), "");
-    for (file, held) in &FILES {
-        let length = file.len();
-        for second in 0..=length {
+    for row in &FILES {
+        for second in 0..=row.0.len() {
             for first in 0..=second {
-                let read = in_pieces(rt.alloc(), pick, file, first, second - first, length);
-                assert_outcome(&rt, rt.alloc(), read, held, file, first as u64);
+                assert_three(&rt, rt.alloc(), pick, *row, (first, second));
             }
         }
     }
@@ -64,6 +76,12 @@ fn feed(rt: &impl Abort, text: &mut String, reader: &mut LineReader<&Refusing>, 
     }
 }
 
+/// Adds what comes of a file whose pieces were fed.
+fn push_end(rt: &impl Abort, alloc: Global, text: &mut String, reader: LineReader<&Refusing>) {
+    let read = outcome(rt, alloc, reader.finish());
+    text.push_str(read.as_str()).expect(rt, "memory");
+}
+
 /// What comes of the pieces of a file that is cut before the bytes of these numbers, and of the file.
 fn told_of(
     rt: &impl Abort,
@@ -79,13 +97,12 @@ fn told_of(
     let mut reader = LineReader::new(heap, pick).expect(rt, "a reader");
     let mut text = String::new(alloc);
     let mut rest = file;
-    for size in [first, second.saturating_sub(first), file.len()] {
-        let (piece, after) = rest.split_at(rest.len().min(size));
+    for size in &[first, second.saturating_sub(first), file.len()] {
+        let (piece, after) = rest.split_at(rest.len().min(*size));
         feed(rt, &mut text, &mut reader, piece);
         rest = after;
     }
-    let read = outcome(rt, alloc, reader.finish());
-    text.push_str(read.as_str()).expect(rt, "memory");
+    push_end(rt, alloc, &mut text, reader);
     text
 }
 
@@ -244,17 +261,24 @@ fn beginnings_of_a_file(rt: HostRuntime) {
     }
 }
 
+/// Asserts that a file of 2,000,000 bytes is read whose lines take no memory.
+fn assert_without_memory(rt: &impl Abort, alloc: Global, pick: Pick, file: &[u8])
+    requires { HasNumber pick.way }
+{
+    let heap = Refusing::new(alloc, 3);
+    // Each line has seven bytes: after one byte, a million and two million bytes, 1, 1 and 2 bytes are held.
+    let told = told_of(rt, alloc, &heap, pick, file, 1, 1_000_000);
+    assert!(rt; file.len() == 2_000_000 && heap.left.get() == 1);
+    assert!(rt; told.as_str() == "1; 1; 2; NoAlternatives", "{told}");
+}
+
 /// Lines that tell nothing take no memory, however many they are: of a reader's growths, all but those of `new` are
 /// still to come.
 #[test]
 fn many_lines_without_memory(rt: HostRuntime) {
-    let alloc = rt.alloc();
-    let pick = reading_as(&rt, alloc, "");
-    let lines = "# X: y\n".repeat(alloc, 285_715).expect(&rt, "memory");
+    let pick = reading_as(&rt, rt.alloc(), "");
+    let lines = "# X: y\n".repeat(rt.alloc(), 285_715);
+    let lines = lines.expect(&rt, "memory");
     let (file, _) = lines.as_bytes().split_at(lines.len().min(2_000_000));
-    let heap = Refusing::new(alloc, 3);
-    // Each line has seven bytes: after one byte, a million and two million bytes, 1, 1 and 2 bytes are held.
-    let told = told_of(&rt, alloc, &heap, pick, file, 1, 1_000_000);
-    assert!(rt; file.len() == 2_000_000 && heap.left.get() == 1);
-    assert!(rt; told.as_str() == "1; 1; 2; NoAlternatives", "{told}");
+    assert_without_memory(&rt, rt.alloc(), pick, file);
 }

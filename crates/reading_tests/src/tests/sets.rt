@@ -2,6 +2,7 @@
 use ballot_base::{
     CandSet, Increments, KSets, MOST_CANDIDATES, MOST_MEMBERS, ThieleRule, common_multiple,
 };
+use std::alloc::Global;
 use std::process::Abort;
 
 /// Lists, and how the set of each is shown.
@@ -15,16 +16,46 @@ static SETS: [(&[u8], &str); 7] = [
     (&[65], "None"),
 ];
 
+/// Asserts how the set of a list is shown.
+fn assert_shown(rt: &impl Abort, alloc: Global, list: &[u8], wanted: &str) {
+    let text = format!(in alloc; "{:?}", CandSet::of_list(list)).expect(rt, wanted);
+    assert!(rt; text.as_str() == wanted, "{list:?}: {text}");
+}
+
 #[test]
 fn sets_of_lists(rt: HostRuntime) {
     for (list, wanted) in &SETS {
-        let text = format!(in rt.alloc(); "{:?}", CandSet::of_list(list)).expect(&rt, wanted);
-        assert!(rt; text.as_str() == *wanted, "{list:?}: {text}");
+        assert_shown(&rt, rt.alloc(), list, wanted);
     }
 }
 
+/// Two sets in words: what either has, whether the first has all members of the second, and whether it comes before.
+fn told_of(rt: &impl Abort, alloc: Global, set: CandSet, other: CandSet) -> String {
+    let either = set.union(other);
+    let (is_superset, is_before) = (set.includes(other), set < other);
+    format!(in alloc; "{either:?} {is_superset} {is_before}").expect(rt, "memory")
+}
+
+/// Asserts how the set of the last three is shown.
+fn assert_last(rt: &impl Abort, alloc: Global) {
+    let last = CandSet::after(61, MOST_CANDIDATES);
+    let text = told_of(rt, alloc, last, last);
+    assert!(rt; text.as_str() == "{62, 63, 64} true false", "{text}");
+}
+
+/// Asserts what is found of the sets of two lists.
+fn assert_pair(rt: &impl Abort, alloc: Global, pair: Pair) {
+    let (list, others, wanted) = pair;
+    let set = CandSet::of_list(list).expect(rt, wanted);
+    let other = CandSet::of_list(others).expect(rt, wanted);
+    let text = told_of(rt, alloc, set, other);
+    assert!(rt; text.as_str() == wanted, "{list:?} {others:?}: {text}");
+}
+
 /// Lists of two sets, what either has, whether the first has all members of the second, and whether it comes before.
-static PAIRS: [(&[u8], &[u8], &str); 4] = [
+type Pair = (&'static [u8], &'static [u8], &'static str);
+
+static PAIRS: [Pair; 4] = [
     (&[1, 3], &[2, 3], "{1, 2, 3} false true"),
     (&[1, 2, 64], &[2, 64], "{1, 2, 64} true true"),
     (&[2], &[1, 2], "{1, 2} false false"),
@@ -33,20 +64,10 @@ static PAIRS: [(&[u8], &[u8], &str); 4] = [
 
 #[test]
 fn pairs_of_sets(rt: HostRuntime) {
-    for (list, others, wanted) in &PAIRS {
-        let set = CandSet::of_list(list).expect(&rt, wanted);
-        let other = CandSet::of_list(others).expect(&rt, wanted);
-        let either = set.union(other);
-        let is_superset = set.includes(other);
-        let is_before = set < other;
-        let text = format!(in rt.alloc(); "{either:?} {is_superset} {is_before}").expect(
-            &rt, wanted,
-        );
-        assert!(rt; text.as_str() == *wanted, "{list:?} {others:?}: {text}");
+    for pair in &PAIRS {
+        assert_pair(&rt, rt.alloc(), *pair);
     }
-    let last = CandSet::after(61, MOST_CANDIDATES);
-    let text = format!(in rt.alloc(); "{last:?}").expect(&rt, "the last three");
-    assert!(rt; text.as_str() == "{62, 63, 64}", "{text}");
+    assert_last(&rt, rt.alloc());
 }
 
 /// Asserts which sets come, one after the other.
@@ -101,6 +122,9 @@ fn first_increments(rt: HostRuntime) {
         let increments = Increments::of(*rule, (*size).clamp(1, MOST_MEMBERS));
         let (front, rest) = increments.w.split_at(first.len().min(40));
         let is_right = increments.denom == *denom && front == *first;
-        assert!(rt; is_right && rest.iter().all(|w| *w == 0), "{increments:?}");
+        assert!(rt;
+            is_right && rest == &[0; 40][first.len().min(40)..],
+            "{increments:?}"
+        );
     }
 }

@@ -4,7 +4,9 @@ ghost use Rattle.std.specs.Prelude.{◌≡◌, ◌≤◌};
 ghost use Rattle.ballot_base.specs.Limits.{most_candidates};
 ghost use Rattle.tie_walk.specs.Winners.{IsStart};
 
-use super::super::support::{Counting, Draw, ballot_of, committee_of, election_of, random_ballots};
+use super::super::support::{
+    Counting, Draw, assert_after, assert_of, ballot_of, committee_of, election_of, random_ballots,
+};
 use ballot_base::{CandSet, KSets, MOST_CANDIDATES, Profile, ThieleRule};
 use std::process::Abort;
 use tie_walk::{MinimaxTally, SavTally, Tally, ThieleTally, Winners};
@@ -18,10 +20,8 @@ fn assert_few_calls<T: Tally>(rt: &impl Abort, tally: &T)
     let is_only = winners.next() == Some(CandSet::all(20)) && winners.next().is_none();
     assert!(rt; is_only, "the first 20 win");
     let (entered, calls) = (winners.entered(), counting.calls());
-    assert!(rt;
-        entered == 41 && calls <= 10_000,
-        "{entered} prefixes, {calls} calls"
-    );
+    let is_few = entered == 41 && calls <= 10_000;
+    assert_of(rt, is_few, "prefixes, calls", entered, calls as u128);
 }
 
 /// Of 40 candidates a voter approves the first 20, who win 20 seats.
@@ -31,6 +31,14 @@ fn twenty_of_forty_in_few_calls(rt: HostRuntime) {
     assert_few_calls(&rt, &ThieleTally::new(&profile, ThieleRule::Av, 20));
 }
 
+/// Calls for a winner. Before, at least one prefix was entered, and at most this many.
+fn call_once<T: Tally>(rt: &impl Abort, winners: &mut Winners<T>, most: u128) {
+    let entered = winners.entered();
+    let is_within = entered >= 1 && entered <= most;
+    assert_of(rt, is_within, "prefixes, most", entered, most);
+    let _winner = winners.next();
+}
+
 /// How many prefixes a walk for two seats enters in four calls, where it enters at least one before them, and never
 /// more than these.
 fn entered_in_four<T: Tally>(rt: &impl Abort, tally: &T, start: Option<CandSet>, most: u128) -> u128
@@ -38,10 +46,8 @@ fn entered_in_four<T: Tally>(rt: &impl Abort, tally: &T, start: Option<CandSet>,
     requires start { IsStart 3 2 start }
 {
     let mut winners = Winners::new(tally, 3, 2, start);
-    for _ in 0..4 {
-        let entered = winners.entered();
-        assert!(rt; entered >= 1 && entered <= most, "{entered} of {most}");
-        let _winner = winners.next();
+    for _ in 0..4u8 {
+        call_once(rt, &mut winners, most);
     }
     winners.entered()
 }
@@ -54,10 +60,8 @@ fn entered_for_two_seats(rt: HostRuntime) {
     let start = committee_of(&rt, 3, 2, 0b101);
     let all = entered_in_four(&rt, &tally, None, 12);
     let later = entered_in_four(&rt, &tally, Some(start), 7);
-    assert!(rt;
-        all == 9 && later >= 4,
-        "{all} prefixes, {later} after 1 and 3"
-    );
+    let is_right = all == 9 && later >= 4;
+    assert_of(&rt, is_right, "prefixes, after 1 and 3", all, later);
 }
 
 /// Whether all beginnings of a prefix are open, whose members are the candidates 1 to c whose bit of the word is 1.
@@ -126,10 +130,7 @@ fn assert_live_from<T: Tally>(rt: &impl Abort, tally: &T, m: u8, k: u8, start: O
     let more = if start.is_some() { m } else { 0 };
     let most = live.saturating_add(u128::from(more));
     let entered = winners.entered();
-    assert!(rt;
-        live <= entered && entered <= most,
-        "{k} of {m} after {start:?}"
-    );
+    assert_after(rt, live <= entered && entered <= most, k, m, &start);
 }
 
 /// Asserts both, after each start.

@@ -1,20 +1,23 @@
 //! How many bounds the walk asks for from one winner to the next.
 ghost use Rattle.std.specs.Prelude.{◌≡◌, ◌*◌, ◌≤◌};
-ghost use Rattle.ballot_base.specs.Limits.{most_members};
+ghost use Rattle.ballot_base.specs.Limits.{most_candidates, most_members};
 ghost use Rattle.tie_walk.specs.Ceilings.{IsTight};
 ghost use Rattle.tie_walk.specs.Winners.{IsStart};
 
-use super::super::support::{Counting, committee_of, election_of};
+use super::super::support::{Counting, assert_of, committee_of, election_of};
 use ballot_base::{CandSet, MOST_CANDIDATES, Profile, ThieleRule};
 use std::process::Abort;
 use tie_walk::laws::short_waits;
 use tie_walk::{SavTally, Tally, ThieleTally, Winners};
 
-/// Asserts how many bounds were asked for before each call for a winner.
-fn assert_bounds<T: Tally>(rt: &impl Abort, winners: &mut Winners<T>, counts: &[u128]) {
+/// Asserts how many bounds were asked for before each call for a winner, for one seat and three candidates.
+fn assert_bounds<T: Tally>(rt: &impl Abort, tally: &T, counts: &[u128])
+    requires { T.candidates tally.now ≡ 3 }
+{
+    let mut winners = Winners::new(tally, 3, 1, None);
     for count in counts {
         let bounds = winners.ceilings();
-        assert!(rt; bounds == *count, "{bounds} bounds, not {count}");
+        assert_of(rt, bounds == *count, "bounds, due", bounds, *count);
         let _winner = winners.next();
     }
 }
@@ -25,7 +28,7 @@ fn assert_bounds<T: Tally>(rt: &impl Abort, winners: &mut Winners<T>, counts: &[
 fn bounds_for_one_seat(rt: HostRuntime) {
     let profile = election_of(&rt, rt.alloc(), 3, &[(0b011, 2), (0b100, 1)]);
     let tally = ThieleTally::new(&profile, ThieleRule::Av, 1);
-    assert_bounds(&rt, &mut Winners::new(&tally, 3, 1, None), &[1, 4, 7, 8, 8]);
+    assert_bounds(&rt, &tally, &[1, 4, 7, 8, 8]);
 }
 
 /// How many bounds a call for a winner asks for if no bound of the tally is too high: few, by the contracts alone.
@@ -62,6 +65,11 @@ fn bounds_of_satisfaction(profile: &Profile, k: u8) -> u128
     bounds_to_the_next(&mut winners)
 }
 
+/// Whether as many bounds were asked for as the tally counted, at most four for each of m candidates.
+fn is_counted(bounds: u128, counted: u64, m: u8) -> bool {
+    bounds == u128::from(counted) && bounds <= 4 * u128::from(m)
+}
+
 /// Whether a call gives a winner. It has to count just the bounds that it asks the tally for, at most four for each
 /// candidate.
 fn gives_winner<T: Tally>(
@@ -73,12 +81,9 @@ fn gives_winner<T: Tally>(
     let (before, asked) = (winners.ceilings(), counting.bounds());
     let winner = winners.next();
     let bounds = winners.ceilings().saturating_sub(before);
-    let is_counted = bounds == u128::from(counting.bounds().saturating_sub(asked));
-    let most = 4 * u128::from(counting.m());
-    assert!(rt;
-        is_counted && bounds <= most,
-        "{bounds} bounds in call {call}"
-    );
+    let counted = counting.bounds().saturating_sub(asked);
+    let is_right = is_counted(bounds, counted, counting.m());
+    assert_of(rt, is_right, "bounds, call", bounds, call as u128);
     winner.is_some()
 }
 
@@ -104,6 +109,23 @@ fn count_with_waits<T: Tally>(
     found
 }
 
+/// Asserts that 1,000 committees of 32 come from the first on, and 1,000 after 1 to 31 and 64.
+fn assert_tied<T: Tally>(rt: &impl Abort, tally: &T)
+    requires { T.candidates tally.now ≡ most_candidates }
+{
+    let all = count_with_waits(rt, tally, 32, None, 1000);
+    let start = committee_of(rt, MOST_CANDIDATES, 32, (1 << 31) - 1 | 1 << 63);
+    let later = count_with_waits(rt, tally, 32, Some(start), 1000);
+    let is_right = all == 1000 && later == 1000;
+    assert_of(
+        rt,
+        is_right,
+        "winners, later ones",
+        all as u128,
+        later as u128,
+    );
+}
+
 /// Of 64 candidates a voter approves all, so that all committees of 32 tie: the first 1,000 of them, and those after 1
 /// to 31 and 64.
 #[test]
@@ -111,11 +133,7 @@ fn waits_for_tied_committees(rt: HostRuntime) {
     let profile = election_of(&rt, rt.alloc(), MOST_CANDIDATES, &[(u64::MAX, 1)]);
     let bounds = bounds_of_approval(&profile, 32).min(bounds_of_satisfaction(&profile, 32));
     assert!(rt; bounds >= 32, "a bound for each of 1 to 32");
-    let tally = SavTally::new(&profile);
-    let all = count_with_waits(&rt, &tally, 32, None, 1000);
-    let start = committee_of(&rt, MOST_CANDIDATES, 32, (1 << 31) - 1 | 1 << 63);
-    let later = count_with_waits(&rt, &tally, 32, Some(start), 1000);
-    assert!(rt; all == 1000 && later == 1000, "{all} and {later} winners");
+    assert_tied(&rt, &SavTally::new(&profile));
 }
 
 /// Of 40 candidates a voter approves the first 20, who win 20 seats.

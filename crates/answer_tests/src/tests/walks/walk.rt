@@ -4,7 +4,7 @@ ghost use Rattle.ballot_base.specs.Limits.{most_candidates, most_members};
 ghost use Rattle.ballot_base.specs.Lists.{increasing_lists, later_than};
 ghost use Rattle.tie_walk.specs.Winners.{IsStart};
 
-use super::super::support::{Draw, election_of, random_ballots};
+use super::super::support::{Draw, assert_after, election_of, random_ballots};
 use ballot_base::{CandSet, KSets, Profile, ThieleRule};
 use std::process::Abort;
 use tie_walk::{MinimaxTally, SavTally, Tally, ThieleTally, Winners};
@@ -47,10 +47,10 @@ fn assert_later<T: Tally>(rt: &impl Abort, tally: &T, k: u8, best: u128, start: 
     assert!(rt; winners.best() == best, "the best of {k} is not {best}");
     for committee in later_committees(m, k, start) {
         if tally.value(committee) == best {
-            assert!(rt; winners.next() == Some(committee), "{k} after {start:?}");
+            assert_after(rt, winners.next() == Some(committee), k, m, &start);
         }
     }
-    assert!(rt; winners.next().is_none(), "{k} after {start:?}");
+    assert_after(rt, winners.next().is_none(), k, m, &start);
 }
 
 /// Asserts the same after each start, and without one.
@@ -74,8 +74,8 @@ fn assert_rules(rt: &impl Abort, profile: &Profile, m: u8, k: u8)
     requires some { 1 ≤ k }
     requires fits { k ≤ m }
 {
-    for rule in ThieleRule::ALL {
-        assert_walks(rt, &ThieleTally::new(profile, rule, k), m, k);
+    for rule in &ThieleRule::ALL {
+        assert_walks(rt, &ThieleTally::new(profile, *rule, k), m, k);
     }
     assert_walks(rt, &SavTally::new(profile), m, k);
     assert_walks(rt, &MinimaxTally::new(profile), m, k);
