@@ -11,7 +11,7 @@ use Rattle.ballot_base.specs.Hashing.{word_of_bytes, begun, with_word, upper_hal
 use Rattle.ballot_base.specs.declared.increments.ThieleRule.TheVariants.{Av, Pav, Cc, Geom2, Geom3, Geom4}
 use Rattle.ballot_base.proofs.Committees.{increasing_lists-order}
 use Rattle.ballot_base.proofs.LeastMultiples.{common_multiple_divides}
-use Rattle.ballot_base.proofs.Rows.{distinct-with_votes}
+use Rattle.ballot_base.proofs.RowLemmas.{distinct-with_votes}
 
 -- ---- lists
 increasing : IsIncreasing 1 4 (1 ∷ 3 ∷ [])

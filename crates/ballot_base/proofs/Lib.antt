@@ -9,6 +9,6 @@ pub mod LeastMultiples
 pub mod Members
 pub mod Names
 pub mod NextSet
-pub mod Rows
+pub mod RowLemmas
 pub mod Turns
 pub mod WeightLemmas

@@ -9,6 +9,7 @@ pub mod laws;
 pub mod limits;
 pub mod multiples;
 pub mod profile;
+mod rows;
 pub mod subsets;
 
 pub use cand_set::CandSet;

@@ -10,13 +10,10 @@ ghost use Rattle.ballot_base.specs.Steps.Profiles.{texts};
 use crate::cand_set::CandSet;
 use crate::hashing::BallotHashing;
 use crate::limits::MOST_VOTERS;
-use indexmap::IndexMap;
-use indexmap::map::Iter;
+use crate::rows::{FoundRows, Rows};
 use std::alloc::{AllocError, Allocator, Global};
 use std::marker::Model;
-
-/// The ballots in the order of their first appearance, each with its voters.
-type Rows<A> = IndexMap<CandSet, u64, BallotHashing, A>;
+use std::slice;
 
 /// The name of each candidate, empty where there is none.
 type Names<A> = Vec<Vec<u8, A>, A>;
@@ -43,7 +40,7 @@ pub struct ProfileBuilder<A: Allocator + Copy = Global> {
     m: u8,
     names: Names<A>,
     voters: u64,
-    rows: Rows<A>,
+    rows: FoundRows<A>,
 }
 
 impl<A: Allocator + Copy> Model for ProfileBuilder<A> {
@@ -52,9 +49,9 @@ impl<A: Allocator + Copy> Model for ProfileBuilder<A> {
 
     ghost Value = { Election };
 
-    ghost view = { λ b. election b.m (texts b.names.items) b.rows.entries };
+    ghost view = { λ b. election b.m (texts b.names.items) b.rows };
 
-    ghost invariant = { λ b. IsCounted (election b.m (texts b.names.items) b.rows.entries) b.voters };
+    ghost invariant = { λ b. IsCounted (election b.m (texts b.names.items) b.rows) b.voters };
 }
 
 impl<A: Allocator + Copy + Drop> ProfileBuilder<A> {
@@ -82,7 +79,7 @@ impl<A: Allocator + Copy + Drop> ProfileBuilder<A> {
             m,
             names: no_names(alloc, m)?,
             voters: 0,
-            rows: IndexMap::with_hasher(alloc, hashing),
+            rows: FoundRows::new(alloc, hashing),
         })
     }
 
@@ -130,7 +127,7 @@ impl<A: Allocator + Copy + Drop> ProfileBuilder<A> {
         if count > MOST_VOTERS - self.voters {
             return Err(AddFault::TooManyVoters);
         }
-        match put(&mut self.rows, set, count) {
+        match self.rows.add(set, count) {
             Ok(()) => {
                 self.voters += count;
                 Ok(())
@@ -158,7 +155,7 @@ impl<A: Allocator + Copy + Drop> ProfileBuilder<A> {
             m,
             names,
             voters,
-            rows,
+            rows: rows.into_rows(),
         })
     }
 }
@@ -185,27 +182,6 @@ fn no_names<A: Allocator + Copy + Drop>(alloc: A, m: u8) -> Result<Names<A>, All
     Ok(names)
 }
 
-/// Adds votes to the ballot's row, by one look-up.
-fn put<A: Allocator + Copy>(
-    rows: &mut Rows<A>,
-    ballot: CandSet,
-    count: u64,
-) -> Result<(), AllocError>
-    requires { voter_count rows.old.entries + count ≤ most_voters }
-    ensures ok { OnOk result (rows.new.entries ≡ with_votes rows.old.entries ballot count) }
-    ensures err { OnErr result (rows.new.entries ≡ rows.old.entries) }
-    ensures new { OnErr result (has_ballot rows.old.entries ballot ≡ false) }
-{
-    match rows.insert_full(ballot, count) {
-        Ok((place, Some(before))) => {
-            rows[place] = before + count;
-            Ok(())
-        }
-        Ok((_, None)) => Ok(()),
-        Err(_) => Err(AllocError),
-    }
-}
-
 /// A profile of approval ballots: at least one voter, and at most `MOST_VOTERS`, over the candidates 1 to m.
 #[derive(Drop)]
 pub struct Profile<A: Allocator + Copy = Global> {
@@ -222,10 +198,10 @@ impl<A: Allocator + Copy> Model for Profile<A> {
 
     ghost Value = { Election };
 
-    ghost view = { λ b. election b.m (texts b.names.items) b.rows.entries };
+    ghost view = { λ b. election b.m (texts b.names.items) b.rows.items };
 
-    ghost invariant = { λ b. IsCounted (election b.m (texts b.names.items) b.rows.entries) b.voters
-        × (b.rows.entries ≢ []) };
+    ghost invariant = { λ b. IsCounted (election b.m (texts b.names.items) b.rows.items) b.voters
+        × (b.rows.items ≢ []) };
 }
 
 impl<A: Allocator + Copy> Profile<A> {
@@ -264,10 +240,7 @@ impl<A: Allocator + Copy> Profile<A> {
         requires { i < length self.now.rows }
         ensures { slice_get self.now.rows i ≡ Some result }
     {
-        match self.rows.get_index(i) {
-            Some((set, count)) => (*set, *count),
-            None => unreachable!(),
-        }
+        self.rows[i]
     }
 
     /// The rows in the order of first appearance.
@@ -294,16 +267,17 @@ impl<A: Allocator + Copy> Profile<A> {
 /// it. Contracts see the list of those still to come.
 #[derive(Drop)]
 pub struct Ballots<'a> {
-    rows: Iter<'a, CandSet, u64>,
+    rows: slice::Iter<'a, (CandSet, u64)>,
 }
 
 impl<'a> Model for Ballots<'a> {
     ghost use Rattle.std.specs.Prelude.{List};
+    ghost use Rattle.std.specs.Slice.Iter.{iter_rest};
     ghost use Rattle.ballot_base.specs.Ballots.{Row};
 
     ghost Value = { List Row };
 
-    ghost view = { λ ballots. ballots.rows };
+    ghost view = { λ ballots. iter_rest ballots.rows };
 }
 
 impl<'a> Iterator for Ballots<'a> {
@@ -314,7 +288,6 @@ impl<'a> Iterator for Ballots<'a> {
     ghost remaining = { item_count (λ (rows : List Row). rows) };
 
     fn next(&mut self) -> Option<(CandSet, u64)> {
-        let (ballot, voters) = self.rows.next()?;
-        Some((*ballot, *voters))
+        self.rows.next().copied()
     }
 }

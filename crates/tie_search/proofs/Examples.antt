@@ -4,7 +4,7 @@ use Rattle.std.proofs.Common.{◌≡◌, ◌+◌, ◌*◌, ◌^◌, ◌<◌, ℕ
 use Rattle.std.specs.Prelude.{slice_index_or}
 use Rattle.ballot_base.specs.Ballots.{IsElection, Row, election, hits, with_votes}
 use Rattle.ballot_base.specs.Clones.{AreClones}
-use Rattle.ballot_base.proofs.Rows.{distinct-with_votes}
+use Rattle.ballot_base.proofs.RowLemmas.{distinct-with_votes}
 use Rattle.ballot_base.specs.Lists.{lists_of}
 use Rattle.tie_walk.specs.Ceilings.{ceiling, closeness_upto}
 use Rattle.tie_walk.specs.Values.{closeness, distance}
