@@ -1,91 +1,95 @@
 -- The sets of a level as they are found, each once.
-use Rattle.std.proofs.Common.{◌≡◌, ℕ, zero, suc, ◌+◌, ◌-◌, ◌≤◌, ◌++◌, ◌⊎◌, Bool, true, false, cond, List, [], ◌∷◌, sym, ap, ◌∙◌, subst, inl, inr, arith, map, filter, Contains, Result, Ok, Err, IfOk}
+use Rattle.std.proofs.Common.{◌≡◌, ℕ, ◌+◌, ◌-◌, ◌<◌, ◌≤◌, ◌++◌, Bool, true, false, cond, List, [], ◌∷◌, sym, ap, ◌∙◌, subst, inl, inr, arith, map, filter, length, take, get_or, Contains, Result, Ok, Err, IfOk, append_assoc, append-nil}
 use Rattle.std.specs.List.{list_any, flat_map, range_with_len}
 use Rattle.std.specs.Str.{bytes_eq}
-use Rattle.std.proofs.lemmas.List.Elements.{Contains-append_cases, Contains-append_left}
-use Rattle.std.proofs.lemmas.List.Sums.{fold-append}
+use Rattle.std.proofs.lemmas.Bool.{cases_Bool}
+use Rattle.std.proofs.lemmas.Cmp.{nat_list_eq_equiv}
+use Rattle.std.proofs.lemmas.Grind.{flat_map-append}
+use Rattle.std.proofs.lemmas.List.{take_all, take_more}
+use Rattle.std.proofs.lemmas.List.Elements.{Contains-append_cases, Contains-append_left, Contains-append_right, Contains-push_cases}
+use Rattle.std.proofs.lemmas.Map.Views.{Contains-from_any, list_any-from_Contains}
 use Rattle.std.proofs.lemmas.Slice.Eq.{bytes_eq-Decides}
-use Rattle.indexmap.specs.IndexSet.{insert_key, insert_all}
-use Rattle.indexmap.proofs.CallerLemmas.{Contains-insert_key}
-use Rattle.ballot_base.specs.Ballots.{Row}
-use Rattle.tie_walk.specs.Steps.Choices.{changes, IsInOrder, IsNextLevel}
-use Rattle.tie_walk.specs.declared.sequential.Step.{Step}
+use Rattle.tie_walk.specs.Steps.Choices.{HasSetsOf, IsInOrder}
 use Rattle.tie_walk.proofs.StepLemmas.{map-taken, filter-left}
+
+-- ---- sets that are inserted
+
+-- an inserted set is there, and no other one comes or goes
+pub found-inserted : (old new : List (List ℕ)) (set : List ℕ) → ((other : List ℕ) → list_any (bytes_eq other) new ≡ cond (bytes_eq set other) true (list_any (bytes_eq other) old)) → HasSetsOf (old ++ set ∷ []) new
+found-inserted old new set is other = elim (cases_Bool (bytes_eq set other)) [
+  | inl same ↦ (
+    λ _. Contains-append_right old (set ∷ []) other (0, omega arith, (bytes_eq-Decides set other).0 same),
+    λ _. there new (is other ∙ ap found same),
+  )
+  | inr apart ↦
+      let alike : list_any (bytes_eq other) new ≡ list_any (bytes_eq other) old = is other ∙ ap found apart in (
+        λ inside. Contains-append_left old (set ∷ []) other (there old (sym alike ∙ is_there new inside)),
+        λ inside. elim (Contains-push_cases old set other inside) [
+          | inl before ↦ there new (alike ∙ is_there old before)
+          | inr same ↦ absurd (let f : true ≡ false = sym ((bytes_eq-Decides set other).1 same) ∙ apart in cc)
+        ],
+      )
+]
+  where
+    found : Bool → Bool
+    found b = cond b true (list_any (bytes_eq other) old)
+
+    there : (keys : List (List ℕ)) → list_any (bytes_eq other) keys ≡ true → Contains keys other
+    there keys = Contains-from_any (λ x y e. (bytes_eq-Decides x y).0 e) other keys
+
+    is_there : (keys : List (List ℕ)) → Contains keys other → list_any (bytes_eq other) keys ≡ true
+    is_there keys = list_any-from_Contains nat_list_eq_equiv other keys
+
+-- more sets are added to those that were found
+pub found-more : (sets old more new : List (List ℕ)) → HasSetsOf sets old → HasSetsOf (old ++ more) new → HasSetsOf (sets ++ more) new
+found-more sets old more new before after set = (
+  λ inside. elim (Contains-append_cases old more set ((after set).0 inside)) [
+    | inl early ↦ Contains-append_left sets more set ((before set).0 early)
+    | inr late ↦ Contains-append_right sets more set late
+  ],
+  λ inside. elim (Contains-append_cases sets more set inside) [
+    | inl early ↦ (after set).1 (Contains-append_left old more set ((before set).1 early))
+    | inr late ↦ (after set).1 (Contains-append_right old more set late)
+  ],
+)
 
 -- ---- the sets that one choice makes, candidate by candidate
 
 module _ (make : ℕ → List ℕ) (p : ℕ → Bool) (first : List (List ℕ)) where
   abbrev pub found_by : ℕ → List (List ℕ)
-  found_by n = insert_all bytes_eq first (map make (filter p (range_with_len 1 n)))
+  found_by n = first ++ map make (filter p (range_with_len 1 n))
 
-  pub found-taken : (c : ℕ) (old new : List (List ℕ)) → 1 ≤ c → p c ≡ true → old ≡ found_by (c - 1) → new ≡ insert_key bytes_eq old (make c) → new ≡ found_by (c + 1 - 1)
+  pub found-taken : (c : ℕ) (old new : List (List ℕ)) → 1 ≤ c → p c ≡ true → HasSetsOf (found_by (c - 1)) old → HasSetsOf (old ++ make c ∷ []) new → HasSetsOf (found_by (c + 1 - 1)) new
   found-taken c old new low is before one =
-      one ∙ ap (λ l. insert_key bytes_eq l (make c)) before
-      ∙ sym (fold-append (insert_key bytes_eq) first (map make (filter p (range_with_len 1 (c - 1)))) (make c ∷ []))
-      ∙ ap (insert_all bytes_eq first) (sym (map-taken make p c low is))
+      subst (λ l. HasSetsOf l new)
+      (append_assoc first (map make (filter p (range_with_len 1 (c - 1)))) (make c ∷ []) ∙ ap (λ l. first ++ l) (sym (map-taken make p c low is)))
+      (found-more (found_by (c - 1)) old (make c ∷ []) new before one)
 
-  pub found-left : (c : ℕ) (old new : List (List ℕ)) → 1 ≤ c → p c ≡ false → old ≡ found_by (c - 1) → new ≡ old → new ≡ found_by (c + 1 - 1)
-  found-left c old new low is before same = same ∙ before ∙ ap (λ l. insert_all bytes_eq first (map make l)) (sym (filter-left p c low is))
+  pub found-left : (c : ℕ) (found : List (List ℕ)) → 1 ≤ c → p c ≡ false → HasSetsOf (found_by (c - 1)) found → HasSetsOf (found_by (c + 1 - 1)) found
+  found-left c found low is before = subst (λ l. HasSetsOf (first ++ map make l) found) (sym (filter-left p c low is)) before
 
-  pub found-all : (n m : ℕ) (new made : List (List ℕ)) → n ≡ m → map make (filter p (range_with_len 1 m)) ≡ made → new ≡ found_by n → new ≡ insert_all bytes_eq first made
-  found-all n m new made all are is = is ∙ ap found_by all ∙ ap (insert_all bytes_eq first) are
+-- ---- the sets that one choice makes of those of a level, set by set
 
--- ---- what was found
+module _ (make : List ℕ → List (List ℕ)) (level : List (List ℕ)) where
+  pub found-next : (i : ℕ) (set : List ℕ) (old new : List (List ℕ)) → i < length level → set ≡ get_or level i set → HasSetsOf (flat_map make (take i level)) old → HasSetsOf (old ++ make set) new → HasSetsOf (flat_map make (take (i + 1) level)) new
+  found-next i set old new inside at before after =
+      let upto = flat_map make (take i level) in
+      let is : flat_map make (take (i + 1) level) ≡ upto ++ make set =
+      ap (flat_map make) (take_more level i set inside ∙ ap (λ s. take i level ++ s ∷ []) (sym at)) ∙ flat_map-append make (take i level) (set ∷ []) ∙ ap (λ l. upto ++ l) (append-nil (make set)) in
+      subst (λ l. HasSetsOf l new) (sym is) (found-more upto old (make set) new before after)
 
--- an inserted set is there, and no other one comes or goes
-there : (keys : List (List ℕ)) (set : List ℕ) → Contains (insert_key bytes_eq keys set) set
-there keys set = Contains-insert_key bytes_eq (λ x y e. (bytes_eq-Decides x y).0 e) keys set
-
-stays : (keys : List (List ℕ)) (set other : List ℕ) → Contains keys other → Contains (insert_key bytes_eq keys set) other
-stays keys set other inside = elim (list_any (bytes_eq set) keys) as (λ b. Contains (cond b keys (keys ++ set ∷ [])) other) [
-  | true ↦ inside
-  | false ↦ Contains-append_left keys (set ∷ []) other inside
-]
-
-no_other : (keys : List (List ℕ)) (set other : List ℕ) → Contains (insert_key bytes_eq keys set) other → Contains keys other ⊎ Contains (set ∷ []) other
-no_other keys set other = elim (list_any (bytes_eq set) keys) as (λ b. Contains (cond b keys (keys ++ set ∷ [])) other → Contains keys other ⊎ Contains (set ∷ []) other) [
-  | true ↦ λ inside. inl inside
-  | false ↦ λ inside. Contains-append_cases keys (set ∷ []) other inside
-]
-
-stay : (keys sets : List (List ℕ)) (set : List ℕ) → Contains keys set → Contains (insert_all bytes_eq keys sets) set
-stay keys [] set inside = inside
-stay keys (other ∷ sets) set inside = stay (insert_key bytes_eq keys other) sets set (stays keys other set inside)
-
-Contains-insert_all : (keys sets : List (List ℕ)) (set : List ℕ) → Contains sets set → Contains (insert_all bytes_eq keys sets) set
-Contains-insert_all keys [] set inside = absurd (omega (arith, inside.1))
-Contains-insert_all keys (other ∷ sets) set (zero, inside, is) =
-    stay (insert_key bytes_eq keys other) sets set (subst (λ s. Contains (insert_key bytes_eq keys other) s) is (there keys other))
-Contains-insert_all keys (other ∷ sets) set (suc i, inside, is) =
-    Contains-insert_all (insert_key bytes_eq keys other) sets set (i, omega (arith, inside), is)
-
-Contains-from_insert_all : (keys sets : List (List ℕ)) (set : List ℕ) → Contains (insert_all bytes_eq keys sets) set → Contains keys set ⊎ Contains sets set
-Contains-from_insert_all keys [] set inside = inl inside
-Contains-from_insert_all keys (other ∷ sets) set inside = elim (Contains-from_insert_all (insert_key bytes_eq keys other) sets set inside) [
-  | inl here ↦ elim (no_other keys other set here) [
-    | inl before ↦ inl before
-    | inr own ↦ inr (Contains-append_left (other ∷ []) sets set own)
-  ]
-  | inr later ↦ inr (suc later.0, omega (arith, later.1), later.2)
-]
-
--- the sets that were found are those that were inserted, each once
-pub found-in_order : (sets found next : List (List ℕ)) → found ≡ insert_all bytes_eq [] sets → IsInOrder found next → IsInOrder sets next
-found-in_order sets found next is made = record {
-  order = made.order;
-  members = λ set. (
-    λ inside. elim (Contains-from_insert_all [] sets set (subst (λ l. Contains l set) is ((made.members set).0 inside))) [
-      | inl none ↦ absurd (omega (arith, none.1))
-      | inr own ↦ own
-    ],
-    λ inside. (made.members set).1 (subst (λ l. Contains l set) (sym is) (Contains-insert_all [] sets set inside)),
-  );
-}
-
--- they are those that the choices make
-pub found-next_level : (step : Step) (weights : List ℕ) (m : ℕ) (rows : List Row) (level found next : List (List ℕ))
-    → found ≡ insert_all bytes_eq [] (flat_map (changes step weights m rows) level) → IsInOrder found next → IsNextLevel step weights m rows level next
-found-next_level step weights m rows level found next is made = found-in_order (flat_map (changes step weights m rows) level) found next is made
+  -- all that were found, put in order
+  pub found-in_order : (i : ℕ) (found next : List (List ℕ)) → length level ≤ i → HasSetsOf (flat_map make (take i level)) found → IsInOrder found next → IsInOrder (flat_map make level) next
+  found-in_order i found next all has made = record {
+    order = made.order;
+    members = λ set. (
+      λ inside. (is set).0 ((made.members set).0 inside),
+      λ inside. (made.members set).1 ((is set).1 inside),
+    );
+  }
+    where
+      is : HasSetsOf (flat_map make level) found
+      is = subst (λ l. HasSetsOf (flat_map make l) found) (take_all i level all) has
 
 -- what a call answers, put in other words
 pub if_ok : {A E : Type 0} (P Q : A → Type 0) (result : Result A E) → ((x : A) → P x → Q x) → IfOk result P → IfOk result Q
