@@ -1,5 +1,5 @@
 -- What one choice does to a family, as the code finds it.
-use Rattle.std.proofs.Common.{◌≡◌, ℕ, zero, suc, ◌+◌, ◌-◌, ◌<◌, ◌≤◌, ◌^◌, ◌==◌, ◌&&◌, ◌++◌, ◌∙◌, cond, length, Option, Some, None, is_some, slice_get, subst, Bool, true, false, List, [], ◌∷◌, refl, sym, ap, arith, inl, inr, filter, map, get_or}
+use Rattle.std.proofs.Common.{◌≡◌, ℕ, zero, suc, ◌+◌, ◌-◌, ◌<◌, ◌≤◌, ◌^◌, ◌==◌, ◌&&◌, ◌++◌, ◌∙◌, cond, length, Option, Some, None, is_some, slice_get, subst, Bool, true, false, List, [], ◌∷◌, refl, sym, ap, arith, inl, inr, filter, map, get_or, append_assoc}
 use Rattle.std.specs.Prelude.{fold, nat_le, nat_lt}
 use Rattle.std.specs.List.{list_all, range_with_len, AllByRecursion}
 use Rattle.std.proofs.lemmas.Bool.{cases_Bool, and_left, and_from, le-leb}
@@ -9,9 +9,10 @@ use Rattle.ballot_base.specs.Ballots.{Row}
 use Rattle.ballot_base.proofs.Increasing.{IsIncreasing-filter, IsIncreasing-lower, has_member-filter, with_member-above}
 use Rattle.tie_walk.proofs.LawLemmas.{IsIncreasing-range}
 use Rattle.tie_walk.specs.Sequences.{gain, others}
-use Rattle.tie_walk.specs.Steps.Choices.{may_choose, change, worth, is_no_better, better, worst, open_candidates, is_choice}
+use Rattle.tie_walk.specs.Steps.Choices.{may_choose, change, worth, is_no_better, better, worst, open_candidates, is_choice, HasSetsOf}
 use Rattle.tie_walk.specs.declared.sequential.Step.{Step}
 use Rattle.tie_walk.specs.declared.sequential.Step.TheVariants.{Grow, Shrink}
+use Rattle.tie_walk.proofs.FoundLemmas.{found-more}
 use Rattle.tie_walk.proofs.StepLemmas.{best-is, filter-next, has_member-range}
 use Rattle.tie_walk.proofs.WinnersLemmas.{greatest, bounds-greatest, same_filter}
 use Rattle.ballot_base.specs.Clones.{clones_among}
@@ -160,6 +161,14 @@ first-parts left rest k last parts up =
     ((up'.0, up'.1), IsIncreasing-lower 1 (k + 1) last rest (omega arith) up'.2)
 
 -- ---- what follows a set, as the code finds it
+
+-- the first of the sets that are left is inserted
+pub found-first : (all keys new left : List (List ℕ)) (set : List ℕ) → HasSetsOf all (keys ++ set ∷ left) → HasSetsOf (keys ++ set ∷ []) new → HasSetsOf all (new ++ left)
+found-first all keys new left set before one other = (λ inside. (before other).0 ((same other).0 inside), λ inside. (same other).1 ((before other).1 inside))
+  where
+    same : HasSetsOf (keys ++ set ∷ left) (new ++ left)
+    same = subst (λ l. HasSetsOf l (new ++ left)) (append_assoc keys (set ∷ []) left)
+        (found-more (keys ++ set ∷ []) new left (new ++ left) one (λ s. (λ inside. inside, λ inside. inside)))
 
 pub changes-none : (step : Step) (weights : List ℕ) (m : ℕ) (rows : List Row) (size : ℕ) (set : List ℕ) → end step weights m rows set ≡ None
     → map (change step set) (ties step weights m rows set) ≡ family_changes step weights m rows size set

@@ -13,25 +13,23 @@
 //! stays in the levels until enough choices were made to reach its end, and stands for all sets between the two.
 //! `proofs/LevelLemmas.antt` shows, by induction over levels, that the families have exactly the committees that some
 //! sequence of choices makes.
-ghost use Rattle.std.specs.Prelude.{◌≡◌, ℕ, ◌^◌, ◌<◌, ◌≤◌, false, None, IfOk, OnOk, fold, map, length, slice_index};
+ghost use Rattle.std.specs.Prelude.{◌≡◌, ℕ, ◌++◌, ◌^◌, ◌<◌, ◌≤◌, false, None, IfOk, OnOk, fold, map, length, slice_index};
 ghost use Rattle.std.specs.List.{AllByRecursion};
-ghost use Rattle.std.specs.Str.{bytes_eq};
-ghost use Rattle.indexmap.specs.IndexSet.{insert_all};
 ghost use Rattle.ballot_base.specs.Lists.{IsIncreasing};
 ghost use Rattle.tie_walk.specs.Sequences.{hit_weights};
-ghost use Rattle.tie_walk.specs.Steps.Choices.{change, worth};
+ghost use Rattle.tie_walk.specs.Steps.Choices.{HasSetsOf, change, worth};
 ghost use Rattle.ballot_base.specs.Clones.{AreClones};
 ghost use Rattle.tie_families.specs.Steps.Levels.{is_first_open, has_settled, ties, tied_worth, shares_no_voter, end, chosen, family_changes, other_end, IsFalling, IsStrict, IsFamilyLevel, IsNextFamilies, AreFamilies};
 
 use ballot_base::{CandSet, Clones, PLACES, Profile};
-use indexmap::IndexSet;
 use std::alloc::{AllocError, Allocator};
+use std::collections::HashSet;
 use std::hash::{BuildHasherDefault, FoldHasher};
 use tie_walk::SeqRule;
 use tie_walk::sequential::{Step, best_worth, hit_weights, in_order, worths};
 
 /// The families of a level that were found so far, each once.
-type FoundFamilies<A> = IndexSet<CandSet, BuildHasherDefault<FoldHasher>, A>;
+type FoundFamilies<A> = HashSet<CandSet, BuildHasherDefault<FoldHasher>, A>;
 
 /// Families: each has a least and a most set, which bound the members of each class of clones in its committees.
 #[derive(Drop)]
@@ -104,7 +102,7 @@ fn insert_each<A: Allocator + Copy>(
     set: CandSet,
     choices: CandSet,
 ) -> Result<(), AllocError>
-    ensures { OnOk result (next.new.keys ≡ insert_all bytes_eq next.old.keys (map (change step set) choices)) }
+    ensures { OnOk result (HasSetsOf (next.old.keys ++ map (change step set) choices) next.new.keys) }
 {
     for candidate in choices.members() {
         next.insert(step.change(set, candidate))?;
@@ -194,8 +192,9 @@ impl<A: Allocator + Copy> Levels<'_, A> {
     ) -> Result<(), AllocError>
         requires set { IsIncreasing 1 self.now.profile.now.m set }
         requires size { size < self.now.profile.now.m }
-        ensures { OnOk result (next.new.keys ≡ insert_all bytes_eq next.old.keys (family_changes
-            self.now.step self.now.weights.now self.now.profile.now.m self.now.profile.now.rows size set)) }
+        ensures { OnOk result (HasSetsOf (next.old.keys ++ family_changes
+            self.now.step self.now.weights.now self.now.profile.now.m self.now.profile.now.rows size set)
+            next.new.keys) }
     {
         let (tied, end) = self.ties_and_end(set);
         if let Some(last) = end {
@@ -232,7 +231,7 @@ impl<A: Allocator + Copy + Drop> Levels<'_, A> {
         ensures { IfOk result (λ next. IsNextFamilies self.now.step self.now.weights.now
             self.now.profile.now.m self.now.profile.now.rows size level.now next.items) }
     {
-        let mut found = IndexSet::new(alloc);
+        let mut found = HashSet::new(alloc);
         for set in level {
             self.insert_changes(&mut found, size, *set)?;
         }

@@ -1,9 +1,8 @@
-use Rattle.std.proofs.Common.{◌∙◌, sym, ap, map}
-use Rattle.std.specs.Str.{bytes_eq}
-use Rattle.indexmap.specs.IndexSet.{insert_key, insert_all}
+use Rattle.std.proofs.Common.{◌++◌, ◌∙◌, [], ◌∷◌, ap, subst, map, append-nil}
 use Rattle.ballot_base.specs.Limits.{most_candidates}
-use Rattle.tie_walk.specs.Steps.Choices.{change}
-use Rattle.tie_families.proofs.StepLemmas.{first-parts}
+use Rattle.tie_walk.specs.Steps.Choices.{change, HasSetsOf}
+use Rattle.tie_walk.proofs.FoundLemmas.{found-inserted}
+use Rattle.tie_families.proofs.StepLemmas.{first-parts, found-first}
 use Rattle.tie_families.proofs.levels.insert_each.Goals as goal
 
 pub change-requires-clause-low : goal.change-requires-clause-low
@@ -17,11 +16,17 @@ loop-candidate-preserved g c =
     let step = c.args.step in
     let set = c.args.set in
     let keys = c.loop-candidate.next.keys in
+    let left = c.next.new.self in
+    let all = c.args.next.now.keys ++ map (change step set) c.args.choices in
+    let before : HasSetsOf all (keys ++ change step set c.in-Some.candidate ∷ map (change step set) left) = subst (λ l. HasSetsOf all (keys ++ map (change step set) l)) c.in-Some.ensures.steps c.loop-candidate.invariant.made in
+    let one : HasSetsOf (keys ++ change step set c.in-Some.candidate ∷ []) c.insert.new.self.keys = subst (λ s. HasSetsOf (keys ++ s ∷ []) c.insert.new.self.keys) c.change.ensures (found-inserted keys c.insert.new.self.keys c.change.result c.in_ok-insert.ensures.updates.0) in
     record {
-      members = (first-parts c.loop-candidate.candidate-iterator c.next.new.self c.in-Some.candidate most_candidates c.in-Some.ensures.steps c.loop-candidate.invariant.members).1;
-      made = ap (λ l. insert_all bytes_eq l (map (change step set) c.next.new.self)) (c.in_ok-insert.ensures.keys ∙ ap (insert_key bytes_eq keys) c.change.ensures)
-          ∙ sym (ap (λ l. insert_all bytes_eq keys (map (change step set) l)) c.in-Some.ensures.steps) ∙ c.loop-candidate.invariant.made;
+      members = (first-parts c.loop-candidate.candidate-iterator left c.in-Some.candidate most_candidates c.in-Some.ensures.steps c.loop-candidate.invariant.members).1;
+      made = found-first all keys c.insert.new.self.keys (map (change step set) left) (change step set c.in-Some.candidate) before one;
     }
 
 pub returns : goal.returns
-returns g c = sym (ap (λ l. insert_all bytes_eq c.loop-candidate.next.keys (map (change c.args.step c.args.set) l)) c.in-None.ensures.steps.0) ∙ c.loop-candidate.invariant.made
+returns g c =
+    let keys = c.loop-candidate.next.keys in
+    let all = c.args.next.now.keys ++ map (change c.args.step c.args.set) c.args.choices in
+    subst (HasSetsOf all) (ap (λ l. keys ++ map (change c.args.step c.args.set) l) c.in-None.ensures.steps.0 ∙ append-nil keys) c.loop-candidate.invariant.made

@@ -1,14 +1,12 @@
-use Rattle.std.proofs.Common.{◌≡◌, map}
-use Rattle.std.specs.Str.{bytes_eq}
-use Rattle.indexmap.specs.IndexSet.{insert_all}
+use Rattle.std.proofs.Common.{◌++◌, map}
 use Rattle.ballot_base.specs.Limits.{most_candidates}
 use Rattle.ballot_base.specs.Lists.{IsIncreasing}
-use Rattle.tie_walk.specs.Steps.Choices.{change}
+use Rattle.tie_walk.specs.Steps.Choices.{change, HasSetsOf}
 use Rattle.tie_families.proofs.levels.insert_each.Given as goal
 
 -- with the sets by the choices that are left, there are all
 abbrev pub invariant-loop-candidate : goal.invariant-loop-candidate
 invariant-loop-candidate g l = record {
   members : IsIncreasing 1 most_candidates l.candidate-iterator;
-  made : insert_all bytes_eq l.next.keys (map (change l.step l.set) l.candidate-iterator) ≡ insert_all bytes_eq l.fn.next.keys (map (change l.step l.set) l.fn.choices);
+  made : HasSetsOf (l.fn.next.keys ++ map (change l.step l.set) l.fn.choices) (l.next.keys ++ map (change l.step l.set) l.candidate-iterator);
 }

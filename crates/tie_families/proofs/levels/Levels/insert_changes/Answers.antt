@@ -1,9 +1,8 @@
-use Rattle.std.proofs.Common.{◌≡◌, ◌+◌, ◌∙◌, cond, Some, None, sym, ap, subst, arith, map}
+use Rattle.std.proofs.Common.{◌≡◌, ◌+◌, ◌++◌, ◌∙◌, cond, Some, None, sym, ap, subst, arith, map}
 use Rattle.std.specs.Prelude.{OnOk, nat_le}
-use Rattle.std.specs.Str.{bytes_eq}
 use Rattle.std.proofs.lemmas.Bool.{le-leb}
-use Rattle.indexmap.specs.IndexSet.{insert_all}
-use Rattle.tie_walk.specs.Steps.Choices.{change}
+use Rattle.tie_walk.specs.Steps.Choices.{change, HasSetsOf}
+use Rattle.tie_walk.proofs.FoundLemmas.{found-inserted}
 use Rattle.tie_families.specs.Steps.Levels.{end, chosen, family_changes}
 use Rattle.tie_families.proofs.SpanLemmas.{end-fits}
 use Rattle.tie_families.proofs.StepLemmas.{changes-none, changes-last, over-fails}
@@ -31,7 +30,7 @@ returns-in-Some g c =
       | then-is_over w ↦ w.insert-is ∙ sym (ap (λ b. cond b last set) (le-leb (chosen step e.m last) (size + 1) (omega (arith, w.if-is_over.true, many))))
       | else-is_over w ↦ w.insert-is ∙ sym (ap (λ b. cond b last set) (over-fails (chosen step e.m last) (size + 1) (omega (arith, w.if-is_over.false, many))))
     ] in
-    c.in_ok-insert.ensures.keys ∙ ap (insert_all bytes_eq keys) (changes-last step weights e.m e.rows size set last c.if-is_over.insert is next)
+    subst (λ l. HasSetsOf (keys ++ l) c.insert.new.self.keys) (changes-last step weights e.m e.rows size set last c.if-is_over.insert is next) (found-inserted keys c.insert.new.self.keys c.if-is_over.insert c.in_ok-insert.ensures.updates.0)
 
 pub returns : goal.returns
 returns g c =
@@ -42,4 +41,4 @@ returns g c =
     let none : end step weights e.m e.rows set ≡ None = sym c.ties_and_end-tied.ensures.end ∙ c.in_default.is in
     let are : map (change step set) c.ties_and_end-tied.result.0 ≡ family_changes step weights e.m e.rows c.args.size set =
     ap (map (change step set)) (c.ties_and_end-tied.ensures.ties c.in_default.is) ∙ changes-none step weights e.m e.rows c.args.size set none in
-    subst (λ l. OnOk c.insert_each.result (c.insert_each.new.next.keys ≡ insert_all bytes_eq c.args.next.now.keys l)) are c.insert_each.ensures
+    subst (λ l. OnOk c.insert_each.result (HasSetsOf (c.args.next.now.keys ++ l) c.insert_each.new.next.keys)) are c.insert_each.ensures
