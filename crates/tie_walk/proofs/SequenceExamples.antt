@@ -1,10 +1,10 @@
 -- Each definition, computed on a small example.
-use Rattle.std.proofs.Common.{◌≡◌, [], ◌∷◌, true, false, refl}
+use Rattle.std.proofs.Common.{◌≡◌, ℕ, zero, suc, List, [], ◌∷◌, Contains, true, false, refl, arith}
 use Rattle.ballot_base.specs.Lists.{lists_of}
 use Rattle.ballot_base.specs.Ballots.{Election, election}
 use Rattle.ballot_base.specs.CommonMultiple.{common_multiple}
 use Rattle.tie_walk.specs.Sequences.{hit_weight, hit_weights, weight, supporters, gain, loss, others, is_grown, is_shrunk, sequences, sequential_winners}
-use Rattle.tie_walk.specs.Steps.Choices.{step_of, choices_of, is_no_better, open_candidates, change, start, better, worst, worth, hits_of, is_choice, changes, follows}
+use Rattle.tie_walk.specs.Steps.Choices.{step_of, choices_of, is_no_better, open_candidates, change, start, better, worst, worth, hits_of, is_choice, changes, HasSetsOf, follows}
 use Rattle.tie_walk.specs.declared.sequential.Step.TheVariants.{Grow, Shrink}
 use Rattle.tie_walk.specs.declared.sequential.SeqRule.TheVariants.{SeqPav, SeqCc, RevSeqPav}
 
@@ -137,6 +137,21 @@ choice = refl
 changes_of_one : changes Grow (hit_weights SeqCc 4) 4 pairs.rows (1 ∷ []) ≡ (1 ∷ 3 ∷ []) ∷ (1 ∷ 4 ∷ []) ∷ []
 unfolding pairs hit_weights changes
 changes_of_one = refl
+
+-- the sets of a list, each once and in another order
+has_sets : HasSetsOf ((1 ∷ []) ∷ (2 ∷ []) ∷ (1 ∷ []) ∷ []) ((2 ∷ []) ∷ (1 ∷ []) ∷ [])
+has_sets = λ set. (first set, last set)
+  where
+    first : (set : List ℕ) → Contains ((2 ∷ []) ∷ (1 ∷ []) ∷ []) set → Contains ((1 ∷ []) ∷ (2 ∷ []) ∷ (1 ∷ []) ∷ []) set
+    first set (zero, inside, is) = (1, omega arith, is)
+    first set (suc zero, inside, is) = (0, omega arith, is)
+    first set (suc (suc i), inside, is) = absurd (omega (arith, inside))
+
+    last : (set : List ℕ) → Contains ((1 ∷ []) ∷ (2 ∷ []) ∷ (1 ∷ []) ∷ []) set → Contains ((2 ∷ []) ∷ (1 ∷ []) ∷ []) set
+    last set (zero, inside, is) = (1, omega arith, is)
+    last set (suc zero, inside, is) = (0, omega arith, is)
+    last set (suc (suc zero), inside, is) = (1, omega arith, is)
+    last set (suc (suc (suc i)), inside, is) = absurd (omega (arith, inside))
 
 -- any choice may be made here, and each adds a candidate
 followed : follows (λ set c. true) (change Grow) [] (2 ∷ 1 ∷ []) ≡ true
