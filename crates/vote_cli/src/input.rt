@@ -1,5 +1,5 @@
 //! The whole input of a run, which is read in pieces.
-ghost use Rattle.std.specs.Prelude.{◌≡◌, ◌<◌, ◌+◌, ◌++◌, length, IfOk, IfErr, IfSome};
+ghost use Rattle.std.specs.Prelude.{◌≡◌, ◌<◌, ◌+◌, ◌++◌, [], length, IfOk, IfErr, IfSome};
 ghost use Rattle.preflib_text.specs.Approvals.{HasNumber};
 ghost use Rattle.preflib_text.specs.Limits.{word_limit};
 ghost use Rattle.text_output.specs.Device.{reader_state};
@@ -30,8 +30,38 @@ fn feed_piece<A: Allocator + Copy + Drop>(
     }
 }
 
-/// Feeds the whole input, in pieces. After a fault of the input it is still read to its end. More bytes than a `u64`
-/// can count are a failed read.
+/// Feeds all that the reader still has, in pieces. After a fault of the input it is still read to its end. More bytes
+/// than a `u64` can count are a failed read.
+fn feed_all<A: Allocator + Copy + Drop, R: Source>(
+    lines: &mut LineReader<A>,
+    reader: &mut R,
+) -> Result<(), Refusal>
+    requires { lines.old.fed ≡ [] }
+    ensures bytes { IfOk result (λ _. IfSome (R.remaining reader.old) (λ bytes. lines.new.fed ≡ bytes)) }
+    ensures pick { lines.new.pick ≡ lines.old.pick }
+    ensures reads { ReadsOn (reader_state R.remaining R.has_failed R.given reader.old)
+        (reader_state R.remaining R.has_failed R.given reader.new) result }
+    ensures unread { IfErr result IsUnread }
+{
+    let mut piece = [0; PIECE];
+    // How many more bytes may be fed.
+    let mut left = u64::MAX;
+    loop {
+        let Ok(count) = reader.read(&mut piece) else {
+            return Err(Refusal::ReadFailed);
+        };
+        if count == 0 {
+            return Ok(());
+        }
+        if count as u64 > left {
+            return Err(Refusal::ReadFailed);
+        }
+        left -= count as u64;
+        feed_piece(lines, &piece[..count])?;
+    }
+}
+
+/// The lines of the whole input, which is read to its end.
 pub(crate) fn read_to_end<A: Allocator + Copy + Drop, R: Source>(
     storage: Storage<A>,
     pick: &Pick,
@@ -47,20 +77,6 @@ pub(crate) fn read_to_end<A: Allocator + Copy + Drop, R: Source>(
     let Ok(mut lines) = LineReader::with_hashing(storage.alloc, *pick, storage.hashing) else {
         return Err(Refusal::Memory);
     };
-    let mut piece = [0; PIECE];
-    // How many more bytes may be fed.
-    let mut left = u64::MAX;
-    loop {
-        let Ok(count) = reader.read(&mut piece) else {
-            return Err(Refusal::ReadFailed);
-        };
-        if count == 0 {
-            return Ok(lines);
-        }
-        if count as u64 > left {
-            return Err(Refusal::ReadFailed);
-        }
-        left -= count as u64;
-        feed_piece(&mut lines, &piece[..count])?;
-    }
+    feed_all(&mut lines, reader)?;
+    Ok(lines)
 }
