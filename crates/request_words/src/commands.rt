@@ -1,13 +1,10 @@
 //! The program and its commands, as clap sees them.
-ghost use Rattle.std.specs.Prelude.{◌≡◌, IfOk, List, codes};
-ghost use Rattle.clap.specs.Words.{Rule as Argument};
-ghost use Rattle.request_words.specs.Names.{method_names, property_names, rule_names};
-ghost use Rattle.request_words.specs.Limits.{most_limit};
-ghost use Rattle.request_words.specs.Words.{check_over, elect_over, number_option, share_over, text_option};
-ghost use Rattle.request_words.specs.Steps.Commands.{AreArguments, AreShared, HasArguments, IsArgument, IsCommand, IsProgram};
+ghost use Rattle.std.specs.Prelude.{IfOk, map};
+ghost use Rattle.request_words.specs.Steps.Commands.{AreCommandsOf, AreOwnAndShared, IsCommandOf, IsProgram, argument_of};
+ghost use Rattle.request_words.specs.Steps.Commands.{AreCommandsOf, AreOwnAndShared, IsCommandOf, IsProgram, argument_of};
 
 use crate::help::{self, CommandHelp};
-use crate::options::{file_word, flag_option, list_option, name_option, number_option};
+use crate::options::{ArgumentRow, Takes, with_rows};
 use crate::request::{MOST_LIMIT, MOST_WAY_NUMBER, Rule};
 use ballot_base::MOST_MEMBERS;
 use clap::{Arg, Command};
@@ -22,11 +19,153 @@ const _: () = prove!(MOST_MEMBERS == 40);
 // The help of `--seats` spells out the limit.
 const _: () = prove!(MOST_SEATS == 10000);
 
+/// The arguments of `elect`, without those that all commands have.
+const ELECT: [ArgumentRow<'static>; 4] = [
+    ArgumentRow {
+        name: "rule",
+        takes: Takes::Name("RULE", &Rule::NAMES),
+        required: true,
+        help: "The rule: av, pav, cc, geom2, geom3, geom4, sav,\nminimax, seqpav, seqcc or revseqpav",
+    },
+    ArgumentRow {
+        name: "size",
+        takes: Takes::Number("SIZE", MOST_MEMBERS as u32),
+        required: true,
+        help: "The number of seats to fill, 1 to 40",
+    },
+    AFTER,
+    LIMIT,
+];
+
+/// The arguments of `check`, without those that all commands have.
+const CHECK: [ArgumentRow<'static>; 2] = [
+    ArgumentRow {
+        name: "property",
+        takes: Takes::Name("NAME", &Property::NAMES),
+        required: true,
+        help: "The property: jr, pjr, ejr or ejrplus",
+    },
+    ArgumentRow {
+        name: "committee",
+        takes: Takes::List,
+        required: true,
+        help: "The members of the committee, as 2,3,5",
+    },
+];
+
+/// The arguments of `share`, without those that all commands have.
+const SHARE: [ArgumentRow<'static>; 5] = [
+    ArgumentRow {
+        name: "method",
+        takes: Takes::Name("METHOD", &Method::NAMES),
+        required: true,
+        help: "The method: hamilton, dhondt, saintelague,\nhuntington, adams or dean",
+    },
+    ArgumentRow {
+        name: "seats",
+        takes: Takes::Number("SEATS", MOST_SEATS as u32),
+        required: true,
+        help: "The number of seats to share out, 1 to 10000",
+    },
+    ArgumentRow {
+        name: "votes",
+        takes: Takes::List,
+        required: false,
+        help: "The votes of each party, as 53,24,23\n[default: those of the ballots]",
+    },
+    AFTER,
+    LIMIT,
+];
+
+/// The option for the answer after which the others start.
+const AFTER: ArgumentRow<'static> = ArgumentRow {
+    name: "after",
+    takes: Takes::List,
+    required: false,
+    help: "Print only the answers that come after this one,\nas 2,3,5",
+};
+
+/// The option for how many answers are printed at most.
+const LIMIT: ArgumentRow<'static> = ArgumentRow {
+    name: "limit",
+    takes: Takes::Number("N", MOST_LIMIT),
+    required: false,
+    help: "Print N answers at most, and whether there are\nmore [default: all]",
+};
+
+/// The arguments that all commands have: how the ballots are read, whether names are printed, and `FILE`.
+const SHARED: [ArgumentRow<'static>; 6] = [
+    ArgumentRow {
+        name: "kind",
+        takes: Takes::Name("KIND", &Kind::NAMES),
+        required: false,
+        help: "The type of the file: cat, soc, soi, toc or toi\n[default: its DATA TYPE line, or its extension]",
+    },
+    ArgumentRow {
+        name: "category",
+        takes: Takes::Number("N", MOST_WAY_NUMBER),
+        required: false,
+        help: "Count category N of a cat file as approved\n[default: the first]",
+    },
+    ArgumentRow {
+        name: "setsize",
+        takes: Takes::Number("N", MOST_WAY_NUMBER),
+        required: false,
+        help: "Count the top classes of a ranking as approved,\nuntil they hold N candidates",
+    },
+    ArgumentRow {
+        name: "classes",
+        takes: Takes::Number("N", MOST_WAY_NUMBER),
+        required: false,
+        help: "Count the top N classes of a ranking as approved\n[default: the first that is not empty]",
+    },
+    ArgumentRow {
+        name: "names",
+        takes: Takes::Nothing,
+        required: false,
+        help: "Print the names of the candidates beside numbers",
+    },
+    ArgumentRow {
+        name: "file",
+        takes: Takes::File,
+        required: false,
+        help: "The ballots, a PrefLib file\n[default: standard input]",
+    },
+];
+
+/// A command.
+#[derive(Clone, Copy)]
+struct CommandRow<'a> {
+    name: &'a str,
+    help: CommandHelp,
+    /// Its arguments, without those that all commands have.
+    own: &'a [ArgumentRow<'a>],
+}
+
+/// The commands of the program.
+const COMMANDS: [CommandRow<'static>; 3] = [
+    CommandRow {
+        name: "elect",
+        help: help::ELECT,
+        own: &ELECT,
+    },
+    CommandRow {
+        name: "check",
+        help: help::CHECK,
+        own: &CHECK,
+    },
+    CommandRow {
+        name: "share",
+        help: help::SHARE,
+        own: &SHARE,
+    },
+];
+
 /// The program with its commands.
 pub(crate) fn program<'a>(alloc: Global) -> Result<Command<'a>, AllocError>
     ensures { IfOk result IsProgram }
 {
-    let commands = vec![in alloc; elect(alloc)?, check(alloc)?, share(alloc)?]?;
+    let commands = commands(alloc, &COMMANDS)?;
     Command::new(alloc, "committees")
         .about(help::PROGRAM.about)
         .after_long_help(help::PROGRAM.end)
@@ -34,120 +173,32 @@ pub(crate) fn program<'a>(alloc: Global) -> Result<Command<'a>, AllocError>
         .subcommands(commands)
 }
 
-/// The command `elect`.
-fn elect<'a>(alloc: Global) -> Result<Command<'a>, AllocError>
-    ensures { IfOk result (IsCommand rule_names elect_over) }
+/// The commands of these rows.
+fn commands<'a>(alloc: Global, rows: &[CommandRow<'a>]) -> Result<Vec<Command<'a>>, AllocError>
+    ensures { IfOk result (λ commands. AreCommandsOf rows.now commands.items) }
 {
-    let rules = Rule::NAMES.as_slice();
-    let rule =
-        "The rule: av, pav, cc, geom2, geom3, geom4, sav,\nminimax, seqpav, seqcc or revseqpav";
-    let most = u32::from(MOST_MEMBERS);
-    let size = "The number of seats to fill, 1 to 40";
-    let own = vec![in alloc;
-        name_option(alloc, "rule", "RULE", rules)
-            .help(rule)
-            .required(true),
-        number_option(alloc, "size", "SIZE", most)
-            .help(size)
-            .required(true),
-        after_option(alloc),
-        limit_option(alloc),
-    ]?;
-    command(alloc, "elect", help::ELECT, own)
+    let mut commands = Vec::new(alloc);
+    for row in rows {
+        commands.push(command(alloc, *row)?)?;
+    }
+    Ok(commands)
 }
 
-/// The command `check`.
-fn check<'a>(alloc: Global) -> Result<Command<'a>, AllocError>
-    ensures { IfOk result (IsCommand property_names check_over) }
+/// The command of a row: its own arguments, and after them those that all commands have.
+fn command<'a>(alloc: Global, row: CommandRow<'a>) -> Result<Command<'a>, AllocError>
+    ensures { IfOk result (IsCommandOf row.entry) }
 {
-    let properties = Property::NAMES.as_slice();
-    let property = "The property: jr, pjr, ejr or ejrplus";
-    let committee = "The members of the committee, as 2,3,5";
-    let own = vec![in alloc;
-        name_option(alloc, "property", "NAME", properties)
-            .help(property)
-            .required(true),
-        list_option(alloc, "committee")
-            .help(committee)
-            .required(true),
-    ]?;
-    command(alloc, "check", help::CHECK, own)
+    let arguments = arguments(alloc, row.own)?;
+    Command::new(alloc, row.name)
+        .about(row.help.about)
+        .after_long_help(row.help.end)
+        .args(arguments)
 }
 
-/// The command `share`.
-fn share<'a>(alloc: Global) -> Result<Command<'a>, AllocError>
-    ensures { IfOk result (IsCommand method_names share_over) }
+/// A command's own arguments, and after them those that all commands have.
+fn arguments<'a>(alloc: Global, own: &[ArgumentRow<'a>]) -> Result<Vec<Arg<'a>>, AllocError>
+    ensures { IfOk result (λ args. AreOwnAndShared (map argument_of own.now) args.items) }
 {
-    let methods = Method::NAMES.as_slice();
-    let method = "The method: hamilton, dhondt, saintelague,\nhuntington, adams or dean";
-    let most = u32::from(MOST_SEATS);
-    let seats = "The number of seats to share out, 1 to 10000";
-    let votes = "The votes of each party, as 53,24,23\n[default: those of the ballots]";
-    let own = vec![in alloc;
-        name_option(alloc, "method", "METHOD", methods)
-            .help(method)
-            .required(true),
-        number_option(alloc, "seats", "SEATS", most)
-            .help(seats)
-            .required(true),
-        list_option(alloc, "votes").help(votes),
-        after_option(alloc),
-        limit_option(alloc),
-    ]?;
-    command(alloc, "share", help::SHARE, own)
-}
-
-/// A command with its own arguments, and after them those that all commands have.
-fn command<'a>(
-    alloc: Global,
-    name: &'a str,
-    help: CommandHelp,
-    own: Vec<Arg<'a>>,
-) -> Result<Command<'a>, AllocError>
-    ensures { (arguments : List Argument) → AreArguments arguments own.entry.items
-        → IfOk result (HasArguments name.now arguments) }
-{
-    Command::new(alloc, name)
-        .about(help.about)
-        .after_long_help(help.end)
-        .args(own)?
-        .args(shared_arguments(alloc)?)
-}
-
-/// The arguments that all commands have: how the ballots are read, whether names are printed, and `FILE`.
-fn shared_arguments<'a>(alloc: Global) -> Result<Vec<Arg<'a>>, AllocError>
-    ensures { IfOk result (λ arguments. AreShared arguments.items) }
-{
-    let kinds = Kind::NAMES.as_slice();
-    let kind =
-        "The type of the file: cat, soc, soi, toc or toi\n[default: its DATA TYPE line, or its extension]";
-    let category = "Count category N of a cat file as approved\n[default: the first]";
-    let set_size = "Count the top classes of a ranking as approved,\nuntil they hold N candidates";
-    let classes =
-        "Count the top N classes of a ranking as approved\n[default: the first that is not empty]";
-    let names = "Print the names of the candidates beside numbers";
-    Ok(vec![in alloc;
-        name_option(alloc, "kind", "KIND", kinds).help(kind),
-        number_option(alloc, "category", "N", MOST_WAY_NUMBER).help(category),
-        number_option(alloc, "setsize", "N", MOST_WAY_NUMBER).help(set_size),
-        number_option(alloc, "classes", "N", MOST_WAY_NUMBER).help(classes),
-        flag_option(alloc, "names").help(names),
-        file_word(alloc),
-    ]?)
-}
-
-/// The option that tells after which answer the others start.
-fn after_option<'a>(alloc: Global) -> Arg<'a>
-    ensures { IsArgument (text_option (codes "after")) result }
-{
-    let help = "Print only the answers that come after this one,\nas 2,3,5";
-    list_option(alloc, "after").help(help)
-}
-
-/// The option that tells how many answers are printed at most.
-fn limit_option<'a>(alloc: Global) -> Arg<'a>
-    ensures { IsArgument (number_option (codes "limit") most_limit) result }
-{
-    let help = "Print N answers at most, and whether there are\nmore [default: all]";
-    number_option(alloc, "limit", "N", MOST_LIMIT).help(help)
+    let own = with_rows(alloc, Vec::new(alloc), own)?;
+    with_rows(alloc, own, &SHARED)
 }

@@ -1,55 +1,73 @@
 //! The arguments of the commands, as clap sees them.
-ghost use Rattle.request_words.specs.Steps.Commands.{IsArgument};
-ghost use Rattle.request_words.specs.Words.{file_word, flag_option, name_option, number_option, text_option};
+ghost use Rattle.std.specs.Prelude.{IfOk};
+ghost use Rattle.request_words.specs.Steps.Commands.{AddsArguments, IsArgument, argument_of};
 
-use clap::{Arg, ArgAction, value_parser};
-use std::alloc::Global;
+use clap::builder::ValueParser;
+use clap::{Arg, ArgAction};
+use std::alloc::{AllocError, Global};
 
-/// An option that takes a list of numbers.
-pub(crate) fn list_option<'a>(alloc: Global, name: &'a str) -> Arg<'a>
-    ensures { IsArgument (text_option name.now) result }
-{
-    Arg::new(alloc, name).long(name).value_name("LIST")
+/// What an argument takes. Help calls the value by the first word.
+#[derive(Clone, Copy)]
+pub(crate) enum Takes<'a> {
+    /// An option with one of these names.
+    Name(&'a str, &'a [&'a str]),
+    /// An option with a number from 1 to this one.
+    Number(&'a str, u32),
+    /// An option with a list of numbers.
+    List,
+    /// An option without a value.
+    Nothing,
+    /// The word `FILE`.
+    File,
 }
 
-/// An option that takes a number from 1 to `most`.
-pub(crate) fn number_option<'a>(alloc: Global, name: &'a str, value: &'a str, most: u32) -> Arg<'a>
-    ensures { IsArgument (number_option name.now most) result }
-{
-    Arg::new(alloc, name)
-        .long(name)
-        .value_name(value)
-        .value_parser(value_parser!(u32).range(1..=i64::from(most)))
+/// An argument of a command.
+#[derive(Clone, Copy)]
+pub(crate) struct ArgumentRow<'a> {
+    /// The name, which is also the long name of an option.
+    pub(crate) name: &'a str,
+    /// What it takes.
+    pub(crate) takes: Takes<'a>,
+    /// Whether it must be given.
+    pub(crate) required: bool,
+    /// What help says of it, within the columns.
+    pub(crate) help: &'a str,
 }
 
-/// An option that takes one of these names, which its help lists within the columns.
-pub(crate) fn name_option<'a>(
+/// The argument of a row. The help of an option lists the names that it takes.
+fn argument<'a>(alloc: Global, row: ArgumentRow<'a>) -> Arg<'a>
+    ensures { IsArgument (argument_of row.entry) result }
+{
+    let argument = Arg::new(alloc, row.name)
+        .help(row.help)
+        .required(row.required);
+    match row.takes {
+        Takes::Name(value, names) => argument
+            .long(row.name)
+            .value_name(value)
+            .value_parser(names)
+            .hide_possible_values(true),
+        Takes::Number(value, most) => argument
+            .long(row.name)
+            .value_name(value)
+            .value_parser(ValueParser::signed(1, i64::from(most))),
+        Takes::List => argument.long(row.name).value_name("LIST"),
+        Takes::Nothing => argument.long(row.name).action(ArgAction::SetTrue),
+        Takes::File => argument.value_name("FILE"),
+    }
+}
+
+/// These arguments, and after them those of the rows.
+pub(crate) fn with_rows<'a>(
     alloc: Global,
-    name: &'a str,
-    value: &'a str,
-    names: &'a [&'a str],
-) -> Arg<'a>
-    ensures { IsArgument (name_option name.now names.entry) result }
+    mut arguments: Vec<Arg<'a>>,
+    rows: &[ArgumentRow<'a>],
+) -> Result<Vec<Arg<'a>>, AllocError>
+    ensures { IfOk result (λ args. AddsArguments rows.now arguments.entry.items args.items) }
 {
-    Arg::new(alloc, name)
-        .long(name)
-        .value_name(value)
-        .value_parser(names)
-        .hide_possible_values(true)
-}
-
-/// An option without a value.
-pub(crate) fn flag_option<'a>(alloc: Global, name: &'a str) -> Arg<'a>
-    ensures { IsArgument (flag_option name.now) result }
-{
-    Arg::new(alloc, name).long(name).action(ArgAction::SetTrue)
-}
-
-/// The word `FILE`.
-pub(crate) fn file_word<'a>(alloc: Global) -> Arg<'a>
-    ensures { IsArgument file_word result }
-{
-    Arg::new(alloc, "file")
-        .value_name("FILE")
-        .help("The ballots, a PrefLib file\n[default: standard input]")
+    arguments.reserve(rows.len())?;
+    for row in rows {
+        arguments.push(argument(alloc, *row))?;
+    }
+    Ok(arguments)
 }
