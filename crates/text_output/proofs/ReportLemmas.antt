@@ -8,7 +8,7 @@ use Rattle.group_check.specs.declared.property.Property.TheVariants.{Jr, Ejr, Ej
 use Rattle.group_check.specs.Report.{is_in_group}
 use Rattle.text_output.specs.Names.{Names, candidates_text}
 use Rattle.text_output.specs.Text.{line}
-use Rattle.text_output.specs.CheckText.{row_text, group_text, within_text}
+use Rattle.text_output.specs.CheckText.{row_text, group_text, voters_text, within_text}
 
 -- a report under any other property than pjr has no line of members
 pub no_within : (names : Names) (property : Property) (within : List ℕ) → (property ≡ Jr) ⊎ ((property ≡ Ejr) ⊎ (property ≡ EjrPlus))
@@ -21,6 +21,11 @@ no_within names property within (inr (inr is)) = ap (λ p. within_text names p w
 pub row_parts : (names : Names) (ballot : List ℕ) (count : ℕ) → row_text names (ballot, count) ≡ decimal count ++ line (codes ": " ++ candidates_text names ballot)
 row_parts names ballot count =
     ap (λ l. l ++ 10 ∷ []) (append_assoc (decimal count) (codes ": ") (candidates_text names ballot)) ∙ append_assoc (decimal count) (codes ": " ++ candidates_text names ballot) (10 ∷ [])
+
+-- the line of the voters, from the pieces that it is printed from
+pub voters_parts : (words count all : List ℕ) (voters total : ℕ) → words ≡ codes "voters " → count ≡ decimal voters → all ≡ decimal total
+    → words ++ (count ++ (codes " of " ++ (all ++ (10 ∷ [])))) ≡ voters_text voters total
+voters_parts words count all voters total is counted summed = rw (is, counted, summed) (simp append_assoc)
 
 -- the rows from one on are those after it, and before them that row if its voters are in the group
 module _ (names : Names) (violation : Violation) (left : List Row) (row : Row) (rest : List Row) (is : left ≡ row ∷ rest) where

@@ -1,4 +1,5 @@
 use Rattle.std.proofs.Common.{subst, sym, ap, sum, arith, ◌∙◌, false}
+use Rattle.std.proofs.lemmas.Grind.{common_steps}
 use Rattle.seat_share.specs.declared.party.Party.{Party}
 use Rattle.seat_share.specs.Steps.Claims.{claim}
 use Rattle.seat_share.specs.Steps.Standings.{votes_of}
@@ -31,3 +32,15 @@ loop-given-preserved c =
 pub returns-clause-within : goal.returns-clause-within
 returns-clause-within c =
     within-sum c.args.contest.seats c.loop-given.parties c.loop-given.invariant.few (omega (arith, c.loop-given.invariant.seats, c.loop-given.auto._given-end))
+
+pub offset_bounds-parties-first : goal.offset_bounds-parties-first
+offset_bounds-parties-first c = grind (arith, common_steps)
+
+pub bounds-parties-first : goal.bounds-parties-first
+bounds-parties-first c = grind (arith, common_steps)
+
+pub overflow_add-parties : goal.overflow_add-parties
+overflow_add-parties c = grind (arith, common_steps)
+
+pub bounds-parties-first-in-Some : goal.bounds-parties-first-in-Some
+bounds-parties-first-in-Some c = grind (arith, common_steps)

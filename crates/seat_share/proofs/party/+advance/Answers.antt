@@ -1,4 +1,5 @@
 use Rattle.std.proofs.Common.{refl, arith, ◌∙◌}
+use Rattle.std.proofs.lemmas.Grind.{common_steps}
 use Rattle.std.proofs.lemmas.List.Sums.{sum_by_from}
 use Rattle.seat_share.specs.declared.party.Party.{Party}
 use Rattle.seat_share.proofs.ChoiceSteps.{last-of_empty, stepped, stopped, none-left, counted, moved}
@@ -35,3 +36,9 @@ returns-clause-next t c = λ h.
     c.if-first.false (grind (arith, c.if-not-first.false)) refl refl c.advance.ensures.same c.count_more-more.ensures c.advance.ensures.count (omega (arith, c.if-more-eq0.false))
     (none-left c.advance.new.parties c.count_more-more.result c.place_last.result c.advance.ensures.tied c.count_more-more.ensures c.place_last.ensures.left)
     (c.advance.ensures.last c.if-advance.false) c.place_last.ensures.first
+
+pub returns-then-advance-clause-count : goal.returns-then-advance-clause-count
+returns-then-advance-clause-count t c = grind (arith, common_steps)
+
+pub returns-then-first-clause-count : goal.returns-then-first-clause-count
+returns-then-first-clause-count t c = grind (arith, common_steps)

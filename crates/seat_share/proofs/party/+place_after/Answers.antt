@@ -1,4 +1,5 @@
 use Rattle.std.proofs.Common.{refl, arith, cond, ◌∙◌}
+use Rattle.std.proofs.lemmas.Grind.{common_steps}
 use Rattle.std.proofs.lemmas.List.Sums.{sum_by_from}
 use Rattle.seat_share.specs.declared.party.Party.{Party}
 use Rattle.seat_share.proofs.LaterChoices.{none-of_empty, none-of_few, placed-above, none-above, placed-with_more, placed-same, none-same, placed-raised, count-raised}
@@ -62,3 +63,15 @@ returns-clause-later t c =
     c.in-Some-split_first_mut.ensures.cases.0 c.in-Some.ensures.cases.0 c.requires.long _ c.place_after-2.new.parties c.place_last-2.new.parties c.args.tied c.args.more c.place_last-2.result
     refl refl (grind (arith, c.if-not-first-2.false)) (omega (arith, c.if-first-seats.false, c.if-first-seats-2.false)) (omega (arith, c.if-more-eq0-2.false)) c.if-more-tied.false c.requires.count
     c.if-place_after.ensures.same c.place_last-2.ensures.left c.place_last-2.ensures.first c.if-place_after.ensures.later
+
+pub place_after-requires : goal.place_after-requires
+place_after-requires t c = grind (arith, common_steps)
+
+pub place_after-requires-2 : goal.place_after-requires-2
+place_after-requires-2 t c = grind (arith, common_steps)
+
+pub returns-then-first-seats-2-clause-count : goal.returns-then-first-seats-2-clause-count
+returns-then-first-seats-2-clause-count t c = grind (arith, common_steps)
+
+pub returns-then-place_after-clause-count : goal.returns-then-place_after-clause-count
+returns-then-place_after-clause-count t c = grind (arith, common_steps)

@@ -1,4 +1,5 @@
 use Rattle.std.proofs.Common.{refl, arith}
+use Rattle.std.proofs.lemmas.Grind.{common_steps}
 use Rattle.seat_share.proofs.ChoiceSteps.{first-of_empty, placed-with_more, placed-without}
 use Rattle.seat_share.proofs.party.+place_last.Goals.{else-first-via-then-first+else-left-gt0, else-first-via-else-first}
 use Rattle.seat_share.proofs.party.+place_last.Goals as goal
@@ -19,3 +20,12 @@ returns-else-first-clause-first t c =
       | else-first-via-then-first+else-left-gt0 w ↦ grind (arith, w.if-left-gt0.false)
       | else-first-via-else-first w ↦ grind (arith, h, w.if-first.false)
     ]) c.place_last-left.ensures.same c.place_last-left.ensures.placed c.place_last-left.ensures.first
+
+pub returns-then-left-gt0-clause-left : goal.returns-then-left-gt0-clause-left
+returns-then-left-gt0-clause-left t c = grind (arith, common_steps)
+
+pub returns-then-left-gt0-clause-placed : goal.returns-then-left-gt0-clause-placed
+returns-then-left-gt0-clause-placed t c = grind (arith, common_steps)
+
+pub returns-else-first-clause-left : goal.returns-else-first-clause-left
+returns-else-first-clause-left t c = grind (arith, common_steps)

@@ -1,4 +1,5 @@
 use Rattle.std.proofs.Common.{◌≡◌, ◌∙◌, Some, false, cond, length, sym, ap, arith}
+use Rattle.std.proofs.lemmas.Grind.{common_steps}
 use Rattle.std.specs.Str.{bytes_eq}
 use Rattle.ballot_base.specs.Ballots.{has_ballot}
 use Rattle.ballot_base.specs.Steps.Profiles.{place_of}
@@ -17,3 +18,9 @@ invariant_of-self-in-Ok g c =
     ∙ ap (λ n. cond (bytes_eq ballot other) (Some n) (place_of rows other)) place
     ∙ sym (place_of-new ballot c.args.count rows none other)
     ∙ ap (λ l. place_of l other) (sym c.in_ok-push.ensures.items)
+
+pub invariant_of-self-in-Err : goal.invariant_of-self-in-Err
+invariant_of-self-in-Err g c = grind (arith, common_steps)
+
+pub returns-in-Err-clause-err : goal.returns-in-Err-clause-err
+returns-in-Err-clause-err g c = grind (arith, common_steps)

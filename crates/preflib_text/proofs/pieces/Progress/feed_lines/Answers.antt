@@ -3,6 +3,7 @@ use Rattle.std.proofs.lemmas.Result.{on_ok_weaker, IfErr-weaker}
 use Rattle.preflib_text.specs.Pieces.{is_too_long}
 use Rattle.preflib_text.specs.Steps.Pieces.{unmarked}
 use Rattle.std.proofs.Common.{◌++◌, ◌≡◌, ℕ, ◌≤◌, ◌==◌, false, List, [], ◌∷◌, sym, ◌∙◌, length, refl, arith}
+use Rattle.std.proofs.lemmas.Grind.{common_steps}
 use Rattle.std.proofs.lemmas.List.{length-append}
 use Rattle.preflib_text.proofs.PieceLemmas.{loop_count, loop_refused, loop_next, loop_kept, loop_long, room_left, held_short}
 use Rattle.preflib_text.proofs.pieces.Progress.feed_lines.Goals as goal
@@ -57,3 +58,6 @@ returns-clause-ok g c = on_ok_weaker c.hold.result (λ (h : (c.hold.new.self.hel
 
 pub returns-clause-err : goal.returns-clause-err
 returns-clause-err g c = IfErr-weaker c.hold.result _ _ (λ fault h. loop_long _ _ _ _ _ _ _ _ c.loop-at.invariant.0.1 c.loop-at.invariant.0.2 c.in_default.ensures fault h.0 h.1) c.hold.ensures.err
+
+pub returns-then-is_empty-clause-ok : goal.returns-then-is_empty-clause-ok
+returns-then-is_empty-clause-ok g c = grind (arith, common_steps)

@@ -1,4 +1,5 @@
-use Rattle.std.proofs.Common.{◌≡◌, ℕ, ◌+◌, ◌*◌, ◌^◌, ◌<◌, ◌∙◌, cond, ◌∷◌, sym, ap, arith, length, get_or}
+use Rattle.std.proofs.Common.{◌≡◌, ℕ, ◌+◌, ◌*◌, ◌^◌, ◌<◌, ◌≤◌, ◌∙◌, Bool, Fits, true, false, cond, ◌∷◌, sym, ap, arith, length, get_or}
+use Rattle.std.specs.Int.{w128}
 use Rattle.std.proofs.Math.ListN.{length-set}
 use Rattle.ballot_base.specs.Limits.{most_candidates, most_members}
 use Rattle.ballot_base.specs.CandSet.{has_member}
@@ -43,3 +44,14 @@ returns-clause-sum g c ballot_at block n in_ =
     c.requires.weights.end (hits (ballot_at i) c.args.set)
     (omega (arith, high, c.min-levels.ensures, c.len.ensures.count, hits-most 1 most_candidates 1 most_candidates (ballot_at i) c.args.set (block.rises i) c.len.ensures.valid))) in
     omega (arith, made, summed, whole, ap (λ l. cond (has_member l n) part 0) c.in-None.ensures.steps.0, ap (λ b. cond b part 0) in_)
+
+-- a gain stays small
+gain-fits : (done : Bool) (before gain part : ℕ) → before < 2 ^ 106 → gain ≤ before + cond done 0 (most_members * 2 ^ 90) → part ≤ most_members * 2 ^ 90 → Fits w128 (gain + part)
+gain-fits true before gain part low near more = omega arith
+gain-fits false before gain part low near more = omega arith
+
+pub overflow_add-gains : goal.overflow_add-gains
+overflow_add-gains g c =
+    let at = c.from-c.result in
+    gain-fits (has_member c.loop-candidate.candidate-iterator at) (get_or c.args.gains.now at 0) (get_or c.loop-candidate.gains at 0) c.given_by.result
+    (c.requires.fits at) (c.loop-candidate.invariant.most at) (omega (arith, c.given_by.ensures.most, c.min-levels.ensures, c.requires.weights.few))

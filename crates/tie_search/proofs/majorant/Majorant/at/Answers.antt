@@ -58,3 +58,18 @@ returns c = record {
     overlap_small = c.loop-hits.invariant.overlap_small;
   };
 }
+
+pub overflow_add-given-in-loop-hits : goal.overflow_add-given-in-loop-hits
+overflow_add-given-in-loop-hits c =
+    let few : c.loop-hits.hits ≤ 64 = omega (arith, c.loop-hits-test.true, c.from-hits-end.ensures, c.requires.fits) in
+    omega (arith, c.requires.small (c.from-first.result + c.loop-hits.hits), square c.bend-overlap.result c.loop-hits.hits c.loop-hits.invariant.overlap_small few)
+
+pub overflow_mul-worth-in-loop-hits : goal.overflow_mul-worth-in-loop-hits
+overflow_mul-worth-in-loop-hits c =
+    let hits = c.loop-hits.hits in
+    let worth : ℕ = c.if-touch-most.step + c.bend-overlap.result * (2 * c.from-4.result + 1) in
+    let few : hits ≤ 64 = omega (arith, c.loop-hits-test.true, c.from-hits-end.ensures, c.requires.fits) in
+    let small : worth ≤ 2 ^ 34 = worth-small c.if-touch-most.step c.bend-overlap.result c.from-4.result c.loop-hits.invariant.step_small c.loop-hits.invariant.overlap_small
+    (omega (arith, c.from-4.ensures, c.requires.touch, c.requires.fits)) in
+    let all : worth * hits ≤ 2 ^ 34 * 64 = mul-le-mul small few in
+    omega (arith, all)

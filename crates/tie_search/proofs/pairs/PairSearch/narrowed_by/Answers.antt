@@ -18,3 +18,13 @@ returns-clause-kept g c = record {
   totals = rw (c.of.ensures.set, c.of.ensures.free, c.of.ensures.left, c.of.ensures.totals) c.add_ballots.ensures.totals;
   small = rw c.of.ensures.totals c.add_ballots.ensures.small;
 }
+
+pub returns-then-serves-clause-kept : goal.returns-then-serves-clause-kept
+returns-then-serves-clause-kept g c =
+    let known : IsKnown c.args.self.now.profile.now c.args.self.now.given.now c.in-Some.known = rw c.in-Some.is at c.requires.kept in
+    let same = c.note_use.ensures in
+    record {
+      opened = rw (same.set, same.free) known.opened;
+      totals = rw (same.set, same.free, same.left, same.totals) known.totals;
+      small = rw same.totals known.small;
+    }

@@ -4,7 +4,7 @@ use Rattle.ballot_base.specs.Limits.{most_candidates}
 use Rattle.tie_search.specs.Steps.Paired.{overlap_at}
 use Rattle.tie_search.proofs.PairNodes.{pairs-narrowed, pairs-none}
 use Rattle.tie_search.proofs.pairs.PairSearch.narrowed_with.Goals as goal
-use Rattle.tie_search.proofs.pairs.PairSearch.narrowed_with.Goals.{After-excess, After-from-factor, After-saturating_add-due}
+use Rattle.tie_search.proofs.pairs.PairSearch.narrowed_with.Goals.{After-excess, After-from, After-from-factor, After-saturating_add-due}
 
 left-fits : (g : _) (c : After-from-factor g) → c.args.node.now.left ≤ 255
 left-fits g c = search rules
@@ -18,6 +18,11 @@ threshold-fits left t few small =
 kept-fits : (factor kept : ℕ) → factor ≤ 255 → kept ≤ 2 ^ 71 → 2 * factor * kept ≤ 2 ^ 80
 kept-fits factor kept few small =
     let all : 2 * factor * kept ≤ 510 * 2 ^ 71 = mul-le-mul (let top : 2 * factor ≤ 510 = omega (arith, few) in top) small in
+    omega (arith, all)
+
+worth-raise : (factor overlap : ℕ) → factor ≤ 255 → overlap ≤ 2 ^ 58 → 2 * factor * overlap ≤ 2 ^ 67
+worth-raise factor overlap few small =
+    let all : 2 * factor * overlap ≤ 510 * 2 ^ 58 = mul-le-mul (let top : 2 * factor ≤ 510 = omega (arith, few) in top) small in
     omega (arith, all)
 
 raise-fits : (a b factor overlap : ℕ) → a ≤ 255 → b ≤ 255 → factor ≤ 255 → overlap ≤ 2 ^ 58 → a * b * (2 * factor * overlap) ≤ 2 ^ 84
@@ -72,7 +77,7 @@ greatest-is g c =
     )
 
 -- worths are raised enough
-raise-enough : (g : _) (c : After-excess g) (i j : ℕ) → i ≤ most_candidates → j ≤ most_candidates → 2 * (c.args.node.now.left - 1) * overlap_at c.args.totals.now.overlaps i j ≤ 2 * c.from-factor.result * c.from.result
+raise-enough : (g : _) (c : After-from g) (i j : ℕ) → i ≤ most_candidates → j ≤ most_candidates → 2 * (c.args.node.now.left - 1) * overlap_at c.args.totals.now.overlaps i j ≤ 2 * c.from-factor.result * c.from.result
 raise-enough g c i j row column =
     let low : overlap_at c.args.totals.now.overlaps i j ≤ c.from.result = omega (arith, c.from.ensures, c.greatest_overlap.ensures.most i j row column) in
     let product : 2 * c.from-factor.result * overlap_at c.args.totals.now.overlaps i j ≤ 2 * c.from-factor.result * c.from.result = mul-le-mul_left (2 * c.from-factor.result) low in
@@ -101,7 +106,7 @@ returns-then-most-due g c weights are =
     let t = c.nth_greatest-threshold.result in
     let raise = 2 * c.from-factor.result * c.from.result in
     pairs-none weights self.given.now.scale self.given.now.unit e.m e.rows c.args.node.now.set c.args.node.now.free c.args.node.now.left totals.kept totals.worths totals.overlaps c.requires.opened c.requires.election.most c.requires.several c.requires.unit
-    are self.least c.units.result raise c.units.ensures (raise-enough g (goal.at.returns-then-most-due g c).After-excess)
+    are self.least c.units.result raise c.units.ensures (raise-enough g (goal.at.returns-then-most-due g c).After-from)
     sums c.sums-sums.ensures.sums t (2 * c.from-factor.result * totals.kept + c.from-2.result * t + c.excess.result) c.saturating_add-due.result
     (greatest-is g (goal.at.returns-then-most-due g c).After-excess) (due-low g (goal.at.returns-then-most-due g c).After-saturating_add-due) c.if-most-due.true
 
@@ -114,7 +119,25 @@ returns g c weights are =
     let t = c.nth_greatest-threshold.result in
     let raise = 2 * c.from-factor.result * c.from.result in
     pairs-narrowed weights self.given.now.scale self.given.now.unit e.m e.rows c.args.node.now.set c.args.node.now.free c.args.node.now.left totals.kept totals.worths totals.overlaps c.requires.opened c.requires.election.most c.requires.several c.requires.unit
-    are self.least c.units.result raise c.units.ensures (raise-enough g (goal.at.returns g c).After-excess)
+    are self.least c.units.result raise c.units.ensures (raise-enough g (goal.at.returns g c).After-from)
     sums c.sums-sums.ensures.sums t (2 * c.from-factor.result * totals.kept + c.from-2.result * t + c.excess.result) c.saturating_add-due.result
     (greatest-is g (goal.at.returns g c).After-excess) (due-low g (goal.at.returns g c).After-saturating_add-due) c.if-most-due.false c.at_least.result
     c.at_least.ensures.within c.at_least.ensures.among (rw c.saturating_sub.ensures at c.at_least.ensures.kept)
+
+pub sums-sums-requires : goal.sums-sums-requires
+sums-sums-requires g c =
+    let few : c.args.node.now.left ≤ 255 = left-fits g (goal.at.sums-sums-requires g c).After-from-factor in
+    record {
+      several = c.requires.several;
+      few = omega (arith, few);
+      small = c.requires.small;
+      raise_small = worth-raise c.from-factor.result c.from.result (omega (arith, c.from-factor.ensures, few)) (omega (arith, c.from.ensures, c.greatest_overlap.ensures.small));
+      enough = raise-enough g (goal.at.sums-sums-requires g c).After-from;
+    }
+
+pub overflow_mul-most : goal.overflow_mul-most
+overflow_mul-most g c =
+    omega (
+      arith,
+      kept-fits c.from-factor.result c.args.totals.now.kept (omega (arith, c.from-factor.ensures, left-fits g (goal.at.overflow_mul-most g c).After-from-factor)) c.requires.small.kept_small,
+    )

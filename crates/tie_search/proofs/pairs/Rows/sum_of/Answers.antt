@@ -91,3 +91,18 @@ returns-clause-sum c =
         ap (λ n. n * t) c.from-4.ensures,
       ),
     )
+
+pub overflow_mul-result : goal.overflow_mul-result
+overflow_mul-result c =
+    omega (
+      arith,
+      few-small c.from.result (get_or c.args.self.now.totals.now.worths c.from-2.result 0) (omega (arith, c.from.ensures, c.requires.rows.few)) (omega (arith, c.requires.rows.small.worths_small c.from-2.result)),
+    )
+
+pub overflow_add-result : goal.overflow_add-result
+overflow_add-result c =
+    omega (
+      arith,
+      few-small c.from.result (get_or c.args.self.now.totals.now.worths c.from-2.result 0) (omega (arith, c.from.ensures, c.requires.rows.few)) (omega (arith, c.requires.rows.small.worths_small c.from-2.result)),
+      c.requires.beside.small c.from-3.result,
+    )

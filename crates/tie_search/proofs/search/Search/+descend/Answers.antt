@@ -1,4 +1,4 @@
-use Rattle.std.proofs.Common.{◌≡◌, ℕ, ◌+◌, ◌-◌, ◌<◌, ◌∙◌, true, ap, subst, sym, arith, inl, inr, length, get_or}
+use Rattle.std.proofs.Common.{◌≡◌, ℕ, ◌+◌, ◌-◌, ◌^◌, ◌<◌, ◌∙◌, true, ap, subst, sym, arith, inl, inr, length, get_or}
 use Rattle.ballot_base.specs.Increments.{increments}
 use Rattle.ballot_base.specs.CandSet.{has_member, with_member, without_member}
 use Rattle.tie_walk.specs.Sequences.{gain}
@@ -287,3 +287,39 @@ returns-clause-searched g t c =
             omega (arith, both.1, c.requires.value, c.saturating_sub.ensures),
           ))));
     }
+
+pub returns-in_default-clause-searched : goal.returns-in_default-clause-searched
+returns-in_default-clause-searched g t c =
+    let tally = c.args.self.now.tally.now in
+    let m = tally.election.m in
+    record {
+      advances = advances-none (tally_value tally) (IsCompletion m c.args.node.set c.args.node.free c.args.node.left) c.args.found.now c.requires.listed;
+      settled = settled-all (tally_value tally) m c.args.node.set c.args.node.left c.args.node.free c.args.node.free c.args.found.now (λ committee whole. inr whole) (rw c.seeking.ensures at c.in_default.ensures.narrowed);
+    }
+
+pub may_reach-requires-clause-threshold : goal.may_reach-requires-clause-threshold
+may_reach-requires-clause-threshold g t c = c.threshold.ensures (2 ^ 116) c.gains_at-gains.ensures.small
+
+pub promising-kept-requires : goal.promising-kept-requires
+promising-kept-requires g t c = record { small = c.gains_at-gains.ensures.small }
+
+pub untried-requires-clause-listed : goal.untried-requires-clause-listed
+untried-requires-clause-listed g t c = c.descend.ensures.searched.advances.valid
+
+pub eligible-requires-in-loop-node-clause-ballots : goal.eligible-requires-in-loop-node-clause-ballots
+eligible-requires-in-loop-node-clause-ballots g t c = rw c.seeking-in-loop-node.ensures c.requires.ballots
+
+pub eligible-requires-in-loop-node-clause-aids : goal.eligible-requires-in-loop-node-clause-aids
+eligible-requires-in-loop-node-clause-aids g t c = rw c.seeking-in-loop-node.ensures c.requires.aids
+
+pub eligible-requires-clause-aids : goal.eligible-requires-clause-aids
+eligible-requires-clause-aids g t c = rw c.seeking.ensures c.requires.aids
+
+pub may_reach-requires-clause-small : goal.may_reach-requires-clause-small
+may_reach-requires-clause-small g t c = c.gains_at-gains.ensures.small
+
+pub returns-in_default-eligible-clause-known : goal.returns-in_default-eligible-clause-known
+returns-in_default-eligible-clause-known g t c = rw c.seeking-in-loop-node.ensures at c.in_default-eligible.ensures.known
+
+pub eligible-requires-in-loop-node-clause-known : goal.eligible-requires-in-loop-node-clause-known
+eligible-requires-in-loop-node-clause-known g t c = rw c.seeking-in-loop-node.ensures c.descend.ensures.known

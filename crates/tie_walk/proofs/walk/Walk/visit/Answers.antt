@@ -1,4 +1,5 @@
 use Rattle.std.proofs.Common.{◌≡◌, ℕ, ◌+◌, ◌<◌, ◌≤◌, ◌∙◌, Bool, true, false, cond, List, [], ◌∷◌, ◌++◌, Option, Some, refl, sym, ap, arith, length}
+use Rattle.std.proofs.lemmas.Grind.{common_steps}
 use Rattle.std.specs.Bool.{then_some}
 use Rattle.std.specs.Prelude.{option_to_list}
 use Rattle.std.specs.Prelude.{nat_le}
@@ -147,3 +148,12 @@ returns-clause-wait g c exact =
     let some = waits-some value m k best p in
     rw c.then_some.ensures
     (wait_by value m k best (Some p) c.args.self.now.counts _ p.set c.has_best.result (λ _. omega (arith, c.enter.ensures.once, some)) (λ short. omega (arith, high, c.has_best.ensures.no short)))
+
+pub returns-then-not-enter-clause-walk : goal.returns-then-not-enter-clause-walk
+returns-then-not-enter-clause-walk g c = grind (arith, common_steps)
+
+pub returns-clause-walk : goal.returns-clause-walk
+returns-clause-walk g c = grind (arith, common_steps)
+
+pub returns-clause-work : goal.returns-clause-work
+returns-clause-work g c = grind (arith, common_steps)
