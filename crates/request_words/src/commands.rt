@@ -1,7 +1,6 @@
 //! The program and its commands, as clap sees them.
 ghost use Rattle.std.specs.Prelude.{IfOk, map};
 ghost use Rattle.request_words.specs.Steps.Commands.{AreCommandsOf, AreOwnAndShared, IsCommandOf, IsProgram, argument_of};
-ghost use Rattle.request_words.specs.Steps.Commands.{AreCommandsOf, AreOwnAndShared, IsCommandOf, IsProgram, argument_of};
 
 use crate::help::{self, CommandHelp};
 use crate::options::{ArgumentRow, Takes, with_rows};

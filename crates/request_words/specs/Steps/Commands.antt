@@ -37,7 +37,7 @@ taking name ListOf = text_option name
 taking name Nothing = flag_option name
 taking name File = record (new_rule name) { value_names = 1 }
 
--- the argument that a row tells of
+-- the argument of a row
 abbrev pub argument_of : ArgumentRow → Argument
 argument_of row = record (taking row.name.now row.takes) { required = row.required }
 
