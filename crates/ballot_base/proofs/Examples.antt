@@ -1,15 +1,10 @@
 -- Each definition, computed on a small example.
-use Rattle.std.proofs.Common.{◌≡◌, ◌+◌, ◌*◌, ◌^◌, ◌∙◌, ℕ, suc, Bool, List, [], ◌∷◌, true, false, cond, ap, refl, lit≤, Some, None, replicate, arith}
-use Rattle.std.specs.Map.{lookup}
-use Rattle.std.specs.HashMap.{HashMap}
-use Rattle.std.specs.Option.{option_map}
-use Rattle.std.specs.Str.{bytes_eq}
+use Rattle.std.proofs.Common.{◌≡◌, ◌+◌, ◌*◌, ◌^◌, List, [], ◌∷◌, true, false, refl, lit≤, Some, None, replicate, arith}
 use Rattle.ballot_base.specs.Lists.{IsIncreasing, lists_of, increasing_lists, is_committee, is_later, IsLater, AreInOrder, later_than}
 use Rattle.ballot_base.specs.CandSet.{has_member, with_member, without_member, common_members, either_members, members_upto, includes}
 use Rattle.ballot_base.specs.Steps.Bits.{members_among, members, bits_of}
 use Rattle.ballot_base.specs.Steps.Subsets.{lists_from, sets_from, MayComeNext, IsLastSet, IsNextSet}
 use Rattle.ballot_base.specs.Ballots.{Row, IsElection, election, ballots_of, name_of, some_name, hits, voter_count, has_ballot, with_votes}
-use Rattle.ballot_base.specs.Steps.Profiles.{place_of, ArePlaces}
 use Rattle.ballot_base.specs.CommonMultiple.{least_multiple, common_multiple, AllDivide}
 use Rattle.ballot_base.specs.Increments.{increment, denominator, increments}
 use Rattle.ballot_base.specs.Hashing.{word_of_bytes, begun, with_word, upper_half}
@@ -170,29 +165,6 @@ is_cast = refl
 is_not_cast : has_ballot rows (1 ∷ []) ≡ false
 unfolding rows
 is_not_cast = refl
-
-second_place : place_of rows [] ≡ Some 1
-unfolding rows
-second_place = refl
-
-no_place : place_of rows (1 ∷ []) ≡ None
-unfolding rows
-no_place = refl
-
--- a map with those places
-are_places : {S : Type 0} (places : HashMap (List ℕ) ℕ S) → places.entries ≡ ([], 1) ∷ (1 ∷ 3 ∷ [], 0) ∷ [] → ArePlaces rows places
-unfolding rows
-are_places places has = λ ballot. ap (lookup (bytes_eq ballot)) has ∙ by (bytes_eq ballot (1 ∷ 3 ∷ [])) (bytes_eq ballot []) (apart ballot)
-  where
-    by : (first second : Bool) → (first ≡ true → second ≡ false) → cond second (Some 1) (cond first (Some 0) None) ≡ cond first (Some 0) (option_map suc (cond second (Some 0) None))
-    by true true differ = let none : true ≡ false = differ refl in absurd (cc)
-    by true false differ = refl
-    by false true differ = refl
-    by false false differ = refl
-
-    apart : (ballot : List ℕ) → bytes_eq ballot (1 ∷ 3 ∷ []) ≡ true → bytes_eq ballot [] ≡ false
-    apart [] first = absurd (cc)
-    apart (c ∷ ballot) first = refl
 
 two_ballots : ballots_of rows ≡ (1 ∷ 3 ∷ []) ∷ [] ∷ []
 unfolding rows

@@ -1,122 +1,82 @@
--- Rows of ballots: the places at which they are found, and what adding votes does.
-use Rattle.std.proofs.Common.{◌≡◌, ℕ, ◌+◌, ◌<◌, ◌≤◌, ◌||◌, Bool, true, false, cond, List, [], ◌∷◌, Option, Some, None, refl, sym, ap, ◌∙◌, arith, zero, suc, ◌≢◌, ◌++◌, length, get_or, slice_set, subst, AllPairs}
-use Rattle.std.specs.List.{AllByRecursion}
-use Rattle.std.specs.Option.{option_map}
+-- Rows of ballots: what adding votes does, by the words of a map and by our own.
+use Rattle.std.proofs.Common.{◌≡◌, ℕ, ◌+◌, ◌<◌, ◌≤◌, ◌||◌, Bool, true, false, not, cond, List, [], ◌∷◌, Option, Some, None, refl, sym, ap, ◌∙◌, arith, zero, suc, ◌≢◌, ◌++◌, length, get_or, AllPairs}
+use Rattle.std.specs.List.{AllByRecursion, position_or_len}
 use Rattle.std.specs.Str.{bytes_eq}
 use Rattle.std.specs.Cmp.Lexicographic.{bytes_decides}
 use Rattle.std.proofs.lemmas.Bool.{or_left, or_parts}
 use Rattle.std.proofs.lemmas.List.Quantifiers.{all_pairs_push}
+use Rattle.std.specs.Map.{lookup, keys_of}
 use Rattle.std.proofs.lemmas.List.Sums.{sum_by-cons}
+use Rattle.indexmap.specs.IndexMap.{insert_entry, set_value_at}
 use Rattle.ballot_base.specs.Limits.{most_voters}
 use Rattle.ballot_base.specs.Lists.{IsIncreasing}
 use Rattle.ballot_base.specs.Ballots.{Row, has_ballot, with_votes, ballots_of, voter_count, election, IsElection}
-use Rattle.ballot_base.specs.Steps.Profiles.{IsCounted, place_of}
+use Rattle.ballot_base.specs.Steps.Profiles.{IsCounted}
 
--- ---- the place of a ballot's row
+-- an element after the first
+later_value : (row : Row) (rows : List Row) (i n : ℕ) → set_value_at (row ∷ rows) (1 + i) n ≡ row ∷ set_value_at rows i n
+later_value row rows i n = let e : 1 + i ≡ suc i = omega arith in ap (λ k. set_value_at (row ∷ rows) k n) e
 
-module _ (ballot : List ℕ) where
-  pub has_ballot-absent : (rows : List Row) → place_of rows ballot ≡ None → has_ballot rows ballot ≡ false
+module _ (ballot : List ℕ) (count : ℕ) where
+  pub has_ballot-absent : (rows : List Row) → lookup (bytes_eq ballot) rows ≡ None → has_ballot rows ballot ≡ false
   has_ballot-absent [] none = refl
-  has_ballot-absent (row ∷ rows) none = by (bytes_eq ballot row.0) (place_of rows ballot) none (has_ballot-absent rows)
+  has_ballot-absent (row ∷ rows) none = by (bytes_eq ballot row.0) none (has_ballot-absent rows)
     where
-      by : (here : Bool) (place : Option ℕ) → cond here (Some 0) (option_map suc place) ≡ None
-          → (place ≡ None → has_ballot rows ballot ≡ false) → (here || has_ballot rows ballot) ≡ false
-      by true place none more = absurd (cc)
-      by false None none more = more refl
-      by false (Some i) none more = absurd (cc)
+      by : (b : Bool) → cond b (Some row.1) (lookup (bytes_eq ballot) rows) ≡ None
+          → (lookup (bytes_eq ballot) rows ≡ None → has_ballot rows ballot ≡ false) → (b || has_ballot rows ballot) ≡ false
+      by true found more = absurd (cc)
+      by false found more = more found
 
-  -- the same of rows that contracts see
-  pub has_ballot-absent-now : (rows now : List Row) → rows ≡ now → place_of rows ballot ≡ None → has_ballot now ballot ≡ false
-  has_ballot-absent-now rows now is none = ap (λ l. has_ballot l ballot) (sym is) ∙ has_ballot-absent rows none
-
-  -- what a place is the place of
-  pub place-within : (rows : List Row) (i : ℕ) → place_of rows ballot ≡ Some i → i < length rows
-  place-within [] i some = absurd (cc)
-  place-within (row ∷ rows) i some = by (bytes_eq ballot row.0) (place_of rows ballot) some (place-within rows)
+  with_votes-new : (rows : List Row) → lookup (bytes_eq ballot) rows ≡ None → insert_entry bytes_eq rows ballot count ≡ with_votes rows ballot count
+  with_votes-new [] none = refl
+  with_votes-new (row ∷ rows) none = by (bytes_eq ballot row.0) none (with_votes-new rows)
     where
-      by : (here : Bool) (place : Option ℕ) → cond here (Some 0) (option_map suc place) ≡ Some i
-          → ((j : ℕ) → place ≡ Some j → j < length rows) → i < suc (length rows)
-      by true place some more = let first : 0 ≡ i = cc in omega arith
-      by false None some more = absurd (cc)
-      by false (Some j) some more = let later : suc j ≡ i = cc in omega (arith, more j refl)
+      by : (b : Bool) → cond b (Some row.1) (lookup (bytes_eq ballot) rows) ≡ None
+          → (lookup (bytes_eq ballot) rows ≡ None → insert_entry bytes_eq rows ballot count ≡ with_votes rows ballot count)
+          → cond b ((row.0, count) ∷ rows) (row ∷ insert_entry bytes_eq rows ballot count)
+          ≡ cond b ((row.0, row.1 + count) ∷ rows) (row ∷ with_votes rows ballot count)
+      by true found more = absurd (cc)
+      by false found more = ap (λ l. row ∷ l) (more found)
 
-  pub count-le : (rows : List Row) (i : ℕ) (old : Row) → place_of rows ballot ≡ Some i → old ≡ get_or rows i old → old.1 ≤ voter_count rows
-  count-le [] i old some at = absurd (cc)
-  count-le (row ∷ rows) i old some at = by (bytes_eq ballot row.0) (place_of rows ballot) i some at (λ j. count-le rows j old)
+  with_votes-old : (rows : List Row) (before : ℕ) → lookup (bytes_eq ballot) rows ≡ Some before
+      → set_value_at (insert_entry bytes_eq rows ballot count) (position_or_len (bytes_eq ballot) (keys_of rows)) (before + count) ≡ with_votes rows ballot count
+  with_votes-old [] before some = absurd (cc)
+  with_votes-old (row ∷ rows) before some = by (bytes_eq ballot row.0) some (with_votes-old rows before)
     where
-      by : (here : Bool) (place : Option ℕ) (i : ℕ) → cond here (Some 0) (option_map suc place) ≡ Some i → old ≡ get_or (row ∷ rows) i old
-          → ((j : ℕ) → place ≡ Some j → old ≡ get_or rows j old → old.1 ≤ voter_count rows) → old.1 ≤ voter_count (row ∷ rows)
-      by true place zero some at more = omega (arith, sum_by-cons (λ (r : Row). r.1) row rows, ap (λ (r : Row). r.1) at)
-      by true place (suc i) some at more = absurd (cc)
-      by false None i some at more = absurd (cc)
-      by false (Some j) zero some at more = absurd (cc)
-      by false (Some j) (suc i) some at more = let same : j ≡ i = cc in omega (arith, sum_by-cons (λ (r : Row). r.1) row rows, more i (ap Some same) at)
+      by : (b : Bool) → cond b (Some row.1) (lookup (bytes_eq ballot) rows) ≡ Some before
+          → (lookup (bytes_eq ballot) rows ≡ Some before → set_value_at (insert_entry bytes_eq rows ballot count) (position_or_len (bytes_eq ballot) (keys_of rows)) (before + count) ≡ with_votes rows ballot count)
+          → set_value_at (cond b ((row.0, count) ∷ rows) (row ∷ insert_entry bytes_eq rows ballot count)) (cond (not b) (1 + position_or_len (bytes_eq ballot) (keys_of rows)) 0) (before + count)
+          ≡ cond b ((row.0, row.1 + count) ∷ rows) (row ∷ with_votes rows ballot count)
+      by true found more = let same_count : row.1 ≡ before = cc in ap (λ n. (row.0, n + count) ∷ rows) (sym same_count)
+      by false found more =
+          later_value row (insert_entry bytes_eq rows ballot count) (position_or_len (bytes_eq ballot) (keys_of rows)) (before + count)
+          ∙ ap (λ l. row ∷ l) (more found)
 
-  module _ (count : ℕ) where
-    -- votes for a ballot that is there
-    pub with_votes-at : (rows : List Row) (i : ℕ) (old : Row) → place_of rows ballot ≡ Some i → old ≡ get_or rows i old
-        → slice_set rows i (old.0, old.1 + count) ≡ with_votes rows ballot count
-    with_votes-at [] i old some at = absurd (cc)
-    with_votes-at (row ∷ rows) i old some at = by (bytes_eq ballot row.0) (place_of rows ballot) i some at (λ j. with_votes-at rows j old)
-      where
-        by : (here : Bool) (place : Option ℕ) (i : ℕ) → cond here (Some 0) (option_map suc place) ≡ Some i → old ≡ get_or (row ∷ rows) i old
-            → ((j : ℕ) → place ≡ Some j → old ≡ get_or rows j old → slice_set rows j (old.0, old.1 + count) ≡ with_votes rows ballot count)
-            → slice_set (row ∷ rows) i (old.0, old.1 + count) ≡ cond here ((row.0, row.1 + count) ∷ rows) (row ∷ with_votes rows ballot count)
-        by true place zero some at more = ap (λ (r : Row). (r.0, r.1 + count) ∷ rows) at
-        by true place (suc i) some at more = absurd (cc)
-        by false None i some at more = absurd (cc)
-        by false (Some j) zero some at more = absurd (cc)
-        by false (Some j) (suc i) some at more = let same : j ≡ i = cc in ap (λ l. row ∷ l) (more i (ap Some same) at)
+  -- the same, of a map that `insert_full` has changed, where it found the voters of the row so far
+  pub with_votes-put : (rows mid : List Row) (place before : ℕ) (found : Option ℕ) → mid ≡ insert_entry bytes_eq rows ballot count
+      → place ≡ position_or_len (bytes_eq ballot) (keys_of rows) → found ≡ lookup (bytes_eq ballot) rows → found ≡ Some before
+      → set_value_at mid place (before + count) ≡ with_votes rows ballot count
+  with_votes-put rows mid place before found changed at old some =
+      ap (λ es. set_value_at es place (before + count)) changed
+      ∙ ap (λ i. set_value_at (insert_entry bytes_eq rows ballot count) i (before + count)) at
+      ∙ with_votes-old rows before (sym old ∙ some)
 
-    -- votes for a new one
-    pub with_votes-new : (rows : List Row) → has_ballot rows ballot ≡ false → rows ++ (ballot, count) ∷ [] ≡ with_votes rows ballot count
-    with_votes-new [] none = refl
-    with_votes-new (row ∷ rows) none = by (bytes_eq ballot row.0) none (with_votes-new rows)
-      where
-        by : (here : Bool) → (here || has_ballot rows ballot) ≡ false
-            → (has_ballot rows ballot ≡ false → rows ++ (ballot, count) ∷ [] ≡ with_votes rows ballot count)
-            → row ∷ rows ++ (ballot, count) ∷ [] ≡ cond here ((row.0, row.1 + count) ∷ rows) (row ∷ with_votes rows ballot count)
-        by true none more = absurd (cc)
-        by false none more = ap (λ l. row ∷ l) (more none)
+  pub with_votes-put_new : (rows mid : List Row) (found : Option ℕ) → mid ≡ insert_entry bytes_eq rows ballot count
+      → found ≡ lookup (bytes_eq ballot) rows → found ≡ None → mid ≡ with_votes rows ballot count
+  with_votes-put_new rows mid found changed old none = changed ∙ with_votes-new rows (sym old ∙ none)
 
-    -- the places stay
-    pub place_of-with_votes : (rows : List Row) (i : ℕ) → place_of rows ballot ≡ Some i → (other : List ℕ) → place_of (with_votes rows ballot count) other ≡ place_of rows other
-    place_of-with_votes [] i some other = absurd (cc)
-    place_of-with_votes (row ∷ rows) i some other = by (bytes_eq ballot row.0) (place_of rows ballot) some (λ j is. place_of-with_votes rows j is other)
-      where
-        by : (here : Bool) (place : Option ℕ) → cond here (Some 0) (option_map suc place) ≡ Some i
-            → ((j : ℕ) → place ≡ Some j → place_of (with_votes rows ballot count) other ≡ place_of rows other)
-            → place_of (cond here ((row.0, row.1 + count) ∷ rows) (row ∷ with_votes rows ballot count)) other ≡ place_of (row ∷ rows) other
-        by true place some more = refl
-        by false None some more = absurd (cc)
-        by false (Some j) some more = ap (λ o. cond (bytes_eq other row.0) (Some 0) (option_map suc o)) (more j refl)
+  -- a row's voters are some of all
+  count-le : (rows : List Row) (before : ℕ) → lookup (bytes_eq ballot) rows ≡ Some before → before ≤ voter_count rows
+  count-le [] before some = absurd (cc)
+  count-le (row ∷ rows) before some = by (bytes_eq ballot row.0) some (count-le rows before)
+    where
+      by : (b : Bool) → cond b (Some row.1) (lookup (bytes_eq ballot) rows) ≡ Some before
+          → (lookup (bytes_eq ballot) rows ≡ Some before → before ≤ voter_count rows) → before ≤ voter_count (row ∷ rows)
+      by true found more = let same : row.1 ≡ before = cc in omega (arith, sum_by-cons (λ (r : Row). r.1) row rows)
+      by false found more = omega (arith, sum_by-cons (λ (r : Row). r.1) row rows, more found)
 
-    -- a new row comes last
-    place_of-own : (rows : List Row) → has_ballot rows ballot ≡ false → place_of (rows ++ (ballot, count) ∷ []) ballot ≡ Some (length rows)
-    place_of-own [] none = ap (λ b. cond b (Some 0) None) ((bytes_decides ballot ballot).1 refl)
-    place_of-own (row ∷ rows) none = by (bytes_eq ballot row.0) none (place_of-own rows)
-      where
-        by : (here : Bool) → (here || has_ballot rows ballot) ≡ false
-            → (has_ballot rows ballot ≡ false → place_of (rows ++ (ballot, count) ∷ []) ballot ≡ Some (length rows))
-            → cond here (Some 0) (option_map suc (place_of (rows ++ (ballot, count) ∷ []) ballot)) ≡ Some (suc (length rows))
-        by true none more = absurd (cc)
-        by false none more = ap (option_map suc) (more none)
-
-    place_of-other : (rows : List Row) (other : List ℕ) → bytes_eq other ballot ≡ false → place_of (rows ++ (ballot, count) ∷ []) other ≡ place_of rows other
-    place_of-other [] other differs = ap (λ b. cond b (Some 0) None) differs
-    place_of-other (row ∷ rows) other differs = ap (λ o. cond (bytes_eq other row.0) (Some 0) (option_map suc o)) (place_of-other rows other differs)
-
-    pub place_of-new : (rows : List Row) → has_ballot rows ballot ≡ false → (other : List ℕ)
-        → place_of (rows ++ (ballot, count) ∷ []) other ≡ cond (bytes_eq ballot other) (Some (length rows)) (place_of rows other)
-    place_of-new rows none other = by (bytes_eq ballot other) refl (bytes_eq other ballot) refl
-      where
-        by : (same : Bool) → bytes_eq ballot other ≡ same → (turned : Bool) → bytes_eq other ballot ≡ turned
-            → place_of (rows ++ (ballot, count) ∷ []) other ≡ cond same (Some (length rows)) (place_of rows other)
-        by true is turned _ =
-            subst (λ l. place_of (rows ++ (ballot, count) ∷ []) l ≡ Some (length rows)) ((bytes_decides ballot other).0 is) (place_of-own rows none)
-        by false is true turned =
-            let same : bytes_eq ballot other ≡ true = (bytes_decides ballot other).1 (sym ((bytes_decides other ballot).0 turned)) in absurd (cc)
-        by false is false turned = place_of-other rows other turned
+  pub count-le-put : (rows : List Row) (before : ℕ) (found : Option ℕ) → found ≡ lookup (bytes_eq ballot) rows → found ≡ Some before → before ≤ voter_count rows
+  count-le-put rows before found old some = count-le rows before (sym old ∙ some)
 
 -- ---- what votes leave true
 

@@ -18,5 +18,6 @@ pub use hashing::BallotHashing;
 pub use increments::{Increments, ThieleRule};
 pub use limits::{MOST_CANDIDATES, MOST_MEMBERS, MOST_VOTERS, PLACES};
 pub use multiples::common_multiple;
-pub use profile::{AddFault, Ballots, FinishFault, Profile, ProfileBuilder};
+pub use profile::{AddFault, FinishFault, Profile, ProfileBuilder};
+pub use rows::Ballots;
 pub use subsets::KSets;

@@ -1,19 +1,17 @@
 //! Profiles of approval ballots.
-ghost use Rattle.std.specs.Prelude.{◌≡◌, ◌≢◌, ◌+◌, ◌-◌, ◌<◌, ◌≤◌, ◌↔◌, List, [], false, length, replicate, take, slice_get, slice_set, option_map};
+ghost use Rattle.std.specs.Prelude.{◌≡◌, ◌≢◌, ◌+◌, ◌-◌, ◌<◌, ◌≤◌, ◌↔◌, [], false, length, replicate, take, slice_get, slice_set, option_map};
 ghost use Rattle.std.specs.Prelude.{Some, Err, IsErr, IfOk, IfErr, OnOk, OnErr};
-ghost use Rattle.std.specs.Iterator.{YieldsFirst, item_count};
 ghost use Rattle.ballot_base.specs.Limits.{most_candidates, most_voters};
 ghost use Rattle.ballot_base.specs.Lists.{IsIncreasing};
-ghost use Rattle.ballot_base.specs.Ballots.{Row, IsElection, election, name_of, voter_count, has_ballot, with_votes};
+ghost use Rattle.ballot_base.specs.Ballots.{IsElection, election, name_of, voter_count, has_ballot, with_votes};
 ghost use Rattle.ballot_base.specs.Steps.Profiles.{texts};
 
 use crate::cand_set::CandSet;
 use crate::hashing::BallotHashing;
 use crate::limits::MOST_VOTERS;
-use crate::rows::{FoundRows, Rows};
+use crate::rows::{Ballots, Rows};
 use std::alloc::{AllocError, Allocator, Global};
 use std::marker::Model;
-use std::slice;
 
 /// The name of each candidate, empty where there is none.
 type Names<A> = Vec<Vec<u8, A>, A>;
@@ -40,7 +38,7 @@ pub struct ProfileBuilder<A: Allocator + Copy = Global> {
     m: u8,
     names: Names<A>,
     voters: u64,
-    rows: FoundRows<A>,
+    rows: Rows<A>,
 }
 
 impl<A: Allocator + Copy> Model for ProfileBuilder<A> {
@@ -79,7 +77,7 @@ impl<A: Allocator + Copy + Drop> ProfileBuilder<A> {
             m,
             names: no_names(alloc, m)?,
             voters: 0,
-            rows: FoundRows::new(alloc, hashing),
+            rows: Rows::new(alloc, hashing),
         })
     }
 
@@ -155,7 +153,7 @@ impl<A: Allocator + Copy + Drop> ProfileBuilder<A> {
             m,
             names,
             voters,
-            rows: rows.into_rows(),
+            rows,
         })
     }
 }
@@ -198,10 +196,10 @@ impl<A: Allocator + Copy> Model for Profile<A> {
 
     ghost Value = { Election };
 
-    ghost view = { λ b. election b.m (texts b.names.items) b.rows.items };
+    ghost view = { λ b. election b.m (texts b.names.items) b.rows };
 
-    ghost invariant = { λ b. IsCounted (election b.m (texts b.names.items) b.rows.items) b.voters
-        × (b.rows.items ≢ []) };
+    ghost invariant = { λ b. IsCounted (election b.m (texts b.names.items) b.rows) b.voters
+        × (b.rows ≢ []) };
 }
 
 impl<A: Allocator + Copy> Profile<A> {
@@ -240,7 +238,7 @@ impl<A: Allocator + Copy> Profile<A> {
         requires { i < length self.now.rows }
         ensures { slice_get self.now.rows i ≡ Some result }
     {
-        self.rows[i]
+        self.rows.row(i)
     }
 
     /// The rows in the order of first appearance.
@@ -248,9 +246,7 @@ impl<A: Allocator + Copy> Profile<A> {
         ensures rows { result ≡ self.now.rows }
         ensures valid { IsElection self.now }
     {
-        Ballots {
-            rows: self.rows.iter(),
-        }
+        self.rows.ballots()
     }
 
     /// The number of voters, 1 to `MOST_VOTERS`.
@@ -260,34 +256,5 @@ impl<A: Allocator + Copy> Profile<A> {
         ensures most { result ≤ most_voters }
     {
         self.voters
-    }
-}
-
-/// The different ballots of a profile in the order of their first appearance, each with the number of voters who cast
-/// it. Contracts see the list of those still to come.
-#[derive(Drop)]
-pub struct Ballots<'a> {
-    rows: slice::Iter<'a, (CandSet, u64)>,
-}
-
-impl<'a> Model for Ballots<'a> {
-    ghost use Rattle.std.specs.Prelude.{List};
-    ghost use Rattle.std.specs.Slice.Iter.{iter_rest};
-    ghost use Rattle.ballot_base.specs.Ballots.{Row};
-
-    ghost Value = { List Row };
-
-    ghost view = { λ ballots. iter_rest ballots.rows };
-}
-
-impl<'a> Iterator for Ballots<'a> {
-    type Item = (CandSet, u64);
-
-    ghost next_gives = { YieldsFirst (λ (rows : List Row). rows) };
-
-    ghost remaining = { item_count (λ (rows : List Row). rows) };
-
-    fn next(&mut self) -> Option<(CandSet, u64)> {
-        self.rows.next().copied()
     }
 }

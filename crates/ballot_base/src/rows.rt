@@ -1,94 +1,120 @@
-//! The rows of a profile while ballots are added.
-ghost use Rattle.std.specs.Prelude.{◌≡◌, ◌+◌, ◌≤◌, ◌↔◌, ◌++◌, ◌∷◌, [], false, IsTrue, OnOk, OnErr};
+//! The rows of a profile: an `IndexMap` from each ballot to the number of its voters. No other module knows the map.
+ghost use Rattle.std.specs.Prelude.{◌≡◌, ◌+◌, ◌<◌, ◌≤◌, ◌↔◌, List, [], false, length, slice_get, Some, IsTrue, OnOk, OnErr};
+ghost use Rattle.std.specs.Iterator.{YieldsFirst, item_count};
 ghost use Rattle.ballot_base.specs.Limits.{most_voters};
-ghost use Rattle.ballot_base.specs.Ballots.{voter_count, has_ballot, with_votes};
+ghost use Rattle.ballot_base.specs.Ballots.{Row, voter_count, has_ballot, with_votes};
 
 use crate::cand_set::CandSet;
 use crate::hashing::BallotHashing;
+use indexmap::IndexMap;
+use indexmap::map::Iter;
 use std::alloc::{AllocError, Allocator};
-use std::collections::HashMap;
 use std::marker::Model;
 
-/// The ballots in the order of their first appearance, each with its voters.
-pub(crate) type Rows<A> = Vec<(CandSet, u64), A>;
-
-/// Rows that are found by their ballots.
+/// The different ballots in the order of their first appearance, each with the number of its voters.
 #[derive(Drop)]
-pub(crate) struct FoundRows<A: Allocator + Copy> {
-    rows: Rows<A>,
-    places: HashMap<CandSet, usize, BallotHashing, A>,
+pub(crate) struct Rows<A: Allocator + Copy> {
+    map: IndexMap<CandSet, u64, BallotHashing, A>,
 }
 
-impl<A: Allocator + Copy> Model for FoundRows<A> {
+impl<A: Allocator + Copy> Model for Rows<A> {
     ghost use Rattle.std.specs.Prelude.{List};
     ghost use Rattle.ballot_base.specs.Ballots.{Row};
-    ghost use Rattle.ballot_base.specs.Steps.Profiles.{ArePlaces};
 
     ghost Value = { List Row };
 
-    ghost view = { λ f. f.rows.items };
-
-    ghost invariant = { λ f. ArePlaces f.rows.items f.places };
+    ghost view = { λ rows. rows.map.entries };
 }
 
-impl<A: Allocator + Copy + Drop> FoundRows<A> {
+impl<A: Allocator + Copy + Drop> Rows<A> {
     /// No row yet. Ballots are hashed by these numbers.
-    pub(crate) fn new(alloc: A, hashing: BallotHashing) -> FoundRows<A>
+    pub(crate) fn new(alloc: A, hashing: BallotHashing) -> Rows<A>
         ensures { result ≡ [] }
     {
-        FoundRows {
-            rows: Vec::new(alloc),
-            places: HashMap::with_hasher(alloc, hashing),
+        Rows {
+            map: IndexMap::with_hasher(alloc, hashing),
         }
     }
 
-    /// Whether there is no row.
-    pub(crate) fn is_empty(&self) -> bool
-        ensures { IsTrue result ↔ (self.now ≡ []) }
-    {
-        self.rows.is_empty()
-    }
-
-    /// Adds votes to the ballot's row, which is a new one if nobody has cast the ballot yet.
+    /// Adds votes to the row of a ballot. A ballot that nobody has cast yet gets a new row, after all others.
     pub(crate) fn add(&mut self, ballot: CandSet, count: u64) -> Result<(), AllocError>
         requires { voter_count self.old + count ≤ most_voters }
         ensures ok { OnOk result (self.new ≡ with_votes self.old ballot count) }
         ensures err { OnErr result (self.new ≡ self.old) }
         ensures new { OnErr result (has_ballot self.old ballot ≡ false) }
     {
-        match self.places.get(&ballot) {
-            Some(place) => {
-                let (ballot, before) = self.rows[*place];
-                self.rows[*place] = (ballot, before + count);
+        match self.map.insert_full(ballot, count) {
+            Ok((place, Some(before))) => {
+                self.map[place] = before + count;
                 Ok(())
             }
-            None => self.push(ballot, count),
+            Ok((_, None)) => Ok(()),
+            Err(_) => Err(AllocError),
+        }
+    }
+}
+
+impl<A: Allocator + Copy> Rows<A> {
+    /// Whether there is no row.
+    pub(crate) fn is_empty(&self) -> bool
+        ensures { IsTrue result ↔ (self.now ≡ []) }
+    {
+        self.map.is_empty()
+    }
+
+    /// The number of rows.
+    pub(crate) fn len(&self) -> usize
+        ensures { result ≡ length self.now }
+    {
+        self.map.len()
+    }
+
+    /// The row at a place, counted from 0.
+    pub(crate) fn row(&self, i: usize) -> (CandSet, u64)
+        requires { i < length self.now }
+        ensures { slice_get self.now i ≡ Some result }
+    {
+        match self.map.get_index(i) {
+            Some((ballot, voters)) => (*ballot, *voters),
+            None => unreachable!(),
         }
     }
 
-    /// Adds the row of a ballot that nobody has cast yet.
-    fn push(&mut self, ballot: CandSet, count: u64) -> Result<(), AllocError>
-        requires { has_ballot self.old ballot ≡ false }
-        ensures ok { OnOk result (self.new ≡ self.old ++ (ballot, count) ∷ []) }
-        ensures err { OnErr result (self.new ≡ self.old) }
+    /// All rows in order.
+    pub(crate) fn ballots(&self) -> Ballots<'_>
+        ensures { result ≡ self.now }
     {
-        let place = self.rows.len();
-        self.rows.push((ballot, count))?;
-        match self.places.insert(ballot, place) {
-            Ok(_) => Ok(()),
-            Err(_) => {
-                self.rows.pop();
-                Err(AllocError)
-            }
+        Ballots {
+            rows: self.map.iter(),
         }
     }
+}
 
-    /// The rows alone.
-    pub(crate) fn into_rows(self) -> Rows<A>
-        ensures { result.items ≡ self }
-    {
-        let FoundRows { rows, places } = self;
-        drop(places);
-        rows
+/// The different ballots of a profile in the order of their first appearance, each with the number of voters who cast
+/// it. Contracts see the list of those still to come.
+#[derive(Drop)]
+pub struct Ballots<'a> {
+    rows: Iter<'a, CandSet, u64>,
+}
+
+impl<'a> Model for Ballots<'a> {
+    ghost use Rattle.std.specs.Prelude.{List};
+    ghost use Rattle.ballot_base.specs.Ballots.{Row};
+
+    ghost Value = { List Row };
+
+    ghost view = { λ ballots. ballots.rows };
+}
+
+impl<'a> Iterator for Ballots<'a> {
+    type Item = (CandSet, u64);
+
+    ghost next_gives = { YieldsFirst (λ (rows : List Row). rows) };
+
+    ghost remaining = { item_count (λ (rows : List Row). rows) };
+
+    fn next(&mut self) -> Option<(CandSet, u64)> {
+        let (ballot, voters) = self.rows.next()?;
+        Some((*ballot, *voters))
     }
 }
