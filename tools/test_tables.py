@@ -10,7 +10,8 @@ HERE = os.path.dirname(os.path.realpath(__file__))
 sys.path.insert(0, HERE)
 from committees import InputRefused, check, elect  # noqa: E402
 
-TOOL = [sys.executable, os.path.join(HERE, "table_to_cat")]
+# -S: the packages of the machine are not looked for, which takes half of the time
+TOOL = [sys.executable, "-S", os.path.join(HERE, "table_to_cat")]
 FIVE = 'Choice\n"Ada,Ben"\n"Ada,Ben,Cleo"\nDan\nDan\n"Dan,Cleo"\n'
 FIVE_BALLOTS = ["1: {1,2},{3,4}", "1: {1,2,3},{4}", "2: {4},{1,2,3}", "1: {3,4},{1,2}"]
 
@@ -106,6 +107,12 @@ class OneColumnForEachCandidate(TableTest):
         self.refused("no voter", "A,B\n")
         self.refused("row 2 has malformed quotes", 'A,B\n"x,\n')
 
+    def test_a_first_row_that_is_repeated(self):
+        self.refused("row 4 repeats the first row", "Id,A,B\n1,x,\n2,,x\nId,A,B\n3,,x\n", "--skip=1", "--yes=x")
+        self.refused("row 3 repeats the first row", "Id,Who\n1,Ada\nId,Who\n2,Ada\n", "--list=2")
+        self.refused("the cells hold that name too", "Who\nAda\nWho\nBen\n", "--list=1")
+        self.assertEqual(self.ballots("Ada,Ben\nAda,Ben\n,Ben\n"), ["1: {1,2},{}", "1: {2},{1}"])
+
     def test_more_than_64_candidates(self):
         heading = ",".join(f"c{number}" for number in range(1, 65))
         self.assertEqual(self.winners(f"{heading}\n{',' * 63}x\n"), ([{"c64"}], 1))
@@ -199,7 +206,7 @@ class OneColumnOfNames(TableTest):
         self.assertEqual(self.names("Who,Who\n9,Ada\n", "--list=2"), ["Ada"])
         self.refused("'Ben' stands in column 3", "Time,Who\n9,Ada,Ben\n", "--list=2")
         self.refused("no cell of column 2 ('Who') has a name", "Time,Who\n9,\n", "--list=2")
-        self.refused("the first row has candidates ('Ada;Ben')", '1,"Ada;Ben"\n2,Ben\n3,Ada\n', "--list=2")
+        self.refused("column 2 ('Ada;Ben'): the cells hold that name too", '1,"Ada;Ben"\n2,Ben\n3,Ada\n', "--list=2")
 
     def test_names_that_look_alike(self):
         for other in ("ada Byron", "Ada  Byron", "Ada\u00a0Byron", "AdaByron", "Ada By\u200bron", "Ada Byro\u0301n"):
@@ -208,6 +215,13 @@ class OneColumnOfNames(TableTest):
             self.assertIn("row 2 has", said)
             self.assertIn("row 4 has", said)
         self.assertEqual(self.names('Who\n"Weiss;Weiß"\n', "--list=1"), ["Weiss", "Weiß"])
+
+    def test_other_joiners(self):
+        for joiner in ("/", " / ", "+", "&", "、", "┋"):
+            said = self.refused("holds the name 'Dan'", FIVE.replace(",", joiner), "--list=1")
+            self.assertIn("--candidates FILE", said)
+        names = ["Anna-Lena", "Anna", "Anna (chair)", "R&B", "O'Ben", "Ben"]
+        self.assertEqual(self.names(f"Who\n{';'.join(names)}\n".replace("Who", "sep=,\nWho"), "--list=1"), names)
 
     def test_two_kinds_of_joiners(self):
         table = 'Who\n"Lovelace, Ada;Ben;"\n"Lovelace, Ada;"\n"Ben"\n"Lovelace, Ada;"\n'
@@ -355,6 +369,104 @@ class Summaries(TableTest):
 
     def test_names_cannot_write_to_the_terminal(self):
         self.assertIn("1 for 'Ada\\x1b[2J'", self.summary("Ada\x1b[2J,Ben\nx,\n"))
+
+
+class WebForms(TableTest):
+    """Five voters in the shapes that makers of web forms export. Dan has 3 approvals, and the others have 2 each."""
+
+    TICKED = (("Ada", "Ben"), ("Ada", "Ben", "Cleo"), ("Dan",), ("Dan",), ("Dan", "Cleo"))
+
+    def exported(self, heading, row, end):
+        """A table with these rows of headings, and the row of each voter, made of its number and its names."""
+        rows = [row(number, names) for number, names in enumerate(self.TICKED, 1)]
+        return end.join([*heading, *rows]) + end
+
+    def dan_wins(self, table, *words):
+        self.assertEqual(self.winners(table, *words), ([{"Dan"}], 3))
+        self.assertEqual(self.winners(table, *words, rule="cc", size=2), ([{"Ada", "Dan"}, {"Ben", "Dan"}], 5))
+        said = self.summary(table, *words)
+        self.assertEqual(sorted(said[1:6]), ["0 for no candidate", "2 for Ada", "2 for Ben", "2 for Cleo", "3 for Dan"])
+
+    def test_google_forms(self):
+        def sheet(number, names):
+            cell = ", ".join(names)
+            return f"11/20/2026 19:4{number}:10," + (f'"{cell}"' if "," in cell else cell)
+
+        question = "Which candidates do you approve of?"
+        table = self.exported([f"Timestamp,{question}"], sheet, "\r\n").rstrip("\r\n")
+        self.dan_wins(table, "--list", question)
+        self.refused("--list 2", table, "--skip=1")
+        self.refused("--list 2", table)
+
+        def download(number, names):
+            return f'"2026/11/20 7:4{number}:10 PM GMT+1","{";".join(names)}"'
+
+        self.dan_wins(self.exported([f'"Timestamp","{question}"'], download, "\n"), "--list=2")
+
+    def test_microsoft_forms(self):
+        def row(number, names):
+            return f"{number},11/20/26 19:40:02,11/20/26 19:42:10,anonymous,,{';'.join(names)};"
+
+        heading = "ID,Start time,Completion time,Email,Name,Which candidates do you approve of?\u00a0"
+        table = self.exported([heading], row, "\r\n").encode("utf-8-sig")
+        self.dan_wins(table, "--list=6")
+        self.dan_wins(table, "--list=which candidates do you approve of?")
+
+        def with_semicolons(number, names):
+            return f'{number};20.11.26 19:40;20.11.26 19:42;anonymous;;"{";".join(names)};"'
+
+        self.dan_wins(self.exported([heading.replace(",", ";")], with_semicolons, "\r\n"), "--list=6")
+
+    def test_limesurvey(self):
+        names = ("Ada", "Ben", "Cleo", "Dan")
+
+        def table(headings, yes, no):
+            def row(number, ticked):
+                cells = [number, "2026-11-20 19:42:10", 1, "en", 1850245432]
+                cells += [yes if name in ticked else no for name in names]
+                return ",".join(f'"{cell}"' for cell in cells)
+
+            first = ["id", "submitdate", "lastpage", "startlanguage", "seed", *headings]
+            return self.exported([",".join(f'"{cell}"' for cell in first)], row, "\n").encode("utf-8-sig")
+
+        codes = [f"Q1[SQ00{number}]" for number in range(1, 5)]
+        self.assertEqual(self.winners(table(codes, "Y", ""), "--skip=5"), ([{"Q1[SQ004]"}], 3))
+        full = table([f"Whom do you approve? [{name}]" for name in names], "Yes", "No")
+        self.assertEqual(self.winners(full, "--skip=5", "--yes=yes"), ([{"Whom do you approve? [Dan]"}], 3))
+        self.dan_wins(table(names, "Yes", "No"), "--skip=5", "--yes=Yes")
+        self.assertIn("11 'No', taken as a no", self.summary(full, "--skip=5", "--yes=yes"))
+
+    def test_surveymonkey(self):
+        first = (
+            "Respondent ID,Collector ID,Start Date,End Date,IP Address,Email Address,First Name,Last Name,"
+            "Custom Data 1,Which candidates do you approve of?,,,"
+        )
+        second = ",,,,,,,,,Ada,Ben,Cleo,Dan"
+
+        def row(number, ticked):
+            cells = ",".join(name if name in ticked else "" for name in ("Ada", "Ben", "Cleo", "Dan"))
+            return f"1187654320{number},412345678,11/20/2026 07:40:02 PM,11/20/2026 07:42:10 PM,,,,,,{cells}"
+
+        table = self.exported([first, second], row, "\n")
+        self.dan_wins(table, "--skip=9")
+        self.dan_wins(self.exported([second], row, "\n"), "--skip=9")
+        for heading in (first, first.replace("?,,,", "?,,,Comment")):
+            said = self.refused("column 11", self.exported([heading, "1" + second], row, "\n"), "--skip=9")
+            self.assertIn("if a lower row names the columns, delete the rows above it", said)
+
+    def test_nextcloud_forms(self):
+        def row(number, names):
+            return f'"voter{number}","Voter {number}","2026-11-20T19:4{number}:10+01:00","{"; ".join(names)}"'
+
+        heading = '"User ID","User display name","Timestamp","Which candidates do you approve of?"'
+        self.dan_wins(self.exported([heading], row, "\n"), "--list=4")
+
+    def test_jotform(self):
+        def row(number, names):
+            cell = "\n".join(names)
+            return f'"Nov {number}, 2026","{cell}"'
+
+        self.dan_wins(self.exported(['"Submission Date","Which candidates do you approve of?"'], row, "\n"), "--list=2")
 
 
 class CommandLine(TableTest):
