@@ -315,10 +315,10 @@ class BlankRows(TableTest):
         out, said = self.taken(table)
         # two of four voters deserve one of two seats, and two of six do not
         self.assertFalse(self.with_file(out, lambda path: check(path, "jr", [1, 2]).holds))
-        self.assertIn("  2  blank rows, not taken as voters\n", said)
+        self.assertIn("  2  blank rows, not counted\n", said)
         out, said = self.taken(table, "--blank-votes")
         self.assertTrue(self.with_file(out, lambda path: check(path, "jr", [1, 2]).holds))
-        self.assertIn("  2  blank rows, taken as voters\n", said)
+        self.assertIn("  2  blank rows, counted\n", said)
         self.assertEqual((self.voters(table), self.voters(table, "--blank-votes")), (4, 6))
         self.assertEqual(self.voters("Ada,Ben\n\nx,\n\n\n", "--blank-votes"), 1)
         self.refused("no voter", "Ada,Ben\n,\n")
@@ -327,7 +327,7 @@ class BlankRows(TableTest):
         marks, names = "Time,Ada,Ben\n9,x,\n9,,\n,,\n,,\n", "Time,Who\n9,Ada\n9,\n,\n,\n"
         for table, words in ((marks, "--skip=1"), (names, "--list=2")):
             self.assertEqual(self.voters(table, words), 2)
-            self.assertIn("2 blank rows, not taken as voters", self.summary(table, words))
+            self.assertIn("2 blank rows, not counted", self.summary(table, words))
             self.assertIn("1 for no candidate (row 3)", self.summary(table, words))
             self.refused("--blank-votes is for tables that hold only votes", table, words, "--blank-votes")
         self.assertEqual(self.voters("N,Ada\n3,x\n4,\n,\n", "--count=1"), 7)
@@ -352,7 +352,7 @@ class Summaries(TableTest):
             "  2  for no candidate (row 3, 5)\n"
             "  3  'yes', taken as a yes\n"
             "  4  'no', taken as a no\n"
-            "  1  blank row, not taken as voters\n",
+            "  1  blank row, not counted\n",
         )
 
     def test_names_and_counts(self):
