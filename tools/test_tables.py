@@ -132,14 +132,14 @@ class Marks(TableTest):
 
     def test_a_misspelt_mark_is_not_a_no(self):
         table = "Ada,Ben\nyes,no\nyess,yes\nyess,no\n"
-        said = self.refused("'no', 'yess'", table, "--yes=yes")
+        said = self.refused("'no' (row 2, column 2), 'yess' (row 3, column 1)", table, "--yes=yes")
         self.assertIn("--no MARK", said)
         self.refused("'yess'", table, "--yes=yes", "--no=no")
         self.assertEqual(self.winners(table, "--yes=yes", "--yes=yess"), ([{"Ada"}], 3))
 
     def test_several_marks_are_a_no_if_each_is_named(self):
         table = "Ada,Ben\nyes,no\nmaybe,yes\nmaybe,yes\n"
-        self.refused("'maybe', 'no'", table, "--yes=yes")
+        self.refused("'no' (row 2, column 2), 'maybe' (row 3, column 1)", table, "--yes=yes")
         self.refused("'maybe'", table, "--yes=yes", "--no=no")
         for words in (["--yes=yes", "--no=no", "--no=maybe"], ["--no=no", "--no=maybe"]):
             self.assertEqual(self.winners(table, *words), ([{"Ben"}], 2))
