@@ -364,8 +364,10 @@ class Summaries(TableTest):
             "  105  for Ben\n"
             "    7  for no candidate (row 3)\n",
         )
-        own = ["1 for Ada", "0 for no candidate", "1 the name of the column, taken as a yes"]
-        self.assertEqual(self.summary("Ada\nADA\n")[1:], own)
+        counted = self.summary("N,Ada,Ben\n10,yes,no\n5,no,no\n", "--count=N", "--yes=yes")
+        self.assertEqual(counted[-2:], ["10 'yes', taken as a yes", "20 'no', taken as a no"])
+        own = ["15 for Ada", "5 for Ben", "0 for no candidate", "20 the name of the column, taken as a yes"]
+        self.assertEqual(self.summary("N,Ada,Ben\n10,ADA,\n5,Ada,Ben\n", "--count=N")[1:], own)
 
     def test_names_cannot_write_to_the_terminal(self):
         self.assertIn("1 for 'Ada\\x1b[2J'", self.summary("Ada\x1b[2J,Ben\nx,\n"))
