@@ -176,6 +176,8 @@ class Marks(TableTest):
         for table in (FIVE, FIVE.replace(",", ", "), FIVE.replace(",", ";"), FIVE.replace(",", "|")):
             said = self.refused("--list 1", table)
             self.assertNotIn("--yes", said)
+        for cell in ("Ada, Ben", "Ada;"):
+            self.refused("--list 2", f'Time,Choice\n9,"{cell}"\n9,"{cell}"\n', "--skip=1")
         for words in (every, joined):
             self.assertNotIn("--yes", self.refused("--list 1", FIVE, *words))
         self.refused("'Ben' stands in column 2", split, *every)
