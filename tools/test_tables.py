@@ -152,7 +152,8 @@ class Marks(TableTest):
 
     def test_an_only_mark_that_means_no(self):
         for mark in ("no", "0", "-", "N"):
-            self.refused(f"the only mark is '{mark}'", f"A,B\n{mark},{mark}\n")
+            self.refused(f"say whether '{mark}' is a yes or a no", f"A,B\n{mark},{mark}\n")
+            self.refused(f"say whether '{mark}' is a yes or a no", f"A,B\n{mark},?\n", "--no=?")
         self.assertEqual(self.ballots("A,B\n0,0\n", "--no=0"), ["1: {},{1,2}"])
         self.assertEqual(self.ballots("A,B\n0,0\n", "--yes=0"), ["1: {1,2},{}"])
 
@@ -181,7 +182,9 @@ class Marks(TableTest):
         for words in (every, joined):
             self.assertNotIn("--yes", self.refused("--list 1", FIVE, *words))
         self.refused("'Ben' stands in column 2", split, *every)
-        self.refused("'Ada' is the name of column 4", split.replace("Choice,,,", "Dan,Ben,Cleo,Ada"), *every)
+        for words in ([], every):
+            said = self.refused("'Dan' is the name of column 4", split.replace("Choice,,,", "Ada,Ben,Cleo,Dan"), *words)
+            self.assertNotIn("--yes", said)
         self.refused("--list", FIVE.replace('"Ada,Ben"\n"Ada,Ben,Cleo"\n', "Ada\nBen\n").replace('"Dan,Cleo"', "Cleo"))
 
 
@@ -196,6 +199,11 @@ class OneColumnOfNames(TableTest):
     def test_empty_pieces_and_names_twice(self):
         table = 'Choice\n"Ada;Ben;"\n";Ada;;Ben; Cleo ;"\n"Dan; ;"\nDan;Dan\n"Dan;Cleo;Dan;"\n'
         self.assertEqual(self.ballots(f"sep=,\n{table}", "--list=1"), FIVE_BALLOTS)
+
+    def test_ballots_that_name_candidates_in_another_order(self):
+        names = [f"c{number}" for number in range(1, 41)]
+        table = f"sep=,\nWho\n{';'.join(names)}\nc33;c1\nc1;c33\n"
+        self.assertTrue(self.ballots(table, "--list=1")[1].startswith("2: {1,33},{2,"))
 
     def test_columns(self):
         table = "Time,Why,Who\n9,x,Ada\n9,,Ben\n9,y,Ben\n"
