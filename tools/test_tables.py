@@ -98,9 +98,12 @@ class OneColumnForEachCandidate(TableTest):
         self.assertEqual(self.ballots("A,B,,\n,x,,\n\nx\n"), ["1: {2},{1}", "1: {1},{2}"])
         self.assertEqual(self.ballots("Time,A,B\n9:00,x,\n9:05,,x\n", "--skip", "1"), ["1: {1},{2}", "1: {2},{1}"])
         self.assertEqual(self.ballots("A\nx\n"), ["1: {1},{}"])
+        no_time = "Time,A,B\n,yes,no\n9:05,yes,yes\n"
+        self.assertEqual(self.ballots(no_time, "--skip=1", "--yes=yes"), ["1: {1},{2}", "1: {1,2},{}"])
         self.refused("row 3: 'x' stands in column 3, and the first row names 2", "A,B\nx,\nx,,x\n")
         self.refused("column 2 has no name", "A,,B\nx,,\n")
         self.refused("column 3 repeats the name 'A'", "A,B,A\nx,,\n")
+        self.refused("column 2 repeats the name 'A'", "A,A\nx,\n")
         self.refused("column 1 has 'A b', and column 2 has 'a B'", "A b,a  B\nx,\n")
         self.refused("names no candidate", "A,B\nx,\n", "--skip=2")
         self.refused("the table is empty", "")
