@@ -1,0 +1,412 @@
+"""Tests of what committees.py takes, how its runs end, and of its types; test_tools.py has those of its answers."""
+import contextlib
+import io
+import os
+import pathlib
+import shutil
+import signal
+import subprocess
+import sys
+import tempfile
+import threading
+import time
+import typing
+import unittest
+from collections import Counter
+from decimal import Decimal
+from fractions import Fraction
+
+HERE = os.path.dirname(os.path.realpath(__file__))
+TOP = os.path.dirname(HERE)
+sys.path.insert(0, HERE)
+import committees  # noqa: E402
+from committees import check, compute, elect, share  # noqa: E402
+from test_tools import BALLOTS, BOARD, Profile, Voter, program_that  # noqa: E402
+
+PARTIES = os.path.join(TOP, "examples", "parties.cat")
+WAITING = "echo $$ >$0.pid\nexec sleep 60"
+
+
+def module(name):
+    """A module that not every machine has; a test that needs it is skipped without it."""
+    try:
+        return __import__(name)
+    except ImportError:
+        raise unittest.SkipTest(f"there is no module {name}") from None
+
+
+class NumberedFrom0(Profile):
+    """A profile like abcvoting's that has names."""
+
+    cand_names = ["Ada", "Ben", "Cleo", "Dan", "Eve", "Finn"]
+
+
+class Ballots(unittest.TestCase):
+    def test_a_mapping_has_the_number_of_voters_of_each_ballot(self):
+        for mapping in (Counter({frozenset({1}): 1, frozenset({2}): 100}), {(1,): 1, (2,): 100}):
+            answers = elect(mapping, "av", 1)
+            self.assertEqual((answers.score, list(answers)), (100, [{2}]))
+            self.assertEqual(list(share(mapping, "hamilton", 101)), [(1, 100)])
+        report = check(Counter({frozenset({1, 2}): 2, frozenset({3}): 1}), "jr", {3})
+        self.assertTrue(report)
+        self.assertEqual(check({(1, 2): 3, (): 1}, "jr", [3, 4, 5, 6], candidates=6).rows, (({1, 2}, 3),))
+
+    def test_numbers_that_are_not_int(self):
+        self.assertEqual(list(elect([(Fraction(1), Fraction(2)), {Decimal(2)}], "av", 1)), [{2}])
+        self.assertEqual(list(elect([({1}, 2.0), ({2}, 1)], "av", 1)), [{1}])
+
+    def test_ballots_that_are_not_sets_of_candidates(self):
+        for ballot, why in [
+            ([2, 1, 2], "candidate 2 stands there twice"),
+            ([1, 1, 0], "0 is not a candidate"),
+            ([0, 1, 0], "0 is not a candidate"),
+            ([1, 1], "twice: a ballot is a set of candidate numbers"),
+            ([True, False], "True is not a whole number"),
+            (["Ada"], "'Ada' is not a whole number"),
+            ([float("nan")], "nan is not a whole number"),
+            ("1,2", "'1,2' is not a set of candidates"),
+            (7, "7 is not a set of candidates"),
+            (({1}, 1.5), "1.5 is not a whole number"),
+            (({1}, -1), "-1 is not a number of voters"),
+        ]:
+            for profile in ([{1}, ({2}, 5), ballot], iter([{1}, {2}, ballot])):
+                with self.assertRaisesRegex(ValueError, f"^ballot 3: .*{why}", msg=repr(ballot)):
+                    elect(profile, "av", 1)
+
+    def test_a_fault_names_the_ballot_and_not_a_line(self):
+        for profile in ([{1}, {2}, {4}], {(1,): 5, (2,): 5, (4,): 5}, iter([{1}, {2}, ({4}, 2)])):
+            with self.assertRaises(committees.InputRefused) as caught:
+                elect(profile, "av", 1, candidates=3)
+            error = caught.exception
+            self.assertEqual((error.ballot, error.line, error.fault), (3, None, "NoSuchCandidate"))
+            self.assertEqual(str(error), "committees: ballot 3: NoSuchCandidate")
+        with self.assertRaises(committees.InputRefused) as caught:
+            elect([{1}, {65}], "av", 1)
+        self.assertEqual(str(caught.exception), "committees: ballots: TooManyCandidates")
+        with self.assertRaises(committees.InputRefused) as caught:
+            elect(b"# DATA TYPE: cat\n# NUMBER ALTERNATIVES: 3\n1: 4\n", "av", 1)
+        self.assertEqual((caught.exception.line, caught.exception.ballot), (3, None))
+
+    def test_numpy(self):
+        numpy = module("numpy")
+        row = numpy.array([1, 2])
+        self.assertEqual(list(elect([tuple(row), (row, 3), {2}, numpy.array([2])], "av", 1)), [{2}])
+        self.assertEqual(list(elect([({1}, numpy.int64(2)), ({2}, numpy.float64(1))], "av", numpy.int64(1))), [{1}])
+        with self.assertRaisesRegex(ValueError, "^ballot 1: 0 is not a candidate"):
+            elect(numpy.array([[1, 0, 1], [1, 1, 1]]), "av", 1)
+        with self.assertRaisesRegex(ValueError, "^ballot 1: candidate 1 stands there twice"):
+            share(numpy.ones((2, 3), dtype=int), "adams", 1)
+        with self.assertRaisesRegex(ValueError, "^ballot 1: .*is not a whole number"):
+            elect(numpy.array([[True, False]]), "av", 1)
+
+
+class Texts(unittest.TestCase):
+    def test_bytes_and_open_files(self):
+        with open(BOARD, "rb") as binary, open(BOARD, encoding="utf-8") as text:
+            data = pathlib.Path(BOARD).read_bytes()
+            for profile in (data, bytearray(data), memoryview(data), binary, text, io.BytesIO(data), io.StringIO(data.decode())):
+                self.assertEqual(list(elect(profile, "pav", 3)), [{1, 2, 3}], type(profile))
+        self.assertTrue(check(b"\xef\xbb\xbf# NUMBER ALTERNATIVES: 1\n1: 1\n", "jr", [1], kind="toi"))
+        self.assertEqual(list(share(pathlib.Path(PARTIES).read_bytes(), "dhondt", 3)), [(2, 1, 0)])
+
+    def test_a_file_that_is_missing(self):
+        for path in ("no-such-file.cat", pathlib.Path("no-such-file.cat"), "--rule"):
+            with self.assertRaises(FileNotFoundError) as caught:
+                elect(path, "av", 1)
+            error = caught.exception
+            self.assertIsInstance(error, committees.DeviceFailed)
+            self.assertEqual((error.status, error.filename, str(error)), (6, str(path), f"committees: open failed: {path}"))
+
+    def test_a_folder(self):
+        with self.assertRaises(committees.DeviceFailed) as caught:
+            elect(HERE, "av", 1)
+        self.assertNotIsInstance(caught.exception, FileNotFoundError)
+        self.assertEqual(str(caught.exception), f"committees: read failed: {HERE}")
+
+
+class Votes(unittest.TestCase):
+    def test_a_mapping_of_names_to_votes(self):
+        votes = {"Greens": 5, "Blues": 3, "Greys": 3}
+        answers = share(votes, "adams", 2)
+        page = list(answers)
+        self.assertEqual(page, [{"Greens": 1, "Blues": 0, "Greys": 1}, {"Greens": 1, "Blues": 1, "Greys": 0}])
+        self.assertEqual([list(allocation) for allocation in page], [list(votes), list(votes)])
+        # the order of the mapping given as `after` does not matter
+        after = {"Greys": 1, "Blues": 0, "Greens": 1}
+        self.assertEqual(list(share(votes, "adams", 2, after=after)), page[1:])
+        self.assertEqual(list(share({7: 2, None: 1}, "adams", 3)), [{7: 2, None: 1}])
+        with self.assertRaises(committees.UsageRefused):
+            share({}, "adams", 2)
+
+    def test_numbers_that_are_not_whole(self):
+        for votes in ([1.5, 2], {"A": float("inf")}, [1, float("nan")], [1, 1j]):
+            with self.assertRaisesRegex(ValueError, "is not a whole number"):
+                share(votes, "adams", 2)
+
+    def test_numpy_and_pandas(self):
+        numpy = module("numpy")
+        for votes in (numpy.array([53, 24, 23]), numpy.array([53.0, 24, 23]), list(numpy.array([53, 24, 23]))):
+            self.assertEqual(list(share(votes, "dhondt", 7)), [(4, 2, 1)])
+        pandas = module("pandas")
+        series = pandas.Series([53, 24, 23], index=["Greens", "Blues", "Greys"])
+        self.assertEqual(list(share(series, "dhondt", 7)), [(4, 2, 1)])
+        self.assertEqual(list(share(series.to_dict(), "dhondt", 7)), [{"Greens": 4, "Blues": 2, "Greys": 1}])
+        with self.assertRaisesRegex(ValueError, "nan is not a whole number"):
+            share(pandas.Series([5, None]), "dhondt", 7)
+
+
+class Names(unittest.TestCase):
+    def test_rules_properties_and_methods_in_any_case(self):
+        self.assertEqual(list(elect(BOARD, "PAV", 3)), [{1, 2, 3}])
+        self.assertEqual(elect(BALLOTS, "MinimaxAV", 2).distance, elect(BALLOTS, "minimax", 2).distance)
+        self.assertIsNone(elect(BALLOTS, "SeqPAV", 2).score)
+        self.assertTrue(check(BOARD, "EJR+", {1, 2, 3}))
+        self.assertFalse(check(BOARD, "PJR", {1, 4, 6}))
+        self.assertEqual(list(share([53, 24, 23], "DHondt", 7)), [(4, 2, 1)])
+        self.assertEqual(list(share([53, 24, 23], "Jefferson", 7)), [(4, 2, 1)])
+
+    def test_names_of_candidates(self):
+        with open(BOARD, "rb") as file:
+            for profile in (BOARD, file):
+                self.assertEqual(list(elect(profile, "pav", 3, names=True)), [("Ada", "Ben", "Cleo")])
+        report = check(BOARD, "pjr", {1, 4, 6}, names=True)
+        self.assertEqual((report.candidates, report.within), (("Ada", "Ben"), ("Ada",)))
+        self.assertEqual(report.rows, ((("Ada", "Ben", "Cleo"), 7),))
+        from_0 = NumberedFrom0([Voter({0, 1, 2}, 7), Voter({3, 4}, 2), Voter({5})])
+        self.assertEqual(next(elect(from_0, "cc", 2, names=True)), ("Ada", "Dan"))
+        self.assertEqual(next(elect(Profile(from_0), "cc", 2, names=True)), ("0", "3"))
+        self.assertEqual(next(elect(BALLOTS, "cc", 2, names=True)), ("1", "4"))
+
+    def test_names_as_the_program_reads_them(self):
+        text = (
+            b"\xef\xbb\xbf # data  type : cat\r\n#NUMBER ALTERNATIVES: 5\n# Alternative\tName 1:  A; B\t\r\n"
+            b"# ALTERNATIVE NAME 2: first\n# ALTERNATIVE NAME 2: a: b\n# ALTERNATIVE NAME 3: C\n# ALTERNATIVE NAME 3:\n"
+            b"# ALTERNATIVE NAME 4: \xff\n\n1: {1,2,3,4,5}\n# ALTERNATIVE NAME 5: too late\n"
+        )
+        self.assertEqual(list(elect(text, "av", 5, names=True)), [("A; B", "a: b", "3", "\ufffd", "5")])
+        with program_that("") as program:
+            path = os.path.join(os.path.dirname(program), "votes.cat")
+            pathlib.Path(path).write_bytes(text)
+            self.assertEqual(list(elect(path, "av", 5, names=True)), [("A; B", "a: b", "3", "\ufffd", "5")])
+            own = subprocess.run([committees._program(None), "elect", "--rule=av", "--size=5", "--names", path], capture_output=True)
+        self.assertIn(b"\tA; B; a: b; 3; \xff; 5\n", own.stdout)
+
+    def test_names_from_a_pipe(self):
+        with program_that("") as program:
+            path = os.path.join(os.path.dirname(program), "pipe")
+            os.mkfifo(path)
+            threading.Thread(target=pathlib.Path(path).write_bytes, args=[pathlib.Path(BOARD).read_bytes()], daemon=True).start()
+            self.assertEqual(list(elect(path, "pav", 3, names=True)), [("Ada", "Ben", "Cleo")])
+
+    def test_names_of_parties(self):
+        self.assertEqual(list(share(PARTIES, "dhondt", 3, names=True)), [{"Greens": 2, "Blues": 1, "Greys": 0}])
+        text = b"# DATA TYPE: cat\n# NUMBER ALTERNATIVES: 2\n# ALTERNATIVE NAME 1: A\n# ALTERNATIVE NAME 2: A\n1: 1\n1: 2\n"
+        with self.assertRaisesRegex(ValueError, "two parties have the same name"):
+            list(share(text, "dhondt", 3, names=True))
+        # A committee keeps both of its members.
+        self.assertEqual(list(elect(text, "av", 2, names=True)), [("A", "A")])
+        after = {"Greens": 1, "Blues": 2, "Greys": 0}
+        self.assertEqual(list(share(PARTIES, "dhondt", 3, names=True, after=after)), [{"Greens": 2, "Blues": 1, "Greys": 0}])
+
+
+class OtherLibraries(unittest.TestCase):
+    def test_the_call_of_abcvoting(self):
+        profile = Profile([Voter({0, 1, 2}, 7), Voter({3, 4}, 2), Voter({5})])
+        ties = [{0, 3}, {0, 4}, {1, 3}, {1, 4}, {2, 3}, {2, 4}]
+        self.assertEqual(compute("cc", profile, 2, False), ties)
+        self.assertEqual(compute("CC", profile, committeesize=2, resolute=False, algorithm="brute-force"), ties)
+        self.assertEqual(compute(rule_id="cc", profile=profile, committeesize=2, max_num_of_committees=2), ties[:2])
+        self.assertIs(type(compute("cc", profile, 2)[0]), set)
+
+    def test_the_call_of_apportionment(self):
+        self.assertEqual(compute("jefferson", [53, 24, 23], 7), [[4, 2, 1]])
+        self.assertEqual(compute(method="adams", votes=[5, 3, 3], seats=2, verbose=False), [[1, 0, 1], [1, 1, 0]])
+        self.assertEqual(compute("Webster", {"A": 2, "B": 1}, 3), [{"A": 2, "B": 1}])
+
+    def test_what_is_refused(self):
+        for given in (("av", BALLOTS, 1), ("adams", [1, 2], 2)):
+            with self.assertRaisesRegex(ValueError, "resolute=True"):
+                compute(*given, resolute=True)
+        with self.assertRaisesRegex(TypeError, "threshold"):
+            compute("adams", [1, 2], 2, threshold=0.05)
+        for votes in ([1, 2], {"A": 1, "B": 2}):
+            with self.assertRaisesRegex(committees.UsageRefused, "'quota' for '--method"):
+                compute("quota", votes, 2)
+        with self.assertRaisesRegex(committees.UsageRefused, "'monroe' for '--rule"):
+            compute("monroe", BALLOTS, 2)
+
+
+class Interrupted(Exception):
+    pass
+
+
+class Ends(unittest.TestCase):
+    """The stub writes its process number beside it, and runs on."""
+
+    def assert_ended(self, program):
+        process = int(pathlib.Path(f"{program}.pid").read_text())
+        with self.assertRaises(ProcessLookupError):
+            os.kill(process, 0)
+
+    @contextlib.contextmanager
+    def interruption(self, kind):
+        """Raises an exception of this kind in the main thread after a while."""
+
+        def interrupt(*_):
+            raise kind()
+
+        before = signal.signal(signal.SIGALRM, interrupt)
+        signal.setitimer(signal.ITIMER_REAL, 0.5)
+        try:
+            with self.assertRaises(kind) as caught:
+                yield
+            # The traceback, which holds the frames of the call, is still there.
+            self.assertIsNotNone(caught.exception)
+        finally:
+            signal.setitimer(signal.ITIMER_REAL, 0)
+            signal.signal(signal.SIGALRM, before)
+
+    def test_an_interrupted_call_ends_its_run(self):
+        calls = [(elect, BALLOTS, "av", 1), (share, [5, 3], "adams", 1), (check, BALLOTS, "jr", [1]), (compute, "av", BALLOTS, 1)]
+        for call, *given in calls:
+            for kind in (Interrupted, KeyboardInterrupt):
+                with program_that(WAITING) as program:
+                    try:
+                        with self.interruption(kind):
+                            call(*given, program=program)
+                    finally:
+                        self.assert_ended(program)
+
+    def test_an_interrupted_answer_ends_its_run(self):
+        # The second committee is printed in part when the read is interrupted: its rest would be another committee.
+        script = f"printf 'rule av\\nsize 2\\nscore 7/1\\n1,2\\n1'\n{WAITING}"
+        with program_that(script) as program:
+            answers = elect(BALLOTS, "av", 2, program=program)
+            self.assertEqual(next(answers), {1, 2})
+            with self.interruption(Interrupted):
+                next(answers)
+            self.assert_ended(program)
+            with self.assertRaises(committees.CutOff):
+                next(answers)
+
+    def test_an_input_that_is_not_read(self):
+        with tempfile.TemporaryDirectory() as room:
+            program = os.path.join(room, "program")
+            pathlib.Path(program).write_text(f"#!/bin/sh\n{WAITING}\n")
+            os.chmod(program, 0o755)
+            text = b"#" * 10**6
+            with self.interruption(Interrupted):
+                elect(text, "av", 1, program=program)
+            self.assert_ended(program)
+            with self.assertRaises(TimeoutError):
+                elect(text, "av", 1, program=program, timeout=0.5)
+            self.assert_ended(program)
+
+    def test_a_timeout(self):
+        with program_that(WAITING) as program:
+            for call, *given in [(elect, BALLOTS, "av", 1), (share, [5, 3], "adams", 1), (check, BALLOTS, "jr", [1])]:
+                start = time.monotonic()
+                with self.assertRaisesRegex(TimeoutError, "0.3 seconds") as caught:
+                    call(*given, program=program, timeout=0.3)
+                self.assertLess(time.monotonic() - start, 20)
+                self.assertIsInstance(caught.exception, committees.CommitteesError)
+                self.assert_ended(program)
+
+    def test_a_timeout_in_a_thread(self):
+        caught = []
+
+        def call():
+            try:
+                elect(BALLOTS, "av", 1, program=program, timeout=0.3)
+            except TimeoutError as error:
+                caught.append(error)
+
+        with program_that(WAITING) as program:
+            thread = threading.Thread(target=call, daemon=True)
+            thread.start()
+            thread.join(20)
+            self.assertEqual(len(caught), 1)
+            self.assert_ended(program)
+
+    def test_a_timeout_while_the_caller_is_busy(self):
+        # 64 candidates with one voter each: 6 * 10^18 ties
+        answers = elect([{number} for number in range(1, 65)], "cc", 32, timeout=1.5)
+        first = next(answers)
+        process = answers._run.process
+        time.sleep(2.5)
+        with open(f"/proc/{process.pid}/stat") as file:
+            self.assertIn(") Z ", file.read())
+        # What was printed in time is still read, and then the time is over.
+        with self.assertRaises(TimeoutError):
+            for committee in answers:
+                self.assertEqual(len(committee), 32)
+        self.assertEqual(first, set(range(1, 33)))
+        with self.assertRaises(committees.CutOff):
+            next(answers)
+
+    def test_a_program_that_ended_in_time(self):
+        answers = elect(BALLOTS, "cc", 2, timeout=1)
+        time.sleep(1.5)
+        self.assertEqual(len(list(answers)), 6)
+        self.assertEqual(len(list(elect(BALLOTS, "cc", 2, timeout=100))), 6)
+        names = [thread.name for thread in threading.enumerate()]
+        for _ in range(50):
+            if len(names) == 1:
+                break
+            time.sleep(0.1)
+            names = [thread.name for thread in threading.enumerate()]
+        self.assertEqual(len(names), 1, names)
+
+    def test_what_is_not_a_timeout(self):
+        for timeout in (-1, float("nan"), float("inf"), 10**7):
+            with self.assertRaisesRegex(ValueError, "timeout="):
+                elect(BALLOTS, "av", 1, timeout=timeout)
+        self.assertEqual(len(list(elect(BALLOTS, "cc", 2, timeout=None))), 6)
+
+    def test_open_files(self):
+        before = len(os.listdir("/proc/self/fd"))
+        for _ in range(20):
+            list(elect(BALLOTS, "cc", 2, timeout=60))
+            with self.assertRaises(committees.RequestRefused):
+                elect(BALLOTS, "av", 9, timeout=60)
+        time.sleep(0.5)
+        self.assertEqual(len(os.listdir("/proc/self/fd")), before)
+
+
+class Types(unittest.TestCase):
+    def test_hints(self):
+        for name in committees.__all__:
+            public = getattr(committees, name)
+            typing.get_type_hints(public)
+            for method in vars(public).values() if isinstance(public, type) else ():
+                if callable(method) and hasattr(method, "__annotations__"):
+                    typing.get_type_hints(method)
+        self.assertEqual(typing.get_type_hints(elect)["rule"], str)
+        self.assertEqual(typing.get_type_hints(committees.Paging)["limit"], typing.Optional[int])
+
+    def test_answers_are_generic_and_shown(self):
+        self.assertEqual(typing.get_args(committees.Answers[typing.FrozenSet[int]]), (typing.FrozenSet[int],))
+        answers = elect(BOARD, "pav", 3)
+        self.assertEqual(repr(answers), "<Answers: rule pav, size 3, score 77/6; 0 read, not at the end>")
+        list(answers)
+        self.assertEqual(repr(answers), "<Answers: rule pav, size 3, score 77/6; 1 read, at the end>")
+        with share([5, 3, 3], "adams", 2, limit=1) as answers:
+            self.assertEqual(repr(answers), "<Answers: method adams, seats 2; 0 read, not at the end>")
+            list(answers)
+            self.assertEqual(repr(answers), "<Answers: method adams, seats 2; 1 read, at the limit>")
+        with elect(BALLOTS, "minimax", 2) as answers:
+            pass
+        self.assertRegex(repr(answers), "^<Answers: rule minimax, size 2, distance [0-9]; 0 read, closed>$")
+
+    def test_mypy(self):
+        mypy = shutil.which("mypy")
+        if not mypy:
+            self.skipTest("there is no mypy")
+        with tempfile.TemporaryDirectory() as room:
+            words = ["--strict", f"--cache-dir={room}", os.path.join(HERE, "committees.py")]
+            run = subprocess.run([mypy, *words], capture_output=True, text=True)
+        self.assertEqual(run.returncode, 0, run.stdout + run.stderr)
+
+
+if __name__ == "__main__":
+    unittest.main()
