@@ -24,7 +24,7 @@ from committees import check, compute, elect, share  # noqa: E402
 from test_tools import BALLOTS, BOARD, Profile, Voter, program_that  # noqa: E402
 
 PARTIES = os.path.join(TOP, "examples", "parties.cat")
-WAITING = "echo $$ >$0.pid\nexec sleep 60"
+WAITING = "exec sleep 60"
 
 
 def module(name):
@@ -241,16 +241,16 @@ class Interrupted(Exception):
 
 
 class Ends(unittest.TestCase):
-    """The stub writes its process number beside it, and runs on."""
-
-    def assert_ended(self, program):
-        process = int(pathlib.Path(f"{program}.pid").read_text())
-        with self.assertRaises(ProcessLookupError):
-            os.kill(process, 0)
+    def assert_ended(self):
+        """No child of this process runs, or has ended without notice."""
+        with self.assertRaises(ChildProcessError):
+            os.waitpid(-1, os.WNOHANG)
 
     @contextlib.contextmanager
     def interruption(self, kind):
-        """Raises an exception of this kind in the main thread after a while."""
+        """Raises an exception of this kind in the main thread after a while. The list that it gives holds the exception, and
+        with it the traceback and the frames of the call, which `assertRaises` would clear."""
+        held = []
 
         def interrupt(*_):
             raise kind()
@@ -258,24 +258,23 @@ class Ends(unittest.TestCase):
         before = signal.signal(signal.SIGALRM, interrupt)
         signal.setitimer(signal.ITIMER_REAL, 0.5)
         try:
-            with self.assertRaises(kind) as caught:
-                yield
-            # The traceback, which holds the frames of the call, is still there.
-            self.assertIsNotNone(caught.exception)
+            yield held
+        except kind as error:
+            held.append(error)
         finally:
             signal.setitimer(signal.ITIMER_REAL, 0)
             signal.signal(signal.SIGALRM, before)
+        self.assertEqual(len(held), 1)
 
     def test_an_interrupted_call_ends_its_run(self):
         calls = [(elect, BALLOTS, "av", 1), (share, [5, 3], "adams", 1), (check, BALLOTS, "jr", [1]), (compute, "av", BALLOTS, 1)]
         for call, *given in calls:
             for kind in (Interrupted, KeyboardInterrupt):
                 with program_that(WAITING) as program:
-                    try:
-                        with self.interruption(kind):
-                            call(*given, program=program)
-                    finally:
-                        self.assert_ended(program)
+                    with self.interruption(kind) as held:
+                        call(*given, program=program)
+                    self.assert_ended()
+                    self.assertIsNotNone(held[0].__traceback__)
 
     def test_an_interrupted_answer_ends_its_run(self):
         # The second committee is printed in part when the read is interrupted: its rest would be another committee.
@@ -283,9 +282,10 @@ class Ends(unittest.TestCase):
         with program_that(script) as program:
             answers = elect(BALLOTS, "av", 2, program=program)
             self.assertEqual(next(answers), {1, 2})
-            with self.interruption(Interrupted):
+            with self.interruption(Interrupted) as held:
                 next(answers)
-            self.assert_ended(program)
+            self.assert_ended()
+            self.assertIsNotNone(held[0].__traceback__)
             with self.assertRaises(committees.CutOff):
                 next(answers)
 
@@ -295,12 +295,13 @@ class Ends(unittest.TestCase):
             pathlib.Path(program).write_text(f"#!/bin/sh\n{WAITING}\n")
             os.chmod(program, 0o755)
             text = b"#" * 10**6
-            with self.interruption(Interrupted):
+            with self.interruption(Interrupted) as held:
                 elect(text, "av", 1, program=program)
-            self.assert_ended(program)
+            self.assert_ended()
+            self.assertIsNotNone(held[0].__traceback__)
             with self.assertRaises(TimeoutError):
                 elect(text, "av", 1, program=program, timeout=0.5)
-            self.assert_ended(program)
+            self.assert_ended()
 
     def test_a_timeout(self):
         with program_that(WAITING) as program:
@@ -310,7 +311,7 @@ class Ends(unittest.TestCase):
                     call(*given, program=program, timeout=0.3)
                 self.assertLess(time.monotonic() - start, 20)
                 self.assertIsInstance(caught.exception, committees.CommitteesError)
-                self.assert_ended(program)
+                self.assert_ended()
 
     def test_a_timeout_in_a_thread(self):
         caught = []
@@ -326,7 +327,7 @@ class Ends(unittest.TestCase):
             thread.start()
             thread.join(20)
             self.assertEqual(len(caught), 1)
-            self.assert_ended(program)
+            self.assert_ended()
 
     def test_a_timeout_while_the_caller_is_busy(self):
         # 64 candidates with one voter each: 6 * 10^18 ties
