@@ -28,6 +28,7 @@ library are enough.
 """
 from __future__ import annotations
 
+import _thread
 import contextlib
 import errno
 import io
@@ -38,7 +39,6 @@ import shutil
 import signal
 import subprocess
 import sys
-import threading
 import weakref
 from dataclasses import dataclass
 from fractions import Fraction
@@ -97,6 +97,7 @@ LONGEST_TIMEOUT = 1_000_000
 Path = Union[str, "os.PathLike[str]"]
 Answer = TypeVar("Answer")
 Members = TypeVar("Members")
+Result = TypeVar("Result")
 
 
 class CommitteesError(Exception):
@@ -255,6 +256,8 @@ def _names(lines: Iterable[bytes]) -> Dict[int, str]:
 
 
 def _whole(number: Any) -> int:
+    if type(number) is int:
+        return number
     try:
         if isinstance(number, Number) and not isinstance(number, bool) and int(number) == number:  # type: ignore[call-overload]
             return int(number)  # type: ignore[call-overload, no-any-return]
@@ -290,14 +293,14 @@ def _rows(profile: Any) -> Iterator[Tuple[Any, Any]]:
 
 def _ballot(approved: Any, first: int) -> List[int]:
     """The candidates of a ballot, in order."""
-    if isinstance(approved, (str, bytes)) or not isinstance(approved, Iterable):
+    if isinstance(approved, (str, bytes)) or not hasattr(approved, "__iter__"):
         raise ValueError(f"{approved!r} is not a set of candidates")
-    numbers = sorted(_whole(number) for number in approved)
-    double = [number for number, next_one in zip(numbers, numbers[1:]) if number == next_one]
+    numbers = sorted(map(_whole, approved))
     if numbers and numbers[0] < first:
         raise ValueError(f"{numbers[0]} is not a candidate: a ballot is a set of candidate numbers, from {first}")
-    if double:
-        raise ValueError(f"candidate {double[0]} stands there twice: a ballot is a set of candidate numbers")
+    if len(set(numbers)) < len(numbers):
+        double = next(number for number in numbers if numbers.count(number) > 1)
+        raise ValueError(f"candidate {double} stands there twice: a ballot is a set of candidate numbers")
     return numbers
 
 
@@ -316,7 +319,7 @@ def _ballots(profile: Any, candidates: Optional[int]) -> _Input:
         except ValueError as error:
             raise ValueError(f"ballot {position}: {error}") from None
         highest = max([highest, *numbers])
-        lines.append(f"{count}: {{{_list(numbers, first)}}}\n")
+        lines.append(f"{count}: {{{','.join(str(number + 1 - first) for number in numbers)}}}\n")
     number = highest + 1 - first if candidates is None else candidates
     header = ["# DATA TYPE: cat\n", f"# NUMBER ALTERNATIVES: {number}\n"]
     return _Input([], "".join(header + lines).encode(), first, names, lines_before=len(header))
@@ -357,28 +360,64 @@ def _program(program: Optional[Path]) -> str:
     return found
 
 
-def _end(process: "subprocess.Popen[bytes]") -> None:
-    """Ends a process that may still run, and lets go of its pipes."""
-    if process.poll() is None:
-        process.kill()
-    process.wait()
-    for pipe in (process.stdin, process.stdout, process.stderr):
-        # What was not written yet to a program that has ended cannot be written any more.
-        with contextlib.suppress(BrokenPipeError):
-            if pipe:
-                pipe.close()
+class _Process:
+    """A process with pipes to its standard streams. It is started in a thread of its own: if a signal's handler raises in
+    the middle of `Popen`, as it can in the main thread, a process is left that nobody knows. The main thread waits at a
+    pipe, since the locks of `threading` do not take such an exception well."""
+
+    def __init__(self, words: List[str]):
+        self.words = words
+        self.popen: Optional[subprocess.Popen[bytes]] = None
+        self.error: Optional[OSError] = None
+        self.is_over = False
+
+    def start(self) -> subprocess.Popen[bytes]:
+        started, to_say_so = os.pipe()
+        try:
+            _thread.start_new_thread(self._start, (to_say_so,))
+            os.read(started, 1)
+        finally:
+            os.close(started)
+        if self.error:
+            raise NoProgram(f"{self.words[0]} could not be started: {self.error.strerror}") from self.error
+        assert self.popen
+        return self.popen
+
+    def _start(self, to_say_so: int) -> None:
+        pipe = subprocess.PIPE
+        try:
+            self.popen = subprocess.Popen(self.words, stdin=pipe, stdout=pipe, stderr=pipe)
+        except OSError as error:
+            self.error = error
+        if self.is_over:
+            self.end()
+        with contextlib.suppress(BrokenPipeError), open(to_say_so, "wb", buffering=0) as started:
+            started.write(b".")
+
+    def end(self) -> None:
+        """Ends the process if it still runs, and lets go of its pipes."""
+        self.is_over = True
+        if not self.popen:
+            return
+        self.popen.kill()
+        self.popen.wait()
+        for pipe in (self.popen.stdin, self.popen.stdout, self.popen.stderr):
+            # What was not written yet to a program that has ended cannot be written any more.
+            with contextlib.suppress(BrokenPipeError):
+                if pipe:
+                    pipe.close()
 
 
 class _Alarm:
     """Ends a process after a number of seconds, from a thread of its own. The thread waits at a pipe and holds no lock, so a
     run can be dropped at any time."""
 
-    def __init__(self, process: "subprocess.Popen[bytes]", seconds: float):
+    def __init__(self, process: subprocess.Popen[bytes], seconds: float):
         self.process = process
         self.seconds = seconds
         self.has_rung = False
         self.stopped, self.to_stop = os.pipe()
-        threading.Thread(target=self.wait, daemon=True).start()
+        _thread.start_new_thread(self.wait, ())
 
     def wait(self) -> None:
         pipe = select.poll()
@@ -407,29 +446,24 @@ class _Run:
         path = _program(keywords.get("program"))
         seconds = _seconds(keywords.get("timeout"))
         self.given = given
-        try:
-            self.process = subprocess.Popen(
-                [path, command, *arguments],
-                stdin=subprocess.PIPE,
-                stdout=subprocess.PIPE,
-                stderr=subprocess.PIPE,
-            )
-        except OSError as error:
-            raise NoProgram(f"{path} could not be started: {error.strerror}") from error
-        at_end = contextlib.ExitStack()
-        at_end.callback(_end, self.process)
+        process, at_end = _Process([path, command, *arguments]), contextlib.ExitStack()
+        at_end.callback(process.end)
         self.end = weakref.finalize(self, at_end.close)
-        with self.ended_by_errors():
-            self.alarm = None if seconds is None else _Alarm(self.process, seconds)
-            if self.alarm:
+        self.alarm: Optional[_Alarm] = None
+
+        def start() -> None:
+            self.process = process.start()
+            if seconds is not None:
+                self.alarm = _Alarm(self.process, seconds)
                 at_end.callback(self.alarm.stop)
             self.write(given.text)
 
-    @contextlib.contextmanager
-    def ended_by_errors(self) -> Iterator[None]:
-        """Ends the run if the block raises, as an interrupted wait does: the traceback may keep the run for long."""
+        self.attempt(start)
+
+    def attempt(self, work: Callable[[], Result]) -> Result:
+        """Ends the run if this work raises, as an interrupted wait does: the traceback may keep the run for long."""
         try:
-            yield
+            return work()
         except BaseException:
             self.end()
             raise
@@ -555,16 +589,12 @@ class Answers(Iterator[Answer]):
             raise StopIteration
         if not self._run.end.alive:
             raise CutOff("the answers were closed before the last one was read")
-        try:
-            line = self._run.next_line()
-            if line not in ("end", "more"):
-                self._count += 1
-                return self._answer([int(number) for number in line.split(",")])
-            self._run.finish(0)
-        except BaseException:
-            # After an interrupted read the next line could be the rest of one, and so a wrong answer.
-            self._run.end()
-            raise
+        # After an interrupted read the next line could be the rest of one, and so a wrong answer: the run is ended.
+        line = self._run.attempt(self._run.next_line)
+        if line not in ("end", "more"):
+            self._count += 1
+            return self._answer([int(number) for number in line.split(",")])
+        self._run.attempt(lambda: self._run.finish(0))
         self.more = line == "more"
         raise StopIteration
 
@@ -601,14 +631,19 @@ def elect(profile: Any, rule: str, size: int, *, names: bool = False, **keywords
     run = _Run(
         "elect", given, keywords, rule=rule, size=size, after=None if after is None else _list(sorted(after), given.first)
     )
-    header: Dict[str, Any] = {"rule": rule, "size": size}
-    with run.ended_by_errors():
-        run.expect_header(**header)
-        if rule == "minimax":
-            header["distance"] = int(run.expect("distance"))
-        elif not rule.startswith(("seq", "revseq")):
-            header["score"] = Fraction(run.expect("score"))
+    header = run.attempt(lambda: _election_header(run, rule, size))
     return Answers(run, given.names_of if names else given.members, **header)
+
+
+def _election_header(run: _Run, rule: str, size: int) -> Dict[str, Any]:
+    """What the program prints before the first committee."""
+    header: Dict[str, Any] = {"rule": rule, "size": size}
+    run.expect_header(**header)
+    if rule == "minimax":
+        header["distance"] = int(run.expect("distance"))
+    elif not rule.startswith(("seq", "revseq")):
+        header["score"] = Fraction(run.expect("score"))
+    return header
 
 
 def _is_votes(profile: Any) -> bool:
@@ -666,8 +701,7 @@ def share(profile: Any, method: str, seats: int, *, names: bool = False, **keywo
     if isinstance(after, Mapping):
         after = [after[party] for party in parties or given.names_of(range(1, len(after) + 1))]
     run = _Run("share", given, keywords, method=method, seats=seats, after=None if after is None else _list(after))
-    with run.ended_by_errors():
-        run.expect_header(method=method, seats=seats)
+    run.attempt(lambda: run.expect_header(method=method, seats=seats))
     answer: Callable[[List[int]], Any] = tuple
     if names or parties is not None:
         answer = _seats_by_name(given, parties)
@@ -694,25 +728,24 @@ def check(
     given = _input(profile, names, keywords.get("candidates"))
     property = _own_name(property, PROPERTIES)
     run = _Run("check", given, keywords, property=property, committee=_list(sorted(committee), given.first))
-    with run.ended_by_errors():
-        first = run.line()
-        if first == "holds":
-            run.finish(0)
-            return Check(True)
-        if first != f"violated {property}":
-            run.fail()
-        return _report(run, given.names_of if names else given.members, property == "pjr")
+    return run.attempt(lambda: _report(run, property, given.names_of if names else given.members))
 
 
-def _report(run: _Run, members: Callable[[List[int]], Members], has_within: bool) -> Check[Members]:
-    """The report of a violated property, below its first line."""
+def _report(run: _Run, property: str, members: Callable[[List[int]], Members]) -> Check[Members]:
+    """Reads the answer to a check."""
 
     def read(text: str) -> Members:
         return members([int(number) for number in text.split(",") if number.isdigit()])
 
+    first = run.line()
+    if first == "holds":
+        run.finish(0)
+        return Check(True)
+    if first != f"violated {property}":
+        run.fail()
     level = int(run.expect("level"))
     shared = read(run.expect("candidates"))
-    within = read(run.expect("within")) if has_within else None
+    within = read(run.expect("within")) if property == "pjr" else None
     group, _, voters = run.expect("voters").partition(" of ")
     rows: List[Tuple[Members, int]] = []
     while sum(count for _, count in rows) < int(group):

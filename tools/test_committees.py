@@ -242,9 +242,11 @@ class Interrupted(Exception):
 
 class Ends(unittest.TestCase):
     def assert_ended(self):
-        """No child of this process runs, or has ended without notice."""
+        """No child of this process is left. An interrupted start ends its process only when that has been started."""
         with self.assertRaises(ChildProcessError):
-            os.waitpid(-1, os.WNOHANG)
+            for _ in range(100):
+                os.waitpid(-1, os.WNOHANG)
+                time.sleep(0.05)
 
     @contextlib.contextmanager
     def interruption(self, kind):
@@ -350,13 +352,11 @@ class Ends(unittest.TestCase):
         time.sleep(1.5)
         self.assertEqual(len(list(answers)), 6)
         self.assertEqual(len(list(elect(BALLOTS, "cc", 2, timeout=100))), 6)
-        names = [thread.name for thread in threading.enumerate()]
-        for _ in range(50):
-            if len(names) == 1:
+        for _ in range(100):
+            if len(os.listdir("/proc/self/task")) == 1:
                 break
             time.sleep(0.1)
-            names = [thread.name for thread in threading.enumerate()]
-        self.assertEqual(len(names), 1, names)
+        self.assertEqual(len(os.listdir("/proc/self/task")), 1)
 
     def test_what_is_not_a_timeout(self):
         for timeout in (-1, float("nan"), float("inf"), 10**7):
