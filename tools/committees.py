@@ -101,13 +101,15 @@ Result = TypeVar("Result")
 
 
 class CommitteesError(Exception):
-    """What the program refused, or why it has no answer. `status` is its exit status, and `fault` the name of the fault, if
-    it has one. `line` is the number of the faulty line of a file; `ballot` is that of the faulty ballot of a list. Both
-    count from 1."""
+    """What the program refused, or why it has no answer. `status` is its exit status, and `fault` the name of the
+    fault, if it has one. `line` is the number of the faulty line of a file; `ballot` is that of the faulty ballot of
+    a list. Both count from 1."""
 
     ballot: Optional[int] = None
 
-    def __init__(self, text: str, status: Optional[int] = None, fault: Optional[str] = None, line: Optional[int] = None):
+    def __init__(
+        self, text: str, status: Optional[int] = None, fault: Optional[str] = None, line: Optional[int] = None
+    ):
         super().__init__(text)
         self.status = status
         self.fault = fault
@@ -158,9 +160,9 @@ REFUSALS = {2: UsageRefused, 3: InputRefused, 4: RequestRefused, 5: NoMemory, 6:
 
 @dataclass(frozen=True)
 class Check(Generic[Members]):
-    """The answer to a check. It is true if the property holds; otherwise the other fields describe a group of voters that
-    the committee leaves out: the level, the candidates that they share, for PJR their members of the committee (`within`),
-    their number out of all voters, and their ballots, each with its number of voters."""
+    """The answer to a check. It is true if the property holds; otherwise the other fields describe a group of voters
+    that the committee leaves out: the level, the candidates that they share, for PJR their members of the committee
+    (`within`), their number out of all voters, and their ballots, each with its number of voters."""
 
     holds: bool
     level: Optional[int] = None
@@ -175,11 +177,12 @@ class Check(Generic[Members]):
 
 
 class Reading(TypedDict, total=False):
-    """Keywords of `elect`, `check` and `share`. `candidates` is the number of candidates of a list of approval sets, if not
-    the highest number in it. `kind`, `category`, `setsize` and `classes` are the options of the program, and `program` is
-    its path. `timeout` is in seconds, from the start of the program until its last answer is read: a program that still
-    runs then is ended, and the next call that waits for it raises `OutOfTime`, a `TimeoutError`. What the caller does
-    between two answers takes from that time, too. Answers that were printed in time can still be read."""
+    """Keywords of `elect`, `check` and `share`. `candidates` is the number of candidates of a list of approval sets,
+    if not the highest number in it. `kind`, `category`, `setsize` and `classes` are the options of the program, and
+    `program` is its path. `timeout` is in seconds, from the start of the program until its last answer is read: a
+    program that still runs then is ended, and the next call that waits for it raises `OutOfTime`, a `TimeoutError`.
+    What the caller does between two answers takes from that time, too. Answers that were printed in time can still be
+    read."""
 
     candidates: Optional[int]
     kind: Optional[str]
@@ -191,16 +194,16 @@ class Reading(TypedDict, total=False):
 
 
 class Paging(Reading, total=False):
-    """Keywords of `elect` and `share`: those of `Reading`, `after` for only the answers later than this one, and `limit` for
-    at most this many."""
+    """Keywords of `elect` and `share`: those of `Reading`, `after` for only the answers later than this one, and
+    `limit` for at most this many."""
 
     after: Union[None, Iterable[int], Mapping[Any, int]]
     limit: Optional[int]
 
 
 def metadata(lines: Iterable[bytes]) -> List[Tuple[str, str]]:
-    """The metadata of a PrefLib file, as the program reads it: key and value of each line before the first ballot. Keys are
-    in capital letters, with one space between two words."""
+    """The metadata of a PrefLib file, as the program reads it: key and value of each line before the first ballot.
+    Keys are in capital letters, with one space between two words."""
     found = []
     for number, line in enumerate(lines):
         line = line.removeprefix(b"\xef\xbb\xbf") if number == 0 else line
@@ -258,11 +261,12 @@ def _names(lines: Iterable[bytes]) -> Dict[int, str]:
 def _whole(number: Any) -> int:
     if type(number) is int:
         return number
-    try:
-        if isinstance(number, Number) and not isinstance(number, bool) and int(number) == number:  # type: ignore[call-overload]
-            return int(number)  # type: ignore[call-overload, no-any-return]
-    except (OverflowError, TypeError, ValueError):
-        pass  # infinite, complex, or not a number
+    if isinstance(number, Number) and not isinstance(number, bool):
+        value: Any = number
+        # Without an int are the infinite, the complex, and `nan`.
+        with contextlib.suppress(OverflowError, TypeError, ValueError):
+            if int(value) == value:
+                return int(value)
     raise ValueError(f"{number!r} is not a whole number")
 
 
@@ -361,9 +365,9 @@ def _program(program: Optional[Path]) -> str:
 
 
 class _Process:
-    """A process with pipes to its standard streams. It is started in a thread of its own: if a signal's handler raises in
-    the middle of `Popen`, as it can in the main thread, a process is left that nobody knows. The main thread waits at a
-    pipe, since the locks of `threading` do not take such an exception well."""
+    """A process with pipes to its standard streams. It is started in a thread of its own: if a signal's handler
+    raises in the middle of `Popen`, as it can in the main thread, a process is left that nobody knows. The main
+    thread waits at a pipe, since the locks of `threading` do not take such an exception well."""
 
     def __init__(self, words: List[str]):
         self.words = words
@@ -409,8 +413,8 @@ class _Process:
 
 
 class _Alarm:
-    """Ends a process after a number of seconds, from a thread of its own. The thread waits at a pipe and holds no lock, so a
-    run can be dropped at any time."""
+    """Ends a process after a number of seconds, from a thread of its own. The thread waits at a pipe and holds no
+    lock, so a run can be dropped at any time."""
 
     def __init__(self, process: subprocess.Popen[bytes], seconds: float):
         self.process = process
@@ -526,7 +530,8 @@ class _Run:
 
 
 def _refusal(status: int, text: str, given: _Input) -> CommitteesError:
-    """The exception for a refusal, from what the program printed. It names the path of a file and the ballot of a list."""
+    """The exception for a refusal, from what the program printed. It names the path of a file and the ballot of a
+    list."""
     fault = text.split()[-1] if text.startswith("committees: ") and status in (3, 4) else None
     if text.startswith("committees: words: "):
         fault = text.split()[2]
@@ -556,9 +561,10 @@ def _refusal(status: int, text: str, given: _Input) -> CommitteesError:
 
 
 class Answers(Iterator[Answer]):
-    """The answers of one run, in order, each as soon as it is printed. `score` is a `Fraction`, or None if the rule has no
-    score; `distance` is the distance under minimax. `more` is None until the last answer was read; then it says whether a
-    limit left some out. An iterator that is dropped, closed, interrupted or left (`with`) ends its run."""
+    """The answers of one run, in order, each as soon as it is printed. `score` is a `Fraction`, or None if the rule
+    has no score; `distance` is the distance under minimax. `more` is None until the last answer was read; then it
+    says whether a limit left some out. An iterator that is dropped, closed, interrupted or left (`with`) ends its
+    run."""
 
     score: Optional[Fraction]
     distance: Optional[int]
@@ -628,9 +634,8 @@ def elect(profile: Any, rule: str, size: int, *, names: bool = False, **keywords
     given = _input(profile, names, keywords.get("candidates"))
     rule = _own_name(rule, RULES)
     after = keywords.get("after")
-    run = _Run(
-        "elect", given, keywords, rule=rule, size=size, after=None if after is None else _list(sorted(after), given.first)
-    )
+    start = None if after is None else _list(sorted(after), given.first)
+    run = _Run("elect", given, keywords, rule=rule, size=size, after=start)
     header = run.attempt(lambda: _election_header(run, rule, size))
     return Answers(run, given.names_of if names else given.members, **header)
 
@@ -647,7 +652,8 @@ def _election_header(run: _Run, rule: str, size: int) -> Dict[str, Any]:
 
 
 def _is_votes(profile: Any) -> bool:
-    """Whether these are votes of parties, and not ballots: a collection of numbers, or a mapping whose keys are names."""
+    """Whether these are votes of parties, and not ballots: a collection of numbers, or a mapping whose keys are
+    names."""
     if isinstance(profile, Mapping):
         return not any(isinstance(party, (frozenset, tuple)) for party in profile)
     is_text = isinstance(profile, (str, bytes, bytearray, memoryview))
@@ -687,10 +693,10 @@ def share(
 
 
 def share(profile: Any, method: str, seats: int, *, names: bool = False, **keywords: Unpack[Paging]) -> Answers[Any]:
-    """Gives all fair allocations of seats in ascending order. The profile is a list of votes, one number for each party, a
-    mapping of the names of parties to votes, or a profile as for `elect`, whose candidates are the parties. An allocation
-    is a tuple of numbers; for a mapping, or with `names=True`, it is a mapping of names to seats. `Paging` has the other
-    keywords."""
+    """Gives all fair allocations of seats in ascending order. The profile is a list of votes, one number for each
+    party, a mapping of the names of parties to votes, or a profile as for `elect`, whose candidates are the parties.
+    An allocation is a tuple of numbers; for a mapping, or with `names=True`, it is a mapping of names to seats.
+    `Paging` has the other keywords."""
     parties = list(profile) if isinstance(profile, Mapping) and _is_votes(profile) else None
     if _is_votes(profile):
         given = _Input([f"--votes={_list(profile.values() if parties is not None else profile)}"])
@@ -759,8 +765,8 @@ def _report(run: _Run, property: str, members: Callable[[List[int]], Members]) -
 
 
 def compute(*arguments: Any, **keywords: Any) -> List[Any]:
-    """Stands in for `abcrules.compute` of abcvoting and `methods.compute` of apportionment: the first argument is the name
-    of a rule or of a method, and the second is a profile or votes.
+    """Stands in for `abcrules.compute` of abcvoting and `methods.compute` of apportionment: the first argument is the
+    name of a rule or of a method, and the second is a profile or votes.
 
     `compute(rule_id, profile, committeesize, resolute=False)` returns the list of all winning committees, as sets.
     `compute(method, votes, seats)` returns the list of all fair allocations, each a list of seats, or a mapping if the
