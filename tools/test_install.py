@@ -31,7 +31,7 @@ def run(*words, **options):
 
 
 def has_modules(python):
-    return os.path.exists(python) and run(python, "-c", "import pip, setuptools, venv, wheel").returncode == 0
+    return os.path.exists(python) and run(python, "-c", "import setuptools, pip, venv, wheel").returncode == 0
 
 
 class Installed(unittest.TestCase):
