@@ -372,7 +372,7 @@ class _Process:
     def __init__(self, words: List[str]):
         self.words = words
         self.popen: Optional[subprocess.Popen[bytes]] = None
-        self.error: Optional[OSError] = None
+        self.error: Optional[BaseException] = None
         self.is_over = False
 
     def start(self) -> subprocess.Popen[bytes]:
@@ -382,8 +382,10 @@ class _Process:
             os.read(started, 1)
         finally:
             os.close(started)
-        if self.error:
+        if isinstance(self.error, OSError):
             raise NoProgram(f"{self.words[0]} could not be started: {self.error.strerror}") from self.error
+        if self.error:
+            raise self.error
         assert self.popen
         return self.popen
 
@@ -391,10 +393,10 @@ class _Process:
         pipe = subprocess.PIPE
         try:
             self.popen = subprocess.Popen(self.words, stdin=pipe, stdout=pipe, stderr=pipe)
-        except OSError as error:
+            if self.is_over:
+                self.end()
+        except BaseException as error:  # for the thread that waits
             self.error = error
-        if self.is_over:
-            self.end()
         with contextlib.suppress(BrokenPipeError), open(to_say_so, "wb", buffering=0) as started:
             started.write(b".")
 

@@ -119,6 +119,10 @@ class Texts(unittest.TestCase):
             self.assertEqual((error.status, error.filename), (6, str(path)))
             self.assertEqual(str(error), f"committees: open failed: {path}")
 
+    def test_a_path_that_cannot_be_one(self):
+        with self.assertRaisesRegex(ValueError, "null byte"):
+            elect("no\0file.cat", "av", 1)
+
     def test_a_folder(self):
         with self.assertRaises(committees.DeviceFailed) as caught:
             elect(HERE, "av", 1)
