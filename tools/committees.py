@@ -263,7 +263,7 @@ def _whole(number: Any) -> int:
         return number
     if isinstance(number, Number) and not isinstance(number, bool):
         value: Any = number
-        # Without an int are the infinite, the complex, and `nan`.
+        # `int` refuses infinite and complex numbers, and `nan`.
         with contextlib.suppress(OverflowError, TypeError, ValueError):
             if int(value) == value:
                 return int(value)
@@ -365,9 +365,9 @@ def _program(program: Optional[Path]) -> str:
 
 
 class _Process:
-    """A process with pipes to its standard streams. It is started in a thread of its own: if a signal's handler
-    raises in the middle of `Popen`, as it can in the main thread, a process is left that nobody knows. The main
-    thread waits at a pipe, since the locks of `threading` do not take such an exception well."""
+    """A process with pipes to its standard streams. It is started in a thread of its own. In the main thread a signal's
+    handler could raise in the middle of `Popen`, and a process would be left that nothing refers to. The main thread
+    waits at a pipe, since the locks of `threading` can break if a handler raises."""
 
     def __init__(self, words: List[str]):
         self.words = words
@@ -376,9 +376,9 @@ class _Process:
         self.is_over = False
 
     def start(self) -> subprocess.Popen[bytes]:
-        started, to_say_so = os.pipe()
+        started, to_report = os.pipe()
         try:
-            _thread.start_new_thread(self._start, (to_say_so,))
+            _thread.start_new_thread(self._start, (to_report,))
             os.read(started, 1)
         finally:
             os.close(started)
@@ -389,7 +389,7 @@ class _Process:
         assert self.popen
         return self.popen
 
-    def _start(self, to_say_so: int) -> None:
+    def _start(self, to_report: int) -> None:
         pipe = subprocess.PIPE
         try:
             self.popen = subprocess.Popen(self.words, stdin=pipe, stdout=pipe, stderr=pipe)
@@ -397,7 +397,7 @@ class _Process:
                 self.end()
         except BaseException as error:  # for the thread that waits
             self.error = error
-        with contextlib.suppress(BrokenPipeError), open(to_say_so, "wb", buffering=0) as started:
+        with contextlib.suppress(BrokenPipeError), open(to_report, "wb", buffering=0) as started:
             started.write(b".")
 
     def end(self) -> None:
@@ -597,12 +597,15 @@ class Answers(Iterator[Answer]):
             raise StopIteration
         if not self._run.end.alive:
             raise CutOff("the answers were closed before the last one was read")
-        # After an interrupted read the next line could be the rest of one, and so a wrong answer: the run is ended.
-        line = self._run.attempt(self._run.next_line)
+        # After an interrupted read the next line could be the rest of a line, or an answer could be missing.
+        return self._run.attempt(self._next)
+
+    def _next(self) -> Answer:
+        line = self._run.next_line()
         if line not in ("end", "more"):
             self._count += 1
             return self._answer([int(number) for number in line.split(",")])
-        self._run.attempt(lambda: self._run.finish(0))
+        self._run.finish(0)
         self.more = line == "more"
         raise StopIteration
 
@@ -776,7 +779,8 @@ def compute(*arguments: Any, **keywords: Any) -> List[Any]:
     nothing. `Paging` has the other keywords."""
     name = arguments[0] if arguments else keywords.get("rule_id", keywords.get("method"))
     given = arguments[1] if len(arguments) > 1 else keywords.get("votes")
-    is_method = isinstance(name, str) and _own_name(name, METHODS) in METHODS.values() or _is_votes(given)
+    is_method = isinstance(name, str) and _own_name(name, METHODS) in METHODS.values()
+    is_method = is_method or _is_votes(given) and len(given) > 0
     keywords.pop("algorithm", None)
     keywords.pop("verbose", None)
     if is_method:

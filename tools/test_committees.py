@@ -210,8 +210,12 @@ class Names(unittest.TestCase):
         self.assertEqual(list(share(PARTIES, "dhondt", 3, names=True)), [{"Greens": 2, "Blues": 1, "Greys": 0}])
         text = b"# DATA TYPE: cat\n# NUMBER ALTERNATIVES: 2\n"
         text += b"# ALTERNATIVE NAME 1: A\n# ALTERNATIVE NAME 2: A\n1: 1\n1: 2\n"
+        answers = share(text, "dhondt", 3, names=True)
         with self.assertRaisesRegex(ValueError, "two parties have the same name"):
-            list(share(text, "dhondt", 3, names=True))
+            next(answers)
+        # An answer is missing now, so no later one is given.
+        with self.assertRaises(committees.CutOff):
+            next(answers)
         # A committee keeps both of its members.
         self.assertEqual(list(elect(text, "av", 2, names=True)), [("A", "A")])
         after = {"Greens": 1, "Blues": 2, "Greys": 0}
@@ -244,6 +248,9 @@ class OtherLibraries(unittest.TestCase):
                 compute("quota", votes, 2)
         with self.assertRaisesRegex(committees.UsageRefused, "'monroe' for '--rule"):
             compute("monroe", BALLOTS, 2)
+        for profile in ([], Counter(), Profile()):
+            with self.assertRaises(committees.InputRefused):
+                compute("av", profile, 2)
 
 
 class Interrupted(Exception):

@@ -1,5 +1,6 @@
 """Tests of `pip install ./tools`, in a fresh virtual environment and without a network."""
 import os
+import re
 import shutil
 import subprocess
 import sys
@@ -23,7 +24,11 @@ votes: Answers[Tuple[int, ...]] = share([1, 2], "adams", 3)
 seats: Answers[Dict[str, int]] = share({"Greens": 1}, "adams", 3)
 report: Check[FrozenSet[int]] = check(b"", "jr", {1})
 """
-MISTYPED = ['elect("b.cat", "pav", 3, setsise=2)', 'elect("b.cat", "pav", 3, setsize="2")', 'check("", "jr", [], limit=1)']
+MISTYPED = [
+    'elect("b.cat", "pav", 3, setsise=2)',
+    'elect("b.cat", "pav", 3, setsize="2")',
+    'check("b.cat", "jr", [], limit=1)',
+]
 
 
 def run(*words, **options):
@@ -32,6 +37,13 @@ def run(*words, **options):
 
 def has_modules(python):
     return os.path.exists(python) and run(python, "-c", "import setuptools, pip, venv, wheel").returncode == 0
+
+
+class Versions(unittest.TestCase):
+    def test_the_version_is_that_of_the_citation(self):
+        with open(os.path.join(HERE, "pyproject.toml")) as project, open(os.path.join(TOP, "CITATION.cff")) as citation:
+            cited = re.search("^version: (.*)$", citation.read(), re.MULTILINE)[1]
+            self.assertIn(f'\nversion = "{cited}"\n', project.read())
 
 
 class Installed(unittest.TestCase):

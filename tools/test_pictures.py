@@ -22,7 +22,8 @@ MOST_VOTERS = 2**32
 
 def run(*words, text=b""):
     """The status of draw_committee, and what it writes to its two streams."""
-    done = subprocess.run([sys.executable, os.path.join(HERE, "draw_committee"), *words], input=text, capture_output=True)
+    command = [sys.executable, os.path.join(HERE, "draw_committee"), *words]
+    done = subprocess.run(command, input=text, capture_output=True)
     return done.returncode, done.stdout, done.stderr.decode()
 
 
@@ -178,7 +179,8 @@ class Ballots(unittest.TestCase):
             with program_that(answer) as program:
                 text = b"# DATA TYPE: cat\n# NUMBER ALTERNATIVES: 2\n1: {1}\n" + ballot
                 status, svg, said = run("--rule=av", "--size=1", "--program", program, text=text)
-                self.assertEqual((status, svg, said), (1, b"", "draw_committee: line 4: the ballot is not understood\n"))
+                self.assertEqual((status, svg), (1, b""))
+                self.assertEqual(said, "draw_committee: line 4: the ballot is not understood\n")
 
     def test_an_answer_that_is_not_that_of_the_ballots(self):
         text = b"# DATA TYPE: cat\n# NUMBER ALTERNATIVES: 2\n1: {1}\n"

@@ -128,7 +128,8 @@ class Refusals(unittest.TestCase):
         self.refused(committees.InputRefused, 3, "NoVoters", None, elect, [], "av", 1)
         self.refused(committees.InputRefused, 3, "NoSuchCandidate", None, elect, [{1, 4}], "av", 1, candidates=3)
         self.refused(committees.InputRefused, 3, "TooManyCandidates", None, elect, [{65}], "av", 1)
-        self.refused(committees.InputRefused, 3, "BadKind", 3, elect, b"# DATA TYPE: wmd\n# NUMBER ALTERNATIVES: 1\n1: 1", "av", 1)
+        text = b"# DATA TYPE: wmd\n# NUMBER ALTERNATIVES: 1\n1: 1"
+        self.refused(committees.InputRefused, 3, "BadKind", 3, elect, text, "av", 1)
         self.refused(committees.RequestRefused, 4, "SizeTooLarge", None, elect, [{1}], "av", 2)
         self.refused(committees.RequestRefused, 4, "AfterMisfit", None, elect, BALLOTS, "av", 2, after=[1])
         self.refused(committees.RequestRefused, 4, "CommitteeMisfit", None, check, BALLOTS, "jr", [9])
