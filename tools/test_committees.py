@@ -425,9 +425,10 @@ class Types(unittest.TestCase):
         if not mypy:
             self.skipTest("there is no mypy")
         with tempfile.TemporaryDirectory() as room:
-            words = ["--strict", f"--cache-dir={room}", os.path.join(HERE, "committees.py")]
-            run = subprocess.run([mypy, *words], capture_output=True, text=True)
-        self.assertEqual(run.returncode, 0, run.stdout + run.stderr)
+            for file in ("committees.py", "draw_committee"):
+                words = [mypy, "--strict", f"--cache-dir={room}", file]
+                run = subprocess.run(words, capture_output=True, text=True, cwd=HERE)
+                self.assertEqual(run.returncode, 0, run.stdout + run.stderr)
 
 
 if __name__ == "__main__":

@@ -172,6 +172,9 @@ class Ballots(unittest.TestCase):
             path = os.path.join(room, "votes.SOI")
             pathlib.Path(path).write_text("# NUMBER ALTERNATIVES: 3\n2: 2,1\n")
             self.assertEqual(len(Shown(path, "--rule", "av", "--size", "1").filled), 1)
+            plain = os.path.join(room, "soi")
+            os.rename(path, plain)
+            self.assertIn("line 2: NoKind", run(plain, "--rule", "av", "--size", "1")[2])
 
     def test_a_ballot_that_is_not_read_is_an_error(self):
         answer = "printf 'rule av\\nsize 1\\nscore 1/1\\n1\\nend\\n'"
