@@ -1,4 +1,4 @@
-"""Tests of what committees.py takes, how its runs end, and of its types; test_tools.py has those of its answers."""
+"""Tests of what committees.py takes, how its runs end, and of its types; test_answers.py has those of its answers."""
 import contextlib
 import io
 import os
@@ -21,7 +21,7 @@ TOP = os.path.dirname(HERE)
 sys.path.insert(0, HERE)
 import committees  # noqa: E402
 from committees import check, compute, elect, share  # noqa: E402
-from test_tools import BALLOTS, BOARD, Profile, Voter, program_that  # noqa: E402
+from test_answers import BALLOTS, BOARD, Profile, Voter, program_that  # noqa: E402
 
 PARTIES = os.path.join(TOP, "examples", "parties.cat")
 WAITING = "exec sleep 60"

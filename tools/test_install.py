@@ -70,9 +70,11 @@ class Installed(unittest.TestCase):
         # The sources are gone, as they may be for a user.
         shutil.rmtree(copy)
 
-    def ran(self, program, *words, **options):
+    def ran(self, program, *words, errors="", **options):
         done = run(os.path.join(self.bin, program), *words, **{**self.options, **options})
-        self.assertEqual((done.returncode, done.stderr), (0, ""))
+        self.assertEqual(done.returncode, 0, done.stderr)
+        self.assertRegex(done.stderr, f"^{errors}")
+        self.assertEqual(done.stderr == "", errors == "")
         return done.stdout
 
     def test_the_program_on_the_path(self):
@@ -95,7 +97,7 @@ class Installed(unittest.TestCase):
         self.assertIn("NoProgram: there is no program `committees`", done.stderr)
 
     def test_the_scripts(self):
-        self.assertIn("2: {1},{2}\n", self.ran("table_to_cat", input="Ada,Ben\nx,\nx,\n"))
+        self.assertIn("2: {1},{2}\n", self.ran("table_to_cat", input="Ada,Ben\nx,\nx,\n", errors="table_to_cat: 2 voters"))
         self.assertIn("usage: draw_committee", self.ran("draw_committee", "--help"))
 
     def test_types(self):

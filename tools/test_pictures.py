@@ -12,7 +12,7 @@ HERE = os.path.dirname(os.path.realpath(__file__))
 TOP = os.path.dirname(HERE)
 sys.path.insert(0, HERE)
 import committees  # noqa: E402
-from test_tools import program_that  # noqa: E402
+from test_answers import program_that  # noqa: E402
 
 EXAMPLES = os.path.join(TOP, "examples")
 BOARD = os.path.join(EXAMPLES, "board.cat")

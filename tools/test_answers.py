@@ -1,4 +1,4 @@
-"""Tests of committees.py and table_to_cat, with real runs of the program: python3 -m unittest discover tools"""
+"""Tests of the answers of committees.py, with real runs of the program: python3 -m unittest discover tools"""
 import contextlib
 import doctest
 import os
