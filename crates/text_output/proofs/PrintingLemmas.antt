@@ -9,7 +9,7 @@ use Rattle.text_output.specs.Steps.Printing.{Outlet, Passes, Prints, Sends}
 use Rattle.text_output.specs.declared.printing.Printer.{Printer}
 
 -- a text after a text that was printed
-Passes-then : {a b c : Outlet} {x y : List ℕ} {ok : Bool} → Passes a b true x → Passes b c ok y → Passes a c ok (x ++ y)
+pub Passes-then : {a b c : Outlet} {x y : List ℕ} {ok : Bool} → Passes a b true x → Passes b c ok y → Passes a c ok (x ++ y)
 Passes-then {a} {b} {c} {x} {y} first second = record {
   sent = first.sent ++ second.sent;
   rest = second.rest;
@@ -25,7 +25,7 @@ Passes-then {a} {b} {c} {x} {y} first second = record {
 }
 
 -- what broke off is a beginning of whatever would have come
-Passes-broken : {a b : Outlet} {x : List ℕ} (y : List ℕ) → Passes a b false x → Passes a b false (x ++ y)
+pub Passes-broken : {a b : Outlet} {x : List ℕ} (y : List ℕ) → Passes a b false x → Passes a b false (x ++ y)
 Passes-broken {a} {b} {x} y broken = record {
   sent = broken.sent;
   rest = broken.rest ++ y;

@@ -6,6 +6,9 @@
 //! voting (`MinimaxSearch`) implement it. Under Thiele's rules one search also lists all tied committees, if they are
 //! few. `ExactTally` makes bounds of the answers, so `Winners` over it enters only prefixes with a winner below.
 //!
+//! A `SearchMemory` holds all memory that a search by a Thiele rule takes. So a caller can take it before anything is
+//! written, and prepare the search afterwards.
+//!
 //! The order of candidates, the multipliers and the committee to begin with only decide how soon a search ends. Nothing
 //! is proved of them but their ranges: any choice gives the same answers.
 #![tactic(auto)]
@@ -35,4 +38,4 @@ pub use exact::ExactTally;
 pub use found::{MOST_TIED, Tied};
 pub use minimax::MinimaxSearch;
 pub use searchable::Searchable;
-pub use thiele::ThieleSearch;
+pub use thiele::{SearchMemory, ThieleSearch};

@@ -5,10 +5,11 @@
 //! In up to 100 rounds the multiplier of a ballot goes up if the committee of the highest-priced candidates hits it too
 //! rarely, and down if too often. The best committee met on the way is what the search for the greatest value begins
 //! with. Only the range of the multipliers is proved, since prices bound values whatever the multipliers are.
-ghost use Rattle.std.specs.Prelude.{◌≡◌, ℕ, ◌^◌, ◌<◌, ◌≤◌, length, slice_index, IfOk};
+ghost use Rattle.std.specs.Prelude.{◌≡◌, ℕ, ◌^◌, ◌<◌, ◌≤◌, length, slice_index, IfOk, MatchOption, ⊤};
+ghost use Rattle.ballot_base.specs.Ballots.{IsElection};
 ghost use Rattle.ballot_base.specs.Limits.{most_candidates};
 ghost use Rattle.ballot_base.specs.Lists.{IsIncreasing};
-ghost use Rattle.tie_search.specs.Steps.Priced.{most_rows};
+ghost use Rattle.tie_search.specs.Steps.Priced.{HasRoom};
 
 use crate::order::Order;
 use crate::prices::{SCALE, base_of, prices_of};
@@ -17,6 +18,9 @@ use crate::weights::{RoundedWeights, Weights};
 use ballot_base::{CandSet, MOST_MEMBERS, PLACES, Profile};
 use std::alloc::{AllocError, Allocator};
 use tie_walk::{Tally, ThieleTally, those_after};
+
+/// For how many rows multipliers are chosen at most.
+const MOST_ROWS: usize = 8192;
 
 /// How often the multipliers are moved at most.
 const ROUNDS: u8 = 100;
@@ -27,25 +31,56 @@ const PATIENCE: u8 = 8;
 /// The length of a step is counted in parts of which so many are the whole gap.
 const WHOLE: u128 = 16;
 
+/// Memory for two multipliers of each row: one that is tried, and the best one so far.
+#[derive(Drop)]
+pub(crate) struct MultiplierMemory<A: Allocator> {
+    pub(crate) tried: Vec<u64, A>,
+    pub(crate) best: Vec<u64, A>,
+}
+
+impl<A: Allocator + Copy + Drop> MultiplierMemory<A> {
+    /// Memory for the rows of a profile. None if there are too many rows.
+    pub(crate) fn of(
+        alloc: A,
+        profile: &Profile<A>,
+    ) -> Result<Option<MultiplierMemory<A>>, AllocError>
+        ensures room { IfOk result (λ memory. MatchOption memory ⊤ (HasRoom profile.now.rows)) }
+        ensures election { IsElection profile.now }
+    {
+        let rows = profile.rows();
+        if rows > MOST_ROWS {
+            return Ok(None);
+        }
+        Ok(Some(MultiplierMemory {
+            tried: zeros(alloc, rows)?,
+            best: zeros(alloc, rows)?,
+        }))
+    }
+}
+
 /// Multipliers by which the bound of all committees of k is low, a multiplier for each row, and a good committee that
-/// was met on the way.
+/// was met on the way. They lie in this memory.
 pub(crate) fn chosen<A: Allocator + Copy + Drop>(
-    alloc: A,
+    memory: MultiplierMemory<A>,
     profile: &Profile<A>,
     values: &ThieleTally<A>,
     rounded: &RoundedWeights,
     k: u8,
-) -> Result<(Vec<u64, A>, CandSet), AllocError>
+) -> (Vec<u64, A>, CandSet)
+    requires room { HasRoom profile.now.rows memory }
     requires unit { 1 ≤ rounded.now.unit }
-    requires rows { length profile.now.rows ≤ most_rows }
     requires weights { (j : ℕ) → slice_index rounded.now.weights j < 2 ^ 44 }
-    ensures each { IfOk result (λ chosen. length chosen.0.items ≡ length profile.now.rows) }
-    ensures small { IfOk result (λ chosen. (i : ℕ) → slice_index chosen.0.items i ≤ 2 ^ 56) }
+    ensures each { length result.0.items ≡ length profile.now.rows }
+    ensures small { (i : ℕ) → slice_index result.0.items i ≤ 2 ^ 56 }
 {
     let weights = &rounded.weights;
     let m = values.m();
-    let mut multipliers = alike(alloc, profile.rows(), SCALE * weights[0] / 2)?;
-    let mut best = Vec::from_slice(alloc, &multipliers)?;
+    let MultiplierMemory {
+        tried: mut multipliers,
+        mut best,
+    } = memory;
+    set_all(&mut multipliers, SCALE * weights[0] / 2);
+    best.copy_from_slice(&multipliers);
     let mut progress = Progress::none();
     for _round in 0..ROUNDS {
         let worths = prices_of(profile, &multipliers);
@@ -63,7 +98,7 @@ pub(crate) fn chosen<A: Allocator + Copy + Drop>(
             None => multipliers.copy_from_slice(&best),
         }
     }
-    Ok((best, progress.committee))
+    (best, progress.committee)
 }
 
 /// What was met so far, and how long the next step is. Bounds and values are in parts of which a unit has `SCALE`.
@@ -129,17 +164,22 @@ impl Progress {
     }
 }
 
-/// The same multiplier for each of so many rows.
-fn alike<A: Allocator + Drop>(
-    alloc: A,
-    rows: usize,
-    multiplier: u64,
-) -> Result<Vec<u64, A>, AllocError>
-    requires { multiplier ≤ 2 ^ 56 }
-    ensures each { IfOk result (λ multipliers. length multipliers.items ≡ rows) }
-    ensures small { IfOk result (λ multipliers. (i : ℕ) → slice_index multipliers.items i ≤ 2 ^ 56) }
+/// Multipliers of 0 for this many rows.
+fn zeros<A: Allocator + Drop>(alloc: A, rows: usize) -> Result<Vec<u64, A>, AllocError>
+    ensures { IfOk result (λ multipliers. length multipliers.items ≡ rows) }
 {
-    vec![in alloc; multiplier; rows]
+    vec![in alloc; 0; rows]
+}
+
+/// Sets all multipliers to one.
+fn set_all(multipliers: &mut [u64], multiplier: u64)
+    requires { multiplier ≤ 2 ^ 56 }
+    ensures kept { length multipliers.new ≡ length multipliers.old }
+    ensures small { (i : ℕ) → slice_index multipliers.new i ≤ 2 ^ 56 }
+{
+    for each in multipliers.iter_mut() {
+        *each = multiplier;
+    }
 }
 
 /// The `count` candidates of the greatest worth.

@@ -5,26 +5,22 @@
 //! committee has more value than the `base` and the prices of its members (`specs/Prices.antt`, `laws::prices`). Values
 //! are scaled by 4,096, so that there are multipliers between two increments. Large weights are rounded up to units in
 //! which they are below 2^44. There are no prices for more than 8,192 different ballots.
-ghost use Rattle.std.specs.Prelude.{◌≡◌, ℕ, ◌+◌, ◌^◌, ◌<◌, ◌≤◌, length, slice_index, IfOk, MatchOption, ⊤};
-ghost use Rattle.ballot_base.specs.Ballots.{IsElection};
+ghost use Rattle.std.specs.Prelude.{◌≡◌, ℕ, ◌+◌, ◌^◌, ◌<◌, ◌≤◌, length, slice_index, MatchOption, ⊤};
 ghost use Rattle.ballot_base.specs.Limits.{most_candidates, most_members};
 ghost use Rattle.tie_walk.specs.Values.{thiele_of};
 ghost use Rattle.tie_search.specs.Prices.{kept, base, price};
-ghost use Rattle.tie_search.specs.Steps.Priced.{ArePrices, scale, most_rows, priced_by};
+ghost use Rattle.tie_search.specs.Steps.Priced.{ArePrices, HasRoom, scale, most_rows, priced_by};
 
-use crate::multipliers::chosen;
+use crate::multipliers::{MultiplierMemory, chosen};
 use crate::order::Order;
 use crate::search::excess;
 use crate::weights::{Weights, rounded_weights};
 use ballot_base::{CandSet, Increments, PLACES, Profile, ThieleRule};
-use std::alloc::{AllocError, Allocator};
+use std::alloc::Allocator;
 use tie_walk::{Tally, ThieleTally, add_to_members, those_after};
 
 /// What hits give is multiplied by this, so that there are multipliers between two increments.
 pub(crate) const SCALE: u64 = 4096;
-
-/// For how many rows multipliers are chosen at most.
-pub(crate) const MOST_ROWS: usize = 8192;
 
 /// The price of each candidate, at its number: times the scale, all voters together give a committee no more units than
 /// what they keep and the prices of its members.
@@ -41,36 +37,33 @@ pub(crate) struct Prices {
 }
 
 impl Prices {
-    /// The prices by multipliers that make them low, which take memory meanwhile. None if there are too many rows.
+    /// The prices by multipliers that make them low, which are chosen in this memory. None if there is no memory for
+    /// them.
     pub(crate) fn of<A: Allocator + Copy + Drop>(
-        alloc: A,
+        memory: Option<MultiplierMemory<A>>,
         profile: &Profile<A>,
         values: &ThieleTally<A>,
         rule: ThieleRule,
         k: u8,
-    ) -> Result<Option<Prices>, AllocError>
+    ) -> Option<Prices>
         requires some { 1 ≤ k }
         requires size { k ≤ most_members }
-        ensures prices { IfOk result (λ made. MatchOption made ⊤ (λ prices.
-            ArePrices (thiele_of profile.now rule k) prices.unit prices.base prices.worths)) }
-        ensures election { IsElection profile.now }
+        requires room { MatchOption memory ⊤ (HasRoom profile.now.rows) }
+        ensures { MatchOption result ⊤ (λ prices.
+            ArePrices (thiele_of profile.now rule k) prices.unit prices.base prices.worths) }
     {
-        if profile.rows() > MOST_ROWS {
-            return Ok(None);
-        }
-        let Some(rounded) = rounded_weights(&Increments::of(rule, k).w) else {
-            return Ok(None);
-        };
-        let (multipliers, committee) = chosen(alloc, profile, values, &rounded, k)?;
+        let memory = memory?;
+        let rounded = rounded_weights(&Increments::of(rule, k).w)?;
+        let (multipliers, committee) = chosen(memory, profile, values, &rounded, k);
         let worths = prices_of(profile, &multipliers);
         let candidates = those_after(0, profile.m());
-        Ok(Some(Prices {
+        Some(Prices {
             unit: rounded.unit,
             base: base_of(profile, &rounded.weights, &multipliers),
             worths,
             order: Order::by_worth(candidates, &worths),
             committee,
-        }))
+        })
     }
 }
 

@@ -11,6 +11,7 @@ use crate::columns::Columns;
 use crate::found::Tied;
 use crate::good::Good;
 use crate::majorant::HitSums;
+use crate::multipliers::MultiplierMemory;
 use crate::prices::Prices;
 use crate::search::{Aids, Search};
 use crate::searchable::Searchable;
@@ -22,6 +23,54 @@ use tie_walk::{Tally, ThieleTally};
 
 /// A candidate has many clones if there are so many with itself.
 const MANY_CLONES: u8 = 4;
+
+/// All memory that a search among the committees of k by a Thiele rule takes, and the columns that lie in it. Contracts
+/// see the election, the rule and k.
+#[derive(Drop)]
+pub struct SearchMemory<'a, A: Allocator + Copy = Global> {
+    profile: &'a Profile<A>,
+    values: ThieleTally<'a, A>,
+    k: u8,
+    columns: Option<Columns<A>>,
+    multipliers: Option<MultiplierMemory<A>>,
+}
+
+impl<'a, A: Allocator + Copy> Model for SearchMemory<'a, A> {
+    ghost use Rattle.std.specs.Prelude.{◌≡◌};
+    ghost use Rattle.tie_walk.specs.Values.{Thiele};
+    ghost use Rattle.tie_search.specs.Steps.Searched.{IsMemoryFor};
+
+    ghost Value = { Thiele };
+
+    ghost view = { λ t. t.values };
+
+    ghost invariant = { λ t. (t.profile.now ≡ t.values.election)
+        × IsMemoryFor t.values t.k t.columns t.multipliers };
+}
+
+impl<'a, A: Allocator + Copy + Drop> SearchMemory<'a, A> {
+    /// Takes at most 532,480 bytes, and 131,072 that are given back when the search is prepared. A failed allocation
+    /// leaves nothing.
+    pub fn new(
+        alloc: A,
+        profile: &'a Profile<A>,
+        rule: ThieleRule,
+        k: u8,
+    ) -> Result<SearchMemory<'a, A>, AllocError>
+        requires some { 1 ≤ k }
+        requires size { k ≤ most_members }
+        requires fits { k ≤ profile.now.m }
+        ensures { IfOk result (λ memory. memory ≡ thiele_of profile.now rule k) }
+    {
+        Ok(SearchMemory {
+            profile,
+            values: ThieleTally::new(profile, rule, k),
+            k,
+            columns: Columns::of(alloc, profile, rule, k)?,
+            multipliers: MultiplierMemory::of(alloc, profile)?,
+        })
+    }
+}
 
 /// The values under a Thiele rule, times the common denominator of its increments, and what a search among them is
 /// helped by. Contracts see the election, the rule and k.
@@ -47,34 +96,33 @@ impl<'a, A: Allocator + Copy> Model for ThieleSearch<'a, A> {
 }
 
 impl<'a, A: Allocator + Copy + Drop> ThieleSearch<'a, A> {
-    /// Prepares a search among the committees of k. All memory for it is taken here: at most 532,480 bytes, and 131,072
-    /// that are given back. A search takes none. A failed allocation leaves nothing.
-    pub fn new(
-        alloc: A,
-        profile: &'a Profile<A>,
-        rule: ThieleRule,
-        k: u8,
-    ) -> Result<ThieleSearch<'a, A>, AllocError>
-        requires some { 1 ≤ k }
-        requires size { k ≤ most_members }
-        requires fits { k ≤ profile.now.m }
-        ensures { IfOk result (λ search. search ≡ thiele_of profile.now rule k) }
+    /// Prepares a search in this memory: makes prices, and looks for a good committee. It takes no more memory, nor
+    /// does a search.
+    pub fn new(memory: SearchMemory<'a, A>) -> ThieleSearch<'a, A>
+        ensures { result ≡ memory.entry }
     {
-        let values = ThieleTally::new(profile, rule, k);
+        let SearchMemory {
+            profile,
+            values,
+            k,
+            columns,
+            multipliers,
+        } = memory;
+        let rule = values.rule();
         let aids = Aids {
             clones: Clones::of(profile),
-            columns: Columns::of(alloc, profile, rule, k)?,
-            prices: Prices::of(alloc, profile, &values, rule, k)?,
+            columns,
+            prices: Prices::of(multipliers, profile, &values, rule, k),
             sums: HitSums::of(rule, k),
             uses: Uses::none(),
         };
         let good = good_committee(profile, &values, &aids, k);
-        Ok(ThieleSearch {
+        ThieleSearch {
             profile,
             values,
             aids,
             good,
-        })
+        }
     }
 }
 

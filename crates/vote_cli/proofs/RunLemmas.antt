@@ -32,7 +32,7 @@ use Rattle.vote_cli.specs.Steps.RequestFaults.{request_fault_word}
 use Rattle.vote_cli.specs.Answer.{Answer, IsAnswer, IsAnswerAbout, IsAnswerOver, IsAnswerTo, IsCheckAnswer, ballots_answer, may_be_checked, share_answer, answered, request_refused, refused, violated}
 use Rattle.vote_cli.specs.Runs.{Ends, EndsAnswered, IsRight, IsTooLong, ReadsInput, ReadsSoundly, Reports, input_for}
 use Rattle.text_output.specs.Steps.Printing.{Passes, Sends}
-use Rattle.text_output.proofs.PrintingLemmas.{alone}
+use Rattle.text_output.proofs.PrintingLemmas.{Passes-broken, Passes-then, alone}
 use Rattle.vote_cli.proofs.StartLemmas.{may_be_checked-true}
 use Rattle.vote_cli.specs.Steps.Refusals.{WritesRight, Writes, ReadsBallots, ReadsOn, TellsOfReads, TellsOfWrites, error_of, status_of}
 
@@ -66,6 +66,38 @@ module _ {W : Type 0} {contents : W → Option (List ℕ)} {has_failed : W → B
   writes_violated text printed done right was prints =
       let whole : Sends contents has_failed old new true text = subst (λ p. Sends contents has_failed old new (is_ok p) text) was prints in
       record { answer = (text, right, Passes-all whole); writes = (whole.whole refl).1; unread = λ e. cc }
+
+-- an answer that is written in two parts
+module _ {W : Type 0} {contents : W → Option (List ℕ)} {has_failed : W → Bool} {old new : W} where
+  -- the first part was not written whole
+  pub writes_first : {one whole : List ℕ} (other : List ℕ) (first : Result (Unit {0}) Broken) (e : Broken) (result : Result Outcome Refusal) → first ≡ Err e
+      → IsErr result × IsErrAnd result (λ refusal. refusal ≡ WriteFailed) → whole ≡ one ++ other → Sends contents has_failed old new (is_ok first) one
+      → Writes contents has_failed old new result (λ answer. answer ≡ answered whole)
+  writes_first {one} {whole} other first e result was failed parts sent =
+      let broken : Sends contents has_failed old new false one = subst (λ r. Sends contents has_failed old new (is_ok r) one) was sent in
+      writes_part (λ answer. answer ≡ answered whole) (answered whole) result refl failed refl
+      (subst (Sends contents has_failed old new false) (sym parts) (Passes-broken other broken))
+
+  -- the first part was, and the second was not
+  pub writes_second : (mid : W) {one other whole : List ℕ} (first : Result (Unit {0}) Broken) (done : Unit {0}) (second : Result (Unit {0}) Broken) (e : Broken) (result : Result Outcome Refusal)
+      → first ≡ Ok done → second ≡ Err e → IsErr result × IsErrAnd result (λ refusal. refusal ≡ WriteFailed) → whole ≡ one ++ other
+      → Sends contents has_failed old mid (is_ok first) one → Sends contents has_failed mid new (is_ok second) other
+      → Writes contents has_failed old new result (λ answer. answer ≡ answered whole)
+  writes_second mid {one} {other} {whole} first done second e result was broke failed parts sent cut =
+      let begun : Sends contents has_failed old mid true one = subst (λ r. Sends contents has_failed old mid (is_ok r) one) was sent in
+      let broken : Sends contents has_failed mid new false other = subst (λ r. Sends contents has_failed mid new (is_ok r) other) broke cut in
+      writes_part (λ answer. answer ≡ answered whole) (answered whole) result refl failed refl
+      (subst (Sends contents has_failed old new false) (sym parts) (Passes-then begun broken))
+
+  -- both parts were
+  pub writes_both : (mid : W) {one other whole : List ℕ} (first second : Result (Unit {0}) Broken) (done ended : Unit {0})
+      → first ≡ Ok done → second ≡ Ok ended → whole ≡ one ++ other
+      → Sends contents has_failed old mid (is_ok first) one → Sends contents has_failed mid new (is_ok second) other
+      → Writes contents has_failed old new (Ok outcome.Answered) (λ answer. answer ≡ answered whole)
+  writes_both mid {one} {other} {whole} first second done ended was ends parts sent more =
+      let begun : Sends contents has_failed old mid true one = subst (λ r. Sends contents has_failed old mid (is_ok r) one) was sent in
+      writes_answered (λ answer. answer ≡ answered whole) whole second ended refl ends
+      (subst (Sends contents has_failed old new (is_ok second)) (sym parts) (Passes-then begun more))
 
 -- the same right answer in other words
 pub writes_as : {W : Type 0} {contents : W → Option (List ℕ)} {has_failed : W → Bool} {old new : W} {result : Result Outcome Refusal} {one other : Answer} → one ≡ other

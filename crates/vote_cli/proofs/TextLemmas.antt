@@ -7,17 +7,21 @@ use Rattle.preflib_text.specs.Names.{fault_name}
 use Rattle.preflib_text.specs.declared.fault.ReadFault.{ReadFault}
 use Rattle.ballot_base.specs.Lists.{later_than}
 use Rattle.request_words.specs.Request.{Page}
-use Rattle.request_words.specs.declared.request.Rule.TheVariants.{Scored}
+use Rattle.request_words.specs.declared.request.Rule.TheVariants.{Scored, Sequential}
 use Rattle.request_words.specs.declared.request.ScoredRule.{ScoredRule}
 use Rattle.ballot_base.specs.Increments.{increments}
 use Rattle.ballot_base.specs.declared.increments.ThieleRule.{ThieleRule}
 use Rattle.request_words.specs.declared.request.ScoredRule.TheVariants.{Minimax, Satisfaction, Thiele}
+use Rattle.tie_families.specs.Families.{Sequential as Families, sequential_of}
+use Rattle.tie_walk.specs.Sequences.{sequential_winners}
+use Rattle.tie_walk.specs.declared.sequential.SeqRule.{SeqRule}
 use Rattle.tie_walk.specs.Values.{Thiele as Tally, closeness, satisfaction_value, thiele_of, thiele_value}
 use Rattle.tie_walk.specs.Winners.{best_value, winners}
-use Rattle.vote_cli.specs.ElectText.{elect_text, score_text, scored_header}
-use Rattle.vote_cli.specs.Steps.ScoredText.{scored_text}
+use Rattle.vote_cli.specs.ElectText.{best_text, elect_text, rule_lines, score_text}
+use Rattle.vote_cli.specs.RuleValues.{value_by}
+use Rattle.vote_cli.specs.Steps.ScoredText.{ranked_text}
 use Rattle.vote_cli.specs.FaultText.{fault_text}
-use Rattle.vote_cli.specs.Listing.{answers_text, committee_line, has_more, last_line, listing_text}
+use Rattle.vote_cli.specs.Listing.{answers_text, committee_line, has_more, last_line}
 use Rattle.text_output.specs.Names.{Names}
 use Rattle.text_output.specs.Text.{line}
 
@@ -64,23 +68,35 @@ pub fault_line : (fault : ReadFault) (number : ℕ) (place digits word : List �
 fault_line fault number place digits word is first one other = rw (is, first, one, other) (ap (λ l. codes "committees: input line " ++ l)
     (sym (append_assoc (decimal number ++ codes ": ") (fault_name fault.name) (10 ∷ []) ∙ append_assoc (decimal number) (codes ": ") (fault_name fault.name ++ (10 ∷ [])))))
 
--- the listing of winners, from its first lines on
+-- the lines after those of the rule and the size, from the line of the best value on
 pub winners_parts : (names : Names) (value : List ℕ → ℕ) (rule : ScoredRule) (candidates m size best : ℕ) (after : Option (List ℕ)) (limit : Option ℕ) (left : List (List ℕ)) → m ≡ candidates → best ≡ best_value value m size
     → left ≡ later_than after (winners value m size)
-    → listing_text (committee_line names) (scored_header rule candidates size (best_value value candidates size)) (record { after = after; limit = limit }) (winners value candidates size)
-    ≡ scored_header rule candidates size best ++ answers_text (committee_line names) limit left
+    → line (best_text rule candidates size (best_value value candidates size)) ++ answers_text (committee_line names) limit (later_than after (winners value candidates size))
+    ≡ line (best_text rule candidates size best) ++ answers_text (committee_line names) limit left
 winners_parts names value rule candidates m size best after limit left same is those = rw (is, those, same) refl
 
--- the text of an election by each kind of rule
+-- the text of an election by a rule with a value: the lines of the rule and the size, and those after them
+pub scored_parts : (names : Names) (page : Page) (rule : ScoredRule) (size : ℕ) (e : Election)
+    → elect_text (Scored rule) size page names e ≡ rule_lines (Scored rule) size ++ ranked_text rule (value_by rule size e) size page names e
+scored_parts names page rule size e = append_assoc (rule_lines (Scored rule) size) (line (best_text rule e.m size (best_value (value_by rule size e) e.m size)))
+    (answers_text (committee_line names) page.limit (later_than page.after (winners (value_by rule size e) e.m size)))
+
+-- the same of a sequential rule, of which these families are
+pub sequential_parts : (names : Names) (page : Page) (rule : SeqRule) (size : ℕ) (e : Election) (families : Families) (left : List (List ℕ)) → families ≡ sequential_of e rule size
+    → left ≡ later_than page.after (sequential_winners families.rule families.election families.k)
+    → elect_text (Sequential rule) size page names e ≡ rule_lines (Sequential rule) size ++ answers_text (committee_line names) page.limit left
+sequential_parts names page rule size e families left same those = rw (those, same) refl
+
+-- the values of each kind of rule
 module _ (names : Names) (page : Page) (size : ℕ) (e : Election) where
   pub thiele_text : (rule : ThieleRule) (tally : Tally) → tally ≡ thiele_of e rule size
-      → scored_text (Thiele rule) (thiele_value (increments tally.rule tally.k) tally.election.rows) size page names e ≡ elect_text (Scored (Thiele rule)) size page names e
+      → ranked_text (Thiele rule) (thiele_value (increments tally.rule tally.k) tally.election.rows) size page names e ≡ ranked_text (Thiele rule) (value_by (Thiele rule) size e) size page names e
   thiele_text rule tally same = rw same refl
 
   pub satisfaction_text : (tally : Election) → tally ≡ e
-      → scored_text Satisfaction (satisfaction_value tally.m tally.rows) size page names e ≡ elect_text (Scored Satisfaction) size page names e
+      → ranked_text Satisfaction (satisfaction_value tally.m tally.rows) size page names e ≡ ranked_text Satisfaction (value_by Satisfaction size e) size page names e
   satisfaction_text tally same = rw same refl
 
   pub minimax_text : (tally : Election) → tally ≡ e
-      → scored_text Minimax (closeness tally.m tally.rows) size page names e ≡ elect_text (Scored Minimax) size page names e
+      → ranked_text Minimax (closeness tally.m tally.rows) size page names e ≡ ranked_text Minimax (value_by Minimax size e) size page names e
   minimax_text tally same = rw same refl

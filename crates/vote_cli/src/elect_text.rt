@@ -1,29 +1,27 @@
 //! The text of an election's winners.
-ghost use Rattle.std.specs.Prelude.{◌≡◌, ◌≤◌, ◌++◌, IfErr, IfOk, is_ok};
+ghost use Rattle.std.specs.Prelude.{◌≡◌, ◌≤◌, IfErr, IfOk, is_ok};
 ghost use Rattle.ballot_base.specs.Limits.{most_members};
 ghost use Rattle.request_words.specs.Request.{page_of};
-ghost use Rattle.text_output.specs.Steps.Printing.{Prints};
+ghost use Rattle.text_output.specs.Steps.Printing.{Prints, Sends};
 ghost use Rattle.text_output.specs.Text.{line};
 ghost use Rattle.tie_walk.specs.Winners.{IsStart};
 ghost use Rattle.vote_cli.specs.Answer.{answered, election_answer, request_refused};
-ghost use Rattle.vote_cli.specs.ElectText.{best_text, elect_text, rule_lines, score_text, scored_header};
+ghost use Rattle.vote_cli.specs.ElectText.{best_text, elect_text, rule_lines, score_text};
 ghost use Rattle.vote_cli.specs.Listing.{answers_text, committee_line};
-ghost use Rattle.vote_cli.specs.Steps.Refusals.{WritesText};
 ghost use Rattle.vote_cli.specs.Steps.RequestFaults.{request_fault_word};
-ghost use Rattle.vote_cli.specs.Steps.ScoredText.{scored_text};
+ghost use Rattle.vote_cli.specs.Steps.ScoredText.{ranked_text};
 ghost use Rattle.vote_cli.specs.Steps.Starts.{IsStart-prop};
 
-use crate::answers::Outcome;
 use crate::listing::AnswerPage;
-use crate::refusal::{Refusal, RequestFault};
+use crate::refusal::RequestFault;
 use crate::starts::committee_start;
 use ballot_base::{CandSet, Increments, Profile, common_multiple};
 use itoa::Buffer;
 use request_words::{Page, Rule, ScoredRule};
 use std::alloc::Allocator;
-use text_output::{Names, Printer, Sink, WriteFailed};
+use text_output::{Names, Printer, Sink, WriteFailed, write_pieces};
 use tie_families::FamilyWinners;
-use tie_walk::{SeqRule, Tally, Winners};
+use tie_walk::{Tally, Winners};
 
 /// Prints a score over its denominator, on a line.
 fn print_score<W: Sink>(
@@ -41,25 +39,6 @@ fn print_score<W: Sink>(
         score_digits.format(score).as_bytes(),
         b"/",
         denominator_digits.format(denominator).as_bytes(),
-        b"\n",
-    ];
-    printer.print_all(&pieces)
-}
-
-/// Prints the lines of the rule and the size.
-fn print_rule<W: Sink>(
-    printer: &mut Printer<'_, W>,
-    rule: Rule,
-    size: u8,
-) -> Result<(), WriteFailed>
-    ensures { Prints W.contents W.has_failed printer.old printer.new (is_ok result) (rule_lines rule size) }
-{
-    let mut size_digits = Buffer::new();
-    let pieces = [
-        b"rule ".as_slice(),
-        rule.name().as_bytes(),
-        b"\nsize ",
-        size_digits.format(size).as_bytes(),
         b"\n",
     ];
     printer.print_all(&pieces)
@@ -135,61 +114,62 @@ impl<'a, A: Allocator + Copy + Drop> Listing<'a, A> {
         }
     }
 
-    /// Prints the lines before the winners.
-    fn print_header<W: Sink>(
-        &self,
-        printer: &mut Printer<'_, W>,
-        rule: ScoredRule,
-        best: u128,
-    ) -> Result<(), WriteFailed>
-        ensures { Prints W.contents W.has_failed printer.old printer.new (is_ok result)
-            (scored_header rule self.now.profile.now.m self.now.size best) }
+    /// Writes the lines of the rule and the size. They are sent at once, and the writer is not flushed.
+    // Not inlined: its printer takes 32 KB of stack, which would lie beside a search for winners.
+    #[inline(never)]
+    pub(crate) fn write_rule<W: Sink>(&self, out: &mut W, rule: Rule) -> Result<(), WriteFailed>
+        ensures { Sends W.contents W.has_failed out.old out.new (is_ok result) (rule_lines rule self.now.size) }
     {
-        print_rule(printer, Rule::Scored(rule), self.size)?;
-        self.print_best(printer, rule, best)
+        let mut size_digits = Buffer::new();
+        let pieces = [
+            b"rule ".as_slice(),
+            rule.name().as_bytes(),
+            b"\nsize ",
+            size_digits.format(self.size).as_bytes(),
+            b"\n",
+        ];
+        write_pieces(out, &pieces)
     }
 
-    /// Writes the answer of a rule with a value, which the tally computes, and flushes the writer.
-    pub(crate) fn write_scored<W: Sink, T: Tally>(
+    /// Writes the lines after these of a rule with a value, which the tally computes, and flushes the writer.
+    pub(crate) fn write_ranked<W: Sink, T: Tally>(
         &self,
         out: &mut W,
         tally: &T,
         rule: ScoredRule,
-    ) -> Result<Outcome, Refusal>
+    ) -> Result<(), WriteFailed>
         requires { T.candidates tally.now ≡ self.now.profile.now.m }
-        ensures { WritesText W.contents W.has_failed out.old out.new result
-            (scored_text rule (T.value_of tally.now) self.now.size
+        ensures { Sends W.contents W.has_failed out.old out.new (is_ok result)
+            (ranked_text rule (T.value_of tally.now) self.now.size
             (record { after = self.now.after; limit = self.now.limit }) self.now.names self.now.profile.now) }
     {
         let winners = Winners::new(tally, self.profile.m(), self.size, self.after);
         let mut printer = Printer::new(out);
-        self.print_header(&mut printer, rule, winners.best())?;
-        let page = AnswerPage {
-            names: &self.names,
-            limit: self.limit,
-        };
-        page.print(&mut printer, winners)?;
-        Ok(Outcome::Answered)
+        self.print_best(&mut printer, rule, winners.best())?;
+        self.page().print(&mut printer, winners)
     }
 
-    /// Writes the answer of a sequential rule that has these winners after the start, and flushes the writer.
-    pub(crate) fn write_sequential<W: Sink>(
+    /// Writes the winners of a sequential rule after the start, and flushes the writer.
+    pub(crate) fn write_families<W: Sink>(
         &self,
         out: &mut W,
         winners: FamilyWinners<'_, A>,
-        rule: SeqRule,
-    ) -> Result<Outcome, Refusal>
-        ensures { WritesText W.contents W.has_failed out.old out.new result
-            (rule_lines (Rule.Sequential rule) self.now.size
-            ++ answers_text (committee_line self.now.names) self.now.limit winners.entry) }
+    ) -> Result<(), WriteFailed>
+        ensures { Sends W.contents W.has_failed out.old out.new (is_ok result)
+            (answers_text (committee_line self.now.names) self.now.limit winners.entry) }
     {
         let mut printer = Printer::new(out);
-        print_rule(&mut printer, Rule::Sequential(rule), self.size)?;
-        let page = AnswerPage {
+        self.page().print(&mut printer, winners)
+    }
+
+    /// How its winners are printed.
+    fn page(&self) -> AnswerPage<'_, A>
+        ensures names { result.names.now ≡ self.now.names }
+        ensures limit { result.limit ≡ self.now.limit }
+    {
+        AnswerPage {
             names: &self.names,
             limit: self.limit,
-        };
-        page.print(&mut printer, winners)?;
-        Ok(Outcome::Answered)
+        }
     }
 }

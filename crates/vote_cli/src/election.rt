@@ -1,10 +1,13 @@
 //! The winners of an election: which algorithm finds them by each rule.
 //!
+//! All memory is taken first. Then the lines of the rule and the size are sent. Only then does a search begin.
+//!
 //! The functions for a rule are not inlined: a tally or a printer takes many KB of stack, and those of other rules
 //! should not lie beside it.
-ghost use Rattle.std.specs.Prelude.{◌≡◌, IfOk};
+ghost use Rattle.std.specs.Prelude.{◌≡◌, IfOk, MatchOption, ⊤, is_ok};
 ghost use Rattle.tie_walk.specs.Values.{thiele_of};
-ghost use Rattle.vote_cli.specs.Steps.Listed.{listed_text};
+ghost use Rattle.text_output.specs.Steps.Printing.{Sends};
+ghost use Rattle.vote_cli.specs.Steps.Listed.{listed_text, winners_text};
 ghost use Rattle.vote_cli.specs.Steps.Refusals.{WritesText};
 
 use crate::answers::Outcome;
@@ -13,9 +16,9 @@ use crate::refusal::Refusal;
 use ballot_base::ThieleRule;
 use request_words::{Rule, ScoredRule};
 use std::alloc::{AllocError, Allocator};
-use text_output::Sink;
+use text_output::{Sink, WriteFailed};
 use tie_families::{Families, FamilyWinners};
-use tie_search::{ExactTally, MinimaxSearch, ThieleSearch};
+use tie_search::{ExactTally, MinimaxSearch, SearchMemory, ThieleSearch};
 use tie_walk::{SavTally, SeqRule, ThieleTally};
 
 /// Writes the winners of an election that are listed.
@@ -28,54 +31,107 @@ pub(crate) fn answer_election<A: Allocator + Copy + Drop, W: Sink>(
     ensures { WritesText W.contents W.has_failed out.old out.new result (listed_text listing.now rule) }
 {
     match rule {
-        Rule::Scored(ScoredRule::Thiele(ThieleRule::Av)) => by_approvals(out, listing),
-        Rule::Scored(ScoredRule::Thiele(thiele)) => by_search(alloc, out, thiele, listing),
-        Rule::Scored(ScoredRule::Satisfaction) => by_satisfaction(out, listing),
-        Rule::Scored(ScoredRule::Minimax) => by_distance(out, listing),
-        Rule::Sequential(rule) => by_families(alloc, out, rule, listing),
+        Rule::Scored(rule) => answer_scored(alloc, out, rule, listing),
+        Rule::Sequential(rule) => answer_sequential(alloc, out, rule, listing),
     }
 }
 
-/// Writes the winners by approval voting, whose bounds are exact without a search.
-#[inline(never)]
-fn by_approvals<A: Allocator + Copy + Drop, W: Sink>(
+/// Writes the winners by a rule with a value.
+fn answer_scored<A: Allocator + Copy + Drop, W: Sink>(
+    alloc: A,
     out: &mut W,
+    rule: ScoredRule,
     listing: &Listing<'_, A>,
 ) -> Result<Outcome, Refusal>
-    ensures { WritesText W.contents W.has_failed out.old out.new result
-        (listed_text listing.now (Rule.Scored (ScoredRule.Thiele ThieleRule.Av))) }
+    ensures { WritesText W.contents W.has_failed out.old out.new result (listed_text listing.now (Rule.Scored rule)) }
 {
-    let tally = ThieleTally::new(listing.profile, ThieleRule::Av, listing.size);
-    listing.write_scored(out, &tally, ScoredRule::Thiele(ThieleRule::Av))
+    let memory = search_memory(alloc, rule, listing)?;
+    listing.write_rule(out, Rule::Scored(rule))?;
+    write_winners(out, rule, memory, listing)?;
+    Ok(Outcome::Answered)
 }
 
-/// Writes the winners by a Thiele rule, which a search finds.
+/// The memory for a search, if the winners by the rule are found by one that takes memory.
+#[inline(never)]
+fn search_memory<'a, A: Allocator + Copy + Drop>(
+    alloc: A,
+    rule: ScoredRule,
+    listing: &Listing<'a, A>,
+) -> Result<Option<SearchMemory<'a, A>>, AllocError>
+    ensures { IfOk result (λ memory. MatchOption memory ⊤ (λ taken. (thiele : ThieleRule)
+        → rule ≡ ScoredRule.Thiele thiele → taken ≡ thiele_of listing.now.profile.now thiele listing.now.size)) }
+{
+    match rule {
+        ScoredRule::Thiele(ThieleRule::Av) | ScoredRule::Satisfaction | ScoredRule::Minimax => {
+            Ok(None)
+        }
+        ScoredRule::Thiele(thiele) => Ok(Some(SearchMemory::new(
+            alloc,
+            listing.profile,
+            thiele,
+            listing.size,
+        )?)),
+    }
+}
+
+/// Writes the lines after the rule and the size by a rule with a value.
+fn write_winners<A: Allocator + Copy + Drop, W: Sink>(
+    out: &mut W,
+    rule: ScoredRule,
+    memory: Option<SearchMemory<'_, A>>,
+    listing: &Listing<'_, A>,
+) -> Result<(), WriteFailed>
+    requires { MatchOption memory ⊤ (λ taken. (thiele : ThieleRule)
+        → rule ≡ ScoredRule.Thiele thiele → taken ≡ thiele_of listing.now.profile.now thiele listing.now.size) }
+    ensures { Sends W.contents W.has_failed out.old out.new (is_ok result) (winners_text listing.now rule) }
+{
+    match rule {
+        ScoredRule::Thiele(thiele) => match memory {
+            Some(memory) => by_search(out, thiele, memory, listing),
+            None => by_bounds(out, thiele, listing),
+        },
+        ScoredRule::Satisfaction => by_satisfaction(out, listing),
+        ScoredRule::Minimax => by_distance(out, listing),
+    }
+}
+
+/// Writes the winners by a Thiele rule without a search: under approval voting its bounds are exact.
+#[inline(never)]
+fn by_bounds<A: Allocator + Copy + Drop, W: Sink>(
+    out: &mut W,
+    rule: ThieleRule,
+    listing: &Listing<'_, A>,
+) -> Result<(), WriteFailed>
+    ensures { Sends W.contents W.has_failed out.old out.new (is_ok result)
+        (winners_text listing.now (ScoredRule.Thiele rule)) }
+{
+    let tally = ThieleTally::new(listing.profile, rule, listing.size);
+    listing.write_ranked(out, &tally, ScoredRule::Thiele(rule))
+}
+
+/// Writes the winners by a Thiele rule, which a search finds in this memory.
 #[inline(never)]
 fn by_search<A: Allocator + Copy + Drop, W: Sink>(
-    alloc: A,
     out: &mut W,
     rule: ThieleRule,
+    memory: SearchMemory<'_, A>,
     listing: &Listing<'_, A>,
-) -> Result<Outcome, Refusal>
-    ensures { WritesText W.contents W.has_failed out.old out.new result
-        (listed_text listing.now (Rule.Scored (ScoredRule.Thiele rule))) }
+) -> Result<(), WriteFailed>
+    requires { memory ≡ thiele_of listing.now.profile.now rule listing.now.size }
+    ensures { Sends W.contents W.has_failed out.old out.new (is_ok result)
+        (winners_text listing.now (ScoredRule.Thiele rule)) }
 {
-    let search = prepared(alloc, rule, listing)?;
-    let tally = ExactTally::new(search, listing.size);
-    listing.write_scored(out, &tally, ScoredRule::Thiele(rule))
+    let tally = ExactTally::new(prepared(memory), listing.size);
+    listing.write_ranked(out, &tally, ScoredRule::Thiele(rule))
 }
 
-/// A search by a Thiele rule for the winners of an election.
+/// A search in this memory.
 // Not inlined: what it is made from takes as much stack again, which is given back before anything is searched for.
 #[inline(never)]
-fn prepared<'a, A: Allocator + Copy + Drop>(
-    alloc: A,
-    rule: ThieleRule,
-    listing: &Listing<'a, A>,
-) -> Result<ThieleSearch<'a, A>, AllocError>
-    ensures { IfOk result (λ search. search ≡ thiele_of listing.now.profile.now rule listing.now.size) }
+fn prepared<A: Allocator + Copy + Drop>(memory: SearchMemory<'_, A>) -> ThieleSearch<'_, A>
+    ensures { result ≡ memory.entry }
 {
-    ThieleSearch::new(alloc, listing.profile, rule, listing.size)
+    ThieleSearch::new(memory)
 }
 
 /// Writes the winners by satisfaction approval voting, whose bounds are exact without a search.
@@ -83,12 +139,12 @@ fn prepared<'a, A: Allocator + Copy + Drop>(
 fn by_satisfaction<A: Allocator + Copy + Drop, W: Sink>(
     out: &mut W,
     listing: &Listing<'_, A>,
-) -> Result<Outcome, Refusal>
-    ensures { WritesText W.contents W.has_failed out.old out.new result
-        (listed_text listing.now (Rule.Scored ScoredRule.Satisfaction)) }
+) -> Result<(), WriteFailed>
+    ensures { Sends W.contents W.has_failed out.old out.new (is_ok result)
+        (winners_text listing.now ScoredRule.Satisfaction) }
 {
     let tally = SavTally::new(listing.profile);
-    listing.write_scored(out, &tally, ScoredRule::Satisfaction)
+    listing.write_ranked(out, &tally, ScoredRule::Satisfaction)
 }
 
 /// Writes the winners by minimax approval voting, which a search finds.
@@ -96,17 +152,17 @@ fn by_satisfaction<A: Allocator + Copy + Drop, W: Sink>(
 fn by_distance<A: Allocator + Copy + Drop, W: Sink>(
     out: &mut W,
     listing: &Listing<'_, A>,
-) -> Result<Outcome, Refusal>
-    ensures { WritesText W.contents W.has_failed out.old out.new result
-        (listed_text listing.now (Rule.Scored ScoredRule.Minimax)) }
+) -> Result<(), WriteFailed>
+    ensures { Sends W.contents W.has_failed out.old out.new (is_ok result)
+        (winners_text listing.now ScoredRule.Minimax) }
 {
     let tally = ExactTally::new(MinimaxSearch::new(listing.profile), listing.size);
-    listing.write_scored(out, &tally, ScoredRule::Minimax)
+    listing.write_ranked(out, &tally, ScoredRule::Minimax)
 }
 
 /// Writes the winners by a sequential rule, which come in families.
 #[inline(never)]
-fn by_families<A: Allocator + Copy + Drop, W: Sink>(
+fn answer_sequential<A: Allocator + Copy + Drop, W: Sink>(
     alloc: A,
     out: &mut W,
     rule: SeqRule,
@@ -116,6 +172,8 @@ fn by_families<A: Allocator + Copy + Drop, W: Sink>(
         (listed_text listing.now (Rule.Sequential rule)) }
 {
     let families = Families::new(alloc, listing.profile, rule, listing.size)?;
+    listing.write_rule(out, Rule::Sequential(rule))?;
     let winners = FamilyWinners::new(&families, listing.after);
-    listing.write_sequential(out, winners, rule)
+    listing.write_families(out, winners)?;
+    Ok(Outcome::Answered)
 }

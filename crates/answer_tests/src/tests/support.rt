@@ -9,7 +9,7 @@ use ballot_base::{CandSet, Profile, ProfileBuilder, ThieleRule};
 use std::alloc::Global;
 use std::cell::Cell;
 use std::process::Abort;
-use tie_search::{ExactTally, Searchable, ThieleSearch};
+use tie_search::{ExactTally, SearchMemory, Searchable, ThieleSearch};
 use tie_walk::{Tally, Winners};
 
 /// Asserts something about two numbers, and shows both if it fails. One message serves many tests, since each message of
@@ -135,7 +135,8 @@ pub(super) fn search_of<'a>(
     requires fits { k ≤ profile.now.m }
     ensures { result ≡ thiele_of profile.now rule k }
 {
-    ThieleSearch::new(alloc, profile, rule, k).expect(rt, "memory")
+    let memory = SearchMemory::new(alloc, profile, rule, k).expect(rt, "memory");
+    ThieleSearch::new(memory)
 }
 
 /// Asserts that two tallies have the same winners, those later than the start or all of them.

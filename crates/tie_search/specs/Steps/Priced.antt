@@ -1,10 +1,11 @@
 -- Rows with the multipliers that were chosen for them, and the prices that a search keeps.
-use Rattle.std.specs.Prelude.{ℕ, suc, ◌≡◌, ◌≤◌, ◌^◌, List, [], ◌∷◌, slice_index, Option, MatchOption, ⊤}
+use Rattle.std.specs.Prelude.{ℕ, suc, ◌≡◌, ◌≤◌, ◌^◌, List, [], ◌∷◌, length, slice_index, Option, MatchOption, ⊤}
 use Rattle.ballot_base.specs.Limits.{most_candidates}
 use Rattle.ballot_base.specs.Ballots.{Row}
 use Rattle.ballot_base.specs.Increments.{increments}
 use Rattle.tie_walk.specs.Values.{Thiele}
 use Rattle.tie_search.specs.Prices.{AreRounded, Priced, base, price}
+use Rattle.tie_search.specs.declared.multipliers.MultiplierMemory.{MultiplierMemory}
 use Rattle.tie_search.specs.declared.prices.Prices.{Prices}
 
 -- what hits give is multiplied by this, so that there are multipliers between two increments
@@ -14,6 +15,12 @@ scale = 4096
 -- for how many rows multipliers are chosen at most
 abbrev pub most_rows : ℕ
 most_rows = 8192
+
+-- there is memory for two multipliers of each row, and there are not too many rows
+pub record HasRoom {A : Type 0} (rows : List Row) (memory : MultiplierMemory A) : Type 0 where
+  pub few : length rows ≤ most_rows
+  pub tried : length memory.tried.items ≡ length rows
+  pub best : length memory.best.items ≡ length rows
 
 -- the rows, each with the multiplier of its number
 unfoldable pub priced_by : (ℕ → ℕ) → List Row → List Priced

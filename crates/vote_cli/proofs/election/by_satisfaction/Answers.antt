@@ -1,11 +1,12 @@
-use Rattle.std.proofs.Common.{ap}
-use Rattle.vote_cli.specs.Answer.{answered}
-use Rattle.vote_cli.proofs.RunLemmas.{writes_as}
+use Rattle.std.proofs.Common.{subst}
+use Rattle.text_output.specs.Steps.Printing.{Sends}
+use Rattle.std.specs.Prelude.{is_ok}
 use Rattle.vote_cli.proofs.TextLemmas.{satisfaction_text}
 use Rattle.vote_cli.proofs.election.by_satisfaction.Goals as goal
 
 pub returns : goal.returns
 returns g c =
     let l = c.args.listing.now in
-    writes_as (ap answered (satisfaction_text l.names (record { after = l.after; limit = l.limit }) l.size l.profile.now c.new-tally.result c.new-tally.ensures.tally))
-    c.write_scored.ensures
+    subst (Sends g.W.Sink.contents g.W.Device.has_failed c.args.out.now c.write_ranked.new.out (is_ok c.write_ranked.result))
+    (satisfaction_text l.names (record { after = l.after; limit = l.limit }) l.size l.profile.now c.new-tally.result c.new-tally.ensures.tally)
+    c.write_ranked.ensures
