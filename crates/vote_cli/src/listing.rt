@@ -65,6 +65,17 @@ impl Answer for Allocation {
     }
 }
 
+/// How many answers are sent one by one, each before the next one is looked for.
+const SENT_ALONE: u64 = 100;
+
+/// How many later answers are sent together, if they do not fill the printer before.
+const SENT_TOGETHER: u64 = 64;
+
+/// Whether what waits is sent after the answer of this number, counted from 1.
+fn is_sent_after(number: u64) -> bool {
+    number <= SENT_ALONE || number % SENT_TOGETHER == 0
+}
+
 /// What hands out the answers to a request one by one.
 pub(crate) trait Answers {
     type Answer: Answer;
@@ -151,7 +162,8 @@ impl<N: Allocator + Copy> AnswerPage<'_, N> {
     /// Prints the answers, as many as the limit allows, and the last line after the lines that were printed before, and
     /// flushes the writer.
     ///
-    /// Those lines are sent before the first answer is looked for, and that answer before the second one is.
+    /// Those lines are sent before the first answer is looked for, and that answer before the second one is. Later
+    /// answers may wait for each other (`is_sent_after`).
     pub(crate) fn print<W: Sink, A: Answers + Drop>(
         &self,
         printer: &mut Printer<'_, W>,
@@ -177,30 +189,30 @@ impl<N: Allocator + Copy> AnswerPage<'_, N> {
     {
         let mut answers = answers;
         let mut room = self.limit;
-        let mut is_first = true;
+        let mut number: u64 = 0;
         while has_room(room) {
             let Some(answer) = answers.next_answer() else {
                 return printer.print(b"end\n");
             };
-            self.print_one::<W, A>(printer, &answer, is_first)?;
-            is_first = false;
+            number = number.saturating_add(1);
+            self.print_one::<W, A>(printer, &answer, number)?;
             room = one_less(room);
         }
         print_last(printer, answers)
     }
 
-    /// Prints the line of an answer, and sends the first one.
+    /// Prints the line of the answer of this number, counted from 1. It is sent at once, or waits for more of them.
     fn print_one<W: Sink, A: Answers>(
         &self,
         printer: &mut Printer<'_, W>,
         answer: &A::Answer,
-        is_first: bool,
+        number: u64,
     ) -> Result<(), WriteFailed>
         ensures { Prints W.contents W.has_failed printer.old printer.new (is_ok result)
             (A.Answer.line_of self.now.names.now (A.Answer.numbers answer.now)) }
     {
         answer.print_line(printer, self.names)?;
-        if is_first {
+        if is_sent_after(number) {
             return printer.send();
         }
         Ok(())
