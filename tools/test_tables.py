@@ -465,6 +465,7 @@ class WebForms(TableTest):
         table = self.exported([first, second], row, "\n")
         self.dan_wins(table, "--skip=9")
         self.dan_wins(self.exported([second], row, "\n"), "--skip=9")
+        self.refused("column 11 repeats the name 'x'", "\n".join([first, ",,,,,,,,,x,x,,"]), "--skip=9")
         for heading in (first, first.replace("?,,,", "?,,,Comment")):
             said = self.refused("column 11", self.exported([heading, "1" + second], row, "\n"), "--skip=9")
             self.assertIn("if a lower row names the columns, delete the rows above it", said)
