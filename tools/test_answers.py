@@ -2,7 +2,6 @@
 import contextlib
 import doctest
 import os
-import subprocess
 import sys
 import tempfile
 import unittest
