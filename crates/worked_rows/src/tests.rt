@@ -6,6 +6,7 @@ mod listings;
 mod long;
 mod rest;
 mod runs;
+mod sending;
 mod streams;
 mod support;
 mod tables;

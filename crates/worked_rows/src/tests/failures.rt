@@ -20,8 +20,23 @@ type Case<'a> = (&'a str, &'a [u8], &'a [u8]);
 const FAULTY: &[u8] = b"\n\n\n\n\n\n\n\n\n\n\n# NUMBER ALTERNATIVES: 0\n# NUMBER ALTERNATIVES: 3\n";
 
 /// Answers, reports and refusals over an input.
-static CASES: [Case<'static>; 7] = [
+static CASES: [Case<'static>; 10] = [
     ("elect --rule av --size 1", THREE, ANSWER),
+    (
+        "elect --rule pav --size 2",
+        THREE,
+        b"rule pav\nsize 2\nscore 6/2\n1,2\n1,3\n2,3\nend\n",
+    ),
+    (
+        "elect --rule minimax --size 1",
+        THREE,
+        b"rule minimax\nsize 1\ndistance 2\n1\n2\nend\n",
+    ),
+    (
+        "elect --rule seqpav --size 2",
+        THREE,
+        b"rule seqpav\nsize 2\n1,2\n1,3\n2,3\nend\n",
+    ),
     (
         "elect --rule av --size 4",
         THREE,
