@@ -1,1 +1,0 @@
-../committees.py
