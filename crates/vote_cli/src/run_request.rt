@@ -31,6 +31,8 @@ fn ballots_of<A: Allocator + Copy + Drop>(lines: LineReader<A>) -> Result<Profil
 }
 
 /// Reads the ballots of the whole input.
+// Not inlined: the piece that is read takes 8 KB of stack, which would lie beside a search for winners.
+#[inline(never)]
 fn read_ballots<A: Allocator + Copy + Drop, R: Source>(
     storage: Storage<A>,
     pick: &Pick,
