@@ -69,7 +69,7 @@ impl Answer for Allocation {
 const SENT_ALONE: u64 = 100;
 
 /// How many later answers are sent together, if they do not fill the printer before.
-const SENT_TOGETHER: u64 = 64;
+const SENT_TOGETHER: u64 = 256;
 
 /// Whether what waits is sent after the answer of this number, counted from 1.
 fn is_sent_after(number: u64) -> bool {

@@ -87,10 +87,10 @@ fn lines_are_sent_as_they_come(rt: HostRuntime) {
 const EMPTY: &[u8] = b"# DATA TYPE: cat\n# NUMBER ALTERNATIVES: 64\n1: {}\n";
 
 /// Words, and how the writes of their run over `EMPTY` end: the hundredth answer is sent at once, and later answers are
-/// sent together, up to those whose number is a multiple of 64.
+/// sent together, up to those whose number is a multiple of 256.
 const ENDS: &str = "\
 elect --rule av --size 2 --limit 101 | |2,37¶|2,38¶|2,39¶|2,40¶more¶|
-elect --rule av --size 2 --limit 130 | 3,5¶3,6¶|3,7¶3,8¶more¶|";
+elect --rule av --size 2 --limit 258 | 5,14¶5,15¶|5,16¶5,17¶more¶|";
 
 #[test]
 fn a_hundred_answers_are_sent_one_by_one(rt: HostRuntime) {
