@@ -1,7 +1,7 @@
 -- Each definition, computed on a small example.
 use Rattle.std.proofs.Common.{◌≡◌, ◌+◌, ◌*◌, ◌^◌, List, [], ◌∷◌, true, false, refl, lit≤, Some, None, replicate, arith}
 use Rattle.ballot_base.specs.Lists.{IsIncreasing, lists_of, increasing_lists, is_committee, is_later, IsLater, AreInOrder, later_than}
-use Rattle.ballot_base.specs.CandSet.{has_member, with_member, without_member, common_members, either_members, members_upto, includes}
+use Rattle.ballot_base.specs.CandSet.{has_member, with_member, without_member, common_members, either_members, other_members, members_upto, includes}
 use Rattle.ballot_base.specs.Steps.Bits.{members_among, members, bits_of}
 use Rattle.ballot_base.specs.Steps.Subsets.{lists_from, sets_from, MayComeNext, IsLastSet, IsNextSet}
 use Rattle.ballot_base.specs.Ballots.{Row, IsElection, election, ballots_of, name_of, some_name, hits, voter_count, has_ballot, with_votes}
@@ -114,6 +114,9 @@ common = refl
 
 either : either_members (1 ∷ 3 ∷ 4 ∷ []) (2 ∷ 3 ∷ 5 ∷ []) ≡ 1 ∷ 2 ∷ 3 ∷ 4 ∷ 5 ∷ []
 either = refl
+
+other : other_members (1 ∷ 3 ∷ 4 ∷ []) (2 ∷ 3 ∷ 5 ∷ []) ≡ 1 ∷ 4 ∷ []
+other = refl
 
 included : includes (1 ∷ 2 ∷ 3 ∷ []) (1 ∷ 3 ∷ []) ≡ true
 included = refl
