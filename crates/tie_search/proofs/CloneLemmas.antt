@@ -12,7 +12,7 @@ use Rattle.ballot_base.proofs.CloneLemmas.{clones-same, clones_among-are}
 use Rattle.ballot_base.proofs.Increasing.{IsIncreasing-filter, IsIncreasing-with_member, has_member-filter, has_member-with_member, same_increasing}
 use Rattle.tie_walk.specs.Sequences.{gain, supporters, weight}
 use Rattle.tie_walk.specs.Values.{Thiele}
-use Rattle.tie_search.specs.Completions.{AreAlike, IsCompletion, IsOpen, IsOutOfReach, tally_value}
+use Rattle.tie_search.specs.Completions.{AreAlike, IsCompletion, IsNode, IsOutOfReach, tally_value}
 use Rattle.tie_search.proofs.CompletionLemmas.{completion-with, filter-most, member-high, member-low, member-without, with-longer, without-is}
 use Rattle.tie_search.proofs.SearchLemmas.{AreLeft, struck-out}
 use Rattle.tie_search.proofs.WholeLemmas.{value-with}
@@ -88,9 +88,9 @@ module _ (m : ℕ) (committee : List ℕ) (c d : ℕ) (up : IsIncreasing 1 m com
       )
 
   -- it completes the same set, if c is free and d is no member of the set
-  pub completion-exchanged : (set free : List ℕ) (left : ℕ) → IsOpen m set free → has_member free c ≡ true → has_member set d ≡ false → IsCompletion m set free left committee
+  pub completion-exchanged : (set free : List ℕ) (left : ℕ) → IsNode m set free → has_member free c ≡ true → has_member set d ≡ false → IsCompletion m set free left committee
       → IsCompletion m set free left (exchanged committee c d)
-  completion-exchanged set free left open' is_free not_in whole = record {
+  completion-exchanged set free left is_node is_free not_in whole = record {
     candidates = IsIncreasing-with_member 1 m less c low high less-up;
     whole = λ x is. has_member-with_member less c x ∙ or-right (c == x) (has_member less x) (stays x (whole.whole x is) (λ same. let e : true ≡ false = sym is ∙ ap (has_member set) same ∙ not_in in cc));
     within = λ x is. elim (cases_eq x c) [
@@ -101,10 +101,10 @@ module _ (m : ℕ) (committee : List ℕ) (c d : ℕ) (up : IsIncreasing 1 m com
   }
     where
       low : 1 ≤ c
-      low = member-low 1 m free c open'.free_within is_free
+      low = member-low 1 m free c is_node.free_within is_free
 
       high : c ≤ m
-      high = member-high 1 m free c open'.free_within is_free
+      high = member-high 1 m free c is_node.free_within is_free
 
       or-right : (p q : Bool) → q ≡ true → (p || q) ≡ true
       or-right true q h = refl
@@ -122,11 +122,11 @@ minus-is free clones x is = both (not (has_member clones x)) (has_member free x)
     both true q h = h
     both false q h = absurd cc
 
-pub open-minus : (m : ℕ) (set free clones : List ℕ) → IsOpen m set free → IsOpen m set (other_members free clones)
-open-minus m set free clones open' = record {
-  set_within = open'.set_within;
-  free_within = IsIncreasing-filter (λ x. not (has_member clones x)) 1 m free open'.free_within;
-  apart = λ x is. open'.apart x (minus-is free clones x is);
+pub node-minus : (m : ℕ) (set free clones : List ℕ) → IsNode m set free → IsNode m set (other_members free clones)
+node-minus m set free clones is_node = record {
+  set_within = is_node.set_within;
+  free_within = IsIncreasing-filter (λ x. not (has_member clones x)) 1 m free is_node.free_within;
+  apart = λ x is. is_node.apart x (minus-is free clones x is);
 }
 
 pub minus-most : (free clones : List ℕ) → length (other_members free clones) ≤ length free
@@ -145,12 +145,12 @@ alike tally valid classes are committee c d up low high class here out =
 
 -- A candidate was tried and is struck out, with others in whose place it would be worth the same: a committee with one
 -- of them reaches the value only if the one with the candidate in its place does.
-pub clones-left : (value : List ℕ → ℕ) (m : ℕ) (set : List ℕ) (left least : ℕ) (free rest clones : List ℕ) (c : ℕ) → 1 ≤ left → IsOpen m set rest → has_member rest c ≡ true
+pub clones-left : (value : List ℕ → ℕ) (m : ℕ) (set : List ℕ) (left least : ℕ) (free rest clones : List ℕ) (c : ℕ) → 1 ≤ left → IsNode m set rest → has_member rest c ≡ true
     → ((committee : List ℕ) (d : ℕ) → IsIncreasing 1 m committee → has_member committee d ≡ true → has_member committee c ≡ false → has_member clones d ≡ true → value (exchanged committee c d) ≡ value committee)
     → AreLeft value m set left least free rest
     → IsOutOfReach value m (with_member set c) (without_member rest c) (left - 1) least
     → AreLeft value m set left least free (other_members (without_member rest c) clones)
-clones-left value m set left least free rest clones c some open' here same left_ none committee whole reaches = record {
+clones-left value m set left least free rest clones c some is_node here same left_ none committee whole reaches = record {
   candidates = now.candidates;
   whole = now.whole;
   within = λ x is. go x (has_member set x) refl (has_member clones x) refl is;
@@ -161,20 +161,20 @@ clones-left value m set left least free rest clones c some open' here same left_
     before = left_ committee whole reaches
 
     now : IsCompletion m set (without_member rest c) left committee
-    now = struck-out value m set left least free rest c some open' here left_ none committee whole reaches
+    now = struck-out value m set left least free rest c some is_node here left_ none committee whole reaches
 
     out : has_member committee c ≡ false
     out = elim (cases_Bool (has_member committee c)) [
-      | inl is ↦ absurd (let e : false ≡ true = sym (ap (λ b. b || has_member (without_member rest c) c) (open'.apart c here) ∙ gone rest c) ∙ now.within c is in cc)
+      | inl is ↦ absurd (let e : false ≡ true = sym (ap (λ b. b || has_member (without_member rest c) c) (is_node.apart c here) ∙ gone rest c) ∙ now.within c is in cc)
       | inr is ↦ is
     ]
 
     -- no clone is in it but those of the set
     no-clone : (x : ℕ) → has_member set x ≡ false → has_member clones x ≡ true → has_member committee x ≡ true → ⊥
     no-clone x not_in clone is =
-        let swap = completion-exchanged m committee c x now.candidates is out set rest left open' here not_in before in
+        let swap = completion-exchanged m committee c x now.candidates is out set rest left is_node here not_in before in
         let with_c : has_member (exchanged committee c x) c ≡ true = has_member-with_member (without_member committee x) c c ∙ ap (λ b. b || has_member (without_member committee x) c) (itself c) in
-        let fewer = none (exchanged committee c x) (completion-with m set rest left c open' here (exchanged committee c x) some swap with_c) in
+        let fewer = none (exchanged committee c x) (completion-with m set rest left c is_node here (exchanged committee c x) some swap with_c) in
         omega (arith, fewer, reaches, same committee x now.candidates is out clone)
 
     go : (x : ℕ) (b : Bool) → has_member set x ≡ b → (k : Bool) → has_member clones x ≡ k → has_member committee x ≡ true → (has_member set x || has_member (other_members (without_member rest c) clones) x) ≡ true

@@ -9,7 +9,7 @@ use Rattle.ballot_base.specs.CandSet.{has_member, with_member, without_member}
 use Rattle.ballot_base.specs.Ballots.{Row, hits}
 use Rattle.ballot_base.proofs.Increasing.{IsIncreasing-filter, IsIncreasing-with_member, has_member-below, has_member-above, has_member-filter, has_member-with_member, same_increasing}
 use Rattle.tie_walk.specs.Values.{thiele_value}
-use Rattle.tie_search.specs.Completions.{IsOpen, IsCompletion}
+use Rattle.tie_search.specs.Completions.{IsNode, IsCompletion}
 
 -- ---- members
 
@@ -94,23 +94,23 @@ with-longer m set n up low high new =
 
 -- ---- a branch of the search
 
-pub open-without : (m : ℕ) (set free : List ℕ) (n : ℕ) → IsOpen m set free → IsOpen m set (without_member free n)
-open-without m set free n open' = record {
-  set_within = open'.set_within;
-  free_within = IsIncreasing-filter (λ x. not (x == n)) 1 m free open'.free_within;
-  apart = λ x here. open'.apart x (without-is free n x here);
+pub node-without : (m : ℕ) (set free : List ℕ) (n : ℕ) → IsNode m set free → IsNode m set (without_member free n)
+node-without m set free n is_node = record {
+  set_within = is_node.set_within;
+  free_within = IsIncreasing-filter (λ x. not (x == n)) 1 m free is_node.free_within;
+  apart = λ x here. is_node.apart x (without-is free n x here);
 }
 
-pub open-with : (m : ℕ) (set free : List ℕ) (n : ℕ) → IsOpen m set free → has_member free n ≡ true → IsOpen m (with_member set n) (without_member free n)
-open-with m set free n open' here = record {
-  set_within = IsIncreasing-with_member 1 m set n (member-low 1 m free n open'.free_within here) (member-high 1 m free n open'.free_within here) open'.set_within;
-  free_within = IsIncreasing-filter (λ x. not (x == n)) 1 m free open'.free_within;
-  apart = λ x is. with-stays set n x (without-not free n x is) ∙ open'.apart x (without-is free n x is);
+pub node-with : (m : ℕ) (set free : List ℕ) (n : ℕ) → IsNode m set free → has_member free n ≡ true → IsNode m (with_member set n) (without_member free n)
+node-with m set free n is_node here = record {
+  set_within = IsIncreasing-with_member 1 m set n (member-low 1 m free n is_node.free_within here) (member-high 1 m free n is_node.free_within here) is_node.set_within;
+  free_within = IsIncreasing-filter (λ x. not (x == n)) 1 m free is_node.free_within;
+  apart = λ x is. with-stays set n x (without-not free n x is) ∙ is_node.apart x (without-is free n x is);
 }
 
-module _ (m : ℕ) (set free : List ℕ) (left n : ℕ) (open' : IsOpen m set free) (here : has_member free n ≡ true) where
+module _ (m : ℕ) (set free : List ℕ) (left n : ℕ) (is_node : IsNode m set free) (here : has_member free n ≡ true) where
   longer : length (with_member set n) ≡ length set + 1
-  longer = with-longer m set n open'.set_within (member-low 1 m free n open'.free_within here) (member-high 1 m free n open'.free_within here) (open'.apart n here)
+  longer = with-longer m set n is_node.set_within (member-low 1 m free n is_node.free_within here) (member-high 1 m free n is_node.free_within here) (is_node.apart n here)
 
   -- a committee without the candidate
   pub completion-without : (committee : List ℕ) → IsCompletion m set free left committee → has_member committee n ≡ false → IsCompletion m set (without_member free n) left committee
@@ -167,13 +167,13 @@ module _ (m : ℕ) (set free : List ℕ) (left n : ℕ) (open' : IsOpen m set fr
 
 -- ---- the whole of a completion
 
-module _ (m : ℕ) (set free : List ℕ) (left : ℕ) (committee : List ℕ) (open' : IsOpen m set free) (whole : IsCompletion m set free left committee) where
+module _ (m : ℕ) (set free : List ℕ) (left : ℕ) (committee : List ℕ) (is_node : IsNode m set free) (whole : IsCompletion m set free left committee) where
   -- those who were added
   abbrev pub added : List ℕ
   added = filter (has_member committee) free
 
   pub added-increasing : IsIncreasing 1 m added
-  added-increasing = IsIncreasing-filter (has_member committee) 1 m free open'.free_within
+  added-increasing = IsIncreasing-filter (has_member committee) 1 m free is_node.free_within
 
   pub added-free : (n : ℕ) → has_member added n ≡ true → has_member free n ≡ true
   added-free n h = (and-true (has_member committee n) (has_member free n) (sym (has_member-filter (has_member committee) free n) ∙ h)).1
@@ -203,14 +203,14 @@ module _ (m : ℕ) (set free : List ℕ) (left : ℕ) (committee : List ℕ) (op
   -- the set and those who were added are the whole
   pub completion-inside : filter (has_member set) committee ≡ set
   completion-inside =
-      same_increasing 1 m (filter (has_member set) committee) set (IsIncreasing-filter (has_member set) 1 m committee whole.candidates) open'.set_within
+      same_increasing 1 m (filter (has_member set) committee) set (IsIncreasing-filter (has_member set) 1 m committee whole.candidates) is_node.set_within
       (λ n. has_member-filter (has_member set) committee n ∙ inside-is (has_member set n) (has_member committee n) (whole.whole n))
 
   pub completion-outside : filter (λ x. not (has_member set x)) committee ≡ added
   completion-outside =
       same_increasing 1 m (filter (λ x. not (has_member set x)) committee) added (IsIncreasing-filter (λ x. not (has_member set x)) 1 m committee whole.candidates) added-increasing
       (λ n. has_member-filter (λ x. not (has_member set x)) committee n
-      ∙ outside-is (has_member set n) (has_member committee n) (has_member free n) (whole.within n) (open'.apart n)
+      ∙ outside-is (has_member set n) (has_member committee n) (has_member free n) (whole.within n) (is_node.apart n)
       ∙ sym (has_member-filter (has_member committee) free n))
 
   pub added-size : length added ≡ left
@@ -225,7 +225,7 @@ module _ (m : ℕ) (set free : List ℕ) (left : ℕ) (committee : List ℕ) (op
 
   pub completion-whole : left ≡ 0 → committee ≡ set
   completion-whole none =
-      same_increasing 1 m committee set whole.candidates open'.set_within
+      same_increasing 1 m committee set whole.candidates is_node.set_within
       (λ n. completion-members n ∙ list_any-append (λ y. y == n) set added
       ∙ ap (λ l. has_member set n || has_member l n) (empty added (added-size ∙ none)) ∙ or-false (has_member set n))
     where
@@ -238,9 +238,9 @@ module _ (m : ℕ) (set free : List ℕ) (left : ℕ) (committee : List ℕ) (op
       or-false false = refl
 
 -- a set completes itself
-pub completion-self : (m : ℕ) (set free : List ℕ) → IsOpen m set free → IsCompletion m set free 0 set
-completion-self m set free open' = record {
-  candidates = open'.set_within;
+pub completion-self : (m : ℕ) (set free : List ℕ) → IsNode m set free → IsCompletion m set free 0 set
+completion-self m set free is_node = record {
+  candidates = is_node.set_within;
   whole = λ n h. h;
   within = λ n h. ap (λ b. b || has_member free n) h;
   size = omega arith;

@@ -10,7 +10,7 @@ use Rattle.tie_walk.specs.Ceilings.{ceiling, closeness_upto}
 use Rattle.tie_walk.specs.Values.{closeness, distance}
 use Rattle.tie_walk.specs.Winners.{best_value}
 use Rattle.tie_search.specs.Needs.{hits_needed, weighted_needs, weighted_support}
-use Rattle.tie_search.specs.Completions.{AreAlike, IsOpen, IsCompletion, IsReaching, IsOutOfReach, IsWinnerFrom, is_reached, exact_bound}
+use Rattle.tie_search.specs.Completions.{AreAlike, IsNode, IsCompletion, IsReaching, IsOutOfReach, IsWinnerFrom, is_reached, exact_bound}
 use Rattle.tie_search.specs.Pairs.{IsMajorant, all_kept, all_overlap, all_worth, pair_sum, row_sum, worth_beside}
 use Rattle.tie_search.specs.Prices.{kept, base, price}
 use Rattle.tie_search.specs.Tied.{AreBest, AreDistinct, AreTied, IsAmong, IsBest}
@@ -101,7 +101,7 @@ is_exchange = record { gone = 1; joined = 2; class = refl; was = refl; is = refl
 
 -- ---- committees that complete a set
 
-two_are_free : IsOpen 3 (1 ∷ []) (2 ∷ 3 ∷ [])
+two_are_free : IsNode 3 (1 ∷ []) (2 ∷ 3 ∷ [])
 two_are_free = record {
   set_within = (lit≤ tt, lit≤ tt, tt);
   free_within = (lit≤ tt, lit≤ tt, (lit≤ tt, lit≤ tt, tt));

@@ -13,16 +13,16 @@ use Rattle.tie_walk.specs.Sequences.{gain}
 use Rattle.tie_walk.specs.Values.{Thiele}
 use Rattle.tie_walk.proofs.Gains.{thiele-gain}
 use Rattle.tie_walk.proofs.Submodular.{thiele_rule-submodular}
-use Rattle.tie_search.specs.Completions.{IsOpen, IsCompletion, tally_value}
-use Rattle.tie_search.proofs.CompletionLemmas.{completion-with, completion-whole, open-with, thiele-same, without-is}
+use Rattle.tie_search.specs.Completions.{IsNode, IsCompletion, tally_value}
+use Rattle.tie_search.proofs.CompletionLemmas.{completion-with, completion-whole, node-with, thiele-same, without-is}
 use Rattle.tie_search.proofs.SearchLemmas.{AreLeft, node-bounds, push-same, sum-part}
 
 -- fewer may be free
-pub open-among : (m : ℕ) (set free kept : List ℕ) → IsOpen m set free → IsIncreasing 1 m kept → ((n : ℕ) → has_member kept n ≡ true → has_member free n ≡ true) → IsOpen m set kept
-open-among m set free kept open' up among = record {
-  set_within = open'.set_within;
+pub node-among : (m : ℕ) (set free kept : List ℕ) → IsNode m set free → IsIncreasing 1 m kept → ((n : ℕ) → has_member kept n ≡ true → has_member free n ≡ true) → IsNode m set kept
+node-among m set free kept is_node up among = record {
+  set_within = is_node.set_within;
   free_within = up;
-  apart = λ n is. open'.apart n (among n is);
+  apart = λ n is. is_node.apart n (among n is);
 }
 
 module _ (value : List ℕ → ℕ) (falls : IsSubmodular value) (same : (xs ys : List ℕ) → ((n : ℕ) → has_member xs n ≡ has_member ys n) → value xs ≡ value ys) where
@@ -45,16 +45,16 @@ module _ (value : List ℕ → ℕ) (falls : IsSubmodular value) (same : (xs ys 
   gain-falls set x n = omega (arith, falls set (x ∷ []) n, push-twice set x n, push-same value falls same set x, push-same value falls same set n)
 
   -- what a committee with two more candidates is worth at most
-  pair-bounds : (m : ℕ) (set rest : List ℕ) (i j left t : ℕ) (g : ℕ → ℕ) (committee : List ℕ) → IsOpen m set rest → has_member rest i ≡ true
+  pair-bounds : (m : ℕ) (set rest : List ℕ) (i j left t : ℕ) (g : ℕ → ℕ) (committee : List ℕ) → IsNode m set rest → has_member rest i ≡ true
       → ((n : ℕ) → has_member rest n ≡ true → gain_at value set n ≤ g n)
       → 1 ≤ left → IsCompletion m (with_member set i) (without_member rest i) left committee
       → has_member (without_member rest i) j ≡ true → has_member committee j ≡ true
       → value committee ≤ value set + g i + (g j + (left - 1) * t + sum_by (λ n. g n - t) (without_member rest i))
-  pair-bounds m set rest i j left t g committee open' here gains some whole free in_ =
+  pair-bounds m set rest i j left t g committee is_node here gains some whole free in_ =
       let others = without_member rest i in
       let one = with_member set i in
-      let open1 : IsOpen m one others = open-with m set rest i open' here in
-      let open2 : IsOpen m (with_member one j) (without_member others j) = open-with m one others j open1 free in
+      let open1 : IsNode m one others = node-with m set rest i is_node here in
+      let open2 : IsNode m (with_member one j) (without_member others j) = node-with m one others j open1 free in
       let bound : value committee ≤ value (with_member one j) + (left - 1) * t + sum_by (λ n. g n - t) (without_member others j) =
       node-bounds value falls same m (with_member one j) (without_member others j) (left - 1) t g committee open2
       (completion-with m one others left j open1 free committee some whole in_)
@@ -74,7 +74,7 @@ module _ (value : List ℕ → ℕ) (falls : IsSubmodular value) (same : (xs ys 
       )
 
 module _ (tally : Thiele) (set rest : List ℕ) (i left least : ℕ) (gains kept : List ℕ) (valid : IsElection tally.election) (size : tally.k ≤ most_members)
-    (open' : IsOpen tally.election.m set rest) (here : has_member rest i ≡ true)
+    (is_node : IsNode tally.election.m set rest) (here : has_member rest i ≡ true)
     (are : (n : ℕ) → has_member rest n ≡ true → get_or gains n 0 ≡ gain (increments tally.rule tally.k) tally.election.rows set n)
     (keeps : (n : ℕ) → has_member (without_member rest i) n ≡ true
     → ((t : ℕ) → least - tally_value tally set - get_or gains i 0 ≤ get_or gains n 0 + (left - 1) * t + sum_by (λ x. get_or gains x 0 - t) (without_member rest i))
@@ -92,7 +92,7 @@ module _ (tally : Thiele) (set rest : List ℕ) (i left least : ℕ) (gains kept
       some n in_ out = elim (cases_lt 0 left) [
         | inl more ↦ more
         | inr none ↦
-            let is : committee ≡ with_member set i = completion-whole tally.election.m (with_member set i) (without_member rest i) left committee (open-with tally.election.m set rest i open' here) whole (omega (arith, none)) in
+            let is : committee ≡ with_member set i = completion-whole tally.election.m (with_member set i) (without_member rest i) left committee (node-with tally.election.m set rest i is_node here) whole (omega (arith, none)) in
             absurd (let e : true ≡ false = sym in_ ∙ ap (λ l. has_member l n) is ∙ out in cc)
       ]
 
@@ -100,11 +100,11 @@ module _ (tally : Thiele) (set rest : List ℕ) (i left least : ℕ) (gains kept
           → (t : ℕ) → least - tally_value tally set - get_or gains i 0 ≤ get_or gains n 0 + (left - 1) * t + sum_by (λ x. get_or gains x 0 - t) (without_member rest i)
       bound n in_ out free t =
           let whole' = pair-bounds (tally_value tally) (thiele_rule-submodular tally.rule tally.k tally.election.rows size)
-          (thiele-same (increments tally.rule tally.k) tally.election.rows) tally.election.m set rest i n left t (λ x. get_or gains x 0) committee open' here
+          (thiele-same (increments tally.rule tally.k) tally.election.rows) tally.election.m set rest i n left t (λ x. get_or gains x 0) committee is_node here
           (λ x is. omega (
             arith,
             are x is,
-            thiele-gain tally.election.m (increments tally.rule tally.k) tally.election.rows set x valid.ballots (open'.apart x is),
+            thiele-gain tally.election.m (increments tally.rule tally.k) tally.election.rows set x valid.ballots (is_node.apart x is),
           )) (some n in_ out) whole free in_ in
           omega (arith, reaches, whole')
 

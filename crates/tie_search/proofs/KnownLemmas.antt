@@ -5,7 +5,7 @@ use Rattle.std.specs.Prelude.{MatchOption, ⊤, slice_get}
 use Rattle.ballot_base.specs.Ballots.{Row, Election}
 use Rattle.ballot_base.specs.CandSet.{has_member, common_members, includes}
 use Rattle.ballot_base.proofs.Increasing.{IsIncreasing-filter, has_member-filter, same_increasing}
-use Rattle.tie_search.specs.Completions.{IsOpen}
+use Rattle.tie_search.specs.Completions.{IsNode}
 use Rattle.tie_search.specs.Steps.Known.{AreKnown, AreKnownIf, IsKnown}
 use Rattle.tie_search.specs.Steps.Paired.{AreSums, AreTotals}
 use Rattle.tie_search.specs.declared.known.Known.{Known}
@@ -26,7 +26,7 @@ included set (x ∷ other) all n here =
     by false apart first rest h = rest h
 
 -- totals bound the completions from fewer free candidates too
-totals-fewer : (weights : List ℕ) (scale unit m : ℕ) (rows : List Row) (set all free : List ℕ) (left kept : ℕ) (worths table : List ℕ) → IsOpen m set all → IsOpen m set free
+totals-fewer : (weights : List ℕ) (scale unit m : ℕ) (rows : List Row) (set all free : List ℕ) (left kept : ℕ) (worths table : List ℕ) → IsNode m set all → IsNode m set free
     → ((n : ℕ) → has_member free n ≡ true → has_member all n ≡ true)
     → AreTotals weights scale unit m rows set all left kept worths table → AreTotals weights scale unit m rows set free left kept worths table
 totals-fewer weights scale unit m rows set all free left kept worths table before now among totals committee whole =
@@ -46,16 +46,16 @@ totals-fewer weights scale unit m rows set all free left kept worths table befor
     both-same true true false false within apart more = let e : false ≡ true = within refl in absurd cc
 
 -- what is kept bounds the completions of a set that it serves
-pub known-fewer : (e : Election) (given : HitSums) (known : Known) (set free : List ℕ) (left : ℕ) → IsKnown e given known → IsOpen e.m set free → known.set ≡ set → known.left ≡ left
+pub known-fewer : (e : Election) (given : HitSums) (known : Known) (set free : List ℕ) (left : ℕ) → IsKnown e given known → IsNode e.m set free → known.set ≡ set → known.left ≡ left
     → ((n : ℕ) → has_member free n ≡ true → has_member known.free n ≡ true)
     → (weights : List ℕ) → AreSums weights given.scale given.unit given.sums
     → AreTotals weights given.scale given.unit e.m e.rows set free left known.totals.kept known.totals.worths known.totals.overlaps
-known-fewer e given known set free left is open' same size among weights are =
-    let opened : IsOpen e.m set known.free = subst (λ s. IsOpen e.m s known.free) same is.opened in
+known-fewer e given known set free left is is_node same size among weights are =
+    let before : IsNode e.m set known.free = subst (λ s. IsNode e.m s known.free) same is.is_node in
     let all : AreTotals weights given.scale given.unit e.m e.rows set known.free known.left known.totals.kept known.totals.worths known.totals.overlaps =
     subst (λ s. AreTotals weights given.scale given.unit e.m e.rows s known.free known.left known.totals.kept known.totals.worths known.totals.overlaps) same (is.totals weights are) in
     subst (λ l. AreTotals weights given.scale given.unit e.m e.rows set free l known.totals.kept known.totals.worths known.totals.overlaps) size
-    (totals-fewer weights given.scale given.unit e.m e.rows set known.free free known.left known.totals.kept known.totals.worths known.totals.overlaps opened open' among all)
+    (totals-fewer weights given.scale given.unit e.m e.rows set known.free free known.left known.totals.kept known.totals.worths known.totals.overlaps before is_node among all)
 
 -- nothing is kept at the start
 pub known-none : (e : Election) (sums : Option HitSums) (known : KnownTotals) → ((other : Election) (given : HitSums) → AreKnown other given known) → AreKnownIf e sums (known ∷ [])

@@ -9,56 +9,56 @@ use Rattle.ballot_base.specs.Lists.{IsIncreasing}
 use Rattle.ballot_base.proofs.Increasing.{has_member-filter, has_member-with_member, has_member_head}
 use Rattle.tie_walk.specs.Sequences.{gain}
 use Rattle.tie_walk.specs.Values.{Thiele}
-use Rattle.tie_search.specs.Completions.{IsOpen, IsCompletion, tally_value}
+use Rattle.tie_search.specs.Completions.{IsNode, IsCompletion, tally_value}
 use Rattle.tie_search.specs.Steps.Found.{Advances, AreSearched, IsListed, IsSettled}
 use Rattle.tie_search.specs.declared.found.Found.{Found}
-use Rattle.tie_search.proofs.CompletionLemmas.{added-size, and-true, completion-back, completion-self, completion-whole, completion-with, open-with, without-is}
+use Rattle.tie_search.proofs.CompletionLemmas.{added-size, and-true, completion-back, completion-self, completion-whole, completion-with, node-with, without-is}
 use Rattle.tie_search.proofs.FoundLemmas.{advances-on, still-settled}
 use Rattle.tie_search.proofs.OverlapLemmas.{first-gone, first-in, later-in, others-same}
 use Rattle.tie_search.proofs.SearchLemmas.{value-most}
 use Rattle.tie_search.proofs.WholeLemmas.{value-with}
 
 -- the value and a gain are the value of a larger set
-pub joined-value : (tally : Thiele) (set free gains : List ℕ) (value n c : ℕ) → IsElection tally.election → IsOpen tally.election.m set free → has_member free n ≡ true → value ≡ tally_value tally set
+pub joined-value : (tally : Thiele) (set free gains : List ℕ) (value n c : ℕ) → IsElection tally.election → IsNode tally.election.m set free → has_member free n ≡ true → value ≡ tally_value tally set
     → ((x : ℕ) → has_member free x ≡ true → get_or gains x 0 ≡ gain (increments tally.rule tally.k) tally.election.rows set x) → c ≡ n
     → value + get_or gains c 0 ≡ tally_value tally (with_member set n)
-joined-value tally set free gains value n c valid open' here is are same =
+joined-value tally set free gains value n c valid is_node here is are same =
     omega (
       arith,
       is,
       ap (λ x. get_or gains x 0) same,
       are n here,
-      value-with tally set n valid (open'.apart n here),
+      value-with tally set n valid (is_node.apart n here),
     )
 
-pub joined-small : (tally : Thiele) (set free gains : List ℕ) (value n c : ℕ) → IsElection tally.election → tally.k ≤ most_members → IsOpen tally.election.m set free → has_member free n ≡ true
+pub joined-small : (tally : Thiele) (set free gains : List ℕ) (value n c : ℕ) → IsElection tally.election → tally.k ≤ most_members → IsNode tally.election.m set free → has_member free n ≡ true
     → value ≡ tally_value tally set
     → ((x : ℕ) → has_member free x ≡ true → get_or gains x 0 ≡ gain (increments tally.rule tally.k) tally.election.rows set x) → c ≡ n → value + get_or gains c 0 ≤ 2 ^ 116
-joined-small tally set free gains value n c valid size open' here is are same =
-    omega (arith, joined-value tally set free gains value n c valid open' here is are same, value-most tally (with_member set n) valid size)
+joined-small tally set free gains value n c valid size is_node here is are same =
+    omega (arith, joined-value tally set free gains value n c valid is_node here is are same, value-most tally (with_member set n) valid size)
 
 -- one number
 one-inside : (xs : List ℕ) → length xs ≡ 1 → (n : ℕ) × (has_member xs n ≡ true)
 one-inside [] one = absurd (omega (arith, one))
 one-inside (x ∷ xs) one = (x, has_member_head x xs)
 
-module _ (m : ℕ) (set free : List ℕ) (left : ℕ) (open' : IsOpen m set free) (one : left ≡ 1) where
+module _ (m : ℕ) (set free : List ℕ) (left : ℕ) (is_node : IsNode m set free) (one : left ≡ 1) where
   -- a free candidate completes the set
   pub one-completes : (n : ℕ) → has_member free n ≡ true → IsCompletion m set free left (with_member set n)
   one-completes n here =
-      let self' : IsCompletion m (with_member set n) (without_member free n) 0 (with_member set n) = completion-self m (with_member set n) (without_member free n) (open-with m set free n open' here) in
+      let self' : IsCompletion m (with_member set n) (without_member free n) 0 (with_member set n) = completion-self m (with_member set n) (without_member free n) (node-with m set free n is_node here) in
       let none : 0 ≡ left - 1 = omega (arith, one) in
-      completion-back m set free left n open' here (without_member free n) (with_member set n) (omega (arith, one)) (λ x is. without-is free n x is)
+      completion-back m set free left n is_node here (without_member free n) (with_member set n) (omega (arith, one)) (λ x is. without-is free n x is)
       (subst (λ l. IsCompletion m (with_member set n) (without_member free n) l (with_member set n)) none self')
 
   -- and nothing else does
   pub completes-one : (committee : List ℕ) → IsCompletion m set free left committee → (n : ℕ) × (has_member free n ≡ true) × (committee ≡ with_member set n)
   completes-one committee whole =
-      let some = one-inside (filter (has_member committee) free) (added-size m set free left committee open' whole ∙ one) in
+      let some = one-inside (filter (has_member committee) free) (added-size m set free left committee is_node whole ∙ one) in
       let n : ℕ = some.0 in
       let both = and-true (has_member committee n) (has_member free n) (sym (has_member-filter (has_member committee) free n) ∙ some.1) in
-      let with' : IsCompletion m (with_member set n) (without_member free n) (left - 1) committee = completion-with m set free left n open' both.1 committee (omega (arith, one)) whole both.0 in
-      (n, both.1, completion-whole m (with_member set n) (without_member free n) (left - 1) committee (open-with m set free n open' both.1) with' (omega (arith, one)))
+      let with' : IsCompletion m (with_member set n) (without_member free n) (left - 1) committee = completion-with m set free left n is_node both.1 committee (omega (arith, one)) whole both.0 in
+      (n, both.1, completion-whole m (with_member set n) (without_member free n) (left - 1) committee (node-with m set free n is_node both.1) with' (omega (arith, one)))
 
   -- different candidates make different committees
   one-apart : (n x : ℕ) → has_member free n ≡ true → with_member set n ≡ with_member set x → n ≡ x
@@ -68,7 +68,7 @@ module _ (m : ℕ) (set free : List ℕ) (left : ℕ) (open' : IsOpen m set free
     where
       by : (x ≡ n) ⊎ (x ≡ n → ⊥) → ((x == n) || has_member set n) ≡ true → n ≡ x
       by (inl is) h = sym is
-      by (inr other) h = absurd (outside (x == n) (has_member set n) (ne_eqb x n other) (open'.apart n here) h)
+      by (inr other) h = absurd (outside (x == n) (has_member set n) (ne_eqb x n other) (is_node.apart n here) h)
         where
           outside : (p q : Bool) → p ≡ false → q ≡ false → (p || q) ≡ true → ⊥
           outside true q e f h = cc

@@ -11,9 +11,9 @@ use Rattle.ballot_base.proofs.Increasing.{IsIncreasing-filter, has_member-filter
 use Rattle.tie_walk.specs.Values.{distance, greatest_distance, closeness}
 use Rattle.tie_walk.proofs.Distances.{ballot-found, common-least_right, common-turned, distance-sizes, greatest-more, greatest_distance-most}
 use Rattle.tie_walk.proofs.RowSums.{length-common}
-use Rattle.tie_search.specs.Completions.{IsOpen, IsCompletion, IsReaching, IsOutOfReach}
-use Rattle.tie_search.proofs.CompletionLemmas.{added, added-free, added-increasing, added-size, and-true, completion-few, completion-members, hits-same, open-without, without-is}
-use Rattle.tie_search.proofs.CloneLemmas.{clones-left, exchanged, minus-is, open-minus}
+use Rattle.tie_search.specs.Completions.{IsNode, IsCompletion, IsReaching, IsOutOfReach}
+use Rattle.tie_search.proofs.CompletionLemmas.{added, added-free, added-increasing, added-size, and-true, completion-few, completion-members, hits-same, node-without, without-is}
+use Rattle.tie_search.proofs.CloneLemmas.{clones-left, exchanged, minus-is, node-minus}
 use Rattle.tie_search.proofs.SearchLemmas.{AreLeft, none-left}
 use Rattle.tie_search.specs.Needs.{hits_needed}
 use Rattle.tie_search.specs.Steps.Near.{AreChoices, IsNarrowed}
@@ -172,35 +172,35 @@ pub value-near : (m : ℕ) (rows : List Row) (most : ℕ) (committee : List ℕ)
     → m - most ≤ closeness m rows committee → greatest_distance rows committee ≤ most
 value-near m rows most committee ballots rises reaches = omega (arith, reaches, greatest_distance-most m rows committee ballots rises)
 
-module _ (m : ℕ) (rows : List Row) (most : ℕ) (set free : List ℕ) (left : ℕ) (ballots : AllByRecursion (λ (row : Row). IsIncreasing 1 m row.0) rows) (open' : IsOpen m set free)
+module _ (m : ℕ) (rows : List Row) (most : ℕ) (set free : List ℕ) (left : ℕ) (ballots : AllByRecursion (λ (row : Row). IsIncreasing 1 m row.0) rows) (is_node : IsNode m set free)
     (i : ℕ) (row : Row) (found : slice_get rows i ≡ Some row) where
   -- those who are added to a committee that is near give the ballot the hits that it still needs
   hits-added : (committee : List ℕ) → IsReaching (closeness m rows) m set free left (m - most) committee → (whole : IsCompletion m set free left committee)
-      → hits_needed (length row.0) (length set + left) most ≤ hits row.0 set + hits row.0 (added m set free left committee open' whole)
+      → hits_needed (length row.0) (length set + left) most ≤ hits row.0 set + hits row.0 (added m set free left committee is_node whole)
   hits-added committee near whole =
-      let more = added m set free left committee open' whole in
-      let apart : (n : ℕ) → has_member more n ≡ true → has_member set n ≡ false = λ n h. open'.apart n (added-free m set free left committee open' whole n h) in
+      let more = added m set free left committee is_node whole in
+      let apart : (n : ℕ) → has_member more n ≡ true → has_member set n ≡ false = λ n h. is_node.apart n (added-free m set free left committee is_node whole n h) in
       omega (
         arith,
         near-hits m (length set + left) most row.0 committee (ballot-found m rows i row ballots found) whole.candidates whole.size
             (row-near rows committee most i row found (value-near m rows most committee ballots whole.candidates near.reaches)),
-        hits-same row.0 committee (set ++ more) (completion-members m set free left committee open' whole),
+        hits-same row.0 committee (set ++ more) (completion-members m set free left committee is_node whole),
         hits-append row.0 set more apart,
       )
 
-  hits-few : (committee : List ℕ) (whole : IsCompletion m set free left committee) → hits row.0 (added m set free left committee open' whole) ≤ left
+  hits-few : (committee : List ℕ) (whole : IsCompletion m set free left committee) → hits row.0 (added m set free left committee is_node whole) ≤ left
   hits-few committee whole =
-      let more = added m set free left committee open' whole in
+      let more = added m set free left committee is_node whole in
       omega (
         arith,
-        added-size m set free left committee open' whole,
+        added-size m set free left committee is_node whole,
         length-common row.0 more,
-        common-least_right 1 m row.0 more (ballot-found m rows i row ballots found) (added-increasing m set free left committee open' whole),
+        common-least_right 1 m row.0 more (ballot-found m rows i row ballots found) (added-increasing m set free left committee is_node whole),
       )
 
-  hits-free : (committee : List ℕ) (whole : IsCompletion m set free left committee) → hits row.0 (added m set free left committee open' whole) ≤ hits row.0 free
+  hits-free : (committee : List ℕ) (whole : IsCompletion m set free left committee) → hits row.0 (added m set free left committee is_node whole) ≤ hits row.0 free
   hits-free committee whole =
-      hits-more row.0 (added m set free left committee open' whole) free (added-free m set free left committee open' whole)
+      hits-more row.0 (added m set free left committee is_node whole) free (added-free m set free left committee is_node whole)
 
   -- a ballot that needs more than it can have
   pub hopeless : min left (hits row.0 free) < hits_needed (length row.0) (length set + left) most - hits row.0 set → IsOutOfReach (closeness m rows) m set free left (m - most)
@@ -217,10 +217,10 @@ module _ (m : ℕ) (rows : List Row) (most : ℕ) (set free : List ℕ) (left : 
   -- where a ballot needs as many hits as there are seats left, all who join are on it
   pub narrowed-to_ballot : left ≤ hits_needed (length row.0) (length set + left) most - hits row.0 set → IsNarrowed (closeness m rows) m set free left (m - most) (common_members row.0 free)
   narrowed-to_ballot all = record {
-    opened = record {
-      set_within = open'.set_within;
+    is_node = record {
+      set_within = is_node.set_within;
       free_within = IsIncreasing-filter (has_member free) 1 m row.0 (ballot-found m rows i row ballots found);
-      apart = λ n h. open'.apart n (in-free n h);
+      apart = λ n h. is_node.apart n (in-free n h);
     };
     among = in-free;
     kept = λ committee whole reaches. record {
@@ -241,20 +241,20 @@ module _ (m : ℕ) (rows : List Row) (most : ℕ) (set free : List ℕ) (left : 
       on-ballot : (committee : List ℕ) → IsCompletion m set free left committee → m - most ≤ closeness m rows committee → (n : ℕ) → has_member committee n ≡ true → has_member free n ≡ true
           → has_member (common_members row.0 free) n ≡ true
       on-ballot committee whole reaches n in_ open_ =
-          let more = added m set free left committee open' whole in
+          let more = added m set free left committee is_node whole in
           let near : IsReaching (closeness m rows) m set free left (m - most) committee = record { completes = whole; reaches = reaches } in
           let here : has_member more n ≡ true = has_member-filter (has_member committee) free n ∙ ap (λ b. b && has_member free n) in_ ∙ open_ in
-          in-both n open_ (all-hit m row.0 more (ballot-found m rows i row ballots found) (added-increasing m set free left committee open' whole)
-          (omega (arith, all, hits-added committee near whole, added-size m set free left committee open' whole)) n here)
+          in-both n open_ (all-hit m row.0 more (ballot-found m rows i row ballots found) (added-increasing m set free left committee is_node whole)
+          (omega (arith, all, hits-added committee near whole, added-size m set free left committee is_node whole)) n here)
 
   -- one of those on a ballot that needs a hit has to join
   pub choice-of_ballot : 1 ≤ hits_needed (length row.0) (length set + left) most - hits row.0 set → AreChoices (closeness m rows) m set free left (m - most) (common_members row.0 free)
   choice-of_ballot some = record {
     among = λ n h. (and-true (has_member free n) (has_member row.0 n) (sym (has_member-filter (has_member free) row.0 n) ∙ h)).0;
     one = λ committee near.
-        let more = added m set free left committee open' near.completes in
+        let more = added m set free left committee is_node near.completes in
         let hit = some-hit row.0 more (omega (arith, some, hits-added committee near near.completes)) in
-        let open_ : has_member free hit.0 ≡ true = added-free m set free left committee open' near.completes hit.0 hit.2 in (
+        let open_ : has_member free hit.0 ≡ true = added-free m set free left committee is_node near.completes hit.0 hit.2 in (
           hit.0,
           in-both hit.0 open_ hit.1,
           (and-true (has_member committee hit.0) (has_member free hit.0) (sym (has_member-filter (has_member committee) free hit.0) ∙ hit.2)).0,
@@ -264,15 +264,15 @@ module _ (m : ℕ) (rows : List Row) (most : ℕ) (set free : List ℕ) (left : 
 -- ---- free candidates of whom all are who join
 
 -- the free candidates who stay are all whom a committee adds that reaches the value
-pub narrowed-by : (value : List ℕ → ℕ) (m : ℕ) (set free : List ℕ) (left least : ℕ) (kept : List ℕ) → IsOpen m set free → ((x : ℕ) → IsIncreasing 1 x free → IsIncreasing 1 x kept)
+pub narrowed-by : (value : List ℕ → ℕ) (m : ℕ) (set free : List ℕ) (left least : ℕ) (kept : List ℕ) → IsNode m set free → ((x : ℕ) → IsIncreasing 1 x free → IsIncreasing 1 x kept)
     → ((n : ℕ) → has_member kept n ≡ true → has_member free n ≡ true)
     → ((committee : List ℕ) → IsCompletion m set free left committee → least ≤ value committee → (n : ℕ) → has_member committee n ≡ true → has_member free n ≡ true → has_member kept n ≡ true)
     → IsNarrowed value m set free left least kept
-narrowed-by value m set free left least kept open' rises among still = record {
-  opened = record {
-    set_within = open'.set_within;
-    free_within = rises m open'.free_within;
-    apart = λ n h. open'.apart n (among n h);
+narrowed-by value m set free left least kept is_node rises among still = record {
+  is_node = record {
+    set_within = is_node.set_within;
+    free_within = rises m is_node.free_within;
+    apart = λ n h. is_node.apart n (among n h);
   };
   among = among;
   kept = λ committee whole reaches. record {
@@ -288,9 +288,9 @@ narrowed-by value m set free left least kept open' rises among still = record {
     or-more false q r h is = h is
 
 -- all are free at first
-pub narrowed-none : (value : List ℕ → ℕ) (m : ℕ) (set free : List ℕ) (left least : ℕ) → IsOpen m set free → IsNarrowed value m set free left least free
-narrowed-none value m set free left least open' = record {
-  opened = open';
+pub narrowed-none : (value : List ℕ → ℕ) (m : ℕ) (set free : List ℕ) (left least : ℕ) → IsNode m set free → IsNarrowed value m set free left least free
+narrowed-none value m set free left least is_node = record {
+  is_node = is_node;
   among = λ n h. h;
   kept = λ committee whole reaches. whole;
 }
@@ -298,7 +298,7 @@ narrowed-none value m set free left least open' = record {
 module _ (value : List ℕ → ℕ) (m : ℕ) (set free rest : List ℕ) (left least : ℕ) (narrowed : IsNarrowed value m set free left least rest) where
   pub narrowed-more : (fewer : List ℕ) → IsNarrowed value m set rest left least fewer → IsNarrowed value m set free left least fewer
   narrowed-more fewer more = record {
-    opened = more.opened;
+    is_node = more.is_node;
     among = λ n h. narrowed.among n (more.among n h);
     kept = λ committee whole reaches. more.kept committee (narrowed.kept committee whole reaches) reaches;
   }
@@ -315,23 +315,23 @@ module _ (value : List ℕ → ℕ) (m : ℕ) (set free rest : List ℕ) (left l
       → ((committee : List ℕ) (d : ℕ) → IsIncreasing 1 m committee → has_member committee d ≡ true → has_member committee n ≡ false → has_member clones d ≡ true → value (exchanged committee n d) ≡ value committee)
       → IsOutOfReach value m (with_member set n) (without_member rest n) (left - 1) least → IsNarrowed value m set free left least (other_members (without_member rest n) clones)
   narrowed-clones n clones some here same none = record {
-    opened = open-minus m set (without_member rest n) clones (open-without m set rest n narrowed.opened);
+    is_node = node-minus m set (without_member rest n) clones (node-without m set rest n narrowed.is_node);
     among = λ x h. narrowed.among x (without-is rest n x (minus-is (without_member rest n) clones x h));
-    kept = clones-left value m set left least free rest clones n some narrowed.opened here same narrowed.kept none;
+    kept = clones-left value m set left least free rest clones n some narrowed.is_node here same narrowed.kept none;
   }
 
   pub narrowed-out : IsOutOfReach value m set rest left least → IsOutOfReach value m set free left least
   narrowed-out none = none-left value m set left least free rest narrowed.kept none
 
 -- one of all has to join, where someone does
-pub choice-of_all : (value : List ℕ → ℕ) (m : ℕ) (set free : List ℕ) (left least : ℕ) → IsOpen m set free → 1 ≤ left → AreChoices value m set free left least free
-choice-of_all value m set free left least open' some = record {
+pub choice-of_all : (value : List ℕ → ℕ) (m : ℕ) (set free : List ℕ) (left least : ℕ) → IsNode m set free → 1 ≤ left → AreChoices value m set free left least free
+choice-of_all value m set free left least is_node some = record {
   among = λ n h. h;
   one = λ committee near.
-      let more = added m set free left committee open' near.completes in
-      let one = member-of more (omega (arith, some, added-size m set free left committee open' near.completes)) in (
+      let more = added m set free left committee is_node near.completes in
+      let one = member-of more (omega (arith, some, added-size m set free left committee is_node near.completes)) in (
         one.0,
-        added-free m set free left committee open' near.completes one.0 one.1,
+        added-free m set free left committee is_node near.completes one.0 one.1,
         (and-true (has_member committee one.0) (has_member free one.0) (sym (has_member-filter (has_member committee) free one.0) ∙ one.1)).0,
       );
 }
@@ -354,7 +354,7 @@ near-more m most k rows set i row ballots up found size none near =
 
 -- ---- a node that was searched
 
-module _ (value : List ℕ → ℕ) (m : ℕ) (set free : List ℕ) (left least : ℕ) (choices rest : List ℕ) (open' : IsOpen m set free) (choice : AreChoices value m set free left least choices) where
+module _ (value : List ℕ → ℕ) (m : ℕ) (set free : List ℕ) (left least : ℕ) (choices rest : List ℕ) (is_node : IsNode m set free) (choice : AreChoices value m set free left least choices) where
   -- each of the choices was tried
   pub all-tried : AreLeft value m set left least free rest → common_members choices rest ≡ [] → IsOutOfReach value m set free left least
   all-tried are none committee whole = elim (cases_lt (value committee) least) [
@@ -363,7 +363,7 @@ module _ (value : List ℕ → ℕ) (m : ℕ) (set free : List ℕ) (left least 
         let one = choice.one committee record { completes = whole; reaches = reaches } in
         let now : IsCompletion m set rest left committee = are committee whole reaches in
         let free_ : has_member free one.0 ≡ true = choice.among one.0 one.1 in
-        let in_rest : has_member rest one.0 ≡ true = ap (λ b. b || has_member rest one.0) (sym (open'.apart one.0 free_)) ∙ now.within one.0 one.2 in
+        let in_rest : has_member rest one.0 ≡ true = ap (λ b. b || has_member rest one.0) (sym (is_node.apart one.0 free_)) ∙ now.within one.0 one.2 in
         let there : has_member (common_members choices rest) one.0 ≡ true = has_member-filter (has_member rest) choices one.0 ∙ ap (λ b. b && has_member choices one.0) in_rest ∙ one.1 in
         absurd (let e : true ≡ false = sym there ∙ ap (λ l. has_member l one.0) none in cc)
   ]
@@ -374,5 +374,5 @@ choice-left choices rest both next are is =
     (and-true (has_member rest next) (has_member choices next) (sym (has_member-filter (has_member rest) choices next) ∙ ap (λ l. has_member l next) (sym are) ∙ is)).0
 
 -- too few are free
-pub too-few : (value : List ℕ → ℕ) (m : ℕ) (set free : List ℕ) (left least : ℕ) → IsOpen m set free → length free < left → IsOutOfReach value m set free left least
-too-few value m set free left least open' few committee whole = absurd (omega (arith, few, completion-few m set free left committee open' whole))
+pub too-few : (value : List ℕ → ℕ) (m : ℕ) (set free : List ℕ) (left least : ℕ) → IsNode m set free → length free < left → IsOutOfReach value m set free left least
+too-few value m set free left least is_node few committee whole = absurd (omega (arith, few, completion-few m set free left committee is_node whole))

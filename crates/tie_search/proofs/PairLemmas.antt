@@ -10,7 +10,7 @@ use Rattle.ballot_base.specs.Ballots.{Row, hits}
 use Rattle.ballot_base.proofs.Increasing.{IsIncreasing-filter, has_member-below, has_member-filter, has_member_head, same_increasing}
 use Rattle.tie_walk.specs.Sequences.{supporters}
 use Rattle.tie_walk.specs.Values.{thiele_value}
-use Rattle.tie_search.specs.Completions.{IsOpen, IsCompletion}
+use Rattle.tie_search.specs.Completions.{IsNode, IsCompletion}
 use Rattle.tie_search.specs.Pairs.{IsMajorant, all_kept, all_worth, all_overlap, pair_sum, worth_beside, row_sum}
 use Rattle.tie_search.proofs.CompletionLemmas.{added, added-free, added-increasing, added-size, completion-members, hits-same, member-without}
 use Rattle.tie_search.proofs.NeedLemmas.{hits-append, hits-more}
@@ -252,33 +252,33 @@ voters-bound scale unit voters given kept worth overlap h one =
     let top : (a d k w f : ℕ) → a * (d * (k + w * f)) ≡ d * (a * k + a * w * f) = λ a d k w f. omega arith in
     omega (arith, all, low voters scale given unit overlap h, top voters unit kept worth h)
 
-module _ (weights : List ℕ) (scale unit m : ℕ) (set free : List ℕ) (left : ℕ) (committee : List ℕ) (open' : IsOpen m set free) (whole : IsCompletion m set free left committee) where
+module _ (weights : List ℕ) (scale unit m : ℕ) (set free : List ℕ) (left : ℕ) (committee : List ℕ) (is_node : IsNode m set free) (whole : IsCompletion m set free left committee) where
   -- who joins
   abbrev pub joined : List ℕ
   joined = common_members free committee
 
   -- how many of those who join a ballot has
-  pub hits-joined : (ballot : List ℕ) → hits ballot committee ≡ hits ballot set + hits ballot (added m set free left committee open' whole)
+  pub hits-joined : (ballot : List ℕ) → hits ballot committee ≡ hits ballot set + hits ballot (added m set free left committee is_node whole)
   hits-joined ballot =
-      let more = added m set free left committee open' whole in
+      let more = added m set free left committee is_node whole in
       omega (
         arith,
-        hits-same ballot committee (set ++ more) (completion-members m set free left committee open' whole),
-        hits-append ballot set more (λ n h. open'.apart n (added-free m set free left committee open' whole n h)),
+        hits-same ballot committee (set ++ more) (completion-members m set free left committee is_node whole),
+        hits-append ballot set more (λ n h. is_node.apart n (added-free m set free left committee is_node whole n h)),
       )
 
   -- as many as candidates of the set of those who join
   pub hits-sum : (ballot : List ℕ) → IsIncreasing 1 m ballot
-      → hits ballot (added m set free left committee open' whole) ≡ sum_by (λ n. cond (has_member ballot n) 1 0) joined
-  hits-sum ballot up = hits-turned m ballot (added m set free left committee open' whole) up (added-increasing m set free left committee open' whole)
+      → hits ballot (added m set free left committee is_node whole) ≡ sum_by (λ n. cond (has_member ballot n) 1 0) joined
+  hits-sum ballot up = hits-turned m ballot (added m set free left committee is_node whole) up (added-increasing m set free left committee is_node whole)
 
   -- no ballot has more hits among them than places are left, or than free candidates
-  pub hits-few : (ballot : List ℕ) → IsIncreasing 1 m ballot → hits ballot (added m set free left committee open' whole) ≤ min left (hits ballot free)
+  pub hits-few : (ballot : List ℕ) → IsIncreasing 1 m ballot → hits ballot (added m set free left committee is_node whole) ≤ min left (hits ballot free)
   hits-few ballot up =
-      let more = added m set free left committee open' whole in
+      let more = added m set free left committee is_node whole in
       let ones : (xs : List ℕ) → sum_by (λ n. cond (has_member ballot n) 1 0) xs ≤ length xs = λ xs. count_by-le-length (has_member ballot) xs in
-      let below : hits ballot more ≤ hits ballot free = hits-more ballot more free (λ n is. added-free m set free left committee open' whole n is) in
-      omega (arith, hits-sum ballot up, ones more, added-size m set free left committee open' whole, below)
+      let below : hits ballot more ≤ hits ballot free = hits-more ballot more free (λ n is. added-free m set free left committee is_node whole n is) in
+      omega (arith, hits-sum ballot up, ones more, added-size m set free left committee is_node whole, below)
 
   -- the bound, with a row more
   module _ (rows : List Row) (row : Row) (up : IsIncreasing 1 m row.0) (kept worth overlap all : ℕ) (f g : ℕ → ℕ) (p q : ℕ → ℕ → ℕ)
@@ -288,8 +288,8 @@ module _ (weights : List ℕ) (scale unit m : ℕ) (set free : List ℕ) (left :
       (overlaps : (i j : ℕ) → has_member free i ≡ true → has_member free j ≡ true → q i j ≡ p i j + cond (has_member row.0 i) (cond (has_member row.0 j) (row.1 * overlap) 0) 0) where
     pub row-bound : scale * (row.1 * sum (take (hits row.0 committee) weights) + thiele_value weights rows committee) + unit * pair_sum q joined ≤ unit * (all + row.1 * kept + sum_by g joined)
     row-bound =
-        let more = added m set free left committee open' whole in
-        let free-is : (n : ℕ) → has_member joined n ≡ true → has_member free n ≡ true = added-free m set free left committee open' whole in
+        let more = added m set free left committee is_node whole in
+        let free-is : (n : ℕ) → has_member joined n ≡ true → has_member free n ≡ true = added-free m set free left committee is_node whole in
         let h = hits row.0 more in
         let count : h ≡ sum_by (λ n. cond (has_member row.0 n) 1 0) joined = hits-sum row.0 up in
         let given = sum (take (hits row.0 set + h) weights) in

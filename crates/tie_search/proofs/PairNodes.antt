@@ -9,7 +9,7 @@ use Rattle.ballot_base.specs.Lists.{IsIncreasing}
 use Rattle.ballot_base.specs.Ballots.{Row}
 use Rattle.ballot_base.proofs.Increasing.{has_member-filter}
 use Rattle.tie_walk.specs.Values.{thiele_value}
-use Rattle.tie_search.specs.Completions.{IsOpen, IsCompletion, IsOutOfReach}
+use Rattle.tie_search.specs.Completions.{IsNode, IsCompletion, IsOutOfReach}
 use Rattle.tie_search.specs.Pairs.{pair_sum, row_sum}
 use Rattle.tie_search.specs.Steps.Near.{IsNarrowed}
 use Rattle.tie_search.specs.Steps.Paired.{AreTotals, IsRowSum, overlap_at}
@@ -31,7 +31,7 @@ units-low scale unit least needed all overlaps some units bound = elim (cases_lt
       omega (arith, few, low)
 ]
 
-module _ (weights : List ℕ) (scale unit m : ℕ) (rows : List Row) (set free : List ℕ) (left kept : ℕ) (worths table : List ℕ) (open' : IsOpen m set free) (size : m ≤ most_candidates) (two : 2 ≤ left) (some : 1 ≤ unit)
+module _ (weights : List ℕ) (scale unit m : ℕ) (rows : List Row) (set free : List ℕ) (left kept : ℕ) (worths table : List ℕ) (is_node : IsNode m set free) (size : m ≤ most_candidates) (two : 2 ≤ left) (some : 1 ≤ unit)
     (totals : AreTotals weights scale unit m rows set free left kept worths table) (least needed raise : ℕ) (units : (value : ℕ) → scale * least ≤ unit * value → needed ≤ value)
     (enough : (i j : ℕ) → i ≤ most_candidates → j ≤ most_candidates → 2 * (left - 1) * overlap_at table i j ≤ raise) (sums : List ℕ)
     (sums_are : (i : ℕ) → has_member free i ≡ true → IsRowSum worths table free left raise i (get_or sums i 0)) (t greatest due : ℕ)
@@ -57,7 +57,7 @@ module _ (weights : List ℕ) (scale unit m : ℕ) (rows : List Row) (set free :
     beside-free i j here there =
         omega (
           arith,
-          enough i j (omega (arith, size, member-high 1 m free i open'.free_within here)) (omega (arith, size, member-high 1 m free j open'.free_within there)),
+          enough i j (omega (arith, size, member-high 1 m free i is_node.free_within here)) (omega (arith, size, member-high 1 m free j is_node.free_within there)),
         )
 
     sums-high : (n : ℕ) → has_member free n ≡ true → (s : ℕ) × (row_sum (slice_index worths) (overlap_at table) free left raise s n ≤ get_or sums n 0)
@@ -69,8 +69,8 @@ module _ (weights : List ℕ) (scale unit m : ℕ) (rows : List Row) (set free :
         omega (
           arith,
           reach-low,
-          rows-bound (slice_index worths) (overlap_at table) m free more left raise two open'.free_within (added-increasing m set free left committee open' whole) (added-size m set free left committee open' whole)
-              (λ n is. added-free m set free left committee open' whole n is) beside-free (λ n. get_or sums n 0) t sums-high,
+          rows-bound (slice_index worths) (overlap_at table) m free more left raise two is_node.free_within (added-increasing m set free left committee is_node whole) (added-size m set free left committee is_node whole)
+              (λ n is. added-free m set free left committee is_node whole n is) beside-free (λ n. get_or sums n 0) t sums-high,
           greatest_is,
           due_low,
         )
@@ -82,8 +82,8 @@ module _ (weights : List ℕ) (scale unit m : ℕ) (rows : List Row) (set free :
         omega (
           arith,
           reach-low,
-          rows-bound_member (slice_index worths) (overlap_at table) m free more left raise two open'.free_within (added-increasing m set free left committee open' whole) (added-size m set free left committee open' whole)
-              (λ n is. added-free m set free left committee open' whole n is) beside-free (λ n. get_or sums n 0) t sums-high n here,
+          rows-bound_member (slice_index worths) (overlap_at table) m free more left raise two is_node.free_within (added-increasing m set free left committee is_node whole) (added-size m set free left committee is_node whole)
+              (λ n is. added-free m set free left committee is_node whole n is) beside-free (λ n. get_or sums n 0) t sums-high n here,
           greatest_is,
           due_low,
         )
@@ -99,5 +99,5 @@ module _ (weights : List ℕ) (scale unit m : ℕ) (rows : List Row) (set free :
   pub pairs-narrowed : due ≤ greatest → (stay : List ℕ) → ((x : ℕ) → IsIncreasing 1 x free → IsIncreasing 1 x stay) → ((n : ℕ) → has_member stay n ≡ true → has_member free n ≡ true)
       → ((n : ℕ) → has_member free n ≡ true → t - (greatest - due) ≤ get_or sums n 0 → has_member stay n ≡ true) → IsNarrowed (thiele_value weights rows) m set free left least stay
   pairs-narrowed high stay rises among stays =
-      narrowed-by (thiele_value weights rows) m set free left least stay open' rises among
+      narrowed-by (thiele_value weights rows) m set free left least stay is_node rises among
       (λ committee whole reaches n in_ open_. stays n open_ (omega (arith, member-high_sum committee whole reaches n in_ open_, high)))

@@ -11,7 +11,7 @@ use Rattle.ballot_base.specs.Ballots.{Row, Election, IsElection, hits, voter_cou
 use Rattle.ballot_base.proofs.Committees.{length-increasing}
 use Rattle.tie_walk.proofs.Distances.{ballot-found}
 use Rattle.tie_walk.specs.Values.{thiele_value}
-use Rattle.tie_search.specs.Completions.{IsOpen}
+use Rattle.tie_search.specs.Completions.{IsNode}
 use Rattle.tie_search.specs.Pairs.{IsMajorant}
 use Rattle.tie_search.specs.Steps.Paired.{AreNothing, AreSums, AreTotals, overlap_at}
 use Rattle.tie_search.proofs.NeedLemmas.{hits-append}
@@ -22,11 +22,11 @@ use Rattle.tie_search.proofs.WeightLemmas.{free-common}
 -- ---- one row
 
 -- a ballot has no more hits in both sets than it has candidates
-pub hits-both : (m : ℕ) (ballot set free : List ℕ) → IsIncreasing 1 m ballot → m ≤ most_candidates → IsOpen m set free → hits ballot set + hits ballot free ≤ most_candidates
-hits-both m ballot set free up most open' =
+pub hits-both : (m : ℕ) (ballot set free : List ℕ) → IsIncreasing 1 m ballot → m ≤ most_candidates → IsNode m set free → hits ballot set + hits ballot free ≤ most_candidates
+hits-both m ballot set free up most is_node =
     omega (
       arith,
-      hits-append ballot set free open'.apart,
+      hits-append ballot set free is_node.apart,
       count_by-le-length (has_member (set ++ free)) ballot,
       length-increasing 1 m ballot up,
       most,
@@ -88,21 +88,21 @@ module _ (e : Election) (valid : IsElection e) (i : ℕ) (row : Row) (found : sl
   voters-room = omega (arith, voters-more, sum_by-take-le (λ (r : Row). r.1) e.rows (i + 1), valid.voters)
 
   -- a row more
-  pub totals-more : (weights sums : List ℕ) (scale unit : ℕ) (set free : List ℕ) (left before most kept worth overlap all : ℕ) (worths more_worths table more_table : List ℕ) → IsOpen e.m set free
+  pub totals-more : (weights sums : List ℕ) (scale unit : ℕ) (set free : List ℕ) (left before most kept worth overlap all : ℕ) (worths more_worths table more_table : List ℕ) → IsNode e.m set free
       → AreSums weights scale unit sums → before ≡ hits row.0 set → most ≡ min left (hits row.0 free)
       → ((h : ℕ) → h ≤ most → get_or sums (before + h) 0 + overlap * (h * h) ≤ kept + worth * h)
       → AreTotals weights scale unit e.m (take i e.rows) set free left all worths table
       → ((n : ℕ) → has_member free n ≡ true → get_or more_worths n 0 ≡ get_or worths n 0 + cond (has_member row.0 n) (row.1 * worth) 0)
       → ((a b : ℕ) → has_member free a ≡ true → has_member free b ≡ true → overlap_at more_table a b ≡ overlap_at table a b + portion (has_member row.0 a) (has_member row.0 b) (row.1 * overlap))
       → AreTotals weights scale unit e.m (take (i + 1) e.rows) set free left (all + row.1 * kept) more_worths more_table
-  totals-more weights sums scale unit set free left before most kept worth overlap all worths more_worths table more_table open' are before-is most-is bounds so_far worths-are table-are committee whole =
+  totals-more weights sums scale unit set free left before most kept worth overlap all worths more_worths table more_table is_node are before-is most-is bounds so_far worths-are table-are committee whole =
       let here : get_or e.rows i row ≡ row = get_or_from_slice_get e.rows i row row found in
       let within : i < length e.rows = slice_get_within e.rows i row found in
       let value : thiele_value weights (take (i + 1) e.rows) committee ≡ thiele_value weights (take i e.rows) committee + row.1 * sum (take (hits row.0 committee) weights) =
       rw here at (sum_by_more (λ (r : Row). r.1 * sum (take (hits r.0 committee) weights)) e.rows i row within) in
-      let fits : before + most ≤ most_candidates = omega (arith, before-is, most-is, hits-both e.m row.0 set free row-up valid.most open') in
+      let fits : before + most ≤ most_candidates = omega (arith, before-is, most-is, hits-both e.m row.0 set free row-up valid.most is_node) in
       let majorant : IsMajorant weights scale unit (hits row.0 set) (min left (hits row.0 free)) kept worth overlap =
       rw most-is at (rw before-is at (majorant-is weights sums scale unit before most kept worth overlap are fits bounds)) in
-      let one = row-bound weights scale unit e.m set free left committee open' whole (take i e.rows) row row-up kept worth overlap all (slice_index worths) (slice_index more_worths) (overlap_at table) (overlap_at more_table)
+      let one = row-bound weights scale unit e.m set free left committee is_node whole (take i e.rows) row row-up kept worth overlap all (slice_index worths) (slice_index more_worths) (overlap_at table) (overlap_at more_table)
       majorant (so_far committee whole) worths-are table-are in
       omega (arith, one, ap (λ n. scale * n) value)

@@ -10,7 +10,7 @@ use Rattle.ballot_base.specs.CandSet.{has_member}
 use Rattle.ballot_base.specs.Ballots.{Row, hits}
 use Rattle.ballot_base.proofs.Increasing.{IsIncreasing-filter, has_member-filter, same_increasing}
 use Rattle.tie_walk.specs.Values.{thiele_value}
-use Rattle.tie_search.specs.Completions.{IsOpen, IsCompletion}
+use Rattle.tie_search.specs.Completions.{IsNode, IsCompletion}
 use Rattle.tie_search.specs.Prices.{Priced, priced_rows, kept, base, price}
 use Rattle.tie_search.proofs.CompletionLemmas.{added, added-size, completion-inside, completion-outside}
 use Rattle.tie_search.proofs.SearchLemmas.{sum-threshold, sum-part}
@@ -111,20 +111,20 @@ price-bounds w scale m (p ∷ priced) committee all up =
 
 -- prices bound the committees that complete a set, by any threshold
 pub priced-node : (w : List ℕ) (scale m : ℕ) (priced : List Priced) (set free : List ℕ) (left t : ℕ) (committee : List ℕ) → AllByRecursion (λ row. IsIncreasing 1 m row.0) (priced_rows priced)
-    → IsOpen m set free → IsCompletion m set free left committee
+    → IsNode m set free → IsCompletion m set free left committee
     → scale * thiele_value w (priced_rows priced) committee ≤ base w scale priced + sum_by (price priced) set + left * t + sum_by (λ n. price priced n - t) free
-priced-node w scale m priced set free left t committee all open' whole =
+priced-node w scale m priced set free left t committee all is_node whole =
     let f = price priced in
-    let more = added m set free left committee open' whole in
+    let more = added m set free left committee is_node whole in
     let both : sum_by f (filter (has_member set) committee) + sum_by f (filter (λ x. not (has_member set x)) committee) ≡ sum_by f committee =
     sum_by-filter_both (has_member set) (λ x. not (has_member set x)) (λ x. refl) f committee in
-    let size : length more * t ≡ left * t = ap (λ n. n * t) (added-size m set free left committee open' whole) in
+    let size : length more * t ≡ left * t = ap (λ n. n * t) (added-size m set free left committee is_node whole) in
     omega (
       arith,
       price-bounds w scale m priced committee all whole.candidates,
       both,
-      ap (sum_by f) (completion-inside m set free left committee open' whole),
-      ap (sum_by f) (completion-outside m set free left committee open' whole),
+      ap (sum_by f) (completion-inside m set free left committee is_node whole),
+      ap (sum_by f) (completion-outside m set free left committee is_node whole),
       sum-threshold f f t more (λ n h. omega arith),
       size,
       sum-part (λ n. f n - t) (has_member committee) free,

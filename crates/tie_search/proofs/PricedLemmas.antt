@@ -17,7 +17,7 @@ use Rattle.ballot_base.proofs.Increasing.{has_member_head}
 use Rattle.tie_walk.proofs.TableLemmas.{sum-take_more}
 use Rattle.tie_walk.specs.Values.{Thiele, thiele_value}
 use Rattle.tie_search.specs.Prices.{AreRounded, Priced, priced_rows, kept, base, price}
-use Rattle.tie_search.specs.Completions.{IsOpen, IsCompletion}
+use Rattle.tie_search.specs.Completions.{IsNode, IsCompletion}
 use Rattle.tie_search.specs.Steps.Priced.{ArePrices, scale, priced_by}
 use Rattle.tie_search.proofs.ColumnLemmas.{voters-part}
 use Rattle.tie_search.proofs.CompletionLemmas.{member-high}
@@ -186,9 +186,9 @@ ceil-low n unit v some low = elim (cases_lt v (div_ceil n unit)) [
 -- ---- what prices say of a set
 
 pub prices-bound : (tally : Thiele) (unit all_keep : ℕ) (worths set free : List ℕ) (left t : ℕ) (committee : List ℕ) (are : ArePrices tally unit all_keep worths) → IsElection tally.election
-    → IsOpen tally.election.m set free → IsCompletion tally.election.m set free left committee
+    → IsNode tally.election.m set free → IsCompletion tally.election.m set free left committee
     → scale * thiele_value are.weights tally.election.rows committee ≤ all_keep + sum_by (λ n. get_or worths n 0 - 0) set + left * t + sum_by (λ n. get_or worths n 0 - t) free
-prices-bound tally unit all_keep worths set free left t committee are valid open' whole =
+prices-bound tally unit all_keep worths set free left t committee are valid is_node whole =
     let rows = tally.election.rows in
     let m = tally.election.m in
     let priced = priced_by are.multiplier rows in
@@ -197,15 +197,15 @@ prices-bound tally unit all_keep worths set free left t committee are valid open
     let rises : AllByRecursion {X = Row} (λ row. IsIncreasing 1 m row.0) (priced_rows priced) = subst (AllByRecursion {X = Row} (λ row. IsIncreasing 1 m row.0)) (sym same) valid.ballots in
     let node : scale * thiele_value w rows committee ≤ base w scale priced + sum_by (price priced) set + left * t + sum_by (λ n. price priced n - t) free =
     subst (λ (l : List Row). scale * thiele_value w l committee ≤ base w scale priced + sum_by (price priced) set + left * t + sum_by (λ n. price priced n - t) free)
-    same (priced-node w scale m priced set free left t committee rises open' whole) in
+    same (priced-node w scale m priced set free left t committee rises is_node whole) in
     let worth : (xs : List ℕ) → IsIncreasing 1 m xs → (n : ℕ) → has_member xs n ≡ true → get_or worths n 0 ≡ price priced n =
     λ xs up n here. are.prices n (let high : n ≤ m = member-high 1 m xs n up here in omega (arith, high, valid.most)) in
     omega (
       arith,
       node,
       are.keep,
-      sum-less (price priced) (λ n. get_or worths n 0 - 0) set (λ n here. omega (arith, worth set open'.set_within n here)),
-      sum-less (λ n. price priced n - t) (λ n. get_or worths n 0 - t) free (λ n here. omega (arith, worth free open'.free_within n here)),
+      sum-less (price priced) (λ n. get_or worths n 0 - 0) set (λ n here. omega (arith, worth set is_node.set_within n here)),
+      sum-less (λ n. price priced n - t) (λ n. get_or worths n 0 - t) free (λ n here. omega (arith, worth free is_node.free_within n here)),
     )
 
 -- before the first row

@@ -12,7 +12,8 @@ use Rattle.ballot_base.proofs.Increasing.{IsIncreasing-filter, IsIncreasing-high
 use Rattle.tie_walk.specs.Ceilings.{IsAdded, IsBound, IsExactAtBest}
 use Rattle.tie_walk.specs.Winners.{best_value}
 use Rattle.tie_walk.proofs.LawLemmas.{IsIncreasing-range, no_greater_value, some_winner, winner-is}
-use Rattle.tie_search.specs.Completions.{IsOpen, IsCompletion, IsOutOfReach, is_reached, exact_bound}
+use Rattle.tie_walk.proofs.StepLemmas.{has_member-range}
+use Rattle.tie_search.specs.Completions.{IsNode, IsCompletion, IsOutOfReach, is_reached, exact_bound}
 use Rattle.tie_search.specs.Steps.Witness.{IsSetAndLater}
 use Rattle.tie_search.proofs.CompletionLemmas.{added, added-size, completion-members, member-low, member-high}
 
@@ -44,10 +45,17 @@ increasing-append first middle last [] ys low high up after = IsIncreasing-lower
 increasing-append first middle last (x ∷ xs) ys low high up after =
     (up.0, omega (arith, up.1), increasing-append (x + 1) middle last xs ys (omega (arith, up.1)) high up.2 after)
 
+-- all candidates after c come after it, and each is among them
+pub after-within : (c m : ℕ) (set : List ℕ) → c ≤ m → set ≡ range_with_len (c + 1) (m - c) → IsIncreasing (c + 1) m set
+after-within c m set within is = rw is (IsIncreasing-range (c + 1) (m - c) m (omega (arith, within)))
+
+pub after-all : (c m : ℕ) (set : List ℕ) → set ≡ range_with_len (c + 1) (m - c) → (n : ℕ) → c < n → n ≤ m → has_member set n ≡ true
+after-all c m set is n low high = rw is (has_member-range (c + 1) (m - c) n (omega (arith, low)) (omega (arith, low, high)))
+
 module _ (value : List ℕ → ℕ) (m c : ℕ) (set free : List ℕ) (left : ℕ) (within : c ≤ m) (up : IsIncreasing 1 c set)
     (after : IsIncreasing (c + 1) m free) (all : (n : ℕ) → c < n → n ≤ m → has_member free n ≡ true) where
-  pub open-after : IsOpen m set free
-  open-after = record {
+  pub node-after : IsNode m set free
+  node-after = record {
     set_within = IsIncreasing-higher 1 c m set within up;
     free_within = IsIncreasing-lower 1 (c + 1) m free (omega arith) after;
     apart = λ n here. has_member-above 1 c set n up (let low : c + 1 ≤ n = member-low (c + 1) m free n after here in omega arith);
@@ -70,13 +78,13 @@ module _ (value : List ℕ → ℕ) (m c : ℕ) (set free : List ℕ) (left : �
   -- a committee that was found is the set and some of those after c
   pub joined-completion : (committee : List ℕ) → IsCompletion m set free left committee → IsSetAndLater m c set left committee
   joined-completion committee whole =
-      let more = added m set free left committee open-after whole in
+      let more = added m set free left committee node-after whole in
       let rises : IsIncreasing (c + 1) m more = IsIncreasing-filter (has_member committee) (c + 1) m free after in (
         more,
         (
-          (rises, added-size m set free left committee open-after whole),
+          (rises, added-size m set free left committee node-after whole),
           same_increasing 1 m committee (set ++ more) whole.candidates (increasing-append 1 c m set more (omega arith) within up rises)
-              (completion-members m set free left committee open-after whole),
+              (completion-members m set free left committee node-after whole),
         ),
       )
 

@@ -16,7 +16,7 @@ use Rattle.tie_walk.specs.Values.{Thiele}
 use Rattle.tie_walk.proofs.Gains.{thiele-gain, thiele-most}
 use Rattle.tie_walk.proofs.TableLemmas.{increments_sum-most, sum-take-le}
 use Rattle.tie_walk.proofs.Submodular.{gains-bound, thiele_rule-submodular}
-use Rattle.tie_search.specs.Completions.{IsOpen, IsCompletion, IsReaching, IsOutOfReach, tally_value}
+use Rattle.tie_search.specs.Completions.{IsNode, IsCompletion, IsReaching, IsOutOfReach, tally_value}
 use Rattle.tie_search.proofs.CompletionLemmas.{added, added-free, added-size, completion-few, completion-members, completion-self, completion-with, completion-without, completion-back, thiele-same}
 
 -- ---- sums
@@ -82,41 +82,41 @@ module _ (value : List ℕ → ℕ) (falls : IsSubmodular value) (same : (xs ys 
       swap false false = refl
 
   -- any threshold bounds each completion
-  pub node-bounds : (m : ℕ) (set free : List ℕ) (left t : ℕ) (g : ℕ → ℕ) (committee : List ℕ) → IsOpen m set free → IsCompletion m set free left committee
+  pub node-bounds : (m : ℕ) (set free : List ℕ) (left t : ℕ) (g : ℕ → ℕ) (committee : List ℕ) → IsNode m set free → IsCompletion m set free left committee
       → ((n : ℕ) → has_member free n ≡ true → gain_at value set n ≤ g n)
       → value committee ≤ value set + left * t + sum_by (λ n. g n - t) free
-  node-bounds m set free left t g committee open' whole gains =
-      let more = added m set free left committee open' whole in
-      let is : value committee ≡ value (set ++ more) = same committee (set ++ more) (completion-members m set free left committee open' whole) in
+  node-bounds m set free left t g committee is_node whole gains =
+      let more = added m set free left committee is_node whole in
+      let is : value committee ≡ value (set ++ more) = same committee (set ++ more) (completion-members m set free left committee is_node whole) in
       let none : set ++ [] ≡ set = append-none set in
       let step : value (set ++ more) ≤ value set + sum_by (λ n. value (set ++ n ∷ []) - value set) more = rw none at (gains-bound value falls set [] more) in
       let high : sum_by (λ n. value (set ++ n ∷ []) - value set) more ≤ length more * t + sum_by (λ n. g n - t) more =
       sum-threshold (λ n. value (set ++ n ∷ []) - value set) g t more
-      (λ n in_. omega (arith, push-same set n, gains n (added-free m set free left committee open' whole n in_))) in
-      let size : length more * t ≡ left * t = ap (λ n. n * t) (added-size m set free left committee open' whole) in
+      (λ n in_. omega (arith, push-same set n, gains n (added-free m set free left committee is_node whole n in_))) in
+      let size : length more * t ≡ left * t = ap (λ n. n * t) (added-size m set free left committee is_node whole) in
       omega (arith, is, step, high, size, sum-part (λ n. g n - t) (has_member committee) free)
 
 -- ---- a node under a Thiele rule
 
 module _ (tally : Thiele) (set free : List ℕ) (left least : ℕ) where
   -- no completion reaches the value where too few are free, or the bound is too low
-  pub node-none : IsElection tally.election → tally.k ≤ most_members → IsOpen tally.election.m set free
+  pub node-none : IsElection tally.election → tally.k ≤ most_members → IsNode tally.election.m set free
       → (t : ℕ) (gains : List ℕ) → ((n : ℕ) → has_member free n ≡ true → get_or gains n 0 ≡ gain (increments tally.rule tally.k) tally.election.rows set n)
       → ((left ≤ length free) × (least ≤ tally_value tally set + left * t + sum_by (λ n. get_or gains n 0 - t) free) → ⊥)
       → IsOutOfReach (tally_value tally) tally.election.m set free left least
-  node-none valid size open' t gains are low committee whole =
+  node-none valid size is_node t gains are low committee whole =
       elim (cases_lt (tally_value tally committee) least) [
         | inl under ↦ under
-        | inr reaches ↦ absurd (low (completion-few tally.election.m set free left committee open' whole, omega (arith, reaches, bound)))
+        | inr reaches ↦ absurd (low (completion-few tally.election.m set free left committee is_node whole, omega (arith, reaches, bound)))
       ]
     where
       bound : tally_value tally committee ≤ tally_value tally set + left * t + sum_by (λ n. get_or gains n 0 - t) free
       bound = node-bounds (tally_value tally) (thiele_rule-submodular tally.rule tally.k tally.election.rows size)
-          (thiele-same (increments tally.rule tally.k) tally.election.rows) tally.election.m set free left t (λ n. get_or gains n 0) committee open' whole
+          (thiele-same (increments tally.rule tally.k) tally.election.rows) tally.election.m set free left t (λ n. get_or gains n 0) committee is_node whole
           (λ n in_. omega (
             arith,
             are n in_,
-            thiele-gain tally.election.m (increments tally.rule tally.k) tally.election.rows set n valid.ballots (open'.apart n in_),
+            thiele-gain tally.election.m (increments tally.rule tally.k) tally.election.rows set n valid.ballots (is_node.apart n in_),
           ))
 
 module _ (value : List ℕ → ℕ) (m : ℕ) (set : List ℕ) (left least : ℕ) where
@@ -131,29 +131,29 @@ module _ (value : List ℕ → ℕ) (m : ℕ) (set : List ℕ) (left least : ℕ
   ]
 
   -- a candidate was tried and is struck out
-  pub struck-out : (free rest : List ℕ) (n : ℕ) → 1 ≤ left → IsOpen m set rest → has_member rest n ≡ true → AreLeft free rest
+  pub struck-out : (free rest : List ℕ) (n : ℕ) → 1 ≤ left → IsNode m set rest → has_member rest n ≡ true → AreLeft free rest
       → IsOutOfReach value m (with_member set n) (without_member rest n) (left - 1) least → AreLeft free (without_member rest n)
-  struck-out free rest n some open' here are none committee whole reaches =
+  struck-out free rest n some is_node here are none committee whole reaches =
       let now : IsCompletion m set rest left committee = are committee whole reaches in
       by (has_member committee n) refl now
     where
       by : (b : Bool) → has_member committee n ≡ b → IsCompletion m set rest left committee → IsCompletion m set (without_member rest n) left committee
-      by true in_ now = absurd (omega (arith, reaches, none committee (completion-with m set rest left n open' here committee some now in_)))
-      by false out now = completion-without m set rest left n open' here committee now out
+      by true in_ now = absurd (omega (arith, reaches, none committee (completion-with m set rest left n is_node here committee some now in_)))
+      by false out now = completion-without m set rest left n is_node here committee now out
 
   -- a committee that was found below
-  pub found-below : (free kept committee : List ℕ) (n : ℕ) → 1 ≤ left → IsOpen m set free → has_member free n ≡ true
+  pub found-below : (free kept committee : List ℕ) (n : ℕ) → 1 ≤ left → IsNode m set free → has_member free n ≡ true
       → ((x : ℕ) → has_member kept x ≡ true → has_member free x ≡ true)
       → IsReaching value m (with_member set n) kept (left - 1) least committee → IsReaching value m set free left least committee
-  found-below free kept committee n some open' here among below = record {
-    completes = completion-back m set free left n open' here kept committee some among below.completes;
+  found-below free kept committee n some is_node here among below = record {
+    completes = completion-back m set free left n is_node here kept committee some among below.completes;
     reaches = below.reaches;
   }
 
   -- where nothing is left to add, the set alone decides
-  pub set-reaches : (free : List ℕ) → left ≡ 0 → IsOpen m set free → least ≤ value set → IsReaching value m set free left least set
-  set-reaches free none open' reaches = record {
-    completes = let whole : IsCompletion m set free 0 set = completion-self m set free open' in rw none whole;
+  pub set-reaches : (free : List ℕ) → left ≡ 0 → IsNode m set free → least ≤ value set → IsReaching value m set free left least set
+  set-reaches free none is_node reaches = record {
+    completes = let whole : IsCompletion m set free 0 set = completion-self m set free is_node in rw none whole;
     reaches = reaches;
   }
 

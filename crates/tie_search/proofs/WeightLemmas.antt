@@ -11,7 +11,7 @@ use Rattle.ballot_base.specs.Ballots.{Row, Election, IsElection, hits, voter_cou
 use Rattle.ballot_base.proofs.Increasing.{has_member-filter, has_member_head, has_member_tail}
 use Rattle.tie_walk.specs.Sequences.{supporters}
 use Rattle.tie_walk.specs.Values.{closeness, greatest_distance}
-use Rattle.tie_search.specs.Completions.{IsOpen, IsCompletion, IsOutOfReach}
+use Rattle.tie_search.specs.Completions.{IsNode, IsCompletion, IsOutOfReach}
 use Rattle.tie_search.specs.Needs.{hits_needed, weighted_needs, weighted_support}
 use Rattle.tie_search.specs.Steps.Near.{AreWeighted, IsNarrowed, need_weight}
 use Rattle.tie_search.proofs.CompletionLemmas.{added, added-free, added-increasing, added-size, completion-members, hits-same}
@@ -193,27 +193,27 @@ sum-member f g t n (x ∷ xs) less here = elim (cases_eq x n) [
 -- ---- committees that are near
 
 module _ (weight : Row → ℕ) (m k most : ℕ) (rows : List Row) (set free : List ℕ) (left : ℕ) (committee : List ℕ) (ballots : AllByRecursion (λ (row : Row). IsIncreasing 1 m row.0) rows)
-    (open' : IsOpen m set free) (whole : IsCompletion m set free left committee) (size : length set + left ≡ k) (near : greatest_distance rows committee ≤ most) where
+    (is_node : IsNode m set free) (whole : IsCompletion m set free left committee) (size : length set + left ≡ k) (near : greatest_distance rows committee ≤ most) where
   -- the weights of those who join are no less than the needs
-  needs-joined : weighted_needs weight k most set rows ≤ sum_by (weighted_support weight rows) (added m set free left committee open' whole)
+  needs-joined : weighted_needs weight k most set rows ≤ sum_by (weighted_support weight rows) (added m set free left committee is_node whole)
   needs-joined =
-      let more = added m set free left committee open' whole in
+      let more = added m set free left committee is_node whole in
       omega (
         arith,
         needs-given weight k most set more rows (split rows ((needs-met m k most rows committee ballots whole.candidates (whole.size ∙ size)).0 near)),
-        weighted-hits weight m rows more ballots (added-increasing m set free left committee open' whole),
+        weighted-hits weight m rows more ballots (added-increasing m set free left committee is_node whole),
       )
     where
       split : (rows : List Row) → AllByRecursion (λ (row : Row). hits_needed (length row.0) k most ≤ hits row.0 committee) rows
-          → AllByRecursion (λ (row : Row). hits_needed (length row.0) k most ≤ hits row.0 set + hits row.0 (added m set free left committee open' whole)) rows
+          → AllByRecursion (λ (row : Row). hits_needed (length row.0) k most ≤ hits row.0 set + hits row.0 (added m set free left committee is_node whole)) rows
       split [] met = tt
       split (row ∷ rows) met =
-          let more = added m set free left committee open' whole in
-          let apart : (n : ℕ) → has_member more n ≡ true → has_member set n ≡ false = λ n h. open'.apart n (added-free m set free left committee open' whole n h) in (
+          let more = added m set free left committee is_node whole in
+          let apart : (n : ℕ) → has_member more n ≡ true → has_member set n ≡ false = λ n h. is_node.apart n (added-free m set free left committee is_node whole n h) in (
             omega (
               arith,
               met.0,
-              hits-same row.0 committee (set ++ more) (completion-members m set free left committee open' whole),
+              hits-same row.0 committee (set ++ more) (completion-members m set free left committee is_node whole),
               hits-append row.0 set more apart,
             ),
             split rows met.1,
@@ -222,12 +222,12 @@ module _ (weight : Row → ℕ) (m k most : ℕ) (rows : List Row) (set free : L
   pub needs-bound : (t : ℕ) (g : ℕ → ℕ) → ((n : ℕ) → has_member free n ≡ true → weighted_support weight rows n ≤ g n)
       → weighted_needs weight k most set rows ≤ left * t + sum_by (λ n. g n - t) free
   needs-bound t g less =
-      let more = added m set free left committee open' whole in
+      let more = added m set free left committee is_node whole in
       omega (
         arith,
         needs-joined,
-        sum-threshold (weighted_support weight rows) g t more (λ n is. less n (added-free m set free left committee open' whole n is)),
-        ap (λ n. n * t) (added-size m set free left committee open' whole),
+        sum-threshold (weighted_support weight rows) g t more (λ n is. less n (added-free m set free left committee is_node whole n is)),
+        ap (λ n. n * t) (added-size m set free left committee is_node whole),
         sum-part (λ n. g n - t) (has_member committee) free,
       )
 
@@ -235,13 +235,13 @@ module _ (weight : Row → ℕ) (m k most : ℕ) (rows : List Row) (set free : L
       → has_member free n ≡ true → has_member committee n ≡ true
       → weighted_needs weight k most set rows + (t - g n) ≤ left * t + sum_by (λ n. g n - t) free
   member-bound t g n less open_ in_ =
-      let more = added m set free left committee open' whole in
+      let more = added m set free left committee is_node whole in
       let here : has_member more n ≡ true = has_member-filter (has_member committee) free n ∙ ap (λ b. b && has_member free n) in_ ∙ open_ in
       omega (
         arith,
         needs-joined,
-        sum-member (weighted_support weight rows) g t n more (λ n is. less n (added-free m set free left committee open' whole n is)) here,
-        ap (λ n. n * t) (added-size m set free left committee open' whole),
+        sum-member (weighted_support weight rows) g t n more (λ n is. less n (added-free m set free left committee is_node whole n is)) here,
+        ap (λ n. n * t) (added-size m set free left committee is_node whole),
         sum-part (λ n. g n - t) (has_member committee) free,
       )
 
@@ -257,7 +257,7 @@ weighted-fewer rows k most set free rest total supports are among = record {
 }
 
 module _ (m most : ℕ) (rows : List Row) (set free : List ℕ) (left total : ℕ) (supports : List ℕ) (ballots : AllByRecursion (λ (row : Row). IsIncreasing 1 m row.0) rows)
-    (open' : IsOpen m set free) (are : AreWeighted rows (length set + left) most set free total supports) (t greatest : ℕ)
+    (is_node : IsNode m set free) (are : AreWeighted rows (length set + left) most set free total supports) (t greatest : ℕ)
     (greatest_is : greatest ≡ left * t + sum_by (λ n. get_or supports n 0 - t) free) where
   no-less : (n : ℕ) → has_member free n ≡ true → weighted_support are.weight rows n ≤ get_or supports n 0
   no-less n is = omega (arith, are.supports_are n is)
@@ -271,7 +271,7 @@ module _ (m most : ℕ) (rows : List Row) (set free : List ℕ) (left total : �
       low,
       greatest_is,
       are.total_is,
-      needs-bound are.weight m (length set + left) most rows set free left committee ballots open' whole refl
+      needs-bound are.weight m (length set + left) most rows set free left committee ballots is_node whole refl
           (value-near m rows most committee ballots whole.candidates reaches) t (λ n. get_or supports n 0) no-less,
     ))
   ]
@@ -280,12 +280,12 @@ module _ (m most : ℕ) (rows : List Row) (set free : List ℕ) (left total : �
   pub weighted-narrowed : total ≤ greatest → (kept : List ℕ) → ((x : ℕ) → IsIncreasing 1 x free → IsIncreasing 1 x kept) → ((n : ℕ) → has_member kept n ≡ true → has_member free n ≡ true)
       → ((n : ℕ) → has_member free n ≡ true → t - (greatest - total) ≤ get_or supports n 0 → has_member kept n ≡ true) → IsNarrowed (closeness m rows) m set free left (m - most) kept
   weighted-narrowed enough kept rises among stays =
-      narrowed-by (closeness m rows) m set free left (m - most) kept open' rises among still
+      narrowed-by (closeness m rows) m set free left (m - most) kept is_node rises among still
     where
       still : (committee : List ℕ) → IsCompletion m set free left committee → m - most ≤ closeness m rows committee → (n : ℕ) → has_member committee n ≡ true → has_member free n ≡ true
           → has_member kept n ≡ true
       still committee whole reaches n in_ open_ =
-          let joined = member-bound are.weight m (length set + left) most rows set free left committee ballots open' whole refl
+          let joined = member-bound are.weight m (length set + left) most rows set free left committee ballots is_node whole refl
           (value-near m rows most committee ballots whole.candidates reaches) t (λ x. get_or supports x 0) n no-less open_ in_ in
           let high : t - (greatest - total) ≤ get_or supports n 0 = omega (arith, joined, enough, greatest_is, are.total_is) in
           stays n open_ high

@@ -19,8 +19,8 @@ AreAlike value m classes = (committee : List ℕ) (c d : ℕ) → IsIncreasing 1
     → has_member (slice_index_or classes c []) d ≡ true → has_member committee d ≡ true → has_member committee c ≡ false
     → value (with_member (without_member committee d) c) ≡ value committee
 
--- a set of the candidates 1 to m, and others of them that are free to join it
-pub record IsOpen (m : ℕ) (set free : List ℕ) : Type 0 where
+-- a node of a search: a set of the candidates 1 to m, and others of them that are free to join it
+pub record IsNode (m : ℕ) (set free : List ℕ) : Type 0 where
   pub set_within : IsIncreasing 1 m set
   pub free_within : IsIncreasing 1 m free
   pub apart : (n : ℕ) → has_member free n ≡ true → has_member set n ≡ false

@@ -25,7 +25,7 @@ use crate::witness::{exchanged, is_exchange, listed_upto, with_last, witnessed_u
 use ballot_base::CandSet;
 use std::cell::Cell;
 use std::marker::Model;
-use tie_walk::{Prefix, Tally, those_after};
+use tie_walk::{Prefix, Tally};
 
 /// A tally that searches for what its bounds are. If a set and the number of candidates to add make a committee of k,
 /// the bound is the greatest value of all if some such committee has it, and less if none has: a walk over the winners
@@ -116,7 +116,7 @@ impl<S: Searchable> ExactTally<S> {
         if shown > c {
             return shown;
         }
-        let free = those_after(c, self.m);
+        let free = CandSet::after(c, self.m);
         match self.search.find(set, free, left, self.best) {
             Some(committee) => {
                 self.found.set(committee);
@@ -282,6 +282,6 @@ fn better_than<S: Searchable>(search: &S, committee: CandSet, k: u8, most: u128)
     if value >= most {
         return None;
     }
-    let all = those_after(0, search.m());
+    let all = CandSet::all(search.m());
     search.find(CandSet::empty(), all, k, value + 1)
 }

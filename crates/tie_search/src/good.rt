@@ -4,7 +4,7 @@
 //! greatest value is known before the long search has begun. This is common under Chamberlin-Courant, where hundreds of
 //! committees may tie: winners can then come one by one, and the first does not wait for a list of all.
 ghost use Rattle.std.specs.Prelude.{◌≡◌};
-ghost use Rattle.tie_search.specs.Completions.{IsOpen};
+ghost use Rattle.tie_search.specs.Completions.{IsNode};
 ghost use Rattle.tie_search.specs.Steps.Searched.{IsAided};
 
 use crate::near::QuickAnswer;
@@ -60,7 +60,7 @@ impl<A: Allocator + Copy> Search<'_, A> {
     fn short(&self, patience: &mut u8, node: Node) -> QuickAnswer
         requires ballots { self.now.profile.now ≡ self.now.tally.now.election }
         requires aids { IsAided self.now.tally.now self.now.aids.now }
-        requires opened { IsOpen self.now.tally.now.election.m node.set node.free }
+        requires is_node { IsNode self.now.tally.now.election.m node.set node.free }
     {
         let (set, left) = (node.set, node.left);
         if left == 0 && node.value >= self.least {

@@ -12,7 +12,7 @@ ghost use Rattle.tie_walk.specs.Winners.{best_value, winners};
 ghost use Rattle.tie_search.specs.Needs.{hits_needed, weighted_needs, weighted_support};
 ghost use Rattle.tie_search.specs.Pairs.{IsMajorant, all_kept, all_overlap, all_worth, pair_sum, row_sum};
 ghost use Rattle.tie_search.specs.Prices.{AreRounded, Priced, priced_rows, base, price};
-ghost use Rattle.tie_search.specs.Completions.{IsOpen, IsCompletion, IsWinnerFrom, exact_bound};
+ghost use Rattle.tie_search.specs.Completions.{IsNode, IsCompletion, IsWinnerFrom, exact_bound};
 
 use ballot_base::ThieleRule;
 
@@ -41,12 +41,12 @@ pub fn needs()
 /// is lower by what the support of n is below the threshold.
 pub fn weighted_needs()
     ensures completions { (weight : Row → ℕ) (m k most : ℕ) (rows : List Row) (set free : List ℕ) (left threshold : ℕ)
-        (committee : List ℕ) → AllByRecursion (λ row. IsIncreasing 1 m row.0) rows → IsOpen m set free
+        (committee : List ℕ) → AllByRecursion (λ row. IsIncreasing 1 m row.0) rows → IsNode m set free
         → IsCompletion m set free left committee → length set + left ≡ k → greatest_distance rows committee ≤ most
         → weighted_needs weight k most set rows
         ≤ left * threshold + sum_by (λ n. weighted_support weight rows n - threshold) free }
     ensures members { (weight : Row → ℕ) (m k most : ℕ) (rows : List Row) (set free : List ℕ) (left threshold : ℕ)
-        (committee : List ℕ) (n : ℕ) → AllByRecursion (λ row. IsIncreasing 1 m row.0) rows → IsOpen m set free
+        (committee : List ℕ) (n : ℕ) → AllByRecursion (λ row. IsIncreasing 1 m row.0) rows → IsNode m set free
         → IsCompletion m set free left committee → length set + left ≡ k → greatest_distance rows committee ≤ most
         → has_member free n ≡ true → has_member committee n ≡ true
         → weighted_needs weight k most set rows + (threshold - weighted_support weight rows n)
@@ -59,7 +59,7 @@ pub fn weighted_needs()
 pub fn pairs()
     ensures { (weights : List ℕ) (scale unit m : ℕ) (kept worth overlap : Row → ℕ) (rows : List Row)
         (set free : List ℕ) (left : ℕ) (committee : List ℕ) → AllByRecursion (λ row. IsIncreasing 1 m row.0) rows
-        → IsOpen m set free → IsCompletion m set free left committee
+        → IsNode m set free → IsCompletion m set free left committee
         → AllByRecursion (λ row. IsMajorant weights scale unit (hits row.0 set) (min left (hits row.0 free))
         (kept row) (worth row) (overlap row)) rows
         → scale * thiele_value weights rows committee
@@ -113,7 +113,7 @@ pub fn live_prefixes()
 /// most, which is at most the threshold and what the gain exceeds it by.
 pub fn thresholds()
     ensures { (rule : ThieleRule) (k : ℕ) (rows : List Row) (m : ℕ) (set free : List ℕ) (left threshold : ℕ)
-        (committee : List ℕ) → k ≤ most_members → IsOpen m set free → IsCompletion m set free left committee
+        (committee : List ℕ) → k ≤ most_members → IsNode m set free → IsCompletion m set free left committee
         → thiele_value (increments rule k) rows committee ≤ thiele_value (increments rule k) rows set
         + left * threshold
         + sum_by (λ n. gain_at (thiele_value (increments rule k) rows) set n - threshold) free }
@@ -129,7 +129,7 @@ pub fn prices()
         ≤ base weights scale priced + sum_by (price priced) committee }
     ensures completions { (weights : List ℕ) (scale m : ℕ) (priced : List Priced) (set free : List ℕ)
         (left threshold : ℕ) (committee : List ℕ) → AllByRecursion (λ row. IsIncreasing 1 m row.0) (priced_rows priced)
-        → IsOpen m set free → IsCompletion m set free left committee
+        → IsNode m set free → IsCompletion m set free left committee
         → scale * thiele_value weights (priced_rows priced) committee
         ≤ base weights scale priced + sum_by (price priced) set + left * threshold
         + sum_by (λ n. price priced n - threshold) free }

@@ -17,7 +17,7 @@ use crate::search::excess;
 use crate::weights::{RoundedWeights, Weights};
 use ballot_base::{CandSet, MOST_MEMBERS, PLACES, Profile};
 use std::alloc::{AllocError, Allocator};
-use tie_walk::{Tally, ThieleTally, those_after};
+use tie_walk::{Tally, ThieleTally};
 
 /// For how many rows multipliers are chosen at most.
 const MOST_ROWS: usize = 8192;
@@ -187,7 +187,7 @@ fn dearest(worths: &[u128; PLACES], m: u8, count: u8) -> CandSet
     requires { m ≤ most_candidates }
     ensures { IsIncreasing 1 m result }
 {
-    let mut rest = those_after(0, m);
+    let mut rest = CandSet::all(m);
     let order = Order::by_worth(rest, worths);
     let mut dearest = CandSet::empty();
     for _passed in 0..count {

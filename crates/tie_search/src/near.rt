@@ -18,7 +18,7 @@ ghost use Rattle.ballot_base.specs.Clones.{AreClones};
 ghost use Rattle.ballot_base.specs.CandSet.{has_member};
 ghost use Rattle.ballot_base.specs.Limits.{most_candidates};
 ghost use Rattle.tie_walk.specs.Values.{closeness};
-ghost use Rattle.tie_search.specs.Completions.{IsOpen, IsOutOfReach};
+ghost use Rattle.tie_search.specs.Completions.{IsNode, IsOutOfReach};
 ghost use Rattle.tie_search.specs.Steps.Near.{AreBranches, AreWeighted, IsNarrowed, IsNearAnswer, IsQuickAnswer, need_weight, share_parts};
 
 use crate::needs::still_needed;
@@ -89,7 +89,7 @@ impl<A: Allocator + Copy> NearSearch<'_, A> {
     pub(crate) fn find_near(&self, set: CandSet, free: CandSet, left: u8) -> Option<CandSet>
         requires clones { AreClones self.now.profile.now.m self.now.profile.now.rows self.now.clones.now }
         requires shares { (n : ℕ) → slice_index self.now.shares.now n ≤ share_parts }
-        requires opened { IsOpen self.now.profile.now.m set free }
+        requires is_node { IsNode self.now.profile.now.m set free }
         ensures { IsNearAnswer self.now.profile.now self.now.most set free left result }
     {
         let mut patience = self.patience(set, left);
@@ -121,7 +121,7 @@ impl<A: Allocator + Copy> NearSearch<'_, A> {
         patience: &mut usize,
     ) -> QuickAnswer
         requires clones { AreClones self.now.profile.now.m self.now.profile.now.rows self.now.clones.now }
-        requires opened { IsOpen self.now.profile.now.m set free }
+        requires is_node { IsNode self.now.profile.now.m set free }
         ensures { IsQuickAnswer self.now.profile.now self.now.most set free left result }
     {
         if *patience == 0 {
@@ -151,7 +151,7 @@ impl<A: Allocator + Copy> NearSearch<'_, A> {
     fn find_thoroughly(&self, set: CandSet, free: CandSet, left: u8) -> Option<CandSet>
         requires clones { AreClones self.now.profile.now.m self.now.profile.now.rows self.now.clones.now }
         requires shares { (n : ℕ) → slice_index self.now.shares.now n ≤ share_parts }
-        requires opened { IsOpen self.now.profile.now.m set free }
+        requires is_node { IsNode self.now.profile.now.m set free }
         ensures { IsNearAnswer self.now.profile.now self.now.most set free left result }
     {
         let (choices, eligible) = self.choices(set, free, left, true)?;
@@ -183,7 +183,7 @@ impl<A: Allocator + Copy> NearSearch<'_, A> {
         left: u8,
         by_need: bool,
     ) -> Option<(CandSet, CandSet)>
-        requires { IsOpen self.now.profile.now.m set free }
+        requires { IsNode self.now.profile.now.m set free }
         ensures { MatchOption result
             (IsOutOfReach (closeness self.now.profile.now.m self.now.profile.now.rows) self.now.profile.now.m set free
             left (self.now.profile.now.m - self.now.most))
@@ -254,7 +254,7 @@ impl<A: Allocator + Copy> NearSearch<'_, A> {
         left: u8,
     ) -> Option<CandSet>
         requires election { IsElection self.now.profile.now }
-        requires opened { IsOpen self.now.profile.now.m set free }
+        requires is_node { IsNode self.now.profile.now.m set free }
         requires weighted { AreWeighted self.now.profile.now.rows (length set + left) self.now.most set free
             needs.now.total needs.now.supports }
         requires small { (n : ℕ) → slice_index needs.now.supports n ≤ 2 ^ 116 }

@@ -11,7 +11,7 @@ ghost use Rattle.ballot_base.specs.CandSet.{has_member};
 ghost use Rattle.ballot_base.specs.Limits.{most_candidates};
 ghost use Rattle.ballot_base.specs.Lists.{IsIncreasing};
 ghost use Rattle.tie_walk.specs.Values.{thiele_value};
-ghost use Rattle.tie_search.specs.Completions.{IsOpen};
+ghost use Rattle.tie_search.specs.Completions.{IsNode};
 ghost use Rattle.tie_search.specs.Steps.Known.{AreKnown, IsKept, Narrows};
 ghost use Rattle.tie_search.specs.Steps.Paired.{AreNothing, AreSmall, AreSums, AreTotals, IsRowSum, IsSmallMajorant, overlap_at, pair_place, triangle};
 ghost use Rattle.tie_search.specs.Steps.Rows.{AreBeside, AreRows};
@@ -53,7 +53,7 @@ impl<A: Allocator + Copy> PairSearch<'_, A> {
     /// The free candidates of a node that can still join. Returns `None` if no completion of its set reaches the value.
     pub(crate) fn narrowed(&self, known: &mut KnownTotals, node: &Node) -> Option<CandSet>
         requires election { IsElection self.now.profile.now }
-        requires opened { IsOpen self.now.profile.now.m node.now.set node.now.free }
+        requires is_node { IsNode self.now.profile.now.m node.now.set node.now.free }
         requires several { 2 ≤ node.now.left }
         requires small { (n : ℕ) → slice_index self.now.given.now.sums n ≤ 2 ^ 26 }
         requires unit { 1 ≤ self.now.given.now.unit }
@@ -77,7 +77,7 @@ impl<A: Allocator + Copy> PairSearch<'_, A> {
     /// Narrows a node by the totals that are kept if they serve it. Otherwise new ones are added up, and kept.
     fn narrowed_by(&self, kept: &mut Option<Known>, node: &Node) -> Option<CandSet>
         requires election { IsElection self.now.profile.now }
-        requires opened { IsOpen self.now.profile.now.m node.now.set node.now.free }
+        requires is_node { IsNode self.now.profile.now.m node.now.set node.now.free }
         requires several { 2 ≤ node.now.left }
         requires some { 1 ≤ length node.now.free }
         requires small { (n : ℕ) → slice_index self.now.given.now.sums n ≤ 2 ^ 26 }
@@ -105,7 +105,7 @@ impl<A: Allocator + Copy> PairSearch<'_, A> {
     /// Narrows a node by totals that bound the completions of its set.
     fn narrowed_with(&self, totals: &Totals, node: &Node) -> Option<CandSet>
         requires election { IsElection self.now.profile.now }
-        requires opened { IsOpen self.now.profile.now.m node.now.set node.now.free }
+        requires is_node { IsNode self.now.profile.now.m node.now.set node.now.free }
         requires several { 2 ≤ node.now.left }
         requires unit { 1 ≤ self.now.given.now.unit }
         requires small { AreSmall totals.now.kept totals.now.worths totals.now.overlaps }
@@ -154,7 +154,7 @@ impl<A: Allocator + Copy> PairSearch<'_, A> {
 
     /// Adds up the majorants of all voters, if `left` of the free candidates complete the set.
     fn add_ballots(&self, totals: &mut Totals, set: CandSet, free: CandSet, left: u8)
-        requires opened { IsOpen self.now.profile.now.m set free }
+        requires is_node { IsNode self.now.profile.now.m set free }
         requires some { 1 ≤ length free }
         requires small { (n : ℕ) → slice_index self.now.given.now.sums n ≤ 2 ^ 26 }
         requires nothing { AreNothing totals.old.kept totals.old.worths totals.old.overlaps }

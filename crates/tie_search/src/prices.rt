@@ -17,7 +17,7 @@ use crate::search::excess;
 use crate::weights::{Weights, rounded_weights};
 use ballot_base::{CandSet, Increments, PLACES, Profile, ThieleRule};
 use std::alloc::Allocator;
-use tie_walk::{Tally, ThieleTally, add_to_members, those_after};
+use tie_walk::{Tally, ThieleTally, add_to_members};
 
 /// What hits give is multiplied by this, so that there are multipliers between two increments.
 pub(crate) const SCALE: u64 = 4096;
@@ -56,7 +56,7 @@ impl Prices {
         let rounded = rounded_weights(&Increments::of(rule, k).w)?;
         let (multipliers, committee) = chosen(memory, profile, values, &rounded, k);
         let worths = prices_of(profile, &multipliers);
-        let candidates = those_after(0, profile.m());
+        let candidates = CandSet::all(profile.m());
         Some(Prices {
             unit: rounded.unit,
             base: base_of(profile, &rounded.weights, &multipliers),

@@ -34,7 +34,7 @@ ghost use Rattle.tie_search.specs.Steps.Searched.{IsAided};
 ghost use Rattle.ballot_base.specs.Clones.{are_clones};
 ghost use Rattle.tie_walk.specs.Winners.{best_value};
 ghost use Rattle.tie_search.specs.Steps.Found.{AreListed, AreNew, AreSearched, IsListed};
-ghost use Rattle.tie_search.specs.Completions.{IsOpen, IsOutOfReach, IsReaching, tally_value};
+ghost use Rattle.tie_search.specs.Completions.{IsNode, IsOutOfReach, IsReaching, tally_value};
 ghost use Rattle.tie_search.specs.Tied.{AreTied};
 
 use crate::columns::Columns;
@@ -86,7 +86,7 @@ impl<A: Allocator + Copy> Search<'_, A> {
     pub(crate) fn find(&self, set: CandSet, free: CandSet, left: u8) -> Option<CandSet>
         requires ballots { self.now.profile.now ≡ self.now.tally.now.election }
         requires aids { IsAided self.now.tally.now self.now.aids.now }
-        requires opened { IsOpen self.now.tally.now.election.m set free }
+        requires is_node { IsNode self.now.tally.now.election.m set free }
         ensures { MatchOption result
             (IsOutOfReach (tally_value self.now.tally.now) self.now.tally.now.election.m set free left self.now.least)
             (IsReaching (tally_value self.now.tally.now) self.now.tally.now.election.m set free left self.now.least) }
@@ -157,7 +157,7 @@ impl<A: Allocator + Copy> Search<'_, A> {
     fn descend(&self, found: &mut Found, known: &mut [KnownTotals], node: Node)
         requires ballots { self.now.profile.now ≡ self.now.tally.now.election }
         requires aids { IsAided self.now.tally.now self.now.aids.now }
-        requires opened { IsOpen self.now.tally.now.election.m node.set node.free }
+        requires is_node { IsNode self.now.tally.now.election.m node.set node.free }
         requires value { node.value ≡ tally_value self.now.tally.now node.set }
         requires listed { AreListed (tally_value self.now.tally.now) found.old }
         requires new { AreNew self.now.tally.now.election.m node.set node.free node.left found.old }
@@ -229,7 +229,7 @@ impl<A: Allocator + Copy> Search<'_, A> {
     /// Searches a node with one seat left: offers its set with each free candidate whose gain makes up what is needed.
     fn offer_each(&self, found: &mut Found, node: Node, gains: &[u128; PLACES])
         requires aids { IsAided self.now.tally.now self.now.aids.now }
-        requires opened { IsOpen self.now.tally.now.election.m node.set node.free }
+        requires is_node { IsNode self.now.tally.now.election.m node.set node.free }
         requires value { node.value ≡ tally_value self.now.tally.now node.set }
         requires last { node.left ≡ 1 }
         requires gains { (n : ℕ) → has_member node.free n ≡ true → slice_index gains.now n
@@ -273,7 +273,7 @@ impl<A: Allocator + Copy> Search<'_, A> {
     fn eligible(&self, known: &mut [KnownTotals], node: &Node) -> Option<CandSet>
         requires ballots { self.now.profile.now ≡ self.now.tally.now.election }
         requires aids { IsAided self.now.tally.now self.now.aids.now }
-        requires opened { IsOpen self.now.tally.now.election.m node.now.set node.now.free }
+        requires is_node { IsNode self.now.tally.now.election.m node.now.set node.now.free }
         requires known { AreKnownIf self.now.tally.now.election self.now.aids.now.sums known.old }
         ensures known { AreKnownIf self.now.tally.now.election self.now.aids.now.sums known.new }
         ensures narrowed { Narrows (tally_value self.now.tally.now) self.now.tally.now.election.m node.now
@@ -288,7 +288,7 @@ impl<A: Allocator + Copy> Search<'_, A> {
     /// Whether a node passes the quick tests: what its free candidates cover, and prices.
     fn passes(&self, node: &Node) -> bool
         requires aids { IsAided self.now.tally.now self.now.aids.now }
-        requires opened { IsOpen self.now.tally.now.election.m node.now.set node.now.free }
+        requires is_node { IsNode self.now.tally.now.election.m node.now.set node.now.free }
         ensures { result ≡ false
             → IsOutOfReach (tally_value self.now.tally.now) self.now.tally.now.election.m node.now.set node.now.free
             node.now.left self.now.least }
@@ -329,7 +329,7 @@ impl<A: Allocator + Copy> Search<'_, A> {
     fn narrowed(&self, known: &mut [KnownTotals], node: &Node) -> Option<CandSet>
         requires ballots { self.now.profile.now ≡ self.now.tally.now.election }
         requires aids { IsAided self.now.tally.now self.now.aids.now }
-        requires opened { IsOpen self.now.tally.now.election.m node.now.set node.now.free }
+        requires is_node { IsNode self.now.tally.now.election.m node.now.set node.now.free }
         requires known { AreKnownIf self.now.tally.now.election self.now.aids.now.sums known.old }
         ensures known { AreKnownIf self.now.tally.now.election self.now.aids.now.sums known.new }
         ensures narrowed { Narrows (tally_value self.now.tally.now) self.now.tally.now.election.m node.now
@@ -370,7 +370,7 @@ impl<A: Allocator + Copy> Search<'_, A> {
     /// counts, as the answer is soon no then; under other rules it is yes.
     pub(crate) fn may_suffice(&self, set: CandSet, free: CandSet) -> bool
         requires aids { IsAided self.now.tally.now self.now.aids.now }
-        requires opened { IsOpen self.now.tally.now.election.m set free }
+        requires is_node { IsNode self.now.tally.now.election.m set free }
         ensures { result ≡ false → (left : ℕ)
             → IsOutOfReach (tally_value self.now.tally.now) self.now.tally.now.election.m set free left self.now.least }
     {
@@ -397,7 +397,7 @@ impl<A: Allocator + Copy> Search<'_, A> {
     /// Whether the prices, if they are kept, allow a committee of the set and `left` of the free candidates.
     pub(crate) fn may_afford(&self, set: CandSet, free: CandSet, left: u8) -> bool
         requires aids { IsAided self.now.tally.now self.now.aids.now }
-        requires opened { IsOpen self.now.tally.now.election.m set free }
+        requires is_node { IsNode self.now.tally.now.election.m set free }
         ensures { result ≡ false
             → IsOutOfReach (tally_value self.now.tally.now) self.now.tally.now.election.m set free left self.now.least }
     {

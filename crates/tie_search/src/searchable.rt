@@ -1,6 +1,6 @@
 //! Values whose committees can be searched for.
 ghost use Rattle.std.specs.Prelude.{◌≤◌, MatchOption, ⊤};
-ghost use Rattle.tie_search.specs.Completions.{AreAlike, IsOpen, IsOutOfReach, IsReaching};
+ghost use Rattle.tie_search.specs.Completions.{AreAlike, IsNode, IsOutOfReach, IsReaching};
 ghost use Rattle.tie_search.specs.Tied.{AreTied};
 
 use crate::found::Tied;
@@ -16,7 +16,7 @@ pub trait Searchable: Tally {
     /// Finds a committee of the set and `left` of the free candidates whose value is at least `least`. None if there is
     /// no such committee.
     fn find(&self, set: CandSet, free: CandSet, left: u8, least: u128) -> Option<CandSet>
-        requires { IsOpen (Self.candidates self.now) set free }
+        requires { IsNode (Self.candidates self.now) set free }
         ensures { MatchOption result
             (IsOutOfReach (Self.value_of self.now) (Self.candidates self.now) set free left least)
             (IsReaching (Self.value_of self.now) (Self.candidates self.now) set free left least) };

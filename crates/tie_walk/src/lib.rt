@@ -23,5 +23,5 @@ pub use prefix::Prefix;
 pub use satisfaction::SavTally;
 pub use sequential::{SeqRule, SeqWinners, add_to_members};
 pub use tally::Tally;
-pub use thiele::{ThieleTally, those_after};
+pub use thiele::ThieleTally;
 pub use winners::Winners;

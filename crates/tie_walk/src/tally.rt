@@ -15,6 +15,10 @@ use crate::prefix::Prefix;
 use ballot_base::{CandSet, MOST_CANDIDATES, PLACES};
 
 /// What gives a committee its value.
+///
+/// `bound` is a function of the tally and its arguments, whatever was asked before. A type whose bounds also depend on
+/// what contracts do not see, such as the contents of a `Cell`, cannot meet the clause `value` of `bound`, however well
+/// it keeps the law.
 pub trait Tally {
     ghost candidates: { Self → ℕ };
 
@@ -33,7 +37,8 @@ pub trait Tally {
         requires { IsIncreasing 1 (candidates self.now) set }
         ensures { result ≡ value_of self.now set };
 
-    /// A value that no committee exceeds that is made of a set of the candidates 1 to c and of `left` of those after c.
+    /// An upper bound on the value of any committee that consists of `set` (candidates up to `c`) and `left` candidates
+    /// after `c`.
     fn bound(&self, c: u8, set: CandSet, left: u8) -> u128
         requires within { c ≤ candidates self.now }
         requires candidates { IsIncreasing 1 c set }

@@ -213,16 +213,6 @@ fn voters_by_hits<A: Allocator + Copy>(profile: &Profile<A>, set: CandSet) -> [u
     counts
 }
 
-/// The candidates from c + 1 to m.
-pub fn those_after(c: u8, m: u8) -> CandSet
-    requires most { m ≤ most_candidates }
-    requires within { c ≤ m }
-    ensures within { IsIncreasing (c + 1) m result }
-    ensures all { (n : ℕ) → c < n → n ≤ m → has_member result n ≡ true }
-{
-    CandSet::after(c, m)
-}
-
 /// How many voters have each number of hits, and what the set gains by each of the others; 0 by all else.
 fn hits_and_gains<A: Allocator + Copy>(
     profile: &Profile<A>,

@@ -1,7 +1,7 @@
 -- Totals of pairs that a search keeps.
 use Rattle.std.specs.Prelude.{ℕ, List, Option, MatchOption, ⊤, slice_get}
 use Rattle.ballot_base.specs.Ballots.{Election}
-use Rattle.tie_search.specs.Completions.{IsOpen, IsOutOfReach}
+use Rattle.tie_search.specs.Completions.{IsNode, IsOutOfReach}
 use Rattle.tie_search.specs.Steps.Near.{IsNarrowed}
 use Rattle.tie_search.specs.Steps.Paired.{AreSmall, AreSums, AreTotals}
 use Rattle.tie_search.specs.declared.known.Known.{Known}
@@ -11,7 +11,7 @@ use Rattle.tie_search.specs.declared.search.Node.{Node}
 
 -- the totals bound all completions of their set
 pub record IsKnown (e : Election) (given : HitSums) (known : Known) : Type 0 where
-  pub opened : IsOpen e.m known.set known.free
+  pub is_node : IsNode e.m known.set known.free
   pub totals : (weights : List ℕ) → AreSums weights given.scale given.unit given.sums
       → AreTotals weights given.scale given.unit e.m e.rows known.set known.free known.left known.totals.kept
       known.totals.worths known.totals.overlaps

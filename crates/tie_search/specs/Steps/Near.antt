@@ -3,7 +3,7 @@ use Rattle.std.specs.Prelude.{◌≡◌, ℕ, ◌-◌, ◌*◌, ◌≤◌, true,
 use Rattle.ballot_base.specs.Ballots.{Row, Election, IsElection}
 use Rattle.ballot_base.specs.CandSet.{has_member}
 use Rattle.tie_walk.specs.Values.{closeness, greatest_distance}
-use Rattle.tie_search.specs.Completions.{IsOpen, IsCompletion, IsOutOfReach, IsReaching}
+use Rattle.tie_search.specs.Completions.{IsNode, IsCompletion, IsOutOfReach, IsReaching}
 use Rattle.tie_search.specs.Needs.{weighted_needs, weighted_support}
 use Rattle.tie_search.specs.declared.near.QuickAnswer.{QuickAnswer}
 use Rattle.tie_search.specs.declared.near.QuickAnswer.TheVariants.{Found, NoneExists, GaveUp}
@@ -18,7 +18,7 @@ pub record AreChoices (value : List ℕ → ℕ) (m : ℕ) (set free : List ℕ)
 -- free candidates to whom all belong who are added by a committee that completes the set and reaches the value
 pub record IsNarrowed (value : List ℕ → ℕ) (m : ℕ) (set free : List ℕ) (left least : ℕ) (rest : List ℕ) : Type 0
   where
-    pub opened : IsOpen m set rest
+    pub is_node : IsNode m set rest
     pub among : (n : ℕ) → has_member rest n ≡ true → has_member free n ≡ true
     pub kept : (committee : List ℕ) → IsCompletion m set free left committee → least ≤ value committee
         → IsCompletion m set rest left committee

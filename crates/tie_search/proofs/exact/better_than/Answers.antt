@@ -2,6 +2,7 @@ use Rattle.std.proofs.Common.{◌≡◌, ◌+◌, ◌<◌, ◌≤◌, ℕ, true,
 use Rattle.std.specs.Prelude.{MatchOption}
 use Rattle.ballot_base.specs.CandSet.{has_member}
 use Rattle.tie_walk.specs.Ceilings.{IsBound}
+use Rattle.tie_walk.proofs.StepLemmas.{has_member-range}
 use Rattle.tie_search.specs.Completions.{IsOutOfReach, IsReaching}
 use Rattle.tie_search.specs.Steps.Searched.{IsBetter}
 use Rattle.tie_search.proofs.ReachLemmas.{completes-none}
@@ -22,6 +23,6 @@ found value m k all committee all-in (Some better) some = record {
 pub returns : goal.returns
 returns g c =
     let m = g.S.Tally.candidates c.args.search.now in
-    found (g.S.Tally.value_of c.args.search.now) m c.args.k c.those_after-all.result c.args.committee
-    (λ n low high. c.those_after-all.ensures.all n low (omega (arith, high, c.m.ensures.value))) c.find.result
+    found (g.S.Tally.value_of c.args.search.now) m c.args.k c.all-all.result c.args.committee
+    (λ n low high. rw (c.all-all.ensures, c.m.ensures.value) (has_member-range 1 m n (omega (arith, low)) (omega (arith, high)))) c.find.result
     (rw (c.empty.ensures, c.value-value.ensures) at c.find.ensures)

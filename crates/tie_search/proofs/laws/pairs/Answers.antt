@@ -2,5 +2,5 @@ use Rattle.tie_search.proofs.PairLemmas.{pairs-bound}
 use Rattle.tie_search.proofs.laws.pairs.Goals as goal
 
 pub returns : goal.returns
-returns c weights scale unit m kept worth overlap rows set free left committee ballots open' whole are =
-    pairs-bound weights scale unit m set free left committee open' whole kept worth overlap rows ballots are
+returns c weights scale unit m kept worth overlap rows set free left committee ballots is_node whole are =
+    pairs-bound weights scale unit m set free left committee is_node whole kept worth overlap rows ballots are

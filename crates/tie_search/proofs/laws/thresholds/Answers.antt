@@ -8,6 +8,6 @@ use Rattle.tie_search.proofs.SearchLemmas.{node-bounds}
 use Rattle.tie_search.proofs.laws.thresholds.Goals as goal
 
 pub returns : goal.returns
-returns c rule k rows m set free left threshold committee size open' whole =
+returns c rule k rows m set free left threshold committee size is_node whole =
     node-bounds (thiele_value (increments rule k) rows) (thiele_rule-submodular rule k rows size) (thiele-same (increments rule k) rows)
-    m set free left threshold (gain_at (thiele_value (increments rule k) rows) set) committee open' whole (λ n in_. omega arith)
+    m set free left threshold (gain_at (thiele_value (increments rule k) rows) set) committee is_node whole (λ n in_. omega arith)

@@ -4,9 +4,9 @@ use Rattle.tie_search.proofs.WeightLemmas.{member-bound, needs-bound}
 use Rattle.tie_search.proofs.laws.weighted_needs.Goals as goal
 
 pub returns-clause-completions : goal.returns-clause-completions
-returns-clause-completions c weight m k most rows set free left threshold committee ballots open' whole size near =
-    needs-bound weight m k most rows set free left committee ballots open' whole size near threshold (weighted_support weight rows) (λ n is. omega arith)
+returns-clause-completions c weight m k most rows set free left threshold committee ballots is_node whole size near =
+    needs-bound weight m k most rows set free left committee ballots is_node whole size near threshold (weighted_support weight rows) (λ n is. omega arith)
 
 pub returns-clause-members : goal.returns-clause-members
-returns-clause-members c weight m k most rows set free left threshold committee n ballots open' whole size near open_ in_ =
-    member-bound weight m k most rows set free left committee ballots open' whole size near threshold (weighted_support weight rows) n (λ n is. omega arith) open_ in_
+returns-clause-members c weight m k most rows set free left threshold committee n ballots is_node whole size near open_ in_ =
+    member-bound weight m k most rows set free left committee ballots is_node whole size near threshold (weighted_support weight rows) n (λ n is. omega arith) open_ in_

@@ -3,7 +3,7 @@ use Rattle.ballot_base.specs.Lists.{IsIncreasing}
 use Rattle.tie_walk.specs.Winners.{best_value}
 use Rattle.tie_search.specs.Completions.{Exact, IsReaching, is_reached}
 use Rattle.tie_search.specs.Steps.Witness.{IsSetAndLater, IsWitnessed}
-use Rattle.tie_search.proofs.ReachLemmas.{joined-completion, open-after, reached-none}
+use Rattle.tie_search.proofs.ReachLemmas.{after-all, after-within, joined-completion, node-after, reached-none}
 use Rattle.tie_search.specs.Tied.{AreBest, IsAmong}
 use Rattle.tie_search.proofs.WitnessLemmas.{listed-none, listed-witnessed, witnessed-joined}
 use Rattle.tie_search.proofs.exact.ExactTally.reached_upto.Goals as goal
@@ -13,16 +13,17 @@ find-requires g c =
     let t = c.self.inside in
     let size : t.m ≡ g.S.Tally.candidates t.search = c.self.invariant.size in
     let inside : g.S.Tally.candidates t.search ≡ g.S.Tally.candidates c.args.self.now.search = ap (λ (x : Exact g.row.S.Denot). g.S.Tally.candidates x.search) c.self.view_is in
-    let after : IsIncreasing (c.args.c + 1) (g.S.Tally.candidates t.search) c.those_after-free.result = rw (← size) c.those_after-free.ensures.within in
-    open-after (g.S.Tally.value_of t.search) (g.S.Tally.candidates t.search) c.args.c c.args.set c.those_after-free.result c.args.left (omega (arith, c.requires.within, inside))
-    c.requires.candidates after (λ n low high. c.those_after-free.ensures.all n low (omega (arith, high, size)))
+    let after : IsIncreasing (c.args.c + 1) (g.S.Tally.candidates t.search) c.after-free.result =
+    rw (← size) (after-within c.args.c t.m c.after-free.result (omega (arith, c.requires.within, inside, size)) c.after-free.ensures) in
+    node-after (g.S.Tally.value_of t.search) (g.S.Tally.candidates t.search) c.args.c c.args.set c.after-free.result c.args.left (omega (arith, c.requires.within, inside))
+    c.requires.candidates after (λ n low high. after-all c.args.c t.m c.after-free.result c.after-free.ensures n low (omega (arith, high, size)))
 
 pub returns-in-Some-clause-witnessed : goal.returns-in-Some-clause-witnessed
 returns-in-Some-clause-witnessed g c =
     let t = c.self.inside in
     let V = g.S.Tally.value_of t.search in
     let end = c.witnessed_upto.result in
-    let found : IsReaching V (g.S.Tally.candidates t.search) c.args.set c.those_after-free.result c.args.left t.best c.in-Some.committee = c.in-Some.ensures in
+    let found : IsReaching V (g.S.Tally.candidates t.search) c.args.set c.after-free.result c.args.left t.best c.in-Some.committee = c.in-Some.ensures in
     let here : IsWitnessed V t.m c.args.set c.args.left t.best c.args.c end =
     witnessed-joined V t.m c.args.set c.args.left t.best c.args.c end c.in-Some.committee c.witnessed_upto.ensures.low c.witnessed_upto.ensures.high c.witnessed_upto.ensures.witnessed found.reaches in
     subst (λ (x : Exact g.row.S.Denot). IsWitnessed (g.S.Tally.value_of x.search) (g.S.Tally.candidates x.search) c.args.set c.args.left
@@ -37,11 +38,12 @@ returns-in-Some-clause-none g c same =
     let m = g.S.Tally.candidates t.search in
     let size : t.m ≡ m = c.self.invariant.size in
     let inside : m ≡ g.S.Tally.candidates c.args.self.now.search = ap (λ (x : Exact g.row.S.Denot). g.S.Tally.candidates x.search) c.self.view_is in
-    let after : IsIncreasing (c.args.c + 1) m c.those_after-free.result = rw (← size) c.those_after-free.ensures.within in
-    let found : IsReaching V m c.args.set c.those_after-free.result c.args.left t.best c.in-Some.committee = c.in-Some.ensures in
+    let after : IsIncreasing (c.args.c + 1) m c.after-free.result =
+    rw (← size) (after-within c.args.c t.m c.after-free.result (omega (arith, c.requires.within, inside, size)) c.after-free.ensures) in
+    let found : IsReaching V m c.args.set c.after-free.result c.args.left t.best c.in-Some.committee = c.in-Some.ensures in
     let joined : IsSetAndLater m c.args.c c.args.set c.args.left c.in-Some.committee =
-    joined-completion V m c.args.c c.args.set c.those_after-free.result c.args.left (omega (arith, c.requires.within, inside))
-    c.requires.candidates after (λ n low high. c.those_after-free.ensures.all n low (omega (arith, high, size))) c.in-Some.committee found.completes in
+    joined-completion V m c.args.c c.args.set c.after-free.result c.args.left (omega (arith, c.requires.within, inside))
+    c.requires.candidates after (λ n low high. after-all c.args.c t.m c.after-free.result c.after-free.ensures n low (omega (arith, high, size))) c.in-Some.committee found.completes in
     absurd (c.witnessed_upto.ensures.end (omega (arith, same, c.requires.within, inside, size))
     (subst (λ n. IsSetAndLater n c.witnessed_upto.result c.args.set c.args.left c.in-Some.committee) (sym size)
     (subst (λ n. IsSetAndLater m n c.args.set c.args.left c.in-Some.committee) (sym same) joined)))
@@ -53,10 +55,11 @@ returns-in-None-clause-none g c same =
     let m = g.S.Tally.candidates t.search in
     let size : t.m ≡ m = c.self.invariant.size in
     let inside : m ≡ g.S.Tally.candidates c.args.self.now.search = ap (λ (x : Exact g.row.S.Denot). g.S.Tally.candidates x.search) c.self.view_is in
-    let after : IsIncreasing (c.args.c + 1) m c.those_after-free.result = rw (← size) c.those_after-free.ensures.within in
+    let after : IsIncreasing (c.args.c + 1) m c.after-free.result =
+    rw (← size) (after-within c.args.c t.m c.after-free.result (omega (arith, c.requires.within, inside, size)) c.after-free.ensures) in
     let none : is_reached V m c.args.c c.args.set c.args.left t.best ≡ false =
-    reached-none V m c.args.c c.args.set c.those_after-free.result c.args.left (omega (arith, c.requires.within, inside))
-    c.requires.candidates after (λ n low high. c.those_after-free.ensures.all n low (omega (arith, high, size))) t.best c.in-None.ensures in
+    reached-none V m c.args.c c.args.set c.after-free.result c.args.left (omega (arith, c.requires.within, inside))
+    c.requires.candidates after (λ n low high. after-all c.args.c t.m c.after-free.result c.after-free.ensures n low (omega (arith, high, size))) t.best c.in-None.ensures in
     ap (λ (x : Exact g.row.S.Denot). is_reached (g.S.Tally.value_of x.search) (g.S.Tally.candidates x.search) c.args.c c.args.set c.args.left
     (best_value (g.S.Tally.value_of x.search) (g.S.Tally.candidates x.search) x.k)) (sym c.self.view_is)
     ∙ ap (is_reached V m c.args.c c.args.set c.args.left) (sym c.self.invariant.best_is) ∙ none

@@ -6,11 +6,11 @@ use Rattle.ballot_base.specs.Clones.{clones_among}
 use Rattle.ballot_base.specs.Lists.{IsIncreasing}
 use Rattle.ballot_base.proofs.Committees.{length-increasing}
 use Rattle.tie_walk.specs.Values.{closeness}
-use Rattle.tie_search.specs.Completions.{IsOpen, IsOutOfReach}
+use Rattle.tie_search.specs.Completions.{IsNode, IsOutOfReach}
 use Rattle.tie_search.specs.Steps.Near.{IsNarrowed}
-use Rattle.tie_search.proofs.CompletionLemmas.{member-low, member-high, open-with, open-without, without-is, without-shorter}
+use Rattle.tie_search.proofs.CompletionLemmas.{member-low, member-high, node-with, node-without, without-is, without-shorter}
 use Rattle.tie_search.proofs.SearchLemmas.{found-below, set-reaches}
-use Rattle.tie_search.proofs.CloneLemmas.{class-are, minus-is, minus-most, open-minus}
+use Rattle.tie_search.proofs.CloneLemmas.{class-are, minus-is, minus-most, node-minus}
 use Rattle.tie_search.proofs.NearClones.{closeness-exchanged}
 use Rattle.tie_search.proofs.NeedLemmas.{all-tried, choice-left, narrowed-clones, narrowed-more, narrowed-out, near-value}
 use Rattle.tie_search.proofs.PairLemmas.{length-among}
@@ -23,8 +23,8 @@ tried : (m most : ℕ) (rows : List Row) (set free rest clones : List ℕ) (left
     → IsOutOfReach (closeness m rows) m (with_member set next) (without_member rest next) (left - 1) (m - most)
     → IsNarrowed (closeness m rows) m set free left (m - most) (other_members (without_member rest next) clones)
 tried m most rows set free rest clones left next ballots narrowed some here clones_are none =
-    let low : 1 ≤ next = member-low 1 m rest next narrowed.opened.free_within here in
-    let high : next ≤ m = member-high 1 m rest next narrowed.opened.free_within here in
+    let low : 1 ≤ next = member-low 1 m rest next narrowed.is_node.free_within here in
+    let high : next ≤ m = member-high 1 m rest next narrowed.is_node.free_within here in
     let are = class-are m rows next clones (clones_are low high) in
     narrowed-clones (closeness m rows) m set free rest left (m - most) narrowed next clones some here
     (λ committee d up is out clone. closeness-exchanged m committee next d up is out low high rows ballots (are d clone))
@@ -33,22 +33,22 @@ tried m most rows set free rest clones left next ballots narrowed some here clon
 pub returns-then-left-eq0 : goal.returns-then-left-eq0
 returns-then-left-eq0 g t c =
     let e = c.args.self.now.profile.now in
-    set-reaches (closeness e.m e.rows) e.m c.args.set c.args.left (e.m - c.args.self.now.most) c.args.free c.if-left-eq0.true c.requires.opened
+    set-reaches (closeness e.m e.rows) e.m c.args.set c.args.left (e.m - c.args.self.now.most) c.args.free c.if-left-eq0.true c.requires.is_node
     (near-value e.m e.rows c.args.self.now.most c.args.set (c.in_ok-choices.ensures.whole c.if-left-eq0.true))
 
 pub weighted_needs-needs-requires : goal.weighted_needs-needs-requires
 weighted_needs-needs-requires g t c =
     let m = c.args.self.now.profile.now.m in
     record {
-      few = omega (arith, c.in_ok-choices.ensures.enough, length-increasing 1 m c.args.free c.requires.opened.free_within, c.in_ok-choices.ensures.election.most);
+      few = omega (arith, c.in_ok-choices.ensures.enough, length-increasing 1 m c.args.free c.requires.is_node.free_within, c.in_ok-choices.ensures.election.most);
       shares = c.requires.shares;
     }
 
 pub narrowed-requires-clause-election : goal.narrowed-requires-clause-election
 narrowed-requires-clause-election g t c = c.in_ok-choices.ensures.election
 
-pub narrowed-requires-clause-opened : goal.narrowed-requires-clause-opened
-narrowed-requires-clause-opened g t c = c.in_ok-choices.ensures.narrowed.opened
+pub narrowed-requires-clause-is_node : goal.narrowed-requires-clause-is_node
+narrowed-requires-clause-is_node g t c = c.in_ok-choices.ensures.narrowed.is_node
 
 pub returns-in_err-rest : goal.returns-in_err-rest
 returns-in_err-rest g t c =
@@ -68,7 +68,7 @@ loop-next-init g t c =
 
 pub with-requires-clause-low : goal.with-requires-clause-low
 with-requires-clause-low g t c =
-    member-low 1 c.args.self.now.profile.now.m c.loop-next.rest c.in-Some.next c.loop-next.invariant.narrowed.opened.free_within
+    member-low 1 c.args.self.now.profile.now.m c.loop-next.rest c.in-Some.next c.loop-next.invariant.narrowed.is_node.free_within
     (choice-left c.in_ok-choices.choices c.loop-next.rest c.common.result c.in-Some.next c.common.ensures c.in-Some.ensures.0)
 
 pub with-requires-clause-high : goal.with-requires-clause-high
@@ -76,17 +76,17 @@ with-requires-clause-high g t c =
     omega (
       arith,
       c.in_ok-choices.ensures.election.most,
-      member-high 1 c.args.self.now.profile.now.m c.loop-next.rest c.in-Some.next c.loop-next.invariant.narrowed.opened.free_within
+      member-high 1 c.args.self.now.profile.now.m c.loop-next.rest c.in-Some.next c.loop-next.invariant.narrowed.is_node.free_within
           (choice-left c.in_ok-choices.choices c.loop-next.rest c.common.result c.in-Some.next c.common.ensures c.in-Some.ensures.0),
     )
 
 pub find_thoroughly-found-requires : goal.find_thoroughly-found-requires
 find_thoroughly-found-requires g t c κs within =
     let next = c.in-Some.next in
-    let opened : IsOpen c.args.self.now.profile.now.m (with_member c.args.set next) (without_member c.loop-next.rest next) =
-    open-with c.args.self.now.profile.now.m c.args.set c.loop-next.rest next c.loop-next.invariant.narrowed.opened
+    let is_node : IsNode c.args.self.now.profile.now.m (with_member c.args.set next) (without_member c.loop-next.rest next) =
+    node-with c.args.self.now.profile.now.m c.args.set c.loop-next.rest next c.loop-next.invariant.narrowed.is_node
     (choice-left c.in_ok-choices.choices c.loop-next.rest c.common.result next c.common.ensures c.in-Some.ensures.0) in
-    (omega (arith, c.if-left-eq0.false, c.decreases), (within, (c.requires.clones, (c.requires.shares, rw (c.with.ensures, c.without-others.ensures) opened))))
+    (omega (arith, c.if-left-eq0.false, c.decreases), (within, (c.requires.clones, (c.requires.shares, rw (c.with.ensures, c.without-others.ensures) is_node))))
 
 pub returns-in-Some-found : goal.returns-in-Some-found
 returns-in-Some-found g t c =
@@ -95,7 +95,7 @@ returns-in-Some-found g t c =
     let here = choice-left c.in_ok-choices.choices c.loop-next.rest c.common.result next c.common.ensures c.in-Some.ensures.0 in
     let narrowed = c.loop-next.invariant.narrowed in
     found-below (closeness e.m e.rows) e.m c.args.set c.args.left (e.m - c.args.self.now.most) c.args.free (without_member c.loop-next.rest next) c.in-Some-found.committee next
-    (omega (arith, c.if-left-eq0.false)) c.requires.opened (narrowed.among next here) (λ n is. narrowed.among n (without-is c.loop-next.rest next n is))
+    (omega (arith, c.if-left-eq0.false)) c.requires.is_node (narrowed.among next here) (λ n is. narrowed.among n (without-is c.loop-next.rest next n is))
     (rw (c.with.ensures, c.without-others.ensures) at c.in-Some-found.ensures)
 
 pub class-requires : goal.class-requires
@@ -103,19 +103,19 @@ class-requires g t c =
     omega (
       arith,
       c.in_ok-choices.ensures.election.most,
-      member-high 1 c.args.self.now.profile.now.m c.loop-next.rest c.in-Some.next c.loop-next.invariant.narrowed.opened.free_within
+      member-high 1 c.args.self.now.profile.now.m c.loop-next.rest c.in-Some.next c.loop-next.invariant.narrowed.is_node.free_within
           (choice-left c.in_ok-choices.choices c.loop-next.rest c.common.result c.in-Some.next c.common.ensures c.in-Some.ensures.0),
     )
 
 pub narrowed-requires-in-Some-clause-election : goal.narrowed-requires-in-Some-clause-election
 narrowed-requires-in-Some-clause-election g t c = c.in_ok-choices.ensures.election
 
-pub narrowed-requires-in-Some-clause-opened : goal.narrowed-requires-in-Some-clause-opened
-narrowed-requires-in-Some-clause-opened g t c =
+pub narrowed-requires-in-Some-clause-is_node : goal.narrowed-requires-in-Some-clause-is_node
+narrowed-requires-in-Some-clause-is_node g t c =
     let m = c.args.self.now.profile.now.m in
     let rest = c.loop-next.rest in
     rw (c.minus-untried.ensures, c.without-others.ensures)
-    (open-minus m c.args.set (without_member rest c.in-Some.next) c.class.result (open-without m c.args.set rest c.in-Some.next c.loop-next.invariant.narrowed.opened))
+    (node-minus m c.args.set (without_member rest c.in-Some.next) c.class.result (node-without m c.args.set rest c.in-Some.next c.loop-next.invariant.narrowed.is_node))
 
 pub narrowed-requires-in-Some-clause-weighted : goal.narrowed-requires-in-Some-clause-weighted
 narrowed-requires-in-Some-clause-weighted g t c =
@@ -148,10 +148,10 @@ loop-next-smaller g t c =
     let m = c.args.self.now.profile.now.m in
     let rest = c.loop-next.rest in
     let next = c.in-Some.next in
-    let opened = open-minus m c.args.set (without_member rest next) c.class.result (open-without m c.args.set rest next c.loop-next.invariant.narrowed.opened) in
+    let is_node = node-minus m c.args.set (without_member rest next) c.class.result (node-without m c.args.set rest next c.loop-next.invariant.narrowed.is_node) in
     let now : IsNarrowed (closeness m c.args.self.now.profile.now.rows) m c.args.set (other_members (without_member rest next) c.class.result) c.args.left (m - c.args.self.now.most) c.in_ok-rest-2.rest =
     rw (c.minus-untried.ensures, c.without-others.ensures) at c.in_ok-rest-2.ensures in
-    let short = length-among m c.in_ok-rest-2.rest (other_members (without_member rest next) c.class.result) now.opened.free_within opened.free_within now.among in
+    let short = length-among m c.in_ok-rest-2.rest (other_members (without_member rest next) c.class.result) now.is_node.free_within is_node.free_within now.among in
     let fewer = minus-most (without_member rest next) c.class.result in
     let less = without-shorter rest next (choice-left c.in_ok-choices.choices rest c.common.result next c.common.ensures c.in-Some.ensures.0) in
     omega (arith, short, fewer, less)
@@ -180,5 +180,5 @@ loop-next-preserved g t c =
 pub returns : goal.returns
 returns g t c =
     let e = c.args.self.now.profile.now in
-    all-tried (closeness e.m e.rows) e.m c.args.set c.args.free c.args.left (e.m - c.args.self.now.most) c.in_ok-choices.choices c.loop-next.rest c.requires.opened
+    all-tried (closeness e.m e.rows) e.m c.args.set c.args.free c.args.left (e.m - c.args.self.now.most) c.in_ok-choices.choices c.loop-next.rest c.requires.is_node
     (c.in_ok-choices.ensures.choices_are (omega (arith, c.if-left-eq0.false))) c.loop-next.invariant.narrowed.kept (sym c.common.ensures ∙ c.in_default.ensures)

@@ -52,7 +52,7 @@ returns-then-needed-min g c =
     let needed : c.still_needed-needed.result ≡ hits_needed (length row.0) (length c.args.set + c.args.left) c.args.self.now.most - hits row.0 c.args.set =
     c.still_needed-needed.ensures ∙ ap (λ n. hits_needed (length row.0) (n + c.args.left) c.args.self.now.most - hits row.0 c.args.set) c.len-2.ensures.count in
     narrowed-out V e.m c.args.set c.args.free rest c.args.left (e.m - c.args.self.now.most) c.loop-ballot.invariant.narrowed
-    (hopeless e.m e.rows c.args.self.now.most c.args.set rest c.args.left c.ballots-ballot-items.ensures.valid.ballots c.loop-ballot.invariant.narrowed.opened (length c.loop-ballot.yielded) row at
+    (hopeless e.m e.rows c.args.self.now.most c.args.set rest c.args.left c.ballots-ballot-items.ensures.valid.ballots c.loop-ballot.invariant.narrowed.is_node (length c.loop-ballot.yielded) row at
     (omega (arith, needed, c.if-needed-min.true, c.min.ensures, c.len-in-loop-ballot.ensures.count, ap length c.common-open.ensures, length-common row.0 rest)))
 
 pub loop-ballot-preserved-then-is_tighter : goal.loop-ballot-preserved-then-is_tighter
@@ -74,14 +74,14 @@ loop-ballot-preserved-then-is_tighter g c =
         | then-needed-left w ↦
             subst (λ s. IsNarrowed V e.m c.args.set c.args.free c.args.left (e.m - c.args.self.now.most) s) (sym (w.rest-is ∙ c.common-open.ensures))
             (narrowed-more V e.m c.args.set c.args.free rest c.args.left (e.m - c.args.self.now.most) inv.narrowed (common_members row.0 rest)
-            (narrowed-to_ballot e.m e.rows c.args.self.now.most c.args.set rest c.args.left c.ballots-ballot-items.ensures.valid.ballots inv.narrowed.opened (length c.loop-ballot.yielded) row at
+            (narrowed-to_ballot e.m e.rows c.args.self.now.most c.args.set rest c.args.left c.ballots-ballot-items.ensures.valid.ballots inv.narrowed.is_node (length c.loop-ballot.yielded) row at
             (omega (arith, needed, w.if-needed-left.true))))
         | else-needed-left w ↦ subst (λ s. IsNarrowed V e.m c.args.set c.args.free c.args.left (e.m - c.args.self.now.most) s) (sym w.rest-is) inv.narrowed
       ];
       choice = λ some.
           subst (λ s. AreChoices V e.m c.args.set c.args.free c.args.left (e.m - c.args.self.now.most) s) (sym c.common-open.ensures)
           (narrowed-choice V e.m c.args.set c.args.free rest c.args.left (e.m - c.args.self.now.most) inv.narrowed (common_members row.0 rest)
-          (choice-of_ballot e.m e.rows c.args.self.now.most c.args.set rest c.args.left c.ballots-ballot-items.ensures.valid.ballots inv.narrowed.opened (length c.loop-ballot.yielded) row at
+          (choice-of_ballot e.m e.rows c.args.self.now.most c.args.set rest c.args.left c.ballots-ballot-items.ensures.valid.ballots inv.narrowed.is_node (length c.loop-ballot.yielded) row at
           (omega (arith, needed, c.if-needed-eq0.false))));
     }
 
@@ -104,7 +104,7 @@ loop-ballot-preserved g c =
         | then-needed-left w ↦
             subst (λ s. IsNarrowed V e.m c.args.set c.args.free c.args.left (e.m - c.args.self.now.most) s) (sym (w.rest-is ∙ c.common-open.ensures))
             (narrowed-more V e.m c.args.set c.args.free rest c.args.left (e.m - c.args.self.now.most) inv.narrowed (common_members row.0 rest)
-            (narrowed-to_ballot e.m e.rows c.args.self.now.most c.args.set rest c.args.left c.ballots-ballot-items.ensures.valid.ballots inv.narrowed.opened (length c.loop-ballot.yielded) row at
+            (narrowed-to_ballot e.m e.rows c.args.self.now.most c.args.set rest c.args.left c.ballots-ballot-items.ensures.valid.ballots inv.narrowed.is_node (length c.loop-ballot.yielded) row at
             (omega (arith, needed, w.if-needed-left.true))))
         | else-needed-left w ↦ subst (λ s. IsNarrowed V e.m c.args.set c.args.free c.args.left (e.m - c.args.self.now.most) s) (sym w.rest-is) inv.narrowed
       ];

@@ -42,7 +42,7 @@ of_ballot-majorant-requires g c =
       c.len-in-loop-ballot.ensures.count,
       ap length c.common-approved.ensures,
       length-common c.in-Some.ballot c.args.free,
-      hits-both e.m c.in-Some.ballot c.args.set c.args.free (row-up e c.ballots-ballot-items.ensures.valid (length c.loop-ballot.yielded) row at) c.ballots-ballot-items.ensures.valid.most c.requires.opened,
+      hits-both e.m c.in-Some.ballot c.args.set c.args.free (row-up e c.ballots-ballot-items.ensures.valid (length c.loop-ballot.yielded) row at) c.ballots-ballot-items.ensures.valid.most c.requires.is_node,
     )
 
 pub add-requires : goal.add-requires
@@ -88,7 +88,7 @@ loop-ballot-preserved g c =
     λ n in_. c.add.ensures.worths n
     ∙ ap (λ b. get_or before_totals.worths n 0 + cond b (row.1 * majorant.worth) 0) (ap (λ l. has_member l n) c.common-approved.ensures ∙ free-common row.0 free n in_) in
     let overlaps : (a b : ℕ) → has_member free a ≡ true → has_member free b ≡ true → overlap_at totals.overlaps a b ≡ overlap_at before_totals.overlaps a b + portion (has_member row.0 a) (has_member row.0 b) (row.1 * majorant.overlap) =
-    λ a b here there. c.add.ensures.overlaps a b (omega (arith, member-high 1 e.m free b c.requires.opened.free_within there, valid.most))
+    λ a b here there. c.add.ensures.overlaps a b (omega (arith, member-high 1 e.m free b c.requires.is_node.free_within there, valid.most))
     ∙ ap (λ x. overlap_at before_totals.overlaps a b + x) (cells-same row.0 free approved a b (row.1 * majorant.overlap) c.common-approved.ensures here there) in
     let small_kept : row.1 * majorant.kept ≤ row.1 * 2 ^ 39 = mul-le-mul_left row.1 is.small.kept_small in
     let small_worth : row.1 * majorant.worth ≤ row.1 * 2 ^ 34 = mul-le-mul_left row.1 is.small.worth_small in
@@ -100,7 +100,7 @@ loop-ballot-preserved g c =
       totals = λ weights are. subst (λ n. AreTotals weights self.given.now.scale self.given.now.unit e.m (take n e.rows) set free c.args.left totals.kept totals.worths totals.overlaps) next
           (subst (λ n. AreTotals weights self.given.now.scale self.given.now.unit e.m (take (i + 1) e.rows) set free c.args.left n totals.worths totals.overlaps) (sym c.add.ensures.kept)
           (totals-more e valid i row at weights self.given.now.sums self.given.now.scale self.given.now.unit set free c.args.left c.len-before.result (min c.args.left c.len-in-loop-ballot.result) majorant.kept majorant.worth
-          majorant.overlap before_totals.kept before_totals.worths totals.worths before_totals.overlaps totals.overlaps c.requires.opened are before (ap (min c.args.left) open_) is.bounds
+          majorant.overlap before_totals.kept before_totals.worths totals.worths before_totals.overlaps totals.overlaps c.requires.is_node are before (ap (min c.args.left) open_) is.bounds
           (inv.totals weights are) worths overlaps));
       small_kept = subst (λ n. totals.kept ≤ voter_count (take n e.rows) * 2 ^ 39) next (omega (arith, c.add.ensures.kept, small_kept, voters, inv.small_kept));
       small_worths = λ n. subst (λ x. get_or totals.worths n 0 ≤ voter_count (take x e.rows) * 2 ^ 34) next

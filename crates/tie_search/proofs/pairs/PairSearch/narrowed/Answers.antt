@@ -7,7 +7,7 @@ returns-then-len-node-clause-narrowed g c weights are committee whole =
     let node = c.args.node.now in
     absurd (omega (
       arith,
-      completion-few c.args.self.now.profile.now.m node.set node.free node.left committee c.requires.opened whole,
+      completion-few c.args.self.now.profile.now.m node.set node.free node.left committee c.requires.is_node whole,
       c.len.ensures.count,
       c.if-len-node.true,
     ))

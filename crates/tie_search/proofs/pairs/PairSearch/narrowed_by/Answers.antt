@@ -10,11 +10,11 @@ returns-then-serves-clause-narrowed g c weights are =
     let node = c.args.node.now in
     let known : IsKnown e given c.in-Some.known = rw c.in-Some.is at c.requires.kept in
     (rw c.note_use.ensures.totals at c.narrowed_with.ensures) weights
-    (known-fewer e given c.in-Some.known node.set node.free node.left known c.requires.opened (c.if-serves.ensures.set refl) (c.if-serves.ensures.left refl) (c.if-serves.ensures.free refl) weights are)
+    (known-fewer e given c.in-Some.known node.set node.free node.left known c.requires.is_node (c.if-serves.ensures.set refl) (c.if-serves.ensures.left refl) (c.if-serves.ensures.free refl) weights are)
 
 pub returns-clause-kept : goal.returns-clause-kept
 returns-clause-kept g c = record {
-  opened = rw (c.of.ensures.set, c.of.ensures.free) c.requires.opened;
+  is_node = rw (c.of.ensures.set, c.of.ensures.free) c.requires.is_node;
   totals = rw (c.of.ensures.set, c.of.ensures.free, c.of.ensures.left, c.of.ensures.totals) c.add_ballots.ensures.totals;
   small = rw c.of.ensures.totals c.add_ballots.ensures.small;
 }
@@ -24,7 +24,7 @@ returns-then-serves-clause-kept g c =
     let known : IsKnown c.args.self.now.profile.now c.args.self.now.given.now c.in-Some.known = rw c.in-Some.is at c.requires.kept in
     let same = c.note_use.ensures in
     record {
-      opened = rw (same.set, same.free) known.opened;
+      is_node = rw (same.set, same.free) known.is_node;
       totals = rw (same.set, same.free, same.left, same.totals) known.totals;
       small = rw same.totals known.small;
     }

@@ -105,7 +105,7 @@ returns-then-most-due g c weights are =
     let sums = c.sums-sums.result in
     let t = c.nth_greatest-threshold.result in
     let raise = 2 * c.from-factor.result * c.from.result in
-    pairs-none weights self.given.now.scale self.given.now.unit e.m e.rows c.args.node.now.set c.args.node.now.free c.args.node.now.left totals.kept totals.worths totals.overlaps c.requires.opened c.requires.election.most c.requires.several c.requires.unit
+    pairs-none weights self.given.now.scale self.given.now.unit e.m e.rows c.args.node.now.set c.args.node.now.free c.args.node.now.left totals.kept totals.worths totals.overlaps c.requires.is_node c.requires.election.most c.requires.several c.requires.unit
     are self.least c.units.result raise c.units.ensures (raise-enough g (goal.at.returns-then-most-due g c).After-from)
     sums c.sums-sums.ensures.sums t (2 * c.from-factor.result * totals.kept + c.from-2.result * t + c.excess.result) c.saturating_add-due.result
     (greatest-is g (goal.at.returns-then-most-due g c).After-excess) (due-low g (goal.at.returns-then-most-due g c).After-saturating_add-due) c.if-most-due.true
@@ -118,7 +118,7 @@ returns g c weights are =
     let sums = c.sums-sums.result in
     let t = c.nth_greatest-threshold.result in
     let raise = 2 * c.from-factor.result * c.from.result in
-    pairs-narrowed weights self.given.now.scale self.given.now.unit e.m e.rows c.args.node.now.set c.args.node.now.free c.args.node.now.left totals.kept totals.worths totals.overlaps c.requires.opened c.requires.election.most c.requires.several c.requires.unit
+    pairs-narrowed weights self.given.now.scale self.given.now.unit e.m e.rows c.args.node.now.set c.args.node.now.free c.args.node.now.left totals.kept totals.worths totals.overlaps c.requires.is_node c.requires.election.most c.requires.several c.requires.unit
     are self.least c.units.result raise c.units.ensures (raise-enough g (goal.at.returns g c).After-from)
     sums c.sums-sums.ensures.sums t (2 * c.from-factor.result * totals.kept + c.from-2.result * t + c.excess.result) c.saturating_add-due.result
     (greatest-is g (goal.at.returns g c).After-excess) (due-low g (goal.at.returns g c).After-saturating_add-due) c.if-most-due.false c.at_least.result

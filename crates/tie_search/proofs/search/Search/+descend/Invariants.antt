@@ -1,6 +1,6 @@
 use Rattle.std.proofs.Common.{◌≡◌, ℕ, true, length}
 use Rattle.ballot_base.specs.CandSet.{has_member}
-use Rattle.tie_search.specs.Completions.{IsCompletion, IsOpen, tally_value}
+use Rattle.tie_search.specs.Completions.{IsCompletion, IsNode, tally_value}
 use Rattle.tie_search.specs.Steps.Found.{Advances, AreNew}
 use Rattle.tie_search.specs.Steps.Known.{AreKnownIf}
 use Rattle.tie_search.proofs.FoundLemmas.{AreSettledBut}
@@ -13,7 +13,7 @@ decreases-descend g l = l.node.left
 abbrev pub invariant-loop-node : goal.invariant-loop-node
 invariant-loop-node g l = record {
   known : AreKnownIf l.self.tally.now.election l.self.aids.now.sums l.known;
-  opened : IsOpen l.self.tally.now.election.m l.set l.rest;
+  is_node : IsNode l.self.tally.now.election.m l.set l.rest;
   among : (n : ℕ) → has_member l.rest n ≡ true → has_member l.initial.rest n ≡ true;
   advances : Advances (tally_value l.self.tally.now) (IsCompletion l.self.tally.now.election.m l.set l.fn.node.free l.left) l.fn.found l.found;
   new : AreNew l.self.tally.now.election.m l.set l.rest l.left l.found;

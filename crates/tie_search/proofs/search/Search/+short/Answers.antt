@@ -1,5 +1,5 @@
 use Rattle.std.proofs.Common.{arith}
-use Rattle.tie_search.proofs.CompletionLemmas.{member-low, member-high, open-with, open-without, without-shorter}
+use Rattle.tie_search.proofs.CompletionLemmas.{member-low, member-high, node-with, node-without, without-shorter}
 use Rattle.tie_search.proofs.search.Search.+short.Goals as goal
 
 pub with-requires-clause-low : goal.with-requires-clause-low
@@ -26,9 +26,9 @@ bounds-gains-from g t c =
 pub short-requires : goal.short-requires
 short-requires g t c κs within =
     let m = c.args.self.now.tally.now.election.m in
-    let opened = open-with m c.args.node.set c.loop-node.rest c.in-Some.next c.loop-node.invariant c.in-Some.ensures in (
+    let is_node = node-with m c.args.node.set c.loop-node.rest c.in-Some.next c.loop-node.invariant c.in-Some.ensures in (
       omega (arith, c.if-left-eq0-2.false, c.decreases),
-      (within, (c.requires.ballots, (c.requires.aids, rw c.with.ensures (rw c.without-rest.ensures opened)))),
+      (within, (c.requires.ballots, (c.requires.aids, rw c.with.ensures (rw c.without-rest.ensures is_node)))),
     )
 
 pub loop-node-smaller : goal.loop-node-smaller
@@ -38,4 +38,4 @@ loop-node-smaller g t c =
 
 pub loop-node-preserved : goal.loop-node-preserved
 loop-node-preserved g t c =
-    rw c.without-rest.ensures (open-without c.args.self.now.tally.now.election.m c.args.node.set c.loop-node.rest c.in-Some.next c.loop-node.invariant)
+    rw c.without-rest.ensures (node-without c.args.self.now.tally.now.election.m c.args.node.set c.loop-node.rest c.in-Some.next c.loop-node.invariant)

@@ -1,7 +1,7 @@
 use Rattle.std.proofs.Common.{[], refl, arith}
 use Rattle.ballot_base.specs.Lists.{IsIncreasing}
 use Rattle.tie_walk.proofs.LawLemmas.{IsIncreasing-range}
-use Rattle.tie_search.specs.Completions.{IsOpen}
+use Rattle.tie_search.specs.Completions.{IsNode}
 use Rattle.tie_search.proofs.WitnessLemmas.{candidates-among}
 use Rattle.tie_search.proofs.search.Search.climb.Goals as goal
 
@@ -9,12 +9,12 @@ pub loop-searched-init : goal.loop-searched-init
 loop-searched-init g c =
     rw c.m.ensures.value at (candidates-among c.m.result c.all-all.result c.args.start c.common-committee.result c.all-all.ensures c.common-committee.ensures)
 
-pub short-requires-clause-opened : goal.short-requires-clause-opened
-short-requires-clause-opened g c =
+pub short-requires-clause-is_node : goal.short-requires-clause-is_node
+short-requires-clause-is_node g c =
     let m = c.args.self.now.tally.now.election.m in
     let up : IsIncreasing 1 m c.all-all.result = rw (c.all-all.ensures, c.m.ensures.value) (IsIncreasing-range 1 m m (omega arith)) in
-    let opened : IsOpen m [] c.all-all.result = record { set_within = tt; free_within = up; apart = λ n is. refl } in
-    rw (c.seeking-better.ensures, c.node.ensures.set, c.node.ensures.free, c.empty.ensures) opened
+    let is_node : IsNode m [] c.all-all.result = record { set_within = tt; free_within = up; apart = λ n is. refl } in
+    rw (c.seeking-better.ensures, c.node.ensures.set, c.node.ensures.free, c.empty.ensures) is_node
 
 pub loop-searched-preserved : goal.loop-searched-preserved
 loop-searched-preserved g c =

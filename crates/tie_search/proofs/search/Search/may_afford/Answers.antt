@@ -24,7 +24,7 @@ returns g c short committee whole =
     let are : ArePrices tally c.in-Some.prices.unit c.in-Some.prices.base worths = rw c.in-Some.is at c.requires.aids.prices in
     let bound : scale * thiele_value are.weights tally.election.rows committee
     ≤ c.in-Some.prices.base + sum_by (λ n. get_or worths n 0 - 0) c.args.set + c.args.left * t + sum_by (λ n. get_or worths n 0 - t) c.args.free =
-    prices-bound tally c.in-Some.prices.unit c.in-Some.prices.base worths c.args.set c.args.free c.args.left t committee are c.requires.aids.election c.requires.opened whole in
+    prices-bound tally c.in-Some.prices.unit c.in-Some.prices.base worths c.args.set c.args.free c.args.left t committee are c.requires.aids.election c.requires.is_node whole in
     elim (cases_lt (tally_value tally committee) c.args.self.now.least) [
       | inl low ↦ low
       | inr high ↦
@@ -33,7 +33,7 @@ returns g c short committee whole =
           let units : div_ceil c.args.self.now.least c.in-Some.prices.unit ≤ thiele_value are.weights tally.election.rows committee =
           ceil-low c.args.self.now.least c.in-Some.prices.unit (thiele_value are.weights tally.election.rows committee) are.some (omega (arith, high, value)) in
           absurd (not-true c.may_reach.result short (c.may_reach.ensures.1 (
-            completion-few tally.election.m c.args.set c.args.free c.args.left committee c.requires.opened whole,
+            completion-few tally.election.m c.args.set c.args.free c.args.left committee c.requires.is_node whole,
             omega (arith, c.saturating_sub-needed.ensures, c.saturating_mul.ensures, ap (λ x. c.div_ceil-units.result * x) c.from.ensures, c.div_ceil-units.ensures, units, bound, c.excess.ensures.sum),
           )))
     ]

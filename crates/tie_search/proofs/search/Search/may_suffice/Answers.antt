@@ -7,7 +7,7 @@ use Rattle.tie_search.proofs.search.Search.may_suffice.Goals as goal
 
 pub most_covered-requires-clause-candidates : goal.most_covered-requires-clause-candidates
 most_covered-requires-clause-candidates g c =
-    rw c.union.ensures (IsIncreasing-either 1 c.args.self.now.tally.now.election.m c.args.set c.args.free c.requires.opened.set_within c.requires.opened.free_within)
+    rw c.union.ensures (IsIncreasing-either 1 c.args.self.now.tally.now.election.m c.args.set c.args.free c.requires.is_node.set_within c.requires.is_node.free_within)
 
 pub returns-in-Cc : goal.returns-in-Cc
 returns-in-Cc g c short left =

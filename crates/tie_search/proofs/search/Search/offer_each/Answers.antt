@@ -20,13 +20,13 @@ loop-candidate-init g c =
       rises = c.members-candidate-items.ensures.valid;
       among = c.at_least-enough.ensures.among;
       advances = advances-none (tally_value tally) (IsCompletion tally.election.m set free c.args.node.left) c.args.found.now c.requires.listed;
-      new = λ n in_. c.requires.new (with_member set n) (one-completes tally.election.m set free c.args.node.left c.requires.opened c.requires.last n (c.at_least-enough.ensures.among n in_));
+      new = λ n in_. c.requires.new (with_member set n) (one-completes tally.election.m set free c.args.node.left c.requires.is_node c.requires.last n (c.at_least-enough.ensures.among n in_));
       settled = λ n here. elim (cases_lt (tally_value tally (with_member set n)) c.args.found.now.least) [
         | inl low ↦ inl (inl low)
         | inr high ↦ inr (c.at_least-enough.ensures.kept n here (omega (
           arith,
           high,
-          joined-value tally set free c.args.gains.now c.args.node.value n n c.requires.aids.election c.requires.opened here c.requires.value c.requires.gains refl,
+          joined-value tally set free c.args.gains.now c.args.node.value n n c.requires.aids.election c.requires.is_node here c.requires.value c.requires.gains refl,
           c.saturating_sub.ensures,
         )))
       ];
@@ -39,7 +39,7 @@ overflow_add-value g c =
     let here = c.loop-candidate.invariant.among first (first-in c.loop-candidate.candidate-iterator c.next.new.self first c.in-Some.ensures.steps c.loop-candidate.invariant.rises) in
     omega (
       arith,
-      joined-small tally c.args.node.set c.args.node.free c.args.gains.now c.args.node.value first c.from.result c.requires.aids.election c.requires.aids.size c.requires.opened here c.requires.value c.requires.gains
+      joined-small tally c.args.node.set c.args.node.free c.args.gains.now c.args.node.value first c.from.result c.requires.aids.election c.requires.aids.size c.requires.is_node here c.requires.value c.requires.gains
           c.from.ensures,
     )
 
@@ -50,7 +50,7 @@ offer-requires-clause-small g c =
     let here = c.loop-candidate.invariant.among first (first-in c.loop-candidate.candidate-iterator c.next.new.self first c.in-Some.ensures.steps c.loop-candidate.invariant.rises) in
     omega (
       arith,
-      joined-small tally c.args.node.set c.args.node.free c.args.gains.now c.args.node.value first c.from.result c.requires.aids.election c.requires.aids.size c.requires.opened here c.requires.value c.requires.gains
+      joined-small tally c.args.node.set c.args.node.free c.args.gains.now c.args.node.value first c.from.result c.requires.aids.election c.requires.aids.size c.requires.is_node here c.requires.value c.requires.gains
           c.from.ensures,
     )
 
@@ -73,23 +73,23 @@ loop-candidate-preserved g c =
     let is = c.in-Some.ensures.steps in
     let inv = c.loop-candidate.invariant in
     let value : V (with_member set first) ≡ c.args.node.value + get_or c.args.gains.now c.from.result 0 =
-    sym (joined-value tally set free c.args.gains.now c.args.node.value first c.from.result c.requires.aids.election c.requires.opened (inv.among first (first-in items rest first is inv.rises)) c.requires.value
+    sym (joined-value tally set free c.args.gains.now c.args.node.value first c.from.result c.requires.aids.election c.requires.is_node (inv.among first (first-in items rest first is inv.rises)) c.requires.value
     c.requires.gains c.from.ensures) in
     let go : Advances V (λ other. other ≡ with_member set first) c.loop-candidate.found c.offer.new.self = (rw c.with.ensures at c.offer.ensures.advances) V value inv.advances.valid in
     let settled : IsSettled V c.offer.new.self (with_member set first) = (rw c.with.ensures at c.offer.ensures.settled) V value inv.advances.valid in
     record {
       rises = (rest-increasing most_candidates items rest first is inv.rises).1;
       among = λ n in_. inv.among n (later-in items rest first is inv.rises n in_);
-      advances = offered-advances m set free left c.requires.opened c.requires.last V items rest first c.loop-candidate.found c.offer.new.self is inv.rises inv.among go c.args.found.now inv.advances;
-      new = offered-new m set free left c.requires.opened c.requires.last V items rest first c.loop-candidate.found c.offer.new.self is inv.rises inv.among go inv.new;
-      settled = offered-settled m set free left c.requires.opened c.requires.last V items rest first c.loop-candidate.found c.offer.new.self is inv.rises inv.among go settled inv.settled;
+      advances = offered-advances m set free left c.requires.is_node c.requires.last V items rest first c.loop-candidate.found c.offer.new.self is inv.rises inv.among go c.args.found.now inv.advances;
+      new = offered-new m set free left c.requires.is_node c.requires.last V items rest first c.loop-candidate.found c.offer.new.self is inv.rises inv.among go inv.new;
+      settled = offered-settled m set free left c.requires.is_node c.requires.last V items rest first c.loop-candidate.found c.offer.new.self is inv.rises inv.among go settled inv.settled;
     }
 
 pub returns : goal.returns
 returns g c =
     let tally = c.args.self.now.tally.now in
     let inv = c.loop-candidate.invariant in
-    offered-all tally.election.m c.args.node.set c.args.node.free c.args.node.left c.requires.opened c.requires.last (tally_value tally) c.args.found.now c.loop-candidate.found inv.advances
+    offered-all tally.election.m c.args.node.set c.args.node.free c.args.node.left c.requires.is_node c.requires.last (tally_value tally) c.args.found.now c.loop-candidate.found inv.advances
     (λ n here. elim (inv.settled n here) [
       | inl settled ↦ settled
       | inr waits ↦ absurd (let e : false ≡ true = sym (ap (λ l. has_member l n) c.in-None.ensures.steps.0) ∙ waits in cc)

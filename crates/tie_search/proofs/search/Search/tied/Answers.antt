@@ -4,17 +4,17 @@ use Rattle.ballot_base.specs.CandSet.{has_member}
 use Rattle.ballot_base.specs.Lists.{IsIncreasing}
 use Rattle.tie_walk.proofs.LawLemmas.{IsIncreasing-range}
 use Rattle.tie_walk.proofs.StepLemmas.{has_member-range}
-use Rattle.tie_search.specs.Completions.{IsOpen, tally_value}
+use Rattle.tie_search.specs.Completions.{IsNode, tally_value}
 use Rattle.tie_search.specs.Steps.Found.{AreSearched}
 use Rattle.tie_search.proofs.FoundLemmas.{all-tied}
 use Rattle.tie_search.proofs.search.Search.tied.Goals as goal
 
-pub descend-requires-clause-opened : goal.descend-requires-clause-opened
-descend-requires-clause-opened g c =
+pub descend-requires-clause-is_node : goal.descend-requires-clause-is_node
+descend-requires-clause-is_node g c =
     let m = c.args.self.now.tally.now.election.m in
     let up : IsIncreasing 1 m c.all-all.result = rw (c.all-all.ensures, c.m.ensures.value) (IsIncreasing-range 1 m m (omega arith)) in
-    let opened : IsOpen m [] c.all-all.result = record { set_within = tt; free_within = up; apart = λ n is. refl } in
-    rw (c.node.ensures.set, c.node.ensures.free, c.empty.ensures) opened
+    let is_node : IsNode m [] c.all-all.result = record { set_within = tt; free_within = up; apart = λ n is. refl } in
+    rw (c.node.ensures.set, c.node.ensures.free, c.empty.ensures) is_node
 
 pub returns : goal.returns
 returns g c =
