@@ -7,7 +7,6 @@ ghost use Rattle.std.specs.Prelude.{◌≡◌};
 ghost use Rattle.tie_search.specs.Completions.{IsNode};
 ghost use Rattle.tie_search.specs.Steps.Searched.{IsAided};
 
-use crate::near::QuickAnswer;
 use crate::order::Order;
 use crate::search::{Node, Search, may_reach};
 use ballot_base::CandSet;
@@ -28,6 +27,16 @@ pub(crate) struct Good {
     pub(crate) is_best: bool,
 }
 
+/// What a short search ends with.
+enum ShortAnswer {
+    /// A committee that completes the node and has at least the value.
+    Found(CandSet),
+    /// There is no such committee.
+    NoneExists,
+    /// It is not known within the limit whether there is one.
+    GaveUp,
+}
+
 impl<A: Allocator + Copy> Search<'_, A> {
     /// Climbs from a committee to better ones of size k.
     pub(crate) fn climb(&self, start: CandSet, k: u8) -> Good
@@ -40,14 +49,14 @@ impl<A: Allocator + Copy> Search<'_, A> {
         for _searched in 0..MOST_SEARCHES {
             let better = self.seeking(self.tally.value(committee).saturating_add(1));
             match better.short(&mut patience, self.node(CandSet::empty(), all, k)) {
-                QuickAnswer::Found(found) => committee = all.common(found),
-                QuickAnswer::NoneExists => {
+                ShortAnswer::Found(found) => committee = all.common(found),
+                ShortAnswer::NoneExists => {
                     return Good {
                         committee,
                         is_best: true,
                     };
                 }
-                QuickAnswer::GaveUp => break,
+                ShortAnswer::GaveUp => break,
             }
         }
         Good {
@@ -57,23 +66,23 @@ impl<A: Allocator + Copy> Search<'_, A> {
     }
 
     /// Searches the completions of a node, the highest gains first, until the patience is over. It counts no pairs.
-    fn short(&self, patience: &mut u8, node: Node) -> QuickAnswer
+    fn short(&self, patience: &mut u8, node: Node) -> ShortAnswer
         requires ballots { self.now.profile.now ≡ self.now.tally.now.election }
         requires aids { IsAided self.now.tally.now self.now.aids.now }
         requires is_node { IsNode self.now.tally.now.election.m node.set node.free }
     {
         let (set, left) = (node.set, node.left);
         if left == 0 && node.value >= self.least {
-            return QuickAnswer::Found(set);
+            return ShortAnswer::Found(set);
         }
         if left == 0
             || !self.may_suffice(set, node.free)
             || !self.may_afford(set, node.free, left)
         {
-            return QuickAnswer::NoneExists;
+            return ShortAnswer::NoneExists;
         }
         if *patience == 0 {
-            return QuickAnswer::GaveUp;
+            return ShortAnswer::GaveUp;
         }
         *patience -= 1;
         let gains = self.gains_at(set, node.free);
@@ -98,10 +107,10 @@ impl<A: Allocator + Copy> Search<'_, A> {
                 left: left - 1,
             };
             match self.short(patience, child) {
-                QuickAnswer::NoneExists => (),
+                ShortAnswer::NoneExists => (),
                 answer => return answer,
             }
         }
-        QuickAnswer::NoneExists
+        ShortAnswer::NoneExists
     }
 }

@@ -6,11 +6,9 @@
 //! not on it leave. One of the free candidates on the ballot that can spare the fewest must join: each in turn is
 //! searched below and then leaves, with its clones.
 //!
-//! Most searches end after a few sets, so a quick search comes first. It does no more than that, and gives up after a
-//! limited number of sets. A thorough search then begins anew. While several seats are left, it also adds up all needs,
-//! each with a weight. A set is given up if the sum passes what the best free candidates can give, and a candidate
-//! leaves without whom the others fall short (`laws::weighted_needs`; Glover, Surrogate constraints, 1968). Any weights
-//! are right.
+//! While several seats are left, all needs are added up as well, each with a weight. A set is given up if the sum passes
+//! what the best free candidates can give, and a candidate leaves without whom the others fall short
+//! (`laws::weighted_needs`; Glover, Surrogate constraints, 1968). Any weights are right.
 ghost use Rattle.std.specs.Prelude.{◌≡◌, ℕ, ◌+◌, ◌-◌, ◌^◌, ◌≤◌, ◌&&◌, [], true, length};
 ghost use Rattle.std.specs.Prelude.{slice_index, MatchOption};
 ghost use Rattle.ballot_base.specs.Ballots.{IsElection};
@@ -19,7 +17,7 @@ ghost use Rattle.ballot_base.specs.CandSet.{has_member};
 ghost use Rattle.ballot_base.specs.Limits.{most_candidates};
 ghost use Rattle.tie_walk.specs.Values.{closeness};
 ghost use Rattle.tie_search.specs.Completions.{IsNode, IsOutOfReach};
-ghost use Rattle.tie_search.specs.Steps.Near.{AreBranches, AreWeighted, IsNarrowed, IsNearAnswer, IsQuickAnswer, need_weight, share_parts};
+ghost use Rattle.tie_search.specs.Steps.Near.{AreBranches, AreWeighted, IsNarrowed, IsNearAnswer, need_weight, share_parts};
 
 use crate::needs::still_needed;
 use crate::order::{first_member, nth_greatest};
@@ -27,12 +25,6 @@ use crate::search::{at_least, excess};
 use ballot_base::{CandSet, Clones, PLACES, Profile};
 use std::alloc::Allocator;
 use tie_walk::add_to_members;
-
-/// The most sets that a quick search may enter beside one for each seat. Any limit is right.
-const MOST_PATIENCE: usize = 8192;
-
-/// The sets that a quick search among all committees may enter. Such searches are few, so more can be spent on each.
-const FIRST_PATIENCE: usize = 16384;
 
 /// With fewer seats left than this, going through the sets is quicker than weighing needs. Any number is right.
 const FEWEST_SEATS: u8 = 4;
@@ -65,16 +57,6 @@ pub(crate) struct NearSearch<'a, A: Allocator + Copy> {
     pub(crate) most: u8,
 }
 
-/// What a quick search ends with.
-pub(crate) enum QuickAnswer {
-    /// A near committee that completes the set.
-    Found(CandSet),
-    /// There is no such committee.
-    NoneExists,
-    /// It is not known within the limit whether there is one.
-    GaveUp,
-}
-
 /// What all ballots still need, and what each free candidate can give. Each hit counts as much as the weight of the
 /// ballot.
 #[derive(Drop)]
@@ -92,69 +74,7 @@ impl<A: Allocator + Copy> NearSearch<'_, A> {
         requires is_node { IsNode self.now.profile.now.m set free }
         ensures { IsNearAnswer self.now.profile.now self.now.most set free left result }
     {
-        let mut patience = self.patience(set, left);
-        match self.find_quickly(set, free, left, &mut patience) {
-            QuickAnswer::Found(committee) => Some(committee),
-            QuickAnswer::NoneExists => None,
-            QuickAnswer::GaveUp => self.find_thoroughly(set, free, left),
-        }
-    }
-
-    /// How many sets a quick search may enter: enough to go straight to a committee, and mostly one more for each
-    /// ballot. A thorough search goes through all ballots for each set, a quick one mostly until an early ballot fails.
-    fn patience(&self, set: CandSet, left: u8) -> usize {
-        let spare = if set.is_empty() {
-            FIRST_PATIENCE
-        } else {
-            self.profile.rows().min(MOST_PATIENCE)
-        };
-        spare + usize::from(left)
-    }
-
-    /// Finds what `find_near` returns. Gives up if it would enter more sets than `patience`, from which each set takes
-    /// one.
-    fn find_quickly(
-        &self,
-        set: CandSet,
-        free: CandSet,
-        left: u8,
-        patience: &mut usize,
-    ) -> QuickAnswer
-        requires clones { AreClones self.now.profile.now.m self.now.profile.now.rows self.now.clones.now }
-        requires is_node { IsNode self.now.profile.now.m set free }
-        ensures { IsQuickAnswer self.now.profile.now self.now.most set free left result }
-    {
-        if *patience == 0 {
-            return QuickAnswer::GaveUp;
-        }
-        *patience -= 1;
-        let Some((choices, mut rest)) = self.choices(set, free, left, false) else {
-            return QuickAnswer::NoneExists;
-        };
-        if left == 0 {
-            return QuickAnswer::Found(set);
-        }
-        while let Some(next) = first_member(choices.common(rest)) {
-            let others = rest.without(next);
-            match self.find_quickly(set.with(next), others, left - 1, patience) {
-                QuickAnswer::Found(committee) => return QuickAnswer::Found(committee),
-                QuickAnswer::GaveUp => return QuickAnswer::GaveUp,
-                QuickAnswer::NoneExists => (),
-            }
-            // A committee with a clone of the candidate would be as near with the candidate in its place.
-            rest = others.minus(self.clones.class(next));
-        }
-        QuickAnswer::NoneExists
-    }
-
-    /// Finds what `find_near` returns, by weighted needs as well.
-    fn find_thoroughly(&self, set: CandSet, free: CandSet, left: u8) -> Option<CandSet>
-        requires clones { AreClones self.now.profile.now.m self.now.profile.now.rows self.now.clones.now }
-        requires shares { (n : ℕ) → slice_index self.now.shares.now n ≤ share_parts }
-        requires is_node { IsNode self.now.profile.now.m set free }
-        ensures { IsNearAnswer self.now.profile.now self.now.most set free left result }
-    {
-        let (choices, eligible) = self.choices(set, free, left, true)?;
+        let (choices, eligible) = self.choices(set, free, left)?;
         if left == 0 {
             return Some(set);
         }
@@ -162,11 +82,11 @@ impl<A: Allocator + Copy> NearSearch<'_, A> {
         let mut rest = self.narrowed(&needs, set, eligible, left)?;
         while let Some(next) = best_of(choices.common(rest), &needs.supports) {
             let others = rest.without(next);
-            let found = self.find_thoroughly(set.with(next), others, left - 1);
+            let found = self.find_near(set.with(next), others, left - 1);
             if let Some(committee) = found {
                 return Some(committee);
             }
-            // A clone leaves as well, as in `find_quickly`.
+            // A committee with a clone of the candidate would be as near with the candidate in its place.
             let untried = others.minus(self.clones.class(next));
             rest = self.narrowed(&needs, set, untried, left)?;
         }
@@ -174,15 +94,8 @@ impl<A: Allocator + Copy> NearSearch<'_, A> {
     }
 
     /// Two sets: branching candidates, at least one of which must join; and the candidates that are still eligible.
-    /// Returns `None` if some ballot needs more hits than it can have. If `by_need`, of ballots that can spare equally
-    /// few the one that needs most decides, and otherwise the first.
-    fn choices(
-        &self,
-        set: CandSet,
-        free: CandSet,
-        left: u8,
-        by_need: bool,
-    ) -> Option<(CandSet, CandSet)>
+    /// Returns `None` if some ballot needs more hits than it can have.
+    fn choices(&self, set: CandSet, free: CandSet, left: u8) -> Option<(CandSet, CandSet)>
         requires { IsNode self.now.profile.now.m set free }
         ensures { MatchOption result
             (IsOutOfReach (closeness self.now.profile.now.m self.now.profile.now.rows) self.now.profile.now.m set free
@@ -209,7 +122,7 @@ impl<A: Allocator + Copy> NearSearch<'_, A> {
                 rest = open;
             }
             let spare = open.len() - needed;
-            if is_tighter((spare, needed), tightest, by_need) {
+            if is_tighter((spare, needed), tightest) {
                 choices = open;
                 tightest = (spare, needed);
             }
@@ -306,10 +219,10 @@ fn best_of(set: CandSet, worths: &[u128; PLACES]) -> Option<u8>
 }
 
 /// Whether a ballot is tighter than the tightest before, each given by how many of its free candidates it can spare and
-/// how many hits it needs: it can spare fewer, or `by_need` counts, and it can spare equally few and needs more hits.
-/// Any ballot that needs a hit is right; a tight one leaves few candidates to try.
-fn is_tighter(ballot: (u8, u8), tightest: (u8, u8), by_need: bool) -> bool {
+/// how many hits it needs: it can spare fewer, or equally few and needs more hits. Any ballot that needs a hit is right;
+/// a tight one leaves few candidates to try.
+fn is_tighter(ballot: (u8, u8), tightest: (u8, u8)) -> bool {
     let (spare, needed) = ballot;
     let (fewest, most_needed) = tightest;
-    spare < fewest || by_need && spare == fewest && needed > most_needed
+    spare < fewest || spare == fewest && needed > most_needed
 }

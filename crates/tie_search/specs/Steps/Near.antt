@@ -1,12 +1,10 @@
 -- Steps of the search for a committee that is near each ballot.
-use Rattle.std.specs.Prelude.{◌≡◌, ℕ, ◌-◌, ◌*◌, ◌≤◌, true, List, length, slice_index, Option, MatchOption, ⊤}
+use Rattle.std.specs.Prelude.{◌≡◌, ℕ, ◌-◌, ◌*◌, ◌≤◌, true, List, length, slice_index, Option, MatchOption}
 use Rattle.ballot_base.specs.Ballots.{Row, Election, IsElection}
 use Rattle.ballot_base.specs.CandSet.{has_member}
 use Rattle.tie_walk.specs.Values.{closeness, greatest_distance}
 use Rattle.tie_search.specs.Completions.{IsNode, IsCompletion, IsOutOfReach, IsReaching}
 use Rattle.tie_search.specs.Needs.{weighted_needs, weighted_support}
-use Rattle.tie_search.specs.declared.near.QuickAnswer.{QuickAnswer}
-use Rattle.tie_search.specs.declared.near.QuickAnswer.TheVariants.{Found, NoneExists, GaveUp}
 
 -- free candidates of whom each committee has one that completes the set and reaches the value
 pub record AreChoices (value : List ℕ → ℕ) (m : ℕ) (set free : List ℕ) (left least : ℕ) (choices : List ℕ) : Type 0
@@ -28,13 +26,6 @@ abbrev pub IsNearAnswer : Election → ℕ → List ℕ → List ℕ → ℕ →
 IsNearAnswer e most set free left answer =
     MatchOption answer (IsOutOfReach (closeness e.m e.rows) e.m set free left (e.m - most))
     (IsReaching (closeness e.m e.rows) e.m set free left (e.m - most))
-
--- a quick search's answer, which says nothing if the search gave up
-abbrev pub IsQuickAnswer : Election → ℕ → List ℕ → List ℕ → ℕ → QuickAnswer → Type 0
-IsQuickAnswer e most set free left (Found committee) =
-    IsReaching (closeness e.m e.rows) e.m set free left (e.m - most) committee
-IsQuickAnswer e most set free left NoneExists = IsOutOfReach (closeness e.m e.rows) e.m set free left (e.m - most)
-IsQuickAnswer e most set free left GaveUp = ⊤
 
 -- what is known before a set grows: who may be tried, and who can still join
 pub record AreBranches (e : Election) (most : ℕ) (set free : List ℕ) (left : ℕ) (choices eligible : List ℕ) : Type 0

@@ -1,9 +1,11 @@
-use Rattle.std.proofs.Common.{◌≡◌, ◌+◌, ◌<◌, ◌≤◌, ℕ, true, List, [], arith, Option, None, Some}
+use Rattle.std.proofs.Common.{◌≡◌, ◌+◌, ◌<◌, ◌≤◌, ℕ, true, List, [], refl, arith, Option, None, Some}
 use Rattle.std.specs.Prelude.{MatchOption}
 use Rattle.ballot_base.specs.CandSet.{has_member}
+use Rattle.ballot_base.specs.Lists.{IsIncreasing}
 use Rattle.tie_walk.specs.Ceilings.{IsBound}
+use Rattle.tie_walk.proofs.LawLemmas.{IsIncreasing-range}
 use Rattle.tie_walk.proofs.StepLemmas.{has_member-range}
-use Rattle.tie_search.specs.Completions.{IsOutOfReach, IsReaching}
+use Rattle.tie_search.specs.Completions.{IsNode, IsOutOfReach, IsReaching}
 use Rattle.tie_search.specs.Steps.Searched.{IsBetter}
 use Rattle.tie_search.proofs.ReachLemmas.{completes-none}
 use Rattle.tie_search.proofs.exact.better_than.Goals as goal
@@ -19,6 +21,13 @@ found value m k all committee all-in (Some better) some = record {
   size = omega (arith, some.completes.size);
   more = omega (arith, some.reaches);
 }
+
+pub find-requires : goal.find-requires
+find-requires g c =
+    let m = g.S.Tally.candidates c.args.search.now in
+    let up : IsIncreasing 1 m c.all-all.result = rw (c.all-all.ensures, c.m.ensures.value) (IsIncreasing-range 1 m m (omega arith)) in
+    let is_node : IsNode m [] c.all-all.result = record { set_within = tt; free_within = up; apart = λ n is. refl } in
+    rw c.empty.ensures is_node
 
 pub returns : goal.returns
 returns g c =

@@ -1,5 +1,6 @@
 use Rattle.std.proofs.Common.{◌==◌, not, arith}
 use Rattle.ballot_base.proofs.Increasing.{IsIncreasing-filter, IsIncreasing-with_member}
+use Rattle.tie_walk.proofs.LawLemmas.{IsIncreasing-range}
 use Rattle.tie_search.proofs.CompletionLemmas.{member-low, member-high}
 use Rattle.tie_search.proofs.multipliers.dearest.Goals as goal
 use Rattle.tie_search.proofs.multipliers.dearest.Goals.{in-Some, in_default}
@@ -10,6 +11,12 @@ with-dearest-requires-clause-low c = member-low 1 c.args.m c.loop-passed.rest c.
 pub with-dearest-requires-clause-high : goal.with-dearest-requires-clause-high
 with-dearest-requires-clause-high c =
     omega (arith, c.requires, member-high 1 c.args.m c.loop-passed.rest c.in-Some.next c.loop-passed.invariant.rest c.in-Some.ensures)
+
+pub loop-passed-init : goal.loop-passed-init
+loop-passed-init c = record {
+  rest = rw c.all-rest.ensures (IsIncreasing-range 1 c.args.m c.args.m (omega arith));
+  dearest = rw c.empty-dearest.ensures tt;
+}
 
 pub loop-passed-preserved : goal.loop-passed-preserved
 loop-passed-preserved c = elim c.match-first_of.branch [

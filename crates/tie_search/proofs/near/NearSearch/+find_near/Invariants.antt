@@ -1,10 +1,10 @@
 use Rattle.std.proofs.Common.{◌+◌, ◌-◌, length}
 use Rattle.tie_walk.specs.Values.{closeness}
 use Rattle.tie_search.specs.Steps.Near.{AreWeighted, IsNarrowed}
-use Rattle.tie_search.proofs.near.NearSearch.+find_thoroughly.Given as goal
+use Rattle.tie_search.proofs.near.NearSearch.+find_near.Given as goal
 
-abbrev pub decreases-find_thoroughly : goal.decreases-find_thoroughly
-decreases-find_thoroughly g l = l.left
+abbrev pub decreases-find_near : goal.decreases-find_near
+decreases-find_near g l = l.left
 
 -- the committees that are near are among those of the candidates that were not tried, for whom the needs are weighted
 abbrev pub invariant-loop-next : goal.invariant-loop-next

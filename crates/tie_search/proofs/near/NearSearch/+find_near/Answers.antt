@@ -15,7 +15,7 @@ use Rattle.tie_search.proofs.NearClones.{closeness-exchanged}
 use Rattle.tie_search.proofs.NeedLemmas.{all-tried, choice-left, narrowed-clones, narrowed-more, narrowed-out, near-value}
 use Rattle.tie_search.proofs.PairLemmas.{length-among}
 use Rattle.tie_search.proofs.WeightLemmas.{weighted-fewer}
-use Rattle.tie_search.proofs.near.NearSearch.+find_thoroughly.Goals as goal
+use Rattle.tie_search.proofs.near.NearSearch.+find_near.Goals as goal
 
 -- a candidate was tried, and is struck out with its clones
 tried : (m most : ℕ) (rows : List Row) (set free rest clones : List ℕ) (left next : ℕ) → AllByRecursion (λ (row : Row). IsIncreasing 1 m row.0) rows
@@ -80,8 +80,8 @@ with-requires-clause-high g t c =
           (choice-left c.in_ok-choices.choices c.loop-next.rest c.common.result c.in-Some.next c.common.ensures c.in-Some.ensures.0),
     )
 
-pub find_thoroughly-found-requires : goal.find_thoroughly-found-requires
-find_thoroughly-found-requires g t c κs within =
+pub find_near-found-requires : goal.find_near-found-requires
+find_near-found-requires g t c κs within =
     let next = c.in-Some.next in
     let is_node : IsNode c.args.self.now.profile.now.m (with_member c.args.set next) (without_member c.loop-next.rest next) =
     node-with c.args.self.now.profile.now.m c.args.set c.loop-next.rest next c.loop-next.invariant.narrowed.is_node
