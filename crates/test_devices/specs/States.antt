@@ -1,12 +1,13 @@
--- What is told of the devices, by what contracts see of them.
-use Rattle.std.specs.Prelude.{ℕ, Bool, List, Some}
+-- What a run is told of the devices, by what contracts see of them.
+use Rattle.std.specs.Prelude.{Some}
 use Rattle.text_output.specs.Device.{ReaderState, WriterState}
-use Rattle.test_devices.specs.declared.devices.Fault.{Fault}
+use Rattle.test_devices.specs.Views.{ReaderView, WriterView}
 
 -- of a reader over bytes
-abbrev pub told_reader : List ℕ × Bool × ℕ × ℕ → ReaderState
-told_reader reader = record { remaining = Some reader.0; has_failed = reader.1; given = reader.3 }
+abbrev pub told_reader : ReaderView → ReaderState
+told_reader reader =
+    record { remaining = Some reader.remaining; has_failed = reader.has_failed; given = reader.given }
 
 -- of a writer that keeps what it took
-abbrev pub told_writer : List ℕ × ℕ × Bool × Fault → WriterState
-told_writer writer = record { contents = Some writer.0; has_failed = writer.2 }
+abbrev pub told_writer : WriterView → WriterState
+told_writer writer = record { contents = Some writer.taken; has_failed = writer.has_failed }

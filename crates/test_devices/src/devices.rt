@@ -1,9 +1,10 @@
 //! Devices that give and take few bytes at a time, and fail at a chosen call or byte.
-ghost use Rattle.std.specs.Prelude.{◌≡◌, ◌≢◌, ◌↔◌, ◌≤◌, ◌+◌, ◌-◌, ◌^◌, ◌==◌, ◌||◌, [], Some, true, false, IsErr, is_err, length, min, if◌then◌else◌};
+ghost use Rattle.std.specs.Prelude.{◌≡◌, ◌≢◌, ◌↔◌, ◌≤◌, ◌+◌, ◌-◌, ◌^◌, ◌==◌, ◌||◌, ◌&&◌, not, [], Some, true, IfOk, IsErr, is_err, length, min, if◌then◌else◌};
 ghost use Rattle.std.specs.Io.{ReadsAtMost, WritesAtMost};
 ghost use Rattle.std.specs.Io.KnownBytes.{ReadConsumes, WriteAppends};
 ghost use Rattle.text_output.specs.Device.{bytes_given, is_failed_write};
-ghost use Rattle.test_devices.specs.Faults.{IsDue};
+ghost use Rattle.test_devices.specs.Faults.{IsDue, is_zero_after};
+ghost use Rattle.test_devices.specs.Views.{new_reader, new_writer};
 
 use preflib_text::Trace;
 use std::alloc::Global;
@@ -13,23 +14,31 @@ use std::marker::Model;
 use text_output::{Device, Sink, Source};
 
 /// A reader over bytes. Contracts see the bytes that it has still to give, whether a call has failed, how many calls
-/// there are up to the one that fails (0 where none is to), and how many bytes it has given.
+/// there are up to the one that fails (0 if none is to fail), how many bytes it has given, and the most that it gives in
+/// a call.
 #[derive(Drop)]
 pub struct SliceReader<'a> {
     rest: &'a [u8],
     piece: usize,
-    /// How many calls there are up to the one that fails, and 0 where none is to.
-    left: u64,
+    /// How many calls there are up to the one that fails, and 0 if none is to fail.
+    calls_left: u64,
     has_failed: bool,
     given: Trace,
 }
 
 impl<'a> Model for SliceReader<'a> {
-    ghost use Rattle.std.specs.Prelude.{ℕ, ◌≤◌, Bool, List, length};
+    ghost use Rattle.std.specs.Prelude.{◌≤◌, length};
+    ghost use Rattle.test_devices.specs.Views.{ReaderView};
 
-    ghost Value = { List ℕ × Bool × ℕ × ℕ };
+    ghost Value = { ReaderView };
 
-    ghost view = { λ reader. (reader.rest.now, reader.has_failed, reader.left, length reader.given.bytes) };
+    ghost view = { λ reader. record {
+      remaining = reader.rest.now;
+      has_failed = reader.has_failed;
+      calls_left = reader.calls_left;
+      given = length reader.given.bytes;
+      piece = reader.piece;
+    } };
 
     ghost invariant = { λ reader. 1 ≤ reader.piece };
 }
@@ -38,7 +47,7 @@ impl<'a> SliceReader<'a> {
     /// Gives at most `piece` bytes a call, and never fails.
     pub fn new(bytes: &'a [u8], piece: usize) -> SliceReader<'a>
         requires some { 1 ≤ piece }
-        ensures { result ≡ (bytes.now, false, 0, 0) }
+        ensures { result ≡ new_reader bytes.now piece 0 }
     {
         SliceReader::failing(bytes, piece, 0)
     }
@@ -47,12 +56,12 @@ impl<'a> SliceReader<'a> {
     /// after it are not. With 0 no call is.
     pub fn failing(bytes: &'a [u8], piece: usize, fails: u64) -> SliceReader<'a>
         requires some { 1 ≤ piece }
-        ensures { result ≡ (bytes.now, false, fails, 0) }
+        ensures { result ≡ new_reader bytes.now piece fails }
     {
         SliceReader {
             rest: bytes,
             piece,
-            left: fails,
+            calls_left: fails,
             has_failed: false,
             given: Trace::new(),
         }
@@ -60,7 +69,7 @@ impl<'a> SliceReader<'a> {
 }
 
 impl<'a> Device for SliceReader<'a> {
-    ghost has_failed = { λ reader. reader.1 };
+    ghost has_failed = { λ reader. reader.has_failed };
 
     fn failed(&self) -> bool {
         self.has_failed
@@ -68,20 +77,22 @@ impl<'a> Device for SliceReader<'a> {
 }
 
 impl<'a> Source for SliceReader<'a> {
-    ghost remaining = { λ reader. Some reader.0 };
+    ghost remaining = { λ reader. Some reader.remaining };
 
-    ghost given = { λ reader. reader.3 };
+    ghost given = { λ reader. reader.given };
 
     fn read(&mut self, buf: &mut [u8]) -> io::Result<usize>
         ensures bound { ReadsAtMost result buf.new }
-        ensures bytes { ReadConsumes (Some self.old.0) (Some self.new.0) result buf.new }
-        ensures given { self.new.3 ≡ self.old.3 + bytes_given result }
-        ensures failed { self.new.1 ≡ (self.old.1 || is_err result) }
-        ensures due { is_err result ≡ (self.old.2 == 1) }
-        ensures left { self.new.2 ≡ self.old.2 - 1 }
+        ensures bytes { ReadConsumes (Some self.old.remaining) (Some self.new.remaining) result buf.new }
+        ensures given { self.new.given ≡ self.old.given + bytes_given result }
+        ensures failed { self.new.has_failed ≡ (self.old.has_failed || is_err result) }
+        ensures due { is_err result ≡ (self.old.calls_left == 1) }
+        ensures left { self.new.calls_left ≡ self.old.calls_left - 1 }
+        ensures piece { IfOk result (λ n. n ≤ self.old.piece) }
+        ensures same_piece { self.new.piece ≡ self.old.piece }
     {
-        let is_due = self.left == 1;
-        self.left = self.left.saturating_sub(1);
+        let is_due = self.calls_left == 1;
+        self.calls_left = self.calls_left.saturating_sub(1);
         if is_due {
             self.has_failed = true;
             return Err(io::Error::from(ErrorKind::Other));
@@ -109,7 +120,7 @@ pub enum Fault {
 }
 
 /// A writer that keeps what it took, and counts its flushes. Contracts see the bytes, the count, whether a call has
-/// failed, and the fault that has still to show.
+/// failed, the fault that has still to show, and the most bytes that it takes in a call.
 #[derive(Drop)]
 pub struct Recorder {
     taken: Vec<u8>,
@@ -120,19 +131,24 @@ pub struct Recorder {
 }
 
 impl Model for Recorder {
-    ghost use Rattle.std.specs.Prelude.{ℕ, Bool, List};
     ghost use Rattle.std.specs.Vec.{vec_items};
-    ghost use Rattle.test_devices.specs.declared.devices.Fault.{Fault};
+    ghost use Rattle.test_devices.specs.Views.{WriterView};
 
-    ghost Value = { List ℕ × ℕ × Bool × Fault };
+    ghost Value = { WriterView };
 
-    ghost view = { λ writer. (vec_items writer.taken, writer.flushes, writer.has_failed, writer.fault) };
+    ghost view = { λ writer. record {
+      taken = vec_items writer.taken;
+      flushes = writer.flushes;
+      has_failed = writer.has_failed;
+      fault = writer.fault;
+      piece = writer.piece;
+    } };
 }
 
 impl Recorder {
-    /// Took nothing yet, and takes at most `piece` bytes a call.
+    /// Took nothing yet, and takes at most `piece` bytes a call. With 0 each write of one or more bytes fails.
     pub fn new(alloc: Global, piece: usize, fault: Fault) -> Recorder
-        ensures { result ≡ ([], 0, false, fault) }
+        ensures { result ≡ new_writer piece fault }
     {
         Recorder {
             taken: Vec::new(alloc),
@@ -145,21 +161,21 @@ impl Recorder {
 
     /// The bytes that it took.
     pub fn taken(&self) -> &[u8]
-        ensures { result.now ≡ self.now.0 }
+        ensures { result.now ≡ self.now.taken }
     {
         self.taken.as_slice()
     }
 
     /// How often it was flushed. The count stays at its greatest number.
     pub fn flushes(&self) -> u64
-        ensures { result ≡ self.now.1 }
+        ensures { result ≡ self.now.flushes }
     {
         self.flushes
     }
 
     /// How many bytes more it takes before its fault shows.
     fn room(&self) -> usize
-        ensures { IsDue self.now.3 (length self.now.0) → result ≡ 0 }
+        ensures { IsDue self.now.fault (length self.now.taken) → result ≡ 0 }
     {
         match self.fault {
             Fault::ErrorAfter(most) | Fault::ZeroAfter(most) => {
@@ -171,7 +187,7 @@ impl Recorder {
 }
 
 impl Device for Recorder {
-    ghost has_failed = { λ writer. writer.2 };
+    ghost has_failed = { λ writer. writer.has_failed };
 
     fn failed(&self) -> bool {
         self.has_failed
@@ -179,15 +195,19 @@ impl Device for Recorder {
 }
 
 impl Sink for Recorder {
-    ghost contents = { λ writer. Some writer.0 };
+    ghost contents = { λ writer. Some writer.taken };
 
     fn write(&mut self, buf: &[u8]) -> io::Result<usize>
         ensures bound { WritesAtMost result buf.now }
-        ensures bytes { WriteAppends (Some self.old.0) (Some self.new.0) result buf.now }
-        ensures failed { self.new.2 ≡ (self.old.2 || is_failed_write result buf.now) }
-        ensures count { self.new.1 ≡ self.old.1 }
-        ensures due { IsDue self.old.3 (length self.old.0) → buf.now ≢ [] → is_failed_write result buf.now ≡ true }
-        ensures fault { self.new.3 ≡ (if is_failed_write result buf.now then Fault.Sound else self.old.3) }
+        ensures bytes { WriteAppends (Some self.old.taken) (Some self.new.taken) result buf.now }
+        ensures failed { self.new.has_failed ≡ (self.old.has_failed || is_failed_write result buf.now) }
+        ensures count { self.new.flushes ≡ self.old.flushes }
+        ensures due { IsDue self.old.fault (length self.old.taken) → buf.now ≢ []
+            → is_failed_write result buf.now ≡ true }
+        ensures error { is_err result ≡ (is_failed_write result buf.now && not (is_zero_after self.old.fault)) }
+        ensures fault { self.new.fault ≡ (if is_failed_write result buf.now then Fault.Sound else self.old.fault) }
+        ensures piece { IfOk result (λ n. n ≤ self.old.piece) }
+        ensures same_piece { self.new.piece ≡ self.old.piece }
     {
         if buf.is_empty() {
             return Ok(0);
@@ -206,10 +226,12 @@ impl Sink for Recorder {
     }
 
     fn flush(&mut self) -> io::Result<()>
-        ensures bytes { self.new.0 ≡ self.old.0 }
-        ensures count { self.new.1 ≡ min (self.old.1 + 1) (2 ^ 64 - 1) }
-        ensures due { IsErr result ↔ (self.old.3 ≡ Fault.AtFlush) }
-        ensures failed { self.new.2 ≡ (self.old.2 || is_err result) }
+        ensures bytes { self.new.taken ≡ self.old.taken }
+        ensures count { self.new.flushes ≡ min (self.old.flushes + 1) (2 ^ 64 - 1) }
+        ensures due { IsErr result ↔ (self.old.fault ≡ Fault.AtFlush) }
+        ensures failed { self.new.has_failed ≡ (self.old.has_failed || is_err result) }
+        ensures fault { self.new.fault ≡ (if is_err result then Fault.Sound else self.old.fault) }
+        ensures same_piece { self.new.piece ≡ self.old.piece }
     {
         self.flushes = self.flushes.saturating_add(1);
         if self.fault != Fault::AtFlush {
