@@ -1,6 +1,7 @@
 //! Runs over the devices.
-ghost use Rattle.std.specs.Prelude.{◌≡◌, [], true, false};
+ghost use Rattle.std.specs.Prelude.{◌≡◌, true};
 ghost use Rattle.test_devices.specs.States.{told_reader, told_writer};
+ghost use Rattle.test_devices.specs.Views.{new_reader, new_writer};
 ghost use Rattle.vote_cli.specs.Runs.{Ends, has_votes};
 
 use std::alloc::{Allocator, Global};
@@ -9,14 +10,14 @@ use vote_cli::{Request, Status, run};
 
 /// A reader that gives all that is asked for, and never fails.
 pub(super) fn reader(bytes: &[u8]) -> SliceReader<'_>
-    ensures { result ≡ (bytes.now, false, 0, 0) }
+    ensures { result ≡ new_reader bytes.now usize.MAX 0 }
 {
     SliceReader::new(bytes, usize::MAX)
 }
 
 /// A writer that takes all that it is given, and never fails.
 pub(super) fn writer(alloc: Global) -> Recorder
-    ensures { result ≡ ([], 0, false, Fault.Sound) }
+    ensures { result ≡ new_writer usize.MAX Fault.Sound }
 {
     Recorder::new(alloc, usize::MAX, Fault::Sound)
 }

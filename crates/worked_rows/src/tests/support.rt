@@ -73,9 +73,9 @@ pub(super) fn assert_ended(
     wanted: Wanted<'_>,
 )
     ensures status { code_of ended.now.status ≡ wanted.entry.status }
-    ensures devices { (ended.now.reader.1 || ended.now.out.2) ≡ (wanted.entry.status == 6) }
-    ensures out { ended.now.out.0 ≡ wanted.entry.out.now }
-    ensures err { ended.now.err.0 ≡ wanted.entry.err.now }
+    ensures devices { (ended.now.reader.has_failed || ended.now.out.has_failed) ≡ (wanted.entry.status == 6) }
+    ensures out { ended.now.out.taken ≡ wanted.entry.out.now }
+    ensures err { ended.now.err.taken ≡ wanted.entry.err.now }
 {
     let status = ended.status.code();
     let has_failed = ended.reader.failed() || ended.out.failed();
