@@ -1,4 +1,5 @@
 //! Runs from words and bytes to bytes, and what devices and memory do to them.
+mod calls;
 mod drawn;
 mod failures;
 mod growths;
