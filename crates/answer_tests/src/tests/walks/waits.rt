@@ -4,11 +4,11 @@ ghost use Rattle.ballot_base.specs.Limits.{most_candidates, most_members};
 ghost use Rattle.tie_walk.specs.Ceilings.{IsTight};
 ghost use Rattle.tie_walk.specs.Winners.{IsStart};
 
-use super::super::support::{Counting, assert_of, committee_of, election_of};
-use ballot_base::{CandSet, MOST_CANDIDATES, Profile, ThieleRule};
+use super::super::support::{Counting, Draw, assert_of, committee_of, election_of, random_ballots};
+use ballot_base::{CandSet, KSets, MOST_CANDIDATES, Profile, ThieleRule};
 use std::process::Abort;
 use tie_walk::laws::short_waits;
-use tie_walk::{SavTally, Tally, ThieleTally, Winners};
+use tie_walk::{MinimaxTally, SavTally, Tally, ThieleTally, Winners};
 
 /// Asserts how many bounds were asked for before each call for a winner, for one seat and three candidates.
 fn assert_bounds<T: Tally>(rt: &impl Abort, tally: &T, counts: &[u128])
@@ -65,26 +65,32 @@ fn bounds_of_satisfaction(profile: &Profile, k: u8) -> u128
     bounds_to_the_next(&mut winners)
 }
 
-/// Whether as many bounds were asked for as the tally counted, at most four for each of m candidates.
-fn is_counted(bounds: u128, counted: u64, m: u8) -> bool {
-    bounds == u128::from(counted) && bounds <= 4 * u128::from(m)
+/// Whether a call gives a winner, and how many bounds it asks the tally for. It has to count just these.
+fn call_counted<T: Tally>(
+    rt: &impl Abort,
+    counting: &Counting<'_, T>,
+    winners: &mut Winners<Counting<'_, T>>,
+) -> (bool, u128) {
+    let (before, asked) = (winners.ceilings(), counting.bounds());
+    let winner = winners.next();
+    let bounds = winners.ceilings().saturating_sub(before);
+    let counted = u128::from(counting.bounds().saturating_sub(asked));
+    assert_of(rt, bounds == counted, "bounds, counted", bounds, counted);
+    (winner.is_some(), counted)
 }
 
-/// Whether a call gives a winner. It has to count just the bounds that it asks the tally for, at most four for each
-/// candidate.
+/// Whether a call gives a winner. It has to ask for at most four bounds for each candidate, as bounds that are never too
+/// high allow.
 fn gives_winner<T: Tally>(
     rt: &impl Abort,
     counting: &Counting<'_, T>,
     winners: &mut Winners<Counting<'_, T>>,
     call: u16,
 ) -> bool {
-    let (before, asked) = (winners.ceilings(), counting.bounds());
-    let winner = winners.next();
-    let bounds = winners.ceilings().saturating_sub(before);
-    let counted = counting.bounds().saturating_sub(asked);
-    let is_right = is_counted(bounds, counted, counting.m());
-    assert_of(rt, is_right, "bounds, call", bounds, call as u128);
-    winner.is_some()
+    let (is_found, bounds) = call_counted(rt, counting, winners);
+    let is_short = bounds <= 4 * u128::from(counting.m());
+    assert_of(rt, is_short, "bounds, call", bounds, call as u128);
+    is_found
 }
 
 /// How many winners come in so many calls, whose bounds are counted by a tally that answers nothing else.
@@ -145,4 +151,66 @@ fn waits_for_the_only_winner(rt: HostRuntime) {
         count_with_waits(&rt, &tally, 20, None, 3) == 1,
         "the only winner"
     );
+}
+
+/// More calls than the elections below have winners of one size.
+const MANY_CALLS: u16 = 100;
+
+/// Asserts that each call for a winner after a start, or for any, up to the first that gives none, counts the bounds that
+/// it asks for. Returns how many bounds were asked for and are not counted: those of the walk to the greatest value.
+fn uncounted<T: Tally>(rt: &impl Abort, tally: &T, k: u8, start: Option<CandSet>) -> u128
+    requires some { 1 ≤ k }
+    requires fits { k ≤ T.candidates tally.now }
+    requires start { IsStart (T.candidates tally.now) k start }
+{
+    let counting = Counting::new(tally);
+    let mut winners = Winners::new(&counting, counting.m(), k, start);
+    for _ in 0..MANY_CALLS {
+        if !call_counted(rt, &counting, &mut winners).0 {
+            return u128::from(counting.bounds()).saturating_sub(winners.ceilings());
+        }
+    }
+    panic!(rt; "winners without end");
+}
+
+/// Asserts that all bounds are counted from the start on, after each start and without one: the walk to the greatest
+/// value is the same.
+fn assert_counted<T: Tally>(rt: &impl Abort, tally: &T, m: u8, k: u8)
+    requires candidates { m ≡ T.candidates tally.now }
+    requires most { m ≤ most_candidates }
+    requires some { 1 ≤ k }
+    requires fits { k ≤ m }
+{
+    let wanted = uncounted(rt, tally, k, None);
+    for start in KSets::new(m, k) {
+        let bounds = uncounted(rt, tally, k, Some(start));
+        assert_of(rt, bounds == wanted, "not counted, wanted", bounds, wanted);
+    }
+}
+
+/// Asserts the same under every rule.
+fn assert_rules(rt: &impl Abort, profile: &Profile, m: u8, k: u8)
+    requires candidates { m ≡ profile.now.m }
+    requires most { m ≤ most_members }
+    requires some { 1 ≤ k }
+    requires fits { k ≤ m }
+{
+    for rule in &ThieleRule::ALL {
+        assert_counted(rt, &ThieleTally::new(profile, *rule, k), m, k);
+    }
+    assert_counted(rt, &SavTally::new(profile), m, k);
+    assert_counted(rt, &MinimaxTally::new(profile), m, k);
+}
+
+#[test]
+fn bounds_of_small_elections(rt: HostRuntime) {
+    let draws = [Draw::Few, Draw::Many, Draw::Neighbours, Draw::Alike];
+    for seed in 0..16_u8 {
+        let m = 3 + seed / 4;
+        let ballots = random_ballots(draws[usize::from(seed % 4)], u64::from(seed), 5, 1);
+        let profile = election_of(&rt, rt.alloc(), m, &ballots);
+        for k in 1..m + 1 {
+            assert_rules(&rt, &profile, m, k);
+        }
+    }
 }
