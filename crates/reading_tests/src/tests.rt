@@ -2,6 +2,7 @@
 mod builders;
 mod files;
 mod growths;
+mod kept;
 mod mutants;
 mod pieces;
 mod sets;
