@@ -65,8 +65,8 @@ fn assert_taken(rt: &impl Abort, heap: &Measured, reader: &mut LineReader<&Measu
     assert!(rt; usage.now > before, "{before}, {usage:?}");
 }
 
-/// Asserts what a reader keeps: the room for a line, then a name and ballots, nothing of lines that bring nothing new, and
-/// more ballots.
+/// Asserts what a reader keeps: the room for a line, then a name and ballots, nothing of lines that bring nothing new,
+/// and more ballots.
 fn assert_kept_by_reader(rt: &impl Abort, heap: &Measured, pick: Pick, lines: &[u8])
     requires { HasNumber pick.way }
 {

@@ -79,8 +79,8 @@ fn call_counted<T: Tally>(
     (winner.is_some(), counted)
 }
 
-/// Whether a call gives a winner. It has to ask for at most four bounds for each candidate, as bounds that are never too
-/// high allow.
+/// Whether a call gives a winner. It has to ask for at most four bounds for each candidate, as bounds that are never
+/// too high allow.
 fn gives_winner<T: Tally>(
     rt: &impl Abort,
     counting: &Counting<'_, T>,
@@ -156,8 +156,9 @@ fn waits_for_the_only_winner(rt: HostRuntime) {
 /// More calls than the elections below have winners of one size.
 const MANY_CALLS: u16 = 100;
 
-/// Asserts that each call for a winner after a start, or for any, up to the first that gives none, counts the bounds that
-/// it asks for. Returns how many bounds were asked for and are not counted: those of the walk to the greatest value.
+/// Asserts that each call for a winner after a start, or for any, up to the first that gives none, counts the bounds
+/// that it asks for. Returns how many bounds were asked for and are not counted: those of the walk to the greatest
+/// value.
 fn uncounted<T: Tally>(rt: &impl Abort, tally: &T, k: u8, start: Option<CandSet>) -> u128
     requires some { 1 ≤ k }
     requires fits { k ≤ T.candidates tally.now }
