@@ -1,5 +1,5 @@
 -- `request_of`, the refusals after clap and clap's kinds of refusal, computed.
-use Rattle.std.proofs.Common.{◌≡◌, false, refl, true, List, [], ◌∷◌, codes, inl, ℕ}
+use Rattle.std.proofs.Common.{◌≡◌, false, refl, true, true≢false, List, [], ◌∷◌, codes, inl, inr, ℕ, Global, Result, String}
 use Rattle.std.specs.Prelude.{Option, Some, None, Ok, Err}
 use Rattle.clap.specs.Words.{Text, fault_of}
 use Rattle.clap.proofs.OnLiterals.{clap_on_literals}
@@ -17,14 +17,16 @@ use Rattle.preflib_text.specs.declared.pick.Way.{Way}
 use Rattle.preflib_text.specs.declared.pick.Way.TheVariants.{Usual, Category, SetSize, Classes}
 use Rattle.group_check.specs.declared.property.Property.TheVariants.{Jr, Pjr, Ejr, EjrPlus}
 use Rattle.seat_share.specs.declared.method.Method.TheVariants.{Hamilton, Dhondt, SainteLague, Huntington, Adams, Dean}
-use Rattle.request_words.specs.declared.words.LineFault.TheVariants.{BadList, TwoPicks, VotesAndInput, Memory}
+use Rattle.request_words.specs.declared.words.LineFault.TheVariants.{Help, Usage, BadList, TwoPicks, VotesAndInput, Memory}
+use Rattle.request_words.specs.declared.words.LineFault.{LineFault}
+use Rattle.request_words.specs.declared.words.ListOption.{ListOption}
 use Rattle.request_words.specs.declared.words.ListOption.TheVariants.{Committee, Votes, After}
 use Rattle.request_words.specs.Endings.{after_last, kind_in_path}
 use Rattle.request_words.specs.NumberList.{all_there, entry_of, list_of}
 use Rattle.group_check.specs.Names.{property_named}
 use Rattle.seat_share.specs.Names.{method_named}
 use Rattle.request_words.specs.Names.{method_names, property_names, rule_name, rule_named, rule_names}
-use Rattle.request_words.specs.Words.{IsMisused, line_of, listed, outcome_of, program, request_of, way_by}
+use Rattle.request_words.specs.Words.{AsksForHelp, IsMisused, RefusesWords, line_of, listed, outcome_of, program, request_of, way_by}
 
 -- `committees elect` and these words
 abbrev elect_words : List Text → List Text
@@ -373,3 +375,67 @@ the_votes_before_the_start = refl
 the_start_before_votes_and_input : outcome_of (adams (codes "--votes=1" ∷ codes "--after=1," ∷ codes "a.soi" ∷ [])) ≡ Some (Err (BadList After))
 unfolding clap_on_literals after_last
 the_start_before_votes_and_input = refl
+
+-- ---- refusals, by their faults
+
+-- `committees --help`
+abbrev help_words : List Text
+help_words = codes "committees" ∷ codes "--help" ∷ []
+
+asks_for_help : AsksForHelp help_words
+unfolding clap_on_literals
+asks_for_help = (refl, inl refl)
+
+-- neither a request nor misused words ask for help
+a_request_asks_for_no_help : AsksForHelp (one_seat []) → ⊥
+unfolding clap_on_literals
+a_request_asks_for_no_help asks = absurd (true≢false asks.0)
+
+no_command_asks_for_no_help : AsksForHelp (codes "committees" ∷ []) → ⊥
+unfolding clap_on_literals
+no_command_asks_for_no_help (refused, inl same) = let h : kind.DisplayHelp ≡ kind.MissingSubcommand = same in cc
+no_command_asks_for_no_help (refused, inr none) = absurd none
+
+-- clap's own texts are not fixed
+help_is_a_refusal : (text : String Global) → RefusesWords help_words (Help text)
+unfolding clap_on_literals
+help_is_a_refusal text = (refl, inl refl)
+
+no_command_is_a_refusal : (text : String Global) → RefusesWords (codes "committees" ∷ []) (Usage text)
+unfolding clap_on_literals
+no_command_is_a_refusal text = (refl, (kind.MissingSubcommand, inl refl, λ e. cc, λ e. cc))
+
+two_picks_are_a_refusal : RefusesWords (one_seat (codes "--category=1" ∷ codes "--classes=2" ∷ [])) TwoPicks
+unfolding clap_on_literals
+two_picks_are_a_refusal = refl
+
+votes_and_input_are_a_refusal : RefusesWords (adams (codes "--votes=3,1" ∷ codes "a.toi" ∷ [])) VotesAndInput
+unfolding clap_on_literals after_last
+votes_and_input_are_a_refusal = refl
+
+a_bad_list_is_a_refusal : RefusesWords (adams (codes "--votes=3," ∷ [])) (BadList Votes)
+unfolding clap_on_literals
+a_bad_list_is_a_refusal = refl
+
+-- words have one outcome: a request, or one of these faults
+two_faults : (outcome : Option (Result Request LineFault)) → outcome ≡ Some (Err TwoPicks) → outcome ≡ Some (Err VotesAndInput) → ⊥
+two_faults outcome picks votes = cc
+
+two_picks_are_no_other_fault : RefusesWords (one_seat (codes "--category=1" ∷ codes "--classes=2" ∷ [])) VotesAndInput → ⊥
+unfolding clap_on_literals
+two_picks_are_no_other_fault refused = two_faults (Some (Err TwoPicks)) refl refused
+
+a_request_is_no_fault : {asked : Request} {fault : LineFault} → Some (Ok asked) ≡ Some (Err fault) → ⊥
+a_request_is_no_fault same = cc
+
+a_request_is_not_refused : (option : ListOption) (text : String Global) → (RefusesWords (one_seat []) (Help text) → ⊥)
+    × (RefusesWords (one_seat []) (Usage text) → ⊥) × (RefusesWords (one_seat []) (BadList option) → ⊥)
+    × (RefusesWords (one_seat []) TwoPicks → ⊥) × (RefusesWords (one_seat []) VotesAndInput → ⊥)
+unfolding clap_on_literals
+a_request_is_not_refused option text = (
+  λ asks. absurd (true≢false asks.0),
+  λ misused. absurd (true≢false misused.0),
+  λ same. a_request_is_no_fault same,
+  λ same. a_request_is_no_fault same,
+  λ same. a_request_is_no_fault same,
+)
