@@ -1,5 +1,5 @@
 -- Answers and what runs leave, computed on small examples.
-use Rattle.std.proofs.Common.{Option, ◌≡◌, ℕ, zero, suc, arith, ◌+◌, ◌^◌, List, [], ◌∷◌, ◌++◌, true, false, true≢false, sym, Some, None, Ok, Err, inl, inr, refl, lit≤, Bool}
+use Rattle.std.proofs.Common.{Option, ◌≡◌, ℕ, zero, suc, ap, arith, ◌+◌, ◌^◌, List, [], ◌∷◌, ◌++◌, true, false, true≢false, sym, ◌∙◌, Some, None, Ok, Err, inl, inr, refl, lit≤, Bool}
 use Rattle.std.specs.Prelude.{codes}
 use Rattle.std.specs.List.{range_with_len}
 use Rattle.std.proofs.lemmas.Bool.{both_ways}
@@ -9,6 +9,7 @@ use Rattle.ballot_base.specs.Ballots.{Election, Row, election}
 use Rattle.ballot_base.specs.declared.increments.ThieleRule.TheVariants.{Av}
 use Rattle.request_words.specs.declared.request.Rule.TheVariants.{Scored}
 use Rattle.request_words.specs.declared.request.ScoredRule.TheVariants.{Thiele}
+use Rattle.vote_cli.specs.declared.status.Status.{Status}
 use Rattle.vote_cli.specs.declared.status.Status.TheVariants.{Answered, Violated, InputRefused, RequestRefused, NoMemory, DeviceFailed}
 use Rattle.vote_cli.specs.declared.answers.Outcome.TheVariants as outcome
 use Rattle.vote_cli.specs.declared.refusal.RequestFault.TheVariants as request_fault
@@ -25,7 +26,7 @@ use Rattle.text_output.specs.Text.{line}
 use Rattle.seat_share.specs.declared.method.Method.TheVariants.{Dhondt}
 use Rattle.seat_share.specs.Allocations.{lists_with_sum}
 use Rattle.vote_cli.specs.Answer.{Answer, answered, violated, refused, request_refused, election_answer, IsCheckAnswer, may_be_checked, share_answer, share_answer_by, ballots_answer, IsAnswer}
-use Rattle.vote_cli.specs.Runs.{Ends, FailsToRead, IsAllRead, IsRight, IsTooLong, ReadsInput, ReadsSoundly, Reports, has_votes, input_for, memory_line, read_failed_line, write_failed_line}
+use Rattle.vote_cli.specs.Runs.{Ends, FailsToRead, IsAllRead, IsRight, IsTooLong, LeavesRun, ReadsInput, ReadsSoundly, Reports, has_votes, input_for, memory_line, read_failed_line, write_failed_line}
 use Rattle.vote_cli.specs.Steps.Refusals.{IsRefusal, IsUnread, status_of, error_of, ReadsBallots, TellsOfReads, TellsOfWrites, ReadsOn, WritesRight, WritesText}
 use Rattle.vote_cli.specs.Steps.RequestFaults.{request_fault_word}
 use Rattle.ballot_base.specs.Lists.{IsIncreasing}
@@ -384,6 +385,49 @@ never_without_memory ends = absurd (true≢false ends.over_input)
 never_unread : Ends of_two broken broken quiet quiet quiet (wrote read_failed_line false) DeviceFailed → ⊥
 never_unread (inl ends) = absurd (true≢false ends.over_input)
 never_unread (inr ends) = absurd (true≢false (sym ends.failed))
+
+-- a whole run, whose devices are their own states
+abbrev Leaves : Request → (read_old read_new : ReaderState) (out_old out_new err_old err_new : WriterState) → Status → Type 0
+Leaves = LeavesRun (λ reader. reader) (λ out. out) (λ err. err)
+
+leaves_answered : Leaves (seats 1) (read_of example_text false 0) (read_of [] false 90) quiet (wrote text false) quiet quiet Answered
+leaves_answered = record { ends = ends_answered; alone = λ votes. absurd (true≢false (sym votes)) }
+
+-- two seats for the one party
+abbrev text_of_two : List ℕ
+text_of_two = line (codes "method dhondt") ++ line (codes "seats 2") ++ line (codes "2") ++ line (codes "end")
+
+answer_of_two : share_answer Dhondt 2 whole None (1 ∷ []) ≡ answered text_of_two
+unfolding digits lists_with_sum
+answer_of_two = refl
+
+-- with votes in the words, a reader that had failed is left as it was
+leaves_with_votes : Leaves of_two broken broken quiet (wrote text_of_two false) quiet quiet Answered
+leaves_with_votes = record {
+  ends = record {
+    answer = answered text_of_two;
+    right = sym answer_of_two;
+    status_is = refl;
+    input = record { sound = record { unfailed = refl; few = omega arith }; whole = λ free. absurd (true≢false free) };
+    wrote = refl;
+    text = refl;
+    error = nothing_reported;
+  };
+  alone = λ votes. refl;
+}
+
+-- a run that wrote nothing has not answered, and none with votes in the words reads
+never_silent : Leaves of_two broken broken quiet quiet quiet quiet Answered → ⊥
+never_silent run =
+    let right : run.ends.answer ≡ share_answer Dhondt 2 whole None (1 ∷ []) = run.ends.right in
+    let none : [] ≡ run.ends.answer.text = run.ends.text in
+    let text_is : run.ends.answer.text ≡ text_of_two = ap (λ (answer : Answer). answer.text) (right ∙ answer_of_two) in
+    let h : [] ≡ text_of_two = none ∙ text_is in cc
+
+never_read : Leaves of_two unread sound quiet (wrote text_of_two false) quiet quiet Answered → ⊥
+never_read run =
+    let same : sound ≡ unread = run.alone refl in
+    let given : 5 ≡ 0 = ap (λ (reader : ReaderState). reader.given) same in omega (arith, given)
 
 input_of_demands : (input_for (of_votes (1 ∷ []) Dhondt 2 whole) None ≡ Some []) × (input_for (of_ballots (sharing Dhondt 2 whole)) (Some (1 ∷ [])) ≡ Some (1 ∷ []))
 input_of_demands = (refl, refl)
