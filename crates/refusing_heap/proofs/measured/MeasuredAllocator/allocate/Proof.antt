@@ -1,7 +1,7 @@
 -- `allocate` of `Measured` meets the contract of an allocator, over any allocator H.
 -- The walk is two calls. The handle is shared, so both of its fields are had through a `&`, the counter for `count` and H for the call that is passed on.
 -- The answer is H's: a block comes with the right to free it, and that right is the handle's own by the definition of `dealloc_token`.
-use Rattle.std.proofs.Common.{◌≡◌, ℕ, ◌+◌, Bool, true, false, [], ◌∷◌, Ok, Err, refl, w64, lit<}
+use Rattle.std.proofs.Common.{◌≡◌, ℕ, ◌+◌, true, false, [], ◌∷◌, Ok, Err, refl, w64, lit<}
 use Rattle.std.proofs.raw_atomic.Walks.{proved}
 use Rattle.std.proofs.alloc.Calls.{Al, α, seen, token, got, Answer, answer_val, Answer-typed, Answer-Ok, Answer-err, Takes, at_takes, Answered, Takes-goes, Takes-gives, answers}
 use mir.Syntax.{Args, Fn, a_type, dnil, dcons}
@@ -13,10 +13,9 @@ use prog.Memory.{size, align, capped, up}
 use contract.BorrowLft.{◌⊑◌, ⊑_trans}
 use contract.Monad.{fact}
 use contract.Running.{tables}
-use types.Kit.{‵, raw, ◌⊛◌, some, later, given, prop, at_ret, Sq, learn, ◌$◌, ◌∵◌, !, qed, done, move, keep, use0, use1, use2, split, join, fsplit, fjoin, pick, await, suffices}
-use types.Part.{agg}
-use types.Run.{enter, lit, addr, stop, fld, no_more, and_then, first, branches, skips, exec, returns, returns_within}
-use types.ByLocal.{alloc_all, pass_all, free_all, look_at, get, through, sets, lands_as, env}
+use types.Kit.{‵, raw, ◌⊛◌, later, given, prop, Sq, learn, ◌$◌, ◌∵◌, !, qed, done, move, keep, use0, use1, use2, split, join, fsplit, fjoin, await, suffices}
+use types.Run.{enter, lit, addr, stop, fld, no_more, and_then, returns}
+use types.ByLocal.{alloc_all, pass_all, free_all, look_at, get, through, sets, lands_as}
 use denote.Exit.{yes}
 use denote.Builtin.{usize, RefOf}
 use denote.Memory.{hidden_shr}
