@@ -6,9 +6,9 @@
 //! not on it leave. One of the free candidates on the ballot that can spare the fewest must join: each in turn is
 //! searched below and then leaves, with its clones.
 //!
-//! While several seats are left, all needs are added up as well, each with a weight. A set is given up if the sum passes
-//! what the best free candidates can give, and a candidate leaves without whom the others fall short
-//! (`laws::weighted_needs`; Glover, Surrogate constraints, 1968). Any weights are right.
+//! While several seats are left and several candidates are to be tried, all needs are added up as well, each with a
+//! weight. A set is given up if the sum passes what the best free candidates can give, and a candidate leaves without
+//! whom the others fall short (`laws::weighted_needs`; Glover, Surrogate constraints, 1968). Any weights are right.
 ghost use Rattle.std.specs.Prelude.{◌≡◌, ℕ, ◌+◌, ◌-◌, ◌^◌, ◌≤◌, ◌&&◌, [], true, length};
 ghost use Rattle.std.specs.Prelude.{slice_index, MatchOption};
 ghost use Rattle.ballot_base.specs.Ballots.{IsElection};
@@ -28,6 +28,9 @@ use tie_walk::add_to_members;
 
 /// With fewer seats left than this, going through the sets is quicker than weighing needs. Any number is right.
 const FEWEST_SEATS: u8 = 4;
+
+/// With fewer candidates to try than this, going through the sets is quicker as well. Any number is right.
+const FEWEST_CHOICES: u8 = 4;
 
 /// The denominator of shares.
 const SHARE_PARTS: u64 = 1024;
@@ -78,7 +81,7 @@ impl<A: Allocator + Copy> NearSearch<'_, A> {
         if left == 0 {
             return Some(set);
         }
-        let needs = self.weighted_needs(set, eligible, left);
+        let needs = self.weighted_needs(set, eligible, left, choices);
         let mut rest = self.narrowed(&needs, set, eligible, left)?;
         while let Some(next) = best_of(choices.common(rest), &needs.supports) {
             let others = rest.without(next);
@@ -130,9 +133,15 @@ impl<A: Allocator + Copy> NearSearch<'_, A> {
         Some((choices, rest))
     }
 
-    /// What the ballots still need, if `left` of the free candidates complete the set. With few seats left no ballot
-    /// has a weight.
-    fn weighted_needs(&self, set: CandSet, free: CandSet, left: u8) -> WeightedNeeds
+    /// What the ballots still need, if `left` of the free candidates complete the set, and these choices are tried. If
+    /// weighing does not pay, no ballot has a weight.
+    fn weighted_needs(
+        &self,
+        set: CandSet,
+        free: CandSet,
+        left: u8,
+        choices: CandSet,
+    ) -> WeightedNeeds
         requires few { left ≤ most_candidates }
         requires shares { (n : ℕ) → slice_index self.now.shares.now n ≤ share_parts }
         ensures weighted { AreWeighted self.now.profile.now.rows (length set + left) self.now.most set free result.total
@@ -141,7 +150,7 @@ impl<A: Allocator + Copy> NearSearch<'_, A> {
     {
         let mut total = 0;
         let mut supports = [0; PLACES];
-        if left < FEWEST_SEATS {
+        if !is_worth_weighing(left, choices) {
             return WeightedNeeds { total, supports };
         }
         let k = set.len() + left;
@@ -189,6 +198,11 @@ impl<A: Allocator + Copy> NearSearch<'_, A> {
         let spare = greatest - needs.total;
         Some(at_least(&needs.supports, free, threshold.saturating_sub(spare)))
     }
+}
+
+/// Whether weighing needs pays, with this many seats left and these candidates to try.
+fn is_worth_weighing(left: u8, choices: CandSet) -> bool {
+    left >= FEWEST_SEATS && choices.len() >= FEWEST_CHOICES
 }
 
 /// The weight of a ballot that approves this many free candidates and needs some of them: its need, times the cube of

@@ -11,8 +11,8 @@ use Rattle.tie_search.specs.Steps.Near.{need_weight}
 use Rattle.tie_search.proofs.WeightLemmas.{free-common, needs-more, part-most, row_weight, row_weight-is, support-more, turns-few, weight-none, weightless-sum, weightless-support}
 use Rattle.tie_search.proofs.near.NearSearch.weighted_needs.Goals as goal
 
-pub returns-then-left-lt-FEWEST_SEATS-clause-weighted : goal.returns-then-left-lt-FEWEST_SEATS-clause-weighted
-returns-then-left-lt-FEWEST_SEATS-clause-weighted g c =
+pub returns-then-not-is_worth_weighing-clause-weighted : goal.returns-then-not-is_worth_weighing-clause-weighted
+returns-then-not-is_worth_weighing-clause-weighted g c =
     let e = c.args.self.now.profile.now in
     let k = length c.args.set + c.args.left in
     record {
@@ -21,8 +21,8 @@ returns-then-left-lt-FEWEST_SEATS-clause-weighted g c =
       supports_are = λ n is. no_total 65 n ∙ sym (weightless-support (supporters e.rows n));
     }
 
-pub returns-then-left-lt-FEWEST_SEATS-clause-small : goal.returns-then-left-lt-FEWEST_SEATS-clause-small
-returns-then-left-lt-FEWEST_SEATS-clause-small g c =
+pub returns-then-not-is_worth_weighing-clause-small : goal.returns-then-not-is_worth_weighing-clause-small
+returns-then-not-is_worth_weighing-clause-small g c =
     λ n. let e : get_or {A = ℕ} (replicate 65 0) n 0 ≡ 0 = no_total 65 n in omega (arith, e)
 
 pub loop-ballot-init : goal.loop-ballot-init
