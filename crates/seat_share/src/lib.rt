@@ -11,4 +11,4 @@ pub mod shares;
 
 pub use limits::{MOST_PARTIES, MOST_SEATS, MOST_VOTES};
 pub use method::{Method, ShareFault};
-pub use shares::{Allocation, Shares};
+pub use shares::{Allocation, Shares, share_fault};

@@ -105,8 +105,9 @@ impl Iterator for Shares {
     }
 }
 
-/// The first fault of the votes, the seats and the start, if there is one.
-fn share_fault(votes: &[u64], seats: u16, after: Option<&[u16]>) -> Option<ShareFault>
+/// Why [`Shares::new`] would refuse these votes of each party, this number of seats and this start: the first fault, in
+/// the order of [`ShareFault`]. `None` if the seats can be shared out. No seat is given for the answer.
+pub fn share_fault(votes: &[u64], seats: u16, after: Option<&[u16]>) -> Option<ShareFault>
     ensures { result ≡ share_fault votes.now seats (option_copied after.entry) }
 {
     if votes.is_empty() {
