@@ -1,17 +1,11 @@
 -- Which lists may be starts.
-use Rattle.std.proofs.Common.{◌≡◌, ℕ, ◌≤◌, ◌∙◌, Bool, true, false, List, [], Option, Some, None, Result, Ok, Err, refl, sym, ap, arith, length, subst}
-use Rattle.std.specs.Prelude.{IsErr, IsErrAnd, IfErr, nat_le}
+use Rattle.std.proofs.Common.{◌≡◌, ℕ, ◌≤◌, ◌∙◌, true, false, List, refl, sym, ap, arith, length}
+use Rattle.std.specs.Prelude.{nat_le}
 use Rattle.std.proofs.lemmas.Bool.{and_from, and_parts, le-leb, leb-true, false_from_ne_true}
 use Rattle.ballot_base.specs.Lists.{IsIncreasing, is_committee}
 use Rattle.ballot_base.proofs.Committees.{is_committee-false, is_committee-is, is_committee-true}
 use Rattle.ballot_base.specs.Limits.{most_members}
-use Rattle.seat_share.specs.Faults.{share_fault}
-use Rattle.seat_share.specs.declared.method.ShareFault.{ShareFault}
-use Rattle.vote_cli.specs.Answer.{Answer, may_be_checked, request_refused, share_answer_by}
-use Rattle.vote_cli.specs.declared.status.Status.TheVariants.{Answered, RequestRefused}
-use Rattle.vote_cli.specs.Steps.RequestFaults.{request_fault_word}
-use Rattle.vote_cli.specs.Steps.Sharing.{IsShareRefusal}
-use Rattle.vote_cli.specs.declared.refusal.RequestFault.{RequestFault}
+use Rattle.vote_cli.specs.Answer.{may_be_checked}
 
 -- ---- committees
 
@@ -46,21 +40,3 @@ committee_of_other_size m k size list committee same counted wrong =
 -- a list that is no committee of any size
 pub no_committee : (m k : ℕ) (list : List ℕ) → k ≤ most_members → (length list ≤ most_members → IsIncreasing 1 m list → ⊥) → is_committee m k list ≡ false
 no_committee m k list few none = is_committee-false m k list (λ is. none (omega (arith, is.1, few)) is.0)
-
--- ---- refusals
-
--- a refusal that is none of the start stands with every start
-refused_anyway : (found : Option ShareFault) (word : List ℕ) → ((text : List ℕ) → share_answer_by found true text ≡ request_refused word)
-    → (starts : Bool) (text : List ℕ) → share_answer_by found starts text ≡ request_refused word
-refused_anyway (Some fault) word said starts text = said text
-refused_anyway None word said starts text = let x : Answered ≡ RequestRefused = ap (λ (a : Answer). a.status) (said []) in cc
-
--- the same of one that is passed on
-pub refused_through : {V U : Type 0} (votes : List ℕ) (seats : ℕ) (starts : Bool) (fault : RequestFault) (r : Result V RequestFault) (q : Result U RequestFault) → r ≡ Err fault
-    → IsErr q × IsErrAnd q (λ f. f ≡ fault) → IfErr r (λ f. IsShareRefusal seats true votes (request_fault_word f))
-    → IfErr q (λ f. IsShareRefusal seats starts votes (request_fault_word f))
-refused_through votes seats starts fault r (Ok u) was passed said = tt
-refused_through votes seats starts fault r (Err f) was passed said =
-    let told : IsShareRefusal seats true votes (request_fault_word fault) = subst (λ s. IfErr s (λ f. IsShareRefusal seats true votes (request_fault_word f))) was said in
-    subst (λ g. IsShareRefusal seats starts votes (request_fault_word g)) (sym passed.1)
-    (refused_anyway (share_fault votes seats None) (request_fault_word fault) told starts)

@@ -18,7 +18,7 @@ use crate::starts::{committee_of, seats_start};
 use ballot_base::Profile;
 use group_check::{Property, find_violation};
 use request_words::Question;
-use seat_share::Shares;
+use seat_share::{Shares, share_fault};
 use std::alloc::Allocator;
 use text_output::{Names, Report, Sink, write_holds};
 
@@ -59,10 +59,10 @@ fn shares_of(votes: &[u64], sharing: &Sharing<'_>) -> Result<Shares, RequestFaul
     };
     match seats_start(list) {
         Some(start) => shares_from(votes, sharing, Some(start.as_slice())),
-        None => {
-            shares_from(votes, sharing, None)?;
-            Err(RequestFault::AfterMisfit)
-        }
+        None => Err(match share_fault(votes, sharing.seats, None) {
+            Some(fault) => RequestFault::Share(fault),
+            None => RequestFault::AfterMisfit,
+        }),
     }
 }
 
