@@ -51,11 +51,11 @@ page_of page = record { after = option_map vec_items page.after; limit = page.li
 abbrev pub question_of : CodeQuestion → Question
 question_of (Elect rule size page) = electing rule size (page_of page)
 question_of (Check property committee) = checking property (vec_items committee)
-question_of (Share method seats page) = sharing method seats (page_of page)
+question_of (Share asked) = sharing asked.method asked.seats (page_of asked.page)
 
 abbrev pub task_of : CodeTask → Task
 task_of (OfBallots question) = of_ballots (question_of question)
-task_of (OfVotes votes method seats page) = of_votes (vec_items votes) method seats (page_of page)
+task_of (OfVotes votes asked) = of_votes (vec_items votes) asked.method asked.seats (page_of asked.page)
 
 -- a start has a number, and a limit lies from 1 to `most_limit`
 pub record IsPage (page : Page) : Type 0 where

@@ -10,5 +10,7 @@ mod options;
 pub mod request;
 pub mod words;
 
-pub use request::{MOST_LIMIT, MOST_WAY_NUMBER, Page, Question, Request, Rule, ScoredRule, Task};
+pub use request::{
+    MOST_LIMIT, MOST_WAY_NUMBER, Page, Question, Request, Rule, ScoredRule, Sharing, Task,
+};
 pub use words::{LineFault, ListOption, read_request};

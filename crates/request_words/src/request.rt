@@ -104,6 +104,19 @@ pub struct Page {
     pub limit: Option<u32>,
 }
 
+/// Which seats are asked for: by which method they are shared out among parties, how many there are, and which of the
+/// fair allocations are wanted.
+#[derive(Debug, Drop)]
+pub struct Sharing {
+    /// The method by which the seats are shared out.
+    pub method: Method,
+    /// The number of seats, from 1 to `MOST_SEATS`.
+    pub seats: u16,
+    /// Which of the fair allocations are wanted. A start fits if it has a number for each party, each at most
+    /// `MOST_SEATS`.
+    pub page: Page,
+}
+
 /// What is asked about the ballots of an input. Each list has at least one number.
 #[derive(Debug, Drop)]
 pub enum Question {
@@ -112,9 +125,8 @@ pub enum Question {
     /// To check whether a committee has a property. The members are as they were given: any numbers,
     /// in any order.
     Check(Property, Vec<u64>),
-    /// To share out seats by a method, from 1 to `MOST_SEATS`. Each voter counts for the one party that the ballot
-    /// approves.
-    Share(Method, u16, Page),
+    /// To share out seats. Each voter counts for the one party that the ballot approves.
+    Share(Sharing),
 }
 
 /// What a request asks for.
@@ -122,9 +134,8 @@ pub enum Question {
 pub enum Task {
     /// Something about the ballots of an input.
     OfBallots(Question),
-    /// To share out seats by a method, from 1 to `MOST_SEATS`, among parties with these votes, of which there is at
-    /// least one.
-    OfVotes(Vec<u64>, Method, u16, Page),
+    /// To share out seats among parties with these votes. There is at least one party.
+    OfVotes(Vec<u64>, Sharing),
 }
 
 /// A request: its task, how the file is read, the file to read, where one is named, and whether answers have names.

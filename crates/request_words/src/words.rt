@@ -25,7 +25,7 @@ ghost use Rattle.request_words.specs.Words.{wants_names, way_by, way_in, way_nam
 use crate::commands::program;
 use crate::ending::kind_in_path;
 use crate::number_list::list_of;
-use crate::request::{Page, Question, Request, Rule, Task};
+use crate::request::{Page, Question, Request, Rule, Sharing, Task};
 use clap::error::ErrorKind;
 use clap::{ArgMatches, Error};
 use group_check::Property;
@@ -164,7 +164,12 @@ fn share_asked(alloc: Global, share: &ArgMatches<'_>) -> Result<Request, LineFau
     let (method, seats) = method_and_seats(share);
     let votes = list_given(alloc, share, ListOption::Votes, "votes")?;
     let page = page(alloc, share)?;
-    let request = request(alloc, share, sharing(votes, method, seats, page))?;
+    let sharing = Sharing {
+        method,
+        seats,
+        page,
+    };
+    let request = request(alloc, share, share_task(votes, sharing))?;
     if is_given(share, "votes") && has_input(share) {
         return Err(LineFault::VotesAndInput);
     }
@@ -172,12 +177,12 @@ fn share_asked(alloc: Global, share: &ArgMatches<'_>) -> Result<Request, LineFau
 }
 
 /// A sharing of seats by votes that are given, or else by those of ballots.
-fn sharing(votes: Option<Vec<u64>>, method: Method, seats: u16, page: Page) -> Task
-    ensures { task_of result ≡ sharing_by (option_map vec_items votes) method seats (page_of page) }
+fn share_task(votes: Option<Vec<u64>>, asked: Sharing) -> Task
+    ensures { task_of result ≡ sharing_by (option_map vec_items votes) asked.method asked.seats (page_of asked.page) }
 {
     match votes {
-        Some(votes) => Task::OfVotes(votes, method, seats, page),
-        None => Task::OfBallots(Question::Share(method, seats, page)),
+        Some(votes) => Task::OfVotes(votes, asked),
+        None => Task::OfBallots(Question::Share(asked)),
     }
 }
 

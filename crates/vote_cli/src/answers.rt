@@ -13,11 +13,11 @@ use crate::elect_text::Listing;
 use crate::election::answer_election;
 use crate::parties::votes_of;
 use crate::refusal::{Refusal, RequestFault};
-use crate::share_text::Sharing;
+use crate::share_text::write_shares;
 use crate::starts::{committee_of, seats_start};
 use ballot_base::Profile;
 use group_check::{Property, find_violation};
-use request_words::Question;
+use request_words::{Question, Sharing};
 use seat_share::{Shares, share_fault};
 use std::alloc::Allocator;
 use text_output::{Names, Report, Sink, write_holds};
@@ -34,7 +34,7 @@ pub(crate) enum Outcome {
 /// The fair allocations later than a start that has a number of seats for each party.
 fn shares_from(
     votes: &[u64],
-    sharing: &Sharing<'_>,
+    sharing: &Sharing,
     start: Option<&[u16]>,
 ) -> Result<Shares, RequestFault>
     ensures ok { let after = option_copied start.entry in IfOk result (λ shares.
@@ -47,11 +47,11 @@ fn shares_from(
 }
 
 /// The fair allocations that are asked for. A fault of the votes comes before a start that does not fit.
-fn shares_of(votes: &[u64], sharing: &Sharing<'_>) -> Result<Shares, RequestFault>
-    ensures ok { let after = (page_of sharing.now.page.now).after in IfOk result (λ shares.
+fn shares_of(votes: &[u64], sharing: &Sharing) -> Result<Shares, RequestFault>
+    ensures ok { let after = (page_of sharing.now.page).after in IfOk result (λ shares.
         IsSharedOut sharing.now.method sharing.now.seats after votes.now shares
         × (may_start (has_seats_for (length votes.now)) after ≡ true)) }
-    ensures err { let starts = may_start (has_seats_for (length votes.now)) (page_of sharing.now.page.now).after in
+    ensures err { let starts = may_start (has_seats_for (length votes.now)) (page_of sharing.now.page).after in
         IfErr result (λ fault. IsShareRefusal sharing.now.seats starts votes.now (request_fault_word fault)) }
 {
     let Some(list) = &sharing.page.after else {
@@ -70,15 +70,15 @@ fn shares_of(votes: &[u64], sharing: &Sharing<'_>) -> Result<Shares, RequestFaul
 pub(crate) fn answer_share<A: Allocator + Copy, W: Sink>(
     out: &mut W,
     votes: &[u64],
-    sharing: &Sharing<'_>,
+    sharing: &Sharing,
     names: &Names<'_, A>,
 ) -> Result<Outcome, Refusal>
     ensures wrote { Writes W.contents W.has_failed out.old out.new result (λ answer. answer
-        ≡ share_answer sharing.now.method sharing.now.seats (page_of sharing.now.page.now) names.now votes.now) }
+        ≡ share_answer sharing.now.method sharing.now.seats (page_of sharing.now.page) names.now votes.now) }
     ensures memory { result ≢ Err Refusal.Memory }
 {
     let shares = shares_of(votes, sharing)?;
-    sharing.write_shares(out, shares, names)?;
+    write_shares(out, shares, sharing, names)?;
     Ok(Outcome::Answered)
 }
 
@@ -121,9 +121,9 @@ impl<A: Allocator + Copy + Drop> Ballots<'_, A> {
     }
 
     /// Writes the fair allocations that are asked for. Each voter counts for the one party that the ballot approves.
-    fn answer_share<W: Sink>(&self, out: &mut W, sharing: &Sharing<'_>) -> Result<Outcome, Refusal>
+    fn answer_share<W: Sink>(&self, out: &mut W, sharing: &Sharing) -> Result<Outcome, Refusal>
         ensures wrote { let asked = sharing.now in Writes W.contents W.has_failed out.old out.new result
-            (λ answer. answer ≡ ballots_answer asked.method asked.seats (page_of asked.page.now)
+            (λ answer. answer ≡ ballots_answer asked.method asked.seats (page_of asked.page)
             self.now.with_names self.now.profile.now) }
         ensures memory { result ≢ Err Refusal.Memory }
     {
@@ -153,14 +153,7 @@ impl<A: Allocator + Copy + Drop> Ballots<'_, A> {
             Question::Check(property, committee) => {
                 self.answer_check(out, *property, committee.as_slice())
             }
-            Question::Share(method, seats, page) => {
-                let sharing = Sharing {
-                    method: *method,
-                    seats: *seats,
-                    page,
-                };
-                self.answer_share(out, &sharing)
-            }
+            Question::Share(sharing) => self.answer_share(out, sharing),
         }
     }
 }

@@ -12,7 +12,6 @@ ghost use Rattle.vote_cli.specs.Steps.Refusals.{TellsOfReads, TellsOfWrites, err
 use crate::answers::{Ballots, Outcome, answer_share};
 use crate::input::read_to_end;
 use crate::refusal::Refusal;
-use crate::share_text::Sharing;
 use crate::status::Status;
 use crate::storage::Storage;
 use ballot_base::{BallotHashing, Profile};
@@ -63,14 +62,9 @@ fn answer<A: Allocator + Copy + Drop, R: Source, W: Sink>(
     ensures votes { has_votes request.now.task ≡ true → reader.new ≡ reader.old }
 {
     match request.task() {
-        Task::OfVotes(votes, method, seats, page) => {
+        Task::OfVotes(votes, sharing) => {
             let names = Names::<A>::numbers(request.names());
-            let sharing = Sharing {
-                method: *method,
-                seats: *seats,
-                page,
-            };
-            answer_share(out, votes.as_slice(), &sharing, &names)
+            answer_share(out, votes.as_slice(), sharing, &names)
         }
         Task::OfBallots(question) => {
             let profile = read_ballots(storage, &request.pick(), reader)?;

@@ -6,7 +6,7 @@ ghost use Rattle.vote_cli.specs.ShareText.{share_header};
 
 use crate::listing::AnswerPage;
 use itoa::Buffer;
-use request_words::Page;
+use request_words::Sharing;
 use seat_share::{Method, Shares};
 use std::alloc::Allocator;
 use text_output::{Names, Printer, Sink, WriteFailed};
@@ -30,32 +30,22 @@ fn print_header<W: Sink>(
     printer.print_all(&pieces)
 }
 
-/// A method that shares out seats, and the page of the fair allocations that is asked for.
-#[derive(Drop)]
-pub(crate) struct Sharing<'a> {
-    pub(crate) method: Method,
-    pub(crate) seats: u16,
-    pub(crate) page: &'a Page,
-}
-
-impl Sharing<'_> {
-    /// Writes the answer that has these allocations after the start, and flushes the writer.
-    pub(crate) fn write_shares<W: Sink, N: Allocator + Copy>(
-        &self,
-        out: &mut W,
-        shares: Shares,
-        names: &Names<'_, N>,
-    ) -> Result<(), WriteFailed>
-        ensures { Sends W.contents W.has_failed out.old out.new (is_ok result)
-            (share_header self.now.method self.now.seats
-            ++ answers_text (allocation_line names.now) self.now.page.now.limit shares) }
-    {
-        let mut printer = Printer::new(out);
-        print_header(&mut printer, self.method, self.seats)?;
-        let page = AnswerPage {
-            names,
-            limit: self.page.limit,
-        };
-        page.print(&mut printer, shares)
-    }
+/// Writes the answer to what is asked for, with these allocations after the start, and flushes the writer.
+pub(crate) fn write_shares<W: Sink, N: Allocator + Copy>(
+    out: &mut W,
+    shares: Shares,
+    sharing: &Sharing,
+    names: &Names<'_, N>,
+) -> Result<(), WriteFailed>
+    ensures { Sends W.contents W.has_failed out.old out.new (is_ok result)
+        (share_header sharing.now.method sharing.now.seats
+        ++ answers_text (allocation_line names.now) sharing.now.page.limit shares) }
+{
+    let mut printer = Printer::new(out);
+    print_header(&mut printer, sharing.method, sharing.seats)?;
+    let page = AnswerPage {
+        names,
+        limit: sharing.page.limit,
+    };
+    page.print(&mut printer, shares)
 }

@@ -17,12 +17,12 @@ check --property pjr --committee=007 | Check(Pjr, [7])
 check --property ejr --committee 0,0 a.soc | Check(Ejr, [0, 0]) | file: Some(\"a.soc\")
 check --property ejr --committee 18446744073709551615 | Check(Ejr, [18446744073709551615])
 // Shares of seats.
-share --method hamilton --seats 1 | OfBallots(Share(Hamilton, 1, Page | file: None
-share --method dhondt --seats 10000 --votes 53,24,23 | OfVotes([53, 24, 23], Dhondt, 10000, | file: None
-share --method saintelague --seats=02 | OfBallots(Share(SainteLague, 2, Page | file: None
-share --method huntington --seats 3 | OfBallots(Share(Huntington, 3, Page | file: None
-share --method adams --votes=0 --seats 4 | OfVotes([0], Adams, 4, | file: None
-share --method dean --seats 5 a.soi | OfBallots(Share(Dean, 5, Page | file: Some(\"a.soi\")
+share --method hamilton --seats 1 | OfBallots(Share(Sharing { method: Hamilton, seats: 1, page: Page | file: None
+share --method dhondt --seats 10000 --votes 53,24,23 | OfVotes([53, 24, 23], Sharing { method: Dhondt, seats: 10000, | file: None
+share --method saintelague --seats=02 | OfBallots(Share(Sharing { method: SainteLague, seats: 2, page: Page | file: None
+share --method huntington --seats 3 | OfBallots(Share(Sharing { method: Huntington, seats: 3, page: Page | file: None
+share --method adams --votes=0 --seats 4 | OfVotes([0], Sharing { method: Adams, seats: 4, | file: None
+share --method dean --seats 5 a.soi | OfBallots(Share(Sharing { method: Dean, seats: 5, page: Page | file: Some(\"a.soi\")
 // How a file is read.
 elect --rule av --size 1 | kind: None, ending: None, way: Usual }
 elect --rule av --size 1 a.soc | kind: None, ending: Some(Soc), way: Usual }
@@ -73,22 +73,22 @@ share --method dean --seats 1 --votes 1 | names: false
 share --method dean --seats 1 --votes 1 --names | names: true
 // Lists of numbers.
 check --property jr --committee=0 | Check(Jr, [0])
-share --method dean --seats=7 --votes=0 | OfVotes([0], Dean, 7,
+share --method dean --seats=7 --votes=0 | OfVotes([0], Sharing { method: Dean, seats: 7,
 elect --rule av --size=2 --after=0 | after: Some([0])
 check --property jr --committee=53,24,23 | Check(Jr, [53, 24, 23])
-share --method dean --seats=7 --votes=53,24,23 | OfVotes([53, 24, 23], Dean, 7,
+share --method dean --seats=7 --votes=53,24,23 | OfVotes([53, 24, 23], Sharing { method: Dean, seats: 7,
 elect --rule av --size=2 --after=53,24,23 | after: Some([53, 24, 23])
 check --property jr --committee=3,1,1,0 | Check(Jr, [3, 1, 1, 0])
-share --method dean --seats=7 --votes=3,1,1,0 | OfVotes([3, 1, 1, 0], Dean, 7,
+share --method dean --seats=7 --votes=3,1,1,0 | OfVotes([3, 1, 1, 0], Sharing { method: Dean, seats: 7,
 elect --rule av --size=2 --after=3,1,1,0 | after: Some([3, 1, 1, 0])
 check --property jr --committee=007,0000,00000000000000000000000001 | Check(Jr, [7, 0, 1])
-share --method dean --seats=7 --votes=007,0000,00000000000000000000000001 | OfVotes([7, 0, 1], Dean, 7,
+share --method dean --seats=7 --votes=007,0000,00000000000000000000000001 | OfVotes([7, 0, 1], Sharing { method: Dean, seats: 7,
 elect --rule av --size=2 --after=007,0000,00000000000000000000000001 | after: Some([7, 0, 1])
 check --property jr --committee=18446744073709551615 | Check(Jr, [18446744073709551615])
-share --method dean --seats=7 --votes=18446744073709551615 | OfVotes([18446744073709551615], Dean, 7,
+share --method dean --seats=7 --votes=18446744073709551615 | OfVotes([18446744073709551615], Sharing { method: Dean, seats: 7,
 elect --rule av --size=2 --after=18446744073709551615 | after: Some([18446744073709551615])
 check --property jr --committee=1,0018446744073709551615 | Check(Jr, [1, 18446744073709551615])
-share --method dean --seats=7 --votes=1,0018446744073709551615 | OfVotes([1, 18446744073709551615], Dean, 7,
+share --method dean --seats=7 --votes=1,0018446744073709551615 | OfVotes([1, 18446744073709551615], Sharing { method: Dean, seats: 7,
 elect --rule av --size=2 --after=1,0018446744073709551615 | after: Some([1, 18446744073709551615])
 // Of several faults the first is told, in the order of the lists, the ways, and votes beside an input.
 check --property jr --committee 1, | 'committees: words: BadList --committee'

@@ -13,7 +13,7 @@ use Rattle.request_words.proofs.words.share_asked.Goals.{else-is_given-via-then-
 
 pub request-requires-clause-range : goal.request-requires-clause-range
 request-requires-clause-range c =
-    subst InRange (sym c.sharing.ensures)
+    subst InRange (sym c.share_task.ensures)
     (sharing_in_range (option_map vec_items c.in_ok-votes.votes) c.method_and_seats-method.result.0 c.method_and_seats-method.result.1 (page_of c.in_ok-page.page)
     c.method_and_seats-method.ensures.least c.method_and_seats-method.ensures.most (some_items c.in_ok-votes.votes c.in_ok-votes.ensures.some) c.in_ok-page.ensures.range)
 
@@ -43,7 +43,7 @@ returns-in_err-request c =
     let asked = then_read (share_in rows) (without_both rows) over_page _ (page_of c.in_ok-page.page) read c.in_ok-page.ensures.given in
     passed_on (GivesAsked (share_in rows)) c.from_residual-in_err-request.result c.in_err-request.field-0.0 c.from_residual-in_err-request.ensures.1
     (failed (share_in rows) (without_both rows) (over_page (page_of c.in_ok-page.page)) c.in_err-request.field-0.0 asked
-    (subst (λ task. (c.in_err-request.field-0.0 ≡ Memory) ⊎ (asking rows task ≡ Err c.in_err-request.field-0.0)) c.sharing.ensures c.in_err-request.ensures))
+    (subst (λ task. (c.in_err-request.field-0.0 ≡ Memory) ⊎ (asking rows task ≡ Err c.in_err-request.field-0.0)) c.share_task.ensures c.in_err-request.ensures))
 
 pub returns-then-has_input : goal.returns-then-has_input
 returns-then-has_input c =
@@ -53,7 +53,7 @@ returns-then-has_input c =
     let over_page = share_over_page rows c.method_and_seats-method.result.0 c.method_and_seats-method.result.1 votes in
     let read = then_read (share_in rows) (without_both rows) over_votes _ votes c.method_and_seats-method.ensures.asked c.in_ok-votes.ensures.given in
     let asked = then_read (share_in rows) (without_both rows) over_page _ (page_of c.in_ok-page.page) read c.in_ok-page.ensures.given in
-    inr (shared rows (share_in rows) (over_page (page_of c.in_ok-page.page)) c.in_ok-request.request true asked (ap (asking rows) (sym c.sharing.ensures) ∙ c.in_ok-request.ensures)
+    inr (shared rows (share_in rows) (over_page (page_of c.in_ok-page.page)) c.in_ok-request.request true asked (ap (asking rows) (sym c.share_task.ensures) ∙ c.in_ok-request.ensures)
     (both_true (is_given rows (codes "votes")) (has_input rows) c.is_given.result c.has_input.result c.is_given.ensures c.has_input.ensures
     c.if-is_given.true c.if-has_input.true))
 
@@ -70,4 +70,4 @@ returns c =
           second_false (is_given rows (codes "votes")) (has_input rows) w.has_input.result w.has_input.ensures w.if-has_input.false
       | else-is_given-via-else-is_given w ↦ first_false (is_given rows (codes "votes")) (has_input rows) c.is_given.result c.is_given.ensures w.if-is_given.false
     ] in
-    shared rows (share_in rows) (over_page (page_of c.in_ok-page.page)) c.in_ok-request.request false asked (ap (asking rows) (sym c.sharing.ensures) ∙ c.in_ok-request.ensures) alone
+    shared rows (share_in rows) (over_page (page_of c.in_ok-page.page)) c.in_ok-request.request false asked (ap (asking rows) (sym c.share_task.ensures) ∙ c.in_ok-request.ensures) alone

@@ -1,6 +1,6 @@
 use Rattle.std.proofs.Common.{refl, rules}
 use Rattle.text_output.proofs.PrintingLemmas.{breaks_off, goes_on, Sends-by, Sends-cut}
-use Rattle.vote_cli.proofs.share_text.Sharing.write_shares.Goals as goal
+use Rattle.vote_cli.proofs.share_text.write_shares.Goals as goal
 
 pub returns-in_err-print_header : goal.returns-in_err-print_header
 returns-in_err-print_header g c =
