@@ -105,8 +105,8 @@ impl Iterator for Shares {
     }
 }
 
-/// Why [`Shares::new`] would refuse these votes of each party, this number of seats and this start: the first fault, in
-/// the order of [`ShareFault`]. `None` if the seats can be shared out. No seat is given for the answer.
+/// The first reason, in the order of [`ShareFault`], why [`Shares::new`] refuses the votes of the parties, the number of
+/// seats or the start. `None` if it refuses none of them. No seats are shared out to find it.
 pub fn share_fault(votes: &[u64], seats: u16, after: Option<&[u16]>) -> Option<ShareFault>
     ensures { result ≡ share_fault votes.now seats (option_copied after.entry) }
 {
