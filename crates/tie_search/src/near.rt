@@ -30,7 +30,7 @@ use tie_walk::add_to_members;
 const FEWEST_SEATS: u8 = 4;
 
 /// With fewer candidates to try than this, going through the sets is quicker as well. Any number is right.
-const FEWEST_CHOICES: u8 = 4;
+const FEWEST_CHOICES: u8 = 3;
 
 /// The denominator of shares.
 const SHARE_PARTS: u64 = 1024;
