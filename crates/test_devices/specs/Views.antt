@@ -2,8 +2,8 @@
 use Rattle.std.specs.Prelude.{ℕ, Bool, false, List, []}
 use Rattle.test_devices.specs.declared.devices.Fault.{Fault}
 
--- a reader over bytes: the bytes that it has still to give, whether a call has failed, how many calls there are up to the
--- one that fails (0 if none is to fail), how many bytes it has given, and the most bytes that it gives in a call
+-- a reader over bytes: the bytes that it has still to give, whether a call has failed, how many calls there are up to
+-- the one that fails (0 if none is to fail), how many bytes it has given, and the most bytes that it gives in a call
 pub record ReaderView : Type 0 where
   pub remaining : List ℕ
   pub has_failed : Bool

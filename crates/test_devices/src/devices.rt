@@ -14,8 +14,8 @@ use std::marker::Model;
 use text_output::{Device, Sink, Source};
 
 /// A reader over bytes. Contracts see the bytes that it has still to give, whether a call has failed, how many calls
-/// there are up to the one that fails (0 if none is to fail), how many bytes it has given, and the most that it gives in
-/// a call.
+/// there are up to the one that fails (0 if none is to fail), how many bytes it has given, and the most that it gives
+/// in a call.
 #[derive(Drop)]
 pub struct SliceReader<'a> {
     rest: &'a [u8],
