@@ -1,10 +1,3 @@
-pub mod Columns
 pub mod Found
-pub mod Known
-pub mod Majorants
-pub mod Near
-pub mod Paired
-pub mod Priced
-pub mod Rows
 pub mod Searched
 pub mod Witness

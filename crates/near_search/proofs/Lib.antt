@@ -1,0 +1,3 @@
+mod NearClones
+pub mod NeedLemmas
+pub mod WeightedNeeds

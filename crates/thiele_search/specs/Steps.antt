@@ -1,0 +1,6 @@
+pub mod Columns
+pub mod Known
+pub mod Majorants
+pub mod Paired
+pub mod Priced
+pub mod Rows
