@@ -1,3 +1,4 @@
+mod Examples
 mod NearClones
 pub mod NeedLemmas
 pub mod WeightedNeeds

@@ -12,7 +12,7 @@ use Rattle.tie_walk.specs.Values.{closeness, distance}
 use Rattle.tie_walk.proofs.Gains.{bit, hits-with}
 use Rattle.tie_search.specs.Completions.{AreAlike}
 use Rattle.tie_search.proofs.CloneLemmas.{back, class-are, exchanged, exchanged-size, gone, less-out, less-up}
-use Rattle.tie_search.proofs.NeedLemmas.{distance-hits}
+use Rattle.near_search.proofs.NeedLemmas.{distance-hits}
 
 distances-same : (low : ℕ) (rows : List Row) (xs ys : List ℕ) → AllByRecursion (λ (row : Row). distance row.0 xs ≡ distance row.0 ys) rows
     → fold (λ greatest (row : Row). max greatest (distance row.0 xs)) low rows ≡ fold (λ greatest (row : Row). max greatest (distance row.0 ys)) low rows

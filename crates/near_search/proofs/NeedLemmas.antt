@@ -2,9 +2,8 @@
 use Rattle.std.proofs.Common.{◌≡◌, ℕ, zero, suc, ◌+◌, ◌-◌, ◌*◌, ◌<◌, ◌≤◌, ◌∙◌, ◌↔◌, ◌==◌, ◌&&◌, ◌||◌, Bool, true, false, cond, List, [], ◌∷◌, ◌++◌, Some, refl, sym, ap, subst, arith, inl, inr, length, filter, fold, max, min, slice_get, take}
 use Rattle.std.specs.List.{AllByRecursion}
 use Rattle.std.proofs.lemmas.Bool.{cases_eq, cases_lt}
-use Rattle.std.proofs.lemmas.List.Folds.{list_any-append}
 use Rattle.std.proofs.lemmas.List.Sums.{sum_by-cons, length-filter, count_by-le-length}
-use Rattle.ballot_base.specs.CandSet.{has_member, common_members, other_members, with_member, without_member}
+use Rattle.ballot_base.specs.CandSet.{has_member, common_members}
 use Rattle.ballot_base.specs.Lists.{IsIncreasing}
 use Rattle.ballot_base.specs.Ballots.{Row, hits}
 use Rattle.ballot_base.proofs.Increasing.{IsIncreasing-filter, has_member-filter, has_member_head, has_member_tail}
@@ -12,11 +11,11 @@ use Rattle.tie_walk.specs.Values.{distance, greatest_distance, closeness}
 use Rattle.tie_walk.proofs.Distances.{ballot-found, common-least_right, common-turned, distance-sizes, greatest-more, greatest_distance-most}
 use Rattle.tie_walk.proofs.RowSums.{length-common}
 use Rattle.tie_search.specs.Completions.{IsNode, IsCompletion, IsReaching, IsOutOfReach}
-use Rattle.tie_search.proofs.CompletionLemmas.{added, added-free, added-increasing, added-size, and-true, completion-few, completion-members, hits-same, node-without, without-is}
-use Rattle.tie_search.proofs.CloneLemmas.{clones-left, exchanged, minus-is, node-minus}
-use Rattle.tie_search.proofs.SearchLemmas.{AreLeft, none-left}
-use Rattle.tie_search.specs.Needs.{hits_needed}
-use Rattle.tie_search.specs.Steps.Near.{AreChoices, IsNarrowed}
+use Rattle.tie_search.proofs.CompletionLemmas.{added, added-free, added-increasing, added-size, and-true, completion-few, completion-members, hits-same}
+use Rattle.tie_search.proofs.SearchLemmas.{AreLeft}
+use Rattle.near_search.specs.Needs.{hits_needed}
+use Rattle.near_search.specs.Steps.Near.{AreChoices}
+use Rattle.tie_search.specs.Steps.Narrowed.{IsNarrowed}
 
 -- ---- one ballot
 
@@ -84,42 +83,7 @@ needs-met m k most rows committee ballots rises size = (
     close [] up all = tt
     close (row ∷ rows) up all = (hits-near m k most row.0 committee up.0 rises size all.0, close rows up.1 all.1)
 
--- ---- hits of a set and of others
-
-pub hits-append : (ballot xs ys : List ℕ) → ((n : ℕ) → has_member ys n ≡ true → has_member xs n ≡ false) → hits ballot (xs ++ ys) ≡ hits ballot xs + hits ballot ys
-hits-append [] xs ys apart = refl
-hits-append (n ∷ ballot) xs ys apart =
-    omega (
-      arith,
-      ap {B = ℕ} (λ b. cond b 1 0) (list_any-append (λ y. y == n) xs ys),
-      bits (has_member xs n) (has_member ys n) (apart n),
-      hits-append ballot xs ys apart,
-      sum_by-cons (λ y. cond (has_member (xs ++ ys) y) 1 0) n ballot,
-      sum_by-cons (λ y. cond (has_member xs y) 1 0) n ballot,
-      sum_by-cons (λ y. cond (has_member ys y) 1 0) n ballot,
-    )
-  where
-    bits : (p q : Bool) → (q ≡ true → p ≡ false) → cond (p || q) 1 0 ≡ cond p 1 0 + cond q 1 0
-    bits true true apart = absurd (let e : true ≡ false = apart refl in cc)
-    bits true false apart = refl
-    bits false true apart = refl
-    bits false false apart = refl
-
-pub hits-more : (ballot xs ys : List ℕ) → ((n : ℕ) → has_member xs n ≡ true → has_member ys n ≡ true) → hits ballot xs ≤ hits ballot ys
-hits-more [] xs ys more = omega arith
-hits-more (n ∷ ballot) xs ys more =
-    omega (
-      arith,
-      bits (has_member xs n) (has_member ys n) (more n),
-      hits-more ballot xs ys more,
-      sum_by-cons (λ y. cond (has_member xs y) 1 0) n ballot,
-      sum_by-cons (λ y. cond (has_member ys y) 1 0) n ballot,
-    )
-  where
-    bits : (p q : Bool) → (p ≡ true → q ≡ true) → cond p 1 0 ≤ cond q 1 0
-    bits true true more = omega arith
-    bits true false more = absurd (let e : false ≡ true = more refl in cc)
-    bits false q more = omega arith
+-- ---- hits of some and of all members
 
 -- where there is a hit, someone is on the ballot and in the set
 some-hit : (ballot xs : List ℕ) → 1 ≤ hits ballot xs → (n : ℕ) × (has_member ballot n ≡ true) × (has_member xs n ≡ true)
@@ -137,8 +101,6 @@ some-hit (n ∷ ballot) xs h = by (has_member xs n) refl (some-hit ballot xs)
         let none : cond (has_member xs n) 1 0 ≡ 0 = ap {B = ℕ} (λ b. cond b 1 0) there in
         let rest = later (omega (arith, h, none, sum_by-cons (λ y. cond (has_member xs y) 1 0) n ballot)) in
         (rest.0, or-true (n == rest.0) (has_member ballot rest.0) rest.1, rest.2)
-
--- ---- hits of all members
 
 all-left : (p : ℕ → Bool) (xs : List ℕ) → length xs ≤ length (filter p xs) → (n : ℕ) → has_member xs n ≡ true → p n ≡ true
 all-left p [] h n is = absurd cc
@@ -261,67 +223,14 @@ module _ (m : ℕ) (rows : List Row) (most : ℕ) (set free : List ℕ) (left : 
         );
   }
 
--- ---- free candidates of whom all are who join
-
--- the free candidates who stay are all whom a committee adds that reaches the value
-pub narrowed-by : (value : List ℕ → ℕ) (m : ℕ) (set free : List ℕ) (left least : ℕ) (kept : List ℕ) → IsNode m set free → ((x : ℕ) → IsIncreasing 1 x free → IsIncreasing 1 x kept)
-    → ((n : ℕ) → has_member kept n ≡ true → has_member free n ≡ true)
-    → ((committee : List ℕ) → IsCompletion m set free left committee → least ≤ value committee → (n : ℕ) → has_member committee n ≡ true → has_member free n ≡ true → has_member kept n ≡ true)
-    → IsNarrowed value m set free left least kept
-narrowed-by value m set free left least kept is_node rises among still = record {
-  is_node = record {
-    set_within = is_node.set_within;
-    free_within = rises m is_node.free_within;
-    apart = λ n h. is_node.apart n (among n h);
-  };
-  among = among;
-  kept = λ committee whole reaches. record {
-    candidates = whole.candidates;
-    whole = whole.whole;
-    within = λ n h. or-more (has_member set n) (has_member free n) (has_member kept n) (still committee whole reaches n h) (whole.within n h);
-    size = whole.size;
-  };
-}
-  where
-    or-more : (p q r : Bool) → (q ≡ true → r ≡ true) → (p || q) ≡ true → (p || r) ≡ true
-    or-more true q r h is = refl
-    or-more false q r h is = h is
-
--- all are free at first
-pub narrowed-none : (value : List ℕ → ℕ) (m : ℕ) (set free : List ℕ) (left least : ℕ) → IsNode m set free → IsNarrowed value m set free left least free
-narrowed-none value m set free left least is_node = record {
-  is_node = is_node;
-  among = λ n h. h;
-  kept = λ committee whole reaches. whole;
-}
+-- ---- a node
 
 module _ (value : List ℕ → ℕ) (m : ℕ) (set free rest : List ℕ) (left least : ℕ) (narrowed : IsNarrowed value m set free left least rest) where
-  pub narrowed-more : (fewer : List ℕ) → IsNarrowed value m set rest left least fewer → IsNarrowed value m set free left least fewer
-  narrowed-more fewer more = record {
-    is_node = more.is_node;
-    among = λ n h. narrowed.among n (more.among n h);
-    kept = λ committee whole reaches. more.kept committee (narrowed.kept committee whole reaches) reaches;
-  }
-
   pub narrowed-choice : (choices : List ℕ) → AreChoices value m set rest left least choices → AreChoices value m set free left least choices
   narrowed-choice choices choice = record {
     among = λ n h. narrowed.among n (choice.among n h);
     one = λ committee near. choice.one committee record { completes = narrowed.kept committee near.completes near.reaches; reaches = near.reaches };
   }
-
-  -- a candidate was tried and is struck out
-  -- a candidate was tried, and is struck out with those in whose place it would make a committee as near
-  pub narrowed-clones : (n : ℕ) (clones : List ℕ) → 1 ≤ left → has_member rest n ≡ true
-      → ((committee : List ℕ) (d : ℕ) → IsIncreasing 1 m committee → has_member committee d ≡ true → has_member committee n ≡ false → has_member clones d ≡ true → value (exchanged committee n d) ≡ value committee)
-      → IsOutOfReach value m (with_member set n) (without_member rest n) (left - 1) least → IsNarrowed value m set free left least (other_members (without_member rest n) clones)
-  narrowed-clones n clones some here same none = record {
-    is_node = node-minus m set (without_member rest n) clones (node-without m set rest n narrowed.is_node);
-    among = λ x h. narrowed.among x (without-is rest n x (minus-is (without_member rest n) clones x h));
-    kept = clones-left value m set left least free rest clones n some narrowed.is_node here same narrowed.kept none;
-  }
-
-  pub narrowed-out : IsOutOfReach value m set rest left least → IsOutOfReach value m set free left least
-  narrowed-out none = none-left value m set left least free rest narrowed.kept none
 
 -- one of all has to join, where someone does
 pub choice-of_all : (value : List ℕ → ℕ) (m : ℕ) (set free : List ℕ) (left least : ℕ) → IsNode m set free → 1 ≤ left → AreChoices value m set free left least free

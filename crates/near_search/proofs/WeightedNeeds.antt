@@ -1,22 +1,24 @@
 -- What ballots need, weighted, and the weights of the candidates who can join.
-use Rattle.std.proofs.Common.{◌≡◌, ℕ, suc, ◌+◌, ◌-◌, ◌*◌, ◌<◌, ◌≤◌, ◌∙◌, ◌==◌, ◌&&◌, ◌||◌, Bool, true, false, cond, List, [], ◌∷◌, ◌++◌, refl, sym, ap, arith, inl, inr, length, sum_by, take, get_or, slice_get, Some, ◌^◌}
+use Rattle.std.proofs.Common.{◌≡◌, ℕ, ◌+◌, ◌-◌, ◌*◌, ◌<◌, ◌≤◌, ◌∙◌, ◌==◌, ◌&&◌, ◌||◌, Bool, true, false, cond, List, [], ◌∷◌, ◌++◌, refl, ap, arith, inl, inr, length, sum_by, take, get_or, slice_get, Some, ◌^◌}
 use Rattle.std.specs.List.{AllByRecursion}
 use Rattle.std.proofs.Math.Nat.{mul-le-mul_left}
-use Rattle.std.proofs.lemmas.Bool.{cases_eq, cases_lt}
+use Rattle.std.proofs.lemmas.Bool.{cases_lt}
 use Rattle.std.proofs.lemmas.List.Sums.{sum_by-cons, sum_by_more}
 use Rattle.std.proofs.lemmas.Option.{get_or_from_slice_get, slice_get_within}
 use Rattle.ballot_base.specs.CandSet.{has_member, common_members}
 use Rattle.ballot_base.specs.Lists.{IsIncreasing}
 use Rattle.ballot_base.specs.Ballots.{Row, Election, IsElection, hits, voter_count}
-use Rattle.ballot_base.proofs.Increasing.{has_member-filter, has_member_head, has_member_tail}
+use Rattle.ballot_base.proofs.Increasing.{has_member-filter}
 use Rattle.tie_walk.specs.Sequences.{supporters}
 use Rattle.tie_walk.specs.Values.{closeness, greatest_distance}
 use Rattle.tie_search.specs.Completions.{IsNode, IsCompletion, IsOutOfReach}
-use Rattle.tie_search.specs.Needs.{hits_needed, weighted_needs, weighted_support}
-use Rattle.tie_search.specs.Steps.Near.{AreWeighted, IsNarrowed, need_weight}
+use Rattle.near_search.specs.Needs.{hits_needed, weighted_needs, weighted_support}
+use Rattle.near_search.specs.Steps.Near.{AreWeighted, need_weight}
+use Rattle.tie_search.specs.Steps.Narrowed.{IsNarrowed}
 use Rattle.tie_search.proofs.CompletionLemmas.{added, added-free, added-increasing, added-size, completion-members, hits-same}
-use Rattle.tie_search.proofs.NeedLemmas.{hits-append, narrowed-by, needs-met, value-near}
-use Rattle.tie_search.proofs.PriceLemmas.{hits-turned}
+use Rattle.tie_search.proofs.HitLemmas.{hits-append, hits-turned}
+use Rattle.tie_search.proofs.NarrowedLemmas.{narrowed-by}
+use Rattle.near_search.proofs.NeedLemmas.{needs-met, value-near}
 use Rattle.tie_search.proofs.SearchLemmas.{sum-part, sum-threshold}
 
 -- ---- hits by rows and by candidates
@@ -145,50 +147,6 @@ weightless-support (row ∷ rows) = omega (arith, sum_by-cons (λ (r : Row). 0) 
 pub weight-none : (share : ℕ) → need_weight share 0 ≡ 0
 unfolding need_weight
 weight-none share = omega arith
-
--- who is free and on the ballot
-pub free-common : (ballot free : List ℕ) (n : ℕ) → has_member free n ≡ true → has_member (common_members ballot free) n ≡ has_member ballot n
-free-common ballot free n is = has_member-filter (has_member free) ballot n ∙ ap (λ b. b && has_member ballot n) is
-
-pub part-most : (b : Bool) (n : ℕ) → cond b n 0 ≤ n
-part-most true n = omega arith
-part-most false n = omega arith
-
--- ---- sums and thresholds
-
--- a member of less worth than the threshold leaves that much less
-pub sum-member : (f g : ℕ → ℕ) (t n : ℕ) (xs : List ℕ) → ((x : ℕ) → has_member xs x ≡ true → f x ≤ g x) → has_member xs n ≡ true
-    → sum_by f xs + (t - g n) ≤ length xs * t + sum_by (λ x. g x - t) xs
-sum-member f g t n [] less here = absurd cc
-sum-member f g t n (x ∷ xs) less here = elim (cases_eq x n) [
-  | inl same ↦ omega (
-    arith,
-    ap g same,
-    sum-threshold f g t xs fewer,
-    less x (has_member_head x xs),
-    sum_by-cons f x xs,
-    sum_by-cons (λ y. g y - t) x xs,
-    times (length xs) t,
-  )
-  | inr other ↦ omega (
-    arith,
-    sum-member f g t n xs fewer (sym (has_member_tail x n xs other) ∙ here),
-    less x (has_member_head x xs),
-    sum_by-cons f x xs,
-    sum_by-cons (λ y. g y - t) x xs,
-    times (length xs) t,
-  )
-]
-  where
-    or-true : (p q : Bool) → q ≡ true → (p || q) ≡ true
-    or-true true q h = refl
-    or-true false q h = h
-
-    fewer : (y : ℕ) → has_member xs y ≡ true → f y ≤ g y
-    fewer y is = less y (or-true (x == y) (has_member xs y) is)
-
-    times : (n t : ℕ) → suc n * t ≡ n * t + t
-    times n t = omega arith
 
 -- ---- committees that are near
 

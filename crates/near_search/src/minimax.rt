@@ -3,12 +3,11 @@ ghost use Rattle.std.specs.Prelude.{◌≡◌};
 ghost use Rattle.tie_walk.specs.Ceilings.{closeness_upto};
 ghost use Rattle.tie_walk.specs.Values.{closeness};
 
-use crate::found::Tied;
 use crate::near::{NearSearch, Shares, equal_shares};
-use crate::searchable::Searchable;
 use ballot_base::{CandSet, Clones, Profile};
 use std::alloc::{Allocator, Global};
 use std::marker::Model;
+use tie_search::{Searchable, Tied};
 use tie_walk::{MinimaxTally, Tally};
 
 /// The values under minimax approval voting, and what a search among them is helped by. Contracts see the election.
@@ -25,7 +24,7 @@ impl<'a, A: Allocator + Copy> Model for MinimaxSearch<'a, A> {
     ghost use Rattle.std.specs.Prelude.{◌≡◌, ℕ, ◌≤◌, slice_index};
     ghost use Rattle.ballot_base.specs.Ballots.{Election, IsElection};
     ghost use Rattle.ballot_base.specs.Clones.{AreClones};
-    ghost use Rattle.tie_search.specs.Steps.Near.{share_parts};
+    ghost use Rattle.near_search.specs.Steps.Near.{share_parts};
 
     ghost Value = { Election };
 

@@ -17,13 +17,13 @@ ghost use Rattle.ballot_base.specs.CandSet.{has_member};
 ghost use Rattle.ballot_base.specs.Limits.{most_candidates};
 ghost use Rattle.tie_walk.specs.Values.{closeness};
 ghost use Rattle.tie_search.specs.Completions.{IsNode, IsOutOfReach};
-ghost use Rattle.tie_search.specs.Steps.Near.{AreBranches, AreWeighted, IsNarrowed, IsNearAnswer, need_weight, share_parts};
+ghost use Rattle.near_search.specs.Steps.Near.{AreBranches, AreWeighted, IsNearAnswer, need_weight, share_parts};
+ghost use Rattle.tie_search.specs.Steps.Narrowed.{IsNarrowed};
 
 use crate::needs::still_needed;
-use crate::order::{first_member, nth_greatest};
-use crate::search::{at_least, excess};
 use ballot_base::{CandSet, Clones, PLACES, Profile};
 use std::alloc::Allocator;
+use tie_search::worths::{at_least, excess, first_member, nth_greatest};
 use tie_walk::add_to_members;
 
 /// With fewer seats left than this, going through the sets is quicker than weighing needs. Any number is right.

@@ -2,7 +2,7 @@
 ghost use Rattle.std.specs.Prelude.{◌≡◌, ◌+◌, ◌-◌, ◌^◌, ◌<◌, length};
 ghost use Rattle.ballot_base.specs.Ballots.{hits};
 ghost use Rattle.ballot_base.specs.Limits.{most_candidates};
-ghost use Rattle.tie_search.specs.Needs.{hits_needed};
+ghost use Rattle.near_search.specs.Needs.{hits_needed};
 
 use ballot_base::CandSet;
 

@@ -11,8 +11,8 @@ use Rattle.ballot_base.proofs.WeightLemmas.{increments-past, increments-within, 
 use Rattle.tie_walk.specs.Values.{Thiele, thiele_value}
 use Rattle.tie_walk.proofs.TableLemmas.{sum-take_more}
 use Rattle.tie_search.specs.Completions.{tally_value}
-use Rattle.tie_search.specs.Steps.Columns.{block_voters, total, approves_some, voter_ballot, voters_of, AreColumnsOf}
-use Rattle.tie_search.proofs.ColumnLemmas.{total-voters, voters-sum}
+use Rattle.thiele_search.specs.Steps.Columns.{block_voters, total, approves_some, voter_ballot, voters_of, AreColumnsOf}
+use Rattle.thiele_search.proofs.ColumnLemmas.{total-voters, voters-sum}
 
 -- only the first hit counts
 first-alone : (w : List ℕ) (x : ℕ) → get_or w 0 0 ≤ 1 → ((i : ℕ) → get_or w (suc i) 0 ≡ 0) → sum (take x w) ≤ min x 1

@@ -6,11 +6,11 @@ use Rattle.ballot_base.specs.Ballots.{Row, Election}
 use Rattle.ballot_base.specs.CandSet.{has_member, common_members, includes}
 use Rattle.ballot_base.proofs.Increasing.{IsIncreasing-filter, has_member-filter, same_increasing}
 use Rattle.tie_search.specs.Completions.{IsNode}
-use Rattle.tie_search.specs.Steps.Known.{AreKnown, AreKnownIf, IsKnown}
-use Rattle.tie_search.specs.Steps.Paired.{AreSums, AreTotals}
-use Rattle.tie_search.specs.declared.known.Known.{Known}
-use Rattle.tie_search.specs.declared.known.KnownTotals.{KnownTotals}
-use Rattle.tie_search.specs.declared.majorant.HitSums.{HitSums}
+use Rattle.thiele_search.specs.Steps.Known.{AreKnown, AreKnownIf, IsKnown}
+use Rattle.thiele_search.specs.Steps.Paired.{AreSums, AreTotals}
+use Rattle.thiele_search.specs.declared.known.Known.{Known}
+use Rattle.thiele_search.specs.declared.known.KnownTotals.{KnownTotals}
+use Rattle.thiele_search.specs.declared.majorant.HitSums.{HitSums}
 use Rattle.tie_search.proofs.CompletionLemmas.{and-true}
 use Rattle.tie_search.proofs.FoundLemmas.{completion-among}
 

@@ -1,5 +1,8 @@
+pub mod AlikeLemmas
 pub mod ColumnLemmas
 pub mod CoverLemmas
+mod Examples
+pub mod GainLemmas
 pub mod KeptLemmas
 mod KnownLemmas
 pub mod MajorantLemmas

@@ -1,9 +1,9 @@
 -- Tables in which majorants are kept.
 use Rattle.std.proofs.Common.{◌≡◌, ℕ, zero, suc, ◌+◌, ◌*◌, List, Option, None, refl, sym, subst, min, replicate, get_or, MatchOption}
 use Rattle.std.specs.Prelude.{⊤}
-use Rattle.tie_search.specs.declared.majorant.Majorant.{Majorant}
-use Rattle.tie_search.specs.Steps.Majorants.{AreMajorants, places_open}
-use Rattle.tie_search.specs.Steps.Paired.{IsMajorantOf}
+use Rattle.thiele_search.specs.declared.majorant.Majorant.{Majorant}
+use Rattle.thiele_search.specs.Steps.Majorants.{AreMajorants, places_open}
+use Rattle.thiele_search.specs.Steps.Paired.{IsMajorantOf}
 
 nowhere : (n i : ℕ) → get_or {A = Option Majorant} (replicate n None) i None ≡ None
 nowhere zero i = refl

@@ -6,8 +6,9 @@ use Rattle.std.proofs.lemmas.List.{get_or-set_same, get_or-set_other}
 use Rattle.ballot_base.specs.Limits.{most_candidates}
 use Rattle.ballot_base.specs.Lists.{IsIncreasing}
 use Rattle.ballot_base.specs.CandSet.{has_member, members_upto}
-use Rattle.ballot_base.proofs.Increasing.{has_member_head, has_member_tail, has_member-below, has_member-filter}
-use Rattle.tie_search.specs.Steps.Paired.{overlap_at, pair_place, triangle}
+use Rattle.ballot_base.proofs.Increasing.{has_member-filter}
+use Rattle.tie_search.proofs.MemberLemmas.{first-gone, first-in, first-low, others-same}
+use Rattle.thiele_search.specs.Steps.Paired.{overlap_at, pair_place, triangle}
 
 -- who is in the row or among the members gets so much
 abbrev pub portion : Bool → Bool → ℕ → ℕ
@@ -82,25 +83,6 @@ place-row row column other last few less same = elim (cases_lt row other) [
 ]
 
 module _ (left rest : List ℕ) (first : ℕ) (is : left ≡ first ∷ rest) (up : IsIncreasing 1 most_candidates left) where
-  pub first-in : has_member left first ≡ true
-  first-in = ap (λ l. has_member l first) is ∙ has_member_head first rest
-
-  pub later-in : (n : ℕ) → has_member rest n ≡ true → has_member left n ≡ true
-  later-in n later = ap (λ l. has_member l n) is ∙ or-true (first == n) (has_member rest n) later
-    where
-      or-true : (p q : Bool) → q ≡ true → (p || q) ≡ true
-      or-true true q h = refl
-      or-true false q h = h
-
-  pub first-gone : has_member rest first ≡ false
-  first-gone = let at : IsIncreasing 1 most_candidates (first ∷ rest) = rw is at up in has_member-below (first + 1) most_candidates rest first at.2 (omega arith)
-
-  pub others-same : (c : ℕ) → (c ≡ first → ⊥) → has_member left c ≡ has_member rest c
-  others-same c other = ap (λ l. has_member l c) is ∙ has_member_tail first c rest (λ e. other (sym e))
-
-  pub first-low : first ≤ most_candidates
-  first-low = let at : IsIncreasing 1 most_candidates (first ∷ rest) = rw is at up in omega (arith, at.1)
-
   -- the value of the first of those who are left is set
   pub set-made : (P : ℕ → ℕ → Type 0) (free values : List ℕ) (v : ℕ) → first < length values → P first v
       → ((j : ℕ) → has_member free j ≡ true → has_member left j ≡ false → P j (get_or values j 0))
@@ -109,7 +91,7 @@ module _ (left rest : List ℕ) (first : ℕ) (is : left ≡ first ∷ rest) (up
     | inl same ↦
         let now : get_or (set values first v) j 0 ≡ v = ap (λ n. get_or (set values first v) n 0) same ∙ get_or-set_same values first v 0 inside in
         subst (λ x. P j x) (sym now) (subst (λ x. P x v) (sym same) here)
-    | inr other ↦ subst (λ x. P j x) (sym (get_or-set_other values first j v 0 other)) (before j in_ (others-same j other ∙ gone))
+    | inr other ↦ subst (λ x. P j x) (sym (get_or-set_other values first j v 0 other)) (before j in_ (others-same left rest first is up j other ∙ gone))
   ]
 
   pub set-most : (values : List ℕ) (v most : ℕ) → first < length values → v ≤ most → ((j : ℕ) → get_or values j 0 ≤ most) → (j : ℕ) → get_or (set values first v) j 0 ≤ most
@@ -136,8 +118,8 @@ module _ (left rest : List ℕ) (first : ℕ) (is : left ≡ first ∷ rest) (up
             ap (λ n. get_or table n 0) same,
             ap (λ b. portion b (has_member left (min i j)) amount) (eq-eqb (max i j) row row-is),
             ap (λ b. portion b (has_member rest (min i j)) amount) (eq-eqb (max i j) row row-is),
-            ap (λ b. cond b amount 0) (ap (has_member left) first-is ∙ first-in),
-            ap (λ b. cond b amount 0) (ap (has_member rest) first-is ∙ first-gone),
+            ap (λ b. cond b amount 0) (ap (has_member left) first-is ∙ (first-in left rest first is up)),
+            ap (λ b. cond b amount 0) (ap (has_member rest) first-is ∙ (first-gone left rest first is up)),
           )
       | inr other ↦
           omega (
@@ -149,7 +131,7 @@ module _ (left rest : List ℕ) (first : ℕ) (is : left ≡ first ∷ rest) (up
     ]
       where
         kept : (max i j ≡ row) ⊎ (max i j ≡ row → ⊥) → (pair_place i j ≡ triangle row + first → ⊥) → portion (max i j == row) (has_member rest (min i j)) amount ≡ portion (max i j == row) (has_member left (min i j)) amount
-        kept (inl same) other = ap (λ b. portion (max i j == row) b amount) (sym (others-same (min i j) (λ e. other (omega (arith, ap triangle same, e)))))
+        kept (inl same) other = ap (λ b. portion (max i j == row) b amount) (sym (others-same left rest first is up (min i j) (λ e. other (omega (arith, ap triangle same, e)))))
         kept (inr apart) other = ap (λ b. portion b (has_member rest (min i j)) amount) (ne_eqb (max i j) row apart) ∙ sym (ap (λ b. portion b (has_member left (min i j)) amount) (ne_eqb (max i j) row apart))
 
     -- the next number fits
@@ -165,7 +147,7 @@ module _ (left rest : List ℕ) (first : ℕ) (is : left ≡ first ∷ rest) (up
           ap (λ n. get_or table n 0) at,
           ap (λ b. portion b (has_member left (min row first)) amount) (eq-eqb (max row first) row more),
           ap (λ b. portion b (has_member columns (min row first)) amount) (eq-eqb (max row first) row more),
-          ap (λ b. cond b amount 0) (ap (has_member left) less ∙ first-in),
+          ap (λ b. cond b amount 0) (ap (has_member left) less ∙ (first-in left rest first is up)),
           most (has_member columns (min row first)),
         )
       where
@@ -189,8 +171,8 @@ module _ (left rest : List ℕ) (first : ℕ) (is : left ≡ first ∷ rest) (up
             more i j,
             ap (λ b. portion b (has_member (members_upto members first) (min i j)) amount) (eq-eqb (max i j) first same),
             ap (λ b. cond b amount 0) column,
-            ap (λ b. portion b (has_member members (min i j)) amount) (ap (has_member left) same ∙ first-in),
-            ap (λ b. portion b (has_member members (min i j)) amount) (ap (has_member rest) same ∙ first-gone),
+            ap (λ b. portion b (has_member members (min i j)) amount) (ap (has_member left) same ∙ (first-in left rest first is up)),
+            ap (λ b. portion b (has_member members (min i j)) amount) (ap (has_member rest) same ∙ (first-gone left rest first is up)),
           )
       | inr other ↦
           omega (
@@ -198,19 +180,19 @@ module _ (left rest : List ℕ) (first : ℕ) (is : left ≡ first ∷ rest) (up
             made i j low,
             more i j,
             ap (λ b. portion b (has_member (members_upto members first) (min i j)) amount) (ne_eqb (max i j) first other),
-            ap (λ b. portion b (has_member members (min i j)) amount) (others-same (max i j) other),
+            ap (λ b. portion b (has_member members (min i j)) amount) (others-same left rest first is up (max i j) other),
           )
     ]
 
     pub rows-fit : (bound : ℕ) → ((i j : ℕ) → j ≤ most_candidates → overlap_at begun i j + amount < bound) → (j : ℕ) → j ≤ first → overlap_at table first j + amount < bound
     rows-fit bound fits j few =
-        let inside : j ≤ most_candidates = omega (arith, few, first-low) in
+        let inside : j ≤ most_candidates = omega (arith, few, (first-low left rest first is up)) in
         let more : max first j ≡ first = omega (arith, few) in
         omega (
           arith,
           made first j inside,
           fits first j inside,
-          ap (λ b. portion b (has_member members (min first j)) amount) (ap (has_member left) more ∙ first-in),
+          ap (λ b. portion b (has_member members (min first j)) amount) (ap (has_member left) more ∙ (first-in left rest first is up)),
           less (has_member members (max first j)) (has_member members (min first j)),
         )
       where

@@ -1,5 +1,5 @@
 -- Pairs of members: sums over them, and what row sums bound.
-use Rattle.std.proofs.Common.{◌≡◌, ℕ, zero, suc, ◌+◌, ◌-◌, ◌*◌, ◌≤◌, ◌==◌, ◌&&◌, ◌||◌, ◌∙◌, Bool, true, false, not, cond, List, [], ◌∷◌, ◌++◌, refl, sym, ap, arith, inl, inr, length, filter, min, sum, sum_by, take}
+use Rattle.std.proofs.Common.{◌≡◌, ℕ, zero, suc, ◌+◌, ◌-◌, ◌*◌, ◌≤◌, ◌==◌, ◌&&◌, ◌||◌, ◌∙◌, Bool, true, false, not, cond, List, [], ◌∷◌, ◌++◌, refl, sym, ap, arith, inl, inr, length, min, sum, sum_by, take}
 use Rattle.std.specs.List.{AllByRecursion}
 use Rattle.std.proofs.Math.Nat.{mul-le-mul_left}
 use Rattle.std.proofs.lemmas.Bool.{cases_eq, eq-eqb, ne_eqb}
@@ -7,16 +7,14 @@ use Rattle.std.proofs.lemmas.List.Sums.{sum_by-cons, count_by-le-length}
 use Rattle.ballot_base.specs.Lists.{IsIncreasing}
 use Rattle.ballot_base.specs.CandSet.{has_member, common_members, without_member}
 use Rattle.ballot_base.specs.Ballots.{Row, hits}
-use Rattle.ballot_base.proofs.Increasing.{IsIncreasing-filter, has_member-below, has_member-filter, has_member_head, same_increasing}
+use Rattle.ballot_base.proofs.Increasing.{IsIncreasing-filter, has_member-below, has_member_head}
 use Rattle.tie_walk.specs.Sequences.{supporters}
 use Rattle.tie_walk.specs.Values.{thiele_value}
 use Rattle.tie_search.specs.Completions.{IsNode, IsCompletion}
-use Rattle.tie_search.specs.Pairs.{IsMajorant, all_kept, all_worth, all_overlap, pair_sum, worth_beside, row_sum}
+use Rattle.thiele_search.specs.Pairs.{IsMajorant, all_kept, all_worth, all_overlap, pair_sum, worth_beside, row_sum}
 use Rattle.tie_search.proofs.CompletionLemmas.{added, added-free, added-increasing, added-size, completion-members, hits-same, member-without}
-use Rattle.tie_search.proofs.NeedLemmas.{hits-append, hits-more}
-use Rattle.tie_search.proofs.PriceLemmas.{hits-turned}
-use Rattle.tie_search.proofs.SearchLemmas.{sum-part, sum-threshold}
-use Rattle.tie_search.proofs.WeightLemmas.{sum-member}
+use Rattle.tie_search.proofs.HitLemmas.{hits-append, hits-more, hits-turned}
+use Rattle.tie_search.proofs.SearchLemmas.{sum-threshold, sum-member}
 
 or-true : (p q : Bool) → q ≡ true → (p || q) ≡ true
 or-true true q h = refl
@@ -92,27 +90,6 @@ sum-apart f last first n (x ∷ xs) up here = elim (cases_eq x n) [
     gone (y ∷ xs) other =
         let in_ : without_member (y ∷ xs) n ≡ y ∷ without_member xs n = simp (ne_eqb y n (other y (has_member_head y xs))) in
         in_ ∙ ap (λ l. y ∷ l) (gone xs (λ z is. other z (or-true (y == z) (has_member xs z) is)))
-
--- a sum over some of the members is no more than that over all
-sum-among : (f : ℕ → ℕ) (last : ℕ) (some all : List ℕ) → IsIncreasing 1 last some → IsIncreasing 1 last all → ((n : ℕ) → has_member some n ≡ true → has_member all n ≡ true)
-    → sum_by f some ≤ sum_by f all
-sum-among f last some all up rises among =
-    let same : filter (has_member some) all ≡ some =
-    same_increasing 1 last (filter (has_member some) all) some (IsIncreasing-filter (has_member some) 1 last all rises) up
-    (λ n. has_member-filter (has_member some) all n ∙ absorbed (has_member some n) (has_member all n) (among n)) in
-    omega (arith, ap (sum_by f) same, sum-part f (has_member some) all)
-  where
-    absorbed : (p q : Bool) → (p ≡ true → q ≡ true) → (p && q) ≡ p
-    absorbed true q h = h refl
-    absorbed false q h = refl
-
--- some of the members are no more than all
-pub length-among : (last : ℕ) (some all : List ℕ) → IsIncreasing 1 last some → IsIncreasing 1 last all → ((n : ℕ) → has_member some n ≡ true → has_member all n ≡ true) → length some ≤ length all
-length-among last some all up rises among = omega (arith, ones some, ones all, sum-among (λ n. 1) last some all up rises among)
-  where
-    ones : (xs : List ℕ) → sum_by (λ n. 1) xs ≡ length xs
-    ones [] = refl
-    ones (x ∷ xs) = omega (arith, ones xs, sum_by-cons (λ (n : ℕ). 1) x xs)
 
 -- the worths of a row and its overlaps
 row-whole : (worth : ℕ → ℕ) (overlap : ℕ → ℕ → ℕ) (left raise i : ℕ) (xs : List ℕ) → ((j : ℕ) → has_member xs j ≡ true → 2 * (left - 1) * overlap i j ≤ worth j + raise)

@@ -10,12 +10,12 @@ use Rattle.ballot_base.specs.Ballots.{Row}
 use Rattle.ballot_base.proofs.Increasing.{has_member-filter}
 use Rattle.tie_walk.specs.Values.{thiele_value}
 use Rattle.tie_search.specs.Completions.{IsNode, IsCompletion, IsOutOfReach}
-use Rattle.tie_search.specs.Pairs.{pair_sum, row_sum}
-use Rattle.tie_search.specs.Steps.Near.{IsNarrowed}
-use Rattle.tie_search.specs.Steps.Paired.{AreTotals, IsRowSum, overlap_at}
+use Rattle.thiele_search.specs.Pairs.{pair_sum, row_sum}
+use Rattle.tie_search.specs.Steps.Narrowed.{IsNarrowed}
+use Rattle.thiele_search.specs.Steps.Paired.{AreTotals, IsRowSum, overlap_at}
 use Rattle.tie_search.proofs.CompletionLemmas.{added-free, added-increasing, added-size, member-high}
-use Rattle.tie_search.proofs.NeedLemmas.{narrowed-by}
-use Rattle.tie_search.proofs.PairLemmas.{rows-bound, rows-bound_member}
+use Rattle.tie_search.proofs.NarrowedLemmas.{narrowed-by}
+use Rattle.thiele_search.proofs.PairLemmas.{rows-bound, rows-bound_member}
 
 -- a value that is reached in units is reached by the bound
 units-low : (scale unit least needed all overlaps : ℕ) → 1 ≤ unit → ((value : ℕ) → scale * least ≤ unit * value → needed ≤ value) → scale * least + unit * overlaps ≤ unit * all → needed + overlaps ≤ all

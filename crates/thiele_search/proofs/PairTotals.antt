@@ -12,12 +12,11 @@ use Rattle.ballot_base.proofs.Committees.{length-increasing}
 use Rattle.tie_walk.proofs.Distances.{ballot-found}
 use Rattle.tie_walk.specs.Values.{thiele_value}
 use Rattle.tie_search.specs.Completions.{IsNode}
-use Rattle.tie_search.specs.Pairs.{IsMajorant}
-use Rattle.tie_search.specs.Steps.Paired.{AreNothing, AreSums, AreTotals, overlap_at}
-use Rattle.tie_search.proofs.NeedLemmas.{hits-append}
-use Rattle.tie_search.proofs.OverlapLemmas.{portion}
-use Rattle.tie_search.proofs.PairLemmas.{row-bound}
-use Rattle.tie_search.proofs.WeightLemmas.{free-common}
+use Rattle.thiele_search.specs.Pairs.{IsMajorant}
+use Rattle.thiele_search.specs.Steps.Paired.{AreNothing, AreSums, AreTotals, overlap_at}
+use Rattle.tie_search.proofs.HitLemmas.{hits-append, free-common}
+use Rattle.thiele_search.proofs.OverlapLemmas.{portion}
+use Rattle.thiele_search.proofs.PairLemmas.{row-bound}
 
 -- ---- one row
 

@@ -1,17 +1,16 @@
 -- No committee is worth more than its price.
-use Rattle.std.proofs.Common.{◌≡◌, ℕ, zero, suc, ◌+◌, ◌-◌, ◌*◌, ◌<◌, ◌≤◌, ◌&&◌, ◌∙◌, Bool, true, false, not, cond, List, [], ◌∷◌, refl, sym, ap, arith, inl, inr, length, filter, map, fold, max, sum, sum_by, take}
+use Rattle.std.proofs.Common.{◌≡◌, ℕ, zero, suc, ◌+◌, ◌-◌, ◌*◌, ◌<◌, ◌≤◌, ◌&&◌, ◌∙◌, Bool, true, false, not, cond, List, [], ◌∷◌, refl, ap, arith, inl, inr, length, filter, map, fold, max, sum, sum_by, take}
 use Rattle.std.specs.List.{AllByRecursion, range_with_len}
 use Rattle.std.proofs.Math.Nat.{mul-le-mul_left}
 use Rattle.std.proofs.lemmas.Bool.{cases_eq}
 use Rattle.std.proofs.lemmas.List.Filters.{sum_by-filter_both}
-use Rattle.std.proofs.lemmas.List.Sums.{sum_by-cons, length-filter, count_by-le-length}
+use Rattle.std.proofs.lemmas.List.Sums.{sum_by-cons, count_by-le-length}
 use Rattle.ballot_base.specs.Lists.{IsIncreasing}
 use Rattle.ballot_base.specs.CandSet.{has_member}
 use Rattle.ballot_base.specs.Ballots.{Row, hits}
-use Rattle.ballot_base.proofs.Increasing.{IsIncreasing-filter, has_member-filter, same_increasing}
 use Rattle.tie_walk.specs.Values.{thiele_value}
 use Rattle.tie_search.specs.Completions.{IsNode, IsCompletion}
-use Rattle.tie_search.specs.Prices.{Priced, priced_rows, kept, base, price}
+use Rattle.thiele_search.specs.Prices.{Priced, priced_rows, kept, base, price}
 use Rattle.tie_search.proofs.CompletionLemmas.{added, added-size, completion-inside, completion-outside}
 use Rattle.tie_search.proofs.SearchLemmas.{sum-threshold, sum-part}
 
@@ -33,21 +32,6 @@ greatest-range f low from (suc run) j least most = elim (cases_eq j from) [
 pub kept-bounds : (w : List ℕ) (scale s size h : ℕ) → h ≤ size → scale * sum (take h w) ≤ kept w scale s size + h * s
 kept-bounds w scale s size h few =
     omega (arith, greatest-range (λ j. scale * sum (take j w) - j * s) 0 0 (size + 1) h (omega arith) (omega (arith, few)))
-
--- a ballot's members of a committee are the committee's members of the ballot
-pub hits-turned : (m : ℕ) (ballot committee : List ℕ) → IsIncreasing 1 m ballot → IsIncreasing 1 m committee → hits ballot committee ≡ sum_by (λ n. cond (has_member ballot n) 1 0) committee
-hits-turned m ballot committee up rises =
-    let same : filter (has_member committee) ballot ≡ filter (has_member ballot) committee =
-    same_increasing 1 m (filter (has_member committee) ballot) (filter (has_member ballot) committee) (IsIncreasing-filter (has_member committee) 1 m ballot up)
-    (IsIncreasing-filter (has_member ballot) 1 m committee rises)
-    (λ n. has_member-filter (has_member committee) ballot n ∙ swap (has_member committee n) (has_member ballot n) ∙ sym (has_member-filter (has_member ballot) committee n)) in
-    sym (length-filter (has_member committee) ballot) ∙ ap length same ∙ length-filter (has_member ballot) committee
-  where
-    swap : (p q : Bool) → (p && q) ≡ (q && p)
-    swap true true = refl
-    swap true false = refl
-    swap false true = refl
-    swap false false = refl
 
 -- ---- all rows
 

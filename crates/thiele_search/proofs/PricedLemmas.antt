@@ -16,12 +16,12 @@ use Rattle.ballot_base.specs.Ballots.{Row, IsElection, hits, voter_count}
 use Rattle.ballot_base.proofs.Increasing.{has_member_head}
 use Rattle.tie_walk.proofs.TableLemmas.{sum-take_more}
 use Rattle.tie_walk.specs.Values.{Thiele, thiele_value}
-use Rattle.tie_search.specs.Prices.{AreRounded, Priced, priced_rows, kept, base, price}
+use Rattle.thiele_search.specs.Prices.{AreRounded, Priced, priced_rows, kept, base, price}
 use Rattle.tie_search.specs.Completions.{IsNode, IsCompletion}
-use Rattle.tie_search.specs.Steps.Priced.{ArePrices, scale, priced_by}
-use Rattle.tie_search.proofs.ColumnLemmas.{voters-part}
+use Rattle.thiele_search.specs.Steps.Priced.{ArePrices, scale, priced_by}
+use Rattle.thiele_search.proofs.ColumnLemmas.{voters-part}
 use Rattle.tie_search.proofs.CompletionLemmas.{member-high}
-use Rattle.tie_search.proofs.PriceLemmas.{price-cons, row-price, priced-node}
+use Rattle.thiele_search.proofs.PriceLemmas.{price-cons, row-price, priced-node}
 
 -- ---- sums
 

@@ -1,3 +1,4 @@
+pub mod Aided
 pub mod Columns
 pub mod Known
 pub mod Majorants

@@ -13,7 +13,7 @@ ghost use Rattle.ballot_base.specs.Limits.{most_candidates, most_members};
 ghost use Rattle.ballot_base.specs.Ballots.{hits, voter_count};
 ghost use Rattle.ballot_base.specs.CandSet.{has_member};
 ghost use Rattle.tie_walk.specs.Values.{thiele_of};
-ghost use Rattle.tie_search.specs.Steps.Columns.{block_voters, most_blocks, total, shared, given, approves_some, IsBlock, AreByHits, AreColumns, AreColumnsOf, AreRising, AreWeights, voters_of, voter_ballot, word_before};
+ghost use Rattle.thiele_search.specs.Steps.Columns.{block_voters, most_blocks, total, shared, given, approves_some, IsBlock, AreByHits, AreColumns, AreColumnsOf, AreRising, AreWeights, voters_of, voter_ballot, word_before};
 
 use crate::weights::{HitWeights, Weights};
 use ballot_base::{CandSet, Increments, MOST_MEMBERS, PLACES, Profile, ThieleRule};

@@ -5,12 +5,13 @@
 //! committees may tie: winners can then come one by one, and the first does not wait for a list of all.
 ghost use Rattle.std.specs.Prelude.{◌≡◌};
 ghost use Rattle.tie_search.specs.Completions.{IsNode};
-ghost use Rattle.tie_search.specs.Steps.Searched.{IsAided};
+ghost use Rattle.thiele_search.specs.Steps.Aided.{IsAided};
 
 use crate::order::Order;
-use crate::search::{Node, Search, may_reach};
+use crate::search::{Search, may_reach};
 use ballot_base::CandSet;
 use std::alloc::Allocator;
+use tie_search::Node;
 use tie_walk::Tally;
 
 /// How many sets the short searches may enter together. Any limit is right.

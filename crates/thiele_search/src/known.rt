@@ -9,12 +9,12 @@
 ghost use Rattle.std.specs.Prelude.{◌≡◌, ℕ, true};
 ghost use Rattle.ballot_base.specs.Ballots.{Election};
 ghost use Rattle.ballot_base.specs.CandSet.{has_member};
-ghost use Rattle.tie_search.specs.Steps.Known.{AreKnown};
-ghost use Rattle.tie_search.specs.declared.majorant.HitSums.{HitSums};
+ghost use Rattle.thiele_search.specs.Steps.Known.{AreKnown};
+ghost use Rattle.thiele_search.specs.declared.majorant.HitSums.{HitSums};
 
 use crate::pairs::Totals;
-use crate::search::Node;
 use ballot_base::CandSet;
+use tie_search::Node;
 
 /// How often totals are used again.
 const USES_OF_TOTALS: u8 = 3;

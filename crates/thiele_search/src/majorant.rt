@@ -6,7 +6,7 @@
 ghost use Rattle.std.specs.Prelude.{◌≡◌, ℕ, ◌+◌, ◌*◌, ◌^◌, ◌≤◌, min, slice_index, MatchOption, ⊤};
 ghost use Rattle.ballot_base.specs.Limits.{most_candidates, most_members};
 ghost use Rattle.ballot_base.specs.Increments.{increments};
-ghost use Rattle.tie_search.specs.Steps.Paired.{AreSums, IsMajorantOf};
+ghost use Rattle.thiele_search.specs.Steps.Paired.{AreSums, IsMajorantOf};
 
 use ballot_base::{Increments, PLACES, ThieleRule};
 use std::marker::Model;
@@ -125,7 +125,7 @@ pub(crate) struct Majorants<'a> {
 
 impl<'a> Model for Majorants<'a> {
     ghost use Rattle.std.specs.Prelude.{ℕ, ◌^◌, ◌≤◌, slice_index};
-    ghost use Rattle.tie_search.specs.Steps.Majorants.{AreMajorants, Majorized};
+    ghost use Rattle.thiele_search.specs.Steps.Majorants.{AreMajorants, Majorized};
 
     ghost Value = { Majorized };
 

@@ -9,14 +9,14 @@ ghost use Rattle.std.specs.Prelude.{◌≡◌, ℕ, ◌^◌, ◌<◌, ◌≤◌,
 ghost use Rattle.ballot_base.specs.Ballots.{IsElection};
 ghost use Rattle.ballot_base.specs.Limits.{most_candidates};
 ghost use Rattle.ballot_base.specs.Lists.{IsIncreasing};
-ghost use Rattle.tie_search.specs.Steps.Priced.{HasRoom};
+ghost use Rattle.thiele_search.specs.Steps.Priced.{HasRoom};
 
 use crate::order::Order;
 use crate::prices::{SCALE, base_of, prices_of};
-use crate::search::excess;
 use crate::weights::{RoundedWeights, Weights};
 use ballot_base::{CandSet, MOST_MEMBERS, PLACES, Profile};
 use std::alloc::{AllocError, Allocator};
+use tie_search::worths::excess;
 use tie_walk::{Tally, ThieleTally};
 
 /// For how many rows multipliers are chosen at most.

@@ -12,16 +12,17 @@ ghost use Rattle.ballot_base.specs.Limits.{most_candidates};
 ghost use Rattle.ballot_base.specs.Lists.{IsIncreasing};
 ghost use Rattle.tie_walk.specs.Values.{thiele_value};
 ghost use Rattle.tie_search.specs.Completions.{IsNode};
-ghost use Rattle.tie_search.specs.Steps.Known.{AreKnown, IsKept, Narrows};
-ghost use Rattle.tie_search.specs.Steps.Paired.{AreNothing, AreSmall, AreSums, AreTotals, IsRowSum, IsSmallMajorant, overlap_at, pair_place, triangle};
-ghost use Rattle.tie_search.specs.Steps.Rows.{AreBeside, AreRows};
+ghost use Rattle.thiele_search.specs.Steps.Known.{AreKnown, IsKept};
+ghost use Rattle.tie_search.specs.Steps.Narrowed.{Narrows};
+ghost use Rattle.thiele_search.specs.Steps.Paired.{AreNothing, AreSmall, AreSums, AreTotals, IsRowSum, IsSmallMajorant, overlap_at, pair_place, triangle};
+ghost use Rattle.thiele_search.specs.Steps.Rows.{AreBeside, AreRows};
 
 use crate::known::{Known, KnownTotals};
 use crate::majorant::{HitSums, Majorant, Majorants};
-use crate::order::nth_greatest;
-use crate::search::{Node, at_least, excess};
 use ballot_base::{CandSet, MOST_CANDIDATES, PLACES, Profile};
 use std::alloc::Allocator;
+use tie_search::Node;
+use tie_search::worths::{at_least, excess, nth_greatest};
 use tie_walk::add_to_members;
 
 /// How many places a table of pairs has: 65 * 66 / 2.

@@ -8,15 +8,15 @@
 ghost use Rattle.std.specs.Prelude.{◌≡◌, ℕ, ◌+◌, ◌^◌, ◌<◌, ◌≤◌, length, slice_index, MatchOption, ⊤};
 ghost use Rattle.ballot_base.specs.Limits.{most_candidates, most_members};
 ghost use Rattle.tie_walk.specs.Values.{thiele_of};
-ghost use Rattle.tie_search.specs.Prices.{kept, base, price};
-ghost use Rattle.tie_search.specs.Steps.Priced.{ArePrices, HasRoom, scale, most_rows, priced_by};
+ghost use Rattle.thiele_search.specs.Prices.{kept, base, price};
+ghost use Rattle.thiele_search.specs.Steps.Priced.{ArePrices, HasRoom, scale, most_rows, priced_by};
 
 use crate::multipliers::{MultiplierMemory, chosen};
 use crate::order::Order;
-use crate::search::excess;
 use crate::weights::{Weights, rounded_weights};
 use ballot_base::{CandSet, Increments, PLACES, Profile, ThieleRule};
 use std::alloc::Allocator;
+use tie_search::worths::excess;
 use tie_walk::{Tally, ThieleTally, add_to_members};
 
 /// What hits give is multiplied by this, so that there are multipliers between two increments.

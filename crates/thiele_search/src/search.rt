@@ -6,7 +6,7 @@
 //! value, so no value is computed anew. With one seat left, each candidate whose gain is enough is offered at once.
 //! Under `cc` a search also ends if all free candidates together add too little.
 //!
-//! One search lists all committees with the greatest value (module `found`): it begins with the value of a good
+//! One search lists all committees with the greatest value (`tie_search::found`): it begins with the value of a good
 //! committee, and looks for more as soon as it has met more. `find` is the same search, and ends with the first
 //! committee.
 //!
@@ -15,7 +15,7 @@
 //! candidates are counted for each set.
 //!
 //! A candidate who was tried leaves with all its clones, unless a committee with it counts: put in a clone's place, it
-//! makes a committee of the same value, and all committees with it were searched (`proofs/FoundLemmas.antt`).
+//! makes a committee of the same value, and all committees with it were searched (`proofs/AlikeLemmas.antt`).
 //!
 //! While enough seats are left, a bound by pairs of candidates comes before the gains are counted, and again after each
 //! candidate that was tried (module `pairs`). It counts a voter who approves two members less than twice. A search
@@ -29,8 +29,9 @@ ghost use Rattle.ballot_base.specs.CandSet.{has_member};
 ghost use Rattle.ballot_base.specs.Lists.{IsIncreasing};
 ghost use Rattle.ballot_base.specs.Increments.{increments};
 ghost use Rattle.tie_walk.specs.Sequences.{gain};
-ghost use Rattle.tie_search.specs.Steps.Known.{AreKnownIf, Narrows};
-ghost use Rattle.tie_search.specs.Steps.Searched.{IsAided};
+ghost use Rattle.thiele_search.specs.Steps.Known.{AreKnownIf};
+ghost use Rattle.tie_search.specs.Steps.Narrowed.{Narrows};
+ghost use Rattle.thiele_search.specs.Steps.Aided.{IsAided};
 ghost use Rattle.ballot_base.specs.Clones.{are_clones};
 ghost use Rattle.tie_walk.specs.Winners.{best_value};
 ghost use Rattle.tie_search.specs.Steps.Found.{AreListed, AreNew, AreSearched, IsListed};
@@ -38,7 +39,6 @@ ghost use Rattle.tie_search.specs.Completions.{IsNode, IsOutOfReach, IsReaching,
 ghost use Rattle.tie_search.specs.Tied.{AreTied};
 
 use crate::columns::Columns;
-use crate::found::{Found, Tied, Wanted};
 use crate::known::KnownTotals;
 use crate::majorant::HitSums;
 use crate::order::Order;
@@ -47,6 +47,9 @@ use crate::prices::{Prices, SCALE};
 use crate::trials::Uses;
 use ballot_base::{CandSet, Clones, PLACES, Profile, ThieleRule};
 use std::alloc::Allocator;
+use tie_search::found::{Found, Wanted};
+use tie_search::worths::{at_least, excess};
+use tie_search::{Node, Tied};
 use tie_walk::{Tally, ThieleTally};
 
 /// What a search is helped by: who are clones; columns and prices, if they are worth their making; what hits give, for
@@ -58,15 +61,6 @@ pub(crate) struct Aids<A: Allocator> {
     pub(crate) prices: Option<Prices>,
     pub(crate) sums: Option<HitSums>,
     pub(crate) uses: Uses,
-}
-
-/// A set that may become a committee, its value, the candidates that are free to join it, and how many of them do.
-#[derive(Clone, Copy)]
-pub(crate) struct Node {
-    pub(crate) set: CandSet,
-    pub(crate) value: u128,
-    pub(crate) free: CandSet,
-    pub(crate) left: u8,
 }
 
 /// A search for a committee whose value is at least `least`.
@@ -462,33 +456,4 @@ fn promising(
     let threshold = order.threshold(free, others, gains);
     let most = u128::from(others) * threshold + excess(gains, free, threshold);
     at_least(gains, free, needed.saturating_sub(most))
-}
-
-/// The candidates whose worth is at least `least`.
-pub(crate) fn at_least(worths: &[u128; PLACES], candidates: CandSet, least: u128) -> CandSet
-    ensures within { (m : ℕ) → IsIncreasing 1 m candidates → IsIncreasing 1 m result }
-    ensures among { (n : ℕ) → has_member result n ≡ true → has_member candidates n ≡ true }
-    ensures kept { (n : ℕ) → has_member candidates n ≡ true → least ≤ slice_index worths.now n
-        → has_member result n ≡ true }
-{
-    let mut kept = candidates;
-    for candidate in candidates.members() {
-        if worths[usize::from(candidate)] < least {
-            kept = kept.without(candidate);
-        }
-    }
-    kept
-}
-
-/// What the worths of the candidates exceed the threshold by, together.
-pub(crate) fn excess(worths: &[u128; PLACES], candidates: CandSet, threshold: u128) -> u128
-    requires small { (n : ℕ) → slice_index worths.now n ≤ 2 ^ 116 }
-    ensures sum { result ≡ sum_by (λ n. slice_index worths.now n - threshold) candidates }
-    ensures small { result ≤ 2 ^ 122 }
-{
-    let mut sum = 0;
-    for candidate in candidates.members() {
-        sum += worths[usize::from(candidate)].saturating_sub(threshold);
-    }
-    sum
 }

@@ -5,20 +5,19 @@ ghost use Rattle.tie_walk.specs.Values.{thiele_of};
 ghost use Rattle.tie_walk.specs.Winners.{best_value};
 ghost use Rattle.tie_walk.specs.Ceilings.{ceiling};
 ghost use Rattle.tie_search.specs.Completions.{tally_value};
-ghost use Rattle.tie_search.specs.Steps.Searched.{IsAided};
+ghost use Rattle.thiele_search.specs.Steps.Aided.{IsAided};
 
 use crate::columns::Columns;
-use crate::found::Tied;
 use crate::good::Good;
 use crate::majorant::HitSums;
 use crate::multipliers::MultiplierMemory;
 use crate::prices::Prices;
 use crate::search::{Aids, Search};
-use crate::searchable::Searchable;
 use crate::trials::Uses;
 use ballot_base::{CandSet, Clones, Profile, ThieleRule};
 use std::alloc::{AllocError, Allocator, Global};
 use std::marker::Model;
+use tie_search::{Searchable, Tied};
 use tie_walk::{Tally, ThieleTally};
 
 /// A candidate has many clones if there are so many with itself.
@@ -38,7 +37,7 @@ pub struct SearchMemory<'a, A: Allocator + Copy = Global> {
 impl<'a, A: Allocator + Copy> Model for SearchMemory<'a, A> {
     ghost use Rattle.std.specs.Prelude.{◌≡◌};
     ghost use Rattle.tie_walk.specs.Values.{Thiele};
-    ghost use Rattle.tie_search.specs.Steps.Searched.{IsMemoryFor};
+    ghost use Rattle.thiele_search.specs.Steps.Aided.{IsMemoryFor, IsAided};
 
     ghost Value = { Thiele };
 
@@ -86,7 +85,6 @@ pub struct ThieleSearch<'a, A: Allocator + Copy = Global> {
 impl<'a, A: Allocator + Copy> Model for ThieleSearch<'a, A> {
     ghost use Rattle.std.specs.Prelude.{◌≡◌};
     ghost use Rattle.tie_walk.specs.Values.{Thiele};
-    ghost use Rattle.tie_search.specs.Steps.Searched.{IsAided};
 
     ghost Value = { Thiele };
 

@@ -1,6 +1,6 @@
 //! What a voter gives for each hit, in words of 64 bits if it fits them.
 ghost use Rattle.std.specs.Prelude.{◌≡◌, ℕ, ◌^◌, ◌<◌, ◌≤◌, slice_index, MatchOption, ⊤};
-ghost use Rattle.tie_search.specs.Prices.{AreRounded};
+ghost use Rattle.thiele_search.specs.Prices.{AreRounded};
 
 use ballot_base::MOST_MEMBERS;
 use std::marker::Model;

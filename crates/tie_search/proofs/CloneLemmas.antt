@@ -1,33 +1,17 @@
 -- A candidate who was tried takes the place of a clone.
-use Rattle.std.proofs.Common.{◌≡◌, ℕ, ◌+◌, ◌-◌, ◌*◌, ◌≤◌, ◌==◌, ◌&&◌, ◌||◌, ◌∙◌, Bool, true, false, cond, not, List, [], ◌∷◌, refl, sym, ap, arith, inl, inr, length}
-use Rattle.std.specs.Prelude.{slice_index_or, sum_by}
-use Rattle.std.specs.List.{AllByRecursion}
+use Rattle.std.proofs.Common.{◌≡◌, ℕ, ◌+◌, ◌-◌, ◌*◌, ◌≤◌, ◌==◌, ◌&&◌, ◌||◌, ◌∙◌, Bool, true, false, not, List, [], ◌∷◌, refl, sym, ap, arith, inl, inr, length}
 use Rattle.std.proofs.lemmas.Bool.{cases_Bool, cases_eq, eq-eqb, ne_eqb}
 use Rattle.ballot_base.specs.Lists.{IsIncreasing}
 use Rattle.ballot_base.specs.CandSet.{has_member, other_members, with_member, without_member}
-use Rattle.ballot_base.specs.Ballots.{Row, IsElection, hits}
-use Rattle.ballot_base.specs.Clones.{AreClones, are_clones, clones_among}
-use Rattle.ballot_base.specs.Increments.{increments}
-use Rattle.ballot_base.proofs.CloneLemmas.{clones-same, clones_among-are}
+use Rattle.ballot_base.specs.Ballots.{Row}
+use Rattle.ballot_base.specs.Clones.{are_clones, clones_among}
+use Rattle.ballot_base.proofs.CloneLemmas.{clones_among-are}
 use Rattle.ballot_base.proofs.Increasing.{IsIncreasing-filter, IsIncreasing-with_member, has_member-filter, has_member-with_member, same_increasing}
-use Rattle.tie_walk.specs.Sequences.{gain, supporters, weight}
-use Rattle.tie_walk.specs.Values.{Thiele}
-use Rattle.tie_search.specs.Completions.{AreAlike, IsCompletion, IsNode, IsOutOfReach, tally_value}
+use Rattle.tie_search.specs.Completions.{IsCompletion, IsNode, IsOutOfReach}
 use Rattle.tie_search.proofs.CompletionLemmas.{completion-with, filter-most, member-high, member-low, member-without, with-longer, without-is}
 use Rattle.tie_search.proofs.SearchLemmas.{AreLeft, struck-out}
-use Rattle.tie_search.proofs.WholeLemmas.{value-with}
 
--- ---- values
-
-supporters-same : (rows : List Row) (c d : ℕ) → AllByRecursion (λ (row : Row). has_member row.0 c ≡ has_member row.0 d) rows → supporters rows c ≡ supporters rows d
-supporters-same [] c d same = refl
-supporters-same (row ∷ rows) c d same =
-    ap (λ b. cond b (row ∷ supporters rows c) (supporters rows c)) same.0
-    ∙ ap (λ l. cond (has_member row.0 d) (row ∷ l) l) (supporters-same rows c d same.1)
-
-gain-same : (weights : List ℕ) (rows : List Row) (set : List ℕ) (c d : ℕ) → are_clones rows c d ≡ true → gain weights rows set c ≡ gain weights rows set d
-gain-same weights rows set c d are =
-    ap (sum_by (λ (row : Row). row.1 * weight weights (hits row.0 set + 1))) (supporters-same rows c d (clones-same rows c d are))
+-- ---- a member in the place of another
 
 itself : (n : ℕ) → (n == n) ≡ true
 itself n = eq-eqb n n refl
@@ -66,18 +50,7 @@ module _ (m : ℕ) (committee : List ℕ) (c d : ℕ) (up : IsIncreasing 1 m com
       and-false true = refl
       and-false false = refl
 
-  -- it is worth the same where they are clones
-  pub value-exchanged : (tally : Thiele) → IsElection tally.election → are_clones tally.election.rows c d ≡ true → tally_value tally (exchanged committee c d) ≡ tally_value tally committee
-  value-exchanged tally valid are =
-      omega (
-        arith,
-        value-with tally less c valid less-out,
-        value-with tally less d valid (gone committee d),
-        gain-same (increments tally.rule tally.k) tally.election.rows less c d are,
-        ap (tally_value tally) (back m committee d up here),
-      )
-
-  -- and as large
+  -- it is as large
   pub exchanged-size : 1 ≤ c → c ≤ m → length (exchanged committee c d) ≡ length committee
   exchanged-size low high =
       omega (
@@ -135,13 +108,6 @@ minus-most free clones = filter-most (λ x. not (has_member clones x)) free
 -- those of its class are clones of a candidate
 pub class-are : (m : ℕ) (rows : List Row) (c : ℕ) (clones : List ℕ) → clones ≡ clones_among m rows c → (d : ℕ) → has_member clones d ≡ true → are_clones rows c d ≡ true
 class-are m rows c clones is d h = clones_among-are m rows c d (sym (ap (λ l. has_member l d) is) ∙ h)
-
--- the classes of clones are alike
-pub alike : (tally : Thiele) → IsElection tally.election → (classes : List (List ℕ)) → AreClones tally.election.m tally.election.rows classes
-    → AreAlike (tally_value tally) tally.election.m classes
-alike tally valid classes are committee c d up low high class here out =
-    value-exchanged tally.election.m committee c d up here out tally valid
-    (class-are tally.election.m tally.election.rows c (slice_index_or classes c []) (are c low high) d class)
 
 -- A candidate was tried and is struck out, with others in whose place it would be worth the same: a committee with one
 -- of them reaches the value only if the one with the candidate in its place does.

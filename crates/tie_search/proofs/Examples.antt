@@ -1,23 +1,14 @@
 -- The definitions of the search, worked out by hand. The value of a set is the sum of its numbers; of committees of two
 -- of the candidates 1 to 3 the best has 2 and 3.
-use Rattle.std.proofs.Common.{◌≡◌, ◌+◌, ◌*◌, ◌^◌, ◌<◌, ℕ, zero, suc, true, false, List, [], ◌∷◌, refl, sym, ap, subst, length, sum, lit≤, lit<, arith}
+use Rattle.std.proofs.Common.{◌≡◌, ◌+◌, ◌<◌, ℕ, zero, suc, true, false, List, [], ◌∷◌, refl, sym, ap, subst, sum, lit≤, lit<, arith}
 use Rattle.std.specs.Prelude.{slice_index_or}
-use Rattle.ballot_base.specs.Ballots.{IsElection, Row, election, hits, with_votes}
-use Rattle.ballot_base.specs.Clones.{AreClones}
-use Rattle.ballot_base.proofs.RowLemmas.{distinct-with_votes}
 use Rattle.ballot_base.specs.Lists.{lists_of}
 use Rattle.tie_walk.specs.Ceilings.{ceiling, closeness_upto}
-use Rattle.tie_walk.specs.Values.{closeness, distance}
+use Rattle.tie_walk.specs.Values.{closeness}
 use Rattle.tie_walk.specs.Winners.{best_value}
-use Rattle.tie_search.specs.Needs.{hits_needed, weighted_needs, weighted_support}
-use Rattle.tie_search.specs.Completions.{AreAlike, IsNode, IsCompletion, IsReaching, IsOutOfReach, IsWinnerFrom, is_reached, exact_bound}
-use Rattle.tie_search.specs.Pairs.{IsMajorant, all_kept, all_overlap, all_worth, pair_sum, row_sum, worth_beside}
-use Rattle.tie_search.specs.Prices.{kept, base, price}
+use Rattle.tie_search.specs.Completions.{IsNode, IsCompletion, IsReaching, IsOutOfReach, IsWinnerFrom, is_reached, exact_bound}
 use Rattle.tie_search.specs.Tied.{AreBest, AreDistinct, AreTied, IsAmong, IsBest}
-use Rattle.tie_search.specs.Steps.Near.{need_weight}
 use Rattle.tie_search.specs.Steps.Witness.{IsExchange, IsSetAndLater}
-use Rattle.tie_search.specs.Steps.Columns.{voter_ballot, given, total, voters_of}
-use Rattle.tie_search.proofs.NearClones.{alike}
 
 best-at_root : exact_bound sum (ceiling sum 3) 3 2 0 [] 2 ≡ 5
 unfolding lists_of
@@ -62,37 +53,10 @@ wins-from_one = record {
 joined-at_one : IsSetAndLater 3 1 [] 2 (2 ∷ 3 ∷ [])
 joined-at_one = (2 ∷ 3 ∷ [], (((lit≤ tt, lit≤ tt, (lit≤ tt, lit≤ tt, tt)), refl), refl))
 
--- ---- clones: one voter approves 1 and 2 of three candidates
-
-approving_two : List Row
-approving_two = with_votes [] (1 ∷ 2 ∷ []) 1
-
-approving_two-is_election : IsElection (election 3 ([] ∷ [] ∷ [] ∷ []) approving_two)
-unfolding approving_two
-approving_two-is_election = record {
-  least = lit≤ tt;
-  most = lit≤ tt;
-  names = refl;
-  ballots = ((lit≤ tt, lit≤ tt, (lit≤ tt, lit≤ tt, tt)), tt);
-  distinct = distinct-with_votes [] (1 ∷ 2 ∷ []) 1 (λ i j d l h. absurd (omega arith));
-  counts = (lit≤ tt, tt);
-  voters = lit≤ tt;
-}
+-- ---- clones: 1 and 2 of three candidates
 
 classes : List (List ℕ)
 classes = [] ∷ (1 ∷ 2 ∷ []) ∷ (1 ∷ 2 ∷ []) ∷ (3 ∷ []) ∷ []
-
-are_classes : AreClones 3 approving_two classes
-unfolding approving_two classes
-are_classes zero low high = absurd (omega (arith, low))
-are_classes (suc zero) low high = refl
-are_classes (suc (suc zero)) low high = refl
-are_classes (suc (suc (suc zero))) low high = refl
-are_classes (suc (suc (suc (suc c)))) low high = absurd (omega (arith, high))
-
--- 1 in the place of 2, or 2 in the place of 1, leaves a committee as close to the voter as it was
-are_alike : AreAlike (closeness 3 approving_two) 3 classes
-are_alike = alike (election 3 ([] ∷ [] ∷ [] ∷ []) approving_two) approving_two-is_election classes are_classes
 
 -- 2 and 3 are 1 and 3 with 2 in the place of 1
 is_exchange : IsExchange classes (2 ∷ 3 ∷ []) (1 ∷ 3 ∷ [])
@@ -123,121 +87,6 @@ four_is_reached = record { completes = three_completes; reaches = lit≤ tt }
 nothing_is_reached : IsOutOfReach sum 3 [] (1 ∷ []) 0 1
 nothing_is_reached [] whole = lit< tt
 nothing_is_reached (x ∷ committee) whole = absurd (omega (arith, whole.size))
-
--- ---- prices: a voter gives 6 for a hit, 3 more for a second and 2 more for a third, and each hit costs 3
-
-kept-one : kept (6 ∷ 3 ∷ 2 ∷ []) 1 3 1 ≡ 3
-kept-one = refl
-
--- the third hit gives less than it costs
-kept-three : kept (6 ∷ 3 ∷ 2 ∷ []) 1 3 3 ≡ 3
-kept-three = refl
-
--- two voters approve 1 and 2, at the multiplier 3, and one voter approves 2, at 6
-base-both : base (6 ∷ 3 ∷ 2 ∷ []) 1 (((1 ∷ 2 ∷ [], 2), 3) ∷ ((2 ∷ [], 1), 6) ∷ []) ≡ 6
-base-both = refl
-
-price-one : price (((1 ∷ 2 ∷ [], 2), 3) ∷ ((2 ∷ [], 1), 6) ∷ []) 1 ≡ 6
-price-one = refl
-
-price-two : price (((1 ∷ 2 ∷ [], 2), 3) ∷ ((2 ∷ [], 1), 6) ∷ []) 2 ≡ 12
-price-two = refl
-
-voters-three : voters_of ((1 ∷ 2 ∷ [], 2) ∷ (3 ∷ [], 1) ∷ []) ≡ (1 ∷ 2 ∷ []) ∷ (1 ∷ 2 ∷ []) ∷ (3 ∷ []) ∷ []
-voters-three = refl
-
--- a voter with one member already gives the second weight
-given-second : given (6 ∷ 3 ∷ 2 ∷ []) (2 ∷ []) 1 (1 ∷ 2 ∷ []) ≡ 3
-given-second = refl
-
--- two voters give it, the third gives nothing, and there is no fourth
-given-by_all : total (λ v. given (6 ∷ 3 ∷ 2 ∷ []) (2 ∷ []) 1 (voter_ballot ((1 ∷ 2 ∷ []) ∷ (1 ∷ 2 ∷ []) ∷ (3 ∷ []) ∷ []) v)) 4 ≡ 6
-unfolding total
-given-by_all = refl
-
--- ---- hits that ballots need under minimax approval voting
-
--- a ballot of three needs two hits of a committee of four to be no farther than 3: with 2 and 3 in common, 1, 4 and 5
--- stand on one of the two alone
-needed-two : hits_needed 3 4 3 ≡ 2
-needed-two = refl
-
-far-three : distance (1 ∷ 2 ∷ 3 ∷ []) (2 ∷ 3 ∷ 4 ∷ 5 ∷ []) ≡ 3
-far-three = refl
-
-hits-two : hits (1 ∷ 2 ∷ 3 ∷ []) (2 ∷ 3 ∷ 4 ∷ 5 ∷ []) ≡ 2
-hits-two = refl
-
--- with one hit the distance is 5, so that two are needed for 4 as well
-needed-four : hits_needed 3 4 4 ≡ 2
-needed-four = refl
-
-needed-five : hits_needed 3 4 5 ≡ 1
-needed-five = refl
-
--- no hit where both together are no more
-needed-none : hits_needed 3 4 7 ≡ 0
-needed-none = refl
-
-needed-none_more : hits_needed 3 4 9 ≡ 0
-needed-none_more = refl
-
--- one voter approves 1, 2 and 3 and two approve 4 and 5; a row weighs as much as its ballot has candidates. To be no
--- farther than 3 from a committee of three, the first row needs a hit beside the member 1, and the second row one hit
-weighted-three : weighted_needs (λ row. length row.0) 3 3 (1 ∷ []) ((1 ∷ 2 ∷ 3 ∷ [], 1) ∷ (4 ∷ 5 ∷ [], 2) ∷ []) ≡ 5
-weighted-three = refl
-
--- nobody is in the set
-weighted-none : weighted_needs (λ row. length row.0) 3 3 [] ((1 ∷ 2 ∷ 3 ∷ [], 1) ∷ (4 ∷ 5 ∷ [], 2) ∷ []) ≡ 8
-weighted-none = refl
-
-support-three : weighted_support (λ row. length row.0) ((1 ∷ 2 ∷ 3 ∷ [], 1) ∷ (4 ∷ 5 ∷ [], 2) ∷ (3 ∷ [], 1) ∷ []) 3 ≡ 4
-support-three = refl
-
-support-nobody : weighted_support (λ row. length row.0) ((1 ∷ 2 ∷ 3 ∷ [], 1) ∷ (4 ∷ 5 ∷ [], 2) ∷ []) 6 ≡ 0
-support-nobody = refl
-
--- a ballot that needs two of four free candidates, whose share is 256 parts each
-weight-half : need_weight 256 2 ≡ 2 * 512 ^ 3
-unfolding need_weight
-weight-half = refl
-
--- ---- pairs of members: under proportional approval voting, in sixths, a voter gives 6, 9 and 11 for one, two and three
--- hits
-
--- 7 h - h * h is 6 at one hit, 10 at two and 12 at three
-majorant-three : IsMajorant (6 ∷ 3 ∷ 2 ∷ []) 1 1 0 3 0 7 1
-majorant-three zero few = lit≤ tt
-majorant-three (suc zero) few = lit≤ tt
-majorant-three (suc (suc zero)) few = lit≤ tt
-majorant-three (suc (suc (suc zero))) few = lit≤ tt
-majorant-three (suc (suc (suc (suc h)))) few = absurd (omega (arith, few))
-
--- two voters approve 1 and 2, with the worth 7 and the overlap 1, and one voter approves 2
-kept-pairs : all_kept (λ row. length row.0) ((1 ∷ 2 ∷ [], 2) ∷ (2 ∷ [], 1) ∷ []) ≡ 5
-kept-pairs = refl
-
-worth-pairs : all_worth (λ row. 7) ((1 ∷ 2 ∷ [], 2) ∷ (2 ∷ [], 1) ∷ []) 2 ≡ 21
-worth-pairs = refl
-
-overlap-pairs : all_overlap (λ row. 1) ((1 ∷ 2 ∷ [], 2) ∷ (2 ∷ [], 1) ∷ []) 1 2 ≡ 2
-overlap-pairs = refl
-
--- 2 with itself is on all three ballots
-overlap-self : all_overlap (λ row. 1) ((1 ∷ 2 ∷ [], 2) ∷ (2 ∷ [], 1) ∷ []) 2 2 ≡ 3
-overlap-self = refl
-
--- 1 with itself 2, 2 with itself 3, and both pairs of the two 2 each
-pairs-both : pair_sum (all_overlap (λ row. 1) ((1 ∷ 2 ∷ [], 2) ∷ (2 ∷ [], 1) ∷ [])) (1 ∷ 2 ∷ []) ≡ 9
-pairs-both = refl
-
--- with two seats left, the worth 20 of a candidate, raised by 10, is less by twice an overlap of 3
-beside-two : worth_beside (λ n. 20) (λ i j. 3) 2 10 1 2 ≡ 24
-beside-two = refl
-
--- 24 for the candidate itself, the threshold 22 for one of the others, and 2 that each of the two is above it
-sum-row : row_sum (λ n. 20) (λ i j. 3) (1 ∷ 2 ∷ 3 ∷ []) 2 10 22 1 ≡ 50
-sum-row = refl
 
 -- ---- bounds of two of three candidates, where one voter approves 1 and 2, and one approves 3: with 1 and 2 the second
 -- voter is at the distance 3, with 3 in the committee no voter is farther than 2

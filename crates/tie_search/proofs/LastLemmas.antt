@@ -1,41 +1,16 @@
 -- Committees that complete a set with one more candidate.
-use Rattle.std.proofs.Common.{◌≡◌, ℕ, ◌+◌, ◌-◌, ◌^◌, ◌≤◌, ◌==◌, ◌||◌, ◌∙◌, ◌⊎◌, Bool, true, false, List, [], ◌∷◌, refl, sym, ap, subst, arith, inl, inr, length, filter, get_or}
+use Rattle.std.proofs.Common.{◌≡◌, ℕ, ◌+◌, ◌-◌, ◌^◌, ◌≤◌, ◌==◌, ◌||◌, ◌∙◌, ◌⊎◌, Bool, true, false, List, [], ◌∷◌, refl, sym, ap, subst, arith, inl, inr, length, filter}
 use Rattle.std.proofs.lemmas.Bool.{cases_eq, eq-eqb, ne_eqb}
 use Rattle.ballot_base.specs.CandSet.{has_member, with_member, without_member}
-use Rattle.ballot_base.specs.Ballots.{IsElection}
-use Rattle.ballot_base.specs.Increments.{increments}
-use Rattle.ballot_base.specs.Limits.{most_candidates, most_members}
+use Rattle.ballot_base.specs.Limits.{most_candidates}
 use Rattle.ballot_base.specs.Lists.{IsIncreasing}
 use Rattle.ballot_base.proofs.Increasing.{has_member-filter, has_member-with_member, has_member_head}
-use Rattle.tie_walk.specs.Sequences.{gain}
-use Rattle.tie_walk.specs.Values.{Thiele}
-use Rattle.tie_search.specs.Completions.{IsNode, IsCompletion, tally_value}
+use Rattle.tie_search.specs.Completions.{IsNode, IsCompletion}
 use Rattle.tie_search.specs.Steps.Found.{Advances, AreSearched, IsListed, IsSettled}
 use Rattle.tie_search.specs.declared.found.Found.{Found}
 use Rattle.tie_search.proofs.CompletionLemmas.{added-size, and-true, completion-back, completion-self, completion-whole, completion-with, node-with, without-is}
 use Rattle.tie_search.proofs.FoundLemmas.{advances-on, still-settled}
-use Rattle.tie_search.proofs.OverlapLemmas.{first-gone, first-in, later-in, others-same}
-use Rattle.tie_search.proofs.SearchLemmas.{value-most}
-use Rattle.tie_search.proofs.WholeLemmas.{value-with}
-
--- the value and a gain are the value of a larger set
-pub joined-value : (tally : Thiele) (set free gains : List ℕ) (value n c : ℕ) → IsElection tally.election → IsNode tally.election.m set free → has_member free n ≡ true → value ≡ tally_value tally set
-    → ((x : ℕ) → has_member free x ≡ true → get_or gains x 0 ≡ gain (increments tally.rule tally.k) tally.election.rows set x) → c ≡ n
-    → value + get_or gains c 0 ≡ tally_value tally (with_member set n)
-joined-value tally set free gains value n c valid is_node here is are same =
-    omega (
-      arith,
-      is,
-      ap (λ x. get_or gains x 0) same,
-      are n here,
-      value-with tally set n valid (is_node.apart n here),
-    )
-
-pub joined-small : (tally : Thiele) (set free gains : List ℕ) (value n c : ℕ) → IsElection tally.election → tally.k ≤ most_members → IsNode tally.election.m set free → has_member free n ≡ true
-    → value ≡ tally_value tally set
-    → ((x : ℕ) → has_member free x ≡ true → get_or gains x 0 ≡ gain (increments tally.rule tally.k) tally.election.rows set x) → c ≡ n → value + get_or gains c 0 ≤ 2 ^ 116
-joined-small tally set free gains value n c valid size is_node here is are same =
-    omega (arith, joined-value tally set free gains value n c valid is_node here is are same, value-most tally (with_member set n) valid size)
+use Rattle.tie_search.proofs.MemberLemmas.{first-gone, first-in, later-in, others-same}
 
 -- one number
 one-inside : (xs : List ℕ) → length xs ≡ 1 → (n : ℕ) × (has_member xs n ≡ true)

@@ -1,23 +1,16 @@
--- The bound of a node of the search, and what a node that was searched leaves.
-use Rattle.std.proofs.Common.{◌≡◌, ℕ, zero, suc, ◌+◌, ◌-◌, ◌*◌, ◌^◌, ◌≤◌, ◌==◌, ◌||◌, ◌∙◌, Bool, true, false, cond, List, [], ◌∷◌, ◌++◌, refl, sym, ap, arith, inl, inr, length, filter, get_or, replicate, sum_by}
+-- Sums over free candidates, the bound of a node of the search, and what a node that was searched leaves.
+use Rattle.std.proofs.Common.{◌≡◌, ℕ, zero, suc, ◌+◌, ◌-◌, ◌*◌, ◌≤◌, ◌==◌, ◌&&◌, ◌||◌, ◌∙◌, Bool, true, false, cond, List, [], ◌∷◌, ◌++◌, refl, sym, ap, arith, inl, inr, length, filter, get_or, replicate, sum_by}
 use Rattle.std.specs.Prelude.{IsTrue}
-use Rattle.std.proofs.lemmas.Bool.{cases_lt}
+use Rattle.std.proofs.lemmas.Bool.{cases_eq, cases_lt}
 use Rattle.std.proofs.lemmas.List.Folds.{list_any-append}
 use Rattle.std.proofs.lemmas.List.Sums.{sum_by-cons}
-use Rattle.ballot_base.specs.Limits.{most_members}
 use Rattle.ballot_base.specs.Lists.{IsIncreasing}
 use Rattle.ballot_base.specs.CandSet.{has_member, with_member, without_member}
-use Rattle.ballot_base.specs.Ballots.{IsElection}
-use Rattle.ballot_base.specs.Increments.{increments}
-use Rattle.ballot_base.proofs.Increasing.{IsIncreasing-lower, has_member-with_member, has_member_head}
+use Rattle.ballot_base.proofs.Increasing.{IsIncreasing-filter, IsIncreasing-lower, has_member-filter, has_member-with_member, has_member_head, has_member_tail, same_increasing}
 use Rattle.tie_walk.specs.Ceilings.{IsSubmodular, gain_at}
-use Rattle.tie_walk.specs.Sequences.{gain}
-use Rattle.tie_walk.specs.Values.{Thiele}
-use Rattle.tie_walk.proofs.Gains.{thiele-gain, thiele-most}
-use Rattle.tie_walk.proofs.TableLemmas.{increments_sum-most, sum-take-le}
-use Rattle.tie_walk.proofs.Submodular.{gains-bound, thiele_rule-submodular}
-use Rattle.tie_search.specs.Completions.{IsNode, IsCompletion, IsReaching, IsOutOfReach, tally_value}
-use Rattle.tie_search.proofs.CompletionLemmas.{added, added-free, added-size, completion-few, completion-members, completion-self, completion-with, completion-without, completion-back, thiele-same}
+use Rattle.tie_walk.proofs.Submodular.{gains-bound}
+use Rattle.tie_search.specs.Completions.{IsNode, IsCompletion, IsReaching, IsOutOfReach}
+use Rattle.tie_search.proofs.CompletionLemmas.{added, added-free, added-size, completion-members, completion-self, completion-with, completion-without, completion-back}
 
 -- ---- sums
 
@@ -36,12 +29,67 @@ sum-threshold f g t (x ∷ xs) less =
     times : (n t : ℕ) → suc n * t ≡ n * t + t
     times n t = omega arith
 
+-- a member of less worth than the threshold leaves that much less
+pub sum-member : (f g : ℕ → ℕ) (t n : ℕ) (xs : List ℕ) → ((x : ℕ) → has_member xs x ≡ true → f x ≤ g x) → has_member xs n ≡ true
+    → sum_by f xs + (t - g n) ≤ length xs * t + sum_by (λ x. g x - t) xs
+sum-member f g t n [] less here = absurd cc
+sum-member f g t n (x ∷ xs) less here = elim (cases_eq x n) [
+  | inl same ↦ omega (
+    arith,
+    ap g same,
+    sum-threshold f g t xs fewer,
+    less x (has_member_head x xs),
+    sum_by-cons f x xs,
+    sum_by-cons (λ y. g y - t) x xs,
+    times (length xs) t,
+  )
+  | inr other ↦ omega (
+    arith,
+    sum-member f g t n xs fewer (sym (has_member_tail x n xs other) ∙ here),
+    less x (has_member_head x xs),
+    sum_by-cons f x xs,
+    sum_by-cons (λ y. g y - t) x xs,
+    times (length xs) t,
+  )
+]
+  where
+    or-true : (p q : Bool) → q ≡ true → (p || q) ≡ true
+    or-true true q h = refl
+    or-true false q h = h
+
+    fewer : (y : ℕ) → has_member xs y ≡ true → f y ≤ g y
+    fewer y is = less y (or-true (x == y) (has_member xs y) is)
+
+    times : (n t : ℕ) → suc n * t ≡ n * t + t
+    times n t = omega arith
+
 pub sum-part : (f : ℕ → ℕ) (p : ℕ → Bool) (xs : List ℕ) → sum_by f (filter p xs) ≤ sum_by f xs
 sum-part f p [] = omega arith
 sum-part f p (x ∷ xs) = elim (p x) as (λ b. sum_by f (cond b (x ∷ filter p xs) (filter p xs)) ≤ sum_by f (x ∷ xs)) [
   | true ↦ omega (arith, sum-part f p xs, sum_by-cons f x xs, sum_by-cons f x (filter p xs))
   | false ↦ omega (arith, sum-part f p xs, sum_by-cons f x xs)
 ]
+
+-- a sum over some of the members is no more than that over all
+sum-among : (f : ℕ → ℕ) (last : ℕ) (some all : List ℕ) → IsIncreasing 1 last some → IsIncreasing 1 last all → ((n : ℕ) → has_member some n ≡ true → has_member all n ≡ true)
+    → sum_by f some ≤ sum_by f all
+sum-among f last some all up rises among =
+    let same : filter (has_member some) all ≡ some =
+    same_increasing 1 last (filter (has_member some) all) some (IsIncreasing-filter (has_member some) 1 last all rises) up
+    (λ n. has_member-filter (has_member some) all n ∙ absorbed (has_member some n) (has_member all n) (among n)) in
+    omega (arith, ap (sum_by f) same, sum-part f (has_member some) all)
+  where
+    absorbed : (p q : Bool) → (p ≡ true → q ≡ true) → (p && q) ≡ p
+    absorbed true q h = h refl
+    absorbed false q h = refl
+
+-- some of the members are no more than all
+pub length-among : (last : ℕ) (some all : List ℕ) → IsIncreasing 1 last some → IsIncreasing 1 last all → ((n : ℕ) → has_member some n ≡ true → has_member all n ≡ true) → length some ≤ length all
+length-among last some all up rises among = omega (arith, ones some, ones all, sum-among (λ n. 1) last some all up rises among)
+  where
+    ones : (xs : List ℕ) → sum_by (λ n. 1) xs ≡ length xs
+    ones [] = refl
+    ones (x ∷ xs) = omega (arith, ones xs, sum_by-cons (λ (n : ℕ). 1) x xs)
 
 pub sum-most : (f : ℕ → ℕ) (most : ℕ) (xs : List ℕ) → ((n : ℕ) → f n ≤ most) → sum_by f xs ≤ length xs * most
 sum-most f most [] small = omega arith
@@ -54,15 +102,6 @@ pub rest-increasing : (last : ℕ) (xs rest : List ℕ) (first : ℕ) → xs ≡
 rest-increasing last xs rest first is up =
     let at : IsIncreasing 1 last (first ∷ rest) = rw is at up in
     (at.1, IsIncreasing-lower 1 (first + 1) last rest (omega arith) at.2)
-
--- no value is too large to add to
-pub value-most : (tally : Thiele) (set : List ℕ) → IsElection tally.election → tally.k ≤ most_members → tally_value tally set ≤ 2 ^ 116
-value-most tally set valid size =
-    omega (
-      arith,
-      thiele-most tally.election (increments tally.rule tally.k) set (2 ^ 84) valid
-          (λ x. omega (arith, sum-take-le (increments tally.rule tally.k) x, increments_sum-most tally.rule tally.k size)),
-    )
 
 -- ---- the bound of a node
 
@@ -96,28 +135,7 @@ module _ (value : List ℕ → ℕ) (falls : IsSubmodular value) (same : (xs ys 
       let size : length more * t ≡ left * t = ap (λ n. n * t) (added-size m set free left committee is_node whole) in
       omega (arith, is, step, high, size, sum-part (λ n. g n - t) (has_member committee) free)
 
--- ---- a node under a Thiele rule
-
-module _ (tally : Thiele) (set free : List ℕ) (left least : ℕ) where
-  -- no completion reaches the value where too few are free, or the bound is too low
-  pub node-none : IsElection tally.election → tally.k ≤ most_members → IsNode tally.election.m set free
-      → (t : ℕ) (gains : List ℕ) → ((n : ℕ) → has_member free n ≡ true → get_or gains n 0 ≡ gain (increments tally.rule tally.k) tally.election.rows set n)
-      → ((left ≤ length free) × (least ≤ tally_value tally set + left * t + sum_by (λ n. get_or gains n 0 - t) free) → ⊥)
-      → IsOutOfReach (tally_value tally) tally.election.m set free left least
-  node-none valid size is_node t gains are low committee whole =
-      elim (cases_lt (tally_value tally committee) least) [
-        | inl under ↦ under
-        | inr reaches ↦ absurd (low (completion-few tally.election.m set free left committee is_node whole, omega (arith, reaches, bound)))
-      ]
-    where
-      bound : tally_value tally committee ≤ tally_value tally set + left * t + sum_by (λ n. get_or gains n 0 - t) free
-      bound = node-bounds (tally_value tally) (thiele_rule-submodular tally.rule tally.k tally.election.rows size)
-          (thiele-same (increments tally.rule tally.k) tally.election.rows) tally.election.m set free left t (λ n. get_or gains n 0) committee is_node whole
-          (λ n in_. omega (
-            arith,
-            are n in_,
-            thiele-gain tally.election.m (increments tally.rule tally.k) tally.election.rows set n valid.ballots (is_node.apart n in_),
-          ))
+-- ---- a node that was searched
 
 module _ (value : List ℕ → ℕ) (m : ℕ) (set : List ℕ) (left least : ℕ) where
   -- the committees that reach the value are among those of fewer free candidates
@@ -161,6 +179,10 @@ module _ (value : List ℕ → ℕ) (m : ℕ) (set : List ℕ) (left least : ℕ
 pub not-true : (b : Bool) → b ≡ false → IsTrue b → ⊥
 not-true true e h = absurd cc
 not-true false e h = absurd cc
+
+pub part-most : (b : Bool) (n : ℕ) → cond b n 0 ≤ n
+part-most true n = omega arith
+part-most false n = omega arith
 
 -- none of the same numbers is more
 pub replicate-most : (n i x most : ℕ) → x ≤ most → get_or {A = ℕ} (replicate n x) i 0 ≤ most

@@ -1,3 +1,4 @@
 pub mod Found
+pub mod Narrowed
 pub mod Searched
 pub mod Witness

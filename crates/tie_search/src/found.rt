@@ -48,7 +48,7 @@ impl Tied {
 
 /// What a search wants.
 #[derive(Clone, Copy, PartialEq, Eq)]
-pub(crate) enum Wanted {
+pub enum Wanted {
     /// A committee of at least the value that it begins with.
     One,
     /// All committees of the greatest value.
@@ -57,19 +57,19 @@ pub(crate) enum Wanted {
 
 /// What a search has found.
 #[derive(Drop)]
-pub(crate) struct Found {
-    pub(crate) wanted: Wanted,
+pub struct Found {
+    pub wanted: Wanted,
     // Committees of at least this value are looked for.
-    pub(crate) least: u128,
+    pub least: u128,
     // The value of those that are listed.
-    pub(crate) value: u128,
-    pub(crate) committees: [CandSet; MOST_TIED],
-    pub(crate) len: usize,
+    pub value: u128,
+    pub committees: [CandSet; MOST_TIED],
+    pub len: usize,
 }
 
 impl Found {
     /// Nothing was found, and committees of at least this value are looked for.
-    pub(crate) fn nothing(wanted: Wanted, least: u128) -> Found
+    pub fn nothing(wanted: Wanted, least: u128) -> Found
         ensures wanted { result.wanted ≡ wanted }
         ensures least { result.least ≡ least }
         ensures none { result.len ≡ 0 }
@@ -84,7 +84,7 @@ impl Found {
     }
 
     /// Takes a committee of this value, which is not listed yet, if the value is looked for.
-    pub(crate) fn offer(&mut self, committee: CandSet, value: u128)
+    pub fn offer(&mut self, committee: CandSet, value: u128)
         requires small { value ≤ 2 ^ 116 }
         requires new { IsListed self.old committee → ⊥ }
         ensures advances { (value_of : List ℕ → ℕ) → value_of committee ≡ value → AreListed value_of self.old
@@ -124,7 +124,7 @@ impl Found {
     }
 
     /// The committee that was listed first.
-    pub(crate) fn first(&self) -> Option<CandSet>
+    pub fn first(&self) -> Option<CandSet>
         requires few { self.now.len ≤ most_tied }
         ensures { MatchOption result (self.now.len ≡ 0) (λ committee. IsListed self.now committee) }
     {
@@ -135,7 +135,7 @@ impl Found {
     }
 
     /// Whether a committee that counts has all members of the set.
-    pub(crate) fn holds(&self, set: CandSet) -> bool
+    pub fn holds(&self, set: CandSet) -> bool
         requires few { self.now.len ≤ most_tied }
         ensures { result ≡ false → (value_of : List ℕ → ℕ) → AreListed value_of self.now → (committee : List ℕ)
             → IsListed self.now committee

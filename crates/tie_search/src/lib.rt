@@ -13,9 +13,12 @@
 pub mod exact;
 pub mod found;
 pub mod laws;
+pub mod node;
 pub mod searchable;
 mod witness;
+pub mod worths;
 
 pub use exact::ExactTally;
 pub use found::{MOST_TIED, Tied};
+pub use node::Node;
 pub use searchable::Searchable;

@@ -14,11 +14,13 @@ use crate::answers::Outcome;
 use crate::elect_text::Listing;
 use crate::refusal::Refusal;
 use ballot_base::ThieleRule;
+use near_search::MinimaxSearch;
 use request_words::{Rule, ScoredRule};
 use std::alloc::{AllocError, Allocator};
 use text_output::{Sink, WriteFailed};
+use thiele_search::{SearchMemory, ThieleSearch};
 use tie_families::{Families, FamilyWinners};
-use tie_search::{ExactTally, MinimaxSearch, SearchMemory, ThieleSearch};
+use tie_search::ExactTally;
 use tie_walk::{SavTally, SeqRule, ThieleTally};
 
 /// Writes the winners of an election that are listed.

@@ -3,9 +3,9 @@ ghost use Rattle.std.specs.Prelude.{◌≤◌};
 
 use super::support::{Draw, assert_searched, election_of, random_ballots};
 use ballot_base::Profile;
+use near_search::MinimaxSearch;
 use std::alloc::Global;
 use std::process::Abort;
-use tie_search::MinimaxSearch;
 use tie_walk::MinimaxTally;
 
 /// Asserts that the search and a walk with plain bounds find the same winners of each size.

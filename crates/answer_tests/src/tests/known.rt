@@ -4,9 +4,10 @@ ghost use Rattle.std.specs.Prelude.{◌≤◌};
 
 use super::support::{assert_of, election_of, search_of};
 use ballot_base::{MOST_CANDIDATES, Profile, ThieleRule};
+use near_search::MinimaxSearch;
 use std::alloc::Global;
 use std::process::Abort;
-use tie_search::{ExactTally, MinimaxSearch, Searchable};
+use tie_search::{ExactTally, Searchable};
 use tie_walk::{Tally, Winners};
 
 /// The size of the committees.

@@ -9,7 +9,8 @@ use ballot_base::{CandSet, Profile, ProfileBuilder, ThieleRule};
 use std::alloc::Global;
 use std::cell::Cell;
 use std::process::Abort;
-use tie_search::{ExactTally, SearchMemory, Searchable, ThieleSearch};
+use thiele_search::{SearchMemory, ThieleSearch};
+use tie_search::{ExactTally, Searchable};
 use tie_walk::{Tally, Winners};
 
 /// Asserts something about two numbers, and shows both if it fails. One message serves many tests, since each message of

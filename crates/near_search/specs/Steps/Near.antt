@@ -3,8 +3,9 @@ use Rattle.std.specs.Prelude.{◌≡◌, ℕ, ◌-◌, ◌*◌, ◌≤◌, true,
 use Rattle.ballot_base.specs.Ballots.{Row, Election, IsElection}
 use Rattle.ballot_base.specs.CandSet.{has_member}
 use Rattle.tie_walk.specs.Values.{closeness, greatest_distance}
-use Rattle.tie_search.specs.Completions.{IsNode, IsCompletion, IsOutOfReach, IsReaching}
-use Rattle.tie_search.specs.Needs.{weighted_needs, weighted_support}
+use Rattle.tie_search.specs.Completions.{IsOutOfReach, IsReaching}
+use Rattle.tie_search.specs.Steps.Narrowed.{IsNarrowed}
+use Rattle.near_search.specs.Needs.{weighted_needs, weighted_support}
 
 -- free candidates of whom each committee has one that completes the set and reaches the value
 pub record AreChoices (value : List ℕ → ℕ) (m : ℕ) (set free : List ℕ) (left least : ℕ) (choices : List ℕ) : Type 0
@@ -12,14 +13,6 @@ pub record AreChoices (value : List ℕ → ℕ) (m : ℕ) (set free : List ℕ)
     pub among : (n : ℕ) → has_member choices n ≡ true → has_member free n ≡ true
     pub one : (committee : List ℕ) → IsReaching value m set free left least committee
         → (n : ℕ) × (has_member choices n ≡ true) × (has_member committee n ≡ true)
-
--- free candidates to whom all belong who are added by a committee that completes the set and reaches the value
-pub record IsNarrowed (value : List ℕ → ℕ) (m : ℕ) (set free : List ℕ) (left least : ℕ) (rest : List ℕ) : Type 0
-  where
-    pub is_node : IsNode m set rest
-    pub among : (n : ℕ) → has_member rest n ≡ true → has_member free n ≡ true
-    pub kept : (committee : List ℕ) → IsCompletion m set free left committee → least ≤ value committee
-        → IsCompletion m set rest left committee
 
 -- a search's answer: a committee that completes the set and is near each ballot, or nothing if there is none
 abbrev pub IsNearAnswer : Election → ℕ → List ℕ → List ℕ → ℕ → Option (List ℕ) → Type 0

@@ -1,13 +1,11 @@
 -- Totals of pairs that a search keeps.
 use Rattle.std.specs.Prelude.{ℕ, List, Option, MatchOption, ⊤, slice_get}
 use Rattle.ballot_base.specs.Ballots.{Election}
-use Rattle.tie_search.specs.Completions.{IsNode, IsOutOfReach}
-use Rattle.tie_search.specs.Steps.Near.{IsNarrowed}
-use Rattle.tie_search.specs.Steps.Paired.{AreSmall, AreSums, AreTotals}
-use Rattle.tie_search.specs.declared.known.Known.{Known}
-use Rattle.tie_search.specs.declared.known.KnownTotals.{KnownTotals}
-use Rattle.tie_search.specs.declared.majorant.HitSums.{HitSums}
-use Rattle.tie_search.specs.declared.search.Node.{Node}
+use Rattle.tie_search.specs.Completions.{IsNode}
+use Rattle.thiele_search.specs.Steps.Paired.{AreSmall, AreSums, AreTotals}
+use Rattle.thiele_search.specs.declared.known.Known.{Known}
+use Rattle.thiele_search.specs.declared.known.KnownTotals.{KnownTotals}
+use Rattle.thiele_search.specs.declared.majorant.HitSums.{HitSums}
 
 -- the totals bound all completions of their set
 pub record IsKnown (e : Election) (given : HitSums) (known : Known) : Type 0 where
@@ -29,9 +27,3 @@ pub record AreKnown (e : Election) (given : HitSums) (known : KnownTotals) : Typ
 -- the same of all that are kept, if it is known what hits give
 abbrev pub AreKnownIf : Election → Option HitSums → List KnownTotals → Type 0
 AreKnownIf e sums kept = MatchOption sums ⊤ (λ given. (i : ℕ) → MatchOption (slice_get kept i) ⊤ (AreKnown e given))
-
--- an answer at a node: the free candidates that can still join, or nothing if no completion reaches the value
-abbrev pub Narrows : (List ℕ → ℕ) → ℕ → Node → ℕ → Option (List ℕ) → Type 0
-Narrows value m node least answer =
-    MatchOption answer (IsOutOfReach value m node.set node.free node.left least)
-    (IsNarrowed value m node.set node.free node.left least)

@@ -1,7 +1,7 @@
 -- The majorants that are kept while the ballots are passed over.
 use Rattle.std.specs.Prelude.{ℕ, ◌+◌, ◌*◌, ◌<◌, List, min, get_or, Option, None, MatchOption, ⊤}
-use Rattle.tie_search.specs.declared.majorant.Majorant.{Majorant}
-use Rattle.tie_search.specs.Steps.Paired.{IsMajorantOf}
+use Rattle.thiele_search.specs.declared.majorant.Majorant.{Majorant}
+use Rattle.thiele_search.specs.Steps.Paired.{IsMajorantOf}
 
 -- what the majorants are made for: what each number of hits gives, and how many candidates are to join
 pub record Majorized : Type 0 where

@@ -6,9 +6,9 @@ use Rattle.ballot_base.specs.CandSet.{common_members}
 use Rattle.ballot_base.specs.Increments.{increments}
 use Rattle.tie_walk.specs.Values.{Thiele, thiele_value}
 use Rattle.tie_search.specs.Completions.{IsCompletion}
-use Rattle.tie_search.specs.Pairs.{pair_sum, row_sum}
-use Rattle.tie_search.specs.declared.majorant.HitSums.{HitSums}
-use Rattle.tie_search.specs.declared.majorant.Majorant.{Majorant}
+use Rattle.thiele_search.specs.Pairs.{pair_sum, row_sum}
+use Rattle.thiele_search.specs.declared.majorant.HitSums.{HitSums}
+use Rattle.thiele_search.specs.declared.majorant.Majorant.{Majorant}
 
 -- the sums are what each number of hits gives, times the scale, in units, rounded up or higher
 pub record AreSums (weights : List ℕ) (scale unit : ℕ) (sums : List ℕ) : Type 0 where

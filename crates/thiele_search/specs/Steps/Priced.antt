@@ -4,9 +4,9 @@ use Rattle.ballot_base.specs.Limits.{most_candidates}
 use Rattle.ballot_base.specs.Ballots.{Row}
 use Rattle.ballot_base.specs.Increments.{increments}
 use Rattle.tie_walk.specs.Values.{Thiele}
-use Rattle.tie_search.specs.Prices.{AreRounded, Priced, base, price}
-use Rattle.tie_search.specs.declared.multipliers.MultiplierMemory.{MultiplierMemory}
-use Rattle.tie_search.specs.declared.prices.Prices.{Prices}
+use Rattle.thiele_search.specs.Prices.{AreRounded, Priced, base, price}
+use Rattle.thiele_search.specs.declared.multipliers.MultiplierMemory.{MultiplierMemory}
+use Rattle.thiele_search.specs.declared.prices.Prices.{Prices}
 
 -- what hits give is multiplied by this, so that there are multipliers between two increments
 abbrev pub scale : ℕ

@@ -2,9 +2,9 @@
 use Rattle.std.specs.Prelude.{ℕ, ◌≡◌, ◌-◌, ◌*◌, ◌^◌, ◌<◌, ◌≤◌, true, List, slice_index}
 use Rattle.ballot_base.specs.Limits.{most_candidates}
 use Rattle.ballot_base.specs.CandSet.{has_member}
-use Rattle.tie_search.specs.Pairs.{worth_beside}
-use Rattle.tie_search.specs.Steps.Paired.{AreSmall, overlap_at}
-use Rattle.tie_search.specs.declared.pairs.Rows.{Rows}
+use Rattle.thiele_search.specs.Pairs.{worth_beside}
+use Rattle.thiele_search.specs.Steps.Paired.{AreSmall, overlap_at}
+use Rattle.thiele_search.specs.declared.pairs.Rows.{Rows}
 
 -- no total is too large, and worths are raised enough
 pub record AreRows (rows : Rows) : Type 0 where

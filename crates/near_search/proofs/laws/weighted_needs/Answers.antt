@@ -1,7 +1,7 @@
 use Rattle.std.proofs.Common.{arith}
-use Rattle.tie_search.specs.Needs.{weighted_support}
-use Rattle.tie_search.proofs.WeightLemmas.{member-bound, needs-bound}
-use Rattle.tie_search.proofs.laws.weighted_needs.Goals as goal
+use Rattle.near_search.specs.Needs.{weighted_support}
+use Rattle.near_search.proofs.WeightedNeeds.{member-bound, needs-bound}
+use Rattle.near_search.proofs.laws.weighted_needs.Goals as goal
 
 pub returns-clause-completions : goal.returns-clause-completions
 returns-clause-completions c weight m k most rows set free left threshold committee ballots is_node whole size near =

@@ -4,9 +4,9 @@ use Rattle.ballot_base.specs.Limits.{most_candidates}
 use Rattle.ballot_base.specs.CandSet.{has_member}
 use Rattle.ballot_base.proofs.Increasing.{has_member_tail}
 use Rattle.tie_search.proofs.CompletionLemmas.{member-high}
-use Rattle.tie_search.proofs.OverlapLemmas.{first-in, later-in}
+use Rattle.tie_search.proofs.MemberLemmas.{first-in, later-in}
 use Rattle.tie_search.proofs.SearchLemmas.{rest-increasing}
-use Rattle.tie_search.proofs.near.best_of.Goals as goal
+use Rattle.near_search.proofs.near.best_of.Goals as goal
 
 -- a member is the first or one of the rest
 either : (xs rest : List ℕ) (first n : ℕ) → xs ≡ first ∷ rest → has_member xs n ≡ true → (has_member rest n ≡ true) ⊎ (n ≡ first)

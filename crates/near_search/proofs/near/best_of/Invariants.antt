@@ -2,7 +2,7 @@ use Rattle.std.proofs.Common.{◌≡◌, ℕ, ◌≤◌, ◌⊎◌, true, get_or
 use Rattle.ballot_base.specs.Limits.{most_candidates}
 use Rattle.ballot_base.specs.Lists.{IsIncreasing}
 use Rattle.ballot_base.specs.CandSet.{has_member}
-use Rattle.tie_search.proofs.near.best_of.Given as goal
+use Rattle.near_search.proofs.near.best_of.Given as goal
 
 -- the best of those who were passed
 abbrev pub invariant-loop-candidate : goal.invariant-loop-candidate

@@ -1,7 +1,7 @@
 use Rattle.std.proofs.Common.{◌≡◌, ◌+◌, ℕ, ◌≤◌, length, get_or}
 use Rattle.ballot_base.specs.Limits.{most_candidates}
-use Rattle.tie_search.specs.Steps.Near.{share_parts}
-use Rattle.tie_search.proofs.near.equal_shares.Given as goal
+use Rattle.near_search.specs.Steps.Near.{share_parts}
+use Rattle.near_search.proofs.near.equal_shares.Given as goal
 
 abbrev pub invariant-loop-n : goal.invariant-loop-n
 invariant-loop-n l = record {

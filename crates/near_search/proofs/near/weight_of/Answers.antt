@@ -1,7 +1,7 @@
 use Rattle.std.proofs.Common.{◌≡◌, ℕ, ◌*◌, ◌^◌, ◌≤◌, ◌∙◌, ap, arith, get_or}
 use Rattle.std.proofs.Math.Nat.{mul-le-mul}
-use Rattle.tie_search.specs.Steps.Near.{need_weight}
-use Rattle.tie_search.proofs.near.weight_of.Goals as goal
+use Rattle.near_search.specs.Steps.Near.{need_weight}
+use Rattle.near_search.proofs.near.weight_of.Goals as goal
 
 -- no weight is too large
 weight-most : (n s : ℕ) → n ≤ 255 → s ≤ 1024 → n * (n * s) * (n * s) * (n * s) ≤ 2 ^ 62

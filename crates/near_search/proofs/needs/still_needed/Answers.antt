@@ -1,7 +1,7 @@
 use Rattle.std.proofs.Common.{arith, ap, length}
 use Rattle.tie_walk.proofs.RowSums.{length-common}
-use Rattle.tie_search.specs.Needs.{hits_needed}
-use Rattle.tie_search.proofs.needs.still_needed.Goals as goal
+use Rattle.near_search.specs.Needs.{hits_needed}
+use Rattle.near_search.proofs.needs.still_needed.Goals as goal
 
 pub returns : goal.returns
 returns c =

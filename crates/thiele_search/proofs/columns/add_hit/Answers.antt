@@ -4,8 +4,8 @@ use Rattle.std.proofs.Math.ListN.{length-set}
 use Rattle.std.proofs.lemmas.Bool.{cases_eq}
 use Rattle.std.proofs.lemmas.List.{get_or-set_same, get_or-set_other}
 use Rattle.std.proofs.lemmas.Nat.Bits.{bit_at-lt, bit_at_and, bit_at_or, bit_at_not}
-use Rattle.tie_search.specs.Steps.Columns.{word_before}
-use Rattle.tie_search.proofs.columns.add_hit.Goals as goal
+use Rattle.thiele_search.specs.Steps.Columns.{word_before}
+use Rattle.thiele_search.proofs.columns.add_hit.Goals as goal
 
 -- one bit of the word that is written
 chosen : (approving before here i : ℕ) → approving < 2 ^ 64 → i < 64

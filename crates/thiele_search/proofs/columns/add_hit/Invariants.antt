@@ -1,8 +1,8 @@
 use Rattle.std.proofs.Common.{◌≡◌, ℕ, ◌+◌, ◌==◌, ◌<◌, ◌≤◌, cond, length, get_or}
 use Rattle.std.specs.Int.{bit_at}
 use Rattle.ballot_base.specs.Limits.{most_candidates}
-use Rattle.tie_search.specs.Steps.Columns.{block_voters, word_before}
-use Rattle.tie_search.proofs.columns.add_hit.Given as goal
+use Rattle.thiele_search.specs.Steps.Columns.{block_voters, word_before}
+use Rattle.thiele_search.proofs.columns.add_hit.Given as goal
 
 -- the words so far have moved, and the others are as they were
 abbrev pub invariant-loop-h : goal.invariant-loop-h

@@ -3,9 +3,9 @@ use Rattle.std.proofs.Math.ListN.{length-set}
 use Rattle.std.proofs.Math.Nat.{div-add-mod}
 use Rattle.std.proofs.lemmas.List.{length-replicate, append_assoc, append-nil, replicate-append-replicate}
 use Rattle.std.proofs.lemmas.Nat.{mod_below}
-use Rattle.tie_search.specs.Steps.Columns.{AreColumns}
-use Rattle.tie_search.proofs.ColumnLemmas.{columns-push}
-use Rattle.tie_search.proofs.columns.add_row.Goals as goal
+use Rattle.thiele_search.specs.Steps.Columns.{AreColumns}
+use Rattle.thiele_search.proofs.ColumnLemmas.{columns-push}
+use Rattle.thiele_search.proofs.columns.add_row.Goals as goal
 
 pub loop-passed-init : goal.loop-passed-init
 loop-passed-init c = record {

@@ -1,6 +1,6 @@
 use Rattle.std.proofs.Common.{◌≡◌, ℕ, List, ◌++◌, length, replicate}
-use Rattle.tie_search.specs.Steps.Columns.{AreColumns}
-use Rattle.tie_search.proofs.columns.add_row.Given as goal
+use Rattle.thiele_search.specs.Steps.Columns.{AreColumns}
+use Rattle.thiele_search.proofs.columns.add_row.Given as goal
 
 -- so many voters of the row are there
 abbrev pub invariant-loop-passed : goal.invariant-loop-passed

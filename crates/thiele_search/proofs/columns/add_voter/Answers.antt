@@ -7,7 +7,7 @@ use Rattle.std.proofs.lemmas.Nat.Bits.{bit_at_set_same, bit_at_set_other}
 use Rattle.ballot_base.specs.Limits.{most_candidates}
 use Rattle.ballot_base.specs.CandSet.{has_member}
 use Rattle.tie_search.proofs.SearchLemmas.{rest-increasing}
-use Rattle.tie_search.proofs.columns.add_voter.Goals as goal
+use Rattle.thiele_search.proofs.columns.add_voter.Goals as goal
 
 -- a candidate's bit is set
 one-set : (block left rest : List ℕ) (first place wanted c i : ℕ) → left ≡ first ∷ rest → first < length block → place < 64 → i < 64

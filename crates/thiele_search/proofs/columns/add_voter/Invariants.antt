@@ -3,8 +3,8 @@ use Rattle.std.specs.Int.{bit_at}
 use Rattle.ballot_base.specs.Limits.{most_candidates}
 use Rattle.ballot_base.specs.Lists.{IsIncreasing}
 use Rattle.ballot_base.specs.CandSet.{has_member}
-use Rattle.tie_search.specs.Steps.Columns.{block_voters}
-use Rattle.tie_search.proofs.columns.add_voter.Given as goal
+use Rattle.thiele_search.specs.Steps.Columns.{block_voters}
+use Rattle.thiele_search.proofs.columns.add_voter.Given as goal
 
 -- with the candidates who are left, the bits are those at the end
 abbrev pub invariant-loop-candidate : goal.invariant-loop-candidate

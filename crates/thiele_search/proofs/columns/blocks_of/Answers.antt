@@ -3,9 +3,9 @@ use Rattle.std.specs.Vec.{with_items}
 use Rattle.std.proofs.lemmas.List.{length-replicate, length_push, with_items_is}
 use Rattle.ballot_base.specs.Ballots.{Row}
 use Rattle.ballot_base.proofs.Turns.{row_of_turn, all_passed}
-use Rattle.tie_search.specs.Steps.Columns.{AreColumns, voters_of}
-use Rattle.tie_search.proofs.ColumnLemmas.{voters-push, voters-part}
-use Rattle.tie_search.proofs.columns.blocks_of.Goals as goal
+use Rattle.thiele_search.specs.Steps.Columns.{AreColumns, voters_of}
+use Rattle.thiele_search.proofs.ColumnLemmas.{voters-push, voters-part}
+use Rattle.thiele_search.proofs.columns.blocks_of.Goals as goal
 
 pub loop-ballot-init : goal.loop-ballot-init
 loop-ballot-init g c = record {

@@ -1,6 +1,6 @@
 use Rattle.std.proofs.Common.{◌≡◌, length, take}
-use Rattle.tie_search.specs.Steps.Columns.{AreColumns, voters_of}
-use Rattle.tie_search.proofs.columns.blocks_of.Given as goal
+use Rattle.thiele_search.specs.Steps.Columns.{AreColumns, voters_of}
+use Rattle.thiele_search.proofs.columns.blocks_of.Given as goal
 
 -- the voters of the rows so far are there
 abbrev pub invariant-loop-ballot : goal.invariant-loop-ballot

@@ -3,8 +3,8 @@ use Rattle.std.specs.Int.{bit_at}
 use Rattle.ballot_base.specs.Limits.{most_candidates}
 use Rattle.ballot_base.specs.Lists.{IsIncreasing}
 use Rattle.ballot_base.specs.Ballots.{hits}
-use Rattle.tie_search.specs.Steps.Columns.{block_voters, IsBlock}
-use Rattle.tie_search.proofs.columns.by_hits.Given as goal
+use Rattle.thiele_search.specs.Steps.Columns.{block_voters, IsBlock}
+use Rattle.thiele_search.proofs.columns.by_hits.Given as goal
 
 -- who has so many hits without those of the members that are left
 abbrev pub invariant-loop-member : goal.invariant-loop-member

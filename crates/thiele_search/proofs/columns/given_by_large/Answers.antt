@@ -1,7 +1,7 @@
 use Rattle.std.proofs.Common.{◌≡◌, ℕ, ◌*◌, ◌^◌, ◌∙◌, sym, ap, arith, get_or}
-use Rattle.tie_search.specs.Steps.Columns.{shared}
-use Rattle.tie_search.proofs.ColumnLemmas.{shares-few, ones-common, total-last, total-zero}
-use Rattle.tie_search.proofs.columns.given_by_large.Goals as goal
+use Rattle.thiele_search.specs.Steps.Columns.{shared}
+use Rattle.thiele_search.proofs.ColumnLemmas.{shares-few, ones-common, total-last, total-zero}
+use Rattle.thiele_search.proofs.columns.given_by_large.Goals as goal
 
 pub loop-h-init : goal.loop-h-init
 loop-h-init c = record { summed = sym (total-zero (λ h. get_or c.args.weights.now h 0 * shared c.args.column (get_or c.args.words.now h 0))); most = omega arith }

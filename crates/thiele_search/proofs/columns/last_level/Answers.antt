@@ -1,7 +1,7 @@
 use Rattle.std.proofs.Common.{arith, inl, inr}
 use Rattle.std.proofs.lemmas.Bool.{cases_lt}
 use Rattle.std.proofs.lemmas.List.{get_or_past}
-use Rattle.tie_search.proofs.columns.last_level.Goals as goal
+use Rattle.thiele_search.proofs.columns.last_level.Goals as goal
 
 pub returns-clause-end : goal.returns-clause-end
 returns-clause-end c j high = elim (cases_lt j c.loop-j.j) [

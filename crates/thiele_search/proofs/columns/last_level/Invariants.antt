@@ -1,5 +1,5 @@
 use Rattle.std.proofs.Common.{◌≡◌, ℕ, ◌<◌, ◌≤◌, get_or}
-use Rattle.tie_search.proofs.columns.last_level.Given as goal
+use Rattle.thiele_search.proofs.columns.last_level.Given as goal
 
 -- of the weights so far none counts from the last level on
 abbrev pub invariant-loop-j : goal.invariant-loop-j

@@ -5,7 +5,7 @@ use Rattle.std.proofs.lemmas.List.{length-replicate}
 use Rattle.std.proofs.lemmas.Nat.Bits.{bit_at-zero}
 use Rattle.std.proofs.lemmas.Result.{IfOk-weaker}
 use Rattle.tie_walk.proofs.WorthLemmas.{no_total}
-use Rattle.tie_search.proofs.columns.no_voters.Goals as goal
+use Rattle.thiele_search.proofs.columns.no_voters.Goals as goal
 
 nobody : (n m b c : ℕ) → get_or {A = ℕ} (get_or {A = List ℕ} (replicate n (replicate m 0)) b []) c 0 ≡ 0
 nobody zero m b c = refl

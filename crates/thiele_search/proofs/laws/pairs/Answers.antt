@@ -1,5 +1,5 @@
-use Rattle.tie_search.proofs.PairLemmas.{pairs-bound}
-use Rattle.tie_search.proofs.laws.pairs.Goals as goal
+use Rattle.thiele_search.proofs.PairLemmas.{pairs-bound}
+use Rattle.thiele_search.proofs.laws.pairs.Goals as goal
 
 pub returns : goal.returns
 returns c weights scale unit m kept worth overlap rows set free left committee ballots is_node whole are =

@@ -1,6 +1,6 @@
-use Rattle.tie_search.proofs.PriceLemmas.{price-bounds, priced-node}
-use Rattle.tie_search.proofs.PricedLemmas.{value-rounded}
-use Rattle.tie_search.proofs.laws.prices.Goals as goal
+use Rattle.thiele_search.proofs.PriceLemmas.{price-bounds, priced-node}
+use Rattle.thiele_search.proofs.PricedLemmas.{value-rounded}
+use Rattle.thiele_search.proofs.laws.prices.Goals as goal
 
 pub returns-clause-committees : goal.returns-clause-committees
 returns-clause-committees c weights scale m priced committee ballots up = price-bounds weights scale m priced committee ballots up

@@ -1,7 +1,7 @@
 use Rattle.std.proofs.Common.{arith}
-use Rattle.tie_search.specs.Pairs.{row_sum}
-use Rattle.tie_search.proofs.PairLemmas.{rows-bound, rows-bound_member}
-use Rattle.tie_search.proofs.laws.row_sums.Goals as goal
+use Rattle.thiele_search.specs.Pairs.{row_sum}
+use Rattle.thiele_search.proofs.PairLemmas.{rows-bound, rows-bound_member}
+use Rattle.thiele_search.proofs.laws.row_sums.Goals as goal
 
 pub returns-clause-members : goal.returns-clause-members
 returns-clause-members c worth overlap m left raise most threshold free members two rises up size among enough =

@@ -5,7 +5,7 @@ use Rattle.tie_walk.specs.Values.{thiele_value}
 use Rattle.tie_walk.proofs.Submodular.{thiele_rule-submodular}
 use Rattle.tie_search.proofs.CompletionLemmas.{thiele-same}
 use Rattle.tie_search.proofs.SearchLemmas.{node-bounds}
-use Rattle.tie_search.proofs.laws.thresholds.Goals as goal
+use Rattle.thiele_search.proofs.laws.thresholds.Goals as goal
 
 pub returns : goal.returns
 returns c rule k rows m set free left threshold committee size is_node whole =

@@ -1,6 +1,6 @@
 use Rattle.std.proofs.Common.{◌*◌, ◌^◌, ◌≤◌, arith}
 use Rattle.std.proofs.Math.Nat.{mul-le-mul}
-use Rattle.tie_search.proofs.majorant.bend.Goals as goal
+use Rattle.thiele_search.proofs.majorant.bend.Goals as goal
 
 pub overflow_mul-step : goal.overflow_mul-step
 overflow_mul-step c =

@@ -1,7 +1,7 @@
 use Rattle.std.proofs.Common.{◌≡◌, ℕ, ◌^◌, ◌≤◌, ◌∙◌, Vec, ap, length, get_or}
 use Rattle.std.proofs.lemmas.List.{with_items_is}
-use Rattle.tie_search.proofs.multipliers.chosen.Goals as goal
-use Rattle.tie_search.proofs.multipliers.chosen.Goals.{then-lowers, else-lowers, in-Some, in-None, else-loop-round-test, then-loop-round-test+then-is_over}
+use Rattle.thiele_search.proofs.multipliers.chosen.Goals as goal
+use Rattle.thiele_search.proofs.multipliers.chosen.Goals.{then-lowers, else-lowers, in-Some, in-None, else-loop-round-test, then-loop-round-test+then-is_over}
 
 pub prices_of-worths-requires-clause-multipliers : goal.prices_of-worths-requires-clause-multipliers
 prices_of-worths-requires-clause-multipliers g c = rw c.deref-in-loop-round.ensures.value c.loop-round.invariant.now

@@ -1,5 +1,5 @@
 use Rattle.std.proofs.Common.{◌≡◌, ℕ, ◌^◌, ◌≤◌, length, get_or}
-use Rattle.tie_search.proofs.multipliers.chosen.Given as goal
+use Rattle.thiele_search.proofs.multipliers.chosen.Given as goal
 
 -- no multiplier is too large
 abbrev pub invariant-loop-round : goal.invariant-loop-round

@@ -2,8 +2,8 @@ use Rattle.std.proofs.Common.{◌==◌, not, arith}
 use Rattle.ballot_base.proofs.Increasing.{IsIncreasing-filter, IsIncreasing-with_member}
 use Rattle.tie_walk.proofs.LawLemmas.{IsIncreasing-range}
 use Rattle.tie_search.proofs.CompletionLemmas.{member-low, member-high}
-use Rattle.tie_search.proofs.multipliers.dearest.Goals as goal
-use Rattle.tie_search.proofs.multipliers.dearest.Goals.{in-Some, in_default}
+use Rattle.thiele_search.proofs.multipliers.dearest.Goals as goal
+use Rattle.thiele_search.proofs.multipliers.dearest.Goals.{in-Some, in_default}
 
 pub with-dearest-requires-clause-low : goal.with-dearest-requires-clause-low
 with-dearest-requires-clause-low c = member-low 1 c.args.m c.loop-passed.rest c.in-Some.next c.loop-passed.invariant.rest c.in-Some.ensures

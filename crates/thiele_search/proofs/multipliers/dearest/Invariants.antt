@@ -1,5 +1,5 @@
 use Rattle.ballot_base.specs.Lists.{IsIncreasing}
-use Rattle.tie_search.proofs.multipliers.dearest.Given as goal
+use Rattle.thiele_search.proofs.multipliers.dearest.Given as goal
 
 abbrev pub invariant-loop-passed : goal.invariant-loop-passed
 invariant-loop-passed l = record {

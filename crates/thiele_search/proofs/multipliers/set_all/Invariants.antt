@@ -1,5 +1,5 @@
 use Rattle.std.proofs.Common.{ℕ, ◌<◌, ◌≤◌, ◌^◌, get_or}
-use Rattle.tie_search.proofs.multipliers.set_all.Given as goal
+use Rattle.thiele_search.proofs.multipliers.set_all.Given as goal
 
 -- the multipliers so far are small
 abbrev pub invariant-loop-each : goal.invariant-loop-each

@@ -1,5 +1,5 @@
 use Rattle.std.proofs.Common.{◌≡◌, ℕ, ◌^◌, ◌≤◌, length, get_or}
-use Rattle.tie_search.proofs.multipliers.step.Given as goal
+use Rattle.thiele_search.proofs.multipliers.step.Given as goal
 
 abbrev pub invariant-loop-i : goal.invariant-loop-i
 invariant-loop-i g l = 1 ≤ l.square

@@ -1,5 +1,5 @@
 use Rattle.std.proofs.Common.{◌-◌, ◌≤◌}
-use Rattle.tie_search.proofs.multipliers.wanted.Given as goal
+use Rattle.thiele_search.proofs.multipliers.wanted.Given as goal
 
 abbrev pub invariant-loop-least : goal.invariant-loop-least
 invariant-loop-least l = l.least ≤ l.size

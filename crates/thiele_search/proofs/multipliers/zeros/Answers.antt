@@ -1,7 +1,7 @@
 use Rattle.std.proofs.Common.{◌∙◌, ap, length}
 use Rattle.std.proofs.lemmas.List.{length-replicate}
 use Rattle.std.proofs.lemmas.Result.{IfOk-weaker}
-use Rattle.tie_search.proofs.multipliers.zeros.Goals as goal
+use Rattle.thiele_search.proofs.multipliers.zeros.Goals as goal
 
 pub returns : goal.returns
 returns g c =

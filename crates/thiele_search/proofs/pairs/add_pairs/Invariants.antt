@@ -2,9 +2,9 @@ use Rattle.std.proofs.Common.{◌≡◌, ℕ, ◌+◌, ◌≤◌, max, min}
 use Rattle.ballot_base.specs.CandSet.{has_member}
 use Rattle.ballot_base.specs.Limits.{most_candidates}
 use Rattle.ballot_base.specs.Lists.{IsIncreasing}
-use Rattle.tie_search.specs.Steps.Paired.{overlap_at}
-use Rattle.tie_search.proofs.OverlapLemmas.{portion}
-use Rattle.tie_search.proofs.pairs.add_pairs.Given as goal
+use Rattle.thiele_search.specs.Steps.Paired.{overlap_at}
+use Rattle.thiele_search.proofs.OverlapLemmas.{portion}
+use Rattle.thiele_search.proofs.pairs.add_pairs.Given as goal
 
 -- with the rows that are still to be added, the numbers are those at the end
 abbrev pub invariant-loop-row : goal.invariant-loop-row

@@ -2,10 +2,11 @@ use Rattle.std.proofs.Common.{◌∙◌, ◌^◌, ◌≤◌, ◌==◌, ap, arith
 use Rattle.std.proofs.Math.ListN.{length-set}
 use Rattle.ballot_base.specs.CandSet.{has_member}
 use Rattle.ballot_base.specs.Limits.{most_candidates}
-use Rattle.tie_search.proofs.OverlapLemmas.{portion, portion-none, first-in, later-in, place-within, row-fits, row-more}
+use Rattle.thiele_search.proofs.OverlapLemmas.{portion, portion-none, place-within, row-fits, row-more}
+use Rattle.tie_search.proofs.MemberLemmas.{first-in, later-in}
 use Rattle.tie_search.proofs.SearchLemmas.{rest-increasing}
-use Rattle.tie_search.proofs.pairs.add_to_row.Goals as goal
-use Rattle.tie_search.proofs.pairs.add_to_row.Goals.{In-Some}
+use Rattle.thiele_search.proofs.pairs.add_to_row.Goals as goal
+use Rattle.thiele_search.proofs.pairs.add_to_row.Goals.{In-Some}
 
 pub loop-column-init : goal.loop-column-init
 loop-column-init c =

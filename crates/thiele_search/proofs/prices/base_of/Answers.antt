@@ -1,9 +1,9 @@
 use Rattle.std.proofs.Common.{◌≡◌, ℕ, ◌*◌, ◌^◌, ◌≤◌, ◌∙◌, sym, ap, arith, length, get_or}
 use Rattle.std.proofs.Math.Nat.{mul-le-mul}
-use Rattle.tie_search.specs.Prices.{kept}
-use Rattle.tie_search.specs.Steps.Priced.{scale}
-use Rattle.tie_search.proofs.PricedLemmas.{base-more, base-none, row-voters}
-use Rattle.tie_search.proofs.prices.base_of.Goals as goal
+use Rattle.thiele_search.specs.Prices.{kept}
+use Rattle.thiele_search.specs.Steps.Priced.{scale}
+use Rattle.thiele_search.proofs.PricedLemmas.{base-more, base-none, row-voters}
+use Rattle.thiele_search.proofs.prices.base_of.Goals as goal
 
 pub loop-i-init : goal.loop-i-init
 loop-i-init g c = record {

@@ -1,7 +1,7 @@
 use Rattle.std.proofs.Common.{◌≡◌, ◌*◌, ◌^◌, ◌≤◌, get_or, take}
-use Rattle.tie_search.specs.Prices.{base}
-use Rattle.tie_search.specs.Steps.Priced.{scale, priced_by}
-use Rattle.tie_search.proofs.prices.base_of.Given as goal
+use Rattle.thiele_search.specs.Prices.{base}
+use Rattle.thiele_search.specs.Steps.Priced.{scale, priced_by}
+use Rattle.thiele_search.proofs.prices.base_of.Given as goal
 
 -- what the voters of the rows so far keep
 abbrev pub invariant-loop-i : goal.invariant-loop-i

@@ -1,7 +1,7 @@
 use Rattle.std.proofs.Common.{◌≡◌, ◌-◌, ◌*◌, ◌^◌, ◌≤◌, map, fold, max, sum, take}
 use Rattle.std.specs.List.{range_with_len}
-use Rattle.tie_search.specs.Steps.Priced.{scale}
-use Rattle.tie_search.proofs.prices.kept.Given as goal
+use Rattle.thiele_search.specs.Steps.Priced.{scale}
+use Rattle.thiele_search.proofs.prices.kept.Given as goal
 
 -- the greatest of what is kept at the numbers of hits so far
 abbrev pub invariant-loop-hits : goal.invariant-loop-hits

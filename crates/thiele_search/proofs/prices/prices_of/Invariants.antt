@@ -1,8 +1,8 @@
 use Rattle.std.proofs.Common.{◌≡◌, ℕ, ◌*◌, ◌^◌, ◌≤◌, get_or, take}
 use Rattle.ballot_base.specs.Limits.{most_candidates}
-use Rattle.tie_search.specs.Prices.{price}
-use Rattle.tie_search.specs.Steps.Priced.{priced_by}
-use Rattle.tie_search.proofs.prices.prices_of.Given as goal
+use Rattle.thiele_search.specs.Prices.{price}
+use Rattle.thiele_search.specs.Steps.Priced.{priced_by}
+use Rattle.thiele_search.proofs.prices.prices_of.Given as goal
 
 -- the prices by the rows so far
 abbrev pub invariant-loop-i : goal.invariant-loop-i

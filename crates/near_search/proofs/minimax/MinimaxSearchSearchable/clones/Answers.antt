@@ -2,8 +2,8 @@ use Rattle.std.proofs.Common.{subst}
 use Rattle.ballot_base.specs.Ballots.{Election}
 use Rattle.tie_walk.specs.Values.{closeness}
 use Rattle.tie_search.specs.Completions.{AreAlike}
-use Rattle.tie_search.proofs.NearClones.{alike}
-use Rattle.tie_search.proofs.minimax.MinimaxSearchSearchable.clones.Goals as goal
+use Rattle.near_search.proofs.NearClones.{alike}
+use Rattle.near_search.proofs.minimax.MinimaxSearchSearchable.clones.Goals as goal
 
 pub returns : goal.returns
 returns g c =

@@ -7,15 +7,15 @@ use Rattle.ballot_base.specs.Lists.{IsIncreasing}
 use Rattle.ballot_base.proofs.Committees.{length-increasing}
 use Rattle.tie_walk.specs.Values.{closeness}
 use Rattle.tie_search.specs.Completions.{IsNode, IsOutOfReach}
-use Rattle.tie_search.specs.Steps.Near.{IsNarrowed}
+use Rattle.tie_search.specs.Steps.Narrowed.{IsNarrowed}
 use Rattle.tie_search.proofs.CompletionLemmas.{member-low, member-high, node-with, node-without, without-is, without-shorter}
-use Rattle.tie_search.proofs.SearchLemmas.{found-below, set-reaches}
+use Rattle.tie_search.proofs.SearchLemmas.{found-below, set-reaches, length-among}
 use Rattle.tie_search.proofs.CloneLemmas.{class-are, minus-is, minus-most, node-minus}
-use Rattle.tie_search.proofs.NearClones.{closeness-exchanged}
-use Rattle.tie_search.proofs.NeedLemmas.{all-tried, choice-left, narrowed-clones, narrowed-more, narrowed-out, near-value}
-use Rattle.tie_search.proofs.PairLemmas.{length-among}
-use Rattle.tie_search.proofs.WeightLemmas.{weighted-fewer}
-use Rattle.tie_search.proofs.near.NearSearch.+find_near.Goals as goal
+use Rattle.near_search.proofs.NearClones.{closeness-exchanged}
+use Rattle.near_search.proofs.NeedLemmas.{all-tried, choice-left, near-value}
+use Rattle.tie_search.proofs.NarrowedLemmas.{narrowed-clones, narrowed-more, narrowed-out}
+use Rattle.near_search.proofs.WeightedNeeds.{weighted-fewer}
+use Rattle.near_search.proofs.near.NearSearch.+find_near.Goals as goal
 
 -- a candidate was tried, and is struck out with its clones
 tried : (m most : ℕ) (rows : List Row) (set free rest clones : List ℕ) (left next : ℕ) → AllByRecursion (λ (row : Row). IsIncreasing 1 m row.0) rows

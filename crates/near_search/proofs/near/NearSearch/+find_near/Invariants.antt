@@ -1,7 +1,8 @@
 use Rattle.std.proofs.Common.{◌+◌, ◌-◌, length}
 use Rattle.tie_walk.specs.Values.{closeness}
-use Rattle.tie_search.specs.Steps.Near.{AreWeighted, IsNarrowed}
-use Rattle.tie_search.proofs.near.NearSearch.+find_near.Given as goal
+use Rattle.near_search.specs.Steps.Near.{AreWeighted}
+use Rattle.tie_search.specs.Steps.Narrowed.{IsNarrowed}
+use Rattle.near_search.proofs.near.NearSearch.+find_near.Given as goal
 
 abbrev pub decreases-find_near : goal.decreases-find_near
 decreases-find_near g l = l.left

@@ -5,11 +5,13 @@ use Rattle.ballot_base.specs.Ballots.{Row, hits}
 use Rattle.tie_walk.specs.Values.{closeness, greatest_distance}
 use Rattle.tie_walk.proofs.RowSums.{length-common}
 use Rattle.ballot_base.proofs.Turns.{row_of_turn, all_passed}
-use Rattle.tie_search.specs.Needs.{hits_needed}
-use Rattle.tie_search.specs.Steps.Near.{AreChoices, IsNarrowed}
-use Rattle.tie_search.proofs.NeedLemmas.{choice-of_all, choice-of_ballot, hopeless, narrowed-choice, narrowed-more, narrowed-none, narrowed-out, narrowed-to_ballot, near-more, too-few}
-use Rattle.tie_search.proofs.near.NearSearch.choices.Goals as goal
-use Rattle.tie_search.proofs.near.NearSearch.choices.Goals.{then-needed-left, else-needed-left}
+use Rattle.near_search.specs.Needs.{hits_needed}
+use Rattle.near_search.specs.Steps.Near.{AreChoices}
+use Rattle.tie_search.specs.Steps.Narrowed.{IsNarrowed}
+use Rattle.near_search.proofs.NeedLemmas.{choice-of_all, choice-of_ballot, hopeless, narrowed-choice, narrowed-to_ballot, near-more, too-few}
+use Rattle.tie_search.proofs.NarrowedLemmas.{narrowed-more, narrowed-none, narrowed-out}
+use Rattle.near_search.proofs.near.NearSearch.choices.Goals as goal
+use Rattle.near_search.proofs.near.NearSearch.choices.Goals.{then-needed-left, else-needed-left}
 
 pub returns-then-len-left : goal.returns-then-len-left
 returns-then-len-left g c =

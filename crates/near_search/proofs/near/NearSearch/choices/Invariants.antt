@@ -1,7 +1,8 @@
 use Rattle.std.proofs.Common.{◌≡◌, ◌-◌, ◌≤◌, length, take}
 use Rattle.tie_walk.specs.Values.{closeness, greatest_distance}
-use Rattle.tie_search.specs.Steps.Near.{AreChoices, IsNarrowed}
-use Rattle.tie_search.proofs.near.NearSearch.choices.Given as goal
+use Rattle.near_search.specs.Steps.Near.{AreChoices}
+use Rattle.tie_search.specs.Steps.Narrowed.{IsNarrowed}
+use Rattle.near_search.proofs.near.NearSearch.choices.Given as goal
 
 -- where nobody is to be added, no ballot so far is far
 abbrev pub invariant-loop-ballot : goal.invariant-loop-ballot

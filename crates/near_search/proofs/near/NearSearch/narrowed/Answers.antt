@@ -1,8 +1,8 @@
 use Rattle.std.proofs.Common.{◌≡◌, ◌+◌, ◌-◌, ◌*◌, ap, arith, get_or, sum_by}
 use Rattle.tie_walk.specs.Values.{closeness}
-use Rattle.tie_search.proofs.NeedLemmas.{narrowed-none}
-use Rattle.tie_search.proofs.WeightLemmas.{weighted-narrowed, weighted-none}
-use Rattle.tie_search.proofs.near.NearSearch.narrowed.Goals as goal
+use Rattle.tie_search.proofs.NarrowedLemmas.{narrowed-none}
+use Rattle.near_search.proofs.WeightedNeeds.{weighted-narrowed, weighted-none}
+use Rattle.near_search.proofs.near.NearSearch.narrowed.Goals as goal
 
 pub returns-then-needs-eq0 : goal.returns-then-needs-eq0
 returns-then-needs-eq0 g c =

@@ -6,10 +6,12 @@ use Rattle.ballot_base.specs.Ballots.{Row, hits}
 use Rattle.tie_walk.specs.Sequences.{supporters}
 use Rattle.ballot_base.proofs.Turns.{row_of_turn, all_passed}
 use Rattle.tie_walk.proofs.WorthLemmas.{no_total}
-use Rattle.tie_search.specs.Needs.{hits_needed, weighted_needs, weighted_support}
-use Rattle.tie_search.specs.Steps.Near.{need_weight}
-use Rattle.tie_search.proofs.WeightLemmas.{free-common, needs-more, part-most, row_weight, row_weight-is, support-more, turns-few, weight-none, weightless-sum, weightless-support}
-use Rattle.tie_search.proofs.near.NearSearch.weighted_needs.Goals as goal
+use Rattle.near_search.specs.Needs.{hits_needed, weighted_needs, weighted_support}
+use Rattle.near_search.specs.Steps.Near.{need_weight}
+use Rattle.tie_search.proofs.HitLemmas.{free-common}
+use Rattle.near_search.proofs.WeightedNeeds.{needs-more, row_weight, row_weight-is, support-more, turns-few, weight-none, weightless-sum, weightless-support}
+use Rattle.tie_search.proofs.SearchLemmas.{part-most}
+use Rattle.near_search.proofs.near.NearSearch.weighted_needs.Goals as goal
 
 pub returns-then-not-is_worth_weighing-clause-weighted : goal.returns-then-not-is_worth_weighing-clause-weighted
 returns-then-not-is_worth_weighing-clause-weighted g c =

@@ -1,8 +1,8 @@
 use Rattle.std.proofs.Common.{◌≡◌, ℕ, ◌+◌, ◌*◌, ◌^◌, ◌≤◌, true, length, take, get_or}
 use Rattle.ballot_base.specs.CandSet.{has_member}
-use Rattle.tie_search.specs.Needs.{weighted_needs, weighted_support}
-use Rattle.tie_search.proofs.WeightLemmas.{row_weight}
-use Rattle.tie_search.proofs.near.NearSearch.weighted_needs.Given as goal
+use Rattle.near_search.specs.Needs.{weighted_needs, weighted_support}
+use Rattle.near_search.proofs.WeightedNeeds.{row_weight}
+use Rattle.near_search.proofs.near.NearSearch.weighted_needs.Given as goal
 
 -- the needs of the rows so far, and their weights
 abbrev pub invariant-loop-ballot : goal.invariant-loop-ballot

@@ -2,8 +2,8 @@ use Rattle.std.proofs.Common.{◌≡◌, ℕ, ◌+◌, ◌*◌, ◌^◌, ◌≤�
 use Rattle.ballot_base.specs.Limits.{most_candidates, most_members}
 use Rattle.ballot_base.specs.Lists.{IsIncreasing}
 use Rattle.ballot_base.specs.CandSet.{has_member}
-use Rattle.tie_search.specs.Steps.Columns.{total, shared}
-use Rattle.tie_search.proofs.columns.Columns.add_block.Given as goal
+use Rattle.thiele_search.specs.Steps.Columns.{total, shared}
+use Rattle.thiele_search.proofs.columns.Columns.add_block.Given as goal
 
 -- with what is still to be added, the gains are those at the end
 abbrev pub invariant-loop-candidate : goal.invariant-loop-candidate

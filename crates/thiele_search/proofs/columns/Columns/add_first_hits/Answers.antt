@@ -3,10 +3,10 @@ use Rattle.std.specs.Int.{bit_not}
 use Rattle.std.proofs.Math.ListN.{length-set}
 use Rattle.ballot_base.specs.Limits.{most_candidates, most_members}
 use Rattle.ballot_base.specs.CandSet.{has_member}
-use Rattle.tie_search.specs.Steps.Columns.{block_voters, total, shared, given}
-use Rattle.tie_search.proofs.ColumnLemmas.{given-first, one-added, one-most}
+use Rattle.thiele_search.specs.Steps.Columns.{block_voters, total, shared, given}
+use Rattle.thiele_search.proofs.ColumnLemmas.{given-first, one-added, one-most}
 use Rattle.tie_search.proofs.SearchLemmas.{rest-increasing}
-use Rattle.tie_search.proofs.columns.Columns.add_first_hits.Goals as goal
+use Rattle.thiele_search.proofs.columns.Columns.add_first_hits.Goals as goal
 
 pub loop-candidate-preserved : goal.loop-candidate-preserved
 loop-candidate-preserved g c =

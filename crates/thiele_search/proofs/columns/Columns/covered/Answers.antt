@@ -1,8 +1,8 @@
 use Rattle.std.proofs.Common.{◌≡◌, ℕ, ◌+◌, ◌*◌, ◌∙◌, List, sym, ap, arith, length}
 use Rattle.std.specs.Int.RustNames.{count_ones}
-use Rattle.tie_search.specs.Steps.Columns.{block_voters, total, approves_some, voter_ballot}
-use Rattle.tie_search.proofs.ColumnLemmas.{block-at, ones-most, ones-some, total-add, total-zero}
-use Rattle.tie_search.proofs.columns.Columns.covered.Goals as goal
+use Rattle.thiele_search.specs.Steps.Columns.{block_voters, total, approves_some, voter_ballot}
+use Rattle.thiele_search.proofs.ColumnLemmas.{block-at, ones-most, ones-some, total-add, total-zero}
+use Rattle.thiele_search.proofs.columns.Columns.covered.Goals as goal
 
 pub loop-block-init : goal.loop-block-init
 loop-block-init g c = record {

@@ -1,6 +1,6 @@
 use Rattle.std.proofs.Common.{◌≡◌, ℕ, ◌*◌, ◌≤◌, List}
-use Rattle.tie_search.specs.Steps.Columns.{block_voters, total, approves_some, voter_ballot, AreColumns, AreRising}
-use Rattle.tie_search.proofs.columns.Columns.covered.Given as goal
+use Rattle.thiele_search.specs.Steps.Columns.{block_voters, total, approves_some, voter_ballot, AreColumns, AreRising}
+use Rattle.thiele_search.proofs.columns.Columns.covered.Given as goal
 
 -- the voters of the blocks so far are counted
 abbrev pub invariant-loop-block : goal.invariant-loop-block

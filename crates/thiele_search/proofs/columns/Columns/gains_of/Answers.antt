@@ -1,8 +1,8 @@
 use Rattle.std.proofs.Common.{◌≡◌, ℕ, ◌+◌, ◌*◌, ◌∙◌, sym, ap, arith, length, get_or, replicate}
 use Rattle.tie_walk.proofs.WorthLemmas.{no_total}
-use Rattle.tie_search.specs.Steps.Columns.{block_voters, total, given, voter_ballot}
-use Rattle.tie_search.proofs.ColumnLemmas.{block-at, total-add, total-zero}
-use Rattle.tie_search.proofs.columns.Columns.gains_of.Goals as goal
+use Rattle.thiele_search.specs.Steps.Columns.{block_voters, total, given, voter_ballot}
+use Rattle.thiele_search.proofs.ColumnLemmas.{block-at, total-add, total-zero}
+use Rattle.thiele_search.proofs.columns.Columns.gains_of.Goals as goal
 
 pub loop-block-init : goal.loop-block-init
 loop-block-init g c = record {

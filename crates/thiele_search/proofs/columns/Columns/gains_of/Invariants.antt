@@ -1,7 +1,7 @@
 use Rattle.std.proofs.Common.{◌≡◌, ℕ, ◌*◌, ◌^◌, ◌≤◌, true, List, get_or}
 use Rattle.ballot_base.specs.CandSet.{has_member}
-use Rattle.tie_search.specs.Steps.Columns.{block_voters, total, given, voter_ballot, AreColumns, AreRising}
-use Rattle.tie_search.proofs.columns.Columns.gains_of.Given as goal
+use Rattle.thiele_search.specs.Steps.Columns.{block_voters, total, given, voter_ballot, AreColumns, AreRising}
+use Rattle.thiele_search.proofs.columns.Columns.gains_of.Given as goal
 
 -- the voters of the blocks so far are counted
 abbrev pub invariant-loop-block : goal.invariant-loop-block

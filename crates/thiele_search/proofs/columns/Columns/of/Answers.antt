@@ -1,7 +1,7 @@
 use Rattle.std.proofs.Common.{◌∙◌, ap, arith, get_or}
 use Rattle.tie_walk.proofs.Gains.{weights-small}
-use Rattle.tie_search.proofs.ColumnLemmas.{voters-length}
-use Rattle.tie_search.proofs.columns.Columns.of.Goals as goal
+use Rattle.thiele_search.proofs.ColumnLemmas.{voters-length}
+use Rattle.thiele_search.proofs.columns.Columns.of.Goals as goal
 
 pub returns : goal.returns
 returns g c = record {

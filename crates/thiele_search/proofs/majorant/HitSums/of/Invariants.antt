@@ -1,5 +1,5 @@
 use Rattle.std.proofs.Common.{◌≡◌, ℕ, ◌*◌, ◌^◌, ◌<◌, ◌≤◌, length, get_or, sum, take}
-use Rattle.tie_search.proofs.majorant.HitSums.of.Given as goal
+use Rattle.thiele_search.proofs.majorant.HitSums.of.Given as goal
 
 -- the sums so far are rounded up, and none is too large
 abbrev pub invariant-loop-hits : goal.invariant-loop-hits

@@ -1,8 +1,8 @@
 use Rattle.std.proofs.Common.{ℕ, ◌+◌, ◌*◌, ◌^◌, ◌≤◌, ap, arith, inl, inr, get_or}
 use Rattle.std.proofs.Math.Nat.{mul-le-mul}
 use Rattle.std.proofs.lemmas.Bool.{cases_eq}
-use Rattle.tie_search.proofs.majorant.Majorant.at.Goals as goal
-use Rattle.tie_search.proofs.majorant.Majorant.at.Goals.{then-touch-most, else-touch-most}
+use Rattle.thiele_search.proofs.majorant.Majorant.at.Goals as goal
+use Rattle.thiele_search.proofs.majorant.Majorant.at.Goals.{then-touch-most, else-touch-most}
 
 -- an overlap for each pair of hits
 square : (overlap h : ℕ) → overlap ≤ 2 ^ 26 → h ≤ 64 → overlap * (h * h) ≤ 2 ^ 38

@@ -1,5 +1,5 @@
 use Rattle.std.proofs.Common.{ℕ, ◌+◌, ◌*◌, ◌^◌, ◌<◌, ◌≤◌, get_or}
-use Rattle.tie_search.proofs.majorant.Majorant.at.Given as goal
+use Rattle.thiele_search.proofs.majorant.Majorant.at.Given as goal
 
 -- the majorant is above what each number of hits so far gives
 abbrev pub invariant-loop-hits : goal.invariant-loop-hits

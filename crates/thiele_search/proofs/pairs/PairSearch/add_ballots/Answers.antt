@@ -6,13 +6,14 @@ use Rattle.ballot_base.specs.CandSet.{has_member}
 use Rattle.ballot_base.specs.Ballots.{Row, hits, voter_count}
 use Rattle.ballot_base.proofs.Turns.{row_of_turn, all_passed}
 use Rattle.tie_walk.proofs.RowSums.{length-common}
-use Rattle.tie_search.specs.Steps.Majorants.{Majorized}
-use Rattle.tie_search.specs.Steps.Paired.{AreTotals, IsMajorantOf, overlap_at}
+use Rattle.thiele_search.specs.Steps.Majorants.{Majorized}
+use Rattle.thiele_search.specs.Steps.Paired.{AreTotals, IsMajorantOf, overlap_at}
 use Rattle.tie_search.proofs.CompletionLemmas.{member-high}
-use Rattle.tie_search.proofs.OverlapLemmas.{portion}
-use Rattle.tie_search.proofs.PairTotals.{cells-same, hits-both, portion-most, portion-self, row-up, totals-more, totals-none, voters-more, voters-room}
-use Rattle.tie_search.proofs.WeightLemmas.{free-common, part-most}
-use Rattle.tie_search.proofs.pairs.PairSearch.add_ballots.Goals as goal
+use Rattle.thiele_search.proofs.OverlapLemmas.{portion}
+use Rattle.thiele_search.proofs.PairTotals.{cells-same, hits-both, portion-most, portion-self, row-up, totals-more, totals-none, voters-more, voters-room}
+use Rattle.tie_search.proofs.HitLemmas.{free-common}
+use Rattle.tie_search.proofs.SearchLemmas.{part-most}
+use Rattle.thiele_search.proofs.pairs.PairSearch.add_ballots.Goals as goal
 
 pub loop-ballot-init : goal.loop-ballot-init
 loop-ballot-init g c =

@@ -1,8 +1,8 @@
 use Rattle.std.proofs.Common.{◌≡◌, ℕ, ◌*◌, ◌^◌, ◌≤◌, List, length, take, get_or}
 use Rattle.ballot_base.specs.Ballots.{voter_count}
 use Rattle.ballot_base.specs.Limits.{most_candidates}
-use Rattle.tie_search.specs.Steps.Paired.{AreSums, AreTotals, overlap_at}
-use Rattle.tie_search.proofs.pairs.PairSearch.add_ballots.Given as goal
+use Rattle.thiele_search.specs.Steps.Paired.{AreSums, AreTotals, overlap_at}
+use Rattle.thiele_search.proofs.pairs.PairSearch.add_ballots.Given as goal
 
 -- the totals of the rows so far
 abbrev pub invariant-loop-ballot : goal.invariant-loop-ballot

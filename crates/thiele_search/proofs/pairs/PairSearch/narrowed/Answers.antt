@@ -1,6 +1,6 @@
 use Rattle.std.proofs.Common.{arith}
 use Rattle.tie_search.proofs.CompletionLemmas.{completion-few}
-use Rattle.tie_search.proofs.pairs.PairSearch.narrowed.Goals as goal
+use Rattle.thiele_search.proofs.pairs.PairSearch.narrowed.Goals as goal
 
 pub returns-then-len-node-clause-narrowed : goal.returns-then-len-node-clause-narrowed
 returns-then-len-node-clause-narrowed g c weights are committee whole =

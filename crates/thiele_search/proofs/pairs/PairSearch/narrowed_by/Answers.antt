@@ -1,7 +1,7 @@
 use Rattle.std.proofs.Common.{refl}
-use Rattle.tie_search.specs.Steps.Known.{IsKnown}
-use Rattle.tie_search.proofs.KnownLemmas.{known-fewer}
-use Rattle.tie_search.proofs.pairs.PairSearch.narrowed_by.Goals as goal
+use Rattle.thiele_search.specs.Steps.Known.{IsKnown}
+use Rattle.thiele_search.proofs.KnownLemmas.{known-fewer}
+use Rattle.thiele_search.proofs.pairs.PairSearch.narrowed_by.Goals as goal
 
 pub returns-then-serves-clause-narrowed : goal.returns-then-serves-clause-narrowed
 returns-then-serves-clause-narrowed g c weights are =

@@ -1,10 +1,10 @@
 use Rattle.std.proofs.Common.{rules, ◌≡◌, ℕ, ◌+◌, ◌-◌, ◌*◌, ◌^◌, ◌≤◌, ap, arith, get_or, sum_by}
 use Rattle.std.proofs.Math.Nat.{mul-le-mul, mul-le-mul_left}
 use Rattle.ballot_base.specs.Limits.{most_candidates}
-use Rattle.tie_search.specs.Steps.Paired.{overlap_at}
-use Rattle.tie_search.proofs.PairNodes.{pairs-narrowed, pairs-none}
-use Rattle.tie_search.proofs.pairs.PairSearch.narrowed_with.Goals as goal
-use Rattle.tie_search.proofs.pairs.PairSearch.narrowed_with.Goals.{After-excess, After-from, After-from-factor, After-saturating_add-due}
+use Rattle.thiele_search.specs.Steps.Paired.{overlap_at}
+use Rattle.thiele_search.proofs.PairNodes.{pairs-narrowed, pairs-none}
+use Rattle.thiele_search.proofs.pairs.PairSearch.narrowed_with.Goals as goal
+use Rattle.thiele_search.proofs.pairs.PairSearch.narrowed_with.Goals.{After-excess, After-from, After-from-factor, After-saturating_add-due}
 
 left-fits : (g : _) (c : After-from-factor g) → c.args.node.now.left ≤ 255
 left-fits g c = search rules

@@ -1,6 +1,6 @@
 use Rattle.std.proofs.Common.{◌≡◌, ℕ, ◌*◌, ◌≤◌, arith}
-use Rattle.tie_search.proofs.PricedLemmas.{ceil-low}
-use Rattle.tie_search.proofs.pairs.PairSearch.units.Goals as goal
+use Rattle.thiele_search.proofs.PricedLemmas.{ceil-low}
+use Rattle.thiele_search.proofs.pairs.PairSearch.units.Goals as goal
 
 pub returns : goal.returns
 returns g c value reaches =

@@ -3,11 +3,12 @@ use Rattle.std.specs.Prelude.{slice_index}
 use Rattle.std.proofs.Math.ListN.{length-set}
 use Rattle.ballot_base.specs.CandSet.{has_member}
 use Rattle.ballot_base.specs.Limits.{most_candidates}
-use Rattle.tie_search.specs.Pairs.{worth_beside}
-use Rattle.tie_search.specs.Steps.Paired.{overlap_at}
-use Rattle.tie_search.proofs.OverlapLemmas.{first-low, pair-within, set-made, set-most}
+use Rattle.thiele_search.specs.Pairs.{worth_beside}
+use Rattle.thiele_search.specs.Steps.Paired.{overlap_at}
+use Rattle.tie_search.proofs.MemberLemmas.{first-low}
+use Rattle.thiele_search.proofs.OverlapLemmas.{pair-within, set-made, set-most}
 use Rattle.tie_search.proofs.SearchLemmas.{rest-increasing}
-use Rattle.tie_search.proofs.pairs.Rows.put_beside.Goals as goal
+use Rattle.thiele_search.proofs.pairs.Rows.put_beside.Goals as goal
 
 pub loop-other-init : goal.loop-other-init
 loop-other-init c =

@@ -3,9 +3,9 @@ use Rattle.std.specs.Prelude.{slice_index}
 use Rattle.ballot_base.specs.CandSet.{has_member}
 use Rattle.ballot_base.specs.Limits.{most_candidates}
 use Rattle.ballot_base.specs.Lists.{IsIncreasing}
-use Rattle.tie_search.specs.Pairs.{worth_beside}
-use Rattle.tie_search.specs.Steps.Paired.{overlap_at}
-use Rattle.tie_search.proofs.pairs.Rows.put_beside.Given as goal
+use Rattle.thiele_search.specs.Pairs.{worth_beside}
+use Rattle.thiele_search.specs.Steps.Paired.{overlap_at}
+use Rattle.thiele_search.proofs.pairs.Rows.put_beside.Given as goal
 
 -- the worths of those who were passed
 abbrev pub invariant-loop-other : goal.invariant-loop-other

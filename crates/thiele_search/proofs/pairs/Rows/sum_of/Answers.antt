@@ -5,12 +5,12 @@ use Rattle.ballot_base.specs.CandSet.{without_member}
 use Rattle.ballot_base.specs.Limits.{most_candidates}
 use Rattle.ballot_base.specs.Lists.{IsIncreasing}
 use Rattle.ballot_base.proofs.Committees.{length-increasing}
-use Rattle.tie_search.specs.Pairs.{worth_beside}
-use Rattle.tie_search.specs.Steps.Paired.{overlap_at}
+use Rattle.thiele_search.specs.Pairs.{worth_beside}
+use Rattle.thiele_search.specs.Steps.Paired.{overlap_at}
 use Rattle.tie_search.proofs.CompletionLemmas.{filter-most, member-high, without-is}
-use Rattle.tie_search.proofs.PairLemmas.{sum-equal}
+use Rattle.thiele_search.proofs.PairLemmas.{sum-equal}
 use Rattle.tie_search.proofs.SearchLemmas.{sum-most}
-use Rattle.tie_search.proofs.pairs.Rows.sum_of.Goals as goal
+use Rattle.thiele_search.proofs.pairs.Rows.sum_of.Goals as goal
 
 pub bounds-self-from : goal.bounds-self-from
 bounds-self-from c = omega (arith, c.from-2.ensures, member-high 1 most_candidates c.args.self.now.free c.args.i c.requires.candidates c.requires.member)

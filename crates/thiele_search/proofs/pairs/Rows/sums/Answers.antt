@@ -3,10 +3,11 @@ use Rattle.std.proofs.Math.ListN.{length-set}
 use Rattle.ballot_base.specs.CandSet.{has_member}
 use Rattle.ballot_base.specs.Limits.{most_candidates}
 use Rattle.tie_walk.proofs.WorthLemmas.{no_total}
-use Rattle.tie_search.specs.Steps.Paired.{IsRowSum}
-use Rattle.tie_search.proofs.OverlapLemmas.{first-in, first-low, later-in, set-made, set-most}
+use Rattle.thiele_search.specs.Steps.Paired.{IsRowSum}
+use Rattle.tie_search.proofs.MemberLemmas.{first-in, first-low, later-in}
+use Rattle.thiele_search.proofs.OverlapLemmas.{set-made, set-most}
 use Rattle.tie_search.proofs.SearchLemmas.{rest-increasing}
-use Rattle.tie_search.proofs.pairs.Rows.sums.Goals as goal
+use Rattle.thiele_search.proofs.pairs.Rows.sums.Goals as goal
 
 pub loop-i-init : goal.loop-i-init
 loop-i-init c =

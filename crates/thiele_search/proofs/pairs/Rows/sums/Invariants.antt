@@ -2,8 +2,8 @@ use Rattle.std.proofs.Common.{◌≡◌, ℕ, ◌^◌, ◌≤◌, true, false, l
 use Rattle.ballot_base.specs.CandSet.{has_member}
 use Rattle.ballot_base.specs.Limits.{most_candidates}
 use Rattle.ballot_base.specs.Lists.{IsIncreasing}
-use Rattle.tie_search.specs.Steps.Paired.{IsRowSum}
-use Rattle.tie_search.proofs.pairs.Rows.sums.Given as goal
+use Rattle.thiele_search.specs.Steps.Paired.{IsRowSum}
+use Rattle.thiele_search.proofs.pairs.Rows.sums.Given as goal
 
 -- the row sums of those who were passed
 abbrev pub invariant-loop-i : goal.invariant-loop-i

@@ -1,6 +1,6 @@
 use Rattle.std.proofs.Common.{ap, arith, inl, inr, get_or}
 use Rattle.std.proofs.lemmas.Bool.{cases_eq}
-use Rattle.tie_search.proofs.pairs.Totals.greatest_overlap.Goals as goal
+use Rattle.thiele_search.proofs.pairs.Totals.greatest_overlap.Goals as goal
 
 pub loop-candidate-init : goal.loop-candidate-init
 loop-candidate-init c = record { most = λ n low. absurd (omega (arith, low)); small = omega arith }

@@ -1,6 +1,6 @@
 use Rattle.std.proofs.Common.{ℕ, ◌^◌, ◌<◌, ◌≤◌}
-use Rattle.tie_search.specs.Steps.Paired.{overlap_at}
-use Rattle.tie_search.proofs.pairs.Totals.greatest_overlap.Given as goal
+use Rattle.thiele_search.specs.Steps.Paired.{overlap_at}
+use Rattle.thiele_search.proofs.pairs.Totals.greatest_overlap.Given as goal
 
 -- no candidate so far overlaps more with itself
 abbrev pub invariant-loop-candidate : goal.invariant-loop-candidate

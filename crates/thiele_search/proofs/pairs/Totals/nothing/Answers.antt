@@ -1,7 +1,7 @@
 use Rattle.tie_walk.proofs.WorthLemmas.{no_total}
 use Rattle.std.proofs.Common.{refl}
-use Rattle.tie_search.specs.Steps.Paired.{pair_place}
-use Rattle.tie_search.proofs.pairs.Totals.nothing.Goals as goal
+use Rattle.thiele_search.specs.Steps.Paired.{pair_place}
+use Rattle.thiele_search.proofs.pairs.Totals.nothing.Goals as goal
 
 pub returns : goal.returns
 returns c = record {

@@ -1,5 +1,5 @@
 use Rattle.std.proofs.Common.{◌≤◌, ◌*◌, subst, get_or}
-use Rattle.tie_search.proofs.prices.Prices.of.Goals as goal
+use Rattle.thiele_search.proofs.prices.Prices.of.Goals as goal
 
 pub returns : goal.returns
 returns g c = record {

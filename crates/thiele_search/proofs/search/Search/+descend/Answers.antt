@@ -2,17 +2,18 @@ use Rattle.std.proofs.Common.{◌≡◌, ℕ, ◌+◌, ◌-◌, ◌^◌, ◌<◌
 use Rattle.ballot_base.specs.Increments.{increments}
 use Rattle.ballot_base.specs.CandSet.{has_member, with_member, without_member}
 use Rattle.tie_walk.specs.Sequences.{gain}
-use Rattle.tie_search.proofs.WholeLemmas.{value-with}
+use Rattle.thiele_search.proofs.WholeLemmas.{value-with}
 use Rattle.tie_search.specs.Completions.{IsCompletion, IsNode, tally_value}
 use Rattle.tie_search.specs.Steps.Found.{Advances, AreNew, AreSearched}
-use Rattle.tie_search.specs.Steps.Near.{IsNarrowed}
-use Rattle.tie_search.proofs.PairLemmas.{length-among}
+use Rattle.tie_search.specs.Steps.Narrowed.{IsNarrowed}
+use Rattle.tie_search.proofs.SearchLemmas.{length-among, AreLeft, not-true}
 use Rattle.tie_search.proofs.CompletionLemmas.{completion-back, completion-self, member-low, member-high, node-with, node-without, without-is, without-shorter}
-use Rattle.tie_search.proofs.SearchLemmas.{AreLeft, node-none, not-true, value-most}
-use Rattle.tie_search.proofs.FoundLemmas.{AreSettledBut, advances-none, advances-on, new-among, new-with, new-without, searched-narrowed, set-offered, settled-all, settled-narrowed, settled-with, settled-without, still-settled}
-use Rattle.tie_search.proofs.KeptLemmas.{kept-left, node-among}
-use Rattle.tie_search.proofs.search.Search.+descend.Goals as goal
-use Rattle.tie_search.proofs.search.Search.+descend.Goals.{After-descend, After-untried, In-Some-eligible}
+use Rattle.thiele_search.proofs.GainLemmas.{node-none, value-most}
+use Rattle.tie_search.proofs.FoundLemmas.{AreSettledBut, advances-none, advances-on, new-among, new-with, new-without, searched-narrowed, set-offered, settled-all, settled-narrowed, settled-with, still-settled}
+use Rattle.thiele_search.proofs.AlikeLemmas.{settled-without}
+use Rattle.thiele_search.proofs.KeptLemmas.{kept-left, node-among}
+use Rattle.thiele_search.proofs.search.Search.+descend.Goals as goal
+use Rattle.thiele_search.proofs.search.Search.+descend.Goals.{After-descend, After-untried, In-Some-eligible}
 
 pub offer-requires : goal.offer-requires
 offer-requires g t c =

@@ -2,9 +2,9 @@ use Rattle.std.proofs.Common.{◌≡◌, ℕ, true, length}
 use Rattle.ballot_base.specs.CandSet.{has_member}
 use Rattle.tie_search.specs.Completions.{IsCompletion, IsNode, tally_value}
 use Rattle.tie_search.specs.Steps.Found.{Advances, AreNew}
-use Rattle.tie_search.specs.Steps.Known.{AreKnownIf}
+use Rattle.thiele_search.specs.Steps.Known.{AreKnownIf}
 use Rattle.tie_search.proofs.FoundLemmas.{AreSettledBut}
-use Rattle.tie_search.proofs.search.Search.+descend.Given as goal
+use Rattle.thiele_search.proofs.search.Search.+descend.Given as goal
 
 abbrev pub decreases-descend : goal.decreases-descend
 decreases-descend g l = l.node.left

@@ -1,6 +1,6 @@
 use Rattle.std.proofs.Common.{arith}
 use Rattle.tie_search.proofs.CompletionLemmas.{member-low, member-high, node-with, node-without, without-shorter}
-use Rattle.tie_search.proofs.search.Search.+short.Goals as goal
+use Rattle.thiele_search.proofs.search.Search.+short.Goals as goal
 
 pub with-requires-clause-low : goal.with-requires-clause-low
 with-requires-clause-low g t c =

@@ -1,6 +1,6 @@
 use Rattle.std.proofs.Common.{length}
 use Rattle.tie_search.specs.Completions.{IsNode}
-use Rattle.tie_search.proofs.search.Search.+short.Given as goal
+use Rattle.thiele_search.proofs.search.Search.+short.Given as goal
 
 abbrev pub decreases-short : goal.decreases-short
 decreases-short g l = l.node.left

@@ -3,7 +3,7 @@ use Rattle.ballot_base.specs.Lists.{IsIncreasing}
 use Rattle.tie_walk.proofs.LawLemmas.{IsIncreasing-range}
 use Rattle.tie_search.specs.Completions.{IsNode}
 use Rattle.tie_search.proofs.WitnessLemmas.{candidates-among}
-use Rattle.tie_search.proofs.search.Search.climb.Goals as goal
+use Rattle.thiele_search.proofs.search.Search.climb.Goals as goal
 
 pub loop-searched-init : goal.loop-searched-init
 loop-searched-init g c =

@@ -4,7 +4,7 @@ use Rattle.tie_search.specs.Completions.{IsOutOfReach, IsReaching, tally_value}
 use Rattle.tie_search.specs.Steps.Found.{AreSearched, IsListed}
 use Rattle.tie_search.specs.declared.found.Found.{Found}
 use Rattle.tie_search.proofs.FoundLemmas.{found-reaches, none-found}
-use Rattle.tie_search.proofs.search.Search.find.Goals as goal
+use Rattle.thiele_search.proofs.search.Search.find.Goals as goal
 
 answered : (value : List ℕ → ℕ) (m : ℕ) (set free : List ℕ) (left least : ℕ) (before after : Found) → AreSearched value m set free left before after → before.len ≡ 0 → before.least ≡ least
     → (first : Option (List ℕ)) → MatchOption first (after.len ≡ 0) (λ committee. IsListed after committee)

@@ -1,7 +1,7 @@
 use Rattle.std.proofs.Common.{◌∙◌}
-use Rattle.tie_search.specs.Steps.Columns.{AreColumnsOf, voters_of}
-use Rattle.tie_search.proofs.ColumnLemmas.{columns-gain, voters-rising}
-use Rattle.tie_search.proofs.search.Search.gains_at.Goals as goal
+use Rattle.thiele_search.specs.Steps.Columns.{AreColumnsOf, voters_of}
+use Rattle.thiele_search.proofs.ColumnLemmas.{columns-gain, voters-rising}
+use Rattle.thiele_search.proofs.search.Search.gains_at.Goals as goal
 
 pub returns-in-Some-clause-gains : goal.returns-in-Some-clause-gains
 returns-in-Some-clause-gains g c n here =

@@ -4,11 +4,11 @@ use Rattle.std.specs.Int.{div_ceil}
 use Rattle.ballot_base.specs.Increments.{increments}
 use Rattle.tie_walk.specs.Values.{thiele_value}
 use Rattle.tie_search.specs.Completions.{tally_value}
-use Rattle.tie_search.specs.Steps.Priced.{ArePrices, scale}
+use Rattle.thiele_search.specs.Steps.Priced.{ArePrices, scale}
 use Rattle.tie_search.proofs.CompletionLemmas.{completion-few}
-use Rattle.tie_search.proofs.PricedLemmas.{ceil-low, prices-bound, value-rounded}
+use Rattle.thiele_search.proofs.PricedLemmas.{ceil-low, prices-bound, value-rounded}
 use Rattle.tie_search.proofs.SearchLemmas.{not-true}
-use Rattle.tie_search.proofs.search.Search.may_afford.Goals as goal
+use Rattle.thiele_search.proofs.search.Search.may_afford.Goals as goal
 
 pub may_reach-requires-clause-threshold : goal.may_reach-requires-clause-threshold
 may_reach-requires-clause-threshold g c =

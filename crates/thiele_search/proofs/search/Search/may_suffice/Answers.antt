@@ -2,8 +2,8 @@ use Rattle.std.proofs.Common.{◌<◌, ◌∙◌, ap, arith, leb-false}
 use Rattle.ballot_base.specs.CandSet.{has_member}
 use Rattle.ballot_base.specs.Increments.{increments}
 use Rattle.ballot_base.proofs.Increasing.{IsIncreasing-either, has_member-either}
-use Rattle.tie_search.proofs.WholeLemmas.{whole-none}
-use Rattle.tie_search.proofs.search.Search.may_suffice.Goals as goal
+use Rattle.thiele_search.proofs.WholeLemmas.{whole-none}
+use Rattle.thiele_search.proofs.search.Search.may_suffice.Goals as goal
 
 pub most_covered-requires-clause-candidates : goal.most_covered-requires-clause-candidates
 most_covered-requires-clause-candidates g c =

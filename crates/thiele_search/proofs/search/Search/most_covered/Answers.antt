@@ -1,8 +1,8 @@
 use Rattle.std.proofs.Common.{arith}
-use Rattle.tie_search.specs.Steps.Columns.{AreColumnsOf, voters_of}
-use Rattle.tie_search.proofs.ColumnLemmas.{voters-rising}
-use Rattle.tie_search.proofs.CoverLemmas.{columns-cover}
-use Rattle.tie_search.proofs.search.Search.most_covered.Goals as goal
+use Rattle.thiele_search.specs.Steps.Columns.{AreColumnsOf, voters_of}
+use Rattle.thiele_search.proofs.ColumnLemmas.{voters-rising}
+use Rattle.thiele_search.proofs.CoverLemmas.{columns-cover}
+use Rattle.thiele_search.proofs.search.Search.most_covered.Goals as goal
 
 pub returns-in-Some : goal.returns-in-Some
 returns-in-Some g c =

@@ -5,10 +5,11 @@ use Rattle.ballot_base.specs.Limits.{most_candidates}
 use Rattle.tie_search.specs.Completions.{IsCompletion, tally_value}
 use Rattle.tie_search.specs.Steps.Found.{Advances, IsSettled}
 use Rattle.tie_search.proofs.FoundLemmas.{advances-none}
-use Rattle.tie_search.proofs.LastLemmas.{joined-small, joined-value, offered-advances, offered-all, offered-new, offered-settled, one-completes}
-use Rattle.tie_search.proofs.OverlapLemmas.{first-in, later-in}
+use Rattle.thiele_search.proofs.GainLemmas.{joined-small, joined-value}
+use Rattle.tie_search.proofs.LastLemmas.{offered-advances, offered-all, offered-new, offered-settled, one-completes}
+use Rattle.tie_search.proofs.MemberLemmas.{first-in, later-in}
 use Rattle.tie_search.proofs.SearchLemmas.{rest-increasing}
-use Rattle.tie_search.proofs.search.Search.offer_each.Goals as goal
+use Rattle.thiele_search.proofs.search.Search.offer_each.Goals as goal
 
 pub loop-candidate-init : goal.loop-candidate-init
 loop-candidate-init g c =

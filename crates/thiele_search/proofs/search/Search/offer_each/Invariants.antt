@@ -4,7 +4,7 @@ use Rattle.ballot_base.specs.Limits.{most_candidates}
 use Rattle.ballot_base.specs.Lists.{IsIncreasing}
 use Rattle.tie_search.specs.Completions.{IsCompletion, tally_value}
 use Rattle.tie_search.specs.Steps.Found.{Advances, IsListed, IsSettled}
-use Rattle.tie_search.proofs.search.Search.offer_each.Given as goal
+use Rattle.thiele_search.proofs.search.Search.offer_each.Given as goal
 
 -- the committees with those who are left are still to be offered
 abbrev pub invariant-loop-candidate : goal.invariant-loop-candidate

@@ -7,7 +7,7 @@ use Rattle.tie_walk.proofs.StepLemmas.{has_member-range}
 use Rattle.tie_search.specs.Completions.{IsNode, tally_value}
 use Rattle.tie_search.specs.Steps.Found.{AreSearched}
 use Rattle.tie_search.proofs.FoundLemmas.{all-tied}
-use Rattle.tie_search.proofs.search.Search.tied.Goals as goal
+use Rattle.thiele_search.proofs.search.Search.tied.Goals as goal
 
 pub descend-requires-clause-is_node : goal.descend-requires-clause-is_node
 descend-requires-clause-is_node g c =

@@ -2,7 +2,7 @@ use Rattle.std.proofs.Common.{◌≡◌, ℕ, ◌&&◌, ◌∙◌, Bool, true, f
 use Rattle.ballot_base.specs.CandSet.{has_member, other_members}
 use Rattle.ballot_base.proofs.Increasing.{IsIncreasing-filter, has_member-filter}
 use Rattle.tie_search.proofs.CloneLemmas.{class-are, minus-is}
-use Rattle.tie_search.proofs.search.Search.untried.Goals as goal
+use Rattle.thiele_search.proofs.search.Search.untried.Goals as goal
 
 -- who leaves is in the class
 in-class : (others class_ : List ℕ) (n : ℕ) → has_member others n ≡ true → has_member (other_members others class_) n ≡ false → has_member class_ n ≡ true

@@ -1,8 +1,8 @@
 use Rattle.std.proofs.Common.{subst}
 use Rattle.tie_walk.specs.Values.{Thiele}
 use Rattle.tie_search.specs.Completions.{AreAlike, tally_value}
-use Rattle.tie_search.proofs.CloneLemmas.{alike}
-use Rattle.tie_search.proofs.thiele.ThieleSearchSearchable.clones.Goals as goal
+use Rattle.thiele_search.proofs.AlikeLemmas.{alike}
+use Rattle.thiele_search.proofs.thiele.ThieleSearchSearchable.clones.Goals as goal
 
 pub returns : goal.returns
 returns g c =

@@ -1,0 +1,11 @@
+//! A node of a search.
+use ballot_base::CandSet;
+
+/// A set that may become a committee, its value, the candidates that are free to join it, and how many of them do.
+#[derive(Clone, Copy)]
+pub struct Node {
+    pub set: CandSet,
+    pub value: u128,
+    pub free: CandSet,
+    pub left: u8,
+}
