@@ -12,6 +12,7 @@ use Rattle.tie_walk.proofs.Distances.{ballot-found, common-least_right, common-t
 use Rattle.tie_walk.proofs.RowSums.{length-common}
 use Rattle.tie_search.specs.Completions.{IsNode, IsCompletion, IsReaching, IsOutOfReach}
 use Rattle.tie_search.proofs.CompletionLemmas.{added, added-free, added-increasing, added-size, and-true, completion-few, completion-members, hits-same}
+use Rattle.tie_search.proofs.HitLemmas.{hits-append, hits-more}
 use Rattle.tie_search.proofs.SearchLemmas.{AreLeft}
 use Rattle.near_search.specs.Needs.{hits_needed}
 use Rattle.near_search.specs.Steps.Near.{AreChoices}

@@ -19,7 +19,7 @@ use Rattle.tie_search.proofs.CompletionLemmas.{added, added-free, added-increasi
 use Rattle.tie_search.proofs.HitLemmas.{hits-append, hits-turned}
 use Rattle.tie_search.proofs.NarrowedLemmas.{narrowed-by}
 use Rattle.near_search.proofs.NeedLemmas.{needs-met, value-near}
-use Rattle.tie_search.proofs.SearchLemmas.{sum-part, sum-threshold}
+use Rattle.tie_search.proofs.SearchLemmas.{sum-member, sum-part, sum-threshold}
 
 -- ---- hits by rows and by candidates
 

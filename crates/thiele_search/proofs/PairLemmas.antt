@@ -14,7 +14,7 @@ use Rattle.tie_search.specs.Completions.{IsNode, IsCompletion}
 use Rattle.thiele_search.specs.Pairs.{IsMajorant, all_kept, all_worth, all_overlap, pair_sum, worth_beside, row_sum}
 use Rattle.tie_search.proofs.CompletionLemmas.{added, added-free, added-increasing, added-size, completion-members, hits-same, member-without}
 use Rattle.tie_search.proofs.HitLemmas.{hits-append, hits-more, hits-turned}
-use Rattle.tie_search.proofs.SearchLemmas.{sum-threshold, sum-member}
+use Rattle.tie_search.proofs.SearchLemmas.{sum-among, sum-member, sum-threshold}
 
 or-true : (p q : Bool) → q ≡ true → (p || q) ≡ true
 or-true true q h = refl

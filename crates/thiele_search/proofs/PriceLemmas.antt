@@ -12,6 +12,7 @@ use Rattle.tie_walk.specs.Values.{thiele_value}
 use Rattle.tie_search.specs.Completions.{IsNode, IsCompletion}
 use Rattle.thiele_search.specs.Prices.{Priced, priced_rows, kept, base, price}
 use Rattle.tie_search.proofs.CompletionLemmas.{added, added-size, completion-inside, completion-outside}
+use Rattle.tie_search.proofs.HitLemmas.{hits-turned}
 use Rattle.tie_search.proofs.SearchLemmas.{sum-threshold, sum-part}
 
 -- ---- one row

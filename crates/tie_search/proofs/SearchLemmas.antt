@@ -71,7 +71,7 @@ sum-part f p (x ∷ xs) = elim (p x) as (λ b. sum_by f (cond b (x ∷ filter p 
 ]
 
 -- a sum over some of the members is no more than that over all
-sum-among : (f : ℕ → ℕ) (last : ℕ) (some all : List ℕ) → IsIncreasing 1 last some → IsIncreasing 1 last all → ((n : ℕ) → has_member some n ≡ true → has_member all n ≡ true)
+pub sum-among : (f : ℕ → ℕ) (last : ℕ) (some all : List ℕ) → IsIncreasing 1 last some → IsIncreasing 1 last all → ((n : ℕ) → has_member some n ≡ true → has_member all n ≡ true)
     → sum_by f some ≤ sum_by f all
 sum-among f last some all up rises among =
     let same : filter (has_member some) all ≡ some =
