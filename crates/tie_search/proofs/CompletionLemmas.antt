@@ -5,10 +5,12 @@ use Rattle.std.proofs.lemmas.List.Filters.{length-filter_both}
 use Rattle.std.proofs.lemmas.List.Folds.{list_any-append}
 use Rattle.std.proofs.lemmas.List.Sums.{sum_by-cons}
 use Rattle.ballot_base.specs.Lists.{IsIncreasing}
-use Rattle.ballot_base.specs.CandSet.{has_member, with_member, without_member}
+use Rattle.std.specs.List.{range_with_len}
+use Rattle.ballot_base.specs.CandSet.{common_members, has_member, with_member, without_member}
 use Rattle.ballot_base.specs.Ballots.{Row, hits}
 use Rattle.ballot_base.proofs.Increasing.{IsIncreasing-filter, IsIncreasing-with_member, has_member-below, has_member-above, has_member-filter, has_member-with_member, same_increasing}
 use Rattle.tie_walk.specs.Values.{thiele_value}
+use Rattle.tie_walk.proofs.LawLemmas.{IsIncreasing-range}
 use Rattle.tie_search.specs.Completions.{IsNode, IsCompletion}
 
 -- ---- members
@@ -269,3 +271,7 @@ thiele-same w (row ∷ rows) xs ys same =
       sum_by-cons (λ (r : Row). r.1 * sum (take (hits r.0 xs) w)) row rows,
       sum_by-cons (λ (r : Row). r.1 * sum (take (hits r.0 ys) w)) row rows,
     )
+
+-- the candidates 1 to m among the members
+pub candidates-among : (m : ℕ) (all committee known : List ℕ) → all ≡ range_with_len 1 m → known ≡ common_members all committee → IsIncreasing 1 m known
+candidates-among m all committee known whole is = rw (is, whole) (IsIncreasing-filter (has_member committee) 1 m (range_with_len 1 m) (IsIncreasing-range 1 m m (omega arith)))

@@ -3,65 +3,10 @@
 use Rattle.std.proofs.Common.{◌≡◌, ◌+◌, ◌<◌, ℕ, zero, suc, true, false, List, [], ◌∷◌, refl, sym, ap, subst, sum, lit≤, lit<, arith}
 use Rattle.std.specs.Prelude.{slice_index_or}
 use Rattle.ballot_base.specs.Lists.{lists_of}
-use Rattle.tie_walk.specs.Ceilings.{ceiling, closeness_upto}
 use Rattle.tie_walk.specs.Values.{closeness}
 use Rattle.tie_walk.specs.Winners.{best_value}
-use Rattle.tie_search.specs.Completions.{IsNode, IsCompletion, IsReaching, IsOutOfReach, IsWinnerFrom, is_reached, exact_bound}
+use Rattle.tie_search.specs.Completions.{IsNode, IsCompletion, IsReaching, IsOutOfReach}
 use Rattle.tie_search.specs.Tied.{AreBest, AreDistinct, AreTied, IsAmong, IsBest}
-use Rattle.tie_search.specs.Steps.Witness.{IsExchange, IsSetAndLater}
-
-best-at_root : exact_bound sum (ceiling sum 3) 3 2 0 [] 2 ≡ 5
-unfolding lists_of
-best-at_root = refl
-
--- no committee with 1 has the greatest value
-less-with_one : exact_bound sum (ceiling sum 3) 3 2 1 (1 ∷ []) 1 ≡ 4
-unfolding lists_of
-less-with_one = refl
-
--- a committee without 1 has
-best-without_one : exact_bound sum (ceiling sum 3) 3 2 1 [] 2 ≡ 5
-unfolding lists_of
-best-without_one = refl
-
--- the set and those to add make no committee of two: the ceiling is 1 with 2 and 3
-ceiling-of_three : exact_bound sum (ceiling sum 3) 3 2 1 (1 ∷ []) 2 ≡ 6
-unfolding lists_of
-ceiling-of_three = refl
-
-reached-four : is_reached sum 3 1 (1 ∷ []) 1 4 ≡ true
-unfolding lists_of
-reached-four = refl
-
-short-five : is_reached sum 3 1 (1 ∷ []) 1 5 ≡ false
-unfolding lists_of
-short-five = refl
-
--- ---- a winner and its beginnings
-
--- the committee of 2 and 3 wins, and begins with nobody of the candidates up to 1
-wins-from_one : IsWinnerFrom sum 3 2 (record { c = 1; set = [] }) (2 ∷ 3 ∷ [])
-unfolding lists_of
-wins-from_one = record {
-  candidates = (lit≤ tt, lit≤ tt, (lit≤ tt, lit≤ tt, tt));
-  size = refl;
-  best = refl;
-  begins = refl;
-}
-
--- it is the empty set and two of the candidates after 1
-joined-at_one : IsSetAndLater 3 1 [] 2 (2 ∷ 3 ∷ [])
-joined-at_one = (2 ∷ 3 ∷ [], (((lit≤ tt, lit≤ tt, (lit≤ tt, lit≤ tt, tt)), refl), refl))
-
--- ---- clones: 1 and 2 of three candidates
-
-classes : List (List ℕ)
-classes = [] ∷ (1 ∷ 2 ∷ []) ∷ (1 ∷ 2 ∷ []) ∷ (3 ∷ []) ∷ []
-
--- 2 and 3 are 1 and 3 with 2 in the place of 1
-is_exchange : IsExchange classes (2 ∷ 3 ∷ []) (1 ∷ 3 ∷ [])
-unfolding classes
-is_exchange = record { gone = 1; joined = 2; class = refl; was = refl; is = refl }
 
 -- ---- committees that complete a set
 
@@ -88,14 +33,11 @@ nothing_is_reached : IsOutOfReach sum 3 [] (1 ∷ []) 0 1
 nothing_is_reached [] whole = lit< tt
 nothing_is_reached (x ∷ committee) whole = absurd (omega (arith, whole.size))
 
--- ---- bounds of two of three candidates, where one voter approves 1 and 2, and one approves 3: with 1 and 2 the second
+-- ---- values of two of three candidates, where one voter approves 1 and 2, and one approves 3: with 1 and 2 the second
 -- voter is at the distance 3, with 3 in the committee no voter is farther than 2
 
 abbrev two_of_three : List ℕ → ℕ
 two_of_three set = closeness 3 ((1 ∷ 2 ∷ [], 1) ∷ (3 ∷ [], 1) ∷ []) set
-
-abbrev two_of_three-upto : ℕ → List ℕ → ℕ → ℕ
-two_of_three-upto c set left = closeness_upto 3 ((1 ∷ 2 ∷ [], 1) ∷ (3 ∷ [], 1) ∷ []) c set
 
 value-with_three : two_of_three (1 ∷ 3 ∷ []) ≡ 1
 value-with_three = refl
@@ -106,20 +48,6 @@ value-without_three = refl
 best-of_two : best_value two_of_three 3 2 ≡ 1
 unfolding lists_of
 best-of_two = refl
-
-bound-with_one : exact_bound two_of_three two_of_three-upto 3 2 1 (1 ∷ []) 1 ≡ 1
-unfolding lists_of
-bound-with_one = refl
-
--- no committee has 1 and 2 and the greatest value
-bound-with_both : exact_bound two_of_three two_of_three-upto 3 2 2 (1 ∷ 2 ∷ []) 0 ≡ 0
-unfolding lists_of
-bound-with_both = refl
-
--- the set and those to add make no committee of two: as far as 1, the farthest ballot is at the distance 1
-bound-of_three : exact_bound two_of_three two_of_three-upto 3 2 1 (1 ∷ []) 2 ≡ 2
-unfolding lists_of
-bound-of_three = refl
 
 -- ---- committees that tie
 

@@ -1,12 +1,9 @@
 -- Committees that complete a set, and whether one of them reaches a value.
-use Rattle.std.specs.Prelude.{◌≡◌, ℕ, ◌+◌, ◌-◌, ◌<◌, ◌≤◌, ◌||◌, ◌==◌, Bool, true, false, List, [], ◌++◌, length, nat_le, slice_index_or, if◌then◌else◌}
-use Rattle.std.specs.List.{list_any}
-use Rattle.ballot_base.specs.Lists.{IsIncreasing, increasing_lists}
-use Rattle.ballot_base.specs.CandSet.{has_member, members_upto, with_member, without_member}
+use Rattle.std.specs.Prelude.{◌≡◌, ℕ, ◌+◌, ◌<◌, ◌≤◌, ◌||◌, true, false, List, [], length, slice_index_or}
+use Rattle.ballot_base.specs.Lists.{IsIncreasing}
+use Rattle.ballot_base.specs.CandSet.{has_member, with_member, without_member}
 use Rattle.ballot_base.specs.Increments.{increments}
-use Rattle.tie_walk.specs.Ceilings.{Prefix}
 use Rattle.tie_walk.specs.Values.{Thiele, thiele_value}
-use Rattle.tie_walk.specs.Winners.{best_value}
 
 -- what a tally of a Thiele rule gives a set
 abbrev pub tally_value : Thiele → List ℕ → ℕ
@@ -42,30 +39,3 @@ pub record IsReaching (value : List ℕ → ℕ) (m : ℕ) (set free : List ℕ)
 abbrev pub IsOutOfReach : (List ℕ → ℕ) → ℕ → List ℕ → List ℕ → ℕ → ℕ → Type 0
 IsOutOfReach value m set free left least =
     (committee : List ℕ) → IsCompletion m set free left committee → value committee < least
-
--- whether some committee of the set and of `left` of the candidates from c + 1 to m has at least the value
-abbrev pub is_reached : (List ℕ → ℕ) → ℕ → ℕ → List ℕ → ℕ → ℕ → Bool
-is_reached value m c set left least =
-    list_any (λ added. nat_le least (value (set ++ added))) (increasing_lists (c + 1) m left)
-
--- The bound by search: if the set and `left` make a committee of k, the greatest value of all where it is reached, and
--- one less where it is not; for other sizes, another bound.
-abbrev pub exact_bound : (List ℕ → ℕ) → (ℕ → List ℕ → ℕ → ℕ) → ℕ → ℕ → ℕ → List ℕ → ℕ → ℕ
-exact_bound value bound m k c set left =
-    if length set + left == k
-    then (if is_reached value m c set left (best_value value m k)
-    then best_value value m k
-    else best_value value m k - 1)
-    else bound c set left
-
--- what contracts see of a tally by search: the tally that is searched, and the size of committees
-pub record Exact (S : Type 0) : Type 0 where
-  pub search : S
-  pub k : ℕ
-
--- a winner that begins with the prefix: its members up to the prefix's last candidate are those of the prefix
-pub record IsWinnerFrom (value : List ℕ → ℕ) (m k : ℕ) (prefix : Prefix) (committee : List ℕ) : Type 0 where
-  pub candidates : IsIncreasing 1 m committee
-  pub size : length committee ≡ k
-  pub best : value committee ≡ best_value value m k
-  pub begins : members_upto committee prefix.c ≡ prefix.set

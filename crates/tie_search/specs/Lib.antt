@@ -1,3 +1,4 @@
+pub mod Asked
 pub mod Completions
 pub mod Steps
 pub mod Tied

@@ -1,4 +1,4 @@
+pub mod Branches
 pub mod Found
 pub mod Narrowed
 pub mod Searched
-pub mod Witness

@@ -2,7 +2,7 @@ use Rattle.std.proofs.Common.{[], refl, arith}
 use Rattle.ballot_base.specs.Lists.{IsIncreasing}
 use Rattle.tie_walk.proofs.LawLemmas.{IsIncreasing-range}
 use Rattle.tie_search.specs.Completions.{IsNode}
-use Rattle.tie_search.proofs.WitnessLemmas.{candidates-among}
+use Rattle.tie_search.proofs.CompletionLemmas.{candidates-among}
 use Rattle.thiele_search.proofs.search.Search.climb.Goals as goal
 
 pub loop-searched-init : goal.loop-searched-init

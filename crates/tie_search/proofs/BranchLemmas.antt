@@ -1,0 +1,560 @@
+-- The winners that complete branches, and their order.
+use Rattle.std.proofs.Common.{◌≡◌, ℕ, zero, suc, ◌+◌, ◌-◌, ◌<◌, ◌≤◌, ◌==◌, ◌&&◌, ◌||◌, ◌∙◌, Bool, true, false, cond, not, List, [], ◌∷◌, ◌++◌, Option, None, Some, refl, sym, ap, subst, arith, get_or, inl, inr, ◌⊎◌, length, length-append, append_assoc, filter, Contains, AllPairs, Less, Greater}
+use Rattle.std.specs.List.{AllByRecursion, list_all, list_any, range_with_len}
+use Rattle.std.specs.Ordering.{nat_cmp, is_gt, ordering_then}
+use Rattle.std.specs.Cmp.Lexicographic.{slice_cmp}
+use Rattle.std.proofs.lemmas.Bool.{and_from, and_parts, and_right, cases_Bool, cases_eq, cases_lt, eq-eqb, false≢true, lt-ltb, ne_eqb}
+use Rattle.std.specs.Prelude.{MatchOption, slice_index_or}
+use Rattle.std.proofs.lemmas.List.Elements.{Contains-get_or, recursion_from_All}
+use Rattle.std.proofs.lemmas.List.Folds.{list_any-append}
+use Rattle.ballot_base.specs.Lists.{IsIncreasing, IsLater, AreInOrder, is_later, later_than}
+use Rattle.ballot_base.specs.CandSet.{either_members, has_member, includes, other_members, with_member, without_member}
+use Rattle.ballot_base.proofs.Committees.{increasing_lists-contains}
+use Rattle.ballot_base.proofs.FirstMember.{slice_cmp_same}
+use Rattle.ballot_base.proofs.Increasing.{IsIncreasing-either, IsIncreasing-filter, IsIncreasing-higher, IsIncreasing-lower, has_member-above, has_member-below, has_member-either, has_member-filter, has_member-with_member, has_member_head, same_increasing, with_member-above}
+use Rattle.ballot_base.proofs.Later.{IsLater-from_parts, is_later-earlier, is_later-self}
+use Rattle.tie_walk.specs.Winners.{best_value, winners}
+use Rattle.tie_walk.proofs.LawLemmas.{no_greater_value, winner-from_is, winner-is, winners-order}
+use Rattle.tie_walk.proofs.StepLemmas.{has_member-range}
+use Rattle.tie_walk.proofs.WinnersLemmas.{same_filter}
+use Rattle.tie_search.specs.Completions.{AreAlike, IsCompletion, IsNode, IsOutOfReach, IsReaching}
+use Rattle.tie_search.specs.Tied.{IsBest}
+use Rattle.tie_search.specs.Steps.Branches.{AreStacked, ComesBefore, IsAnswer, IsBarren, IsBranch, IsWinnerOf, branches_after, completes, completes_some, winners_of}
+use Rattle.tie_search.specs.declared.branch.Branch.{Branch}
+use Rattle.tie_search.proofs.CloneLemmas.{clones-left}
+use Rattle.tie_search.proofs.CompletionLemmas.{added, added-free, added-size, completion-back, completion-members, completion-whole, member-high, member-low, without-is}
+use Rattle.tie_search.proofs.ReachLemmas.{increasing-append}
+
+-- ---- tests
+
+all-at : (p : ℕ → Bool) (xs : List ℕ) (x : ℕ) → list_all p xs ≡ true → has_member xs x ≡ true → p x ≡ true
+all-at p [] x all here = absurd cc
+all-at p (y ∷ xs) x all here =
+    let parts = and_parts (p y) (list_all p xs) all in
+    elim (cases_eq y x) [
+      | inl same ↦ ap p (sym same) ∙ parts.0
+      | inr other ↦ all-at p xs x parts.1 (ap (λ b. b || has_member xs x) (sym (ne_eqb y x other)) ∙ here)
+    ]
+
+all-from : (p : ℕ → Bool) (xs : List ℕ) → ((x : ℕ) → has_member xs x ≡ true → p x ≡ true) → list_all p xs ≡ true
+all-from p [] each = refl
+all-from p (y ∷ xs) each = and_from (p y) (list_all p xs) (each y (has_member_head y xs)) (all-from p xs (λ x is. each x (or-right (y == x) (has_member xs x) is)))
+  where
+    or-right : (a b : Bool) → b ≡ true → (a || b) ≡ true
+    or-right true b h = refl
+    or-right false b h = h
+
+same-answers : (a b : Bool) → (a ≡ true → b ≡ true) → (b ≡ true → a ≡ true) → a ≡ b
+same-answers true b h k = sym (h refl)
+same-answers false true h k = k refl
+same-answers false false h k = refl
+
+or-left : (a b : Bool) → a ≡ true → (a || b) ≡ true
+or-left true b h = refl
+or-left false b h = absurd cc
+
+or-right : (a b : Bool) → b ≡ true → (a || b) ≡ true
+or-right true b h = refl
+or-right false b h = h
+
+or-none : (a : Bool) → (a || false) ≡ a
+or-none true = refl
+or-none false = refl
+
+or-cases : (a b : Bool) → (a || b) ≡ true → (a ≡ true) ⊎ (b ≡ true)
+or-cases true b h = inl refl
+or-cases false b h = inr h
+
+-- ---- a branch
+
+pub branch-node : (m k : ℕ) (branch : Branch) → IsBranch m k branch → IsNode m branch.set branch.free
+branch-node m k branch is = record {
+  set_within = IsIncreasing-higher 1 is.last m branch.set is.within is.set_upto;
+  free_within = IsIncreasing-lower 1 (is.last + 1) m branch.free (omega arith) is.free_after;
+  apart = λ n here. has_member-above 1 is.last branch.set n is.set_upto (let low : is.last + 1 ≤ n = member-low (is.last + 1) m branch.free n is.free_after here in omega arith);
+}
+
+-- a committee of k completes it exactly if it completes its set
+pub completion-from : (m k : ℕ) (branch : Branch) (committee : List ℕ) → IsBranch m k branch → IsIncreasing 1 m committee → length committee ≡ k → completes branch committee ≡ true
+    → IsCompletion m branch.set branch.free (k - length branch.set) committee
+completion-from m k branch committee is up size whole =
+    let parts = and_parts (includes committee branch.set) (includes (either_members branch.set branch.free) committee) whole in
+    record {
+      candidates = up;
+      whole = λ n here. all-at (has_member committee) branch.set n parts.0 here;
+      within = λ n here. sym (has_member-either branch.set branch.free n) ∙ all-at (has_member (either_members branch.set branch.free)) committee n parts.1 here;
+      size = omega (arith, size, is.size);
+    }
+
+pub completes-from : (m : ℕ) (branch : Branch) (left : ℕ) (committee : List ℕ) → IsCompletion m branch.set branch.free left committee → completes branch committee ≡ true
+completes-from m branch left committee whole =
+    and_from (includes committee branch.set) (includes (either_members branch.set branch.free) committee)
+    (all-from (has_member committee) branch.set (λ n here. whole.whole n here))
+    (all-from (has_member (either_members branch.set branch.free)) committee (λ n here. has_member-either branch.set branch.free n ∙ whole.within n here))
+
+-- no member is past the candidates
+pub completes-up : (m k : ℕ) (branch : Branch) (committee : List ℕ) (last : ℕ) → IsBranch m k branch → IsIncreasing 1 last committee → completes branch committee ≡ true → IsIncreasing 1 m committee
+completes-up m k branch committee last is up whole = narrower 1 committee up (λ n here. member-high 1 m either n either-up (all-at (has_member either) committee n inside here))
+  where
+    either : List ℕ
+    either = either_members branch.set branch.free
+
+    either-up : IsIncreasing 1 m either
+    either-up =
+        let node = branch-node m k branch is in
+        IsIncreasing-either 1 m branch.set branch.free node.set_within node.free_within
+
+    inside : includes either committee ≡ true
+    inside = (and_parts (includes committee branch.set) (includes either committee) whole).1
+
+    narrower : (low : ℕ) (xs : List ℕ) → IsIncreasing low last xs → ((n : ℕ) → has_member xs n ≡ true → n ≤ m) → IsIncreasing low m xs
+    narrower low [] up high = tt
+    narrower low (x ∷ xs) up high = (up.0, high x (has_member_head x xs), narrower (x + 1) xs up.2 (λ n here. high n (or-right (x == n) (has_member xs n) here)))
+
+-- ---- the first free candidate
+
+module _ (m k : ℕ) (branch : Branch) (is : IsBranch m k branch) (next : ℕ) (rest : List ℕ) (first : branch.free ≡ next ∷ rest) where
+  free-up : IsIncreasing (is.last + 1) m (next ∷ rest)
+  free-up = subst (IsIncreasing (is.last + 1) m) first is.free_after
+
+  pub grown-is : with_member branch.set next ≡ branch.set ++ next ∷ []
+  grown-is = with_member-above 1 is.last branch.set next is.set_upto (omega (arith, free-up.0))
+
+  pub with-branch : length branch.set < k → IsBranch m k (record { set = with_member branch.set next; free = rest })
+  with-branch short = record {
+    last = next;
+    within = free-up.1;
+    set_upto = subst (IsIncreasing 1 next) (sym grown-is) (increasing-append 1 is.last next branch.set (next ∷ []) (omega arith) (omega (arith, free-up.0)) is.set_upto (free-up.0, omega arith, tt));
+    free_after = free-up.2;
+    size = omega (arith, short, ap length grown-is, length-append branch.set (next ∷ []));
+  }
+
+  pub without-branch : IsBranch m k (record { set = branch.set; free = rest })
+  without-branch = record {
+    last = is.last;
+    within = is.within;
+    set_upto = is.set_upto;
+    free_after = IsIncreasing-lower (is.last + 1) (next + 1) m rest (omega (arith, free-up.0)) free-up.2;
+    size = is.size;
+  }
+
+  pub with-before : ComesBefore m (with_member branch.set next) (record { set = branch.set; free = rest })
+  with-before = record { next = next; tail = []; begins = grown-is; later = free-up.2 }
+
+  pub next-low : 1 ≤ next
+  next-low = omega (arith, free-up.0)
+
+  pub next-high : next ≤ m
+  next-high = free-up.1
+
+  free-is : (x : ℕ) → has_member branch.free x ≡ ((next == x) || has_member rest x)
+  free-is x = ap (λ l. has_member l x) first
+
+  -- the free candidates without the first
+  pub first-without : without_member branch.free next ≡ rest
+  first-without =
+      same_increasing 1 m (without_member branch.free next) rest (IsIncreasing-filter (λ x. not (x == next)) 1 m branch.free (IsIncreasing-lower 1 (is.last + 1) m branch.free (omega arith) is.free_after))
+      (IsIncreasing-lower 1 (next + 1) m rest (omega arith) free-up.2)
+      (λ x. has_member-filter (λ y. not (y == next)) branch.free x ∙ ap (λ b. not (x == next) && b) (free-is x) ∙ each x)
+    where
+      each : (x : ℕ) → (not (x == next) && ((next == x) || has_member rest x)) ≡ has_member rest x
+      each x = elim (cases_eq x next) [
+        | inl same ↦ ap (λ b. not b && ((next == x) || has_member rest x)) (eq-eqb x next same) ∙ sym (ap (has_member rest) same ∙ has_member-below (next + 1) m rest next free-up.2 (omega arith))
+        | inr other ↦ ap (λ b. not b && ((next == x) || has_member rest x)) (ne_eqb x next other) ∙ ap (λ b. b || has_member rest x) (ne_eqb next x (λ e. other (sym e)))
+      ]
+
+  -- the members of the grown set
+  with-is : (x : ℕ) → has_member (with_member branch.set next) x ≡ ((next == x) || has_member branch.set x)
+  with-is x = has_member-with_member branch.set next x
+
+  -- who completes the branch completes the one with the candidate or the one without
+  pub split-same : (committee : List ℕ) → completes branch committee
+      ≡ (completes (record { set = branch.set; free = rest }) committee || completes (record { set = with_member branch.set next; free = rest }) committee)
+  split-same committee = same-answers (completes branch committee)
+      (completes without committee || completes with' committee) down (λ some. up (or-cases (completes without committee) (completes with' committee) some))
+    where
+      without : Branch
+      without = record { set = branch.set; free = rest }
+
+      with' : Branch
+      with' = record { set = with_member branch.set next; free = rest }
+
+      parts : (b : Branch) → completes b committee ≡ true
+          → ((x : ℕ) → has_member b.set x ≡ true → has_member committee x ≡ true) × ((x : ℕ) → has_member committee x ≡ true → (has_member b.set x || has_member b.free x) ≡ true)
+      parts b is =
+          let both = and_parts (includes committee b.set) (includes (either_members b.set b.free) committee) is in (
+            λ x here. all-at (has_member committee) b.set x both.0 here,
+            λ x here. sym (has_member-either b.set b.free x) ∙ all-at (has_member (either_members b.set b.free)) committee x both.1 here,
+          )
+
+      whole : (b : Branch) → ((x : ℕ) → has_member b.set x ≡ true → has_member committee x ≡ true) → ((x : ℕ) → has_member committee x ≡ true → (has_member b.set x || has_member b.free x) ≡ true)
+          → completes b committee ≡ true
+      whole b has among =
+          and_from (includes committee b.set) (includes (either_members b.set b.free) committee) (all-from (has_member committee) b.set has)
+          (all-from (has_member (either_members b.set b.free)) committee (λ x here. has_member-either b.set b.free x ∙ among x here))
+
+      moved : (s n r : Bool) → (s || (n || r)) ≡ true → ((n || s) || r) ≡ true
+      moved true true r h = refl
+      moved true false r h = refl
+      moved false true r h = refl
+      moved false false r h = h
+
+      kept : (s n r : Bool) → n ≡ false → (s || (n || r)) ≡ true → (s || r) ≡ true
+      kept s true r e h = absurd cc
+      kept s false r e h = h
+
+      back : (s n r : Bool) → ((n || s) || r) ≡ true → (s || (n || r)) ≡ true
+      back true n r h = refl
+      back false true r h = refl
+      back false false r h = h
+
+      wider : (s n r : Bool) → (s || r) ≡ true → (s || (n || r)) ≡ true
+      wider true n r h = refl
+      wider false true r h = refl
+      wider false false r h = h
+
+      down : completes branch committee ≡ true → (completes without committee || completes with' committee) ≡ true
+      down is = elim (cases_Bool (has_member committee next)) [
+        | inl in_ ↦
+            or-right (completes without committee) (completes with' committee)
+            (whole with'
+            (λ x here. elim (cases_eq next x) [
+              | inl same ↦ ap (has_member committee) (sym same) ∙ in_
+              | inr other ↦ (parts branch is).0 x (sym (with-is x ∙ ap (λ b. b || has_member branch.set x) (ne_eqb next x other)) ∙ here)
+            ])
+            (λ x here. ap (λ b. b || has_member rest x) (with-is x)
+            ∙ moved (has_member branch.set x) (next == x) (has_member rest x) (sym (ap (λ b. has_member branch.set x || b) (free-is x)) ∙ (parts branch is).1 x here)))
+        | inr out ↦
+            or-left (completes without committee) (completes with' committee)
+            (whole without (parts branch is).0
+            (λ x here. kept (has_member branch.set x) (next == x) (has_member rest x)
+            (ne_eqb next x (λ same. false≢true (sym out ∙ ap (has_member committee) same ∙ here)))
+            (sym (ap (λ b. has_member branch.set x || b) (free-is x)) ∙ (parts branch is).1 x here)))
+      ]
+
+      up : (completes without committee ≡ true) ⊎ (completes with' committee ≡ true) → completes branch committee ≡ true
+      up (inl is) =
+          whole branch (parts without is).0
+          (λ x here. ap (λ b. has_member branch.set x || b) (free-is x) ∙ wider (has_member branch.set x) (next == x) (has_member rest x) ((parts without is).1 x here))
+      up (inr is) =
+          whole branch
+          (λ x here. (parts with' is).0 x (with-is x ∙ or-right (next == x) (has_member branch.set x) here))
+          (λ x here. ap (λ b. has_member branch.set x || b) (free-is x)
+          ∙ back (has_member branch.set x) (next == x) (has_member rest x) (sym (ap (λ b. b || has_member rest x) (with-is x)) ∙ (parts with' is).1 x here))
+
+  -- the one that was found completes the branch with the candidate if it has it
+  pub with-completes : (committee : List ℕ) → completes branch committee ≡ true → has_member committee next ≡ true → completes (record { set = with_member branch.set next; free = rest }) committee ≡ true
+  with-completes committee whole in_ = elim (or-cases (completes (record { set = branch.set; free = rest }) committee) (completes (record { set = with_member branch.set next; free = rest }) committee) (sym (split-same committee) ∙ whole)) [
+    | inl without ↦
+        absurd (false≢true (sym (ap (λ b. b || has_member rest next) set-out ∙ rest-out)
+        ∙ sym (has_member-either branch.set rest next)
+        ∙ all-at (has_member (either_members branch.set rest)) committee next
+        (and_parts (includes committee branch.set) (includes (either_members branch.set rest) committee) without).1 in_))
+    | inr with' ↦ with'
+  ]
+    where
+      set-out : has_member branch.set next ≡ false
+      set-out = has_member-above 1 is.last branch.set next is.set_upto (omega (arith, free-up.0))
+
+      rest-out : has_member rest next ≡ false
+      rest-out = has_member-below (next + 1) m rest next free-up.2 (omega arith)
+
+-- ---- who leaves with a candidate
+
+-- where no winner completes the branch with the candidate, its clones are in none that completes the branch without
+pub left-out : (value : List ℕ → ℕ) (m k : ℕ) (branch : Branch) (is : IsBranch m k branch) (next : ℕ) (rest : List ℕ) (first : branch.free ≡ next ∷ rest) (classes : List (List ℕ))
+    → length branch.set < k → AreAlike value m classes
+    → IsBarren value m k (record { set = with_member branch.set next; free = rest })
+    → (committee : List ℕ) → IsBest value m k committee → completes branch committee ≡ true
+    → completes (record { set = branch.set; free = other_members rest (slice_index_or classes next []) }) committee ≡ true
+left-out value m k branch is next rest first classes short alike none committee best whole =
+    completes-from m (record { set = branch.set; free = other_members rest clones }) left committee
+    (subst (λ l. IsCompletion m branch.set (other_members l clones) left committee) struck
+    (clones-left value m branch.set left (best_value value m k) branch.free branch.free clones next (omega (arith, short)) node here
+    (λ other d up has out class. alike other next d up (next-low m k branch is next rest first) (next-high m k branch is next rest first) class has out)
+    (λ other other-whole reaches. other-whole)
+    none-with committee (completion-from m k branch committee is best.candidates best.size whole) (omega (arith, best.best))))
+  where
+    clones : List ℕ
+    clones = slice_index_or classes next []
+
+    left : ℕ
+    left = k - length branch.set
+
+    node : IsNode m branch.set branch.free
+    node = branch-node m k branch is
+
+    here : has_member branch.free next ≡ true
+    here = ap (λ l. has_member l next) first ∙ has_member_head next rest
+
+    struck : without_member branch.free next ≡ rest
+    struck = first-without m k branch is next rest first
+
+    none-with : IsOutOfReach value m (with_member branch.set next) (without_member branch.free next) (left - 1) (best_value value m k)
+    none-with other other-whole = elim (cases_lt (value other) (best_value value m k)) [
+      | inl under ↦ under
+      | inr reaches ↦
+          let back = completion-back m branch.set branch.free left next node here (without_member branch.free next) other (omega (arith, short))
+          (λ x in_. without-is branch.free next x in_) other-whole in
+          let size : length other ≡ k = omega (arith, back.size, is.size, short) in
+          let is_best : IsBest value m k other = record {
+            candidates = back.candidates;
+            size = size;
+            best = omega (arith, reaches, no_greater_value value m k other (increasing_lists-contains 1 m k other (back.candidates, size)));
+          } in
+          absurd (false≢true (sym (none other is_best) ∙ completes-from m (record { set = with_member branch.set next; free = rest }) (left - 1) other
+          (subst (λ l. IsCompletion m (with_member branch.set next) l (left - 1) other) struck other-whole)))
+    ]
+
+-- ---- lists of winners
+
+-- branches that the same winners complete leave the same winners
+pub winners-same : (value : List ℕ → ℕ) (m k : ℕ) (xs ys : List Branch)
+    → ((committee : List ℕ) → IsBest value m k committee → completes_some xs committee ≡ completes_some ys committee) → winners_of value m k xs ≡ winners_of value m k ys
+winners-same value m k xs ys same =
+    same_filter (completes_some xs) (completes_some ys) (winners value m k)
+    (recursion_from_All (λ set. completes_some xs set ≡ completes_some ys set) (winners value m k)
+    (λ i d inside. same (get_or (winners value m k) i d) (best-of (get_or (winners value m k) i d) (Contains-get_or (winners value m k) i d inside))))
+  where
+    best-of : (set : List ℕ) → Contains (winners value m k) set → IsBest value m k set
+    best-of set inside = let is = winner-is value m k set inside in record { candidates = is.0; size = is.1; best = is.2 }
+
+last-some : (xs : List Branch) (b : Branch) (committee : List ℕ) → completes_some (xs ++ b ∷ []) committee ≡ (completes_some xs committee || completes b committee)
+last-some xs b committee = list_any-append (λ branch. completes branch committee) xs (b ∷ []) ∙ ap (λ c. completes_some xs committee || c) (or-none (completes b committee))
+
+-- ---- the order of the stack
+
+-- a list that goes on with a greater number is later
+greater-later : (front more rest : List ℕ) (n y : ℕ) → n < y → length (front ++ y ∷ more) ≡ length (front ++ n ∷ rest) → IsLater (front ++ y ∷ more) (front ++ n ∷ rest)
+greater-later front more rest n y low same = IsLater-from_parts (front ++ y ∷ more) (front ++ n ∷ rest) same (less front)
+  where
+    first : nat_cmp n y ≡ Less
+    first = rw (lt-ltb n y low)
+
+    less : (l : List ℕ) → slice_cmp nat_cmp (l ++ n ∷ rest) (l ++ y ∷ more) ≡ Less
+    less [] = ap (λ o. ordering_then o (slice_cmp nat_cmp rest more)) first
+    less (x ∷ l) = slice_cmp_same x (l ++ n ∷ rest) (l ++ y ∷ more) ∙ less l
+
+-- a committee that completes the branch is its set and later candidates
+added-later : (m k : ℕ) (branch : Branch) (committee : List ℕ) → IsBranch m k branch → IsIncreasing 1 m committee → length committee ≡ k → completes branch committee ≡ true
+    → (more : List ℕ) × (committee ≡ branch.set ++ more) × (length more ≡ k - length branch.set) × ((n : ℕ) → has_member more n ≡ true → has_member branch.free n ≡ true)
+added-later m k branch committee is up size whole =
+    let node = branch-node m k branch is in
+    let left = k - length branch.set in
+    let done = completion-from m k branch committee is up size whole in
+    let more = added m branch.set branch.free left committee node done in
+    let rises : IsIncreasing (is.last + 1) m more = IsIncreasing-filter (has_member committee) (is.last + 1) m branch.free is.free_after in (
+      more,
+      same_increasing 1 m committee (branch.set ++ more) up (increasing-append 1 is.last m branch.set more (omega arith) is.within is.set_upto rises)
+          (completion-members m branch.set branch.free left committee node done),
+      added-size m branch.set branch.free left committee node done,
+      added-free m branch.set branch.free left committee node done,
+    )
+
+-- a committee that completes a branch is later than one that begins with a set that the branch comes before
+pub later-completes : (m k : ℕ) (branch : Branch) (set committee : List ℕ) → IsBranch m k branch → ComesBefore m set branch → length set ≡ k → IsIncreasing 1 m committee → length committee ≡ k
+    → completes branch committee ≡ true → IsLater committee set
+later-completes m k branch set committee is before long up size whole = by more.0 more.1 more.2 more.3
+  where
+    more : (more : List ℕ) × (committee ≡ branch.set ++ more) × (length more ≡ k - length branch.set) × ((n : ℕ) → has_member more n ≡ true → has_member branch.free n ≡ true)
+    more = added-later m k branch committee is up size whole
+
+    set-size : length branch.set + (1 + length before.tail) ≡ k
+    set-size = omega (arith, long, ap length before.begins, length-append branch.set (before.next ∷ before.tail))
+
+    by : (xs : List ℕ) → committee ≡ branch.set ++ xs → length xs ≡ k - length branch.set → ((n : ℕ) → has_member xs n ≡ true → has_member branch.free n ≡ true) → IsLater committee set
+    by [] made many free = absurd (omega (arith, many, set-size))
+    by (y ∷ xs) made many free =
+        let high : before.next + 1 ≤ y = member-low (before.next + 1) m branch.free y before.later (free y (has_member_head y xs)) in
+        subst (λ l. IsLater l set) (sym made)
+        (subst (IsLater (branch.set ++ y ∷ xs)) (sym before.begins)
+        (greater-later branch.set xs before.tail before.next y (omega (arith, high)) (sym (ap length made) ∙ (size ∙ (sym long ∙ ap length before.begins)))))
+
+-- ---- the stack
+
+abbrev pub AreBefore : ℕ → List ℕ → List Branch → Type 0
+AreBefore m set branches = AllByRecursion (ComesBefore m set) branches
+
+-- what comes before a set comes before any that goes on from it
+pub before-more : (m : ℕ) (set more : List ℕ) (branches : List Branch) → AreBefore m set branches → AreBefore m (set ++ more) branches
+before-more m set more [] all = tt
+before-more m set more (branch ∷ branches) all = (
+  record {
+    next = all.0.next;
+    tail = all.0.tail ++ more;
+    begins = ap (λ l. l ++ more) all.0.begins ∙ append_assoc branch.set (all.0.next ∷ all.0.tail) more;
+    later = all.0.later;
+  },
+  before-more m set more branches all.1,
+)
+
+pub all-append : {X : Type 0} (P : X → Type 0) (xs : List X) (x : X) → AllByRecursion P xs → P x → AllByRecursion P (xs ++ x ∷ [])
+all-append P [] x all is = (is, tt)
+all-append P (y ∷ xs) x all is = (all.0, all-append P xs x all.1 is)
+
+pub all-front : {X : Type 0} (P : X → Type 0) (xs : List X) (x : X) → AllByRecursion P (xs ++ x ∷ []) → AllByRecursion P xs × P x
+all-front P [] x all = (tt, all.0)
+all-front P (y ∷ xs) x all = let rest = all-front P xs x all.1 in ((all.0, rest.0), rest.1)
+
+pub stacked-push : (m : ℕ) (branches : List Branch) (branch : Branch) → AreStacked m branches → AreBefore m branch.set branches → AreStacked m (branches ++ branch ∷ [])
+stacked-push m [] branch stacked before = (tt, tt)
+stacked-push m (first ∷ branches) branch stacked before = (
+  all-append (λ (other : Branch). ComesBefore m other.set first) branches branch stacked.0 before.0,
+  stacked-push m branches branch stacked.1 before.1,
+)
+
+pub stacked-pop : (m : ℕ) (branches : List Branch) (branch : Branch) → AreStacked m (branches ++ branch ∷ []) → AreStacked m branches × AreBefore m branch.set branches
+stacked-pop m [] branch stacked = (tt, tt)
+stacked-pop m (first ∷ branches) branch stacked =
+    let rest = stacked-pop m branches branch stacked.1 in
+    let ends = all-front (λ (other : Branch). ComesBefore m other.set first) branches branch stacked.0 in
+    ((ends.0, rest.0), (ends.1, rest.1))
+
+-- who completes some of the branches is later than what all of them come before
+pub some-later : (m k : ℕ) (branches : List Branch) (set committee : List ℕ) → AllByRecursion (IsBranch m k) branches → AreBefore m set branches → length set ≡ k → IsIncreasing 1 m committee
+    → length committee ≡ k → completes_some branches committee ≡ true → IsLater committee set
+some-later m k [] set committee each before long up size some = absurd cc
+some-later m k (branch ∷ branches) set committee each before long up size some = elim (or-cases (completes branch committee) (completes_some branches committee) some) [
+  | inl here ↦ later-completes m k branch set committee each.0 before.0 long up size here
+  | inr there ↦ some-later m k branches set committee each.1 before.1 long up size there
+]
+
+-- ---- the first of a list in order
+
+-- where the tests stand to each other like this at an element: those that pass the first are the one and those that
+-- pass the second, which are later
+record AreTests (p q : List ℕ → Bool) (one x : List ℕ) : Type 0 where
+  later : q x ≡ true → IsLater x one
+  only : p x ≡ true → (x ≡ one) ⊎ (q x ≡ true)
+  more : q x ≡ true → p x ≡ true
+
+not-itself : (one x : List ℕ) → x ≡ one → IsLater x one → ⊥
+not-itself one x same later = false≢true (sym (is_later-self one) ∙ subst (λ l. IsLater l one) same later)
+
+-- the one comes first
+first-kept : (p q : List ℕ → Bool) (one : List ℕ) (xs : List (List ℕ)) → AreInOrder xs → Contains xs one → AllByRecursion (AreTests p q one) xs → p one ≡ true → filter p xs ≡ one ∷ filter q xs
+first-kept p q one [] order inside tests passes = absurd (omega (arith, inside.1))
+first-kept p q one (x ∷ xs) order (zero, low, is) tests passes =
+    ap (λ b. cond b (x ∷ filter p xs) (filter p xs)) (ap p is ∙ passes)
+    ∙ (ap (λ y. y ∷ filter p xs) is
+    ∙ ap (λ l. one ∷ l) (same_filter p q xs (rest xs (recursion_from_All (λ y. IsLater y one) xs (λ k d h. subst (IsLater (get_or xs k d)) is (order 0 (suc k) d (omega arith) (omega (arith, h))))) tests.1)
+    ∙ sym (ap (λ b. cond b (x ∷ filter q xs) (filter q xs)) not-q)))
+  where
+    not-q : q x ≡ false
+    not-q = elim (cases_Bool (q x)) [
+      | inl holds ↦ absurd (not-itself one x is (tests.0.later holds))
+      | inr fails ↦ fails
+    ]
+
+    rest : (ys : List (List ℕ)) → AllByRecursion (λ y. IsLater y one) ys → AllByRecursion (AreTests p q one) ys → AllByRecursion (λ y. p y ≡ q y) ys
+    rest [] later tests = tt
+    rest (y ∷ ys) later tests = (
+      same-answers (p y) (q y)
+          (λ holds. elim (tests.0.only holds) [
+            | inl same ↦ absurd (not-itself one y same later.0)
+            | inr kept ↦ kept
+          ])
+          tests.0.more,
+      rest ys later.1 tests.1,
+    )
+first-kept p q one (x ∷ xs) order (suc i, low, is) tests passes =
+    ap (λ b. cond b (x ∷ filter p xs) (filter p xs)) not-p
+    ∙ (first-kept p q one xs (λ a b d l h. order (suc a) (suc b) d (omega (arith, l)) (omega (arith, h))) (i, omega (arith, low), is) tests.1 passes
+    ∙ ap (λ l. one ∷ l) (sym (ap (λ b. cond b (x ∷ filter q xs) (filter q xs)) not-q)))
+  where
+    before : IsLater one x
+    before = subst (λ l. IsLater l x) is (order 0 (suc i) one (omega arith) (omega (arith, low)))
+
+    not-q : q x ≡ false
+    not-q = elim (cases_Bool (q x)) [
+      | inl holds ↦ absurd (false≢true (sym (is_later-earlier one x before) ∙ tests.0.later holds))
+      | inr fails ↦ fails
+    ]
+
+    not-p : p x ≡ false
+    not-p = elim (cases_Bool (p x)) [
+      | inl holds ↦ elim (tests.0.only holds) [
+        | inl same ↦ absurd (not-itself x one (sym same) before)
+        | inr kept ↦ absurd (false≢true (sym not-q ∙ kept))
+      ]
+      | inr fails ↦ fails
+    ]
+
+-- ---- the way down
+
+-- a set of k that a winner completes is the winner
+pub whole-is : (value : List ℕ → ℕ) (m k : ℕ) (branch : Branch) (committee : List ℕ) → IsBranch m k branch → length branch.set ≡ k → IsWinnerOf value m k branch committee → committee ≡ branch.set
+whole-is value m k branch committee is long wins =
+    completion-whole m branch.set branch.free (k - length branch.set) committee (branch-node m k branch is)
+    (completion-from m k branch committee is wins.best.candidates wins.best.size wins.whole) (omega (arith, long))
+
+-- it comes first of those that the branches leave
+pub first-left : (value : List ℕ → ℕ) (m k : ℕ) (branches : List Branch) (branch : Branch) (committee : List ℕ) → AllByRecursion (IsBranch m k) branches → IsBranch m k branch
+    → AreStacked m (branches ++ branch ∷ []) → length branch.set ≡ k → IsWinnerOf value m k branch committee
+    → winners_of value m k (branches ++ branch ∷ []) ≡ branch.set ∷ winners_of value m k branches
+first-left value m k branches branch committee each is stacked long wins =
+    first-kept (completes_some (branches ++ branch ∷ [])) (completes_some branches) branch.set (winners value m k) (winners-order value m k)
+    (winner-from_is value m k branch.set (set-best.candidates, set-best.size, set-best.best))
+    (recursion_from_All (AreTests (completes_some (branches ++ branch ∷ [])) (completes_some branches) branch.set) (winners value m k)
+    (λ i d inside. tests (get_or (winners value m k) i d) (winner-is value m k (get_or (winners value m k) i d) (Contains-get_or (winners value m k) i d inside))))
+    (last-some branches branch branch.set ∙ or-right (completes_some branches branch.set) (completes branch branch.set) (subst (λ l. completes branch l ≡ true) same wins.whole))
+  where
+    same : committee ≡ branch.set
+    same = whole-is value m k branch committee is long wins
+
+    set-best : IsBest value m k branch.set
+    set-best = subst (IsBest value m k) same wins.best
+
+    tests : (x : List ℕ) → IsIncreasing 1 m x × (length x ≡ k) × (value x ≡ best_value value m k) → AreTests (completes_some (branches ++ branch ∷ [])) (completes_some branches) branch.set x
+    tests x is-winner = record {
+      later = λ some. some-later m k branches branch.set x each (stacked-pop m branches branch stacked).1 long is-winner.0 is-winner.1 some;
+      only = λ passes. elim (or-cases (completes_some branches x) (completes branch x) (sym (last-some branches branch x) ∙ passes)) [
+        | inl some ↦ inr some
+        | inr whole ↦
+            inl (whole-is value m k branch x is long (record { best = record { candidates = is-winner.0; size = is-winner.1; best = is-winner.2 }; whole = whole }))
+      ];
+      more = λ some. last-some branches branch x ∙ or-left (completes_some branches x) (completes branch x) some;
+    }
+
+-- a branch that no winner completes leaves none
+pub barren-left : (value : List ℕ → ℕ) (m k : ℕ) (branches : List Branch) (branch : Branch) → IsBarren value m k branch → winners_of value m k (branches ++ branch ∷ []) ≡ winners_of value m k branches
+barren-left value m k branches branch none =
+    winners-same value m k (branches ++ branch ∷ []) branches
+    (λ committee best. last-some branches branch committee ∙ (ap (λ b. completes_some branches committee || b) (none committee best) ∙ or-none (completes_some branches committee)))
+
+-- ---- a search
+
+-- what a search finds is a winner
+pub found-answer : (value : List ℕ → ℕ) (m k : ℕ) (branch : Branch) → IsBranch m k branch → (answer : Option (List ℕ))
+    → MatchOption answer (IsOutOfReach value m branch.set branch.free (k - length branch.set) (best_value value m k)) (IsReaching value m branch.set branch.free (k - length branch.set) (best_value value m k))
+    → IsAnswer value m k branch answer
+found-answer value m k branch is None none = λ committee best. elim (cases_Bool (completes branch committee)) [
+  | inl whole ↦
+      let under : value committee < best_value value m k = none committee (completion-from m k branch committee is best.candidates best.size whole) in
+      absurd (omega (arith, under, best.best))
+  | inr out ↦ out
+]
+found-answer value m k branch is (Some committee) found =
+    let size : length committee ≡ k = omega (arith, found.completes.size, is.size) in
+    record {
+      best = record {
+        candidates = found.completes.candidates;
+        size = size;
+        best = omega (arith, found.reaches, no_greater_value value m k committee (increasing_lists-contains 1 m k committee (found.completes.candidates, size)));
+      };
+      whole = completes-from m branch (k - length branch.set) committee found.completes;
+    }
+
+-- a committee of the right size and value that completes the branch is a winner
+pub winner-from : (value : List ℕ → ℕ) (m k : ℕ) (branch : Branch) (committee : List ℕ) (last : ℕ) → IsBranch m k branch → IsIncreasing 1 last committee → length committee ≡ k
+    → completes branch committee ≡ true → best_value value m k ≤ value committee → IsWinnerOf value m k branch committee
+winner-from value m k branch committee last is up size whole reaches =
+    let up' = completes-up m k branch committee last is up whole in
+    record {
+      best = record {
+        candidates = up';
+        size = size;
+        best = omega (arith, reaches, no_greater_value value m k committee (increasing_lists-contains 1 m k committee (up', size)));
+      };
+      whole = whole;
+    }

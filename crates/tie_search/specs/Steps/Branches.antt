@@ -1,0 +1,115 @@
+-- Branches: sets that committees may begin with, and who may still join them; and the stack of those that the winners
+-- still to come complete.
+use Rattle.std.specs.Prelude.{◌≡◌, ℕ, ◌+◌, ◌-◌, ◌≤◌, ◌&&◌, Bool, true, false, List, [], ◌∷◌, ◌++◌, Option, ⊤, length, filter, MatchOption}
+use Rattle.std.specs.List.{AllByRecursion, list_any, range_with_len}
+use Rattle.ballot_base.specs.CandSet.{either_members, includes}
+use Rattle.ballot_base.specs.Lists.{IsIncreasing, later_than}
+use Rattle.tie_walk.specs.Winners.{winners}
+use Rattle.tie_search.specs.Tied.{IsAmong, IsBest}
+use Rattle.tie_search.specs.Steps.Searched.{IsSearched}
+use Rattle.tie_search.specs.declared.asking.Asking.{Asking}
+use Rattle.tie_search.specs.declared.best.Best.{Best}
+use Rattle.tie_search.specs.declared.branch.Branch.{Branch}
+use Rattle.tie_search.specs.declared.found.Tied.{Tied}
+
+-- whether the committee is the set of the branch and some of its free candidates
+abbrev pub completes : Branch → List ℕ → Bool
+completes branch committee =
+    includes committee branch.set && includes (either_members branch.set branch.free) committee
+
+-- whether it completes one of the branches
+abbrev pub completes_some : List Branch → List ℕ → Bool
+completes_some branches committee = list_any (λ branch. completes branch committee) branches
+
+-- the winners that complete one of the branches
+abbrev pub winners_of : (List ℕ → ℕ) → ℕ → ℕ → List Branch → List (List ℕ)
+winners_of value m k branches = filter (completes_some branches) (winners value m k)
+
+-- a branch of the committees of k of the candidates 1 to m: whoever is free comes after the members of the set
+pub record IsBranch (m k : ℕ) (branch : Branch) : Type 0 where
+  pub last : ℕ
+  pub within : last ≤ m
+  pub set_upto : IsIncreasing 1 last branch.set
+  pub free_after : IsIncreasing (last + 1) m branch.free
+  pub size : length branch.set ≤ k
+
+-- the set begins as the branch does, and goes on with a candidate before all who are free there
+pub record ComesBefore (m : ℕ) (set : List ℕ) (branch : Branch) : Type 0 where
+  pub next : ℕ
+  pub tail : List ℕ
+  pub begins : set ≡ branch.set ++ next ∷ tail
+  pub later : IsIncreasing (next + 1) m branch.free
+
+-- the set of each branch comes before those of the branches under it
+abbrev pub AreStacked : ℕ → List Branch → Type 0
+AreStacked m [] = ⊤
+AreStacked m (branch ∷ above) = AllByRecursion (λ other. ComesBefore m other.set branch) above × AreStacked m above
+
+-- the branches that the committees later than those with all of `front` and `rest` complete, as far as they have all of
+-- `front`
+unfoldable pub branches_after : ℕ → List ℕ → List ℕ → List Branch
+branches_after m front [] = []
+branches_after m front (n ∷ rest) =
+    record { set = front; free = range_with_len (n + 1) (m - n) } ∷ branches_after m (front ++ n ∷ []) rest
+
+-- a committee with the greatest value that completes the branch
+pub record IsWinnerOf (value : List ℕ → ℕ) (m k : ℕ) (branch : Branch) (committee : List ℕ) : Type 0 where
+  pub best : IsBest value m k committee
+  pub whole : completes branch committee ≡ true
+
+-- no committee with the greatest value completes the branch
+abbrev pub IsBarren : (List ℕ → ℕ) → ℕ → ℕ → Branch → Type 0
+IsBarren value m k branch = (committee : List ℕ) → IsBest value m k committee → completes branch committee ≡ false
+
+abbrev pub IsAnswer : (List ℕ → ℕ) → ℕ → ℕ → Branch → Option (List ℕ) → Type 0
+IsAnswer value m k branch answer = MatchOption answer (IsBarren value m k branch) (IsWinnerOf value m k branch)
+
+-- a committee of the list that completes the branch, or nothing if there is none
+abbrev pub IsListedAnswer : Tied → Branch → Option (List ℕ) → Type 0
+IsListedAnswer tied branch answer =
+    MatchOption answer
+    ((committee : List ℕ) → IsAmong tied.committees tied.len committee → completes branch committee ≡ false)
+    (λ committee. IsAmong tied.committees tied.len committee × (completes branch committee ≡ true))
+
+-- what is known of the committees of k with the greatest value is so
+abbrev pub KnowsBest : {S : Type 0} → (S → List ℕ → ℕ) → (S → ℕ) → Best S → Type 0
+KnowsBest value candidates best =
+    IsSearched (value best.search) (candidates best.search) best.m best.k best.value best.tied
+
+-- what is true of winners that are asked for
+pub record IsAsking {S : Type 0} (value : S → List ℕ → ℕ) (candidates : S → ℕ) (asking : Asking S) : Type 0 where
+  pub knows : KnowsBest value candidates asking.best
+  pub found_is : IsBest (value asking.best.search) asking.best.m asking.best.k asking.found
+  pub each : AllByRecursion (IsBranch asking.best.m asking.best.k) asking.branches.items
+  pub stacked : AreStacked asking.best.m asking.branches.items
+
+-- what is true on the way down from a branch to the first winner that completes it
+pub record IsOnTheWay {S : Type 0} (value : S → List ℕ → ℕ) (candidates : S → ℕ) (asking : Asking S) (branch : Branch)
+    : Type 0 where
+  pub asking_is : IsAsking value candidates asking
+  pub branch_is : IsBranch asking.best.m asking.best.k branch
+  pub stacked : AreStacked asking.best.m (asking.branches.items ++ branch ∷ [])
+  pub reached : IsWinnerOf (value asking.best.search) asking.best.m asking.best.k branch asking.found
+
+-- the winners still to come where these branches are left
+abbrev pub left_by : {S : Type 0} → (S → List ℕ → ℕ) → Best S → List Branch → List (List ℕ)
+left_by value best branches = winners_of (value best.search) best.m best.k branches
+
+-- all winners later than the start are still to come, and nothing was asked yet
+pub record IsBegun {S : Type 0} (value : S → List ℕ → ℕ) (candidates : S → ℕ) (best : Best S) (after : Option (List ℕ))
+    (asking : Asking S) : Type 0 where
+  pub asking_is : IsAsking value candidates asking
+  pub best_is : asking.best ≡ best
+  pub left : left_by value best asking.branches.items
+      ≡ later_than after (winners (value best.search) best.m best.k)
+  pub entered : asking.entered ≡ 0
+  pub questions : asking.questions ≡ 0
+
+-- what a question leaves as it was
+pub record Kept (S : Type 0) : Type 0 where
+  pub best : Best S
+  pub branches : List Branch
+  pub entered : ℕ
+
+abbrev pub kept : {S : Type 0} → Asking S → Kept S
+kept asking = record { best = asking.best; branches = asking.branches.items; entered = asking.entered }

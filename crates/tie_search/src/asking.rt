@@ -1,0 +1,233 @@
+//! Winners that are found by asking for them.
+//!
+//! The winners still to come complete the branches of a stack, the first of them the last branch. Whether a winner
+//! completes a branch is asked once. If one does, the way goes down to the first: the next free candidate joins if a
+//! winner has it, and otherwise leaves with its clones. At each candidate that joins, the branch without it is left on
+//! the stack.
+//!
+//! A clone may leave because it reaches no more: with the candidate in its place, a winner would stay one
+//! (`proofs/BranchLemmas.antt`).
+ghost use Rattle.std.specs.Prelude.{◌≡◌, ◌+◌, ◌<◌, ◌≤◌, ◌∷◌, ◌++◌, [], None, Some, true, false, length, option_to_list};
+ghost use Rattle.std.specs.List.{AllByRecursion, range_with_len};
+ghost use Rattle.ballot_base.specs.Limits.{most_candidates};
+ghost use Rattle.ballot_base.specs.Lists.{IsIncreasing};
+ghost use Rattle.tie_walk.specs.Winners.{IsStart};
+ghost use Rattle.tie_search.specs.Steps.Branches.{AreStacked, IsAnswer, IsAsking, IsBarren, IsBegun, IsBranch, IsOnTheWay, IsWinnerOf};
+ghost use Rattle.tie_search.specs.Steps.Branches.{KnowsBest, branches_after, kept, left_by};
+ghost use Rattle.tie_search.specs.declared.branch.Branch.{Branch};
+
+use crate::best::Best;
+use crate::branch::Branch;
+use crate::searchable::Searchable;
+use arrayvec::ArrayVec;
+use ballot_base::{CandSet, PLACES};
+
+/// The committees with the greatest value that are still to come.
+#[derive(Drop)]
+pub(crate) struct Asking<S: Searchable> {
+    pub(crate) best: Best<S>,
+    // One of them, the one that was found last.
+    found: CandSet,
+    pub(crate) branches: ArrayVec<Branch, PLACES>,
+    pub(crate) entered: u128,
+    pub(crate) questions: u128,
+}
+
+impl<S: Searchable> Asking<S> {
+    /// All are still to come.
+    pub(crate) fn all(best: Best<S>) -> Asking<S>
+        requires { KnowsBest S.value_of S.candidates best }
+        ensures begun { IsBegun S.value_of S.candidates best None result }
+    {
+        let branches = all_branches(best.m);
+        Asking::of(best, branches)
+    }
+
+    /// All that are later than the start are still to come.
+    pub(crate) fn after(best: Best<S>, start: CandSet) -> Asking<S>
+        requires knows { KnowsBest S.value_of S.candidates best }
+        requires start { IsStart best.m best.k (Some start) }
+        ensures begun { IsBegun S.value_of S.candidates best (Some start) result }
+    {
+        let branches = later_branches(start, best.m);
+        Asking::of(best, branches)
+    }
+
+    /// Those that complete the branches are still to come.
+    fn of(best: Best<S>, branches: ArrayVec<Branch, PLACES>) -> Asking<S>
+        requires knows { KnowsBest S.value_of S.candidates best }
+        requires each { AllByRecursion (IsBranch best.m best.k) branches.items }
+        requires stacked { AreStacked best.m branches.items }
+        ensures asking { IsAsking S.value_of S.candidates result }
+        ensures best { result.best ≡ best }
+        ensures branches { result.branches.items ≡ branches.items }
+        ensures entered { result.entered ≡ 0 }
+        ensures questions { result.questions ≡ 0 }
+    {
+        Asking {
+            found: best.tied.first(),
+            best,
+            branches,
+            entered: 0,
+            questions: 0,
+        }
+    }
+
+    /// The first of those still to come.
+    pub(crate) fn next(&mut self) -> Option<CandSet>
+        requires asking { IsAsking S.value_of S.candidates self.old }
+        ensures asking { IsAsking S.value_of S.candidates self.new }
+        ensures best { self.new.best ≡ self.old.best }
+        ensures first { left_by S.value_of self.old.best self.old.branches.items
+            ≡ option_to_list result ++ left_by S.value_of self.old.best self.new.branches.items }
+        ensures asked { self.new.questions ≤ self.old.questions + self.old.best.m + length self.old.branches.items }
+    {
+        while let Some(branch) = self.branches.pop() {
+            if self.reaches(&branch) {
+                return Some(self.first_of(branch));
+            }
+        }
+        None
+    }
+
+    /// The first that completes a branch, as the one that was found last does.
+    fn first_of(&mut self, branch: Branch) -> CandSet
+        requires way { IsOnTheWay S.value_of S.candidates self.old branch }
+        ensures asking { IsAsking S.value_of S.candidates self.new }
+        ensures best { self.new.best ≡ self.old.best }
+        ensures first { left_by S.value_of self.old.best (self.old.branches.items ++ branch ∷ [])
+            ≡ result ∷ left_by S.value_of self.old.best self.new.branches.items }
+        ensures asked { self.new.questions ≤ self.old.questions + length branch.free }
+    {
+        let mut branch = branch;
+        while branch.set.len() < self.best.k {
+            branch = self.below(branch);
+        }
+        branch.set
+    }
+
+    /// The branch below it with the first that completes it.
+    fn below(&mut self, branch: Branch) -> Branch
+        requires way { IsOnTheWay S.value_of S.candidates self.old branch }
+        requires short { length branch.set < self.old.best.k }
+        ensures way { IsOnTheWay S.value_of S.candidates self.new result }
+        ensures best { self.new.best ≡ self.old.best }
+        ensures left { left_by S.value_of self.old.best (self.new.branches.items ++ result ∷ [])
+            ≡ left_by S.value_of self.old.best (self.old.branches.items ++ branch ∷ []) }
+        ensures fewer { length result.free < length branch.free }
+        ensures asked { self.new.questions + length result.free ≤ self.old.questions + length branch.free }
+    {
+        let Branch { set, free } = branch;
+        let Some((next, others)) = free.split_first() else {
+            return Branch { set, free };
+        };
+        let with = Branch {
+            set: set.with(next),
+            free: others,
+        };
+        if self.found.has(next) || self.reaches(&with) {
+            self.enter(Branch { set, free: others });
+            return with;
+        }
+        // A clone in its place reaches no more.
+        let clones = self.best.search.clones().class(next);
+        Branch {
+            set,
+            free: others.minus(clones),
+        }
+    }
+
+    /// Leaves a branch on the stack, while the way goes down to a set of one more. No other step goes down, and only
+    /// this one raises the count of sets.
+    fn enter(&mut self, without: Branch)
+        requires room { length self.old.branches.items < most_candidates }
+        ensures best { self.new.best ≡ self.old.best }
+        ensures found { self.new.found ≡ self.old.found }
+        ensures branches { self.new.branches.items ≡ self.old.branches.items ++ without ∷ [] }
+        ensures questions { self.new.questions ≡ self.old.questions }
+    {
+        self.branches.push(without);
+        self.entered = self.entered.saturating_add(1);
+    }
+
+    /// Whether a committee with the greatest value completes the branch. If one does, it is the one found last.
+    fn reaches(&mut self, branch: &Branch) -> bool
+        requires asking { IsAsking S.value_of S.candidates self.old }
+        requires branch { IsBranch self.old.best.m self.old.best.k branch.now }
+        ensures yes { result ≡ true → IsWinnerOf (S.value_of self.old.best.search) self.old.best.m self.old.best.k
+            branch.now self.new.found }
+        ensures no { result ≡ false
+            → IsBarren (S.value_of self.old.best.search) self.old.best.m self.old.best.k branch.now }
+        ensures found { result ≡ false → self.new.found ≡ self.old.found }
+        ensures kept { kept self.new ≡ kept self.old }
+        ensures asked { self.new.questions ≤ self.old.questions + 1 }
+    {
+        let Some(winner) = self.winner_of(branch) else {
+            return false;
+        };
+        self.found = winner;
+        true
+    }
+
+    /// A committee with the greatest value that completes the branch.
+    fn winner_of(&mut self, branch: &Branch) -> Option<CandSet>
+        requires asking { IsAsking S.value_of S.candidates self.old }
+        requires branch { IsBranch self.old.best.m self.old.best.k branch.now }
+        ensures answer { IsAnswer (S.value_of self.old.best.search) self.old.best.m self.old.best.k branch.now result }
+        ensures found { self.new.found ≡ self.old.found }
+        ensures kept { kept self.new ≡ kept self.old }
+        ensures asked { self.new.questions ≤ self.old.questions + 1 }
+    {
+        if self.best.tied.are_all {
+            return self.best.listed(branch);
+        }
+        match self.best.shown(self.found, branch) {
+            Some(winner) => Some(winner),
+            None => self.ask(branch),
+        }
+    }
+
+    /// A committee with the greatest value that completes the branch, by a search. No other step searches.
+    fn ask(&mut self, branch: &Branch) -> Option<CandSet>
+        requires knows { KnowsBest S.value_of S.candidates self.old.best }
+        requires branch { IsBranch self.old.best.m self.old.best.k branch.now }
+        ensures answer { IsAnswer (S.value_of self.old.best.search) self.old.best.m self.old.best.k branch.now result }
+        ensures found { self.new.found ≡ self.old.found }
+        ensures kept { kept self.new ≡ kept self.old }
+        ensures asked { self.new.questions ≤ self.old.questions + 1 }
+    {
+        self.questions = self.questions.saturating_add(1);
+        self.best.find(branch)
+    }
+}
+
+/// The branch that all committees complete.
+fn all_branches(m: u8) -> ArrayVec<Branch, PLACES>
+    requires { m ≤ most_candidates }
+    ensures { (branch : Branch) × (result.items ≡ branch ∷ []) × (branch.set ≡ []) × (branch.free ≡ range_with_len 1 m) }
+{
+    let mut branches = ArrayVec::new();
+    branches.push(Branch {
+        set: CandSet::empty(),
+        free: CandSet::all(m),
+    });
+    branches
+}
+
+/// The branches that committees later than the start complete.
+fn later_branches(start: CandSet, m: u8) -> ArrayVec<Branch, PLACES>
+    requires most { m ≤ most_candidates }
+    requires candidates { IsIncreasing 1 m start }
+    ensures { result.items ≡ branches_after m [] start }
+{
+    let mut branches = ArrayVec::new();
+    let mut set = CandSet::empty();
+    for member in start.members() {
+        branches.push(Branch {
+            set,
+            free: CandSet::after(member, m),
+        });
+        set = set.with(member);
+    }
+    branches
+}

@@ -1,0 +1,160 @@
+//! The greatest value of a committee, and which branches a committee with it completes.
+//!
+//! If what is searched lists all committees with the greatest value, each question is answered from the list. Otherwise
+//! the greatest value is found by searches for more than the best known, until one finds nothing, and questions are
+//! answered by further searches.
+//!
+//! Before such a search three committees are tried: the one that was found last, the set with its last free candidates,
+//! and the one that was found last with clones in the place of others. They are tested by their members and value, so
+//! any may be tried.
+ghost use Rattle.std.specs.Prelude.{◌≡◌, ◌+◌, ◌≤◌, [], true, MatchOption, length, ⊤};
+ghost use Rattle.ballot_base.specs.Limits.{most_candidates};
+ghost use Rattle.ballot_base.specs.Lists.{IsIncreasing};
+ghost use Rattle.tie_walk.specs.Ceilings.{IsBound};
+ghost use Rattle.tie_walk.specs.Winners.{best_value};
+ghost use Rattle.tie_search.specs.Steps.Branches.{IsAnswer, IsBranch, IsListedAnswer, IsWinnerOf, KnowsBest};
+ghost use Rattle.tie_search.specs.Steps.Searched.{IsBetter};
+ghost use Rattle.tie_search.specs.Tied.{IsBest};
+
+use crate::branch::Branch;
+use crate::found::Tied;
+use crate::searchable::Searchable;
+use ballot_base::CandSet;
+
+/// What is searched, and what is known of the committees of k with the greatest value: that value, and some of the
+/// committees.
+#[derive(Drop)]
+pub(crate) struct Best<S: Searchable> {
+    pub(crate) search: S,
+    // The number of candidates.
+    pub(crate) m: u8,
+    pub(crate) k: u8,
+    pub(crate) value: u128,
+    pub(crate) tied: Tied,
+}
+
+impl<S: Searchable> Best<S> {
+    /// The greatest value of a committee of k is found by search. It takes no memory.
+    pub(crate) fn of(search: S, k: u8) -> Best<S>
+        requires some { 1 ≤ k }
+        requires fits { k ≤ S.candidates search }
+        ensures knows { KnowsBest S.value_of S.candidates result }
+        ensures search { result.search ≡ search }
+        ensures k { result.k ≡ k }
+    {
+        let m = search.m();
+        let tied = match search.tied(k) {
+            Some(tied) => tied,
+            None => Tied::one(best_committee(&search, k)),
+        };
+        Best {
+            value: search.value(tied.first()),
+            search,
+            m,
+            k,
+            tied,
+        }
+    }
+
+    /// A committee with the greatest value that completes the branch, from the list of all of them.
+    pub(crate) fn listed(&self, branch: &Branch) -> Option<CandSet>
+        requires { KnowsBest S.value_of S.candidates self.now }
+        ensures { IsListedAnswer self.now.tied branch.now result }
+    {
+        for i in 0..self.tied.len {
+            let committee = self.tied.committees[i];
+            if branch.is_completed_by(committee) {
+                return Some(committee);
+            }
+        }
+        None
+    }
+
+    /// Such a committee as far as it is shown without a search, `found` being one that was found before.
+    pub(crate) fn shown(&self, found: CandSet, branch: &Branch) -> Option<CandSet>
+        requires knows { KnowsBest S.value_of S.candidates self.now }
+        requires found { IsBest (S.value_of self.now.search) self.now.m self.now.k found }
+        requires branch { IsBranch self.now.m self.now.k branch.now }
+        ensures { MatchOption result ⊤ (IsWinnerOf (S.value_of self.now.search) self.now.m self.now.k branch.now) }
+    {
+        if branch.is_completed_by(found) {
+            return Some(found);
+        }
+        let latest = branch.latest(self.k);
+        if self.wins(latest, branch) {
+            return Some(latest);
+        }
+        let alike = branch.exchanged(self.search.clones(), found);
+        self.wins(alike, branch).then_some(alike)
+    }
+
+    /// Whether the committee has the greatest value and completes the branch.
+    fn wins(&self, committee: CandSet, branch: &Branch) -> bool
+        requires knows { KnowsBest S.value_of S.candidates self.now }
+        requires branch { IsBranch self.now.m self.now.k branch.now }
+        ensures { result ≡ true
+            → IsWinnerOf (S.value_of self.now.search) self.now.m self.now.k branch.now committee }
+    {
+        if committee.len() != self.k || !branch.is_completed_by(committee) {
+            return false;
+        }
+        self.search.value(committee) >= self.value
+    }
+
+    /// A committee with the greatest value that completes the branch, by a search.
+    pub(crate) fn find(&self, branch: &Branch) -> Option<CandSet>
+        requires knows { KnowsBest S.value_of S.candidates self.now }
+        requires branch { IsBranch self.now.m self.now.k branch.now }
+        ensures { IsAnswer (S.value_of self.now.search) self.now.m self.now.k branch.now result }
+    {
+        let left = self.k - branch.set.len();
+        self.search.find(branch.set, branch.free, left, self.value)
+    }
+}
+
+/// A committee of size k with the greatest value.
+fn best_committee<S: Searchable>(search: &S, k: u8) -> CandSet
+    requires some { 1 ≤ k }
+    requires most { k ≤ most_candidates }
+    requires fits { k ≤ S.candidates search.now }
+    ensures candidates { IsIncreasing 1 (S.candidates search.now) result }
+    ensures size { length result ≡ k }
+    ensures best { S.value_of search.now result ≡ best_value (S.value_of search.now) (S.candidates search.now) k }
+{
+    let most = search.bound(0, CandSet::empty(), k);
+    let mut best = first_committee(search, k);
+    while let Some(better) = better_than(search, best, k, most) {
+        best = better;
+    }
+    best
+}
+
+/// A committee of size k to begin with: the one that the tally knows, or else the first.
+fn first_committee<S: Searchable>(search: &S, k: u8) -> CandSet
+    requires some { 1 ≤ k }
+    requires most { k ≤ most_candidates }
+    requires fits { k ≤ S.candidates search.now }
+    ensures candidates { IsIncreasing 1 (S.candidates search.now) result }
+    ensures size { length result ≡ k }
+{
+    match search.good_committee(k) {
+        Some(committee) => committee,
+        None => CandSet::all(k),
+    }
+}
+
+/// A committee of size k with a greater value, if there is one. No committee of this size is worth more than `most`.
+fn better_than<S: Searchable>(search: &S, committee: CandSet, k: u8, most: u128) -> Option<CandSet>
+    requires candidates { IsIncreasing 1 (S.candidates search.now) committee }
+    requires most { IsBound (S.value_of search.now) (S.candidates search.now) 0 [] k most }
+    ensures { MatchOption result
+        (IsBound (S.value_of search.now) (S.candidates search.now) 0 [] k (S.value_of search.now committee))
+        (IsBetter (S.value_of search.now) (S.candidates search.now) k committee) }
+{
+    let value = search.value(committee);
+    if value >= most {
+        return None;
+    }
+    let all = CandSet::all(search.m());
+    search.find(CandSet::empty(), all, k, value + 1)
+}

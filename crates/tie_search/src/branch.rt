@@ -1,0 +1,69 @@
+//! Branches: sets that committees may begin with, and who may still join them.
+ghost use Rattle.std.specs.Prelude.{◌≡◌};
+ghost use Rattle.tie_search.specs.Steps.Branches.{completes};
+
+use ballot_base::{CandSet, Clones};
+
+/// A set of candidates, and later ones who may join it. A committee of the set and of some of these completes it.
+#[derive(Clone, Copy)]
+pub(crate) struct Branch {
+    pub(crate) set: CandSet,
+    pub(crate) free: CandSet,
+}
+
+impl Default for Branch {
+    fn default() -> Branch {
+        Branch {
+            set: CandSet::empty(),
+            free: CandSet::empty(),
+        }
+    }
+}
+
+impl Branch {
+    /// Whether the committee is the set and some of the free candidates.
+    pub(crate) fn is_completed_by(&self, committee: CandSet) -> bool
+        ensures { result ≡ completes self.now committee }
+    {
+        committee.includes(self.set) && self.set.union(self.free).includes(committee)
+    }
+
+    /// The set and its last free candidates, as many as make a committee of k. Any answer is right.
+    pub(crate) fn latest(&self, k: u8) -> CandSet {
+        self.set
+            .union(last_of(self.free, k.saturating_sub(self.set.len())))
+    }
+
+    /// A committee like another one that completes the branch: clones take the place of members who may not stay.
+    /// Returns the other committee if there are too few of them. Any answer is right.
+    pub(crate) fn exchanged(&self, clones: &Clones, committee: CandSet) -> CandSet {
+        let mut made = self.set;
+        let mut settled = CandSet::empty();
+        for member in committee.union(self.set).members() {
+            if settled.has(member) {
+                continue;
+            }
+            let class = clones.class(member);
+            let seats = committee.common(class).len();
+            let taken = self.set.common(class).len();
+            let open = class.common(self.free);
+            if seats < taken || open.len() < seats - taken {
+                return committee;
+            }
+            made = made.union(last_of(open, seats - taken));
+            settled = settled.union(class);
+        }
+        made
+    }
+}
+
+/// The last `count` members of the set, or all of them if there are fewer.
+fn last_of(set: CandSet, count: u8) -> CandSet {
+    let mut last = set;
+    for _passed in count..set.len() {
+        if let Some((_first, others)) = last.split_first() {
+            last = others;
+        }
+    }
+    last
+}

@@ -1,0 +1,105 @@
+//! The winners by search, one by one.
+//!
+//! `new` finds the greatest value (module `best`). Then each winner is asked for (module `asking`), so no walk goes over
+//! committees that do not win. `entered` and `questions` count the steps; only tests read them.
+ghost use Rattle.std.specs.Prelude.{◌≡◌, ◌≤◌};
+ghost use Rattle.std.specs.Iterator.{item_count};
+ghost use Rattle.ballot_base.specs.Lists.{later_than};
+ghost use Rattle.tie_walk.specs.Winners.{IsStart, best_value, winners};
+ghost use Rattle.tie_search.specs.Asked.{Asked, IsNextAsked};
+
+use crate::asking::Asking;
+use crate::best::Best;
+use crate::searchable::Searchable;
+use ballot_base::CandSet;
+use std::marker::Model;
+
+/// The winning committees of k, in lexicographic order: those whose value no other exceeds, each found by asking the
+/// search for it. Contracts see the search, k, and the list of the winners still to come.
+/// (Lackner and Skowron, Multi-Winner Voting with Approval Preferences)
+#[derive(Drop)]
+pub struct SearchWinners<S: Searchable> {
+    asking: Asking<S>,
+    after: Option<CandSet>,
+}
+
+impl<S: Searchable> Model for SearchWinners<S> {
+    ghost use Rattle.tie_search.specs.Asked.{Asked};
+    ghost use Rattle.tie_search.specs.Steps.Branches.{IsAsking, left_by};
+
+    ghost Value = { Asked S };
+
+    ghost view = { λ w. record {
+      search = w.asking.best.search;
+      k = w.asking.best.k;
+      after = w.after;
+      left = left_by S.value_of w.asking.best w.asking.branches.items;
+      entered = w.asking.entered;
+      questions = w.asking.questions;
+    } };
+
+    ghost invariant = { λ w. IsAsking S.value_of S.candidates w.asking };
+}
+
+impl<S: Searchable> SearchWinners<S> {
+    /// The winners among the committees of k that are later than `after`, any committee of k, which need not win; all
+    /// winners if it is None. The greatest value is that of all committees. Neither this nor `next` takes memory.
+    pub fn new(search: S, k: u8, after: Option<CandSet>) -> SearchWinners<S>
+        requires some { 1 ≤ k }
+        requires fits { k ≤ S.candidates search }
+        requires start { IsStart (S.candidates search) k after }
+        ensures search { result.search ≡ search }
+        ensures k { result.k ≡ k }
+        ensures after { result.after ≡ after }
+        ensures left { result.left ≡ later_than after (winners (S.value_of search) (S.candidates search) k) }
+        ensures entered { result.entered ≡ 0 }
+        ensures questions { result.questions ≡ 0 }
+    {
+        let best = Best::of(search, k);
+        match after {
+            Some(start) => SearchWinners {
+                asking: Asking::after(best, start),
+                after: Some(start),
+            },
+            None => SearchWinners {
+                asking: Asking::all(best),
+                after: None,
+            },
+        }
+    }
+
+    /// The greatest value that a committee has.
+    pub fn best(&self) -> u128
+        ensures { result ≡ best_value (S.value_of self.now.search) (S.candidates self.now.search) self.now.k }
+    {
+        self.asking.best.value
+    }
+
+    /// How many sets were entered so far on the ways down to winners: a set counts where a candidate joins it.
+    pub fn entered(&self) -> u128
+        ensures { result ≡ self.now.entered }
+    {
+        self.asking.entered
+    }
+
+    /// How many questions were asked so far for the winners: the calls of `Searchable::find`, but for those that found
+    /// the greatest value.
+    pub fn questions(&self) -> u128
+        ensures { result ≡ self.now.questions }
+    {
+        self.asking.questions
+    }
+}
+
+impl<S: Searchable + Drop> Iterator for SearchWinners<S> {
+    type Item = CandSet;
+
+    // The first of the winners left, or None if none is left, and what was asked then.
+    ghost next_gives = { IsNextAsked S S.candidates };
+
+    ghost remaining = { item_count (λ (a : Asked S). a.left) };
+
+    fn next(&mut self) -> Option<CandSet> {
+        self.asking.next()
+    }
+}
