@@ -8,7 +8,7 @@ use Rattle.ballot_base.specs.Ballots.{Row}
 use Rattle.ballot_base.specs.CommonMultiple.{common_multiple}
 use Rattle.ballot_base.specs.Increments.{increments}
 use Rattle.ballot_base.specs.declared.increments.ThieleRule.TheVariants.{Av, Pav}
-use Rattle.tie_walk.specs.Ceilings.{greatest_sum, gain_at, IsSubmodular, IsBound, IsAdded, IsTight, IsExactAtBest, IsNoBetter, IsShort, IsReach, ceiling, greatest_distance_upto, closeness_upto, Prefix, is_open, is_ahead, IsLive, live_below, live_count}
+use Rattle.tie_walk.specs.Ceilings.{greatest_sum, gain_at, IsSubmodular, IsBound, IsAdded, IsTight, IsExactAtBest, IsShort, IsReach, ceiling, greatest_distance_upto, closeness_upto, Prefix, is_open, is_ahead, IsLive, live_below, live_count}
 use Rattle.tie_walk.specs.Steps.Tables.{IsReachBySums, IsThreshold}
 use Rattle.tie_walk.specs.Values.{thiele_value, satisfaction_value}
 use Rattle.tie_walk.proofs.GreatestSums.{ceiling-whole}
@@ -140,10 +140,6 @@ sizes_short = (lit< tt, λ added up size. omega (arith, size))
 
 sizes_reach : IsReach (λ c set left. 3 - c) 3 [] 1 2 0 1
 sizes_reach = record { low = lit≤ tt; high = lit≤ tt; reached = λ n low high. omega (arith, high) }
-
--- one of those after 2 joins 2, or one of those after 1 joins 1
-sizes_no_better : IsNoBetter length (λ c set left. 4 - c) 3 1 2 (2 ∷ []) 1 (1 ∷ [])
-sizes_no_better = record { size = refl; lower = lit≤ tt; law = λ added up size. omega (arith, size) }
 
 -- of 3, 2 and 1, those after 1 have 2
 one_of_three : IsReachBySums (λ n. 4 - n) 1 3 1 2 1

@@ -3,7 +3,7 @@
 use Rattle.std.specs.Borrow.{Bor}
 use Rattle.std.proofs.Common.{sym, ◌≡◌, ℕ, ◌+◌, ◌*◌, List, [], ◌∷◌, true, false, refl, lit≤, lit<, Some, None, sum}
 use Rattle.ballot_base.specs.Lists.{lists_of}
-use Rattle.tie_walk.specs.Steps.Walks.{committees_below, committees_after, committees_from, IsPlace, IsPast, work_left, IsFound, those_reaching, open_below, open_after, open_from, Progress, IsStride, is_alive, waits_at, waits_after, waits_from, IsWait, IsRaised, IsBegun, IsCounted, IsKnown, IsLow, IsWalk, IsWinning, aim, aim_at, progress}
+use Rattle.tie_walk.specs.Steps.Walks.{committees_below, committees_after, committees_from, IsPlace, IsPast, work_left, IsFound, those_reaching, open_below, open_after, open_from, Progress, IsStride, is_alive, waits_at, waits_after, waits_from, IsWait, IsRaised, IsBegun, IsCounted, IsKnown, IsWalk, IsWinning, aim, aim_at, progress}
 use Rattle.tie_walk.specs.declared.prefix.Prefix.{Prefix}
 use Rattle.tie_walk.specs.declared.walk.Counts.{Counts}
 use Rattle.tie_walk.specs.declared.walk.Known.{Known}
@@ -148,18 +148,10 @@ known_of_one : IsKnown (λ c set left. 5) 3 2 5 (Some no_candidate_upto_one)
 unfolding no_candidate_upto_one
 known_of_one = record { low = lit≤ tt; high = lit≤ tt; reached = λ n low high. lit≤ tt }
 
--- without the first candidate, and a bound of 4
-no_candidate_of_one : Prefix
-no_candidate_of_one = record { c = 1; set = [] }
-
-low_without_one : IsLow (λ c set left. 4) 3 2 5 (Some no_candidate_of_one)
-unfolding no_candidate_of_one
-low_without_one = ((lit≤ tt, tt, lit≤ tt), lit< tt)
-
 -- a walk of a tally that shows its number of candidates
 module _ (three : Bor ℕ) (is : three.now ≡ 3) where
   first_walk : Walk ℕ
-  first_walk = record { tally = three; m = 3; k = 2; best = 5; place = Some with_one; counts = one_entered; levels = None ∷ []; lows = None ∷ [] }
+  first_walk = record { tally = three; m = 3; k = 2; best = 5; place = Some with_one; counts = one_entered; levels = None ∷ [] }
 
   pairs_of_five : aim first_walk ≡ aim_at three.now 3 2 5
   unfolding first_walk
@@ -178,7 +170,6 @@ module _ (three : Bor ℕ) (is : three.now ≡ 3) where
     fits = lit≤ tt;
     place_is = (lit≤ tt, (lit≤ tt, lit≤ tt, tt), lit≤ tt);
     known = (tt, tt);
-    lows_are = (tt, tt);
   }
 
   winning_pairs : IsWinning (λ m. m) (λ m. bound_of_three) None first_walk

@@ -67,14 +67,6 @@ pub record IsReach (bound : ℕ → List ℕ → ℕ → ℕ) (m : ℕ) (set : L
   pub high : last + left ≤ m
   pub reached : (n : ℕ) → c ≤ n → n ≤ last → best ≤ bound n set left
 
--- The bound of a set of the candidates 1 to c is no greater than that of another set of as many of the candidates 1 to
--- d, if `left` join either.
-pub record IsNoBetter (value : List ℕ → ℕ) (bound : ℕ → List ℕ → ℕ → ℕ) (m left c : ℕ) (set : List ℕ) (d : ℕ)
-    (other : List ℕ) : Type 0 where
-  pub size : length set ≡ length other
-  pub lower : bound c set left ≤ bound d other left
-  pub law : IsBound value m c set left (bound c set left)
-
 pub record Prefix : Type 0 where
   pub c : ℕ
   pub set : List ℕ

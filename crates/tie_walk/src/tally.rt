@@ -8,10 +8,9 @@ ghost use Rattle.std.specs.List.{range_with_len};
 ghost use Rattle.ballot_base.specs.CandSet.{has_member};
 ghost use Rattle.ballot_base.specs.Limits.{most_candidates};
 ghost use Rattle.ballot_base.specs.Lists.{IsIncreasing};
-ghost use Rattle.tie_walk.specs.Ceilings.{IsBound, IsExactAtBest, IsNoBetter, IsShort, IsReach, greatest_sum};
+ghost use Rattle.tie_walk.specs.Ceilings.{IsBound, IsExactAtBest, IsShort, IsReach, greatest_sum};
 ghost use Rattle.tie_walk.specs.Steps.Tables.{sum_of_worths, IsReachBySums, IsThreshold};
 
-use crate::prefix::Prefix;
 use ballot_base::{CandSet, MOST_CANDIDATES, PLACES};
 
 /// What gives a committee its value.
@@ -60,20 +59,6 @@ pub trait Tally {
             return None;
         }
         Some(c)
-    }
-
-    /// Whether the bound of a prefix is known to be no greater than that of another one with as many members. Then a
-    /// walk that found the other one's too low does not ask for this one's.
-    fn is_no_better(&self, prefix: Prefix, than: Prefix, left: u8) -> bool
-        requires within { prefix.c ≤ candidates self.now }
-        requires candidates { IsIncreasing 1 prefix.c prefix.set }
-        requires fits { left ≤ candidates self.now - prefix.c }
-        requires than_within { than.c ≤ candidates self.now }
-        requires than_candidates { IsIncreasing 1 than.c than.set }
-        ensures { result ≡ true → IsNoBetter (value_of self.now) (bound_of self.now) (candidates self.now) left
-            prefix.c prefix.set than.c than.set }
-    {
-        false
     }
 
     /// Whether the bounds for committees of k are known to be exact at a value: if one reaches it, some committee below

@@ -2,8 +2,7 @@
 //! whose bound reaches it; and the counts of its steps.
 //!
 //! Below one set candidates are removed one after another, so the walk asks `Tally::reach` once how far the bounds of
-//! the set reach, and keeps the answer for each number of members. If a bound is too low, the walk keeps the prefix. It
-//! does not ask for the bound of another one that is no better (`Tally::is_no_better`).
+//! the set reach, and keeps the answer for each number of members.
 //!
 //! `proofs/WalkLemmas.antt` shows that what the walk leaves out has no winner, `LiveLemmas.antt` and `OpenLemmas.antt`
 //! that each prefix it enters is live.
@@ -12,7 +11,7 @@ ghost use Rattle.ballot_base.specs.Limits.{most_candidates};
 ghost use Rattle.ballot_base.specs.Lists.{IsIncreasing};
 ghost use Rattle.tie_walk.specs.Ceilings.{IsShort, IsExactAtBest, is_open};
 ghost use Rattle.tie_walk.specs.Steps.Walks.{committees_below, IsPlace, work_left, those_reaching};
-ghost use Rattle.tie_walk.specs.Steps.Walks.{AreKnown, AreLow, IsKnown, IsLow, IsWalk, IsStride, IsRaised, IsWait, IsBegun, aim, aim_at, progress};
+ghost use Rattle.tie_walk.specs.Steps.Walks.{AreKnown, IsKnown, IsWalk, IsStride, IsRaised, IsWait, IsBegun, aim, aim_at, progress};
 ghost use Rattle.tie_walk.specs.Winners.{IsStart};
 
 use crate::prefix::Prefix;
@@ -38,9 +37,6 @@ pub(crate) struct Known {
 /// candidate after another below the same sets.
 type Levels = [Option<Known>; PLACES];
 
-/// For each number of members, the prefix with so many whose bound was the last to be too low.
-type Lows = [Option<Prefix>; PLACES];
-
 /// A walk over the committees of k of the tally's m candidates whose value reaches the best: where it goes on, what it
 /// has counted, and what it knows of bounds.
 #[derive(Drop)]
@@ -52,7 +48,6 @@ pub(crate) struct Walk<'a, T: Tally> {
     pub(crate) place: Option<Prefix>,
     pub(crate) counts: Counts,
     levels: Levels,
-    lows: Lows,
 }
 
 impl<'a, T: Tally> Walk<'a, T> {
@@ -78,7 +73,6 @@ impl<'a, T: Tally> Walk<'a, T> {
                 ceilings: 0,
             },
             levels: [None; PLACES],
-            lows: [None; PLACES],
         }
     }
 
@@ -105,13 +99,7 @@ impl<'a, T: Tally> Walk<'a, T> {
             return true;
         }
         let left = self.k - set.len();
-        if let Some(low) = last_low(&self.lows, set) {
-            if self.tally.is_no_better(Prefix { c, set }, low, left) {
-                return false;
-            }
-        }
         let Some(last) = self.tally.reach(c, set, left, self.best) else {
-            keep_low(&mut self.lows, Prefix { c, set });
             return false;
         };
         let first = c;
@@ -272,23 +260,6 @@ fn keep(levels: &mut Levels, known: Known)
 {
     let len = known.set.len();
     levels[usize::from(len)] = Some(known);
-}
-
-/// The prefix with as many members as the set whose bound was the last to be too low.
-fn last_low(lows: &Lows, set: CandSet) -> Option<Prefix>
-    ensures { (bound : ℕ → List ℕ → ℕ → ℕ) (m k best : ℕ) → AreLow bound m k best lows.now
-        → IsLow bound m k best result }
-{
-    lows[usize::from(set.len())]
-}
-
-/// Keeps a prefix whose bound is too low, in place of another one with as many members.
-fn keep_low(lows: &mut Lows, prefix: Prefix)
-    ensures { (bound : ℕ → List ℕ → ℕ → ℕ) (m k best : ℕ) → AreLow bound m k best lows.old
-        → IsLow bound m k best (Some prefix) → AreLow bound m k best lows.new }
-{
-    let len = prefix.set.len();
-    lows[usize::from(len)] = Some(prefix);
 }
 
 /// The first prefix below one that is no whole committee: with the next candidate, where there is room for one.

@@ -159,15 +159,6 @@ IsKnown bound m k best (Some known) = IsReach bound m known.set (k - length know
 abbrev pub AreKnown : (ℕ → List ℕ → ℕ → ℕ) → ℕ → ℕ → ℕ → List (Option Known) → Type 0
 AreKnown bound m k best levels = AllByRecursion (IsKnown bound m k best) levels
 
--- what is known of a prefix whose bound for committees of k is too low
-abbrev pub IsLow : (ℕ → List ℕ → ℕ → ℕ) → ℕ → ℕ → ℕ → Option Prefix → Type 0
-IsLow bound m k best None = ⊤
-IsLow bound m k best (Some prefix) =
-    IsPlace m k (Some prefix) × (bound prefix.c prefix.set (k - length prefix.set) < best)
-
-abbrev pub AreLow : (ℕ → List ℕ → ℕ → ℕ) → ℕ → ℕ → ℕ → List (Option Prefix) → Type 0
-AreLow bound m k best lows = AllByRecursion (IsLow bound m k best) lows
-
 -- what is true of each walk over the committees of k of a tally's candidates
 pub record IsWalk {T : Type 0} (candidates : T → ℕ) (bound : T → ℕ → List ℕ → ℕ → ℕ) (walk : Walk T) : Type 0 where
   pub m_is : walk.m ≡ candidates walk.tally.now
@@ -176,7 +167,6 @@ pub record IsWalk {T : Type 0} (candidates : T → ℕ) (bound : T → ℕ → L
   pub fits : walk.k ≤ walk.m
   pub place_is : IsPlace walk.m walk.k walk.place
   pub known : AreKnown (bound walk.tally.now) walk.m walk.k walk.best walk.levels
-  pub lows_are : AreLow (bound walk.tally.now) walk.m walk.k walk.best walk.lows
 
 -- what is true of a walk over the winners after a start
 pub record IsWinning {T : Type 0} (candidates : T → ℕ) (bound : T → ℕ → List ℕ → ℕ → ℕ) (after : Option (List ℕ))

@@ -60,7 +60,6 @@ returns-then-not-enter-clause-walk g c =
       fits = w.fits;
       place_is = place-past c.enter.new.self.m c.enter.new.self.k prefix c.past-walk.result here c.past-walk.ensures;
       known = w.known;
-      lows_are = w.lows_are;
     }
 
 pub returns-then-not-enter-clause-begun : goal.returns-then-not-enter-clause-begun
