@@ -8,7 +8,7 @@ ghost use Rattle.std.specs.List.{range_with_len};
 ghost use Rattle.ballot_base.specs.CandSet.{has_member};
 ghost use Rattle.ballot_base.specs.Limits.{most_candidates};
 ghost use Rattle.ballot_base.specs.Lists.{IsIncreasing};
-ghost use Rattle.tie_walk.specs.Ceilings.{IsBound, IsExactAtBest, IsShort, IsReach, greatest_sum};
+ghost use Rattle.tie_walk.specs.Ceilings.{IsBound, IsShort, IsReach, greatest_sum};
 ghost use Rattle.tie_walk.specs.Steps.Tables.{sum_of_worths, IsReachBySums, IsThreshold};
 
 use ballot_base::{CandSet, MOST_CANDIDATES, PLACES};
@@ -59,15 +59,6 @@ pub trait Tally {
             return None;
         }
         Some(c)
-    }
-
-    /// Whether the bounds for committees of k are known to be exact at a value: if one reaches it, some committee below
-    /// has at least that value. Then a walk asks for no values of the committees that it reaches.
-    fn is_exact_at(&self, k: u8, best: u128) -> bool
-        ensures { result ≡ true
-            → IsExactAtBest (value_of self.now) (bound_of self.now) (candidates self.now) k best }
-    {
-        false
     }
 
     /// A committee of k to begin with, where the tally knows a good one: the search for the greatest value passes over

@@ -8,7 +8,6 @@
 //! that each prefix it enters is live.
 ghost use Rattle.std.specs.Prelude.{◌≡◌, ℕ, ◌+◌, ◌-◌, ◌*◌, ◌^◌, ◌<◌, ◌≤◌, true, false, [], ◌∷◌, ◌++◌, List, None, Some, length, if◌then◌else◌};
 ghost use Rattle.ballot_base.specs.Limits.{most_candidates};
-ghost use Rattle.ballot_base.specs.Lists.{IsIncreasing};
 ghost use Rattle.tie_walk.specs.Ceilings.{IsShort, IsExactAtBest, is_open};
 ghost use Rattle.tie_walk.specs.Steps.Walks.{committees_below, IsPlace, work_left, those_reaching};
 ghost use Rattle.tie_walk.specs.Steps.Walks.{AreKnown, IsKnown, IsWalk, IsStride, IsRaised, IsWait, IsBegun, aim, aim_at, progress};
@@ -164,7 +163,7 @@ impl<'a, T: Tally> Walk<'a, T> {
             return None;
         }
         self.place = Prefix { c, set }.past();
-        has_best(tally, k, best, set).then_some(set)
+        (tally.value(set) >= best).then_some(set)
     }
 
     /// The next winner from where the walk stands.
@@ -226,17 +225,6 @@ impl<'a, T: Tally> Walk<'a, T> {
         walk.place = Prefix { c: m, set: start }.past();
         walk
     }
-}
-
-/// Whether a whole committee whose bound reaches the best value has that value. If bounds are exact there, it has.
-fn has_best<T: Tally>(tally: &T, k: u8, best: u128, set: CandSet) -> bool
-    requires candidates { IsIncreasing 1 (T.candidates tally.now) set }
-    requires whole { length set ≡ k }
-    requires open { is_open (T.bound_of tally.now) (T.candidates tally.now) k best (T.candidates tally.now) set ≡ true }
-    ensures yes { result ≡ true → best ≤ T.value_of tally.now set }
-    ensures no { result ≡ false → T.value_of tally.now set < best }
-{
-    tally.is_exact_at(k, best) || tally.value(set) >= best
 }
 
 /// Whether the bound of a prefix is known to reach the best value.

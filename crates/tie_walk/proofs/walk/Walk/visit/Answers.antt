@@ -1,9 +1,9 @@
-use Rattle.std.proofs.Common.{◌≡◌, ℕ, ◌+◌, ◌<◌, ◌≤◌, ◌∙◌, Bool, true, false, cond, List, [], ◌∷◌, ◌++◌, Option, Some, refl, sym, ap, arith, length}
+use Rattle.std.proofs.Common.{◌≡◌, ℕ, ◌+◌, ◌≤◌, ◌∙◌, Bool, true, false, cond, List, [], ◌∷◌, ◌++◌, Option, Some, refl, sym, ap, arith, length}
 use Rattle.std.proofs.lemmas.Grind.{common_steps}
 use Rattle.std.specs.Bool.{then_some}
 use Rattle.std.specs.Prelude.{option_to_list}
 use Rattle.std.specs.Prelude.{nat_le}
-use Rattle.std.proofs.lemmas.Bool.{le-leb, lt-leb}
+use Rattle.std.proofs.lemmas.Bool.{leb-false}
 use Rattle.tie_walk.specs.declared.prefix.Prefix.{Prefix}
 use Rattle.tie_walk.specs.declared.walk.Counts.{Counts}
 use Rattle.tie_walk.specs.Steps.Walks.{Progress, IsWait, committees_from, those_reaching, waits_from}
@@ -11,10 +11,6 @@ use Rattle.tie_walk.proofs.WalkLemmas.{place-past, work-past}
 use Rattle.tie_walk.proofs.OpenLemmas.{reaching-past, reaching-whole, from-first, open-sizes, passed, entered-first, entered-last}
 use Rattle.tie_walk.proofs.WaitLemmas.{alive-none, alive-open, alive-whole, waits-some, wait-past, wait-first}
 use Rattle.tie_walk.proofs.walk.Walk.visit.Goals as goal
-
-high_by : (best value : ℕ) (b : Bool) → (b ≡ true → best ≤ value) → (b ≡ false → value < best) → nat_le best value ≡ b
-high_by best value true high low = le-leb best value (high refl)
-high_by best value false high low = lt-leb best value (low refl)
 
 found_by : (b : Bool) (set : List ℕ) → option_to_list (then_some b set) ≡ cond b (set ∷ []) []
 found_by true set = refl
@@ -73,8 +69,8 @@ returns-clause-stride g c =
     let entered = sym c.enter.ensures.open ∙ c.if-not-enter.false in
     let sizes = open-sizes bound c.args.self.now.m c.args.self.now.k c.args.self.now.best p.c p.set entered in
     let full : length p.set ≡ c.args.self.now.k = omega (arith, sizes, c.if-c-m.false) in
-    let found = ap (λ b. cond b (p.set ∷ []) []) (high_by c.args.self.now.best (value p.set) c.has_best.result c.has_best.ensures.yes c.has_best.ensures.no)
-    ∙ sym (ap option_to_list c.then_some.ensures ∙ found_by c.has_best.result p.set) in
+    let found = ap (λ n. cond (nat_le c.args.self.now.best n) (p.set ∷ []) []) (sym c.value.ensures)
+    ∙ sym (ap option_to_list c.then_some.ensures ∙ found_by (nat_le c.args.self.now.best c.value.result) p.set) in
     let count = entered-last bound c.args.self.now.m c.args.self.now.k c.args.self.now.best p next c.past-self-2.ensures (omega (arith, c.if-c-m.false)) entered in
     record {
       next = reaching-whole value c.args.self.now.best c.args.self.now.m c.args.self.now.k p next c.past-self-2.ensures full
@@ -147,7 +143,7 @@ returns-clause-wait g c exact =
     let high = alive-whole value m k best p.c p.set full alive in
     let some = waits-some value m k best p in
     rw c.then_some.ensures
-    (wait_by value m k best (Some p) c.args.self.now.counts _ p.set c.has_best.result (λ _. omega (arith, c.enter.ensures.once, some)) (λ short. omega (arith, high, c.has_best.ensures.no short)))
+    (wait_by value m k best (Some p) c.args.self.now.counts _ p.set (nat_le best c.value.result) (λ _. omega (arith, c.enter.ensures.once, some)) (λ short. omega (arith, high, c.value.ensures, leb-false best c.value.result short)))
 
 pub returns-then-not-enter-clause-walk : goal.returns-then-not-enter-clause-walk
 returns-then-not-enter-clause-walk g c = grind (arith, common_steps)
