@@ -10,7 +10,7 @@ mod best;
 mod good;
 pub mod laws;
 pub mod minimax;
-pub mod prefix;
+mod prefix;
 pub mod satisfaction;
 pub mod sequential;
 pub mod tally;
@@ -19,7 +19,6 @@ mod walk;
 pub mod winners;
 
 pub use minimax::MinimaxTally;
-pub use prefix::Prefix;
 pub use satisfaction::SavTally;
 pub use sequential::{SeqRule, SeqWinners, add_to_members};
 pub use tally::Tally;

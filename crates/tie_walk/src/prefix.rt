@@ -8,9 +8,9 @@ use ballot_base::CandSet;
 
 /// The decision on each of the candidates 1 to c: those of the set are members, the others are not.
 #[derive(Clone, Copy)]
-pub struct Prefix {
-    pub c: u8,
-    pub set: CandSet,
+pub(crate) struct Prefix {
+    pub(crate) c: u8,
+    pub(crate) set: CandSet,
 }
 
 impl Prefix {
