@@ -1,8 +1,8 @@
 //! The trait `Tally`: what gives a committee its value, and bounds what its completions can have.
 //!
 //! A walk knows of its tally only what the trait says: the value of a set, the law of the bound, and what `reach`
-//! answers about bounds. So one walk serves rules with plain bounds, bounds found by search, and families of
-//! committees. A sum of the greatest gains is found from the least of them, without sorting.
+//! answers about bounds. So one walk serves rules with plain bounds and families of committees. A sum of the greatest
+//! gains is found from the least of them, without sorting.
 ghost use Rattle.std.specs.Prelude.{◌≡◌, ℕ, ◌+◌, ◌-◌, ◌*◌, ◌^◌, ◌<◌, ◌≤◌, List, [], MatchOption, ⊤, filter, length, nat_le, slice_index, sum_by, true};
 ghost use Rattle.std.specs.List.{range_with_len};
 ghost use Rattle.ballot_base.specs.CandSet.{has_member};
