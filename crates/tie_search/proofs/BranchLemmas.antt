@@ -9,20 +9,20 @@ use Rattle.std.proofs.lemmas.List.Elements.{Contains-get_or, recursion_from_All}
 use Rattle.std.proofs.lemmas.List.Folds.{list_any-append}
 use Rattle.ballot_base.specs.Lists.{IsIncreasing, IsLater, AreInOrder, is_later, later_than}
 use Rattle.ballot_base.specs.CandSet.{either_members, has_member, includes, other_members, with_member, without_member}
-use Rattle.ballot_base.proofs.Committees.{increasing_lists-contains}
+use Rattle.ballot_base.proofs.Committees.{increasing_lists-contains, length-increasing}
 use Rattle.ballot_base.proofs.FirstMember.{slice_cmp_same}
 use Rattle.ballot_base.proofs.Increasing.{IsIncreasing-either, IsIncreasing-filter, IsIncreasing-higher, IsIncreasing-lower, has_member-above, has_member-below, has_member-either, has_member-filter, has_member-with_member, has_member_head, same_increasing, with_member-above}
-use Rattle.ballot_base.proofs.Later.{IsLater-from_parts, is_later-earlier, is_later-self}
+use Rattle.ballot_base.proofs.Later.{IsLater-from_parts, filter-all, is_later-earlier, is_later-self}
 use Rattle.tie_walk.specs.Winners.{best_value, winners}
-use Rattle.tie_walk.proofs.LawLemmas.{no_greater_value, winner-from_is, winner-is, winners-order}
+use Rattle.tie_walk.proofs.LawLemmas.{IsIncreasing-range, no_greater_value, winner-from_is, winner-is, winners-order}
 use Rattle.tie_walk.proofs.StepLemmas.{has_member-range}
 use Rattle.tie_walk.proofs.WinnersLemmas.{same_filter}
 use Rattle.tie_search.specs.Completions.{AreAlike, IsCompletion, IsNode, IsOutOfReach, IsReaching}
 use Rattle.tie_search.specs.Tied.{IsBest}
 use Rattle.tie_search.specs.Steps.Branches.{AreStacked, ComesBefore, IsAnswer, IsBarren, IsBranch, IsWinnerOf, branches_after, completes, completes_some, winners_of}
 use Rattle.tie_search.specs.declared.branch.Branch.{Branch}
-use Rattle.tie_search.proofs.CloneLemmas.{clones-left}
-use Rattle.tie_search.proofs.CompletionLemmas.{added, added-free, added-size, completion-back, completion-members, completion-whole, member-high, member-low, without-is}
+use Rattle.tie_search.proofs.CloneLemmas.{clones-left, minus-is, minus-most}
+use Rattle.tie_search.proofs.CompletionLemmas.{added, added-free, added-size, completion-back, completion-few, completion-members, completion-whole, member-high, member-low, without-is}
 use Rattle.tie_search.proofs.ReachLemmas.{increasing-append}
 
 -- ---- tests
@@ -558,3 +558,150 @@ winner-from value m k branch committee last is up size whole reaches =
       };
       whole = whole;
     }
+
+-- ---- one step down
+
+-- the stack is no higher than the set is large
+pub stack-size : (m : ℕ) (branches : List Branch) (branch : Branch) (least : ℕ) → AreStacked m (branches ++ branch ∷ [])
+    → AllByRecursion (λ (other : Branch). least ≤ length other.set) (branches ++ branch ∷ []) → least + length branches ≤ length branch.set
+stack-size m [] branch least stacked each = omega (arith, each.0)
+stack-size m (first ∷ branches) branch least stacked each =
+    omega (arith, stack-size m branches branch (least + 1) stacked.1 (larger (branches ++ branch ∷ []) stacked.0))
+  where
+    larger : (bs : List Branch) → AllByRecursion (λ (other : Branch). ComesBefore m other.set first) bs → AllByRecursion (λ (other : Branch). least + 1 ≤ length other.set) bs
+    larger [] before = tt
+    larger (b ∷ bs) before = (
+      omega (arith, each.0, ap length before.0.begins, length-append first.set (before.0.next ∷ before.0.tail)),
+      larger bs before.1,
+    )
+
+pub all-least : (branches : List Branch) → AllByRecursion (λ (other : Branch). 0 ≤ length other.set) branches
+all-least [] = tt
+all-least (b ∷ bs) = (omega arith, all-least bs)
+
+module _ (value : List ℕ → ℕ) (m k : ℕ) (branches : List Branch) (branch : Branch) (is : IsBranch m k branch) (stacked : AreStacked m (branches ++ branch ∷ [])) (next : ℕ) (rest : List ℕ)
+    (first : branch.free ≡ next ∷ rest) where
+  abbrev pub without : Branch
+  without = record { set = branch.set; free = rest }
+
+  abbrev pub with' : Branch
+  with' = record { set = with_member branch.set next; free = rest }
+
+  -- the candidate joins
+  pub joined-stacked : AreStacked m ((branches ++ without ∷ []) ++ with' ∷ [])
+  joined-stacked =
+      let parts = stacked-pop m branches branch stacked in
+      stacked-push m (branches ++ without ∷ []) with' (stacked-push m branches without parts.0 parts.1)
+      (all-append (ComesBefore m with'.set) branches without
+      (subst (λ l. AreBefore m l branches) (sym (grown-is m k branch is next rest first)) (before-more m branch.set (next ∷ []) branches parts.1))
+      (with-before m k branch is next rest first))
+
+  pub joined-left : winners_of value m k ((branches ++ without ∷ []) ++ with' ∷ []) ≡ winners_of value m k (branches ++ branch ∷ [])
+  joined-left =
+      winners-same value m k ((branches ++ without ∷ []) ++ with' ∷ []) (branches ++ branch ∷ [])
+      (λ committee best.
+        last-some (branches ++ without ∷ []) with' committee
+        ∙ (ap (λ b. b || completes with' committee) (last-some branches without committee)
+        ∙ (or-assoc (completes_some branches committee) (completes without committee) (completes with' committee)
+        ∙ (ap (λ b. completes_some branches committee || b) (sym (split-same m k branch is next rest first committee))
+        ∙ sym (last-some branches branch committee)))))
+    where
+      or-assoc : (a b c : Bool) → ((a || b) || c) ≡ (a || (b || c))
+      or-assoc true b c = refl
+      or-assoc false b c = refl
+
+  -- the candidate leaves with its clones
+  module _ (classes : List (List ℕ)) (short : length branch.set < k) (alike : AreAlike value m classes) (none : IsBarren value m k with') where
+    abbrev pub left-over : Branch
+    left-over = record { set = branch.set; free = other_members rest (slice_index_or classes next []) }
+
+    pub left-branch : IsBranch m k left-over
+    left-branch =
+        let less = without-branch m k branch is next rest first in
+        record {
+          last = less.last;
+          within = less.within;
+          set_upto = less.set_upto;
+          free_after = IsIncreasing-filter (λ x. not (has_member (slice_index_or classes next []) x)) (less.last + 1) m rest less.free_after;
+          size = less.size;
+        }
+
+    pub left-stacked : AreStacked m (branches ++ left-over ∷ [])
+    left-stacked = let parts = stacked-pop m branches branch stacked in stacked-push m branches left-over parts.0 parts.1
+
+    pub left-completes : (committee : List ℕ) → IsBest value m k committee → completes branch committee ≡ completes left-over committee
+    left-completes committee best = same-answers (completes branch committee) (completes left-over committee)
+        (left-out value m k branch is next rest first classes short alike none committee best)
+        (λ whole.
+          let less = completion-from m k left-over committee left-branch best.candidates best.size whole in
+          completes-from m branch (k - length branch.set) committee (record {
+            candidates = less.candidates;
+            whole = less.whole;
+            within = λ x here. or-more (has_member branch.set x) (has_member left-over.free x) (has_member branch.free x) (among x) (less.within x here);
+            size = less.size;
+          }))
+      where
+        or-more : (p q r : Bool) → (q ≡ true → r ≡ true) → (p || q) ≡ true → (p || r) ≡ true
+        or-more true q r h holds = refl
+        or-more false q r h holds = h holds
+
+        among : (x : ℕ) → has_member left-over.free x ≡ true → has_member branch.free x ≡ true
+        among x here = ap (λ l. has_member l x) first ∙ or-right (next == x) (has_member rest x) (minus-is rest (slice_index_or classes next []) x here)
+
+    pub left-left : winners_of value m k (branches ++ left-over ∷ []) ≡ winners_of value m k (branches ++ branch ∷ [])
+    left-left =
+        winners-same value m k (branches ++ left-over ∷ []) (branches ++ branch ∷ [])
+        (λ committee best. last-some branches left-over committee ∙ (ap (λ b. completes_some branches committee || b) (sym (left-completes committee best)) ∙ sym (last-some branches branch committee)))
+
+    pub left-fewer : length left-over.free < length branch.free
+    left-fewer = omega (arith, minus-most rest (slice_index_or classes next []), ap length first)
+
+-- somebody is free where a winner needs more members
+pub some-free : (value : List ℕ → ℕ) (m k : ℕ) (branch : Branch) (committee : List ℕ) → IsBranch m k branch → length branch.set < k → IsWinnerOf value m k branch committee → branch.free ≡ [] → ⊥
+some-free value m k branch committee is short wins none =
+    let few = completion-few m branch.set branch.free (k - length branch.set) committee (branch-node m k branch is)
+    (completion-from m k branch committee is wins.best.candidates wins.best.size wins.whole) in
+    omega (arith, few, short, ap length none)
+
+-- no more candidates are free than there are
+pub free-most : (m k : ℕ) (branch : Branch) → IsBranch m k branch → length branch.free ≤ m
+free-most m k branch is = omega (arith, length-increasing (is.last + 1) m branch.free is.free_after, is.within)
+
+-- ---- the beginning
+
+-- all committees complete the branch of all
+pub all-left : (value : List ℕ → ℕ) (m k : ℕ) (branch : Branch) → branch.set ≡ [] → branch.free ≡ range_with_len 1 m → winners_of value m k (branch ∷ []) ≡ winners value m k
+all-left value m k branch none all =
+    filter-all (completes_some (branch ∷ [])) (winners value m k)
+    (recursion_from_All (λ set. completes_some (branch ∷ []) set ≡ true) (winners value m k)
+    (λ i d inside. whole (get_or (winners value m k) i d) (winner-is value m k (get_or (winners value m k) i d) (Contains-get_or (winners value m k) i d inside)).0))
+  where
+    whole : (set : List ℕ) → IsIncreasing 1 m set → completes_some (branch ∷ []) set ≡ true
+    whole set up =
+        or-left (completes branch set) false
+        (and_from (includes set branch.set) (includes (either_members branch.set branch.free) set)
+        (all-from (has_member set) branch.set (λ n here. let no : true ≡ false = sym here ∙ ap (λ l. has_member l n) none in absurd (let e : false ≡ true = sym no in cc)))
+        (all-from (has_member (either_members branch.set branch.free)) set
+        (λ n here. has_member-either branch.set branch.free n
+        ∙ or-right (has_member branch.set n) (has_member branch.free n)
+        (ap (λ l. has_member l n) all ∙ has_member-range 1 m n (member-low 1 m set n up here) (omega (arith, member-high 1 m set n up here))))))
+
+pub all-branch : (m k : ℕ) (branch : Branch) → branch.set ≡ [] → branch.free ≡ range_with_len 1 m → IsBranch m k branch
+all-branch m k branch none all = record {
+  last = 0;
+  within = omega arith;
+  set_upto = subst (IsIncreasing 1 0) (sym none) tt;
+  free_after = subst (IsIncreasing 1 m) (sym all) (IsIncreasing-range 1 m m (omega arith));
+  size = omega (arith, ap length none);
+}
+
+-- ---- the branches after a start
+
+module _ (m : ℕ) where
+  -- a start goes on from a set with these
+  after-branch : List ℕ → ℕ → Branch
+  after-branch front n = record { set = front; free = range_with_len (n + 1) (m - n) }
+
+  -- they begin as the branches do
+  pub after-stacked : (front rest : List ℕ) → IsIncreasing 1 m (front ++ rest) → AreStacked m (branches_after m front rest)
+  after-stacked front rest up = ?

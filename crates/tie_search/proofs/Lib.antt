@@ -1,3 +1,4 @@
+pub mod AskingLemmas
 pub mod BranchLemmas
 pub mod CloneLemmas
 pub mod CompletionLemmas

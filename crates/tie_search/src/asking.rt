@@ -118,14 +118,15 @@ impl<S: Searchable> Asking<S> {
         ensures asked { self.new.questions + length result.free ≤ self.old.questions + length branch.free }
     {
         let Branch { set, free } = branch;
-        let Some((next, others)) = free.split_first() else {
+        let Some(parts) = free.split_first() else {
             return Branch { set, free };
         };
+        let (next, others) = parts;
         let with = Branch {
             set: set.with(next),
             free: others,
         };
-        if self.found.has(next) || self.reaches(&with) {
+        if self.reaches(&with) {
             self.enter(Branch { set, free: others });
             return with;
         }
@@ -178,6 +179,9 @@ impl<S: Searchable> Asking<S> {
         ensures kept { kept self.new ≡ kept self.old }
         ensures asked { self.new.questions ≤ self.old.questions + 1 }
     {
+        if branch.is_completed_by(self.found) {
+            return Some(self.found);
+        }
         if self.best.tied.are_all {
             return self.best.listed(branch);
         }

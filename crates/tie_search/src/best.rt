@@ -4,9 +4,8 @@
 //! the greatest value is found by searches for more than the best known, until one finds nothing, and questions are
 //! answered by further searches.
 //!
-//! Before such a search three committees are tried: the one that was found last, the set with its last free candidates,
-//! and the one that was found last with clones in the place of others. They are tested by their members and value, so
-//! any may be tried.
+//! Before such a search two committees are tried: the set with its last free candidates, and the one that was found last
+//! with clones in the place of others. They are tested by their members and value, so any may be tried.
 ghost use Rattle.std.specs.Prelude.{◌≡◌, ◌+◌, ◌≤◌, [], true, MatchOption, length, ⊤};
 ghost use Rattle.ballot_base.specs.Limits.{most_candidates};
 ghost use Rattle.ballot_base.specs.Lists.{IsIncreasing};
@@ -14,7 +13,6 @@ ghost use Rattle.tie_walk.specs.Ceilings.{IsBound};
 ghost use Rattle.tie_walk.specs.Winners.{best_value};
 ghost use Rattle.tie_search.specs.Steps.Branches.{IsAnswer, IsBranch, IsListedAnswer, IsWinnerOf, KnowsBest};
 ghost use Rattle.tie_search.specs.Steps.Searched.{IsBetter};
-ghost use Rattle.tie_search.specs.Tied.{IsBest};
 
 use crate::branch::Branch;
 use crate::found::Tied;
@@ -70,16 +68,13 @@ impl<S: Searchable> Best<S> {
         None
     }
 
-    /// Such a committee as far as it is shown without a search, `found` being one that was found before.
+    /// Such a committee, if one is shown without a search: the set with its last free candidates, or `found` with clones
+    /// in the place of others.
     pub(crate) fn shown(&self, found: CandSet, branch: &Branch) -> Option<CandSet>
         requires knows { KnowsBest S.value_of S.candidates self.now }
-        requires found { IsBest (S.value_of self.now.search) self.now.m self.now.k found }
         requires branch { IsBranch self.now.m self.now.k branch.now }
         ensures { MatchOption result ⊤ (IsWinnerOf (S.value_of self.now.search) self.now.m self.now.k branch.now) }
     {
-        if branch.is_completed_by(found) {
-            return Some(found);
-        }
         let latest = branch.latest(self.k);
         if self.wins(latest, branch) {
             return Some(latest);

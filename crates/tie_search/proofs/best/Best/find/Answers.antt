@@ -1,15 +1,21 @@
-use Rattle.std.proofs.Common.{subst, ◌∙◌, sym}
+use Rattle.std.proofs.Common.{subst, sym}
 use Rattle.tie_search.specs.Completions.{IsNode}
+use Rattle.tie_search.specs.Steps.Branches.{IsAnswer, IsBranch}
 use Rattle.tie_search.proofs.BranchLemmas.{branch-node, found-answer}
 use Rattle.tie_search.proofs.best.Best.find.Goals as goal
 
 pub find-requires : goal.find-requires
 find-requires g c =
     let best = c.args.self.now in
-    subst (λ n. IsNode n c.args.branch.set c.args.branch.free) c.requires.knows.size (branch-node best.m best.k c.args.branch c.requires.branch)
+    let branch = c.args.branch.now in
+    subst (λ n. IsNode n branch.set branch.free) c.requires.knows.size (branch-node best.m best.k branch c.requires.branch)
 
 pub returns : goal.returns
 returns g c =
     let best = c.args.self.now in
-    found-answer (g.S.Tally.value_of best.search) best.m best.k c.args.branch c.requires.branch c.find.result
-    (rw (← c.requires.knows.size, c.requires.knows.best_is, c.len.ensures.count) at c.find.ensures)
+    let branch = c.args.branch.now in
+    let value = g.S.Tally.value_of best.search in
+    let m = g.S.Tally.candidates best.search in
+    subst (λ n. IsAnswer value n best.k branch c.find.result) (sym c.requires.knows.size)
+    (found-answer value m best.k branch (subst (λ n. IsBranch n best.k branch) c.requires.knows.size c.requires.branch) c.find.result
+    (rw (c.requires.knows.best_is, c.len.ensures.count) at c.find.ensures))

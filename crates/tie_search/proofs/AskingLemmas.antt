@@ -1,0 +1,96 @@
+-- What is true of winners that are asked for stays so from step to step.
+use Rattle.std.proofs.Common.{◌≡◌, ℕ, ◌+◌, ◌<◌, ◌≤◌, List, [], ◌∷◌, ◌++◌, sym, subst, ap, arith, ◌∙◌, length}
+use Rattle.std.specs.Prelude.{slice_index_or}
+use Rattle.std.specs.List.{AllByRecursion}
+use Rattle.ballot_base.specs.CandSet.{other_members, with_member}
+use Rattle.tie_search.specs.Completions.{AreAlike}
+use Rattle.tie_search.specs.Tied.{IsBest}
+use Rattle.tie_search.specs.Steps.Branches.{AreStacked, IsAsking, IsBarren, IsBranch, IsOnTheWay, IsWinnerOf, KnowsBest, left_by}
+use Rattle.tie_search.specs.declared.asking.Asking.{Asking}
+use Rattle.tie_search.specs.declared.best.Best.{Best}
+use Rattle.tie_search.specs.declared.branch.Branch.{Branch}
+use Rattle.tie_search.proofs.BranchLemmas.{all-append, all-front, all-least, first-left, joined-left, joined-stacked, left-branch, left-completes, left-left, left-stacked, stack-size, stacked-pop, with-branch, without-branch}
+
+module _ {S : Type 0} (value : S → List ℕ → ℕ) (candidates : S → ℕ) where
+  -- the same is searched, and these branches are left
+  pub asking-from : (best : Best S) (branches : List Branch) (to : Asking S) → to.best ≡ best → to.branches.items ≡ branches
+      → KnowsBest value candidates best → IsBest (value best.search) best.m best.k to.found → AllByRecursion (IsBranch best.m best.k) branches → AreStacked best.m branches
+      → IsAsking value candidates to
+  asking-from best branches to same are knows found each stacked = record {
+    knows = subst (KnowsBest value candidates) (sym same) knows;
+    found_is = subst (λ (b : Best S). IsBest (value b.search) b.m b.k to.found) (sym same) found;
+    each = subst (λ (b : Best S). AllByRecursion (IsBranch b.m b.k) to.branches.items) (sym same) (subst (AllByRecursion (IsBranch best.m best.k)) (sym are) each);
+    stacked = subst (λ (b : Best S). AreStacked b.m to.branches.items) (sym same) (subst (AreStacked best.m) (sym are) stacked);
+  }
+
+  pub way-from : (best : Best S) (branches : List Branch) (branch : Branch) (to : Asking S) → to.best ≡ best → to.branches.items ≡ branches
+      → KnowsBest value candidates best → IsWinnerOf (value best.search) best.m best.k branch to.found → AllByRecursion (IsBranch best.m best.k) branches → IsBranch best.m best.k branch
+      → AreStacked best.m (branches ++ branch ∷ []) → IsOnTheWay value candidates to branch
+  way-from best branches branch to same are knows reached each is stacked = record {
+    asking_is = asking-from best branches to same are knows reached.best each (stacked-pop best.m branches branch stacked).0;
+    branch_is = subst (λ (b : Best S). IsBranch b.m b.k branch) (sym same) is;
+    stacked = subst (λ (b : Best S). AreStacked b.m (to.branches.items ++ branch ∷ [])) (sym same) (subst (λ (bs : List Branch). AreStacked best.m (bs ++ branch ∷ [])) (sym are) stacked);
+    reached = subst (λ (b : Best S). IsWinnerOf (value b.search) b.m b.k branch to.found) (sym same) reached;
+  }
+
+  module _ (asking : Asking S) (branch : Branch) (way : IsOnTheWay value candidates asking branch) where
+    -- there is room on the stack
+    pub way-room : length asking.branches.items ≤ length branch.set
+    way-room =
+        let size : 0 + length asking.branches.items ≤ length branch.set =
+        stack-size asking.best.m asking.branches.items branch 0 way.stacked (all-least (asking.branches.items ++ branch ∷ [])) in
+        omega (arith, size)
+
+    module _ (short : length branch.set < asking.best.k) (next : ℕ) (rest : List ℕ) (first : branch.free ≡ next ∷ rest) where
+      abbrev pub without : Branch
+      without = record { set = branch.set; free = rest }
+
+      abbrev pub with' : Branch
+      with' = record { set = with_member branch.set next; free = rest }
+
+      -- the candidate joins
+      pub way-joined : (to : Asking S) → to.best ≡ asking.best → to.branches.items ≡ asking.branches.items ++ without ∷ [] → IsWinnerOf (value asking.best.search) asking.best.m asking.best.k with' to.found
+          → IsOnTheWay value candidates to with'
+      way-joined to same are reached =
+          way-from asking.best (asking.branches.items ++ without ∷ []) with' to same are way.asking_is.knows reached
+          (all-append (IsBranch asking.best.m asking.best.k) asking.branches.items without way.asking_is.each (without-branch asking.best.m asking.best.k branch way.branch_is next rest first))
+          (with-branch asking.best.m asking.best.k branch way.branch_is next rest first short)
+          (joined-stacked (value asking.best.search) asking.best.m asking.best.k asking.branches.items branch way.branch_is way.stacked next rest first)
+
+      -- the candidate leaves with its clones
+      pub way-left : (classes : List (List ℕ)) → AreAlike (value asking.best.search) asking.best.m classes → IsBarren (value asking.best.search) asking.best.m asking.best.k with'
+          → (to : Asking S) → to.best ≡ asking.best → to.branches.items ≡ asking.branches.items → to.found ≡ asking.found
+          → IsOnTheWay value candidates to (record { set = branch.set; free = other_members rest (slice_index_or classes next []) })
+      way-left classes alike none to same are found =
+          let v = value asking.best.search in
+          let m = asking.best.m in
+          let k = asking.best.k in
+          let left : Branch = record { set = branch.set; free = other_members rest (slice_index_or classes next []) } in
+          way-from asking.best asking.branches.items left to same are way.asking_is.knows
+          (subst (IsWinnerOf v m k left) (sym found) (record {
+            best = way.reached.best;
+            whole = sym (left-completes v m k asking.branches.items branch way.branch_is way.stacked next rest first classes short alike none asking.found way.reached.best) ∙ way.reached.whole;
+          }))
+          way.asking_is.each
+          (left-branch v m k asking.branches.items branch way.branch_is way.stacked next rest first classes short alike none)
+          (left-stacked v m k asking.branches.items branch way.branch_is way.stacked next rest first classes short alike none)
+
+  -- the last branch is taken off the stack
+  module _ (asking : Asking S) (is : IsAsking value candidates asking) (branches : List Branch) (branch : Branch) (are : asking.branches.items ≡ branches ++ branch ∷ []) where
+    pub popped-each : AllByRecursion (IsBranch asking.best.m asking.best.k) branches
+    popped-each = (all-front (IsBranch asking.best.m asking.best.k) branches branch (subst (AllByRecursion (IsBranch asking.best.m asking.best.k)) are is.each)).0
+
+    pub popped-branch : IsBranch asking.best.m asking.best.k branch
+    popped-branch = (all-front (IsBranch asking.best.m asking.best.k) branches branch (subst (AllByRecursion (IsBranch asking.best.m asking.best.k)) are is.each)).1
+
+    pub popped-stacked : AreStacked asking.best.m (branches ++ branch ∷ [])
+    popped-stacked = subst (AreStacked asking.best.m) are is.stacked
+
+    pub popped-asking : (to : Asking S) → to.best ≡ asking.best → to.branches.items ≡ branches → to.found ≡ asking.found → IsAsking value candidates to
+    popped-asking to same left found =
+        asking-from asking.best branches to same left is.knows
+        (subst (IsBest (value asking.best.search) asking.best.m asking.best.k) (sym found) is.found_is) popped-each (stacked-pop asking.best.m branches branch popped-stacked).0
+
+    pub popped-way : (to : Asking S) → to.best ≡ asking.best → to.branches.items ≡ branches → IsWinnerOf (value asking.best.search) asking.best.m asking.best.k branch to.found
+        → IsOnTheWay value candidates to branch
+    popped-way to same left reached = way-from asking.best branches branch to same left is.knows reached popped-each popped-branch popped-stacked

@@ -1,0 +1,104 @@
+use Rattle.std.specs.Prelude.{slice_index_or}
+use Rattle.ballot_base.specs.CandSet.{other_members, with_member}
+use Rattle.std.proofs.Common.{◌≡◌, ◌+◌, ◌≤◌, ◌++◌, ◌∷◌, [], List, ap, arith, refl, subst, sym, ◌∙◌, length}
+use Rattle.tie_search.specs.Completions.{AreAlike}
+use Rattle.tie_search.specs.Steps.Branches.{IsBarren, IsWinnerOf, Kept, left_by}
+use Rattle.tie_search.specs.declared.best.Best.{Best}
+use Rattle.tie_search.specs.declared.branch.Branch.{Branch}
+use Rattle.tie_search.proofs.AskingLemmas.{way-joined, way-left, way-room}
+use Rattle.tie_search.proofs.BranchLemmas.{joined-left, left-fewer, left-left, some-free, with-branch}
+use Rattle.tie_search.proofs.CloneLemmas.{minus-most}
+use Rattle.tie_search.proofs.asking.Asking.below.Given.{Over}
+use Rattle.tie_search.proofs.asking.Asking.below.Goals as goal
+use Rattle.tie_search.proofs.asking.Asking.below.Goals.{After-enter, After-minus}
+
+pub returns-in_default-clause-fewer : goal.returns-in_default-clause-fewer
+returns-in_default-clause-fewer g c =
+    let asking = c.args.self.now in
+    let way = c.requires.way in
+    absurd (some-free (g.S.Tally.value_of asking.best.search) asking.best.m asking.best.k c.args.branch asking.found way.branch_is c.requires.short way.reached c.in_default.ensures)
+
+pub reaches-requires-clause-branch : goal.reaches-requires-clause-branch
+reaches-requires-clause-branch g c =
+    let best = c.args.self.now.best in
+    let parts = c.in-Some.parts in
+    rw c.with.ensures (with-branch best.m best.k c.args.branch c.requires.way.branch_is parts.0 parts.1 c.in-Some.ensures c.requires.short)
+
+pub enter-requires : goal.enter-requires
+enter-requires g c =
+    let asking = c.args.self.now in
+    let way = c.requires.way in
+    let room = way-room g.S.Tally.value_of g.S.Tally.candidates asking c.args.branch way in
+    let knows = way.asking_is.knows in
+    record {
+      room = omega (arith, room, c.requires.short, knows.size, knows.most, knows.fits, ap (λ (k : Kept g.row.S.Denot). length k.branches) c.reaches.ensures.kept);
+    }
+
+pub returns-then-reaches-clause-way : goal.returns-then-reaches-clause-way
+returns-then-reaches-clause-way g c =
+    let asking = c.args.self.now in
+    let parts = c.in-Some.parts in
+    let v = g.S.Tally.value_of asking.best.search in
+    let with' : Branch = record { set = c.with.result; free = parts.1 } in
+    let reached : IsWinnerOf v asking.best.m asking.best.k with' c.enter.new.self.found =
+    subst (IsWinnerOf v asking.best.m asking.best.k with') (sym c.enter.ensures.found) (c.reaches.ensures.yes c.if-reaches.true) in
+    rw c.with.ensures
+    (way-joined g.S.Tally.value_of g.S.Tally.candidates asking c.args.branch c.requires.way c.requires.short parts.0 parts.1 c.in-Some.ensures c.enter.new.self
+    (c.enter.ensures.best ∙ ap (λ (k : Kept g.row.S.Denot). k.best) c.reaches.ensures.kept)
+    (c.enter.ensures.branches ∙ ap (λ (k : Kept g.row.S.Denot). k.branches ++ record { set = c.args.branch.set; free = parts.1 } ∷ []) c.reaches.ensures.kept)
+    (rw c.with.ensures at reached))
+
+pub returns-then-reaches-clause-left : goal.returns-then-reaches-clause-left
+returns-then-reaches-clause-left g c =
+    let asking = c.args.self.now in
+    let parts = c.in-Some.parts in
+    let best = asking.best in
+    let with' : Branch = record { set = with_member c.args.branch.set parts.0; free = parts.1 } in
+    rw c.with.ensures
+    (ap (λ (bs : List Branch). left_by g.S.Tally.value_of best (bs ++ with' ∷ []))
+    (c.enter.ensures.branches ∙ ap (λ (k : Kept g.row.S.Denot). k.branches ++ record { set = c.args.branch.set; free = parts.1 } ∷ []) c.reaches.ensures.kept)
+    ∙ joined-left (g.S.Tally.value_of best.search) best.m best.k asking.branches.items c.args.branch c.requires.way.branch_is c.requires.way.stacked parts.0 parts.1 c.in-Some.ensures)
+
+-- the clones of the candidate, and what was left without them
+module _ (g : Over) (c : After-minus g) where
+  alike : AreAlike (g.S.Tally.value_of c.args.self.now.best.search) c.args.self.now.best.m c.clones.result.now
+  alike =
+      let best = c.args.self.now.best in
+      let V = g.S.Tally.value_of in
+      subst (λ n. AreAlike (V best.search) n c.clones.result.now) (sym c.requires.way.asking_is.knows.size)
+      (subst (λ (b : Best g.row.S.Denot). AreAlike (V b.search) (g.S.Tally.candidates b.search) c.clones.result.now) (ap (λ (k : Kept g.row.S.Denot). k.best) c.reaches.ensures.kept) c.clones.ensures)
+
+  over : c.minus.result ≡ other_members c.in-Some.parts.1 (slice_index_or c.clones.result.now c.in-Some.parts.0 [])
+  over = c.minus.ensures ∙ ap (other_members c.in-Some.parts.1) c.class-clones.ensures
+
+  none : IsBarren (g.S.Tally.value_of c.args.self.now.best.search) c.args.self.now.best.m c.args.self.now.best.k (record { set = with_member c.args.branch.set c.in-Some.parts.0; free = c.in-Some.parts.1 })
+  none = rw c.with.ensures at (c.reaches.ensures.no c.if-reaches.false)
+
+pub returns-clause-way : goal.returns-clause-way
+returns-clause-way g c =
+    let asking = c.args.self.now in
+    let parts = c.in-Some.parts in
+    rw (over g c)
+    (way-left g.S.Tally.value_of g.S.Tally.candidates asking c.args.branch c.requires.way c.requires.short parts.0 parts.1 c.in-Some.ensures c.clones.result.now (alike g c) (none g c) c.reaches.new.self
+    (ap (λ (k : Kept g.row.S.Denot). k.best) c.reaches.ensures.kept)
+    (ap (λ (k : Kept g.row.S.Denot). k.branches) c.reaches.ensures.kept)
+    (c.reaches.ensures.found c.if-reaches.false))
+
+pub returns-clause-left : goal.returns-clause-left
+returns-clause-left g c =
+    let asking = c.args.self.now in
+    let best = asking.best in
+    let parts = c.in-Some.parts in
+    rw (over g c)
+    (ap (λ (k : Kept g.row.S.Denot). left_by g.S.Tally.value_of best (k.branches ++ record { set = c.args.branch.set; free = other_members parts.1 (slice_index_or c.clones.result.now parts.0 []) } ∷ [])) c.reaches.ensures.kept
+    ∙ left-left (g.S.Tally.value_of best.search) best.m best.k asking.branches.items c.args.branch c.requires.way.branch_is c.requires.way.stacked parts.0 parts.1 c.in-Some.ensures c.clones.result.now c.requires.short (alike g c) (none g c))
+
+fewer : (g : Over) (c : After-minus g) → length c.minus.result + 1 ≤ length c.args.branch.free
+fewer g c =
+    omega (arith, ap length (over g c), minus-most c.in-Some.parts.1 (slice_index_or c.clones.result.now c.in-Some.parts.0 []), ap length c.in-Some.ensures)
+
+pub returns-clause-fewer : goal.returns-clause-fewer
+returns-clause-fewer g c = omega (arith, fewer g c)
+
+pub returns-clause-asked : goal.returns-clause-asked
+returns-clause-asked g c = omega (arith, fewer g c, c.reaches.ensures.asked)
