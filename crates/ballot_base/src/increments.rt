@@ -34,6 +34,21 @@ impl ThieleRule {
         ThieleRule::Geom3,
         ThieleRule::Geom4,
     ];
+
+    /// The common denominator of the increments for committees of k, 1 to `MOST_MEMBERS`. It is not reduced.
+    pub fn denominator(self, k: u8) -> u128
+        requires some { 1 ≤ k }
+        requires most { k ≤ most_members }
+        ensures { result ≡ denominator self k }
+    {
+        match self {
+            ThieleRule::Av | ThieleRule::Cc => 1,
+            ThieleRule::Pav => common_multiple(k),
+            ThieleRule::Geom2 => 2u128.pow(u32::from(k - 1)),
+            ThieleRule::Geom3 => 3u128.pow(u32::from(k - 1)),
+            ThieleRule::Geom4 => 4u128.pow(u32::from(k - 1)),
+        }
+    }
 }
 
 /// The increments of a rule as whole numbers over one denominator, which is not reduced.
@@ -53,27 +68,12 @@ impl Increments {
         ensures weights { result.w ≡ increments rule k }
         ensures denominator { result.denom ≡ denominator rule k }
     {
-        let denom = denominator(rule, k);
+        let denom = rule.denominator(k);
         let mut w = [0; MOST_MEMBERS as usize];
         for j in 0..k {
             w[usize::from(j)] = increment(rule, k, denom, j + 1);
         }
         Increments { w, denom }
-    }
-}
-
-/// The common denominator of the increments for committees of k.
-fn denominator(rule: ThieleRule, k: u8) -> u128
-    requires some { 1 ≤ k }
-    requires most { k ≤ most_members }
-    ensures { result ≡ denominator rule k }
-{
-    match rule {
-        ThieleRule::Av | ThieleRule::Cc => 1,
-        ThieleRule::Pav => common_multiple(k),
-        ThieleRule::Geom2 => 2u128.pow(u32::from(k - 1)),
-        ThieleRule::Geom3 => 3u128.pow(u32::from(k - 1)),
-        ThieleRule::Geom4 => 4u128.pow(u32::from(k - 1)),
     }
 }
 

@@ -1,7 +1,7 @@
 use Rattle.std.proofs.Common.{◌-◌, arith}
 use Rattle.ballot_base.specs.Limits.{most_members}
 use Rattle.ballot_base.proofs.WeightLemmas.{power-most}
-use Rattle.ballot_base.proofs.increments.denominator.Goals as goal
+use Rattle.ballot_base.proofs.increments.ThieleRule.denominator.Goals as goal
 
 pub pow-requires-in-Geom3 : goal.pow-requires-in-Geom3
 pow-requires-in-Geom3 c = omega (arith, power-most 3 c.from-in-Geom3.result (most_members - 1) (omega arith) (omega (arith, c.from-in-Geom3.ensures)))
