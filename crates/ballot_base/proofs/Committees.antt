@@ -5,7 +5,7 @@ use Rattle.std.proofs.lemmas.Bool.{eq-eqb, ne_eqb, cases_eq, cases_lt, le-ltb, a
 use Rattle.std.specs.Ordering.{nat_cmp, is_gt}
 use Rattle.std.specs.Str.{bytes_eq}
 use Rattle.std.specs.Cmp.Lexicographic.{slice_cmp, bytes_decides}
-use Rattle.std.proofs.lemmas.List.{get_or-map, length-map, map-append}
+use Rattle.std.proofs.lemmas.List.{map-append}
 use Rattle.std.proofs.lemmas.List.Elements.{All-from_recursion, All-contains, Contains-append_left, Contains-append_right}
 use Rattle.std.proofs.lemmas.List.Kept.{AllPairs-cons}
 use Rattle.std.proofs.lemmas.List.Folds.{list_any_at, Any-from_list_any}
@@ -14,8 +14,9 @@ use Rattle.ballot_base.specs.Limits.{most_candidates}
 use Rattle.ballot_base.specs.Lists.{IsIncreasing, lists_of, increasing_lists, is_committee, IsLater, AreInOrder, later_than}
 use Rattle.ballot_base.specs.Steps.Subsets.{lists_from, sets_from, MayComeNext, IsLastSet, IsNextSet}
 use Rattle.ballot_base.proofs.Increasing.{IsIncreasing-lower}
-use Rattle.ballot_base.proofs.Later.{AllByRecursion-weaker, is_later-self, later_than-member}
+use Rattle.ballot_base.proofs.Later.{is_later-self, later_than-member}
 use Rattle.ballot_base.proofs.FirstMember.{slice_cmp_same}
+use Rattle.ballot_base.proofs.ListLemmas.{AllByRecursion-append, AllByRecursion-weaker, Contains-map}
 
 -- ---- the lists from one of them on, case by case
 lists_from-here : (count first x : ℕ) (rest : List ℕ) → x ≡ first → lists_from (suc count) first (x ∷ rest) ≡ map (λ list. first ∷ list) (lists_from count (first + 1) rest) ++ lists_of count (first + 1) (suc (length rest))
@@ -111,10 +112,6 @@ lists_from-next (suc count) first m (x ∷ front) last tail e h i =
     ]
 
 -- ---- which lists they are
-AllByRecursion-append : (P : List ℕ → Type 0) (xs ys : List (List ℕ)) → AllByRecursion P xs → AllByRecursion P ys → AllByRecursion P (xs ++ ys)
-AllByRecursion-append P [] ys h k = k
-AllByRecursion-append P (x ∷ xs) ys h k = (h.0, AllByRecursion-append P xs ys h.1 k)
-
 AllByRecursion-map : (P Q : List ℕ → Type 0) (f : List ℕ → List ℕ) → ((x : List ℕ) → P x → Q (f x)) → (xs : List (List ℕ)) → AllByRecursion P xs → AllByRecursion Q (map f xs)
 AllByRecursion-map P Q f step [] h = tt
 AllByRecursion-map P Q f step (x ∷ xs) h = (step x h.0, AllByRecursion-map P Q f step xs h.1)
@@ -131,9 +128,6 @@ lists_of-chosen (suc count) first last (suc size) h =
     (AllByRecursion-append (IsChosen first last (suc size)) (map (λ rest. first ∷ rest) (lists_of count (first + 1) size)) (lists_of count (first + 1) (suc size))
     (AllByRecursion-map (IsChosen (first + 1) last size) (IsChosen first last (suc size)) (λ rest. first ∷ rest) (λ x i. ((omega arith, omega arith, i.0), ap suc i.1)) (lists_of count (first + 1) size) (lists_of-chosen count (first + 1) last size (omega arith)))
     (AllByRecursion-weaker (IsChosen (first + 1) last (suc size)) (IsChosen first last (suc size)) (λ x i. (IsIncreasing-lower first (first + 1) last x (omega arith) i.0, i.1)) (lists_of count (first + 1) (suc size)) (lists_of-chosen count (first + 1) last (suc size) (omega arith))))
-
-Contains-map : (f : List ℕ → List ℕ) (xs : List (List ℕ)) (x : List ℕ) → Contains xs x → Contains (map f xs) (f x)
-Contains-map f xs x c = (c.0, subst (λ n. c.0 < n) (sym (length-map xs f)) c.1, get_or-map f xs c.0 x (f x) c.1 ∙ ap f c.2)
 
 pub lists_of-contains : (count first last size : ℕ) (set : List ℕ) → last + 1 ≤ first + count → IsIncreasing first last set → length set ≡ size → Contains (lists_of count first size) set
 lists_of-contains count first last size [] h i e =
@@ -256,7 +250,7 @@ pub is_committee-false : (m k : ℕ) (list : List ℕ) → ((IsIncreasing 1 m li
 is_committee-false m k list none = false_from_ne_true (is_committee m k list) (λ passes. none (is_committee-is m k list passes))
 
 -- ---- a place and the next one
-IsIncreasing-range : (from run last : ℕ) → from + run ≤ last + 1 → IsIncreasing from last (range_with_len from run)
+pub IsIncreasing-range : (from run last : ℕ) → from + run ≤ last + 1 → IsIncreasing from last (range_with_len from run)
 IsIncreasing-range from zero last h = tt
 IsIncreasing-range from (suc run) last h = (omega arith, omega arith, IsIncreasing-range (from + 1) run last (omega arith))
 

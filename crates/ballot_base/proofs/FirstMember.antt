@@ -21,7 +21,7 @@ use Rattle.ballot_base.proofs.Increasing.{IsIncreasing-lower, has_member-below, 
 use Rattle.ballot_base.proofs.Members.{members_among_yes, members_among_no, members_among_none, IsIncreasing-members_among, IsIncreasing-members, has_member-members, members_none, members_without}
 
 -- ---- how many
-ones_bit : (b : ℕ) → b < 2 → count_ones b ≡ b
+pub ones_bit : (b : ℕ) → b < 2 → count_ones b ≡ b
 ones_bit zero h = omega (arith, ones_le_self 0)
 ones_bit (suc zero) h = ones-ones 1
 ones_bit (suc (suc b)) h = absurd (omega arith)

@@ -112,7 +112,7 @@ IsIncreasing-with_member first last (x ∷ xs) n l h i =
     ]
 
 -- what two sets have together
-or_moved : (a b c : Bool) → ((a || b) || c) ≡ (b || (a || c))
+pub or_moved : (a b c : Bool) → ((a || b) || c) ≡ (b || (a || c))
 or_moved true true c = refl
 or_moved true false c = refl
 or_moved false b c = refl

@@ -1,12 +1,14 @@
 -- What is later than a list, among lists in order: the last of them.
-use Rattle.std.proofs.Common.{◌≡◌, ℕ, suc, ◌==◌, Bool, true, false, cond, List, [], ◌∷◌, ◌++◌, refl, sym, ap, ◌∙◌, arith, length, filter, Ordering, Less, Equal, Greater, Some}
+use Rattle.std.proofs.Common.{◌≡◌, ℕ, suc, ◌==◌, Bool, true, false, cond, List, [], ◌∷◌, ◌++◌, refl, sym, ap, ◌∙◌, arith, length, filter, Ordering, Less, Equal, Greater, Some, AllPairs}
 use Rattle.std.specs.List.{AllByRecursion}
 use Rattle.std.specs.Ordering.{nat_cmp, is_gt, ordering_reverse}
 use Rattle.std.specs.Cmp.Lexicographic.{slice_cmp}
 use Rattle.std.proofs.lemmas.Bool.{eq-eqb, eqb-true, and_from, and_parts, and_right}
 use Rattle.std.proofs.lemmas.Cmp.{nat_list_cmp_total, tied_itself}
 use Rattle.std.proofs.lemmas.List.Elements.{filter-append, recursion_from_All}
+use Rattle.std.specs.List.Sorted.{IsStrictlySortedBy}
 use Rattle.ballot_base.specs.Lists.{is_later, IsLater, AreInOrder, later_than}
+use Rattle.ballot_base.proofs.ListLemmas.{AllByRecursion-weaker}
 
 -- ---- the order
 greater_from_test : (o : Ordering) → is_gt o ≡ true → o ≡ Greater
@@ -49,11 +51,15 @@ filter-none : (p : List ℕ → Bool) (xs : List (List ℕ)) → AllByRecursion 
 filter-none p [] all = refl
 filter-none p (x ∷ xs) all = rw all.0 (filter-none p xs all.1)
 
-pub AllByRecursion-weaker : (P Q : List ℕ → Type 0) → ((x : List ℕ) → P x → Q x) → (xs : List (List ℕ)) → AllByRecursion P xs → AllByRecursion Q xs
-AllByRecursion-weaker P Q step [] all = tt
-AllByRecursion-weaker P Q step (x ∷ xs) all = (step x all.0, AllByRecursion-weaker P Q step xs all.1)
-
 -- ---- lists in order
+pub sorted_from_later : (xs : List (List ℕ)) → AllPairs (λ x y. IsLater y x) xs → IsStrictlySortedBy (slice_cmp nat_cmp) xs
+unfolding IsStrictlySortedBy
+sorted_from_later [] pairs = tt
+sorted_from_later (x ∷ xs) pairs = (
+  recursion_from_All (λ y. slice_cmp nat_cmp x y ≡ Less) xs (λ k d inside. (IsLater-parts _ x (pairs 0 (suc k) d (omega arith) (omega (arith, inside)))).1),
+  sorted_from_later xs (λ i j d less inside. pairs (suc i) (suc j) d (omega (arith, less)) (omega (arith, inside))),
+)
+
 AreInOrder-head : (x : List ℕ) (xs : List (List ℕ)) → AreInOrder (x ∷ xs) → AllByRecursion (λ y. IsLater y x) xs
 AreInOrder-head x xs order = recursion_from_All (λ y. IsLater y x) xs (λ k d h. order 0 (suc k) d (omega arith) (omega arith))
 

@@ -6,6 +6,7 @@ pub mod Included
 pub mod Increasing
 pub mod Later
 pub mod LeastMultiples
+pub mod ListLemmas
 pub mod Members
 pub mod Names
 pub mod NextSet

@@ -52,7 +52,7 @@ increments-made rule k w most long made others =
 
 -- ---- they never rise
 
-quotient-falls : (n j : ℕ) → 1 ≤ j → n / (j + 1) ≤ n / j
+pub quotient-falls : (n j : ℕ) → 1 ≤ j → n / (j + 1) ≤ n / j
 quotient-falls n j h = le-div (n / (j + 1)) n j h (omega (arith, div-mul-le_self n (j + 1)))
 
 power-falls : (p k j : ℕ) → 0 < p → p ^ (k - (j + 1)) ≤ p ^ (k - j)

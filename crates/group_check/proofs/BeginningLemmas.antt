@@ -14,7 +14,7 @@ use Rattle.std.proofs.lemmas.List.Sums.{length-filter, count_by-le-length, sum_b
 use Rattle.ballot_base.specs.Lists.{IsIncreasing, increasing_lists}
 use Rattle.ballot_base.specs.CandSet.{has_member, with_member, common_members, includes}
 use Rattle.ballot_base.specs.Ballots.{Row, Election, IsElection, hits}
-use Rattle.ballot_base.proofs.Committees.{increasing_lists-chosen}
+use Rattle.ballot_base.proofs.Committees.{increasing_lists-chosen, IsIncreasing-range}
 use Rattle.ballot_base.proofs.Increasing.{IsIncreasing-filter, has_member-filter, has_member_head, with_member-above}
 use Rattle.group_check.specs.declared.property.Property.{Property}
 use Rattle.group_check.specs.declared.property.Property.TheVariants.{Jr, Pjr, Ejr, EjrPlus}
@@ -23,13 +23,14 @@ use Rattle.group_check.specs.Groups.{member_ballots}
 use Rattle.group_check.specs.Report.{violation_of, fits_pair, group_of, pair_group, lists_within, lists_shared, pair_breaks, first_violation}
 use Rattle.group_check.specs.Steps.Checking.{IsChoice, IsFirst, IsSecond, shared_size, may_share, is_possible, first_of, first_of_lists, pairs_of, sublists, completions, is_large, is_below, is_around, is_enough_within, voters_below, voters_around, possible_candidates}
 use Rattle.ballot_base.proofs.Included.{kept_all}
-use Rattle.group_check.proofs.SetLemmas.{passes_at, length-within, length-common_members, IsIncreasing-range}
+use Rattle.ballot_base.proofs.ListLemmas.{AllByRecursion-weaker}
+use Rattle.group_check.proofs.SetLemmas.{passes_at, length-within, length-common_members}
 use Rattle.group_check.proofs.TestLemmas.{list_all-weaker, list_all-filter, found_passes}
 use Rattle.group_check.proofs.GroupLemmas.{group_of-group, group_of-pass, group-le}
 use Rattle.group_check.proofs.BreakLemmas.{any_may, large_more, pair_breaks-is}
 use Rattle.group_check.proofs.CountedLemmas.{first_of-append}
 use Rattle.group_check.proofs.PlaceLemmas.{kept_lists, lists_of_members, AllByRecursion-filter}
-use Rattle.group_check.proofs.WalkLemmas.{with_member-end, IsIncreasing-rest, IsTail, AllByRecursion-weaker, AllByRecursion-map, none_passes, tails, whole, split_lists, too_few_below}
+use Rattle.group_check.proofs.WalkLemmas.{with_member-end, IsIncreasing-rest, IsTail, AllByRecursion-map, none_passes, tails, whole, split_lists, too_few_below}
 
 -- ---- groups of which each voter of one belongs to the other
 

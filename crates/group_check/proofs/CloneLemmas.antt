@@ -14,6 +14,7 @@ use Rattle.ballot_base.specs.Ballots.{Row, Election}
 use Rattle.ballot_base.specs.Clones.{are_clones, clones_among}
 use Rattle.ballot_base.proofs.CloneLemmas.{clones-same, clones_among-are}
 use Rattle.ballot_base.proofs.Increasing.{IsIncreasing-filter, has_member-below, has_member-filter, has_member_tail}
+use Rattle.ballot_base.proofs.ListLemmas.{AllByRecursion-append, AllByRecursion-weaker}
 use Rattle.group_check.specs.declared.property.Property.{Property}
 use Rattle.group_check.specs.declared.property.Property.TheVariants.{Jr, Pjr, Ejr, EjrPlus}
 use Rattle.group_check.specs.declared.property.Violation.{Violation}
@@ -23,7 +24,7 @@ use Rattle.group_check.specs.Steps.Checking.{first_of, first_of_lists, pairs_of,
 use Rattle.group_check.proofs.SetLemmas.{all_pass, or_mono, passes_at}
 use Rattle.group_check.proofs.TestLemmas.{list_all-weaker}
 use Rattle.group_check.proofs.PlaceLemmas.{sublists-empty, front_kept, front_dropped}
-use Rattle.group_check.proofs.WalkLemmas.{AllByRecursion-append, AllByRecursion-map, AllByRecursion-weaker, at_least, with_member-end}
+use Rattle.group_check.proofs.WalkLemmas.{AllByRecursion-map, at_least, with_member-end}
 use Rattle.group_check.proofs.BeginningLemmas.{all_of, group_of-rows, lists_step, none_found, too_small}
 
 module _ {X : Type 0} where

@@ -7,12 +7,13 @@ use Rattle.std.proofs.lemmas.List.Sums.{sum_by-cons}
 use Rattle.ballot_base.specs.Lists.{IsIncreasing}
 use Rattle.ballot_base.specs.CandSet.{has_member, common_members, includes}
 use Rattle.ballot_base.specs.Ballots.{Row}
+use Rattle.ballot_base.proofs.Committees.{IsIncreasing-range}
 use Rattle.ballot_base.proofs.Increasing.{IsIncreasing-filter, has_member-filter, has_member_head, has_member_tail}
 use Rattle.group_check.specs.Groups.{IsGroup, member_ballots, common_candidates, represented}
 use Rattle.group_check.specs.Report.{group_of}
 use Rattle.group_check.specs.Steps.Checking.{IsChoice}
 use Rattle.group_check.proofs.TestLemmas.{list_all-filter, list_all-take, list_all-swap, list_all-weaker, both_at}
-use Rattle.group_check.proofs.SetLemmas.{passes_at, all_pass, length-within, length-passing, IsIncreasing-take, IsIncreasing-range}
+use Rattle.group_check.proofs.SetLemmas.{passes_at, all_pass, length-within, length-passing, IsIncreasing-take}
 
 -- ---- the group of all voters whose ballots pass a test
 

@@ -8,10 +8,11 @@ use Rattle.std.proofs.lemmas.List.Sums.{length-filter, sum_by-cons}
 use Rattle.ballot_base.specs.Lists.{IsIncreasing}
 use Rattle.ballot_base.specs.CandSet.{has_member}
 use Rattle.ballot_base.specs.Ballots.{Row, Election, IsElection, hits, voter_count}
+use Rattle.ballot_base.proofs.Committees.{IsIncreasing-range}
 use Rattle.ballot_base.proofs.Increasing.{IsIncreasing-filter, has_member-filter, has_member_head}
 use Rattle.group_check.specs.declared.property.Property.TheVariants.{Jr, Pjr, Ejr, EjrPlus}
 use Rattle.group_check.specs.Groups.{IsGroup, member_ballots, common_candidates, represented, is_cohesive, is_large_enough, is_outside, all_below, HasProperty}
-use Rattle.group_check.proofs.SetLemmas.{length-within, length-common, IsIncreasing-range}
+use Rattle.group_check.proofs.SetLemmas.{length-within, length-common}
 use Rattle.group_check.proofs.GroupLemmas.{any_at}
 use Rattle.group_check.proofs.BreakLemmas.{and_middle}
 use Rattle.group_check.proofs.TestLemmas.{both_at}

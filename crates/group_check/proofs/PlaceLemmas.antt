@@ -5,9 +5,9 @@ use Rattle.std.proofs.lemmas.Bool.{cases_lt}
 use Rattle.std.proofs.lemmas.List.Elements.{filter-append}
 use Rattle.ballot_base.specs.Lists.{IsIncreasing, lists_of, increasing_lists}
 use Rattle.ballot_base.specs.CandSet.{has_member, includes}
+use Rattle.ballot_base.proofs.Committees.{IsIncreasing-range}
 use Rattle.ballot_base.proofs.Increasing.{IsIncreasing-filter, has_member-filter, has_member-below, has_member-above, same_increasing}
 use Rattle.group_check.specs.Steps.Checking.{sublists}
-use Rattle.group_check.proofs.SetLemmas.{IsIncreasing-range}
 use Rattle.group_check.proofs.GroupLemmas.{has_member-range}
 
 -- ---- a list within a range, and the items at all places

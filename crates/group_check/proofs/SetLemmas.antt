@@ -3,6 +3,7 @@ use Rattle.std.proofs.Common.{◌≡◌, ℕ, zero, suc, ◌+◌, ◌≤◌, ◌
 use Rattle.std.specs.List.{list_all, range_with_len}
 use Rattle.std.proofs.lemmas.Bool.{and_from, and_parts, eqb-true, cases_order, cases_lt, or_right}
 use Rattle.std.proofs.lemmas.List.Sums.{length-filter, count_by-le-length}
+use Rattle.std.proofs.Math.Bool.{and_comm}
 use Rattle.ballot_base.specs.Lists.{IsIncreasing}
 use Rattle.ballot_base.specs.CandSet.{has_member, common_members}
 use Rattle.ballot_base.specs.Ballots.{hits}
@@ -68,22 +69,12 @@ IsIncreasing-take first last zero set i = tt
 IsIncreasing-take first last (suc n) [] i = tt
 IsIncreasing-take first last (suc n) (x ∷ xs) i = (i.0, i.1, IsIncreasing-take (x + 1) last n xs i.2)
 
-pub IsIncreasing-range : (first count last : ℕ) → first + count ≤ last + 1 → IsIncreasing first last (range_with_len first count)
-IsIncreasing-range first zero last h = tt
-IsIncreasing-range first (suc count) last h = (omega arith, omega arith, IsIncreasing-range (first + 1) count last (omega arith))
-
 -- the members of both are as many from either side
 pub length-common : (first last : ℕ) (set other : List ℕ) → IsIncreasing first last set → IsIncreasing first last other → length (filter (has_member other) set) ≡ length (filter (has_member set) other)
 length-common first last set other i j =
     ap length (same_increasing first last (filter (has_member other) set) (filter (has_member set) other)
     (IsIncreasing-filter (has_member other) first last set i) (IsIncreasing-filter (has_member set) first last other j)
-    (λ n. has_member-filter (has_member other) set n ∙ and-turned (has_member other n) (has_member set n) ∙ sym (has_member-filter (has_member set) other n)))
-  where
-    and-turned : (a b : Bool) → (a && b) ≡ (b && a)
-    and-turned true true = refl
-    and-turned true false = refl
-    and-turned false true = refl
-    and-turned false false = refl
+    (λ n. has_member-filter (has_member other) set n ∙ and_comm (has_member other n) (has_member set n) ∙ sym (has_member-filter (has_member set) other n)))
 
 -- a set of `size` of the numbers of a set, with all those that pass
 pub record IsWidened (first last size : ℕ) (p : ℕ → Bool) (set wide : List ℕ) : Type 0 where

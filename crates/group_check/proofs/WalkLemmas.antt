@@ -7,6 +7,7 @@ use Rattle.std.proofs.lemmas.List.{append_assoc, append-nil, length-append, map-
 use Rattle.ballot_base.specs.Lists.{IsIncreasing}
 use Rattle.ballot_base.specs.CandSet.{has_member, with_member}
 use Rattle.ballot_base.proofs.Increasing.{IsIncreasing-lower, with_member-gt}
+use Rattle.ballot_base.proofs.ListLemmas.{AllByRecursion-append, AllByRecursion-weaker}
 use Rattle.group_check.specs.Steps.Checking.{sublists, completions}
 use Rattle.group_check.proofs.SetLemmas.{or_mono}
 
@@ -62,14 +63,6 @@ pub record IsTail (first last : ℕ) (pool : List ℕ) (size : ℕ) (tail : List
   pub inside : (n : ℕ) → has_member tail n ≡ true → has_member pool n ≡ true
 
 module _ {X : Type 0} where
-  pub AllByRecursion-append : (P : X → Type 0) (xs ys : List X) → AllByRecursion P xs → AllByRecursion P ys → AllByRecursion P (xs ++ ys)
-  AllByRecursion-append P [] ys h k = k
-  AllByRecursion-append P (x ∷ xs) ys h k = (h.0, AllByRecursion-append P xs ys h.1 k)
-
-  pub AllByRecursion-weaker : (P Q : X → Type 0) → ((x : X) → P x → Q x) → (xs : List X) → AllByRecursion P xs → AllByRecursion Q xs
-  AllByRecursion-weaker P Q more [] h = tt
-  AllByRecursion-weaker P Q more (x ∷ xs) h = (more x h.0, AllByRecursion-weaker P Q more xs h.1)
-
   pub none_passes : (p : X → Bool) (xs : List X) → AllByRecursion (λ x. p x ≡ false) xs → find p xs ≡ None
   none_passes p [] h = refl
   none_passes p (x ∷ xs) h = let more = none_passes p xs h.1 in rw h.0 more

@@ -8,6 +8,7 @@ use Rattle.std.proofs.lemmas.Bool.{lt-ltb, or_left, or_right, not-true}
 use Rattle.std.proofs.lemmas.List.FromFn.{take-map-range_with_len}
 use Rattle.ballot_base.specs.Ballots.{Election, Row, election, has_ballot, with_votes, voter_count}
 use Rattle.ballot_base.specs.Limits.{most_candidates, most_voters}
+use Rattle.ballot_base.proofs.RowLemmas.{voter_count-with_votes}
 use Rattle.preflib_text.specs.Limits.{most_line_bytes, most_categories}
 use Rattle.preflib_text.specs.declared.pick.Kind.{Kind}
 use Rattle.preflib_text.specs.declared.pick.Pick.{Pick}
@@ -22,7 +23,7 @@ use Rattle.preflib_text.specs.Reading.{Cast, or_else, fault_if, told_before, kin
 use Rattle.preflib_text.specs.Steps.Notes.{Effect, NoEffect, Names, Casts, fresh_notes, first_kind, told_error, told_notes, told_effect, cast_error, kind_error, alternatives_error, ballot_error, cast_effect, line_error, line_notes, line_effect, effect_error, with_effect, end_error, effect_takes, IsSound}
 use Rattle.preflib_text.specs.Steps.After.{IsTold, last_name, last_names, cast_rows, has_ballot_line, HoldsNames, IsAfter, IsFine}
 use Rattle.preflib_text.proofs.ToldSteps.{number_within, told-step, told_before-kept, told_before-more}
-use Rattle.preflib_text.proofs.ProfileSteps.{last_names-told, last_names-kept, name_value-other, casts_in-other, casts_in-ballot, casts_in-none, votes_in-ballot, cast_rows-push, with_votes-some, length-with_votes, voters-more}
+use Rattle.preflib_text.proofs.ProfileSteps.{last_names-told, last_names-kept, name_value-other, casts_in-other, casts_in-ballot, casts_in-none, votes_in-ballot, cast_rows-push, with_votes-some, length-with_votes}
 
 -- ---- before the first line
 
@@ -274,7 +275,7 @@ after-ballot pick before line notes e is some ballot (m, kind, cast, alternative
             ∙ ap (election count (last_names (told_before (before ++ line ∷ [])) count)) pushed,
         λ empty. with_votes-some e.rows (approved noted pick.way cast.classes) cast.count (sym (ap (λ (f : Election). f.rows) effect) ∙ empty),
       );
-      votes = ap (λ (f : Election). voter_count f.rows) effect ∙ voters-more e.rows (approved noted pick.way cast.classes) cast.count ∙ ap (λ n. n + cast.count) is.votes
+      votes = ap (λ (f : Election). voter_count f.rows) effect ∙ voter_count-with_votes e.rows (approved noted pick.way cast.classes) cast.count ∙ ap (λ n. n + cast.count) is.votes
           ∙ sym (votes_in-ballot pick ballot_of before line cast ballot read);
     }
 

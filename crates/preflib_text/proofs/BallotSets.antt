@@ -6,18 +6,13 @@ use Rattle.std.specs.List.{list_any, range_with_len}
 use Rattle.std.proofs.lemmas.Bool.{or_left, cases_lt, cases_eq, lt-ltb, le-ltb, eq-eqb, ne_eqb}
 use Rattle.ballot_base.specs.Lists.{IsIncreasing}
 use Rattle.ballot_base.specs.CandSet.{has_member, with_member}
-use Rattle.ballot_base.proofs.Increasing.{has_member-with_member, has_member-below}
+use Rattle.ballot_base.proofs.Increasing.{has_member-with_member, has_member-below, or_moved}
 
 -- the members of a set with more numbers
 pub has_member-fold : (ns set : List ℕ) (x : ℕ) → has_member (fold with_member set ns) x ≡ (has_member set x || has_member ns x)
 has_member-fold [] set x = sym (or-false (has_member set x))
 has_member-fold (n ∷ ns) set x =
-    has_member-fold ns (with_member set n) x ∙ ap (λ (b : Bool). b || has_member ns x) (has_member-with_member set n x) ∙ turned (eqb n x) (has_member set x) (has_member ns x)
-  where
-    turned : (a b c : Bool) → ((a || b) || c) ≡ (b || (a || c))
-    turned true true c = refl
-    turned true false c = refl
-    turned false b c = refl
+    has_member-fold ns (with_member set n) x ∙ ap (λ (b : Bool). b || has_member ns x) (has_member-with_member set n x) ∙ or_moved (eqb n x) (has_member set x) (has_member ns x)
 
 -- ---- all candidates
 

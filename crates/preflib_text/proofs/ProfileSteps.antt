@@ -3,11 +3,11 @@ use Rattle.std.proofs.Common.{◌≡◌, ◌≢◌, ℕ, zero, suc, ◌+◌, ◌
 use Rattle.std.specs.Prelude.{slice_set, slice_get}
 use Rattle.std.specs.List.{list_any, range_with_len, cons_option}
 use Rattle.std.proofs.lemmas.List.{reverse-append}
-use Rattle.std.proofs.lemmas.List.Sums.{fold-append, sum_by-append, sum_by-cons}
+use Rattle.std.proofs.lemmas.List.Sums.{fold-append, sum_by-append}
 use Rattle.std.proofs.lemmas.List.Elements.{filter_map-append, filter-append}
 use Rattle.std.proofs.lemmas.Bool.{eq-eqb, ne_eqb}
 use Rattle.std.specs.Str.{bytes_eq}
-use Rattle.ballot_base.specs.Ballots.{Row, has_ballot, with_votes, voter_count}
+use Rattle.ballot_base.specs.Ballots.{Row, has_ballot, with_votes}
 use Rattle.preflib_text.specs.declared.pick.Kind.{Kind}
 use Rattle.preflib_text.specs.declared.pick.Pick.{Pick}
 use Rattle.preflib_text.specs.declared.pick.Way.{Way}
@@ -109,17 +109,3 @@ length-with_votes (row ∷ rows) ballot count none = by (bytes_eq ballot row.0) 
         → length (row ∷ rows) < length (cond t ((row.0, row.1 + count) ∷ rows) (row ∷ with_votes rows ballot count))
     by true e rest = absurd (cc)
     by false e rest = let more = rest e in omega arith
-
-pub voters-more : (rows : List Row) (ballot : List ℕ) (count : ℕ) → voter_count (with_votes rows ballot count) ≡ voter_count rows + count
-voters-more [] ballot count = refl
-voters-more (row ∷ rows) ballot count = by (bytes_eq ballot row.0) (voters-more rows ballot count)
-  where
-    by : (t : Bool) → voter_count (with_votes rows ballot count) ≡ voter_count rows + count → voter_count (cond t ((row.0, row.1 + count) ∷ rows) (row ∷ with_votes rows ballot count)) ≡ voter_count (row ∷ rows) + count
-    by true e = sum_by-cons (λ (r : Row). r.1) (row.0, row.1 + count) rows ∙ sum_again ∙ ap (λ n. n + count) (sym (sum_by-cons (λ (r : Row). r.1) row rows))
-      where
-        sum_again : (row.1 + count) + voter_count rows ≡ (row.1 + voter_count rows) + count
-        sum_again = omega arith
-    by false e = sum_by-cons (λ (r : Row). r.1) row (with_votes rows ballot count) ∙ ap (λ n. row.1 + n) e ∙ sum_again ∙ ap (λ n. n + count) (sym (sum_by-cons (λ (r : Row). r.1) row rows))
-      where
-        sum_again : row.1 + (voter_count rows + count) ≡ (row.1 + voter_count rows) + count
-        sum_again = omega arith

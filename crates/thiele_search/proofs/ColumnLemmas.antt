@@ -1,20 +1,20 @@
 -- Sums over the voters of a block, bit by bit.
 use Rattle.std.proofs.Common.{◌≡◌, ℕ, zero, suc, ◌+◌, ◌-◌, ◌*◌, ◌/◌, ◌%◌, ◌^◌, ◌<◌, ◌≤◌, ◌==◌, ◌∙◌, Bool, true, false, cond, min, nat_lt, ◌&&◌, set, take, drop, replicate, slice_get, Some, List, [], ◌∷◌, ◌++◌, refl, sym, ap, subst, arith, inl, inr, length, sum_by, get_or, add-one, length-append, bit_and, bit_or, w64}
 use Rattle.std.specs.Int.{bit_at, bit_not}
-use Rattle.std.specs.Int.Count.{ones-ones}
 use Rattle.std.specs.Int.RustNames.{count_ones}
 use Rattle.std.proofs.Math.Nat.{mul-le-mul}
 use Rattle.std.proofs.lemmas.Bool.{cases_eq, cases_lt, cases_order, eq-eqb, ne_eqb, lt-ltb, le-ltb}
 use Rattle.std.proofs.lemmas.List.{append-nil, append_assoc, take_more, take-append-drop, get_or-set_same, get_or-set_other, length-replicate}
 use Rattle.std.proofs.lemmas.Option.{get_or_from_slice_get, slice_get_within}
 use Rattle.std.proofs.lemmas.List.Sums.{sum_by-append, sum_by-cons}
-use Rattle.std.proofs.lemmas.Nat.{and_le_l, and_le_r, mod_below, mod-pow-add, ones_cat, ones_le_self}
+use Rattle.std.proofs.lemmas.Nat.{and_le_l, and_le_r, mod_below, mod-pow-add, ones_cat}
 use Rattle.std.proofs.lemmas.Nat.Bits.{bit_at-lt, bit_at-zero, bit_at-suc, bit_at_lowest, bit_at_and, bit_at_or, bit_at_not}
 use Rattle.ballot_base.specs.Limits.{most_candidates}
 use Rattle.ballot_base.specs.Lists.{IsIncreasing}
 use Rattle.ballot_base.specs.CandSet.{has_member}
 use Rattle.ballot_base.specs.Ballots.{Row, hits, voter_count}
 use Rattle.ballot_base.specs.Increments.{increments}
+use Rattle.ballot_base.proofs.FirstMember.{ones_bit}
 use Rattle.ballot_base.proofs.Increasing.{IsIncreasing-higher}
 use Rattle.std.specs.List.{AllByRecursion}
 use Rattle.tie_walk.specs.Sequences.{gain, weight, supporters}
@@ -89,11 +89,6 @@ total-voters f none (ballot ∷ ballots) (suc n) few =
     omega (arith, total-voters f none ballots n (omega (arith, few)), sum_by-cons f ballot ballots)
 
 -- ---- bits
-
-ones_bit : (b : ℕ) → b < 2 → count_ones b ≡ b
-ones_bit zero h = omega (arith, ones_le_self 0)
-ones_bit (suc zero) h = ones-ones 1
-ones_bit (suc (suc b)) h = absurd (omega arith)
 
 ones-low : (k n : ℕ) → count_ones (n % 2 ^ k) ≡ total (bit_at n) k
 unfolding total

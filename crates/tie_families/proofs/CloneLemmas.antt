@@ -1,9 +1,10 @@
 -- Clones bring a set the same, and two sets with as many of each class of clones gain and lose the same.
-use Rattle.std.proofs.Common.{◌≡◌, ℕ, ◌+◌, ◌*◌, ◌≤◌, ◌&&◌, ◌∙◌, Bool, true, false, cond, List, [], ◌∷◌, refl, sym, ap, arith, length, count_by}
+use Rattle.std.proofs.Common.{◌≡◌, ℕ, ◌+◌, ◌*◌, ◌≤◌, ◌∙◌, Bool, true, false, cond, List, [], ◌∷◌, refl, sym, ap, arith, length, count_by}
 use Rattle.std.proofs.Math.Nat.{mul-le-mul}
 use Rattle.std.specs.List.{AllByRecursion}
 use Rattle.std.proofs.lemmas.Bool.{and_parts, and_from}
 use Rattle.std.proofs.lemmas.List.Sums.{sum_by-cons, length-filter}
+use Rattle.std.proofs.Math.Bool.{and_comm}
 use Rattle.ballot_base.specs.Lists.{IsIncreasing}
 use Rattle.ballot_base.specs.CandSet.{has_member, common_members}
 use Rattle.ballot_base.specs.Ballots.{Row, hits}
@@ -78,14 +79,8 @@ pub hits-members : (m : ℕ) (ballot set : List ℕ) → IsIncreasing 1 m ballot
 hits-members m ballot set up inside =
     let same : common_members ballot set ≡ common_members set ballot =
     same_increasing 1 m (common_members ballot set) (common_members set ballot) (IsIncreasing-filter (has_member set) 1 m ballot up) (IsIncreasing-filter (has_member ballot) 1 m set inside)
-    (λ n. has_member-filter (has_member set) ballot n ∙ and-turned (has_member set n) (has_member ballot n) ∙ sym (has_member-filter (has_member ballot) set n)) in
+    (λ n. has_member-filter (has_member set) ballot n ∙ and_comm (has_member set n) (has_member ballot n) ∙ sym (has_member-filter (has_member ballot) set n)) in
     sym (length-common ballot set) ∙ ap length same ∙ length-filter (has_member ballot) set
-  where
-    and-turned : (x y : Bool) → (x && y) ≡ (y && x)
-    and-turned true true = refl
-    and-turned true false = refl
-    and-turned false true = refl
-    and-turned false false = refl
 
 module _ (all : List Row) (m : ℕ) (set other : List ℕ) (up : IsIncreasing 1 m set) (up' : IsIncreasing 1 m other) where
   hits-within : (row : Row) → IsIncreasing 1 m row.0 → IsWhole (are_clones all) row → IsBelow all set other → hits row.0 set ≤ hits row.0 other

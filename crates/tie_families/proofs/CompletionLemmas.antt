@@ -1,10 +1,11 @@
 -- Which families have a committee of a set and of some of the candidates after it: those that the set lacks of each
 -- class are added one by one, and fit, and more of them can be added up to the most.
-use Rattle.std.proofs.Common.{◌≡◌, ℕ, zero, suc, ◌+◌, ◌-◌, ◌≤◌, ◌∙◌, Bool, true, false, cond, not, ◌&&◌, ◌<◌, List, [], ◌∷◌, ◌++◌, refl, sym, ap, subst, arith, inl, inr, filter, length, length-append, append_assoc, count_by}
+use Rattle.std.proofs.Common.{◌≡◌, ℕ, zero, suc, ◌+◌, ◌-◌, ◌≤◌, ◌∙◌, Bool, true, false, cond, not, ◌&&◌, ◌<◌, List, [], ◌∷◌, ◌++◌, sym, ap, subst, arith, inl, inr, filter, length, length-append, append_assoc, count_by, append-nil}
 use Rattle.std.specs.Prelude.{fold, nat_le}
 use Rattle.std.specs.List.{list_any, range_with_len}
 use Rattle.std.proofs.lemmas.Bool.{cases_Bool, cases_lt, cases_eq, both_ways, le-leb, leb-true, not-true, and_parts, and_from}
 use Rattle.std.proofs.lemmas.List.Sums.{sum_by-append}
+use Rattle.std.proofs.Math.Bool.{and_comm}
 use Rattle.ballot_base.specs.Lists.{IsIncreasing, increasing_lists}
 use Rattle.ballot_base.specs.CandSet.{has_member, with_member}
 use Rattle.ballot_base.specs.Ballots.{Row}
@@ -55,17 +56,11 @@ missing : (p : ℕ → Bool) (first last : ℕ) (xs ys : List ℕ) → IsIncreas
 missing p first last xs ys up up' less =
     let both : filter (has_member xs) ys ≡ filter (has_member ys) xs =
     same_increasing first last (filter (has_member xs) ys) (filter (has_member ys) xs) (IsIncreasing-filter (has_member xs) first last ys up') (IsIncreasing-filter (has_member ys) first last xs up)
-    (λ n. has_member-filter (has_member xs) ys n ∙ and-turned (has_member xs n) (has_member ys n) ∙ sym (has_member-filter (has_member ys) xs n)) in
+    (λ n. has_member-filter (has_member xs) ys n ∙ and_comm (has_member xs n) (has_member ys n) ∙ sym (has_member-filter (has_member ys) xs n)) in
     let x = some-passes p (filter (λ n. not (has_member xs n)) ys)
     (omega (arith, less, ap (count_by p) both, count-parts p (has_member xs) ys, count-parts p (has_member ys) xs)) in
     let parts = and_parts (not (has_member xs x.0)) (has_member ys x.0) (sym (has_member-filter (λ n. not (has_member xs n)) ys x.0) ∙ x.1) in
     (x.0, parts.1, x.2, not-true (has_member xs x.0) parts.0)
-  where
-    and-turned : (a b : Bool) → (a && b) ≡ (b && a)
-    and-turned true true = refl
-    and-turned true false = refl
-    and-turned false true = refl
-    and-turned false false = refl
 
 -- a list of as many, from one list that has no more of each class than another
 module _ (rows : List Row) (first last : ℕ) (full : List ℕ) (up' : IsIncreasing first last full) where
@@ -104,15 +99,11 @@ module _ (rows : List Row) (family : List ℕ) where
     pub least : (other : List ℕ) → IsBelow rows family other → IsBelow rows set other → IsBelow rows whole other
     pub enough : (y k : ℕ) → k ≤ clone_count rows family y → k ≤ clone_count rows set y + count_by (are_clones rows y) (range_with_len (c + 1) n) → k ≤ clone_count rows whole y
 
-  append_none : (xs : List ℕ) → xs ≡ xs ++ []
-  append_none [] = refl
-  append_none (x ∷ xs) = ap (λ l. x ∷ l) (append_none xs)
-
   completed-is : (n c : ℕ) (set : List ℕ) → IsIncreasing 1 c set → IsCompleted c n set (fold (completed_by rows family) set (range_with_len (c + 1) n))
   completed-is zero c set up = record {
     taken = [];
     candidates = tt;
-    is = append_none set;
+    is = sym (append-nil set);
     least = λ other below below'. below';
     enough = λ y k few h. omega (arith, h);
   }

@@ -15,6 +15,7 @@ use Rattle.tie_walk.specs.declared.sequential.SeqRule.{SeqRule}
 use Rattle.tie_walk.specs.declared.sequential.SeqRule.TheVariants.{SeqPav, SeqCc, RevSeqPav}
 use Rattle.tie_walk.specs.declared.sequential.Step.{Step}
 use Rattle.tie_walk.specs.declared.sequential.Step.TheVariants.{Grow, Shrink}
+use Rattle.tie_walk.proofs.HitWeights.{one-most}
 use Rattle.tie_walk.proofs.Choices.{reached_none, reached_more, made_from_reached}
 use Rattle.tie_walk.proofs.LawLemmas.{no_greater_value}
 use Rattle.tie_walk.proofs.LevelLemmas.{followed-candidates, reached-increasing}
@@ -145,10 +146,6 @@ some-wins RevSeqPav e k fits =
 
 -- ---- the winners of the values are those of the rule
 
-bit-most : (b : Bool) → cond b 1 0 ≤ 1
-bit-most true = omega arith
-bit-most false = omega arith
-
 bit-is : (b : Bool) → (cond b 1 0 == 1) ≡ b
 bit-is true = refl
 bit-is false = refl
@@ -163,7 +160,7 @@ winners-are s fits =
     let all = increasing_lists 1 s.election.m s.k in
     let one = some-wins s.rule s.election s.k fits in
     let reached : value one.0 ≤ best_value value s.election.m s.k = no_greater_value value s.election.m s.k one.0 (increasing_lists-contains 1 s.election.m s.k one.0 (one.2, one.3)) in
-    let most : best_value value s.election.m s.k ≤ 1 = greatest-most value 0 1 all (omega arith) (all-pass (λ w. value w ≤ 1) all (λ w. bit-most (is_winner s w))) in
+    let most : best_value value s.election.m s.k ≤ 1 = greatest-most value 0 1 all (omega arith) (all-pass (λ w. value w ≤ 1) all (λ w. one-most (is_winner s w))) in
     let best : best_value value s.election.m s.k ≡ 1 = omega (arith, reached, most, ap {B = ℕ} (λ b. cond b 1 0) one.1) in
     winners-best value s.election.m s.k
     ∙ same_filter (λ w. value w == best_value value s.election.m s.k) (is_winner s) all

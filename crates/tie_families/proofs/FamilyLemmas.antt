@@ -12,6 +12,7 @@ use Rattle.ballot_base.specs.Lists.{IsIncreasing}
 use Rattle.ballot_base.specs.CommonMultiple.{common_multiple}
 use Rattle.ballot_base.specs.Ballots.{Row, Election}
 use Rattle.ballot_base.proofs.LeastMultiples.{common_multiple_divides}
+use Rattle.ballot_base.proofs.ListLemmas.{Contains-later}
 use Rattle.tie_walk.specs.Sequences.{hit_weight, hit_weights, weight, is_sequential_winner}
 use Rattle.tie_walk.specs.Steps.Choices.{step_of, choices_of, change, is_choice, start}
 use Rattle.tie_walk.specs.declared.sequential.SeqRule.{SeqRule}
@@ -32,24 +33,21 @@ use Rattle.tie_families.proofs.WinnerLemmas.{many-from, below-from, any-from, an
 
 -- ---- two lists side by side
 
-later : {X : Type 0} (x y : X) (xs : List X) → Contains xs y → Contains (x ∷ xs) y
-later x y xs c = (suc c.0, omega (arith, c.1), c.2)
-
 all-mapped : (P : List ℕ → Type 0) (f : List ℕ → List ℕ) (xs : List (List ℕ)) → ((x : List ℕ) → Contains xs x → P (f x)) → AllByRecursion P (map f xs)
 all-mapped P f [] each = tt
-all-mapped P f (x ∷ xs) each = (each x (0, omega arith, refl), all-mapped P f xs (λ y inside. each y (later x y xs inside)))
+all-mapped P f (x ∷ xs) each = (each x (0, omega arith, refl), all-mapped P f xs (λ y inside. each y (Contains-later x y xs inside)))
 
 at-mapped : (R : List ℕ → List ℕ → Type 0) (f : List ℕ → List ℕ) (xs : List (List ℕ)) → ((x : List ℕ) → Contains xs x → R x (f x)) → (i : ℕ) → i < length xs
     → R (slice_index_or xs i []) (slice_index_or (map f xs) i [])
 at-mapped R f [] each i inside = absurd (omega (arith, inside))
 at-mapped R f (x ∷ xs) each zero inside = each x (0, omega arith, refl)
-at-mapped R f (x ∷ xs) each (suc i) inside = at-mapped R f xs (λ y there. each y (later x y xs there)) i (omega (arith, inside))
+at-mapped R f (x ∷ xs) each (suc i) inside = at-mapped R f xs (λ y there. each y (Contains-later x y xs there)) i (omega (arith, inside))
 
 same-mapped : (f : List ℕ → List ℕ) (p : List ℕ → Bool) (xs : List (List ℕ)) → ((x : List ℕ) → Contains xs x → p (f x) ≡ true → f x ≡ x) → list_all p (map f xs) ≡ true → map f xs ≡ xs
 same-mapped f p [] each all = refl
 same-mapped f p (x ∷ xs) each all =
     let parts = and_parts (p (f x)) (list_all p (map f xs)) all in
-    ap (λ y. y ∷ map f xs) (each x (0, omega arith, refl) parts.0) ∙ ap (λ l. x ∷ l) (same-mapped f p xs (λ y inside. each y (later x y xs inside)) parts.1)
+    ap (λ y. y ∷ map f xs) (each x (0, omega arith, refl) parts.0) ∙ ap (λ l. x ∷ l) (same-mapped f p xs (λ y inside. each y (Contains-later x y xs inside)) parts.1)
 
 -- the least sets of families, and the most, where the other ends are these
 abbrev pub leasts_of : Step → List (List ℕ) → List (List ℕ) → List (List ℕ)

@@ -12,11 +12,12 @@ use Rattle.ballot_base.specs.Lists.{IsIncreasing}
 use Rattle.ballot_base.specs.CandSet.{has_member, with_member, without_member}
 use Rattle.ballot_base.specs.Ballots.{Row}
 use Rattle.ballot_base.proofs.Committees.{length-increasing}
+use Rattle.ballot_base.proofs.ListLemmas.{Contains-map, Contains-from_map, Contains-from_flat_map}
 use Rattle.tie_walk.specs.Sequences.{others}
 use Rattle.tie_walk.specs.Steps.Choices.{may_choose, change, is_choice, start}
 use Rattle.tie_walk.specs.declared.sequential.Step.{Step}
 use Rattle.tie_walk.specs.declared.sequential.Step.TheVariants.{Grow, Shrink}
-use Rattle.tie_walk.proofs.Choices.{Contains-map, Contains-flat_map, Contains-range, reached_none, reached_start, reached_more, reached_last}
+use Rattle.tie_walk.proofs.Choices.{Contains-flat_map, Contains-range, reached_none, reached_start, reached_more, reached_last}
 use Rattle.tie_walk.proofs.LawLemmas.{passes-from_filter, Contains-filter, IsIncreasing-range}
 use Rattle.tie_walk.proofs.LevelLemmas.{choice-parts, in_bounds, reached-increasing}
 use Rattle.tie_walk.proofs.RowSums.{AreBallots}
@@ -24,7 +25,7 @@ use Rattle.tie_walk.proofs.SequenceLemmas.{IsSized, length-with_member, length-w
 use Rattle.ballot_base.specs.Clones.{are_clones, clones_among}
 use Rattle.tie_families.specs.Steps.Levels.{is_first_open, ties, end, end_or, chosen, followed, family_changes, IsNextFamilies, IsBelow, IsAhead, IsFalling, IsStrict, IsOfSize, IsReachedBy, IsPlaced, IsOf, IsFamilyLevel}
 use Rattle.tie_families.proofs.CloneLemmas.{clones-sameness}
-use Rattle.tie_families.proofs.Lists.{Contains-from_map, Contains-from_flat_map, Contains-only, count-others, open-is, open-from, with-without, without-with, without-itself, with-itself, with-increasing, without-increasing}
+use Rattle.tie_families.proofs.Lists.{Contains-only, count-others, open-is, open-from, with-without, without-with, without-itself, with-itself, with-increasing, without-increasing}
 use Rattle.tie_families.proofs.Numbers.{bit, some-passes, some-more, count-class, count-with, count-without, within-turned}
 use Rattle.tie_families.proofs.SpanLemmas.{IsSpan, end-span}
 use Rattle.tie_families.proofs.TiedClones.{choice-moves, open-moves, first-tied, change-below, undone}

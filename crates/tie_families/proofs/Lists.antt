@@ -1,8 +1,7 @@
 -- Members of lists, of filters and of sets.
-use Rattle.std.proofs.Common.{◌≡◌, ℕ, zero, suc, ◌+◌, ◌-◌, ◌≤◌, ◌==◌, ◌&&◌, ◌||◌, ◌∙◌, Bool, true, false, not, List, [], ◌∷◌, refl, sym, ap, arith, inl, inr, filter, map, count_by, Contains}
-use Rattle.std.specs.List.{flat_map, list_all, range_with_len}
+use Rattle.std.proofs.Common.{◌≡◌, ℕ, zero, suc, ◌+◌, ◌-◌, ◌≤◌, ◌==◌, ◌&&◌, ◌||◌, ◌∙◌, Bool, true, false, not, List, [], ◌∷◌, refl, sym, ap, arith, inl, inr, filter, count_by, Contains}
+use Rattle.std.specs.List.{list_all, range_with_len}
 use Rattle.std.proofs.lemmas.Bool.{cases_Bool, cases_eq, and_parts, and_from, and_left, both_ways, not-true, eq-eqb, ne_eqb, or_right, or_left, not_from_true}
-use Rattle.std.proofs.lemmas.List.Elements.{Contains-append_cases}
 use Rattle.ballot_base.specs.Lists.{IsIncreasing}
 use Rattle.ballot_base.specs.CandSet.{has_member, other_members, with_member, without_member}
 use Rattle.ballot_base.proofs.Increasing.{IsIncreasing-filter, IsIncreasing-with_member, has_member-filter, has_member-with_member, has_member_head, has_member_tail, same_increasing}
@@ -53,25 +52,6 @@ all-next p c low all here = all-from p (range_with_len 1 (c + 1 - 1)) (λ x insi
     ])
 
 -- ---- where a list of lists has a set from
-
-Contains-later : {X : Type 0} (x y : X) (xs : List X) → Contains xs y → Contains (x ∷ xs) y
-Contains-later x y xs c = (suc c.0, omega (arith, c.1), c.2)
-
-pub Contains-from_map : {X Y : Type 0} (f : X → Y) (xs : List X) (y : Y) → Contains (map f xs) y → (x : X) × Contains xs x × (f x ≡ y)
-Contains-from_map f [] y c = absurd (omega (arith, c.1))
-Contains-from_map f (x ∷ xs) y (zero, inside, is) = (x, (0, omega arith, refl), is)
-Contains-from_map f (x ∷ xs) y (suc i, inside, is) =
-    let rest = Contains-from_map f xs y (i, omega (arith, inside), is) in
-    (rest.0, Contains-later x rest.0 xs rest.1, rest.2)
-
-pub Contains-from_flat_map : {X Y : Type 0} (f : X → List Y) (xs : List X) (y : Y) → Contains (flat_map f xs) y → (x : X) × Contains xs x × Contains (f x) y
-Contains-from_flat_map f [] y c = absurd (omega (arith, c.1))
-Contains-from_flat_map f (x ∷ xs) y c = elim (Contains-append_cases (f x) (flat_map f xs) y c) [
-  | inl here ↦ (x, (0, omega arith, refl), here)
-  | inr later ↦
-      let rest = Contains-from_flat_map f xs y later in
-      (rest.0, Contains-later x rest.0 xs rest.1, rest.2)
-]
 
 pub Contains-only : {X : Type 0} (one x : X) → Contains (one ∷ []) x → one ≡ x
 Contains-only one x (zero, inside, same) = same

@@ -1,21 +1,17 @@
 -- Families without clones: where each has k members, they are the winners.
-use Rattle.std.proofs.Common.{◌≡◌, ℕ, suc, ◌<◌, ◌≤◌, ◌==◌, ◌&&◌, ◌∙◌, true, false, List, [], ◌∷◌, sym, ap, subst, arith, inl, inr, length, get_or, Contains, AllPairs, Option, None, Some}
+use Rattle.std.proofs.Common.{◌≡◌, ℕ, ◌<◌, ◌≤◌, ◌==◌, ◌&&◌, ◌∙◌, true, false, List, [], ◌∷◌, sym, ap, subst, arith, inl, inr, length, get_or, Contains, Option, None, Some}
 use Rattle.std.specs.Prelude.{All, MatchOption, ⊤}
 use Rattle.std.specs.List.{list_all, list_any, range_with_len, zip, AllByRecursion}
-use Rattle.std.specs.List.Sorted.{IsStrictlySortedBy}
-use Rattle.std.specs.Cmp.Lexicographic.{slice_cmp}
-use Rattle.std.specs.Ordering.{nat_cmp}
-use Rattle.std.specs.declared.cmp.Ordering.TheVariants.{Less}
 use Rattle.std.proofs.lemmas.Bool.{cases_Bool, cases_eq, eqb-true, both_ways, and_parts, and_from}
 use Rattle.std.proofs.lemmas.Cmp.{nat_list_cmp_total}
 use Rattle.std.proofs.lemmas.List.{get_or_default}
-use Rattle.std.proofs.lemmas.List.Elements.{All-contains, All-from_recursion, recursion_from_All}
-use Rattle.ballot_base.specs.Lists.{IsIncreasing, IsLater, increasing_lists}
+use Rattle.std.proofs.lemmas.List.Elements.{All-contains, All-from_recursion}
+use Rattle.ballot_base.specs.Lists.{IsIncreasing, increasing_lists}
 use Rattle.ballot_base.specs.CandSet.{has_member}
 use Rattle.ballot_base.specs.Ballots.{Row, Election}
 use Rattle.ballot_base.proofs.Committees.{increasing_lists-contains, chosen-from_contains}
 use Rattle.ballot_base.proofs.Increasing.{has_member-filter, has_member_tail, same_increasing}
-use Rattle.ballot_base.proofs.Later.{IsLater-parts}
+use Rattle.ballot_base.proofs.Later.{sorted_from_later}
 use Rattle.tie_walk.specs.Sequences.{is_sequential_winner, sequential_winners}
 use Rattle.tie_walk.specs.Winners.{IsStart}
 use Rattle.tie_walk.specs.declared.sequential.SeqRule.{SeqRule}
@@ -33,14 +29,6 @@ use Rattle.tie_families.proofs.CloneLemmas.{clones-sameness}
 use Rattle.tie_families.proofs.Numbers.{some-passes, member-counts, within-turned}
 use Rattle.tie_families.proofs.PairLemmas.{pairs-first, pairs-pass}
 use Rattle.tie_families.proofs.WinnerLemmas.{many-from, below-from, any-at}
-
-sorted_from_later : (xs : List (List ℕ)) → AllPairs (λ x y. IsLater y x) xs → IsStrictlySortedBy (slice_cmp nat_cmp) xs
-unfolding IsStrictlySortedBy
-sorted_from_later [] pairs = tt
-sorted_from_later (x ∷ xs) pairs = (
-  recursion_from_All (λ y. slice_cmp nat_cmp x y ≡ Less) xs (λ k d inside. (IsLater-parts _ x (pairs 0 (suc k) d (omega arith) (omega (arith, inside)))).1),
-  sorted_from_later xs (λ i j d less inside. pairs (suc i) (suc j) d (omega (arith, less)) (omega (arith, inside))),
-)
 
 -- the two members of a list of one are the same
 only-one : (xs : List ℕ) (c d : ℕ) → length xs ≡ 1 → has_member xs c ≡ true → has_member xs d ≡ true → c ≡ d

@@ -1,12 +1,14 @@
 -- What one choice does to a family, as the code finds it.
 use Rattle.std.proofs.Common.{◌≡◌, ℕ, zero, suc, ◌+◌, ◌-◌, ◌<◌, ◌≤◌, ◌^◌, ◌==◌, ◌&&◌, ◌++◌, ◌∙◌, cond, length, Option, Some, None, is_some, slice_get, subst, Bool, true, false, List, [], ◌∷◌, refl, sym, ap, arith, inl, inr, filter, map, get_or, append_assoc}
 use Rattle.std.specs.Prelude.{fold, nat_le, nat_lt}
-use Rattle.std.specs.List.{list_all, range_with_len, AllByRecursion}
+use Rattle.std.specs.List.{list_all, range_with_len}
 use Rattle.std.proofs.lemmas.Bool.{cases_Bool, and_left, and_from, le-leb}
+use Rattle.std.proofs.Math.Bool.{and_assoc, and-true}
 use Rattle.ballot_base.specs.Lists.{IsIncreasing}
 use Rattle.ballot_base.specs.CandSet.{has_member, with_member}
 use Rattle.ballot_base.specs.Ballots.{Row}
 use Rattle.ballot_base.proofs.Increasing.{IsIncreasing-filter, IsIncreasing-lower, has_member-filter, with_member-above}
+use Rattle.ballot_base.proofs.ListLemmas.{all_range, list_all-same}
 use Rattle.tie_walk.proofs.LawLemmas.{IsIncreasing-range}
 use Rattle.tie_walk.specs.Sequences.{gain, others}
 use Rattle.tie_walk.specs.Steps.Choices.{may_choose, change, worth, is_no_better, better, worst, open_candidates, is_choice, HasSetsOf}
@@ -18,10 +20,6 @@ use Rattle.tie_walk.proofs.WinnersLemmas.{greatest, bounds-greatest, same_filter
 use Rattle.ballot_base.specs.Clones.{clones_among}
 use Rattle.tie_families.specs.Steps.Levels.{is_first_open, is_settled, has_settled, ties, shares_no_voter, tied_worth, is_independent, end, chosen, followed, family_changes}
 use Rattle.ballot_base.specs.Clones.{AreClones}
-
-list_all-same : {X : Type 0} (p q : X → Bool) (xs : List X) → ((x : X) → p x ≡ q x) → list_all p xs ≡ list_all q xs
-list_all-same p q [] same = refl
-list_all-same p q (x ∷ xs) same = ap (λ b. b && list_all p xs) (same x) ∙ ap (λ b. q x && b) (list_all-same p q xs same)
 
 no_more : (n : ℕ) → nat_le n 0 ≡ (n == 0)
 no_more n = grind arith
@@ -37,18 +35,6 @@ settled-is Grow weights m rows set best is =
     ∙ ap (λ b. b && list_all (λ c. nat_le (w c) 0) (others m set)) nothing
     ∙ list_all-same (λ c. nat_le (w c) 0) (λ c. w c == 0) (others m set) (λ c. no_more (w c)))
 settled-is Shrink weights m rows set best is = refl
-
-all_range : (P : ℕ → Type 0) (a n : ℕ) → ((c : ℕ) → a ≤ c → c < a + n → P c) → AllByRecursion P (range_with_len a n)
-all_range P a zero each = tt
-all_range P a (suc n) each = (each a (omega arith) (omega arith), all_range P (a + 1) n (λ c low high. each c (omega arith) (omega arith)))
-
-and-true : (b : Bool) → (b && true) ≡ b
-and-true true = refl
-and-true false = refl
-
-and-assoc : (a b c : Bool) → (a && (b && c)) ≡ ((a && b) && c)
-and-assoc true b c = refl
-and-assoc false b c = refl
 
 worths-are : (f g : ℕ → ℕ) → ((c : ℕ) → f c ≡ g c) → (xs : List ℕ) → map f xs ≡ map g xs
 worths-are f g same [] = refl
@@ -86,7 +72,7 @@ module _ (step : Step) (weights : List ℕ) (m : ℕ) (rows : List Row) (set : L
   ties-are table are fit is clones =
       same_filter (λ c. may_choose step set c && (w c == best && is_first_open step (get_or table c []) set c)) (λ c. is_choice step weights m rows set c && is_first_open step (clones_among m rows c) set c) (range_with_len 1 m)
       (all_range (λ c. (may_choose step set c && (w c == best && is_first_open step (get_or table c []) set c)) ≡ (is_choice step weights m rows set c && is_first_open step (clones_among m rows c) set c)) 1 m
-      (λ c low high. and-assoc (may_choose step set c) (w c == best) (is_first_open step (get_or table c []) set c)
+      (λ c low high. sym (and_assoc (may_choose step set c) (w c == best) (is_first_open step (get_or table c []) set c))
       ∙ ap (λ b. b && is_first_open step (get_or table c []) set c) (choice-is are fit is c low high)
       ∙ ap (λ s. is_choice step weights m rows set c && is_first_open step s set c) (clones c low (omega (arith, high)))))
 

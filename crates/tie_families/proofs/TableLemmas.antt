@@ -1,9 +1,10 @@
 -- The table of clones, and what it counts.
-use Rattle.std.proofs.Common.{◌≡◌, ℕ, suc, ◌+◌, ◌-◌, ◌<◌, ◌≤◌, ◌&&◌, ◌∙◌, Bool, true, false, cond, List, [], ◌∷◌, refl, sym, ap, arith, length, get_or, count_by}
+use Rattle.std.proofs.Common.{◌≡◌, ℕ, suc, ◌+◌, ◌-◌, ◌<◌, ◌≤◌, ◌&&◌, ◌∙◌, cond, List, [], ◌∷◌, refl, sym, ap, arith, length, get_or, count_by}
 use Rattle.std.specs.Prelude.{fold}
 use Rattle.std.specs.List.{range_with_len}
 use Rattle.std.proofs.lemmas.Bool.{lt-ltb, le-ltb}
 use Rattle.std.proofs.lemmas.List.Sums.{length-filter, fold-append}
+use Rattle.std.proofs.Math.Bool.{and-true}
 use Rattle.ballot_base.specs.Lists.{IsIncreasing}
 use Rattle.ballot_base.specs.CandSet.{has_member, common_members, with_member}
 use Rattle.ballot_base.specs.Ballots.{Row}
@@ -32,10 +33,6 @@ class-count m rows c set up = length-filter (has_member (clones_among m rows c))
           ap bit here,
           each (x + 1) xs (omega arith) up'.2,
         )
-      where
-        and-true : (b : Bool) → (b && true) ≡ b
-        and-true true = refl
-        and-true false = refl
 
 -- those of a class of a table
 pub own-count : (m : ℕ) (rows : List Row) (table : List (List ℕ)) (k : ℕ) (class set : List ℕ) → AreClones m rows table → 1 ≤ k → k ≤ m → class ≡ get_or table k [] → IsIncreasing 1 m set

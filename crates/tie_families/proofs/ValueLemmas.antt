@@ -1,9 +1,10 @@
 -- The values and bounds of the families of winners.
-use Rattle.std.proofs.Common.{◌≡◌, ℕ, ◌+◌, ◌-◌, ◌≤◌, ◌<◌, ◌∙◌, Bool, true, false, cond, List, ◌++◌, ◌||◌, append-nil, refl, sym, ap, subst, arith, inl, inr, length, length-append, Contains, get_or, []}
+use Rattle.std.proofs.Common.{◌≡◌, ℕ, ◌+◌, ◌-◌, ◌≤◌, ◌<◌, ◌∙◌, Bool, true, false, cond, List, ◌++◌, append-nil, refl, sym, ap, subst, arith, inl, inr, length, length-append, Contains, get_or, []}
 use mir.Val.{bool_byte}
 use Rattle.std.specs.List.{list_any, zip, AllByRecursion}
 use Rattle.std.proofs.lemmas.Bool.{cases_Bool, both_ways}
 use Rattle.std.proofs.lemmas.List.Elements.{All-contains, All-from_recursion}
+use Rattle.std.proofs.Math.Bool.{or-false}
 use Rattle.ballot_base.specs.Lists.{IsIncreasing, increasing_lists, lists_of}
 use Rattle.ballot_base.specs.Ballots.{Election}
 use Rattle.ballot_base.proofs.Committees.{increasing_lists-contains, chosen-from_contains}
@@ -13,6 +14,7 @@ use Rattle.tie_walk.specs.Steps.Choices.{change, is_choice, start}
 use Rattle.tie_walk.specs.declared.sequential.SeqRule.{SeqRule}
 use Rattle.tie_walk.specs.declared.sequential.SeqRule.TheVariants.{SeqPav, SeqCc, RevSeqPav}
 use Rattle.tie_walk.specs.declared.sequential.Step.TheVariants.{Grow, Shrink}
+use Rattle.tie_walk.proofs.HitWeights.{one-most}
 use Rattle.tie_walk.proofs.Choices.{reached_from_made}
 use Rattle.tie_walk.proofs.SequenceLemmas.{grown_set-made, left_set-made, reached-sized}
 use Rattle.tie_families.specs.Clones.{is_between}
@@ -112,10 +114,6 @@ module _ {e : Election} {rule : SeqRule} {m k : ℕ} {clones leasts mosts : List
 pub value-is : (s : Sequential) (set : List ℕ) → some_winner s s.election.m set 0 ≡ is_winner s set
 unfolding lists_of
 value-is s set = or-false (is_winner s (set ++ [])) ∙ ap (is_winner s) (append-nil set)
-  where
-    or-false : (b : Bool) → (b || false) ≡ b
-    or-false true = refl
-    or-false false = refl
 
 pub byte-is : (b : Bool) → bool_byte b ≡ cond b 1 0
 byte-is true = refl
@@ -123,16 +121,12 @@ byte-is false = refl
 
 -- ---- the bound
 
-bit-most : (b : Bool) → cond b 1 0 ≤ 1
-bit-most true = omega arith
-bit-most false = omega arith
-
 pub bound-law : (s : Sequential) (c : ℕ) (set : List ℕ) (left : ℕ)
     → IsBound (λ w. cond (is_winner s w) 1 0) s.election.m c set left (cond (some_winner s c set left) 1 0)
 bound-law s c set left added up size = elim (cases_Bool (is_winner s (set ++ added))) [
   | inl wins ↦
       let some = any-from (λ a. is_winner s (set ++ a)) (increasing_lists (c + 1) s.election.m left) added (increasing_lists-contains (c + 1) s.election.m left added (up, size)) wins in
-      omega (arith, bit-most (is_winner s (set ++ added)), ap {B = ℕ} (λ b. cond b 1 0) some)
+      omega (arith, one-most (is_winner s (set ++ added)), ap {B = ℕ} (λ b. cond b 1 0) some)
   | inr loses ↦ omega (arith, ap {B = ℕ} (λ b. cond b 1 0) loses)
 ]
 

@@ -1,10 +1,8 @@
 -- The committees of the families of the last level are the winners of a sequential rule.
-use Rattle.std.proofs.Common.{◌≡◌, ℕ, zero, suc, ◌+◌, ◌-◌, ◌/◌, ◌≤◌, Bool, true, List, ap, arith, inl, inr, get_or, Contains, add-one}
+use Rattle.std.proofs.Common.{◌≡◌, ℕ, zero, suc, ◌+◌, ◌-◌, ◌≤◌, Bool, true, List, ap, arith, inl, inr, get_or, Contains, add-one}
 use Rattle.std.specs.Prelude.{nat_le}
 use Rattle.std.specs.List.{list_any, range_with_len}
-use Rattle.std.proofs.Math.Nat.{div-mul-le_self}
 use Rattle.std.proofs.lemmas.Bool.{cases_lt, le-leb, leb-true, ne_eqb}
-use Rattle.std.proofs.lemmas.Nat.{le-div}
 use Rattle.std.proofs.lemmas.List.{get_or_past}
 use Rattle.std.proofs.lemmas.List.Folds.{Any-from_list_any, list_any-from_Any}
 use Rattle.ballot_base.specs.Lists.{IsIncreasing}
@@ -17,6 +15,7 @@ use Rattle.tie_walk.proofs.HitWeights.{hit_weights-length, hit_weights-at}
 use Rattle.tie_walk.proofs.LevelLemmas.{in_bounds}
 use Rattle.tie_walk.proofs.StepLemmas.{has_member-range}
 use Rattle.ballot_base.specs.Clones.{are_clones}
+use Rattle.ballot_base.proofs.WeightLemmas.{quotient-falls}
 use Rattle.tie_families.specs.Clones.{clone_count, has_as_many}
 use Rattle.tie_families.specs.Steps.Levels.{IsBelow, IsFalling}
 use Rattle.tie_families.proofs.CloneLemmas.{clones-sameness}
@@ -24,9 +23,6 @@ use Rattle.tie_families.proofs.Lists.{all-at, all-from}
 use Rattle.tie_families.proofs.Numbers.{some-passes, count-class}
 
 -- ---- later hits bring no more
-
-quotient-falls : (n j : ℕ) → 1 ≤ j → n / (j + 1) ≤ n / j
-quotient-falls n j h = le-div (n / (j + 1)) n j h (omega (arith, div-mul-le_self n (j + 1)))
 
 hit-falls : (rule : SeqRule) (m j : ℕ) → 1 ≤ j → hit_weight rule m (j + 1) ≤ hit_weight rule m j
 hit-falls SeqPav m j low = quotient-falls (common_multiple m) j low

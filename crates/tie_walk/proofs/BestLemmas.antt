@@ -7,6 +7,7 @@ use Rattle.ballot_base.specs.Lists.{IsIncreasing, increasing_lists}
 use Rattle.ballot_base.specs.CandSet.{has_member, with_member, without_member}
 use Rattle.ballot_base.proofs.Committees.{IsChosen, increasing_lists-chosen, increasing_lists-contains, length-increasing}
 use Rattle.ballot_base.proofs.Increasing.{IsIncreasing-lower, IsIncreasing-higher, IsIncreasing-push, IsIncreasing-filter, IsIncreasing-with_member, has_member-below, has_member_tail}
+use Rattle.ballot_base.proofs.ListLemmas.{AllByRecursion-append}
 use Rattle.tie_walk.specs.Ceilings.{IsBound}
 use Rattle.tie_walk.specs.Steps.Walks.{committees_below, committees_after, committees_from, IsPlace, IsFound, those_reaching}
 use Rattle.tie_walk.specs.declared.prefix.Prefix.{Prefix}
@@ -16,10 +17,6 @@ use Rattle.tie_walk.proofs.WalkLemmas.{below-bounded, from-root}
 use Rattle.tie_walk.proofs.WinnersLemmas.{greatest, greatest-low, greatest-most, greatest-next, greatest-first}
 
 -- ---- the committees from a place on
-
-all-append : (P : List ℕ → Type 0) (xs ys : List (List ℕ)) → AllByRecursion P xs → AllByRecursion P ys → AllByRecursion P (xs ++ ys)
-all-append P [] ys front back = back
-all-append P (x ∷ xs) ys front back = (front.0, all-append P xs ys front.1 back)
 
 joined : (first c m : ℕ) (set added : List ℕ) → first ≤ c + 1 → c ≤ m → IsIncreasing first c set → IsIncreasing (c + 1) m added → IsIncreasing first m (set ++ added)
 joined first c m [] added low high up more = IsIncreasing-lower first (c + 1) m added low more
@@ -36,7 +33,7 @@ module _ (m k : ℕ) where
   after-candidates : (last : ℕ) (front rest : List ℕ) → IsIncreasing 1 last front → IsIncreasing (last + 1) m rest → AllByRecursion (IsIncreasing 1 m) (committees_after m k front rest)
   after-candidates last front [] up more = tt
   after-candidates last front (n ∷ rest) up more =
-      all-append (IsIncreasing 1 m) (committees_after m k (front ++ n ∷ []) rest) (committees_below m k n front)
+      AllByRecursion-append (IsIncreasing 1 m) (committees_after m k (front ++ n ∷ []) rest) (committees_below m k n front)
       (after-candidates n (front ++ n ∷ []) rest (IsIncreasing-push 1 last front n up (omega (arith, more.0)) (omega (arith, more.0))) more.2)
       (below-candidates n front more.1 (IsIncreasing-higher 1 last n front (omega (arith, more.0)) up))
 
@@ -44,7 +41,7 @@ module _ (m k : ℕ) where
   from-candidates None here = tt
   from-candidates (Some prefix) here =
       let all : IsIncreasing 1 m prefix.set = IsIncreasing-higher 1 prefix.c m prefix.set here.0 here.1 in
-      all-append (IsIncreasing 1 m) (committees_below m k prefix.c prefix.set) (committees_after m k [] prefix.set)
+      AllByRecursion-append (IsIncreasing 1 m) (committees_below m k prefix.c prefix.set) (committees_after m k [] prefix.set)
       (below-candidates prefix.c prefix.set here.0 here.1) (after-candidates 0 [] prefix.set tt all)
 
 -- the first that reaches the least value

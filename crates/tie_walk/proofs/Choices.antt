@@ -8,6 +8,7 @@ use Rattle.std.proofs.lemmas.List.Elements.{Contains-append_left, Contains-appen
 use Rattle.std.proofs.lemmas.List.Folds.{Any-from_list_any, list_any-from_Any}
 use Rattle.std.proofs.lemmas.List.FromFn.{get_or-range_with_len, length-range_with_len}
 use Rattle.std.proofs.lemmas.Slice.Eq.{bytes_eq-Decides}
+use Rattle.ballot_base.proofs.ListLemmas.{Contains-map}
 use Rattle.tie_walk.specs.Sequences.{sequences}
 use Rattle.tie_walk.specs.Steps.Choices.{follows, IsReached}
 
@@ -82,13 +83,6 @@ module _ (may : List ℕ → ℕ → Bool) (change : List ℕ → ℕ → List �
   reached_last start i set r = change_by_list start i r.list set r.long r.made r.ends
 
 -- ---- all lists of choices
-
-pub Contains-map : {X Y : Type 0} (f : X → Y) (xs : List X) (x : X) → Contains xs x → Contains (map f xs) (f x)
-Contains-map f [] x c = absurd (omega (arith, c.1))
-Contains-map f (y ∷ ys) x (zero, inside, is) = (0, omega arith, ap f is)
-Contains-map f (y ∷ ys) x (suc i, inside, is) =
-    let rest = Contains-map f ys x (i, omega (arith, inside), is) in
-    (suc rest.0, omega (arith, rest.1), rest.2)
 
 pub Contains-flat_map : {X Y : Type 0} (f : X → List Y) (xs : List X) (x : X) (y : Y) → Contains xs x → Contains (f x) y → Contains (flat_map f xs) y
 Contains-flat_map f [] x y c d = absurd (omega (arith, c.1))

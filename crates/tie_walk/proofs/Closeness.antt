@@ -1,5 +1,5 @@
 -- Minimax: distances only grow as candidates are decided on.
-use Rattle.std.proofs.Common.{◌≡◌, ℕ, ◌+◌, ◌<◌, ◌≤◌, ◌==◌, ◌||◌, ◌&&◌, ◌∙◌, Bool, true, false, cond, not, List, [], ◌∷◌, ◌++◌, refl, sym, ap, arith, inl, inr, length, count_by, fold, max, take, get_or, slice_get, Some}
+use Rattle.std.proofs.Common.{◌≡◌, ℕ, ◌+◌, ◌<◌, ◌≤◌, ◌==◌, ◌||◌, ◌&&◌, ◌∙◌, Bool, false, cond, not, List, [], ◌∷◌, ◌++◌, sym, ap, arith, inl, inr, length, count_by, fold, max, take, get_or, slice_get, Some}
 use Rattle.std.specs.Prelude.{nat_le}
 use Rattle.std.specs.Ordering.{ord_max, nat_cmp}
 use Rattle.std.proofs.lemmas.List.{take_more}
@@ -7,6 +7,7 @@ use Rattle.std.proofs.lemmas.Option.{get_or_from_slice_get, slice_get_within}
 use Rattle.std.proofs.lemmas.Bool.{cases_lt, le-leb, lt-leb}
 use Rattle.std.proofs.lemmas.List.Folds.{list_any-append}
 use Rattle.std.proofs.lemmas.List.Sums.{sum_by-cons, fold-append}
+use Rattle.std.proofs.Math.Bool.{or-false}
 use Rattle.ballot_base.specs.Lists.{IsIncreasing}
 use Rattle.ballot_base.specs.CandSet.{has_member, members_upto}
 use Rattle.ballot_base.specs.Ballots.{Row}
@@ -40,10 +41,6 @@ ballot-side c m set added (n ∷ ballot) above =
             sum_by-cons (λ y. cond (not (has_member set y)) 1 0) n (members_upto ballot c),
           )
     ]
-  where
-    or-false : (b : Bool) → (b || false) ≡ b
-    or-false true = refl
-    or-false false = refl
 
 -- those of the set who are not on the ballot up to c are not on the ballot
 set-side : (c first : ℕ) (set added ballot : List ℕ) → IsIncreasing first c set

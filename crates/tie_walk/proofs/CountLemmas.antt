@@ -11,7 +11,8 @@ use Rattle.ballot_base.specs.CandSet.{members_upto}
 use Rattle.ballot_base.proofs.Committees.{IsChosen, increasing_lists-chosen}
 use Rattle.ballot_base.proofs.FirstMember.{slice_cmp_same}
 use Rattle.ballot_base.proofs.Increasing.{IsIncreasing-higher}
-use Rattle.ballot_base.proofs.Later.{AllByRecursion-weaker, is_later-self}
+use Rattle.ballot_base.proofs.Later.{is_later-self}
+use Rattle.ballot_base.proofs.ListLemmas.{AllByRecursion-weaker}
 use Rattle.tie_walk.specs.Ceilings.{is_open, is_ahead, live_below}
 use Rattle.tie_walk.specs.Steps.Walks.{open_after}
 use Rattle.tie_walk.proofs.LiveLemmas.{upto-all, upto-increasing, upto-next, upto-rest, ahead-start, live-open, live-parts, live-past, live-shut}

@@ -7,6 +7,7 @@ use Rattle.std.proofs.lemmas.Bool.{cases_order}
 use Rattle.std.proofs.lemmas.List.{take_more}
 use Rattle.std.proofs.lemmas.List.Sums.{fold-append, sum_by-cons, length-filter, count_by-le-length}
 use Rattle.std.proofs.lemmas.Option.{get_or_from_slice_get, slice_get_within}
+use Rattle.std.proofs.Math.Bool.{and_comm}
 use Rattle.ballot_base.specs.Lists.{IsIncreasing}
 use Rattle.ballot_base.specs.CandSet.{has_member, common_members}
 use Rattle.ballot_base.specs.Ballots.{Row}
@@ -23,17 +24,11 @@ count-not p (x ∷ xs) =
     let one : cond (p x) 1 0 + cond (not (p x)) 1 0 ≡ 1 = elim (p x) as (λ b. cond b 1 0 + cond (not b) 1 0 ≡ 1) [ true ↦ refl | false ↦ refl ] in
     omega (arith, yes, no', one, count-not p xs)
 
-and-turned : (a b : Bool) → (a && b) ≡ (b && a)
-and-turned true true = refl
-and-turned true false = refl
-and-turned false true = refl
-and-turned false false = refl
-
 -- the common members, either way
 pub common-turned : (first last : ℕ) (xs ys : List ℕ) → IsIncreasing first last xs → IsIncreasing first last ys → common_members xs ys ≡ common_members ys xs
 common-turned first last xs ys i j =
     same_increasing first last (common_members xs ys) (common_members ys xs) (IsIncreasing-filter (has_member ys) first last xs i) (IsIncreasing-filter (has_member xs) first last ys j)
-    (λ n. has_member-filter (has_member ys) xs n ∙ and-turned (has_member ys n) (has_member xs n) ∙ sym (has_member-filter (has_member xs) ys n))
+    (λ n. has_member-filter (has_member ys) xs n ∙ and_comm (has_member ys n) (has_member xs n) ∙ sym (has_member-filter (has_member xs) ys n))
 
 -- both sizes have the common members and those who stand in one alone
 pub distance-sizes : (first last : ℕ) (xs ys : List ℕ) → IsIncreasing first last xs → IsIncreasing first last ys

@@ -25,7 +25,7 @@ hit_weights-made rule m table long made =
     ext_get_or 0 (take m table) (hit_weights rule m) (size ∙ sym (hit_weights-length rule m))
     (λ i h. let low : i < m = omega (arith, size) in get_or-take m table i 0 low ∙ made i low ∙ sym (hit_weights-at rule m i low))
 
-one-most : (b : Bool) → cond b 1 0 ≤ 1
+pub one-most : (b : Bool) → cond b 1 0 ≤ 1
 one-most true = omega arith
 one-most false = omega arith
 

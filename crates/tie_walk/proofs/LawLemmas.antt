@@ -1,12 +1,14 @@
 -- Which committees win, their order, and that there is one.
-use Rattle.std.proofs.Common.{◌≡◌, ℕ, zero, suc, ◌+◌, ◌≤◌, ◌==◌, Bool, true, false, cond, List, [], ◌∷◌, refl, sym, ap, ◌∙◌, subst, arith, inl, inr, ◌⊎◌, filter, max, length, Contains, AllPairs}
+use Rattle.std.proofs.Common.{◌≡◌, ℕ, zero, suc, ◌≤◌, ◌==◌, Bool, true, false, cond, List, [], ◌∷◌, refl, sym, ap, ◌∙◌, subst, arith, inl, inr, ◌⊎◌, filter, max, length, Contains, AllPairs}
 use Rattle.std.specs.List.{range_with_len}
 use Rattle.std.proofs.lemmas.Bool.{eq-eqb, eqb-true, cases_lt}
 use Rattle.std.proofs.lemmas.List.Elements.{All-contains, All-contains_itself, All-filter, All-from_recursion, filter_passes}
 use Rattle.std.proofs.lemmas.List.FromFn.{length-range_with_len}
 use Rattle.std.proofs.lemmas.List.Kept.{AllPairs-filter}
 use Rattle.ballot_base.specs.Lists.{IsIncreasing, increasing_lists, IsLater}
+pub use Rattle.ballot_base.proofs.Committees.{IsIncreasing-range}
 use Rattle.ballot_base.proofs.Committees.{chosen-from_contains, increasing_lists-contains, increasing_lists-order, increasing_lists-once}
+use Rattle.ballot_base.proofs.ListLemmas.{Contains-later}
 use Rattle.tie_walk.specs.Winners.{best_value, is_unbeaten, winners}
 use Rattle.tie_walk.proofs.WinnersLemmas.{greatest, values-greatest, winners-best}
 
@@ -16,9 +18,6 @@ Contains-from_filter p xs x c = All-contains (Contains xs) (filter p xs) x (All-
 
 pub passes-from_filter : {X : Type 0} (p : X → Bool) (xs : List X) (x : X) → Contains (filter p xs) x → p x ≡ true
 passes-from_filter p xs x c = All-contains (λ y. p y ≡ true) (filter p xs) x (filter_passes p xs) c
-
-Contains-later : {X : Type 0} (x y : X) (xs : List X) → Contains xs y → Contains (x ∷ xs) y
-Contains-later x y xs c = (suc c.0, omega (arith, c.1), c.2)
 
 pub Contains-filter : {X : Type 0} (p : X → Bool) (xs : List X) (x : X) → Contains xs x → p x ≡ true → Contains (filter p xs) x
 Contains-filter p [] x c passes = absurd (omega (arith, c.1))
@@ -49,10 +48,6 @@ no_greater_value value m k set c =
     let all = increasing_lists 1 m k in
     let bound : List ℕ → Type 0 = λ (other : List ℕ). value other ≤ greatest value 0 all in
     All-contains bound all set (All-from_recursion bound all (values-greatest value 0 all)) c
-
-pub IsIncreasing-range : (from run last : ℕ) → from + run ≤ last + 1 → IsIncreasing from last (range_with_len from run)
-IsIncreasing-range from zero last h = tt
-IsIncreasing-range from (suc run) last h = (omega arith, omega arith, IsIncreasing-range (from + 1) run last (omega arith))
 
 -- the first committee
 first_committee : (m k : ℕ) → k ≤ m → Contains (increasing_lists 1 m k) (range_with_len 1 k)

@@ -1,20 +1,20 @@
 -- The levels of the sequential rules: what they have, and that the last one has the winners.
-use Rattle.std.proofs.Common.{◌≡◌, ℕ, zero, suc, ◌+◌, ◌≤◌, ◌==◌, Bool, true, false, not, List, [], ◌∷◌, refl, sym, ◌∙◌, subst, arith, inl, inr, map, filter, Contains}
-use Rattle.std.specs.List.{flat_map, range_with_len}
+use Rattle.std.proofs.Common.{◌≡◌, ℕ, zero, suc, ◌+◌, ◌≤◌, ◌==◌, Bool, true, false, not, List, [], ◌∷◌, sym, ◌∙◌, subst, arith, inl, inr, filter, Contains}
+use Rattle.std.specs.List.{range_with_len}
 use Rattle.std.specs.List.Sorted.{IsStrictlySortedBy}
 use Rattle.std.specs.Cmp.Lexicographic.{slice_cmp}
 use Rattle.std.specs.Ordering.{nat_cmp}
 use Rattle.std.proofs.lemmas.Bool.{cases_lt, and_parts}
-use Rattle.std.proofs.lemmas.List.Elements.{Contains-append_cases}
 use Rattle.ballot_base.specs.Lists.{IsIncreasing}
 use Rattle.ballot_base.specs.CandSet.{has_member}
 use Rattle.ballot_base.specs.Ballots.{Row}
 use Rattle.ballot_base.proofs.Increasing.{IsIncreasing-filter, IsIncreasing-with_member, has_member-below, has_member-above, has_member-filter}
+use Rattle.ballot_base.proofs.ListLemmas.{Contains-map, Contains-from_map, Contains-from_flat_map}
 use Rattle.tie_walk.specs.Steps.Choices.{may_choose, change, open_candidates, is_choice, changes, IsNextLevel, start, follows, IsReached, IsLevel}
 use Rattle.tie_walk.specs.declared.sequential.Step.{Step}
 use Rattle.tie_walk.specs.declared.sequential.Step.TheVariants.{Grow, Shrink}
 use Rattle.tie_walk.proofs.LawLemmas.{passes-from_filter, Contains-filter, IsIncreasing-range}
-use Rattle.tie_walk.proofs.Choices.{AreCandidates, Contains-map, Contains-flat_map, Contains-range, reached_none, reached_start, reached_more, reached_last}
+use Rattle.tie_walk.proofs.Choices.{AreCandidates, Contains-flat_map, Contains-range, reached_none, reached_start, reached_more, reached_last}
 
 -- ---- what a change makes of a set
 
@@ -23,25 +23,6 @@ change-increasing Grow m set c low high up = IsIncreasing-with_member 1 m set c 
 change-increasing Shrink m set c low high up = IsIncreasing-filter (λ x. not (x == c)) 1 m set up
 
 -- ---- choices are candidates
-
-Contains-later : {X : Type 0} (x y : X) (xs : List X) → Contains xs y → Contains (x ∷ xs) y
-Contains-later x y xs c = (suc c.0, omega (arith, c.1), c.2)
-
-Contains-from_map : {X Y : Type 0} (f : X → Y) (xs : List X) (y : Y) → Contains (map f xs) y → (x : X) × Contains xs x × (f x ≡ y)
-Contains-from_map f [] y c = absurd (omega (arith, c.1))
-Contains-from_map f (x ∷ xs) y (zero, inside, is) = (x, (0, omega arith, refl), is)
-Contains-from_map f (x ∷ xs) y (suc i, inside, is) =
-    let rest = Contains-from_map f xs y (i, omega (arith, inside), is) in
-    (rest.0, Contains-later x rest.0 xs rest.1, rest.2)
-
-Contains-from_flat_map : {X Y : Type 0} (f : X → List Y) (xs : List X) (y : Y) → Contains (flat_map f xs) y → (x : X) × Contains xs x × Contains (f x) y
-Contains-from_flat_map f [] y c = absurd (omega (arith, c.1))
-Contains-from_flat_map f (x ∷ xs) y c = elim (Contains-append_cases (f x) (flat_map f xs) y c) [
-  | inl here ↦ (x, (0, omega arith, refl), here)
-  | inr later ↦
-      let rest = Contains-from_flat_map f xs y later in
-      (rest.0, Contains-later x rest.0 xs rest.1, rest.2)
-]
 
 pub both_false : (b : Bool) → b ≡ false → b ≡ true → ⊥
 both_false b left right = let e : false ≡ true = sym left ∙ right in cc

@@ -1,5 +1,5 @@
 -- Live prefixes: those still to be entered after a start, and on the way down to it.
-use Rattle.std.proofs.Common.{◌≡◌, ℕ, zero, suc, ◌+◌, ◌-◌, ◌<◌, ◌≤◌, ◌||◌, ◌∙◌, ◌⊎◌, Bool, true, false, cond, List, [], ◌∷◌, ◌++◌, Option, None, Some, refl, sym, ap, subst, arith, inl, inr, length, length-append, filter, map, append_assoc}
+use Rattle.std.proofs.Common.{◌≡◌, ℕ, zero, suc, ◌+◌, ◌-◌, ◌<◌, ◌≤◌, ◌||◌, ◌∙◌, ◌⊎◌, Bool, true, false, cond, List, [], ◌∷◌, ◌++◌, Option, None, Some, refl, sym, ap, subst, arith, inl, inr, length, length-append, filter, map, append_assoc, append-nil}
 use Rattle.std.specs.Prelude.{nat_le}
 use Rattle.std.specs.List.{AllByRecursion, list_any}
 use Rattle.std.specs.Str.{bytes_eq}
@@ -17,7 +17,7 @@ use Rattle.tie_walk.specs.Winners.{best_value, winners}
 use Rattle.tie_walk.proofs.GreatestSums.{some_list}
 use Rattle.tie_walk.proofs.StartLemmas.{later_than-filter}
 use Rattle.tie_walk.proofs.WinnersLemmas.{winners-from_best}
-use Rattle.tie_walk.proofs.WalkLemmas.{prefix_at, append_none, below-split, below-full, from-root, start-split, after-start}
+use Rattle.tie_walk.proofs.WalkLemmas.{prefix_at, below-split, below-full, from-root, start-split, after-start}
 use Rattle.tie_walk.proofs.OpenLemmas.{reaching-append, none-last, open-sizes, open-none, open_after-push, shut-large}
 
 -- ---- the members up to c
@@ -33,7 +33,7 @@ upto-none first last c (x ∷ set) low up = rw (lt-leb x c (omega (arith, low, u
 upto-part : (c d m : ℕ) (set added : List ℕ) → d ≤ c → IsIncreasing 1 d set → IsIncreasing (c + 1) m added → members_upto (set ++ added) d ≡ set
 upto-part c d m set added low up more =
     filter-append (λ n. nat_le n d) set added ∙ ap (λ l. l ++ members_upto added d) (upto-all 1 d set up)
-    ∙ ap (λ l. set ++ l) (upto-none (c + 1) m d added (omega arith) more) ∙ append_none set
+    ∙ ap (λ l. set ++ l) (upto-none (c + 1) m d added (omega arith) more) ∙ append-nil set
 
 pub upto-twice : (c : ℕ) (set : List ℕ) → members_upto (members_upto set (c + 1)) c ≡ members_upto set c
 upto-twice c [] = refl
@@ -277,7 +277,7 @@ all-live bound m k best = live-open m k None bound best m 0 [] (omega arith) tt 
 module _ (m k : ℕ) where
   -- the committees after one of them are those after the last of its beginnings, and then those after the beginning
   pub after-append : (front set rest : List ℕ) → committees_after m k front (set ++ rest) ≡ committees_after m k (front ++ set) rest ++ committees_after m k front set
-  after-append front [] rest = ap (λ f. committees_after m k f rest) (sym (append_none front)) ∙ sym (append_none (committees_after m k (front ++ []) rest))
+  after-append front [] rest = ap (λ f. committees_after m k f rest) (sym (append-nil front)) ∙ sym (append-nil (committees_after m k (front ++ []) rest))
   after-append front (x ∷ set) rest =
       ap (λ ls. ls ++ committees_below m k x front) (after-append (front ++ x ∷ []) set rest)
       ∙ append_assoc (committees_after m k ((front ++ x ∷ []) ++ set) rest) (committees_after m k (front ++ x ∷ []) set) (committees_below m k x front)

@@ -1,5 +1,5 @@
 -- The walk over the winners: which prefixes are still to be entered, and which committees reach the best value.
-use Rattle.std.proofs.Common.{◌≡◌, ℕ, zero, suc, ◌+◌, ◌-◌, ◌^◌, ◌<◌, ◌≤◌, ◌&&◌, ◌∙◌, true, false, cond, List, [], ◌∷◌, ◌++◌, Option, None, Some, refl, sym, ap, arith, inl, inr, length, length-append, append_assoc}
+use Rattle.std.proofs.Common.{◌≡◌, ℕ, zero, suc, ◌+◌, ◌-◌, ◌^◌, ◌<◌, ◌≤◌, ◌&&◌, ◌∙◌, true, false, cond, List, [], ◌∷◌, ◌++◌, Option, None, Some, refl, sym, ap, arith, inl, inr, length, length-append, append_assoc, append-nil}
 use Rattle.std.specs.Prelude.{nat_le}
 use Rattle.std.specs.List.{AllByRecursion}
 use Rattle.std.proofs.Math.Nat.{pow-suc, pow-le-pow_right}
@@ -11,7 +11,7 @@ use Rattle.ballot_base.proofs.Increasing.{with_member-above}
 use Rattle.tie_walk.specs.Ceilings.{IsBound, is_open}
 use Rattle.tie_walk.specs.Steps.Walks.{committees_below, committees_after, committees_from, IsPlace, IsPast, work_left, those_reaching, open_below, open_after, open_from}
 use Rattle.tie_walk.specs.declared.prefix.Prefix.{Prefix}
-use Rattle.tie_walk.proofs.WalkLemmas.{append_none, below-full, below-short, below-bounded, from-grown, from-past, work-grown}
+use Rattle.tie_walk.proofs.WalkLemmas.{below-full, below-short, below-bounded, from-grown, from-past, work-grown}
 
 -- ---- committees that reach the best value
 
@@ -137,7 +137,7 @@ module _ (bound : ℕ → List ℕ → ℕ → ℕ) (m k best : ℕ) where
 
   pub open_after-push : (front set : List ℕ) (n : ℕ)
       → open_after bound m k best front (set ++ n ∷ []) ≡ open_below bound m k best (m - n) n (front ++ set) + open_after bound m k best front set
-  open_after-push front [] n = omega (arith, ap (open_below bound m k best (m - n) n) (append_none front))
+  open_after-push front [] n = omega (arith, ap (open_below bound m k best (m - n) n) (append-nil front))
   open_after-push front (x ∷ set) n =
       omega (
         arith,

@@ -1,23 +1,26 @@
 -- The last level has the sequential winners.
-use Rattle.std.proofs.Common.{◌≡◌, ℕ, zero, suc, ◌+◌, ◌-◌, ◌≤◌, ◌==◌, ◌&&◌, ◌||◌, Bool, true, false, not, cond, List, [], ◌∷◌, refl, sym, ap, ◌∙◌, subst, arith, inl, inr, ◌⊎◌, filter, length, Contains, AllPairs, Ordering}
+use Rattle.std.proofs.Common.{◌≡◌, ℕ, zero, suc, ◌+◌, ◌-◌, ◌≤◌, ◌==◌, ◌&&◌, ◌||◌, Bool, true, false, not, cond, List, [], ◌∷◌, refl, sym, ap, ◌∙◌, subst, arith, inl, inr, ◌⊎◌, filter, length, Contains, Ordering}
 use Rattle.std.specs.Prelude.{fold, nat_le}
 use Rattle.std.specs.List.{list_all, list_any, range_with_len, AllByRecursion}
 use Rattle.std.specs.List.Sorted.{IsStrictlySortedBy}
 use Rattle.std.specs.Cmp.{IsTotalOrder}
 use Rattle.std.specs.Cmp.Lexicographic.{slice_cmp}
-use Rattle.std.specs.Ordering.{nat_cmp, is_gt, ordering_reverse}
+use Rattle.std.specs.Ordering.{nat_cmp, ordering_reverse}
 use Rattle.std.specs.declared.cmp.Ordering.TheVariants.{Less, Equal, Greater}
 use Rattle.std.specs.Str.{bytes_eq}
-use Rattle.std.proofs.lemmas.Bool.{cases_Bool, cases_eq, cases_order, ne_eqb, and_parts}
+use Rattle.std.proofs.lemmas.Bool.{cases_Bool, cases_eq, cases_order, ne_eqb, not-true}
 use Rattle.std.proofs.lemmas.Cmp.{nat_list_cmp_total, tied_itself}
-use Rattle.std.proofs.lemmas.List.Elements.{All-from_recursion, recursion_from_All, All-contains}
+use Rattle.std.proofs.lemmas.List.Elements.{All-from_recursion, All-contains}
 use Rattle.std.proofs.lemmas.List.Kept.{IsStrictlySortedBy-filter}
-use Rattle.ballot_base.specs.Lists.{IsIncreasing, IsLater, increasing_lists}
+use Rattle.std.proofs.lemmas.List.FromFn.{length-range_with_len}
+use Rattle.ballot_base.specs.Lists.{IsIncreasing, increasing_lists}
 use Rattle.ballot_base.specs.CandSet.{has_member, with_member, without_member}
 use Rattle.ballot_base.specs.Ballots.{Row, Election}
 use Rattle.ballot_base.proofs.Committees.{increasing_lists-contains, increasing_lists-order}
 use Rattle.ballot_base.proofs.FirstMember.{without_member_head}
 use Rattle.ballot_base.proofs.Increasing.{IsIncreasing-filter, has_member-filter, has_member_head, has_member_tail, same_increasing, with_member-lt, with_member-gt}
+use Rattle.ballot_base.proofs.Later.{sorted_from_later}
+use Rattle.ballot_base.proofs.ListLemmas.{Contains-later}
 use Rattle.tie_walk.specs.Sequences.{hit_weights, sequential_winners, loss, has_greatest_gain, has_least_loss, is_grown, is_shrunk, is_grown_set, is_left_set, sequences}
 use Rattle.tie_walk.specs.Steps.Choices.{step_of, choices_of, may_choose, change, open_candidates, is_choice, start, follows, IsReached, IsLevel}
 use Rattle.tie_walk.specs.declared.sequential.SeqRule.{SeqRule}
@@ -57,20 +60,12 @@ abbrev pub IsSized : Step → ℕ → ℕ → List ℕ → Type 0
 IsSized Grow m size set = length set ≡ size
 IsSized Shrink m size set = length set + size ≡ m
 
-not_true : (b : Bool) → not b ≡ true → b ≡ false
-not_true true e = sym e
-not_true false e = refl
-
-length-range : (a n : ℕ) → length (range_with_len a n) ≡ n
-length-range a zero = refl
-length-range a (suc n) = omega (arith, length-range (a + 1) n)
-
 sized-start : (step : Step) (m : ℕ) → IsSized step m 0 (start step m)
 sized-start Grow m = refl
-sized-start Shrink m = omega (arith, length-range 1 m)
+sized-start Shrink m = omega (arith, length-range_with_len 1 m)
 
 sized-change : (step : Step) (m size : ℕ) (set : List ℕ) (c : ℕ) → IsIncreasing 1 m set → may_choose step set c ≡ true → IsSized step m size set → IsSized step m (suc size) (change step set c)
-sized-change Grow m size set c up open' sized = omega (arith, length-with_member set c (not_true (has_member set c) open'), sized)
+sized-change Grow m size set c up open' sized = omega (arith, length-with_member set c (not-true (has_member set c) open'), sized)
 sized-change Shrink m size set c up open' sized = omega (arith, length-without_member 1 m set c up open', sized)
 
 pub reached-sized : (step : Step) (weights : List ℕ) (m : ℕ) (rows : List Row) (size : ℕ) (set : List ℕ) → IsReached (is_choice step weights m rows) (change step) (start step m) size set → IsSized step m size set
@@ -86,9 +81,6 @@ reached-sized step weights m rows (suc size) set r =
 Contains-cons : {X : Type 0} (y : X) (ys : List X) (x : X) → Contains (y ∷ ys) x → (y ≡ x) ⊎ Contains ys x
 Contains-cons y ys x (zero, inside, is) = inl is
 Contains-cons y ys x (suc i, inside, is) = inr (i, omega (arith, inside), is)
-
-Contains-later : {X : Type 0} (x y : X) (xs : List X) → Contains xs y → Contains (x ∷ xs) y
-Contains-later x y xs c = (suc c.0, omega (arith, c.1), c.2)
 
 less_twice : {K : Type 0} {R : K → K → Ordering} (o : IsTotalOrder R) (x y : K) → R x y ≡ Less → R y x ≡ Less → ⊥
 less_twice {K} {R} o x y xy yx = let e : Less ≡ Greater = sym xy ∙ o.antisymm x y ∙ ap ordering_reverse yx in cc
@@ -122,25 +114,6 @@ same_sorted {K} {R} o (x ∷ xs) (y ∷ ys) up up' to from =
       | inr later ↦ later
     ] in
     ap (λ w. w ∷ xs) first ∙ ap (λ l. y ∷ l) (same_sorted o xs ys up.1 up'.1 to' from')
-
--- ---- the lists of one size are in order
-
-reverse_of : (o p : Ordering) → o ≡ ordering_reverse p → is_gt p ≡ true → o ≡ Less
-reverse_of o Less is greater = let e : false ≡ true = greater in cc
-reverse_of o Equal is greater = let e : false ≡ true = greater in cc
-reverse_of o Greater is greater = is
-
-less_from_later : (x y : List ℕ) → IsLater y x → slice_cmp nat_cmp x y ≡ Less
-less_from_later x y later =
-    reverse_of (slice_cmp nat_cmp x y) (slice_cmp nat_cmp y x) (nat_list_cmp_total.antisymm x y) (and_parts (length y == length x) (is_gt (slice_cmp nat_cmp y x)) later).1
-
-sorted_from_later : (xs : List (List ℕ)) → AllPairs (λ x y. IsLater y x) xs → IsStrictlySortedBy (slice_cmp nat_cmp) xs
-unfolding IsStrictlySortedBy
-sorted_from_later [] pairs = tt
-sorted_from_later (x ∷ xs) pairs = (
-  recursion_from_All (λ y. slice_cmp nat_cmp x y ≡ Less) xs (λ k d inside. less_from_later x _ (pairs 0 (suc k) d (omega arith) (omega (arith, inside)))),
-  sorted_from_later xs (λ i j d less inside. pairs (suc i) (suc j) d (omega (arith, less)) (omega (arith, inside))),
-)
 
 -- ---- the rules' own sequences
 

@@ -1,13 +1,15 @@
 -- The best candidates of a set, found one by one.
-use Rattle.std.proofs.Common.{◌≡◌, ℕ, zero, suc, ◌+◌, ◌-◌, ◌<◌, ◌≤◌, ◌^◌, ◌==◌, ◌&&◌, ◌++◌, Bool, true, false, cond, List, [], ◌∷◌, refl, sym, ap, ◌∙◌, arith, inl, inr, map, filter, min}
+use Rattle.std.proofs.Common.{◌≡◌, ℕ, zero, suc, ◌+◌, ◌-◌, ◌<◌, ◌≤◌, ◌^◌, ◌==◌, ◌&&◌, ◌++◌, Bool, true, false, cond, List, [], ◌∷◌, refl, sym, ap, ◌∙◌, arith, inl, inr, map, filter, min, append-nil}
 use Rattle.std.specs.Prelude.{fold, nat_le}
 use Rattle.std.specs.List.{list_all, range_with_len, AllByRecursion}
 use Rattle.std.proofs.lemmas.Bool.{cases_Bool, eqb-true, eq-eqb, or_left, or_cases, and_left}
 use Rattle.std.proofs.lemmas.List.Elements.{filter-append}
 use Rattle.std.proofs.lemmas.List.Sums.{fold-append}
+use Rattle.std.proofs.Math.Bool.{and_assoc, and-true}
 use Rattle.ballot_base.specs.CandSet.{has_member}
 use Rattle.ballot_base.specs.Ballots.{Row}
 use Rattle.ballot_base.proofs.Increasing.{has_member-filter}
+use Rattle.ballot_base.proofs.ListLemmas.{all_range, list_all-same}
 use Rattle.tie_walk.specs.Steps.Choices.{may_choose, change, worth, is_no_better, better, worst, open_candidates, is_choice, changes}
 use Rattle.tie_walk.specs.declared.sequential.Step.{Step}
 use Rattle.tie_walk.specs.declared.sequential.Step.TheVariants.{Grow, Shrink}
@@ -38,13 +40,9 @@ best-taken f low w p c start is =
     ap (λ l. fold f low (map w l)) (filter-next p c start ∙ ap (λ b. kept ++ cond b (c ∷ []) []) is)
     ∙ ap (fold f low) (map-push w kept (c ∷ [])) ∙ fold-append f low (map w kept) (w c ∷ [])
 
-append_none : {X : Type 0} (xs : List X) → xs ++ [] ≡ xs
-append_none [] = refl
-append_none (x ∷ xs) = ap (λ l. x ∷ l) (append_none xs)
-
 pub filter-left : (p : ℕ → Bool) (c : ℕ) → 1 ≤ c → p c ≡ false → filter p (range_with_len 1 (c + 1 - 1)) ≡ filter p (range_with_len 1 (c - 1))
 filter-left p c low is =
-    filter-next p c low ∙ ap (λ b. filter p (range_with_len 1 (c - 1)) ++ cond b (c ∷ []) []) is ∙ append_none (filter p (range_with_len 1 (c - 1)))
+    filter-next p c low ∙ ap (λ b. filter p (range_with_len 1 (c - 1)) ++ cond b (c ∷ []) []) is ∙ append-nil (filter p (range_with_len 1 (c - 1)))
 
 pub map-taken : {X : Type 0} (f : ℕ → X) (p : ℕ → Bool) (c : ℕ) → 1 ≤ c → p c ≡ true
     → map f (filter p (range_with_len 1 (c + 1 - 1))) ≡ map f (filter p (range_with_len 1 (c - 1))) ++ f c ∷ []
@@ -60,10 +58,6 @@ has_member-range a (suc n) c low high = elim (cases_Bool (a == c)) [
       let next : a + 1 ≤ c = grind (arith, eq-eqb) in
       rw other (has_member-range (a + 1) n c next (omega arith))
 ]
-
-all_range : (P : ℕ → Type 0) (a n : ℕ) → ((c : ℕ) → a ≤ c → c < a + n → P c) → AllByRecursion P (range_with_len a n)
-all_range P a zero each = tt
-all_range P a (suc n) each = (each a (omega arith) (omega arith), all_range P (a + 1) n (λ c low high. each c (omega arith) (omega arith)))
 
 at_member : (P : ℕ → Type 0) (xs : List ℕ) (c : ℕ) → AllByRecursion P xs → has_member xs c ≡ true → P c
 at_member P [] c all is = elim (true_is_not (sym is)) [ ]
@@ -97,12 +91,8 @@ module _ {X : Type 0} (value : X → ℕ) where
   bounds-lowest high bound (x ∷ xs) =
       let more = bounds-lowest (min high (value x)) bound xs in
       let split : nat_le bound (min high (value x)) ≡ (nat_le bound high && nat_le bound (value x)) = grind arith in
-      and-assoc (nat_le bound high) (nat_le bound (value x)) (list_all (λ y. nat_le bound (value y)) xs)
+      sym (and_assoc (nat_le bound high) (nat_le bound (value x)) (list_all (λ y. nat_le bound (value y)) xs))
       ∙ ap (λ b. b && list_all (λ y. nat_le bound (value y)) xs) (sym split) ∙ more
-    where
-      and-assoc : (a b c : Bool) → (a && (b && c)) ≡ ((a && b) && c)
-      and-assoc true b c = refl
-      and-assoc false b c = refl
 
 at_most_is_equal : (n best : ℕ) → best ≤ n → nat_le n best ≡ (n == best)
 at_most_is_equal n best h = grind arith
@@ -125,10 +115,6 @@ best-is Shrink w xs c inside fits =
     sym (at_most_is_equal (w c) best (at_member (λ d. best ≤ w d) xs c (values-lowest w high xs) inside))
     ∙ sym (bounds-lowest w high (w c) xs) ∙ ap (λ b. b && list_all (λ d. nat_le (w c) (w d)) xs) (no_more (w c) high fits)
 
-list_all-same : {X : Type 0} (p q : X → Bool) (xs : List X) → ((x : X) → p x ≡ q x) → list_all p xs ≡ list_all q xs
-list_all-same p q [] same = refl
-list_all-same p q (x ∷ xs) same = ap (λ b. b && list_all p xs) (same x) ∙ ap (λ b. q x && b) (list_all-same p q xs same)
-
 module _ (step : Step) (weights : List ℕ) (m : ℕ) (rows : List Row) (set : List ℕ) (w : ℕ → ℕ) (best : ℕ) where
   choice-is : ((c : ℕ) → w c ≡ worth step weights rows set c) → ((c : ℕ) → w c ≤ 2 ^ 128 - 1) → best ≡ fold (better step) (worst step) (map w (open_candidates step m set))
       → (c : ℕ) → 1 ≤ c → c < 1 + m → (may_choose step set c && (w c == best)) ≡ is_choice step weights m rows set c
@@ -147,10 +133,6 @@ module _ (step : Step) (weights : List ℕ) (m : ℕ) (rows : List Row) (set : L
             and_left (may_choose step set c) (w c == best) shut
             ∙ sym (and_left (has_member all c) (list_all (λ d. is_no_better step (worth step weights rows set d) (worth step weights rows set c)) all) (member ∙ shut))
       ]
-    where
-      and-true : (b : Bool) → (b && true) ≡ b
-      and-true true = refl
-      and-true false = refl
 
   -- the candidates with the best worth are the choices
   pub changes-made : ((c : ℕ) → w c ≡ worth step weights rows set c) → ((c : ℕ) → w c ≤ 2 ^ 128 - 1) → best ≡ fold (better step) (worst step) (map w (open_candidates step m set))

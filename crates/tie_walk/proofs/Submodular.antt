@@ -1,5 +1,5 @@
 -- Values whose gains only fall as a set grows: the greatest gains bound every completion.
-use Rattle.std.proofs.Common.{◌≡◌, ℕ, zero, suc, ◌+◌, ◌-◌, ◌*◌, ◌/◌, ◌<◌, ◌≤◌, ◌==◌, ◌||◌, Bool, true, false, cond, List, [], ◌∷◌, ◌++◌, refl, sym, ap, ◌∙◌, arith, append_assoc, length, get_or, take, sum, sum_by, filter, not}
+use Rattle.std.proofs.Common.{◌≡◌, ℕ, zero, suc, ◌+◌, ◌-◌, ◌*◌, ◌/◌, ◌<◌, ◌≤◌, ◌==◌, ◌||◌, Bool, true, false, cond, List, [], ◌∷◌, ◌++◌, refl, sym, ap, ◌∙◌, arith, append_assoc, length, get_or, take, sum, sum_by, filter, not, append-nil}
 use Rattle.std.proofs.Math.Nat.{mul-le-mul_left}
 use Rattle.std.proofs.lemmas.List.Elements.{All-from_recursion, All-contains}
 use Rattle.std.proofs.lemmas.List.Folds.{list_any-append}
@@ -30,11 +30,7 @@ greatest_sum-bounds worth first last list up =
 module _ (value : List ℕ → ℕ) (falls : IsSubmodular value) where
   -- added one by one, candidates bring no more than their gains at the set
   pub gains-bound : (set before added : List ℕ) → value ((set ++ before) ++ added) ≤ value (set ++ before) + sum_by (λ n. value (set ++ n ∷ []) - value set) added
-  gains-bound set before [] = omega (arith, ap value (append_none (set ++ before)))
-    where
-      append_none : (xs : List ℕ) → xs ++ [] ≡ xs
-      append_none [] = refl
-      append_none (x ∷ xs) = ap (λ l. x ∷ l) (append_none xs)
+  gains-bound set before [] = omega (arith, ap value (append-nil (set ++ before)))
   gains-bound set before (x ∷ added) =
       let more : value ((set ++ (before ++ x ∷ [])) ++ added) ≤ value (set ++ (before ++ x ∷ [])) + sum_by (λ n. value (set ++ n ∷ []) - value set) added =
       gains-bound set (before ++ x ∷ []) added in
@@ -76,7 +72,7 @@ module _ (value : List ℕ → ℕ) (falls : IsSubmodular value) where
   -- the greatest gains bound every completion
   pub ceiling-bounds : (m c : ℕ) (set : List ℕ) (left : ℕ) → IsIncreasing 1 c set → IsBound value m c set left (ceiling value m c set left)
   ceiling-bounds m c set left up added above size =
-      let none : set ++ [] ≡ set = append_none set in
+      let none : set ++ [] ≡ set = append-nil set in
       omega (
         arith,
         rw none at (gains-bound set [] added),
@@ -84,10 +80,6 @@ module _ (value : List ℕ → ℕ) (falls : IsSubmodular value) where
         greatest_sum-bounds (gain_at value set) (c + 1) m added above,
         ap (greatest_sum (gain_at value set) (c + 1) m) size,
       )
-    where
-      append_none : (xs : List ℕ) → xs ++ [] ≡ xs
-      append_none [] = refl
-      append_none (x ∷ xs) = ap (λ l. x ∷ l) (append_none xs)
 
 -- ---- hits
 

@@ -3,10 +3,11 @@ use Rattle.std.proofs.Common.{◌≡◌, ℕ, zero, suc, ◌+◌, ◌-◌, ◌*�
 use Rattle.std.proofs.Math.Nat.{mul-le-mul_right}
 use Rattle.std.specs.Prelude.{filter, nat_le}
 use Rattle.std.specs.List.{range_with_len}
-use Rattle.std.proofs.lemmas.Bool.{cases_eq, cases_lt, eq-eqb, le-leb, leb-true, lt-leb, ne_eqb}
+use Rattle.std.proofs.lemmas.Bool.{cases_eq, cases_lt, eq-eqb, le-leb, leb-true, lt-leb, ne_eqb, and_parts}
 use Rattle.std.proofs.lemmas.List.Sums.{sum_by-cons}
 use Rattle.std.proofs.lemmas.List.Filters.{length-filter_both}
 use Rattle.std.proofs.lemmas.List.FromFn.{length-range_with_len}
+use Rattle.std.proofs.Math.Bool.{and-false, and-true, and_comm, or-true}
 use Rattle.ballot_base.specs.Lists.{IsIncreasing}
 use Rattle.ballot_base.specs.CandSet.{has_member, other_members, without_member}
 use Rattle.ballot_base.proofs.Increasing.{IsIncreasing-filter, IsIncreasing-lower, has_member-above, has_member-below, has_member-filter, has_member_head, same_increasing}
@@ -20,10 +21,6 @@ filter-fewer p q [] more = omega arith
 filter-fewer p q (x ∷ xs) more =
     by (p x) refl (q x) refl (more x (has_member_head x xs)) (filter-fewer p q xs (λ n in_. more n (ap (λ b. (x == n) || b) in_ ∙ or-true (x == n))))
   where
-    or-true : (b : Bool) → (b || true) ≡ true
-    or-true true = refl
-    or-true false = refl
-
     by : (b : Bool) → p x ≡ b → (b' : Bool) → q x ≡ b' → (p x ≡ true → q x ≡ true) → length (filter p xs) ≤ length (filter q xs) → length (filter p (x ∷ xs)) ≤ length (filter q (x ∷ xs))
     by true here true there first rest =
         omega (arith, ap (λ b. length (cond b (x ∷ filter p xs) (filter p xs))) here, ap (λ b. length (cond b (x ∷ filter q xs) (filter q xs))) there, rest)
@@ -225,13 +222,9 @@ member-most last set n up here = elim (cases_lt last n) [
   | inr within ↦ omega (arith, within)
 ]
 
-and-true : (p q : Bool) → (p && q) ≡ true → q ≡ true
-and-true true q h = h
-and-true false q h = absurd cc
-
 -- who is in a part of a set
 pub filter-member : (p : ℕ → Bool) (set : List ℕ) (n : ℕ) → has_member (filter p set) n ≡ true → has_member set n ≡ true
-filter-member p set n is = and-true (p n) (has_member set n) (sym (has_member-filter p set n) ∙ is)
+filter-member p set n is = (and_parts (p n) (has_member set n) (sym (has_member-filter p set n) ∙ is)).1
 
 module _ (p : ℕ → Bool) (candidates : List ℕ) where
   -- Of the candidates that were passed, those are left who pass the test.
@@ -245,10 +238,6 @@ module _ (p : ℕ → Bool) (candidates : List ℕ) where
       by (inl same) =
           ap (λ b. not b && (has_member candidates n && (((first == n) || has_member rest n) || p n))) (eq-eqb n first same)
           ∙ sym (ap (λ b. has_member candidates n && (b || p n)) (ap (has_member rest) same ∙ out) ∙ ap (λ b. has_member candidates n && b) (ap p same ∙ fails) ∙ and-false (has_member candidates n))
-        where
-          and-false : (b : Bool) → (b && false) ≡ false
-          and-false true = refl
-          and-false false = refl
       by (inr other) =
           ap (λ b. not b && (has_member candidates n && (((first == n) || has_member rest n) || p n))) (ne_eqb n first other)
           ∙ ap (λ b. has_member candidates n && ((b || has_member rest n) || p n)) (ne_eqb first n (λ e. other (sym e)))
@@ -260,22 +249,12 @@ module _ (p : ℕ → Bool) (candidates : List ℕ) where
       by (inl same) =
           ap (λ b. has_member candidates n && ((b || has_member rest n) || p n)) (eq-eqb first n (sym same))
           ∙ sym (ap (λ b. has_member candidates n && (has_member rest n || b)) (ap p same ∙ passes) ∙ ap (λ b. has_member candidates n && b) (or-true (has_member rest n)))
-        where
-          or-true : (b : Bool) → (b || true) ≡ true
-          or-true true = refl
-          or-true false = refl
       by (inr other) = ap (λ b. has_member candidates n && ((b || has_member rest n) || p n)) (ne_eqb first n (λ e. other (sym e)))
 
   pub all-left : (last : ℕ) (set : List ℕ) → IsIncreasing 1 last candidates → IsIncreasing 1 last set → AreLeft set [] → set ≡ filter p candidates
   all-left last set up up' left =
       same_increasing 1 last set (filter p candidates) up' (IsIncreasing-filter p 1 last candidates up)
-      (λ n. left n ∙ turned (has_member candidates n) (p n) ∙ sym (has_member-filter p candidates n))
-    where
-      turned : (a b : Bool) → (a && b) ≡ (b && a)
-      turned true true = refl
-      turned true false = refl
-      turned false true = refl
-      turned false false = refl
+      (λ n. left n ∙ and_comm (has_member candidates n) (p n) ∙ sym (has_member-filter p candidates n))
 
 -- ---- the search for a threshold
 
@@ -355,11 +334,7 @@ module _ (worth : ℕ → ℕ) (candidates : List ℕ) (left : ℕ) where
       lower-is : (n : ℕ) → has_member candidates n ≡ true → has_member lower n ≡ (not (nat_le (worth at) (worth n)) && has_member open' n)
       lower-is n in_ =
           has_member-filter (λ x. not (has_member (filter (λ y. nat_le (worth at) (worth y)) candidates) x)) open' n
-          ∙ ap (λ b. not b && has_member open' n) (has_member-filter (λ y. nat_le (worth at) (worth y)) candidates n ∙ ap (λ b. nat_le (worth at) (worth n) && b) in_ ∙ and-all (nat_le (worth at) (worth n)))
-        where
-          and-all : (b : Bool) → (b && true) ≡ b
-          and-all true = refl
-          and-all false = refl
+          ∙ ap (λ b. not b && has_member open' n) (has_member-filter (λ y. nat_le (worth at) (worth y)) candidates n ∙ ap (λ b. nat_le (worth at) (worth n) && b) in_ ∙ and-true (nat_le (worth at) (worth n)))
 
       pub open-lowered : reaching worth (worth at) candidates < left → AreOpen worth candidates left threshold lower
       open-lowered few = record {

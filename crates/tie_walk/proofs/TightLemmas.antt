@@ -1,6 +1,6 @@
 -- Bounds that are the value of a completion: under approval voting and satisfaction approval voting each candidate gives
 -- a committee the same, whoever else is in it.
-use Rattle.std.proofs.Common.{◌≡◌, ℕ, zero, suc, ◌+◌, ◌-◌, ◌*◌, ◌<◌, ◌≤◌, ◌∙◌, Bool, true, false, cond, List, [], ◌∷◌, ◌++◌, refl, sym, ap, arith, inl, inr, length, length-append, append_assoc, sum_by, add-one}
+use Rattle.std.proofs.Common.{◌≡◌, ℕ, zero, suc, ◌+◌, ◌-◌, ◌*◌, ◌<◌, ◌≤◌, ◌∙◌, false, cond, List, [], ◌∷◌, ◌++◌, refl, sym, ap, arith, inl, inr, length, length-append, append_assoc, sum_by, add-one, append-nil}
 use Rattle.std.proofs.lemmas.Bool.{cases_lt}
 use Rattle.std.proofs.lemmas.List.Sums.{sum_by-cons}
 use Rattle.ballot_base.specs.Limits.{most_members}
@@ -19,8 +19,8 @@ use Rattle.tie_walk.specs.Values.{thiele_value, satisfaction_value}
 use Rattle.tie_walk.specs.declared.sequential.Step.TheVariants.{Grow}
 use Rattle.tie_walk.proofs.Gains.{hits-with, hits-none, thiele-partial, satisfaction-more}
 use Rattle.tie_walk.proofs.GreatestSums.{best_of, best_of-none, best_of-short, best_of-more, greatest_sum-same, ceiling-whole}
+use Rattle.tie_walk.proofs.HitWeights.{one-most}
 use Rattle.tie_walk.proofs.RowSums.{AreBallots}
-use Rattle.tie_walk.proofs.WalkLemmas.{append_none}
 use Rattle.tie_walk.proofs.WorthLemmas.{partial}
 
 -- some list has the greatest sum
@@ -57,7 +57,7 @@ module _ (value : List ℕ → ℕ) (m k : ℕ) (worth : ℕ → ℕ)
     (same : (set : List ℕ) (d x : ℕ) → IsIncreasing 1 d set → d < x → x ≤ m → length set < k → value (set ++ x ∷ []) ≡ value set + worth x) where
   additive : (set added : List ℕ) (d : ℕ) → IsIncreasing 1 d set → IsIncreasing (d + 1) m added → length set + length added ≤ k
       → value (set ++ added) ≡ value set + sum_by worth added
-  additive set [] d up above few = omega (arith, ap value (append_none set))
+  additive set [] d up above few = omega (arith, ap value (append-nil set))
   additive set (x ∷ added) d up above few =
       let over : d < x = omega (arith, above.0) in
       let next = additive (set ++ x ∷ []) added x (IsIncreasing-push 1 d set x up (omega (arith, over)) over) above.2 (omega (arith, length-append set (x ∷ []), few)) in
@@ -78,7 +78,7 @@ module _ (value : List ℕ → ℕ) (m k : ℕ) (worth : ℕ → ℕ)
       )
 
   pub additive-tight : IsTight value (λ c set left. ceiling value m c set left) m k
-  additive-tight c set zero inside up size fits = ([], (tt, refl), ceiling-whole value m c set ∙ sym (ap value (append_none set)))
+  additive-tight c set zero inside up size fits = ([], (tt, refl), ceiling-whole value m c set ∙ sym (ap value (append-nil set)))
   additive-tight c set (suc left) inside up size fits =
       let found = attained worth m (m + 1 - (c + 1)) (c + 1) (suc left) (omega (arith, fits)) (omega (arith, inside)) in
       let few : length set < k = omega (arith, size) in
@@ -99,17 +99,13 @@ hits-most first last first' last' ballot (x ∷ set) up is =
       arith,
       ap (hits ballot) here,
       hits-with first last ballot set x up none,
-      one (has_member ballot x),
+      one-most (has_member ballot x),
       hits-most first last (x + 1) last' ballot set up is.2,
     )
   where
     front : (rest : List ℕ) → IsIncreasing (x + 1) last' rest → with_member rest x ≡ x ∷ rest
     front [] h = refl
     front (y ∷ rest) h = with_member-lt y rest x (omega (arith, h.0))
-
-    one : (b : Bool) → cond b 1 0 ≤ 1
-    one true = omega arith
-    one false = omega arith
 
 approvals : List Row → ℕ → ℕ
 approvals rows x = sum_by (λ (row : Row). row.1 * cond (has_member row.0 x) 1 0) rows

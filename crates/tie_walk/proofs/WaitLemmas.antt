@@ -1,6 +1,6 @@
 -- How long a walk over the winners can be: no place has much work left, and where bounds are exact at the best value,
 -- no winner is far.
-use Rattle.std.proofs.Common.{◌≡◌, ℕ, suc, ◌+◌, ◌-◌, ◌*◌, ◌^◌, ◌<◌, ◌≤◌, ◌||◌, ◌∙◌, Bool, true, false, cond, List, [], ◌∷◌, ◌++◌, Option, None, Some, refl, sym, ap, arith, inl, inr, lit<, length, filter, map, sum_by, append_assoc}
+use Rattle.std.proofs.Common.{◌≡◌, ℕ, suc, ◌+◌, ◌-◌, ◌*◌, ◌^◌, ◌<◌, ◌≤◌, ◌||◌, ◌∙◌, Bool, true, false, cond, List, [], ◌∷◌, ◌++◌, Option, None, Some, refl, sym, ap, arith, inl, inr, lit<, length, filter, map, sum_by, append_assoc, append-nil}
 use Rattle.std.specs.Prelude.{nat_le}
 use Rattle.std.specs.List.{list_any}
 use Rattle.std.proofs.Math.Nat.{pow-suc, pow-le-pow_right}
@@ -14,7 +14,7 @@ use Rattle.tie_walk.specs.Ceilings.{IsAdded, IsTight, IsExactAtBest, is_open}
 use Rattle.tie_walk.specs.Steps.Walks.{committees_below, IsPlace, IsPast, work_left, those_reaching, is_alive, waits_at, waits_after, waits_from}
 use Rattle.tie_walk.specs.declared.prefix.Prefix.{Prefix}
 use Rattle.tie_walk.proofs.OpenLemmas.{open-sizes, open-reaches}
-use Rattle.tie_walk.proofs.WalkLemmas.{append_none, below-split, below-full}
+use Rattle.tie_walk.proofs.WalkLemmas.{below-split, below-full}
 
 powers-most : (m first c : ℕ) (set : List ℕ) → c ≤ m → IsIncreasing first c set → sum_by (λ n. 3 ^ (m - n)) set ≤ 3 ^ (m + 1 - first)
 powers-most m first c [] inside up = omega arith
@@ -107,7 +107,7 @@ module _ (value : List ℕ → ℕ) (m k best : ℕ) where
 
   waits_after-push : (past : ℕ) (front set : List ℕ) (n : ℕ)
       → waits_after value m k best past front (set ++ n ∷ []) ≡ waits_at value m k best (waits_after value m k best past front set) n (front ++ set)
-  waits_after-push past front [] n = ap (waits_at value m k best past n) (sym (append_none front))
+  waits_after-push past front [] n = ap (waits_at value m k best past n) (sym (append-nil front))
   waits_after-push past front (x ∷ set) n =
       waits_after-push (waits_at value m k best past x front) (front ++ x ∷ []) set n
       ∙ ap (waits_at value m k best (waits_after value m k best past front (x ∷ set)) n) (append_assoc front (x ∷ []) set)

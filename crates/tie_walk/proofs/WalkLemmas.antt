@@ -1,5 +1,5 @@
 -- A walk over committees: what is below a prefix, and what comes after it.
-use Rattle.std.proofs.Common.{◌≡◌, ℕ, zero, suc, ◌+◌, ◌-◌, ◌*◌, ◌^◌, ◌<◌, ◌≤◌, ◌==◌, ◌∙◌, true, false, List, [], ◌∷◌, ◌++◌, Option, None, Some, not, refl, sym, ap, subst, arith, inl, inr, length, length-append, map, sum_by, append_assoc}
+use Rattle.std.proofs.Common.{◌≡◌, ℕ, zero, suc, ◌+◌, ◌-◌, ◌*◌, ◌^◌, ◌<◌, ◌≤◌, ◌==◌, ◌∙◌, true, false, List, [], ◌∷◌, ◌++◌, Option, None, Some, not, refl, sym, ap, subst, arith, inl, inr, length, length-append, map, sum_by, append_assoc, append-nil}
 use Rattle.std.proofs.Math.Nat.{pow-le-pow_right}
 use Rattle.std.proofs.lemmas.Nat.{pow-add}
 use Rattle.std.specs.List.{AllByRecursion}
@@ -15,10 +15,6 @@ use Rattle.tie_walk.specs.Steps.Walks.{committees_below, committees_after, commi
 use Rattle.tie_walk.specs.declared.prefix.Prefix.{Prefix}
 use Rattle.tie_walk.proofs.GreatestSums.{lists-short, lists-empty, lists-more}
 use Rattle.tie_walk.proofs.StartLemmas.{later_than-at}
-
-pub append_none : {X : Type 0} (xs : List X) → xs ++ [] ≡ xs
-append_none [] = refl
-append_none (x ∷ xs) = ap (λ l. x ∷ l) (append_none xs)
 
 map_same : {X Y : Type 0} (f g : X → Y) → ((x : X) → f x ≡ g x) → (xs : List X) → map f xs ≡ map g xs
 map_same f g same [] = refl
@@ -50,14 +46,14 @@ module _ (m k : ℕ) where
   below-full c set full =
       let size : k - length set ≡ 0 = omega arith in
       ap (λ n. map (λ l. set ++ l) (lists_of (m + 1 - (c + 1)) (c + 1) n)) size ∙ ap (map (λ l. set ++ l)) (lists-empty (m + 1 - (c + 1)) (c + 1))
-      ∙ ap (λ s. s ∷ []) (append_none set)
+      ∙ ap (λ s. s ∷ []) (append-nil set)
 
   -- too few candidates are left
   pub below-short : (c : ℕ) (set : List ℕ) → length set + (m - c) < k → committees_below m k c set ≡ []
   below-short c set few = ap (map (λ l. set ++ l)) (lists-short (m + 1 - (c + 1)) (c + 1) (k - length set) (omega arith))
 
   pub after-push : (front set : List ℕ) (n : ℕ) → committees_after m k front (set ++ n ∷ []) ≡ committees_below m k n (front ++ set) ++ committees_after m k front set
-  after-push front [] n = ap (committees_below m k n) (sym (append_none front)) ∙ sym (append_none (committees_below m k n (front ++ [])))
+  after-push front [] n = ap (committees_below m k n) (sym (append-nil front)) ∙ sym (append-nil (committees_below m k n (front ++ [])))
   after-push front (x ∷ set) n =
       ap (λ ls. ls ++ committees_below m k x front) (after-push (front ++ x ∷ []) set n)
       ∙ append_assoc (committees_below m k n ((front ++ x ∷ []) ++ set)) (committees_after m k (front ++ x ∷ []) set) (committees_below m k x front)
@@ -82,7 +78,7 @@ module _ (m k : ℕ) where
   -- ---- the committees after one of them
   pub start-split : (n c : ℕ) (front rest : List ℕ) → c + n ≡ m → length front + length rest ≡ k → IsIncreasing (c + 1) m rest
       → (before : List (List ℕ)) × (committees_below m k c front ≡ before ++ (front ++ rest) ∷ committees_after m k front rest)
-  start-split n c front [] e size up = ([], below-full c front (omega arith) ∙ ap (λ s. s ∷ []) (sym (append_none front)))
+  start-split n c front [] e size up = ([], below-full c front (omega arith) ∙ ap (λ s. s ∷ []) (sym (append-nil front)))
   start-split zero c front (x ∷ rest) e size up = absurd (omega (arith, up.0, up.1))
   start-split (suc n) c front (x ∷ rest) e size up = elim (cases_eq x (c + 1)) [
     | inl same ↦
@@ -202,6 +198,6 @@ prefix_at c set = record { c = c; set = set }
 pub at_root : (m k : ℕ) (root : Prefix) → root.c ≡ 0 → root.set ≡ [] → (committees_from m k (Some root) ≡ increasing_lists 1 m k) × IsPlace m k (Some root)
 at_root m k root none nobody = (
   ap (λ n. committees_below m k n root.set ++ committees_after m k [] root.set) none ∙ ap (λ s. committees_below m k 0 s ++ committees_after m k [] s) nobody
-      ∙ append_none (committees_below m k 0 []) ∙ from-root m k,
+      ∙ append-nil (committees_below m k 0 []) ∙ from-root m k,
   (omega (arith, none), subst (λ s. IsIncreasing 1 root.c s) (sym nobody) tt, omega (arith, ap length nobody)),
 )

@@ -4,14 +4,11 @@ use Rattle.std.specs.Prelude.{fold, nat_le, Contains}
 use Rattle.std.specs.List.{list_all, AllByRecursion}
 use Rattle.std.proofs.lemmas.Bool.{cases_lt, le-leb, lt-leb}
 use Rattle.std.proofs.lemmas.List.Elements.{All-contains, All-from_recursion, All-weaker, recursion_from_All}
+use Rattle.std.proofs.Math.Bool.{and_assoc}
 use Rattle.ballot_base.specs.Lists.{IsIncreasing, increasing_lists}
 use Rattle.ballot_base.proofs.Committees.{increasing_lists-chosen}
 use Rattle.tie_walk.specs.Steps.Walks.{those_reaching}
 use Rattle.tie_walk.specs.Winners.{best_value, is_unbeaten, winners}
-
-and-assoc : (a b c : Bool) → (a && (b && c)) ≡ ((a && b) && c)
-and-assoc true b c = refl
-and-assoc false b c = refl
 
 module _ {X : Type 0} (value : X → ℕ) where
   -- the greatest of a number and the values
@@ -32,7 +29,7 @@ module _ {X : Type 0} (value : X → ℕ) where
   bounds-greatest low bound (set ∷ sets) =
       let more = bounds-greatest (max low (value set)) bound sets in
       let split : nat_le (max low (value set)) bound ≡ (nat_le low bound && nat_le (value set) bound) = grind arith in
-      and-assoc (nat_le low bound) (nat_le (value set) bound) (list_all (λ x. nat_le (value x) bound) sets)
+      sym (and_assoc (nat_le low bound) (nat_le (value set) bound) (list_all (λ x. nat_le (value x) bound) sets))
       ∙ ap (λ b. b && list_all (λ x. nat_le (value x) bound) sets) (sym split) ∙ more
 
 pub same_filter : {X : Type 0} (p q : X → Bool) (xs : List X) → AllByRecursion (λ x. p x ≡ q x) xs → filter p xs ≡ filter q xs
