@@ -12,10 +12,11 @@ use Rattle.group_check.specs.Report.{violation_of, first_violation}
 use Rattle.text_output.specs.CheckText.{holds_text, set_or_dash, within_text, row_text, level_text, voters_text, group_text, claim_text, violation_text}
 use Rattle.text_output.specs.Device.{is_failed_write, bytes_given, AppendsBeginning, reader_state, writer_state}
 use Rattle.text_output.specs.Names.{beside, called, candidates_text, joined, name_or_number, names_text, naming, seated_parties}
-use Rattle.text_output.specs.Steps.Names.{IsName, listed_name, listed_names, names_in}
+use Rattle.text_output.specs.Steps.Names.{IsName, listed_name, listed_names, names_in, names_of}
 use Rattle.text_output.specs.Steps.Numbers.{following_text}
 use Rattle.text_output.specs.Steps.Printing.{Prints, Sends}
 use Rattle.text_output.specs.Text.{line, numbers_text}
+use Rattle.text_output.specs.declared.names.NameSource.TheVariants.{Unwanted, Numbers, Of}
 use Rattle.text_output.specs.declared.printing.Printer.{Printer}
 
 -- two voters approve 1 and 2, and one approves 3
@@ -67,8 +68,11 @@ named_candidates = (refl, refl)
 names_in_a_row : (listed_name false red_and_blue 3 ≡ codes "; Blue") × (listed_names true red_and_blue (1 ∷ 3 ∷ []) ≡ codes "Red; Blue")
 names_in_a_row = (refl, refl)
 
--- without a profile no candidate has a name
-found_names : (names_in None ≡ []) × (names_in (Some (record { ref_ptr = (0, 0); now = three })) ≡ [] ∷ [] ∷ [] ∷ [])
+-- numbers that stand in the place of names are not the same as no names
+sources_of_names : (names_of {A = ℕ} Unwanted ≡ None) × (names_of {A = ℕ} Numbers ≡ Some []) × (names_of {A = ℕ} (Of (record { ref_ptr = (0, 0); now = three })) ≡ Some ([] ∷ [] ∷ [] ∷ []))
+sources_of_names = (refl, refl, refl)
+
+found_names : (names_in None ≡ []) × (names_in (Some red_and_blue) ≡ red_and_blue)
     × (IsName red_and_blue 2 None) × (IsName red_and_blue 3 (Some (record { ref_ptr = (0, 0); now = codes "Blue" })))
 found_names = (refl, refl, refl, refl)
 

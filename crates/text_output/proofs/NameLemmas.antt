@@ -1,12 +1,21 @@
 -- Names in the parts that are printed one after the other.
-use Rattle.std.proofs.Common.{◌≡◌, ℕ, ◌+◌, ◌-◌, ◌<◌, ◌≤◌, Bool, true, false, cond, List, [], ◌∷◌, ◌++◌, refl, sym, ap, ◌∙◌, append_assoc, append-nil, arith, length, filter, drop, get_or}
+use Rattle.std.proofs.Common.{◌≡◌, ℕ, ◌+◌, ◌-◌, ◌<◌, ◌≤◌, Bool, true, false, cond, List, [], ◌∷◌, ◌++◌, refl, sym, ap, ◌∙◌, append_assoc, append-nil, arith, length, filter, drop, get_or, Some, None, is_some}
 use Rattle.std.specs.Prelude.{codes, nat_lt, slice_index}
 use Rattle.std.specs.List.{range_with_len}
 use Rattle.std.proofs.lemmas.List.{at_drop_more, drop_all}
 use Rattle.std.proofs.lemmas.List.FromFn.{get_or-range_with_len, length-range_with_len}
-use Rattle.std.proofs.lemmas.Bool.{lt-ltb, le-ltb}
-use Rattle.text_output.specs.Names.{called, names_text}
-use Rattle.text_output.specs.Steps.Names.{listed_name, listed_names}
+use Rattle.std.proofs.lemmas.Bool.{lt-ltb, le-ltb, false≢true, true≢false}
+use Rattle.text_output.specs.Names.{Names, beside, called, names_text}
+use Rattle.text_output.specs.Steps.Names.{listed_name, listed_names, names_in}
+
+-- what stands beside numbers, by whether names are wanted
+pub beside-unwanted : (names : Names) (numbers : List ℕ) → is_some names ≡ false → beside names numbers ≡ []
+beside-unwanted None numbers none = refl
+beside-unwanted (Some list) numbers none = absurd (true≢false none)
+
+pub beside-wanted : (names : Names) (numbers : List ℕ) → is_some names ≡ true → beside names numbers ≡ 9 ∷ names_text (names_in names) numbers
+beside-wanted None numbers some = absurd (false≢true some)
+beside-wanted (Some list) numbers some = refl
 
 -- the names after the first, each with `; ` before it
 others_listed : (names : List (List ℕ)) (n : ℕ) (rest : List ℕ) → listed_names false names (n ∷ rest) ≡ codes "; " ++ names_text names (n ∷ rest)

@@ -1,5 +1,5 @@
 //! The names that stand beside the numbers of candidates and parties.
-ghost use Rattle.std.specs.Prelude.{◌≡◌, [], is_ok};
+ghost use Rattle.std.specs.Prelude.{◌≡◌, [], is_ok, is_some};
 ghost use Rattle.text_output.specs.Names.{beside, called, candidates_text, names_text, naming, seated_parties};
 ghost use Rattle.text_output.specs.Steps.Names.{IsName, listed_name, names_in};
 ghost use Rattle.text_output.specs.Steps.Printing.{Prints};
@@ -11,22 +11,31 @@ use ballot_base::{CandSet, Profile};
 use std::alloc::Allocator;
 use std::marker::Model;
 
+/// Where names come from.
+#[derive(Drop)]
+enum NameSource<'a, A: Allocator + Copy> {
+    /// Names are not wanted.
+    Unwanted,
+    /// No candidate has a name, so numbers stand in their place.
+    Numbers,
+    /// The candidates of a profile.
+    Of(&'a Profile<A>),
+}
+
 /// The names that stand beside numbers. Contracts see the list of them from candidate 1 on, with `[]` for one without a
 /// name; or `None` if names are not wanted.
 #[derive(Drop)]
 pub struct Names<'a, A: Allocator + Copy> {
-    /// The profile whose candidates are named, if there is one, where names are wanted.
-    wanted: Option<Option<&'a Profile<A>>>,
+    source: NameSource<'a, A>,
 }
 
 impl<'a, A: Allocator + Copy> Model for Names<'a, A> {
-    ghost use Rattle.std.specs.Prelude.{option_map};
     ghost use Rattle.text_output.specs.Names.{Names};
-    ghost use Rattle.text_output.specs.Steps.Names.{names_in};
+    ghost use Rattle.text_output.specs.Steps.Names.{names_of};
 
     ghost Value = { Names };
 
-    ghost view = { λ names. option_map names_in names.wanted };
+    ghost view = { λ names. names_of names.source };
 }
 
 impl<'a, A: Allocator + Copy> Names<'a, A> {
@@ -34,39 +43,55 @@ impl<'a, A: Allocator + Copy> Names<'a, A> {
     pub fn of(profile: &'a Profile<A>, are_wanted: bool) -> Names<'a, A>
         ensures { result ≡ naming are_wanted profile.now.names }
     {
-        Names {
-            wanted: are_wanted.then_some(Some(profile)),
-        }
+        let source = if are_wanted {
+            NameSource::Of(profile)
+        } else {
+            NameSource::Unwanted
+        };
+        Names { source }
     }
 
     /// No candidate has a name, so that, if names are wanted, numbers stand in their place.
     pub fn numbers(are_wanted: bool) -> Names<'a, A>
         ensures { result ≡ naming are_wanted [] }
     {
-        Names {
-            wanted: are_wanted.then_some(None),
+        let source = if are_wanted {
+            NameSource::Numbers
+        } else {
+            NameSource::Unwanted
+        };
+        Names { source }
+    }
+
+    /// Whether names are wanted.
+    fn are_wanted(&self) -> bool
+        ensures { result ≡ is_some self.now }
+    {
+        !matches!(self.source, NameSource::Unwanted)
+    }
+
+    /// The name of a candidate, where there is such a candidate and it has one.
+    fn name(&self, n: usize) -> Option<&[u8]>
+        ensures { IsName (names_in self.now) n result }
+    {
+        match self.source {
+            NameSource::Unwanted | NameSource::Numbers => None,
+            // No candidate has the number 0.
+            NameSource::Of(profile) => profile.name(u8::try_from(n).unwrap_or(0)),
         }
     }
-}
-
-/// The name of a candidate, where there is such a candidate and it has one.
-fn name_of<A: Allocator + Copy>(profile: Option<&Profile<A>>, n: usize) -> Option<&[u8]>
-    ensures { IsName (names_in profile.entry) n result }
-{
-    // No candidate has the number 0.
-    profile?.name(u8::try_from(n).unwrap_or(0))
 }
 
 /// Prints the name of a candidate, or the number where it has none.
 fn print_name<W: Sink, A: Allocator + Copy>(
     printer: &mut Printer<'_, W>,
-    profile: Option<&Profile<A>>,
+    names: &Names<'_, A>,
     n: usize,
 ) -> Result<(), WriteFailed>
     ensures { Prints W.contents W.has_failed printer.old printer.new (is_ok result)
-        (called (names_in profile.entry) n) }
+        (called (names_in names.now) n) }
 {
-    match name_of(profile, n) {
+    match names.name(n) {
         Some(name) => printer.print(name),
         None => print_number(printer, n),
     }
@@ -75,32 +100,32 @@ fn print_name<W: Sink, A: Allocator + Copy>(
 /// Prints a name in a row of names: all but the first come after `; `.
 fn print_listed_name<W: Sink, A: Allocator + Copy>(
     printer: &mut Printer<'_, W>,
-    profile: Option<&Profile<A>>,
+    names: &Names<'_, A>,
     n: usize,
     is_first: bool,
 ) -> Result<(), WriteFailed>
     ensures { Prints W.contents W.has_failed printer.old printer.new (is_ok result)
-        (listed_name is_first (names_in profile.entry) n) }
+        (listed_name is_first (names_in names.now) n) }
 {
     if is_first {
-        return print_name(printer, profile, n);
+        return print_name(printer, names, n);
     }
     printer.print(b"; ")?;
-    print_name(printer, profile, n)
+    print_name(printer, names, n)
 }
 
 /// Prints the names of the members.
 fn print_member_names<W: Sink, A: Allocator + Copy>(
     printer: &mut Printer<'_, W>,
-    profile: Option<&Profile<A>>,
+    names: &Names<'_, A>,
     set: CandSet,
 ) -> Result<(), WriteFailed>
     ensures { Prints W.contents W.has_failed printer.old printer.new (is_ok result)
-        (names_text (names_in profile.entry) set) }
+        (names_text (names_in names.now) set) }
 {
     let mut is_first = true;
     for member in set.members() {
-        print_listed_name(printer, profile, usize::from(member), is_first)?;
+        print_listed_name(printer, names, usize::from(member), is_first)?;
         is_first = false;
     }
     Ok(())
@@ -109,18 +134,18 @@ fn print_member_names<W: Sink, A: Allocator + Copy>(
 /// Prints the names of the parties with a seat.
 fn print_seated_names<W: Sink, A: Allocator + Copy>(
     printer: &mut Printer<'_, W>,
-    profile: Option<&Profile<A>>,
+    names: &Names<'_, A>,
     seats: &[u16],
 ) -> Result<(), WriteFailed>
     ensures { Prints W.contents W.has_failed printer.old printer.new (is_ok result)
-        (names_text (names_in profile.entry) (seated_parties seats.now)) }
+        (names_text (names_in names.now) (seated_parties seats.now)) }
 {
     let mut is_first = true;
     for i in 0..seats.len() {
         if seats[i] == 0 {
             continue;
         }
-        print_listed_name(printer, profile, i + 1, is_first)?;
+        print_listed_name(printer, names, i + 1, is_first)?;
         is_first = false;
     }
     Ok(())
@@ -136,11 +161,11 @@ pub fn print_beside_seats<W: Sink, A: Allocator + Copy>(
     ensures { Prints W.contents W.has_failed printer.old printer.new (is_ok result)
         (beside names.now (seated_parties seats.now)) }
 {
-    let Some(profile) = names.wanted else {
+    if !names.are_wanted() {
         return Ok(());
-    };
+    }
     printer.print(b"\t")?;
-    print_seated_names(printer, profile, seats)
+    print_seated_names(printer, names, seats)
 }
 
 /// Prints the numbers of the members, and a tab and their names after them if names are wanted.
@@ -153,9 +178,9 @@ pub fn print_candidates<W: Sink, A: Allocator + Copy>(
         (candidates_text names.now members) }
 {
     print_members(printer, members)?;
-    let Some(profile) = names.wanted else {
+    if !names.are_wanted() {
         return Ok(());
-    };
+    }
     printer.print(b"\t")?;
-    print_member_names(printer, profile, members)
+    print_member_names(printer, names, members)
 }

@@ -1,13 +1,20 @@
 -- How names are printed.
 use Rattle.std.specs.Prelude.{◌≡◌, ℕ, Bool, true, false, List, [], ◌∷◌, ◌++◌, Option, Some, None, codes, decimal}
 use Rattle.std.specs.Borrow.{Bor}
-use Rattle.ballot_base.specs.Ballots.{Election}
-use Rattle.text_output.specs.Names.{called}
+use Rattle.text_output.specs.Names.{Names, called}
+use Rattle.text_output.specs.declared.names.NameSource.{NameSource}
+use Rattle.text_output.specs.declared.names.NameSource.TheVariants.{Unwanted, Numbers, Of}
 
--- the names of the candidates of a profile, or none without one
-abbrev pub names_in : Option (Bor Election) → List (List ℕ)
+-- the names that a source gives
+abbrev pub names_of : {A : Type 0} → NameSource A → Names
+names_of Unwanted = None
+names_of Numbers = Some []
+names_of (Of profile) = Some profile.now.names
+
+-- the names, or none where they are not wanted
+abbrev pub names_in : Names → List (List ℕ)
 names_in None = []
-names_in (Some profile) = profile.now.names
+names_in (Some names) = names
 
 -- a name, with `; ` before it where it is not the first
 abbrev pub listed_name : Bool → List (List ℕ) → ℕ → List ℕ

@@ -6,4 +6,4 @@ use Rattle.text_output.proofs.names.print_member_names.Given as goal
 -- the names of the members so far were printed
 abbrev pub invariant-loop-member : goal.invariant-loop-member
 invariant-loop-member g l = Underway g.W.Sink.contents g.W.Device.has_failed l.initial.printer l.printer
-    (listed_names l.is_first (names_in l.fn.profile) l.member-iterator) (names_text (names_in l.fn.profile) l.fn.set)
+    (listed_names l.is_first (names_in l.fn.names) l.member-iterator) (names_text (names_in l.fn.names) l.fn.set)

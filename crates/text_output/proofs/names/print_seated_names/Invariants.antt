@@ -7,4 +7,4 @@ use Rattle.text_output.proofs.names.print_seated_names.Given as goal
 -- the names of the parties so far were printed
 abbrev pub invariant-loop-i : goal.invariant-loop-i
 invariant-loop-i g l = Underway g.W.Sink.contents g.W.Device.has_failed l.initial.printer l.printer
-    (listed_names l.is_first (names_in l.fn.profile) (seated_from l.fn.seats l.i)) (names_text (names_in l.fn.profile) (seated_parties l.fn.seats))
+    (listed_names l.is_first (names_in l.fn.names) (seated_from l.fn.seats l.i)) (names_text (names_in l.fn.names) (seated_parties l.fn.seats))
