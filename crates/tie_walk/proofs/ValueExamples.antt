@@ -98,7 +98,7 @@ parts_of_two = refl
 worths_of_two : sum_of_worths (3 ∷ 4 ∷ 9 ∷ []) (5 ∷ 7 ∷ 1 ∷ []) 1 ≡ 43
 worths_of_two = refl
 
-is_thiele : IsThiele (election 2 ([] ∷ [] ∷ []) ((1 ∷ [], 3) ∷ [])) 2 Cc 2 1 (1 ∷ replicate (most_members - 1) 0) (0 ∷ replicate most_candidates 1)
+is_thiele : IsThiele (election 2 ([] ∷ [] ∷ []) ((1 ∷ [], 3) ∷ [])) 2 Cc 2 (1 ∷ replicate (most_members - 1) 0) (0 ∷ replicate most_candidates 1)
 unfolding prefix_sums increments
 is_thiele = record {
   election = record {
@@ -112,7 +112,6 @@ is_thiele = record {
   };
   m_is = refl;
   size = lit≤ tt;
-  denom_is = refl;
   weights_are = refl;
   sums_are = refl;
 }
@@ -123,6 +122,6 @@ unfolding two_and_one
 score_of_two = refl
 
 -- nobody approves a candidate
-is_satisfaction : IsSatisfaction (election 3 ([] ∷ [] ∷ [] ∷ []) (([], 5) ∷ [])) 6 (parts 6) []
+is_satisfaction : IsSatisfaction (election 3 ([] ∷ [] ∷ [] ∷ []) (([], 5) ∷ [])) (parts 6) []
 unfolding common_multiple
-is_satisfaction = record { denom_is = refl; shares_are = refl; scores_are = λ c. refl }
+is_satisfaction = record { shares_are = refl; scores_are = λ c. refl }

@@ -18,7 +18,6 @@ use std::marker::Model;
 #[derive(Drop)]
 pub struct SavTally<'a, A: Allocator + Copy = Global> {
     profile: &'a Profile<A>,
-    denom: u128,
     // What a hit on a ballot of n candidates gives, at n; 0 at 0.
     shares: [u128; PLACES],
     // What each candidate gives a committee, at the candidate's number; 0 at 0.
@@ -33,7 +32,7 @@ impl<'a, A: Allocator + Copy> Model for SavTally<'a, A> {
 
     ghost view = { λ t. t.profile.now };
 
-    ghost invariant = { λ t. IsSatisfaction t.profile.now t.denom t.shares t.scores };
+    ghost invariant = { λ t. IsSatisfaction t.profile.now t.shares t.scores };
 }
 
 impl<'a, A: Allocator + Copy> SavTally<'a, A> {
@@ -43,22 +42,13 @@ impl<'a, A: Allocator + Copy> SavTally<'a, A> {
         ensures tight { let tallies = ⟦<SavTally<'a, A> as Tally>⟧ in (k : ℕ)
             → IsTight (tallies.value_of result) (tallies.bound_of result) (tallies.candidates result) k }
     {
-        let denom = common_multiple(profile.m());
-        let shares = parts(denom);
+        let shares = parts(common_multiple(profile.m()));
         let scores = scores(profile, &shares);
         SavTally {
             profile,
-            denom,
             shares,
             scores,
         }
-    }
-
-    /// What each value is divided by.
-    pub fn denominator(&self) -> u128
-        ensures { result ≡ common_multiple self.now.m }
-    {
-        self.denom
     }
 }
 

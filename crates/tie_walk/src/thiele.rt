@@ -5,7 +5,7 @@ ghost use Rattle.ballot_base.specs.Limits.{most_candidates, most_members};
 ghost use Rattle.ballot_base.specs.Lists.{IsIncreasing};
 ghost use Rattle.ballot_base.specs.CandSet.{has_member};
 ghost use Rattle.ballot_base.specs.Ballots.{hits, voter_count};
-ghost use Rattle.ballot_base.specs.Increments.{increments, denominator};
+ghost use Rattle.ballot_base.specs.Increments.{increments};
 ghost use Rattle.tie_walk.specs.Ceilings.{IsTight, ceiling};
 ghost use Rattle.tie_walk.specs.Sequences.{gain};
 ghost use Rattle.tie_walk.specs.Values.{thiele_value};
@@ -32,7 +32,6 @@ pub struct ThieleTally<'a, A: Allocator + Copy = Global> {
     m: u8,
     rule: ThieleRule,
     k: u8,
-    denom: u128,
     // What the x-th member adds, at x - 1.
     weights: [u128; MOST_MEMBERS as usize],
     // What the first x members add, at x.
@@ -47,7 +46,7 @@ impl<'a, A: Allocator + Copy> Model for ThieleTally<'a, A> {
 
     ghost view = { λ t. thiele_of t.profile.now t.rule t.k };
 
-    ghost invariant = { λ t. IsThiele t.profile.now t.m t.rule t.k t.denom t.weights t.sums };
+    ghost invariant = { λ t. IsThiele t.profile.now t.m t.rule t.k t.weights t.sums };
 }
 
 impl<'a, A: Allocator + Copy> ThieleTally<'a, A> {
@@ -60,25 +59,16 @@ impl<'a, A: Allocator + Copy> ThieleTally<'a, A> {
         ensures tight { let tallies = ⟦<ThieleTally<'a, A> as Tally>⟧ in result.rule ≡ ThieleRule.Av
             → IsTight (tallies.value_of result) (tallies.bound_of result) (tallies.candidates result) result.k }
     {
-        let increments = Increments::of(rule, k);
-        let weights = increments.w;
+        let weights = Increments::of(rule, k).w;
         let sums = prefix_sums(weights);
         ThieleTally {
             profile,
             m: profile.m(),
             rule,
             k,
-            denom: increments.denom,
             weights,
             sums,
         }
-    }
-
-    /// What each value is divided by.
-    pub fn denominator(&self) -> u128
-        ensures { result ≡ denominator self.now.rule self.now.k }
-    {
-        self.denom
     }
 
     /// The rule.

@@ -15,7 +15,7 @@ ghost use Rattle.vote_cli.specs.Steps.Starts.{IsStart-prop};
 use crate::listing::AnswerPage;
 use crate::refusal::RequestFault;
 use crate::starts::committee_start;
-use ballot_base::{CandSet, Increments, Profile, common_multiple};
+use ballot_base::{CandSet, Profile, common_multiple};
 use itoa::Buffer;
 use request_words::{Page, Rule, ScoredRule};
 use std::alloc::Allocator;
@@ -101,10 +101,7 @@ impl<'a, A: Allocator + Copy + Drop> Listing<'a, A> {
     {
         let m = self.profile.m();
         match rule {
-            ScoredRule::Thiele(thiele) => {
-                let increments = Increments::of(thiele, self.size);
-                print_score(printer, best, increments.denom)
-            }
+            ScoredRule::Thiele(thiele) => print_score(printer, best, thiele.denominator(self.size)),
             ScoredRule::Satisfaction => print_score(printer, best, common_multiple(m)),
             ScoredRule::Minimax => {
                 let mut digits = Buffer::new();

@@ -4,7 +4,7 @@ use Rattle.std.specs.List.{range_with_len}
 use Rattle.ballot_base.specs.Limits.{most_candidates, most_members}
 use Rattle.ballot_base.specs.Ballots.{Row, Election, IsElection}
 use Rattle.ballot_base.specs.CommonMultiple.{common_multiple}
-use Rattle.ballot_base.specs.Increments.{increments, denominator}
+use Rattle.ballot_base.specs.Increments.{increments}
 use Rattle.ballot_base.specs.declared.increments.ThieleRule.{ThieleRule}
 use Rattle.tie_walk.specs.Ceilings.{greatest_sum}
 use Rattle.tie_walk.specs.Sequences.{supporters}
@@ -38,11 +38,10 @@ pub record IsReachBySums (worth : ℕ → ℕ) (c m left least last : ℕ) : Typ
   pub reached : (n : ℕ) → c ≤ n → n ≤ last → least ≤ greatest_sum worth (n + 1) m left
 
 -- what is true of each tally of a Thiele rule
-pub record IsThiele (e : Election) (m : ℕ) (rule : ThieleRule) (k denom : ℕ) (weights sums : List ℕ) : Type 0 where
+pub record IsThiele (e : Election) (m : ℕ) (rule : ThieleRule) (k : ℕ) (weights sums : List ℕ) : Type 0 where
   pub election : IsElection e
   pub m_is : m ≡ e.m
   pub size : k ≤ most_members
-  pub denom_is : denom ≡ denominator rule k
   pub weights_are : weights ≡ increments rule k
   pub sums_are : sums ≡ prefix_sums (increments rule k)
 
@@ -51,7 +50,6 @@ abbrev pub score : List ℕ → List Row → ℕ → ℕ
 score shares rows c = sum_by (λ (row : Row). row.1 * slice_index shares (length row.0)) (supporters rows c)
 
 -- what is true of each tally of satisfaction approval
-pub record IsSatisfaction (e : Election) (denom : ℕ) (shares scores : List ℕ) : Type 0 where
-  pub denom_is : denom ≡ common_multiple e.m
-  pub shares_are : shares ≡ parts denom
+pub record IsSatisfaction (e : Election) (shares scores : List ℕ) : Type 0 where
+  pub shares_are : shares ≡ parts (common_multiple e.m)
   pub scores_are : (c : ℕ) → slice_index scores c ≡ score shares e.rows c

@@ -17,7 +17,7 @@ pub invariant_of-amounts-clause-small : goal.invariant_of-amounts-clause-small
 invariant_of-amounts-clause-small g c n =
     let e : Election = c.self.inside.profile.now in
     let t = c.self.inside in
-    let shares : t.shares ≡ parts (common_multiple e.m) = c.self.invariant.shares_are ∙ ap parts c.self.invariant.denom_is in
+    let shares : t.shares ≡ parts (common_multiple e.m) = c.self.invariant.shares_are in
     let small : (i : ℕ) → get_or t.shares i 0 ≤ 2 ^ 90 - 1 = λ i. omega (arith, parts-bound e.m t.shares i c.m.ensures.valid.most shares) in
     omega (arith, c.self.invariant.scores_are n, score-most t.shares n small e c.m.ensures.valid)
 
@@ -26,7 +26,7 @@ overflow_add-result g c =
     let e : Election = c.self.inside.profile.now in
     let t = c.self.inside in
     let same : e ≡ c.args.self.now = c.self.view_is in
-    let shares : t.shares ≡ parts (common_multiple e.m) = c.self.invariant.shares_are ∙ ap parts c.self.invariant.denom_is in
+    let shares : t.shares ≡ parts (common_multiple e.m) = c.self.invariant.shares_are in
     let small : (i : ℕ) → get_or t.shares i 0 ≤ 2 ^ 90 - 1 = λ i. omega (arith, parts-bound e.m t.shares i c.m.ensures.valid.most shares) in
     let each : (n : ℕ) → get_or t.scores n 0 ≤ 2 ^ 122 - 2 ^ 32 = λ n. omega (arith, c.self.invariant.scores_are n, score-most t.shares n small e c.m.ensures.valid) in
     let size : e.m ≡ c.args.self.now.m = ap (λ (x : Election). x.m) same in
@@ -41,7 +41,7 @@ returns-clause-value g c =
     let e : Election = c.self.inside.profile.now in
     let t = c.self.inside in
     let same : e ≡ c.args.self.now = c.self.view_is in
-    let shares : t.shares ≡ parts (common_multiple e.m) = c.self.invariant.shares_are ∙ ap parts c.self.invariant.denom_is in
+    let shares : t.shares ≡ parts (common_multiple e.m) = c.self.invariant.shares_are in
     let value : c.value.result ≡ satisfaction_value e.m e.rows c.args.set = c.value.ensures ∙ ap (λ (x : Election). satisfaction_value x.m x.rows c.args.set) (sym same) in
     let more : c.greatest_sum.result ≡ greatest_sum (λ n. get_or t.scores n 0) (c.args.c + 1) e.m c.args.left =
     c.greatest_sum.ensures.value ∙ ap (λ n. greatest_sum (λ x. get_or t.scores x 0) (c.args.c + 1) n c.args.left) c.m.ensures.value in

@@ -19,7 +19,7 @@ pub invariant_of-amounts-clause-small : goal.invariant_of-amounts-clause-small
 invariant_of-amounts-clause-small g c n =
     let e : Election = c.self.inside.profile.now in
     let t = c.self.inside in
-    let shares : t.shares ≡ parts (common_multiple e.m) = c.self.invariant.shares_are ∙ ap parts c.self.invariant.denom_is in
+    let shares : t.shares ≡ parts (common_multiple e.m) = c.self.invariant.shares_are in
     let small : (i : ℕ) → get_or t.shares i 0 ≤ 2 ^ 90 - 1 = λ i. omega (arith, parts-bound e.m t.shares i c.m.ensures.valid.most shares) in
     omega (arith, c.self.invariant.scores_are n, score-most t.shares n small e c.m.ensures.valid)
 
@@ -34,7 +34,7 @@ returns g c =
     let least = c.saturating_sub-least.result in
     let same : e ≡ c.args.self.now = c.self.view_is in
     let size : e.m ≡ c.args.self.now.m = ap (λ (x : Election). x.m) same in
-    let shares : t.shares ≡ parts (common_multiple e.m) = c.self.invariant.shares_are ∙ ap parts c.self.invariant.denom_is in
+    let shares : t.shares ≡ parts (common_multiple e.m) = c.self.invariant.shares_are in
     let base : c.value.result ≡ value set = c.value.ensures ∙ ap (λ (x : Election). satisfaction_value x.m x.rows set) (sym same) in
     let higher = λ (n : ℕ) (low : c.args.c ≤ n). IsIncreasing-higher 1 c.args.c n set low c.requires.candidates in
     let law : IsBound value e.m c.args.c set left (ceiling value e.m c.args.c set left) =
