@@ -7,6 +7,7 @@
 //! with. Only the range of the multipliers is proved, since prices bound values whatever the multipliers are.
 ghost use Rattle.std.specs.Prelude.{◌≡◌, ℕ, ◌^◌, ◌<◌, ◌≤◌, length, slice_index, IfOk, MatchOption, ⊤};
 ghost use Rattle.ballot_base.specs.Ballots.{IsElection};
+ghost use Rattle.ballot_base.specs.CandSet.{common_members};
 ghost use Rattle.ballot_base.specs.Limits.{most_candidates};
 ghost use Rattle.ballot_base.specs.Lists.{IsIncreasing};
 ghost use Rattle.thiele_search.specs.Steps.Priced.{HasRoom};
@@ -217,8 +218,7 @@ fn step<A: Allocator + Copy>(
     let mut square: u128 = 1;
     for i in 0..profile.rows() {
         let (ballot, count) = profile.row(i);
-        let hits = ballot.common(committee).len();
-        let wanted = wanted(weights, multipliers[i], ballot.len(), hits);
+        let (hits, wanted) = hits_and_wanted(weights, multipliers[i], ballot, committee);
         let apart = u128::from(hits.abs_diff(wanted));
         square = square.saturating_add(u128::from(count).saturating_mul(apart.saturating_mul(
             apart,
@@ -228,8 +228,7 @@ fn step<A: Allocator + Copy>(
     let length = (gap / square).min(u128::from(top)) as u64;
     for i in 0..profile.rows() {
         let (ballot, _count) = profile.row(i);
-        let hits = ballot.common(committee).len();
-        let wanted = wanted(weights, multipliers[i], ballot.len(), hits);
+        let (hits, wanted) = hits_and_wanted(weights, multipliers[i], ballot, committee);
         let up = length.saturating_mul(u64::from(wanted.saturating_sub(hits)));
         let down = length.saturating_mul(u64::from(hits.saturating_sub(wanted)));
         multipliers[i] = multipliers[i]
@@ -237,6 +236,20 @@ fn step<A: Allocator + Copy>(
             .saturating_sub(down)
             .min(top);
     }
+}
+
+/// How often a committee hits a ballot, and how often the ballot asks for it at this multiplier.
+fn hits_and_wanted(
+    weights: &Weights,
+    multiplier: u64,
+    ballot: CandSet,
+    committee: CandSet,
+) -> (u8, u8)
+    requires weights { (j : ℕ) → slice_index weights.now j < 2 ^ 44 }
+    ensures hits { result.0 ≡ length (common_members ballot committee) }
+{
+    let hits = ballot.common(committee).len();
+    (hits, wanted(weights, multiplier, ballot.len(), hits))
 }
 
 /// The number of hits, nearest to `hits`, at which a ballot of this size gives the most beside the multiplier for each.
