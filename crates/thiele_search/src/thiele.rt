@@ -37,7 +37,7 @@ pub struct SearchMemory<'a, A: Allocator + Copy = Global> {
 impl<'a, A: Allocator + Copy> Model for SearchMemory<'a, A> {
     ghost use Rattle.std.specs.Prelude.{◌≡◌};
     ghost use Rattle.tie_walk.specs.Values.{Thiele};
-    ghost use Rattle.thiele_search.specs.Steps.Aided.{IsMemoryFor, IsAided};
+    ghost use Rattle.thiele_search.specs.Steps.Aided.{IsMemoryFor};
 
     ghost Value = { Thiele };
 
@@ -85,6 +85,7 @@ pub struct ThieleSearch<'a, A: Allocator + Copy = Global> {
 impl<'a, A: Allocator + Copy> Model for ThieleSearch<'a, A> {
     ghost use Rattle.std.specs.Prelude.{◌≡◌};
     ghost use Rattle.tie_walk.specs.Values.{Thiele};
+    ghost use Rattle.thiele_search.specs.Steps.Aided.{IsAided};
 
     ghost Value = { Thiele };
 
