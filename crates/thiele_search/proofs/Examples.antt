@@ -1,5 +1,5 @@
 -- The definitions of prices and of pairs, worked out by hand.
-use Rattle.std.proofs.Common.{◌≡◌, ◌<◌, zero, suc, [], ◌∷◌, refl, length, lit≤, arith}
+use Rattle.std.proofs.Common.{◌≡◌, zero, suc, [], ◌∷◌, refl, length, lit≤, arith}
 use Rattle.thiele_search.specs.Pairs.{IsMajorant, all_kept, all_overlap, all_worth, pair_sum, row_sum, worth_beside}
 use Rattle.thiele_search.specs.Prices.{kept, base, price}
 use Rattle.thiele_search.specs.Steps.Columns.{voter_ballot, given, total, voters_of}

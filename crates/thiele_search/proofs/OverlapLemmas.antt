@@ -1,5 +1,5 @@
 -- Tables of pairs, and what a ballot adds to them.
-use Rattle.std.proofs.Common.{◌≡◌, ℕ, ◌+◌, ◌*◌, ◌<◌, ◌≤◌, ◌==◌, ◌&&◌, ◌∙◌, ◌⊎◌, ◌||◌, Bool, true, false, cond, List, ◌∷◌, refl, sym, ap, subst, arith, inl, inr, length, max, min, get_or, set, nat_le}
+use Rattle.std.proofs.Common.{◌≡◌, ℕ, ◌+◌, ◌*◌, ◌<◌, ◌≤◌, ◌==◌, ◌&&◌, ◌∙◌, ◌⊎◌, Bool, true, false, cond, List, ◌∷◌, refl, sym, ap, subst, arith, inl, inr, length, max, min, get_or, set, nat_le}
 use Rattle.std.proofs.Math.Nat.{mul-le-mul}
 use Rattle.std.proofs.lemmas.Bool.{cases_eq, cases_lt, eq-eqb, le-leb, ne_eqb}
 use Rattle.std.proofs.lemmas.List.{get_or-set_same, get_or-set_other}
