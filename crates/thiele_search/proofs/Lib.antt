@@ -4,12 +4,6 @@ pub mod CoverLemmas
 mod Examples
 pub mod GainLemmas
 pub mod KeptLemmas
-mod KnownLemmas
-pub mod MajorantLemmas
-pub mod OverlapLemmas
-pub mod PairLemmas
-pub mod PairNodes
-pub mod PairTotals
-pub mod PriceLemmas
-pub mod PricedLemmas
+pub mod PairBounds
+pub mod PriceBounds
 mod WholeLemmas

@@ -1,4 +1,4 @@
-use Rattle.thiele_search.proofs.PairLemmas.{pairs-bound}
+use Rattle.thiele_search.proofs.PairBounds.PairLemmas.{pairs-bound}
 use Rattle.thiele_search.proofs.laws.pairs.Goals as goal
 
 pub returns : goal.returns

@@ -1,5 +1,5 @@
-use Rattle.thiele_search.proofs.PriceLemmas.{price-bounds, priced-node}
-use Rattle.thiele_search.proofs.PricedLemmas.{value-rounded}
+use Rattle.thiele_search.proofs.PriceBounds.PriceLemmas.{price-bounds, priced-node}
+use Rattle.thiele_search.proofs.PriceBounds.PricedLemmas.{value-rounded}
 use Rattle.thiele_search.proofs.laws.prices.Goals as goal
 
 pub returns-clause-committees : goal.returns-clause-committees

@@ -1,6 +1,6 @@
 use Rattle.std.proofs.Common.{arith}
 use Rattle.thiele_search.specs.Pairs.{row_sum}
-use Rattle.thiele_search.proofs.PairLemmas.{rows-bound, rows-bound_member}
+use Rattle.thiele_search.proofs.PairBounds.PairLemmas.{rows-bound, rows-bound_member}
 use Rattle.thiele_search.proofs.laws.row_sums.Goals as goal
 
 pub returns-clause-members : goal.returns-clause-members

@@ -4,7 +4,7 @@ use Rattle.ballot_base.specs.CandSet.{has_member}
 use Rattle.ballot_base.specs.Limits.{most_candidates}
 use Rattle.ballot_base.proofs.Increasing.{has_member-filter}
 use Rattle.tie_search.proofs.CompletionLemmas.{and-true}
-use Rattle.thiele_search.proofs.OverlapLemmas.{portion, portion-pair, rows-fit, rows-more}
+use Rattle.thiele_search.proofs.PairBounds.OverlapLemmas.{portion, portion-pair, rows-fit, rows-more}
 use Rattle.tie_search.proofs.MemberLemmas.{first-low}
 use Rattle.tie_search.proofs.SearchLemmas.{rest-increasing}
 use Rattle.thiele_search.proofs.pairs.add_pairs.Goals as goal

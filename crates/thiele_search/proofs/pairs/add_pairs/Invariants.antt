@@ -3,7 +3,7 @@ use Rattle.ballot_base.specs.CandSet.{has_member}
 use Rattle.ballot_base.specs.Limits.{most_candidates}
 use Rattle.ballot_base.specs.Lists.{IsIncreasing}
 use Rattle.thiele_search.specs.Steps.Paired.{overlap_at}
-use Rattle.thiele_search.proofs.OverlapLemmas.{portion}
+use Rattle.thiele_search.proofs.PairBounds.OverlapLemmas.{portion}
 use Rattle.thiele_search.proofs.pairs.add_pairs.Given as goal
 
 -- with the rows that are still to be added, the numbers are those at the end

@@ -2,7 +2,7 @@ use Rattle.std.proofs.Common.{◌∙◌, ◌^◌, ◌≤◌, ◌==◌, ap, arith
 use Rattle.std.proofs.Math.ListN.{length-set}
 use Rattle.ballot_base.specs.CandSet.{has_member}
 use Rattle.ballot_base.specs.Limits.{most_candidates}
-use Rattle.thiele_search.proofs.OverlapLemmas.{portion, portion-none, place-within, row-fits, row-more}
+use Rattle.thiele_search.proofs.PairBounds.OverlapLemmas.{portion, portion-none, place-within, row-fits, row-more}
 use Rattle.tie_search.proofs.MemberLemmas.{first-in, later-in}
 use Rattle.tie_search.proofs.SearchLemmas.{rest-increasing}
 use Rattle.thiele_search.proofs.pairs.add_to_row.Goals as goal

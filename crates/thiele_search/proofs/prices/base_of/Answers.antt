@@ -2,7 +2,7 @@ use Rattle.std.proofs.Common.{◌≡◌, ℕ, ◌*◌, ◌^◌, ◌≤◌, ◌�
 use Rattle.std.proofs.Math.Nat.{mul-le-mul}
 use Rattle.thiele_search.specs.Prices.{kept}
 use Rattle.thiele_search.specs.Steps.Priced.{scale}
-use Rattle.thiele_search.proofs.PricedLemmas.{base-more, base-none, row-voters}
+use Rattle.thiele_search.proofs.PriceBounds.PricedLemmas.{base-more, base-none, row-voters}
 use Rattle.thiele_search.proofs.prices.base_of.Goals as goal
 
 pub loop-i-init : goal.loop-i-init

@@ -3,7 +3,7 @@ use Rattle.std.specs.List.{range_with_len}
 use Rattle.std.proofs.lemmas.List.{get_or_past}
 use Rattle.tie_walk.proofs.TableLemmas.{sum-take_more}
 use Rattle.thiele_search.specs.Steps.Priced.{scale}
-use Rattle.thiele_search.proofs.PricedLemmas.{greatest-more}
+use Rattle.thiele_search.proofs.PriceBounds.PricedLemmas.{greatest-more}
 use Rattle.thiele_search.proofs.prices.kept.Goals as goal
 use Rattle.thiele_search.proofs.prices.kept.Goals.{then-hits-lt40, else-hits-lt40}
 

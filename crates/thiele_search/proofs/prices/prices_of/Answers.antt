@@ -2,7 +2,7 @@ use Rattle.std.proofs.Common.{◌≡◌, ℕ, Bool, true, false, ◌*◌, ◌^�
 use Rattle.std.proofs.Math.Nat.{mul-le-mul}
 use Rattle.tie_walk.proofs.WorthLemmas.{no_total}
 use Rattle.ballot_base.specs.CandSet.{has_member}
-use Rattle.thiele_search.proofs.PricedLemmas.{price-more, price-none, row-voters}
+use Rattle.thiele_search.proofs.PriceBounds.PricedLemmas.{price-more, price-none, row-voters}
 use Rattle.thiele_search.proofs.prices.prices_of.Goals as goal
 
 part-most : (b : Bool) (n : ℕ) → cond b n 0 ≤ n

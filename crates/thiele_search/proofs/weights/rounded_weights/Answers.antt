@@ -3,7 +3,7 @@ use Rattle.std.specs.Int.{div_ceil}
 use Rattle.std.proofs.lemmas.Bool.{cases_eq, cases_lt}
 use Rattle.std.proofs.lemmas.List.{get_or_past}
 use Rattle.tie_walk.proofs.WorthLemmas.{no_total}
-use Rattle.thiele_search.proofs.PricedLemmas.{ceil-high}
+use Rattle.thiele_search.proofs.PriceBounds.PricedLemmas.{ceil-high}
 use Rattle.thiele_search.proofs.weights.rounded_weights.Goals as goal
 
 pub loop-j-init : goal.loop-j-init

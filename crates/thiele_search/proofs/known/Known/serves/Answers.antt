@@ -1,5 +1,5 @@
 use Rattle.std.proofs.Common.{◌∙◌, sym}
-use Rattle.thiele_search.proofs.KnownLemmas.{included}
+use Rattle.thiele_search.proofs.PairBounds.KnownLemmas.{included}
 use Rattle.thiele_search.proofs.known.Known.serves.Goals as goal
 
 pub returns-then-eq-clause-free : goal.returns-then-eq-clause-free

@@ -6,7 +6,7 @@ use Rattle.std.proofs.lemmas.List.{get_or_past, get_or-set_same, get_or-set_othe
 use Rattle.ballot_base.proofs.WeightLemmas.{increments-length}
 use Rattle.tie_walk.proofs.TableLemmas.{increments_sum-most, sum-take-le, sum-take_more}
 use Rattle.tie_walk.proofs.WorthLemmas.{no_total}
-use Rattle.thiele_search.proofs.PricedLemmas.{ceil-high}
+use Rattle.thiele_search.proofs.PriceBounds.PricedLemmas.{ceil-high}
 use Rattle.thiele_search.proofs.majorant.HitSums.of.Goals as goal
 use Rattle.thiele_search.proofs.majorant.HitSums.of.Goals.{then-hits-lt40, else-hits-lt40}
 

@@ -1,4 +1,4 @@
-use Rattle.thiele_search.proofs.MajorantLemmas.{table-none}
+use Rattle.thiele_search.proofs.PairBounds.MajorantLemmas.{table-none}
 use Rattle.thiele_search.proofs.majorant.Majorants.new.Goals as goal
 
 pub invariant_of-result : goal.invariant_of-result

@@ -9,8 +9,8 @@ use Rattle.tie_walk.proofs.RowSums.{length-common}
 use Rattle.thiele_search.specs.Steps.Majorants.{Majorized}
 use Rattle.thiele_search.specs.Steps.Paired.{AreTotals, IsMajorantOf, overlap_at}
 use Rattle.tie_search.proofs.CompletionLemmas.{member-high}
-use Rattle.thiele_search.proofs.OverlapLemmas.{portion}
-use Rattle.thiele_search.proofs.PairTotals.{cells-same, hits-both, portion-most, portion-self, row-up, totals-more, totals-none, voters-more, voters-room}
+use Rattle.thiele_search.proofs.PairBounds.OverlapLemmas.{portion}
+use Rattle.thiele_search.proofs.PairBounds.PairTotals.{cells-same, hits-both, portion-most, portion-self, row-up, totals-more, totals-none, voters-more, voters-room}
 use Rattle.tie_search.proofs.HitLemmas.{free-common}
 use Rattle.tie_search.proofs.SearchLemmas.{part-most}
 use Rattle.thiele_search.proofs.pairs.PairSearch.add_ballots.Goals as goal

@@ -1,6 +1,6 @@
 use Rattle.std.proofs.Common.{refl}
 use Rattle.thiele_search.specs.Steps.Known.{IsKnown}
-use Rattle.thiele_search.proofs.KnownLemmas.{known-fewer}
+use Rattle.thiele_search.proofs.PairBounds.KnownLemmas.{known-fewer}
 use Rattle.thiele_search.proofs.pairs.PairSearch.narrowed_by.Goals as goal
 
 pub returns-then-serves-clause-narrowed : goal.returns-then-serves-clause-narrowed

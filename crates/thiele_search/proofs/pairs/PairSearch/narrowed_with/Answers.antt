@@ -2,7 +2,7 @@ use Rattle.std.proofs.Common.{rules, ◌≡◌, ℕ, ◌+◌, ◌-◌, ◌*◌, 
 use Rattle.std.proofs.Math.Nat.{mul-le-mul, mul-le-mul_left}
 use Rattle.ballot_base.specs.Limits.{most_candidates}
 use Rattle.thiele_search.specs.Steps.Paired.{overlap_at}
-use Rattle.thiele_search.proofs.PairNodes.{pairs-narrowed, pairs-none}
+use Rattle.thiele_search.proofs.PairBounds.PairNodes.{pairs-narrowed, pairs-none}
 use Rattle.thiele_search.proofs.pairs.PairSearch.narrowed_with.Goals as goal
 use Rattle.thiele_search.proofs.pairs.PairSearch.narrowed_with.Goals.{After-excess, After-from, After-from-factor, After-saturating_add-due}
 

@@ -1,5 +1,5 @@
 use Rattle.std.proofs.Common.{◌≡◌, ℕ, ◌*◌, ◌≤◌, arith}
-use Rattle.thiele_search.proofs.PricedLemmas.{ceil-low}
+use Rattle.thiele_search.proofs.PriceBounds.PricedLemmas.{ceil-low}
 use Rattle.thiele_search.proofs.pairs.PairSearch.units.Goals as goal
 
 pub returns : goal.returns

@@ -6,7 +6,7 @@ use Rattle.ballot_base.specs.Limits.{most_candidates}
 use Rattle.thiele_search.specs.Pairs.{worth_beside}
 use Rattle.thiele_search.specs.Steps.Paired.{overlap_at}
 use Rattle.tie_search.proofs.MemberLemmas.{first-low}
-use Rattle.thiele_search.proofs.OverlapLemmas.{pair-within, set-made, set-most}
+use Rattle.thiele_search.proofs.PairBounds.OverlapLemmas.{pair-within, set-made, set-most}
 use Rattle.tie_search.proofs.SearchLemmas.{rest-increasing}
 use Rattle.thiele_search.proofs.pairs.Rows.put_beside.Goals as goal
 

@@ -8,7 +8,7 @@ use Rattle.ballot_base.proofs.Committees.{length-increasing}
 use Rattle.thiele_search.specs.Pairs.{worth_beside}
 use Rattle.thiele_search.specs.Steps.Paired.{overlap_at}
 use Rattle.tie_search.proofs.CompletionLemmas.{filter-most, member-high, without-is}
-use Rattle.thiele_search.proofs.PairLemmas.{sum-equal}
+use Rattle.thiele_search.proofs.PairBounds.PairLemmas.{sum-equal}
 use Rattle.tie_search.proofs.SearchLemmas.{sum-most}
 use Rattle.thiele_search.proofs.pairs.Rows.sum_of.Goals as goal
 

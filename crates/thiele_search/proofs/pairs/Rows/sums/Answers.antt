@@ -5,7 +5,7 @@ use Rattle.ballot_base.specs.Limits.{most_candidates}
 use Rattle.tie_walk.proofs.WorthLemmas.{no_total}
 use Rattle.thiele_search.specs.Steps.Paired.{IsRowSum}
 use Rattle.tie_search.proofs.MemberLemmas.{first-in, first-low, later-in}
-use Rattle.thiele_search.proofs.OverlapLemmas.{set-made, set-most}
+use Rattle.thiele_search.proofs.PairBounds.OverlapLemmas.{set-made, set-most}
 use Rattle.tie_search.proofs.SearchLemmas.{rest-increasing}
 use Rattle.thiele_search.proofs.pairs.Rows.sums.Goals as goal
 

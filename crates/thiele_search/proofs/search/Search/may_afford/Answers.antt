@@ -6,7 +6,7 @@ use Rattle.tie_walk.specs.Values.{thiele_value}
 use Rattle.tie_search.specs.Completions.{tally_value}
 use Rattle.thiele_search.specs.Steps.Priced.{ArePrices, scale}
 use Rattle.tie_search.proofs.CompletionLemmas.{completion-few}
-use Rattle.thiele_search.proofs.PricedLemmas.{ceil-low, prices-bound, value-rounded}
+use Rattle.thiele_search.proofs.PriceBounds.PricedLemmas.{ceil-low, prices-bound, value-rounded}
 use Rattle.tie_search.proofs.SearchLemmas.{not-true}
 use Rattle.thiele_search.proofs.search.Search.may_afford.Goals as goal
 

@@ -15,7 +15,7 @@ use Rattle.tie_search.specs.Steps.Narrowed.{IsNarrowed}
 use Rattle.thiele_search.specs.Steps.Paired.{AreTotals, IsRowSum, overlap_at}
 use Rattle.tie_search.proofs.CompletionLemmas.{added-free, added-increasing, added-size, member-high}
 use Rattle.tie_search.proofs.NarrowedLemmas.{narrowed-by}
-use Rattle.thiele_search.proofs.PairLemmas.{rows-bound, rows-bound_member}
+use Rattle.thiele_search.proofs.PairBounds.PairLemmas.{rows-bound, rows-bound_member}
 
 -- a value that is reached in units is reached by the bound
 units-low : (scale unit least needed all overlaps : ℕ) → 1 ≤ unit → ((value : ℕ) → scale * least ≤ unit * value → needed ≤ value) → scale * least + unit * overlaps ≤ unit * all → needed + overlaps ≤ all

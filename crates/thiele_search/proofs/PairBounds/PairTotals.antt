@@ -15,8 +15,8 @@ use Rattle.tie_search.specs.Completions.{IsNode}
 use Rattle.thiele_search.specs.Pairs.{IsMajorant}
 use Rattle.thiele_search.specs.Steps.Paired.{AreNothing, AreSums, AreTotals, overlap_at}
 use Rattle.tie_search.proofs.HitLemmas.{hits-append, free-common}
-use Rattle.thiele_search.proofs.OverlapLemmas.{portion}
-use Rattle.thiele_search.proofs.PairLemmas.{row-bound}
+use Rattle.thiele_search.proofs.PairBounds.OverlapLemmas.{portion}
+use Rattle.thiele_search.proofs.PairBounds.PairLemmas.{row-bound}
 
 -- ---- one row
 

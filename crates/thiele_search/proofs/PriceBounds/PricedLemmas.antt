@@ -21,7 +21,7 @@ use Rattle.tie_search.specs.Completions.{IsNode, IsCompletion}
 use Rattle.thiele_search.specs.Steps.Priced.{ArePrices, scale, priced_by}
 use Rattle.thiele_search.proofs.ColumnLemmas.{voters-part}
 use Rattle.tie_search.proofs.CompletionLemmas.{member-high}
-use Rattle.thiele_search.proofs.PriceLemmas.{price-cons, row-price, priced-node}
+use Rattle.thiele_search.proofs.PriceBounds.PriceLemmas.{price-cons, row-price, priced-node}
 
 -- ---- sums
 

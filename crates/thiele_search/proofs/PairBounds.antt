@@ -1,0 +1,7 @@
+-- Bounds by pairs of members.
+pub mod KnownLemmas
+pub mod MajorantLemmas
+pub mod OverlapLemmas
+pub mod PairLemmas
+pub mod PairNodes
+pub mod PairTotals

@@ -1,0 +1,3 @@
+-- Bounds by prices of candidates.
+pub mod PriceLemmas
+pub mod PricedLemmas
