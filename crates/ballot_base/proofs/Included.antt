@@ -1,10 +1,12 @@
--- Whether a filter keeps all of a list.
-use Rattle.std.proofs.Common.{◌≡◌, ℕ, ◌≤◌, ◌==◌, ◌&&◌, Bool, true, false, cond, List, [], ◌∷◌, refl, sym, ap, ◌∙◌, arith, length, filter}
+-- Whether a filter keeps all of a list, and what is true of all its members.
+use Rattle.std.proofs.Common.{◌≡◌, ℕ, ◌≤◌, ◌==◌, ◌&&◌, Bool, true, false, cond, List, [], ◌∷◌, refl, sym, ap, ◌∙◌, arith, inl, inr, length, filter}
 use Rattle.std.specs.List.{list_all}
 use Rattle.std.specs.Str.{bytes_eq}
-use Rattle.std.proofs.lemmas.Bool.{and_parts, eq-eqb, ne_eqb}
+use Rattle.std.proofs.lemmas.Bool.{and_from, and_parts, cases_eq, eq-eqb, ne_eqb, or_right}
 use Rattle.std.proofs.lemmas.Slice.Eq.{bytes_eq-Decides}
 use Rattle.std.proofs.lemmas.List.Sums.{length-filter, count_by-le-length}
+use Rattle.ballot_base.specs.CandSet.{has_member}
+use Rattle.ballot_base.proofs.Increasing.{has_member_head, has_member_tail}
 
 -- all pass where a filter keeps as many as there are
 pub kept_all : (p : ℕ → Bool) (xs : List ℕ) → (length (filter p xs) == length xs) ≡ list_all p xs
@@ -37,3 +39,17 @@ kept_whole p xs =
     same_answers (bytes_eq (filter p xs) xs) (list_all p xs)
     (λ h. sym (kept_all p xs) ∙ eq-eqb (length (filter p xs)) (length xs) (ap length (decides.0 h)))
     (λ h. decides.1 (keeps_all p xs h))
+
+-- ---- what is true of all members
+
+pub all-at : (p : ℕ → Bool) (xs : List ℕ) (x : ℕ) → list_all p xs ≡ true → has_member xs x ≡ true → p x ≡ true
+all-at p [] x all inside = absurd (let e : false ≡ true = inside in cc)
+all-at p (y ∷ xs) x all inside = elim (cases_eq y x) [
+  | inl same ↦ ap p (sym same) ∙ (and_parts (p y) (list_all p xs) all).0
+  | inr other ↦ all-at p xs x (and_parts (p y) (list_all p xs) all).1 (sym (has_member_tail y x xs other) ∙ inside)
+]
+
+pub all-from : (p : ℕ → Bool) (xs : List ℕ) → ((x : ℕ) → has_member xs x ≡ true → p x ≡ true) → list_all p xs ≡ true
+all-from p [] each = refl
+all-from p (y ∷ xs) each =
+    and_from (p y) (list_all p xs) (each y (has_member_head y xs)) (all-from p xs (λ x inside. each x (or_right (y == x) (has_member xs x) inside)))

@@ -43,7 +43,7 @@ pub is_later-earlier : (x y : List ℕ) → IsLater x y → is_later y x ≡ fal
 is_later-earlier x y later = and_right (length y == length x) (is_gt (slice_cmp nat_cmp y x)) (ap is_gt (IsLater-parts x y later).1)
 
 -- ---- what a test keeps
-filter-all : (p : List ℕ → Bool) (xs : List (List ℕ)) → AllByRecursion (λ x. p x ≡ true) xs → filter p xs ≡ xs
+pub filter-all : (p : List ℕ → Bool) (xs : List (List ℕ)) → AllByRecursion (λ x. p x ≡ true) xs → filter p xs ≡ xs
 filter-all p [] all = refl
 filter-all p (x ∷ xs) all = rw all.0 (ap (λ rest. x ∷ rest) (filter-all p xs all.1))
 

@@ -3,6 +3,7 @@ use Rattle.std.proofs.Common.{◌≡◌, ℕ, zero, suc, ◌+◌, ◌-◌, ◌�
 use Rattle.std.specs.List.{list_all, range_with_len}
 use Rattle.std.proofs.lemmas.Bool.{cases_Bool, cases_eq, and_parts, and_from, and_left, both_ways, not-true, eq-eqb, ne_eqb, or_right, or_left, not_from_true}
 use Rattle.ballot_base.specs.Lists.{IsIncreasing}
+pub use Rattle.ballot_base.proofs.Included.{all-at, all-from}
 use Rattle.ballot_base.specs.CandSet.{has_member, other_members, with_member, without_member}
 use Rattle.ballot_base.proofs.Increasing.{IsIncreasing-filter, IsIncreasing-with_member, has_member-filter, has_member-with_member, has_member_head, has_member_tail, same_increasing}
 use Rattle.tie_walk.specs.Sequences.{others}
@@ -14,18 +15,6 @@ use Rattle.tie_walk.proofs.StepLemmas.{has_member-range}
 use Rattle.tie_families.proofs.Numbers.{count-parts}
 
 -- ---- what is true of all
-
-pub all-at : (p : ℕ → Bool) (xs : List ℕ) (x : ℕ) → list_all p xs ≡ true → has_member xs x ≡ true → p x ≡ true
-all-at p [] x all inside = absurd (let e : false ≡ true = inside in cc)
-all-at p (y ∷ xs) x all inside = elim (cases_eq y x) [
-  | inl same ↦ ap p (sym same) ∙ (and_parts (p y) (list_all p xs) all).0
-  | inr other ↦ all-at p xs x (and_parts (p y) (list_all p xs) all).1 (sym (has_member_tail y x xs other) ∙ inside)
-]
-
-pub all-from : (p : ℕ → Bool) (xs : List ℕ) → ((x : ℕ) → has_member xs x ≡ true → p x ≡ true) → list_all p xs ≡ true
-all-from p [] each = refl
-all-from p (y ∷ xs) each =
-    and_from (p y) (list_all p xs) (each y (has_member_head y xs)) (all-from p xs (λ x inside. each x (or_right (y == x) (has_member xs x) inside)))
 
 pub some-fails : (p : ℕ → Bool) (xs : List ℕ) → list_all p xs ≡ false → (x : ℕ) × (has_member xs x ≡ true) × (p x ≡ false)
 some-fails p [] fails = absurd (let e : true ≡ false = fails in cc)

@@ -3,7 +3,9 @@ use Rattle.std.proofs.Common.{◌≡◌, ℕ, zero, suc, ◌+◌, ◌-◌, ◌<�
 use Rattle.std.specs.List.{AllByRecursion, list_all, list_any, range_with_len}
 use Rattle.std.specs.Ordering.{nat_cmp, is_gt, ordering_then}
 use Rattle.std.specs.Cmp.Lexicographic.{slice_cmp}
-use Rattle.std.proofs.lemmas.Bool.{and_from, and_parts, and_right, cases_Bool, cases_eq, cases_lt, eq-eqb, false≢true, lt-ltb, ne_eqb}
+use Rattle.std.specs.Cmp.{both_ways}
+use Rattle.std.proofs.Math.Bool.{or-false, or_assoc}
+use Rattle.std.proofs.lemmas.Bool.{and_from, and_parts, and_right, or_cases, or_left, or_right, cases_Bool, cases_eq, cases_lt, eq-eqb, false≢true, lt-ltb, ne_eqb}
 use Rattle.std.specs.Prelude.{MatchOption, slice_index_or}
 use Rattle.std.proofs.lemmas.List.Elements.{Contains-get_or, recursion_from_All}
 use Rattle.std.proofs.lemmas.List.Folds.{list_any-append}
@@ -11,6 +13,7 @@ use Rattle.ballot_base.specs.Lists.{IsIncreasing, IsLater, AreInOrder, is_later,
 use Rattle.ballot_base.specs.CandSet.{either_members, has_member, includes, other_members, with_member, without_member}
 use Rattle.ballot_base.proofs.Committees.{increasing_lists-contains, length-increasing}
 use Rattle.ballot_base.proofs.FirstMember.{slice_cmp_same}
+use Rattle.ballot_base.proofs.Included.{all-at, all-from}
 use Rattle.ballot_base.proofs.Increasing.{IsIncreasing-either, IsIncreasing-filter, IsIncreasing-higher, IsIncreasing-lower, has_member-above, has_member-below, has_member-either, has_member-filter, has_member-with_member, has_member_head, same_increasing, with_member-above}
 use Rattle.ballot_base.proofs.Later.{IsLater-from_parts, filter-all, is_later-earlier, is_later-self}
 use Rattle.tie_walk.specs.Winners.{best_value, winners}
@@ -24,46 +27,6 @@ use Rattle.tie_search.specs.declared.branch.Branch.{Branch}
 use Rattle.tie_search.proofs.CloneLemmas.{clones-left, minus-is, minus-most}
 use Rattle.tie_search.proofs.CompletionLemmas.{added, added-free, added-size, completion-back, completion-few, completion-members, completion-whole, member-high, member-low, without-is}
 use Rattle.tie_search.proofs.ReachLemmas.{increasing-append}
-
--- ---- tests
-
-all-at : (p : ℕ → Bool) (xs : List ℕ) (x : ℕ) → list_all p xs ≡ true → has_member xs x ≡ true → p x ≡ true
-all-at p [] x all here = absurd cc
-all-at p (y ∷ xs) x all here =
-    let parts = and_parts (p y) (list_all p xs) all in
-    elim (cases_eq y x) [
-      | inl same ↦ ap p (sym same) ∙ parts.0
-      | inr other ↦ all-at p xs x parts.1 (ap (λ b. b || has_member xs x) (sym (ne_eqb y x other)) ∙ here)
-    ]
-
-all-from : (p : ℕ → Bool) (xs : List ℕ) → ((x : ℕ) → has_member xs x ≡ true → p x ≡ true) → list_all p xs ≡ true
-all-from p [] each = refl
-all-from p (y ∷ xs) each = and_from (p y) (list_all p xs) (each y (has_member_head y xs)) (all-from p xs (λ x is. each x (or-right (y == x) (has_member xs x) is)))
-  where
-    or-right : (a b : Bool) → b ≡ true → (a || b) ≡ true
-    or-right true b h = refl
-    or-right false b h = h
-
-same-answers : (a b : Bool) → (a ≡ true → b ≡ true) → (b ≡ true → a ≡ true) → a ≡ b
-same-answers true b h k = sym (h refl)
-same-answers false true h k = k refl
-same-answers false false h k = refl
-
-or-left : (a b : Bool) → a ≡ true → (a || b) ≡ true
-or-left true b h = refl
-or-left false b h = absurd cc
-
-or-right : (a b : Bool) → b ≡ true → (a || b) ≡ true
-or-right true b h = refl
-or-right false b h = h
-
-or-none : (a : Bool) → (a || false) ≡ a
-or-none true = refl
-or-none false = refl
-
-or-cases : (a b : Bool) → (a || b) ≡ true → (a ≡ true) ⊎ (b ≡ true)
-or-cases true b h = inl refl
-or-cases false b h = inr h
 
 -- ---- a branch
 
@@ -109,7 +72,7 @@ completes-up m k branch committee last is up whole = narrower 1 committee up (λ
 
     narrower : (low : ℕ) (xs : List ℕ) → IsIncreasing low last xs → ((n : ℕ) → has_member xs n ≡ true → n ≤ m) → IsIncreasing low m xs
     narrower low [] up high = tt
-    narrower low (x ∷ xs) up high = (up.0, high x (has_member_head x xs), narrower (x + 1) xs up.2 (λ n here. high n (or-right (x == n) (has_member xs n) here)))
+    narrower low (x ∷ xs) up high = (up.0, high x (has_member_head x xs), narrower (x + 1) xs up.2 (λ n here. high n (or_right (x == n) (has_member xs n) here)))
 
 -- ---- the first free candidate
 
@@ -170,8 +133,8 @@ module _ (m k : ℕ) (branch : Branch) (is : IsBranch m k branch) (next : ℕ) (
   -- who completes the branch completes the one with the candidate or the one without
   pub split-same : (committee : List ℕ) → completes branch committee
       ≡ (completes (record { set = branch.set; free = rest }) committee || completes (record { set = with_member branch.set next; free = rest }) committee)
-  split-same committee = same-answers (completes branch committee)
-      (completes without committee || completes with' committee) down (λ some. up (or-cases (completes without committee) (completes with' committee) some))
+  split-same committee = both_ways (completes branch committee)
+      (completes without committee || completes with' committee) down (λ some. up (or_cases (completes without committee) (completes with' committee) some))
     where
       without : Branch
       without = record { set = branch.set; free = rest }
@@ -216,7 +179,7 @@ module _ (m k : ℕ) (branch : Branch) (is : IsBranch m k branch) (next : ℕ) (
       down : completes branch committee ≡ true → (completes without committee || completes with' committee) ≡ true
       down is = elim (cases_Bool (has_member committee next)) [
         | inl in_ ↦
-            or-right (completes without committee) (completes with' committee)
+            or_right (completes without committee) (completes with' committee)
             (whole with'
             (λ x here. elim (cases_eq next x) [
               | inl same ↦ ap (has_member committee) (sym same) ∙ in_
@@ -225,7 +188,7 @@ module _ (m k : ℕ) (branch : Branch) (is : IsBranch m k branch) (next : ℕ) (
             (λ x here. ap (λ b. b || has_member rest x) (with-is x)
             ∙ moved (has_member branch.set x) (next == x) (has_member rest x) (sym (ap (λ b. has_member branch.set x || b) (free-is x)) ∙ (parts branch is).1 x here)))
         | inr out ↦
-            or-left (completes without committee) (completes with' committee)
+            or_left (completes without committee) (completes with' committee)
             (whole without (parts branch is).0
             (λ x here. kept (has_member branch.set x) (next == x) (has_member rest x)
             (ne_eqb next x (λ same. false≢true (sym out ∙ ap (has_member committee) same ∙ here)))
@@ -238,13 +201,13 @@ module _ (m k : ℕ) (branch : Branch) (is : IsBranch m k branch) (next : ℕ) (
           (λ x here. ap (λ b. has_member branch.set x || b) (free-is x) ∙ wider (has_member branch.set x) (next == x) (has_member rest x) ((parts without is).1 x here))
       up (inr is) =
           whole branch
-          (λ x here. (parts with' is).0 x (with-is x ∙ or-right (next == x) (has_member branch.set x) here))
+          (λ x here. (parts with' is).0 x (with-is x ∙ or_right (next == x) (has_member branch.set x) here))
           (λ x here. ap (λ b. has_member branch.set x || b) (free-is x)
           ∙ back (has_member branch.set x) (next == x) (has_member rest x) (sym (ap (λ b. b || has_member rest x) (with-is x)) ∙ (parts with' is).1 x here))
 
   -- the one that was found completes the branch with the candidate if it has it
   pub with-completes : (committee : List ℕ) → completes branch committee ≡ true → has_member committee next ≡ true → completes (record { set = with_member branch.set next; free = rest }) committee ≡ true
-  with-completes committee whole in_ = elim (or-cases (completes (record { set = branch.set; free = rest }) committee) (completes (record { set = with_member branch.set next; free = rest }) committee) (sym (split-same committee) ∙ whole)) [
+  with-completes committee whole in_ = elim (or_cases (completes (record { set = branch.set; free = rest }) committee) (completes (record { set = with_member branch.set next; free = rest }) committee) (sym (split-same committee) ∙ whole)) [
     | inl without ↦
         absurd (false≢true (sym (ap (λ b. b || has_member rest next) set-out ∙ rest-out)
         ∙ sym (has_member-either branch.set rest next)
@@ -320,7 +283,7 @@ winners-same value m k xs ys same =
     best-of set inside = let is = winner-is value m k set inside in record { candidates = is.0; size = is.1; best = is.2 }
 
 last-some : (xs : List Branch) (b : Branch) (committee : List ℕ) → completes_some (xs ++ b ∷ []) committee ≡ (completes_some xs committee || completes b committee)
-last-some xs b committee = list_any-append (λ branch. completes branch committee) xs (b ∷ []) ∙ ap (λ c. completes_some xs committee || c) (or-none (completes b committee))
+last-some xs b committee = list_any-append (λ branch. completes branch committee) xs (b ∷ []) ∙ ap (λ c. completes_some xs committee || c) (or-false (completes b committee))
 
 -- ---- the order of the stack
 
@@ -414,7 +377,7 @@ stacked-pop m (first ∷ branches) branch stacked =
 pub some-later : (m k : ℕ) (branches : List Branch) (set committee : List ℕ) → AllByRecursion (IsBranch m k) branches → AreBefore m set branches → length set ≡ k → IsIncreasing 1 m committee
     → length committee ≡ k → completes_some branches committee ≡ true → IsLater committee set
 some-later m k [] set committee each before long up size some = absurd cc
-some-later m k (branch ∷ branches) set committee each before long up size some = elim (or-cases (completes branch committee) (completes_some branches committee) some) [
+some-later m k (branch ∷ branches) set committee each before long up size some = elim (or_cases (completes branch committee) (completes_some branches committee) some) [
   | inl here ↦ later-completes m k branch set committee each.0 before.0 long up size here
   | inr there ↦ some-later m k branches set committee each.1 before.1 long up size there
 ]
@@ -449,7 +412,7 @@ first-kept p q one (x ∷ xs) order (zero, low, is) tests passes =
     rest : (ys : List (List ℕ)) → AllByRecursion (λ y. IsLater y one) ys → AllByRecursion (AreTests p q one) ys → AllByRecursion (λ y. p y ≡ q y) ys
     rest [] later tests = tt
     rest (y ∷ ys) later tests = (
-      same-answers (p y) (q y)
+      both_ways (p y) (q y)
           (λ holds. elim (tests.0.only holds) [
             | inl same ↦ absurd (not-itself one y same later.0)
             | inr kept ↦ kept
@@ -497,7 +460,7 @@ first-left value m k branches branch committee each is stacked long wins =
     (winner-from_is value m k branch.set (set-best.candidates, set-best.size, set-best.best))
     (recursion_from_All (AreTests (completes_some (branches ++ branch ∷ [])) (completes_some branches) branch.set) (winners value m k)
     (λ i d inside. tests (get_or (winners value m k) i d) (winner-is value m k (get_or (winners value m k) i d) (Contains-get_or (winners value m k) i d inside))))
-    (last-some branches branch branch.set ∙ or-right (completes_some branches branch.set) (completes branch branch.set) (subst (λ l. completes branch l ≡ true) same wins.whole))
+    (last-some branches branch branch.set ∙ or_right (completes_some branches branch.set) (completes branch branch.set) (subst (λ l. completes branch l ≡ true) same wins.whole))
   where
     same : committee ≡ branch.set
     same = whole-is value m k branch committee is long wins
@@ -508,19 +471,19 @@ first-left value m k branches branch committee each is stacked long wins =
     tests : (x : List ℕ) → IsIncreasing 1 m x × (length x ≡ k) × (value x ≡ best_value value m k) → AreTests (completes_some (branches ++ branch ∷ [])) (completes_some branches) branch.set x
     tests x is-winner = record {
       later = λ some. some-later m k branches branch.set x each (stacked-pop m branches branch stacked).1 long is-winner.0 is-winner.1 some;
-      only = λ passes. elim (or-cases (completes_some branches x) (completes branch x) (sym (last-some branches branch x) ∙ passes)) [
+      only = λ passes. elim (or_cases (completes_some branches x) (completes branch x) (sym (last-some branches branch x) ∙ passes)) [
         | inl some ↦ inr some
         | inr whole ↦
             inl (whole-is value m k branch x is long (record { best = record { candidates = is-winner.0; size = is-winner.1; best = is-winner.2 }; whole = whole }))
       ];
-      more = λ some. last-some branches branch x ∙ or-left (completes_some branches x) (completes branch x) some;
+      more = λ some. last-some branches branch x ∙ or_left (completes_some branches x) (completes branch x) some;
     }
 
 -- a branch that no winner completes leaves none
 pub barren-left : (value : List ℕ → ℕ) (m k : ℕ) (branches : List Branch) (branch : Branch) → IsBarren value m k branch → winners_of value m k (branches ++ branch ∷ []) ≡ winners_of value m k branches
 barren-left value m k branches branch none =
     winners-same value m k (branches ++ branch ∷ []) branches
-    (λ committee best. last-some branches branch committee ∙ (ap (λ b. completes_some branches committee || b) (none committee best) ∙ or-none (completes_some branches committee)))
+    (λ committee best. last-some branches branch committee ∙ (ap (λ b. completes_some branches committee || b) (none committee best) ∙ or-false (completes_some branches committee)))
 
 -- ---- a search
 
@@ -602,13 +565,9 @@ module _ (value : List ℕ → ℕ) (m k : ℕ) (branches : List Branch) (branch
       (λ committee best.
         last-some (branches ++ without ∷ []) with' committee
         ∙ (ap (λ b. b || completes with' committee) (last-some branches without committee)
-        ∙ (or-assoc (completes_some branches committee) (completes without committee) (completes with' committee)
+        ∙ (or_assoc (completes_some branches committee) (completes without committee) (completes with' committee)
         ∙ (ap (λ b. completes_some branches committee || b) (sym (split-same m k branch is next rest first committee))
         ∙ sym (last-some branches branch committee)))))
-    where
-      or-assoc : (a b c : Bool) → ((a || b) || c) ≡ (a || (b || c))
-      or-assoc true b c = refl
-      or-assoc false b c = refl
 
   -- the candidate leaves with its clones
   module _ (classes : List (List ℕ)) (short : length branch.set < k) (alike : AreAlike value m classes) (none : IsBarren value m k with') where
@@ -630,7 +589,7 @@ module _ (value : List ℕ → ℕ) (m k : ℕ) (branches : List Branch) (branch
     left-stacked = let parts = stacked-pop m branches branch stacked in stacked-push m branches left-over parts.0 parts.1
 
     pub left-completes : (committee : List ℕ) → IsBest value m k committee → completes branch committee ≡ completes left-over committee
-    left-completes committee best = same-answers (completes branch committee) (completes left-over committee)
+    left-completes committee best = both_ways (completes branch committee) (completes left-over committee)
         (left-out value m k branch is next rest first classes short alike none committee best)
         (λ whole.
           let less = completion-from m k left-over committee left-branch best.candidates best.size whole in
@@ -646,7 +605,7 @@ module _ (value : List ℕ → ℕ) (m k : ℕ) (branches : List Branch) (branch
         or-more false q r h holds = h holds
 
         among : (x : ℕ) → has_member left-over.free x ≡ true → has_member branch.free x ≡ true
-        among x here = ap (λ l. has_member l x) first ∙ or-right (next == x) (has_member rest x) (minus-is rest (slice_index_or classes next []) x here)
+        among x here = ap (λ l. has_member l x) first ∙ or_right (next == x) (has_member rest x) (minus-is rest (slice_index_or classes next []) x here)
 
     pub left-left : winners_of value m k (branches ++ left-over ∷ []) ≡ winners_of value m k (branches ++ branch ∷ [])
     left-left =
@@ -678,12 +637,12 @@ all-left value m k branch none all =
   where
     whole : (set : List ℕ) → IsIncreasing 1 m set → completes_some (branch ∷ []) set ≡ true
     whole set up =
-        or-left (completes branch set) false
+        or_left (completes branch set) false
         (and_from (includes set branch.set) (includes (either_members branch.set branch.free) set)
         (all-from (has_member set) branch.set (λ n here. let no : true ≡ false = sym here ∙ ap (λ l. has_member l n) none in absurd (let e : false ≡ true = sym no in cc)))
         (all-from (has_member (either_members branch.set branch.free)) set
         (λ n here. has_member-either branch.set branch.free n
-        ∙ or-right (has_member branch.set n) (has_member branch.free n)
+        ∙ or_right (has_member branch.set n) (has_member branch.free n)
         (ap (λ l. has_member l n) all ∙ has_member-range 1 m n (member-low 1 m set n up here) (omega (arith, member-high 1 m set n up here))))))
 
 pub all-branch : (m k : ℕ) (branch : Branch) → branch.set ≡ [] → branch.free ≡ range_with_len 1 m → IsBranch m k branch
