@@ -1,5 +1,5 @@
 -- What is true of winners that are asked for stays so from step to step.
-use Rattle.std.proofs.Common.{◌≡◌, ℕ, ◌+◌, ◌<◌, ◌≤◌, List, [], ◌∷◌, ◌++◌, sym, subst, ap, arith, ◌∙◌, length}
+use Rattle.std.proofs.Common.{◌≡◌, ℕ, ◌+◌, ◌<◌, ◌≤◌, List, [], ◌∷◌, ◌++◌, sym, subst, ap, arith, ◌∙◌, length, length-append}
 use Rattle.std.specs.Prelude.{slice_index_or}
 use Rattle.std.specs.List.{AllByRecursion}
 use Rattle.ballot_base.specs.CandSet.{other_members, with_member}
@@ -15,19 +15,21 @@ module _ {S : Type 0} (value : S → List ℕ → ℕ) (candidates : S → ℕ) 
   -- the same is searched, and these branches are left
   pub asking-from : (best : Best S) (branches : List Branch) (to : Asking S) → to.best ≡ best → to.branches.items ≡ branches
       → KnowsBest value candidates best → IsBest (value best.search) best.m best.k to.found → AllByRecursion (IsBranch best.m best.k) branches → AreStacked best.m branches
-      → IsAsking value candidates to
-  asking-from best branches to same are knows found each stacked = record {
+      → length branches ≤ best.k → IsAsking value candidates to
+  asking-from best branches to same are knows found each stacked few = record {
     knows = subst (KnowsBest value candidates) (sym same) knows;
     found_is = subst (λ (b : Best S). IsBest (value b.search) b.m b.k to.found) (sym same) found;
     each = subst (λ (b : Best S). AllByRecursion (IsBranch b.m b.k) to.branches.items) (sym same) (subst (AllByRecursion (IsBranch best.m best.k)) (sym are) each);
     stacked = subst (λ (b : Best S). AreStacked b.m to.branches.items) (sym same) (subst (AreStacked best.m) (sym are) stacked);
+    few = omega (arith, few, ap length are, ap (λ (b : Best S). b.k) same);
   }
 
   pub way-from : (best : Best S) (branches : List Branch) (branch : Branch) (to : Asking S) → to.best ≡ best → to.branches.items ≡ branches
       → KnowsBest value candidates best → IsWinnerOf (value best.search) best.m best.k branch to.found → AllByRecursion (IsBranch best.m best.k) branches → IsBranch best.m best.k branch
       → AreStacked best.m (branches ++ branch ∷ []) → IsOnTheWay value candidates to branch
   way-from best branches branch to same are knows reached each is stacked = record {
-    asking_is = asking-from best branches to same are knows reached.best each (stacked-pop best.m branches branch stacked).0;
+    asking_is = asking-from best branches to same are knows reached.best each (stacked-pop best.m branches branch stacked).0
+        (let low : 0 + length branches ≤ length branch.set = stack-size best.m branches branch 0 stacked (all-least (branches ++ branch ∷ [])) in omega (arith, low, is.size));
     branch_is = subst (λ (b : Best S). IsBranch b.m b.k branch) (sym same) is;
     stacked = subst (λ (b : Best S). AreStacked b.m (to.branches.items ++ branch ∷ [])) (sym same) (subst (λ (bs : List Branch). AreStacked best.m (bs ++ branch ∷ [])) (sym are) stacked);
     reached = subst (λ (b : Best S). IsWinnerOf (value b.search) b.m b.k branch to.found) (sym same) reached;
@@ -90,6 +92,7 @@ module _ {S : Type 0} (value : S → List ℕ → ℕ) (candidates : S → ℕ) 
     popped-asking to same left found =
         asking-from asking.best branches to same left is.knows
         (subst (IsBest (value asking.best.search) asking.best.m asking.best.k) (sym found) is.found_is) popped-each (stacked-pop asking.best.m branches branch popped-stacked).0
+        (omega (arith, is.few, ap length are, length-append branches (branch ∷ [])))
 
     pub popped-way : (to : Asking S) → to.best ≡ asking.best → to.branches.items ≡ branches → IsWinnerOf (value asking.best.search) asking.best.m asking.best.k branch to.found
         → IsOnTheWay value candidates to branch

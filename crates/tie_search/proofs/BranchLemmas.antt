@@ -485,6 +485,14 @@ barren-left value m k branches branch none =
     winners-same value m k (branches ++ branch ∷ []) branches
     (λ committee best. last-some branches branch committee ∙ (ap (λ b. completes_some branches committee || b) (none committee best) ∙ or-false (completes_some branches committee)))
 
+-- no branches leave none
+pub none-left : (value : List ℕ → ℕ) (m k : ℕ) → winners_of value m k [] ≡ []
+none-left value m k = by (winners value m k)
+  where
+    by : (xs : List (List ℕ)) → filter (completes_some []) xs ≡ []
+    by [] = refl
+    by (x ∷ xs) = by xs
+
 -- ---- a search
 
 -- what a search finds is a winner
@@ -563,11 +571,11 @@ module _ (value : List ℕ → ℕ) (m k : ℕ) (branches : List Branch) (branch
   joined-left =
       winners-same value m k ((branches ++ without ∷ []) ++ with' ∷ []) (branches ++ branch ∷ [])
       (λ committee best.
-        last-some (branches ++ without ∷ []) with' committee
-        ∙ (ap (λ b. b || completes with' committee) (last-some branches without committee)
-        ∙ (or_assoc (completes_some branches committee) (completes without committee) (completes with' committee)
-        ∙ (ap (λ b. completes_some branches committee || b) (sym (split-same m k branch is next rest first committee))
-        ∙ sym (last-some branches branch committee)))))
+      last-some (branches ++ without ∷ []) with' committee
+      ∙ (ap (λ b. b || completes with' committee) (last-some branches without committee)
+      ∙ (or_assoc (completes_some branches committee) (completes without committee) (completes with' committee)
+      ∙ (ap (λ b. completes_some branches committee || b) (sym (split-same m k branch is next rest first committee))
+      ∙ sym (last-some branches branch committee)))))
 
   -- the candidate leaves with its clones
   module _ (classes : List (List ℕ)) (short : length branch.set < k) (alike : AreAlike value m classes) (none : IsBarren value m k with') where
@@ -592,13 +600,13 @@ module _ (value : List ℕ → ℕ) (m k : ℕ) (branches : List Branch) (branch
     left-completes committee best = both_ways (completes branch committee) (completes left-over committee)
         (left-out value m k branch is next rest first classes short alike none committee best)
         (λ whole.
-          let less = completion-from m k left-over committee left-branch best.candidates best.size whole in
-          completes-from m branch (k - length branch.set) committee (record {
-            candidates = less.candidates;
-            whole = less.whole;
-            within = λ x here. or-more (has_member branch.set x) (has_member left-over.free x) (has_member branch.free x) (among x) (less.within x here);
-            size = less.size;
-          }))
+        let less = completion-from m k left-over committee left-branch best.candidates best.size whole in
+        completes-from m branch (k - length branch.set) committee (record {
+          candidates = less.candidates;
+          whole = less.whole;
+          within = λ x here. or-more (has_member branch.set x) (has_member left-over.free x) (has_member branch.free x) (among x) (less.within x here);
+          size = less.size;
+        }))
       where
         or-more : (p q r : Bool) → (q ≡ true → r ≡ true) → (p || q) ≡ true → (p || r) ≡ true
         or-more true q r h holds = refl
@@ -660,7 +668,7 @@ tail-up : (first last : ℕ) (front rest : List ℕ) → IsIncreasing first last
 tail-up first last [] rest up = up
 tail-up first last (x ∷ front) rest up = IsIncreasing-lower first (x + 1) last rest (omega (arith, up.0)) (tail-up (x + 1) last front rest up.2)
 
-front-under : (first last : ℕ) (front rest : List ℕ) (n : ℕ) → IsIncreasing first last (front ++ n ∷ rest) → IsIncreasing first (n - 1) front × (first ≤ n) × (n ≤ last)
+pub front-under : (first last : ℕ) (front rest : List ℕ) (n : ℕ) → IsIncreasing first last (front ++ n ∷ rest) → IsIncreasing first (n - 1) front × (first ≤ n) × (n ≤ last)
 front-under first last [] rest n up = (tt, up.0, up.1)
 front-under first last (x ∷ front) rest n up =
     let more = front-under (x + 1) last front rest n up.2 in
@@ -682,6 +690,22 @@ module _ (m : ℕ) where
         },
         after-each k (front ++ n ∷ []) rest (subst (IsIncreasing 1 m) (sym same) up) (ap length same ∙ size),
       )
+
+  pub after-length : (front rest : List ℕ) → length (branches_after m front rest) ≡ length rest
+  unfolding branches_after
+  after-length front [] = refl
+  after-length front (n ∷ rest) = ap suc (after-length (front ++ n ∷ []) rest)
+
+  -- one more branch, as the start goes on
+  pub after-next : (front rest : List ℕ) (n : ℕ) (before : List Branch) (all : List Branch) → before ++ branches_after m front (n ∷ rest) ≡ all
+      → (before ++ record { set = front; free = range_with_len (n + 1) (m - n) } ∷ []) ++ branches_after m (front ++ n ∷ []) rest ≡ all
+  unfolding branches_after
+  after-next front rest n before all is =
+      append_assoc before (record { set = front; free = range_with_len (n + 1) (m - n) } ∷ []) (branches_after m (front ++ n ∷ []) rest) ∙ is
+
+  pub after-none : (front : List ℕ) (before all : List Branch) → before ++ branches_after m front [] ≡ all → before ≡ all
+  unfolding branches_after
+  after-none front before all is = sym (append-nil before) ∙ is
 
   -- their sets go on from the first
   after-begin : (front rest : List ℕ) → AllByRecursion (λ (other : Branch). (more : List ℕ) × (other.set ≡ front ++ more)) (branches_after m front rest)
@@ -814,5 +838,5 @@ module _ (m : ℕ) where
       same_filter (completes_some (branches_after m [] start)) (λ list. is_later list start) (winners value m k)
       (recursion_from_All (λ set. completes_some (branches_after m [] start) set ≡ is_later set start) (winners value m k)
       (λ i d inside.
-        let is = winner-is value m k (get_or (winners value m k) i d) (Contains-get_or (winners value m k) i d inside) in
-        after-later [] start (get_or (winners value m k) i d) up is.0 (is.1 ∙ sym size)))
+      let is = winner-is value m k (get_or (winners value m k) i d) (Contains-get_or (winners value m k) i d inside) in
+      after-later [] start (get_or (winners value m k) i d) up is.0 (is.1 ∙ sym size)))

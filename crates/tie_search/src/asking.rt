@@ -58,6 +58,7 @@ impl<S: Searchable> Asking<S> {
         requires knows { KnowsBest S.value_of S.candidates best }
         requires each { AllByRecursion (IsBranch best.m best.k) branches.items }
         requires stacked { AreStacked best.m branches.items }
+        requires few { length branches.items ≤ best.k }
         ensures asking { IsAsking S.value_of S.candidates result }
         ensures best { result.best ≡ best }
         ensures branches { result.branches.items ≡ branches.items }
@@ -80,6 +81,7 @@ impl<S: Searchable> Asking<S> {
         ensures best { self.new.best ≡ self.old.best }
         ensures first { left_by S.value_of self.old.best self.old.branches.items
             ≡ option_to_list result ++ left_by S.value_of self.old.best self.new.branches.items }
+        ensures end { result ≡ None → self.new.branches.items ≡ [] }
         ensures asked { self.new.questions ≤ self.old.questions + self.old.best.m + length self.old.branches.items }
     {
         while let Some(branch) = self.branches.pop() {

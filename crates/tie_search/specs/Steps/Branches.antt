@@ -82,6 +82,7 @@ pub record IsAsking {S : Type 0} (value : S → List ℕ → ℕ) (candidates : 
   pub found_is : IsBest (value asking.best.search) asking.best.m asking.best.k asking.found
   pub each : AllByRecursion (IsBranch asking.best.m asking.best.k) asking.branches.items
   pub stacked : AreStacked asking.best.m asking.branches.items
+  pub few : length asking.branches.items ≤ asking.best.k
 
 -- what is true on the way down from a branch to the first winner that completes it
 pub record IsOnTheWay {S : Type 0} (value : S → List ℕ → ℕ) (candidates : S → ℕ) (asking : Asking S) (branch : Branch)
