@@ -75,6 +75,16 @@ pub winners_parts : (names : Names) (value : List ℕ → ℕ) (rule : ScoredRul
     ≡ line (best_text rule candidates size best) ++ answers_text (committee_line names) limit left
 winners_parts names value rule candidates m size best after limit left same is those = rw (is, those, same) refl
 
+-- the same lines of winners that a search finds
+pub searched_parts : {S : Type 0} (names : Names) (value_of : S → List ℕ → ℕ) (candidates_of : S → ℕ) (rule : ScoredRule) (candidates : ℕ) (search : S) (size : ℕ) (after : Option (List ℕ)) (limit : Option ℕ)
+    (asked : S) (k best : ℕ) (left : List (List ℕ)) → candidates_of search ≡ candidates → asked ≡ search → k ≡ size → best ≡ best_value (value_of asked) (candidates_of asked) k
+    → left ≡ later_than after (winners (value_of search) (candidates_of search) size)
+    → line (best_text rule candidates size (best_value (value_of search) candidates size)) ++ answers_text (committee_line names) limit (later_than after (winners (value_of search) candidates size))
+    ≡ line (best_text rule candidates size best) ++ answers_text (committee_line names) limit left
+searched_parts names value_of candidates_of rule candidates search size after limit asked k best left fits same_search same_k is those =
+    winners_parts names (value_of search) rule candidates (candidates_of search) size best after limit left fits
+    (is ∙ ap (λ s. best_value (value_of s) (candidates_of s) k) same_search ∙ ap (best_value (value_of search) (candidates_of search)) same_k) those
+
 -- the text of an election by a rule with a value: the lines of the rule and the size, and those after them
 pub scored_parts : (names : Names) (page : Page) (rule : ScoredRule) (size : ℕ) (e : Election)
     → elect_text (Scored rule) size page names e ≡ rule_lines (Scored rule) size ++ ranked_text rule (value_by rule size e) size page names e

@@ -1,5 +1,5 @@
 //! The text of an election's winners.
-ghost use Rattle.std.specs.Prelude.{◌≡◌, ◌≤◌, IfErr, IfOk, is_ok};
+ghost use Rattle.std.specs.Prelude.{◌≡◌, ◌≤◌, ◌++◌, IfErr, IfOk, is_ok};
 ghost use Rattle.ballot_base.specs.Limits.{most_members};
 ghost use Rattle.request_words.specs.Request.{page_of};
 ghost use Rattle.text_output.specs.Steps.Printing.{Prints, Sends};
@@ -12,7 +12,7 @@ ghost use Rattle.vote_cli.specs.Steps.RequestFaults.{request_fault_word};
 ghost use Rattle.vote_cli.specs.Steps.ScoredText.{ranked_text};
 ghost use Rattle.vote_cli.specs.Steps.Starts.{IsStart-prop};
 
-use crate::listing::AnswerPage;
+use crate::listing::{AnswerPage, Answers};
 use crate::refusal::RequestFault;
 use crate::starts::committee_start;
 use ballot_base::{CandSet, Profile, common_multiple};
@@ -21,6 +21,7 @@ use request_words::{Page, Rule, ScoredRule};
 use std::alloc::Allocator;
 use text_output::{Names, Printer, Sink, WriteFailed, write_pieces};
 use tie_families::FamilyWinners;
+use tie_search::{SearchWinners, Searchable};
 use tie_walk::{Tally, Winners};
 
 /// Prints a score over its denominator, on a line.
@@ -128,7 +129,8 @@ impl<'a, A: Allocator + Copy + Drop> Listing<'a, A> {
         write_pieces(out, &pieces)
     }
 
-    /// Writes the lines after these of a rule with a value, which the tally computes, and flushes the writer.
+    /// Writes the lines after these of a rule with a value, which the tally computes, and flushes the writer. A walk
+    /// over the tally's bounds finds the winners.
     pub(crate) fn write_ranked<W: Sink, T: Tally>(
         &self,
         out: &mut W,
@@ -141,8 +143,39 @@ impl<'a, A: Allocator + Copy + Drop> Listing<'a, A> {
             (record { after = self.now.after; limit = self.now.limit }) self.now.names self.now.profile.now) }
     {
         let winners = Winners::new(tally, self.profile.m(), self.size, self.after);
+        self.write_best(out, rule, winners.best(), winners)
+    }
+
+    /// Writes the same lines of a rule whose winners a search finds, and flushes the writer.
+    pub(crate) fn write_searched<W: Sink, S: Searchable + Drop>(
+        &self,
+        out: &mut W,
+        search: S,
+        rule: ScoredRule,
+    ) -> Result<(), WriteFailed>
+        requires { S.candidates search ≡ self.now.profile.now.m }
+        ensures { Sends W.contents W.has_failed out.old out.new (is_ok result)
+            (ranked_text rule (S.value_of search) self.now.size
+            (record { after = self.now.after; limit = self.now.limit }) self.now.names self.now.profile.now) }
+    {
+        let winners = SearchWinners::new(search, self.size, self.after);
+        self.write_best(out, rule, winners.best(), winners)
+    }
+
+    /// Writes the line of the best value and the lines of the winners, and flushes the writer.
+    fn write_best<W: Sink, B: Answers + Drop>(
+        &self,
+        out: &mut W,
+        rule: ScoredRule,
+        best: u128,
+        winners: B,
+    ) -> Result<(), WriteFailed>
+        ensures { Sends W.contents W.has_failed out.old out.new (is_ok result)
+            (line (best_text rule self.now.profile.now.m self.now.size best)
+            ++ answers_text (B.Answer.line_of self.now.names) self.now.limit (B.left winners)) }
+    {
         let mut printer = Printer::new(out);
-        self.print_best(&mut printer, rule, winners.best())?;
+        self.print_best(&mut printer, rule, best)?;
         self.page().print(&mut printer, winners)
     }
 

@@ -20,7 +20,6 @@ use std::alloc::{AllocError, Allocator};
 use text_output::{Sink, WriteFailed};
 use thiele_search::{SearchMemory, ThieleSearch};
 use tie_families::{Families, FamilyWinners};
-use tie_search::ExactTally;
 use tie_walk::{SavTally, SeqRule, ThieleTally};
 
 /// Writes the winners of an election that are listed.
@@ -123,8 +122,7 @@ fn by_search<A: Allocator + Copy + Drop, W: Sink>(
     ensures { Sends W.contents W.has_failed out.old out.new (is_ok result)
         (winners_text listing.now (ScoredRule.Thiele rule)) }
 {
-    let tally = ExactTally::new(prepared(memory), listing.size);
-    listing.write_ranked(out, &tally, ScoredRule::Thiele(rule))
+    listing.write_searched(out, prepared(memory), ScoredRule::Thiele(rule))
 }
 
 /// A search in this memory.
@@ -158,8 +156,8 @@ fn by_distance<A: Allocator + Copy + Drop, W: Sink>(
     ensures { Sends W.contents W.has_failed out.old out.new (is_ok result)
         (winners_text listing.now ScoredRule.Minimax) }
 {
-    let tally = ExactTally::new(MinimaxSearch::new(listing.profile), listing.size);
-    listing.write_ranked(out, &tally, ScoredRule::Minimax)
+    let search = MinimaxSearch::new(listing.profile);
+    listing.write_searched(out, search, ScoredRule::Minimax)
 }
 
 /// Writes the winners by a sequential rule, which come in families.

@@ -1,5 +1,5 @@
-//! The list of the answers to a request: one loop prints them. `Winners`, `FamilyWinners` and `Shares` hand out their
-//! answers through one trait.
+//! The list of the answers to a request: one loop prints them. `Winners`, `SearchWinners`, `FamilyWinners` and `Shares`
+//! hand out their answers through one trait.
 ghost use Rattle.std.specs.Prelude.{◌≡◌, ◌≢◌, ◌-◌, ℕ, List, Some, [], is_ok, option_map, false, true};
 ghost use Rattle.std.specs.Iterator.{YieldsFirstBy};
 ghost use Rattle.text_output.specs.Names.{Names};
@@ -13,6 +13,7 @@ use text_output::{
     Names, Printer, Sink, WriteFailed, print_beside_seats, print_candidates, print_seats,
 };
 use tie_families::FamilyWinners;
+use tie_search::{SearchWinners, Searchable};
 use tie_walk::{Tally, Winners};
 
 /// An answer to a request: a list of numbers, the members of a committee or the seats of the parties.
@@ -89,6 +90,16 @@ pub(crate) trait Answers {
 }
 
 impl<'a, T: Tally> Answers for Winners<'a, T> {
+    type Answer = CandSet;
+
+    ghost left = { λ winners. winners.left };
+
+    fn next_answer(&mut self) -> Option<CandSet> {
+        self.next()
+    }
+}
+
+impl<S: Searchable + Drop> Answers for SearchWinners<S> {
     type Answer = CandSet;
 
     ghost left = { λ winners. winners.left };
