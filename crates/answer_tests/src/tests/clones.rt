@@ -5,15 +5,15 @@ ghost use Rattle.tie_walk.specs.Winners.{IsStart};
 
 use super::searches::assert_all_same;
 use super::support::{
-    Draw, assert_of, ballot_of, election_of, first_committee, random_ballots, search_of,
+    CountedSearch, Draw, assert_of, ballot_of, election_of, first_committee, random_ballots,
+    search_of,
 };
-use ballot_base::{CandSet, Clones, Profile, ThieleRule};
+use ballot_base::{CandSet, Profile, ThieleRule};
 use seat_share::{Method, Shares};
 use std::alloc::Global;
 use std::cell::Cell;
 use std::process::Abort;
-use tie_search::{ExactTally, Searchable, Tied};
-use tie_walk::{Tally, Winners};
+use tie_search::{SearchWinners, Searchable};
 
 /// More winners than any of these elections has.
 const MOST_COUNTED: usize = 100_000;
@@ -102,19 +102,34 @@ fn fitting(seats: u8, m: u8) -> u8
     seats.clamp(1, 40).min(m)
 }
 
+/// The winners of a search after a start, or all of them. The search is lent, and can be asked for others afterwards.
+fn winners_of<'a, S: Searchable>(
+    search: &'a S,
+    finds: &'a Cell<u64>,
+    k: u8,
+    start: Option<CandSet>,
+) -> SearchWinners<CountedSearch<'a, S>>
+    requires some { 1 ≤ k }
+    requires fits { k ≤ S.candidates search.now }
+    requires start { IsStart (S.candidates search.now) k start }
+{
+    SearchWinners::new(CountedSearch::all(search, finds), k, start)
+}
+
 /// Asserts that all committees that give the parties these seats win, and answers how many they are.
-fn assert_all_win<T: Tally>(
+fn assert_all_win<S: Searchable>(
     rt: &impl Abort,
-    tally: &T,
+    search: &S,
     k: u8,
     lists: Lists<'_>,
     seats: &[u16],
 ) -> u64
     requires some { 1 ≤ k }
-    requires fits { k ≤ T.candidates tally.now }
+    requires fits { k ≤ S.candidates search.now }
 {
+    let finds = Cell::new(0);
     let mut found: u64 = 0;
-    for committee in Winners::new(tally, tally.m(), k, None) {
+    for committee in winners_of(search, &finds, k, None) {
         found = found.wrapping_add(u64::from(lists.gives(committee, seats)));
     }
     let wanted = lists.committees(seats);
@@ -122,28 +137,30 @@ fn assert_all_win<T: Tally>(
     found
 }
 
-/// Asserts that the winners of a search are exactly all choices of candidates for each of D'Hondt's allocations.
-fn assert_choices<S: Searchable + Drop>(rt: &impl Abort, search: S, k: u8, lists: Lists<'_>)
+/// How many winners there are.
+fn count_winners<S: Searchable>(search: &S, k: u8) -> u64
     requires some { 1 ≤ k }
-    requires fits { k ≤ S.candidates search }
+    requires fits { k ≤ S.candidates search.now }
 {
-    assert_allocations(rt, &ExactTally::new(search, k), k, lists);
+    let finds = Cell::new(0);
+    winners_of(search, &finds, k, None)
+        .take(MOST_COUNTED)
+        .count() as u64
 }
 
-/// Asserts the same of a tally.
-fn assert_allocations<T: Tally>(rt: &impl Abort, tally: &T, k: u8, lists: Lists<'_>)
+/// Asserts that the winners of a search are exactly all choices of candidates for each of D'Hondt's allocations.
+fn assert_choices<S: Searchable>(rt: &impl Abort, search: &S, k: u8, lists: Lists<'_>)
     requires some { 1 ≤ k }
-    requires fits { k ≤ T.candidates tally.now }
+    requires fits { k ≤ S.candidates search.now }
 {
     let seats = u16::from(lists.seats);
     let allocations = Shares::new(lists.votes, Method::Dhondt, seats, None);
     let mut all = 0;
     for allocation in allocations.expect(rt, "allocations") {
-        let found = assert_all_win(rt, tally, k, lists, allocation.seats());
+        let found = assert_all_win(rt, search, k, lists, allocation.seats());
         all = found.wrapping_add(all);
     }
-    let winners = Winners::new(tally, tally.m(), k, None);
-    let count = winners.take(MOST_COUNTED).count() as u64;
+    let count = count_winners(search, k);
     let is_all = count == all;
     assert_of(rt, is_all, "winners, seats", count as u128, seats as u128);
 }
@@ -153,7 +170,7 @@ fn assert_as_dhondt(rt: &impl Abort, alloc: Global, lists: Lists<'_>) {
     let profile = lists.election(rt, alloc);
     let k = fitting(lists.seats, profile.m());
     let search = search_of(rt, alloc, &profile, ThieleRule::Pav, k);
-    assert_choices(rt, search, k, lists);
+    assert_choices(rt, &search, k, lists);
 }
 
 /// The candidates of each party, the voters of each, and the seats.
@@ -240,33 +257,27 @@ fn second_committee(m: u8, k: u8) -> CandSet
     first_committee(m, k)
 }
 
-/// Asserts that 1,000 winners come after a start, or from the first on.
-fn assert_thousand<T: Tally>(rt: &impl Abort, tally: &T, k: u8, start: Option<CandSet>)
-    requires some { 1 ≤ k }
-    requires fits { k ≤ T.candidates tally.now }
-    requires start { IsStart (T.candidates tally.now) k start }
-{
-    let found = Winners::new(tally, tally.m(), k, start).take(1000).count();
-    assert!(rt; found == 1000, "{found} winners of {k} after {start:?}");
+/// Asserts that 1,000 winners come.
+fn assert_thousand<S: Searchable + Drop>(rt: &impl Abort, winners: SearchWinners<S>, k: u8) {
+    let found = winners.take(1000).count();
+    assert_of(
+        rt,
+        found == 1000,
+        "winners, seats",
+        found as u128,
+        k as u128,
+    );
 }
 
 /// Asserts that the first 1,000 winners of a search come, and 1,000 after a start.
-fn assert_thousands<S: Searchable + Drop>(rt: &impl Abort, search: S, k: u8, start: CandSet)
+fn assert_thousands<S: Searchable>(rt: &impl Abort, search: &S, k: u8, start: CandSet)
     requires some { 1 ≤ k }
-    requires fits { k ≤ S.candidates search }
-    requires start { IsStart (S.candidates search) k (Some start) }
+    requires fits { k ≤ S.candidates search.now }
+    requires start { IsStart (S.candidates search.now) k (Some start) }
 {
-    let tally = ExactTally::new(search, k);
-    assert_thousand(rt, &tally, k, None);
-    assert_thousand(rt, &tally, k, Some(start));
-}
-
-/// Asserts that the first 1,000 winners of a search come.
-fn assert_first_thousand<S: Searchable + Drop>(rt: &impl Abort, search: S, k: u8)
-    requires some { 1 ≤ k }
-    requires fits { k ≤ S.candidates search }
-{
-    assert_thousand(rt, &ExactTally::new(search, k), k, None);
+    let finds = Cell::new(0);
+    assert_thousand(rt, winners_of(search, &finds, k, None), k);
+    assert_thousand(rt, winners_of(search, &finds, k, Some(start)), k);
 }
 
 /// Asserts that the first 1,000 winners of an election come, and 1,000 after a start.
@@ -275,7 +286,7 @@ fn assert_ends(rt: &impl Abort, alloc: Global, rule: ThieleRule, lists: Lists<'_
     let k = fitting(lists.seats, profile.m());
     let search = search_of(rt, alloc, &profile, rule, k);
     let start = second_committee(profile.m(), k);
-    assert_thousands(rt, search, k, start);
+    assert_thousands(rt, &search, k, start);
 }
 
 /// The rules, the candidates of each party, the voters of each, and the seats.
@@ -303,61 +314,18 @@ fn party_lists_end(rt: HostRuntime) {
     }
 }
 
-/// What is searched, where each search counts. It lists no tied committees.
-#[derive(Drop)]
-struct Searched<'a, S: Searchable> {
-    search: &'a S,
-    searches: &'a Cell<u64>,
-}
-
-impl<'a, S: Searchable> Tally for Searched<'a, S> {
-    ghost candidates = { λ searched. S.candidates searched.search.now };
-
-    ghost value_of = { λ searched. S.value_of searched.search.now };
-
-    ghost bound_of = { λ searched. S.bound_of searched.search.now };
-
-    fn m(&self) -> u8 {
-        self.search.m()
-    }
-
-    fn value(&self, set: CandSet) -> u128 {
-        self.search.value(set)
-    }
-
-    fn bound(&self, c: u8, set: CandSet, left: u8) -> u128 {
-        self.search.bound(c, set, left)
-    }
-}
-
-impl<'a, S: Searchable> Searchable for Searched<'a, S> {
-    fn clones(&self) -> &Clones {
-        self.search.clones()
-    }
-
-    fn find(&self, set: CandSet, free: CandSet, left: u8, least: u128) -> Option<CandSet> {
-        self.searches.set(self.searches.get().saturating_add(1));
-        self.search.find(set, free, left, least)
-    }
-
-    fn tied(&self, _k: u8) -> Option<Tied> {
-        None
-    }
-}
-
 /// More searches than the first 1,000 winners ask for. With one for each clone there would be thousands.
 const MANY_SEARCHES: u64 = 500;
 
-/// Asserts that the first 1,000 winners ask for few searches. No clause says so.
+/// Asserts that the first 1,000 winners ask for few searches if no tied committees are listed. No clause says so.
 fn assert_few<S: Searchable>(rt: &impl Abort, search: &S, k: u8)
     requires some { 1 ≤ k }
     requires fits { k ≤ S.candidates search.now }
 {
-    let cell = Cell::new(0);
-    let searches = &cell;
-    let searched = Searched { search, searches };
-    assert_first_thousand(rt, searched, k);
-    let count = searches.get();
+    let finds = Cell::new(0);
+    let counted = CountedSearch::new(search, &finds, false);
+    assert_thousand(rt, SearchWinners::new(counted, k, None), k);
+    let count = finds.get();
     assert!(rt; count < MANY_SEARCHES, "{count} searches");
 }
 

@@ -14,7 +14,7 @@ fn assert_all_sizes(rt: &impl Abort, profile: &Profile) {
         assert_searched(
             rt,
             &MinimaxTally::new(profile),
-            MinimaxSearch::new(profile),
+            &MinimaxSearch::new(profile),
             k,
         );
     }

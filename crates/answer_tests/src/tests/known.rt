@@ -7,8 +7,7 @@ use ballot_base::{MOST_CANDIDATES, Profile, ThieleRule};
 use near_search::MinimaxSearch;
 use std::alloc::Global;
 use std::process::Abort;
-use tie_search::{ExactTally, Searchable};
-use tie_walk::{Tally, Winners};
+use tie_search::{SearchWinners, Searchable};
 
 /// The size of the committees.
 const SIZE: u8 = 6;
@@ -78,21 +77,14 @@ fn drawn_election(rt: &impl Abort, alloc: Global, draw: Draw, m: u8) -> Profile
 }
 
 /// Asserts the greatest value, and how many committees have it.
-fn assert_known<T: Tally>(rt: &impl Abort, tally: &T, best: u128, winners: usize)
-    requires { SIZE ≤ T.candidates tally.now }
+fn assert_search<S: Searchable + Drop>(rt: &impl Abort, search: S, best: u128, winners: usize)
+    requires { SIZE ≤ S.candidates search }
 {
-    let found = Winners::new(tally, tally.m(), SIZE, None);
+    let found = SearchWinners::new(search, SIZE, None);
     let greatest = found.best();
     let count = found.take(MOST_COUNTED).count();
     let is_known = greatest == best && count == winners;
     assert_of(rt, is_known, "winners, value", count as u128, greatest);
-}
-
-/// Asserts the same of a search.
-fn assert_search<S: Searchable + Drop>(rt: &impl Abort, search: S, best: u128, winners: usize)
-    requires { SIZE ≤ S.candidates search }
-{
-    assert_known(rt, &ExactTally::new(search, SIZE), best, winners);
 }
 
 const RULES: [ThieleRule; 5] = [

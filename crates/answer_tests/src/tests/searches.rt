@@ -15,7 +15,7 @@ fn assert_same(rt: &impl Abort, alloc: Global, profile: &Profile, rule: ThieleRu
     requires fits { k ≤ profile.now.m }
 {
     let search = search_of(rt, alloc, profile, rule, k);
-    assert_searched(rt, &ThieleTally::new(profile, rule, k), search, k);
+    assert_searched(rt, &ThieleTally::new(profile, rule, k), &search, k);
 }
 
 /// Asserts the same under each rule, of each size.

@@ -5,12 +5,12 @@ ghost use Rattle.ballot_base.specs.Lists.{IsIncreasing};
 ghost use Rattle.tie_walk.specs.Values.{thiele_of};
 ghost use Rattle.tie_walk.specs.Winners.{IsStart};
 
-use ballot_base::{CandSet, Profile, ProfileBuilder, ThieleRule};
+use ballot_base::{CandSet, Clones, KSets, Profile, ProfileBuilder, ThieleRule};
 use std::alloc::Global;
 use std::cell::Cell;
 use std::process::Abort;
 use thiele_search::{SearchMemory, ThieleSearch};
-use tie_search::{ExactTally, Searchable};
+use tie_search::{SearchWinners, Searchable, Tied};
 use tie_walk::{Tally, Winners};
 
 /// Asserts something about two numbers, and shows both if it fails. One message serves many tests, since each message of
@@ -140,43 +140,124 @@ pub(super) fn search_of<'a>(
     ThieleSearch::new(memory)
 }
 
-/// Asserts that two tallies have the same winners, those later than the start or all of them.
-pub(super) fn assert_same_winners<P: Tally, S: Tally>(
+/// The greatest value, by a pass over all committees.
+pub(super) fn plain_best<T: Tally>(tally: &T, m: u8, k: u8) -> u128
+    requires candidates { m ≡ T.candidates tally.now }
+    requires most { m ≤ most_candidates }
+    requires fits { k ≤ m }
+{
+    let mut best = 0;
+    for committee in KSets::new(m, k) {
+        best = best.max(tally.value(committee));
+    }
+    best
+}
+
+/// Asserts that a search and a walk over a tally find the same winners, those later than the start or all of them.
+pub(super) fn assert_same_winners<P: Tally, S: Searchable>(
     rt: &impl Abort,
     plain: &P,
-    searched: &S,
+    search: &S,
     k: u8,
     start: Option<CandSet>,
 )
-    requires candidates { P.candidates plain.now ≡ S.candidates searched.now }
+    requires candidates { P.candidates plain.now ≡ S.candidates search.now }
     requires some { 1 ≤ k }
     requires fits { k ≤ P.candidates plain.now }
     requires start { IsStart (P.candidates plain.now) k start }
 {
     let m = plain.m();
+    let finds = Cell::new(0);
     let wanted = Winners::new(plain, m, k, start);
-    let found = Winners::new(searched, m, k, start);
+    let found = SearchWinners::new(CountedSearch::all(search, &finds), k, start);
     let is_best = found.best() == wanted.best();
     assert_after(rt, is_best && found.eq(wanted), k, m, &start);
 }
 
-/// Asserts that the search begins with a winner, and that it and the walk with plain bounds find the same winners, all
-/// of them and those later than the first committee.
-pub(super) fn assert_searched<P: Tally, S: Searchable + Drop>(
+/// Asserts that the search and the walk with plain bounds find the same winners, all of them and those later than the
+/// first committee.
+pub(super) fn assert_searched<P: Tally, S: Searchable>(
     rt: &impl Abort,
     plain: &P,
-    search: S,
+    search: &S,
     k: u8,
 )
-    requires candidates { P.candidates plain.now ≡ S.candidates search }
+    requires candidates { P.candidates plain.now ≡ S.candidates search.now }
     requires some { 1 ≤ k }
     requires fits { k ≤ P.candidates plain.now }
 {
-    let searched = ExactTally::new(search, k);
-    let good = searched.good_committee(k).expect(rt, "a good committee");
-    assert!(rt; searched.value(good) == searched.best(), "{good:?}");
-    assert_same_winners(rt, plain, &searched, k, None);
-    assert_same_winners(rt, plain, &searched, k, Some(first_committee(plain.m(), k)));
+    assert_same_winners(rt, plain, search, k, None);
+    assert_same_winners(rt, plain, search, k, Some(first_committee(plain.m(), k)));
+}
+
+/// A search of another one's values that counts the calls of `find`. It lists tied committees if the other one does and
+/// it may.
+#[derive(Drop)]
+pub(super) struct CountedSearch<'a, S: Searchable> {
+    pub(super) search: &'a S,
+    finds: &'a Cell<u64>,
+    lists_ties: bool,
+}
+
+impl<'a, S: Searchable> CountedSearch<'a, S> {
+    /// It lists tied committees as the other one does.
+    pub(super) fn all(search: &'a S, finds: &'a Cell<u64>) -> CountedSearch<'a, S>
+        ensures { result.search.now ≡ search.now }
+    {
+        CountedSearch::new(search, finds, true)
+    }
+
+    pub(super) fn new(search: &'a S, finds: &'a Cell<u64>, lists_ties: bool) -> CountedSearch<'a, S>
+        ensures { result.search.now ≡ search.now }
+    {
+        CountedSearch {
+            search,
+            finds,
+            lists_ties,
+        }
+    }
+}
+
+impl<'a, S: Searchable> Tally for CountedSearch<'a, S> {
+    ghost candidates = { λ counted. S.candidates counted.search.now };
+
+    ghost value_of = { λ counted. S.value_of counted.search.now };
+
+    ghost bound_of = { λ counted. S.bound_of counted.search.now };
+
+    fn m(&self) -> u8 {
+        self.search.m()
+    }
+
+    fn value(&self, set: CandSet) -> u128 {
+        self.search.value(set)
+    }
+
+    fn bound(&self, c: u8, set: CandSet, left: u8) -> u128 {
+        self.search.bound(c, set, left)
+    }
+
+    fn good_committee(&self, k: u8) -> Option<CandSet> {
+        self.search.good_committee(k)
+    }
+}
+
+impl<'a, S: Searchable> Searchable for CountedSearch<'a, S> {
+    fn clones(&self) -> &Clones {
+        self.search.clones()
+    }
+
+    fn find(&self, set: CandSet, free: CandSet, left: u8, least: u128) -> Option<CandSet> {
+        count(self.finds);
+        self.search.find(set, free, left, least)
+    }
+
+    fn tied(&self, k: u8) -> Option<Tied> {
+        if !self.lists_ties {
+            return None;
+        }
+        self.search.tied(k)
+    }
 }
 
 /// A tally that hands on only its number of candidates, its values and its bounds, and counts the calls of the last

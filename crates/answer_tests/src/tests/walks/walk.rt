@@ -4,23 +4,10 @@ ghost use Rattle.ballot_base.specs.Limits.{most_candidates, most_members};
 ghost use Rattle.ballot_base.specs.Lists.{increasing_lists, later_than};
 ghost use Rattle.tie_walk.specs.Winners.{IsStart};
 
-use super::super::support::{Draw, assert_after, election_of, random_ballots};
+use super::super::support::{Draw, assert_after, election_of, plain_best, random_ballots};
 use ballot_base::{CandSet, KSets, Profile, ThieleRule};
 use std::process::Abort;
 use tie_walk::{MinimaxTally, SavTally, Tally, ThieleTally, Winners};
-
-/// The greatest value, by a pass over all committees.
-fn plain_best<T: Tally>(tally: &T, m: u8, k: u8) -> u128
-    requires candidates { m ≡ T.candidates tally.now }
-    requires most { m ≤ most_candidates }
-    requires fits { k ≤ m }
-{
-    let mut best = 0;
-    for committee in KSets::new(m, k) {
-        best = best.max(tally.value(committee));
-    }
-    best
-}
 
 /// The committees of k after a start, or all of them.
 fn later_committees(m: u8, k: u8, start: Option<CandSet>) -> KSets

@@ -2,7 +2,7 @@ use Rattle.std.proofs.Common.{◌≡◌, sym, subst}
 use Rattle.std.specs.List.{AllByRecursion}
 use Rattle.ballot_base.specs.Lists.{IsIncreasing, increasing_lists}
 use Rattle.tie_walk.proofs.WinnersLemmas.{committees-increasing}
-use Rattle.answer_tests.proofs.tests.walks.walk.plain_best.Goals as goal
+use Rattle.answer_tests.proofs.tests.support.plain_best.Goals as goal
 
 pub loop-committee-init : goal.loop-committee-init
 loop-committee-init g c =

@@ -1,6 +1,6 @@
 use Rattle.std.specs.List.{AllByRecursion}
 use Rattle.ballot_base.specs.Lists.{IsIncreasing}
-use Rattle.answer_tests.proofs.tests.walks.walk.plain_best.Given as goal
+use Rattle.answer_tests.proofs.tests.support.plain_best.Given as goal
 
 -- each committee has candidates 1 to m
 abbrev pub invariant-loop-committee : goal.invariant-loop-committee
