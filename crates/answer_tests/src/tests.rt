@@ -1,5 +1,6 @@
 //! One file for groups of voters, one for seats, and the others for winners. Expected values are worked by hand, or
 //! found by a plainer search.
+mod asked;
 mod clones;
 mod distances;
 mod families;
