@@ -5,11 +5,11 @@ use Rattle.std.specs.List.{AllByRecursion}
 use Rattle.ballot_base.specs.CandSet.{other_members, with_member}
 use Rattle.tie_search.specs.Completions.{AreAlike}
 use Rattle.tie_search.specs.Tied.{IsBest}
-use Rattle.tie_search.specs.Steps.Branches.{AreStacked, IsAsking, IsBarren, IsBranch, IsOnTheWay, IsWinnerOf, KnowsBest, left_by}
+use Rattle.tie_search.specs.Steps.Branches.{AreStacked, IsAsking, IsBarren, IsBranch, IsOnTheWay, IsWinnerOf, KnowsBest}
 use Rattle.tie_search.specs.declared.asking.Asking.{Asking}
 use Rattle.tie_search.specs.declared.best.Best.{Best}
 use Rattle.tie_search.specs.declared.branch.Branch.{Branch}
-use Rattle.tie_search.proofs.BranchLemmas.{all-append, all-front, all-least, first-left, joined-left, joined-stacked, left-branch, left-completes, left-left, left-stacked, stack-size, stacked-pop, with-branch, without-branch}
+use Rattle.tie_search.proofs.BranchLemmas.{all-append, all-front, all-least, joined-stacked, left-branch, left-completes, left-stacked, stack-size, stacked-pop, with-branch, without-branch}
 
 module _ {S : Type 0} (value : S → List ℕ → ℕ) (candidates : S → ℕ) where
   -- the same is searched, and these branches are left

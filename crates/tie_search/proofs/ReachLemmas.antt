@@ -1,7 +1,7 @@
 -- The greatest value of a committee.
 use Rattle.std.proofs.Common.{◌≡◌, ℕ, zero, suc, ◌+◌, ◌<◌, ◌≤◌, ◌||◌, ◌∙◌, Bool, true, false, List, [], ◌∷◌, ◌++◌, refl, sym, ap, arith, length, Contains}
 use Rattle.std.specs.List.{list_any}
-use Rattle.ballot_base.specs.Lists.{IsIncreasing, increasing_lists}
+use Rattle.ballot_base.specs.Lists.{IsIncreasing}
 use Rattle.ballot_base.specs.CandSet.{has_member}
 use Rattle.ballot_base.proofs.Committees.{increasing_lists-contains}
 use Rattle.ballot_base.proofs.Increasing.{IsIncreasing-lower}

@@ -1,5 +1,5 @@
 -- What contracts see of winners that a search finds one by one.
-use Rattle.std.specs.Prelude.{◌≡◌, ℕ, ◌+◌, ◌≤◌, List, Option, None, Some}
+use Rattle.std.specs.Prelude.{◌≡◌, ℕ, ◌+◌, ◌≤◌, List, Option}
 use Rattle.std.specs.Iterator.{YieldsFirst}
 
 -- the search, the size of a committee, the start, the winners still to come, and how many sets were entered and

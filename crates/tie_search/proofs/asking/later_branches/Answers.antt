@@ -1,7 +1,6 @@
-use Rattle.std.proofs.Common.{◌≡◌, ℕ, ◌+◌, ◌<◌, ◌-◌, ◌++◌, ◌∷◌, [], List, ap, arith, subst, sym, ◌∙◌, length, length-append, append_assoc, rules}
+use Rattle.std.proofs.Common.{◌≡◌, ℕ, ◌+◌, ◌<◌, ◌-◌, ◌++◌, ◌∷◌, [], List, ap, arith, subst, sym, ◌∙◌, length, length-append, append_assoc}
 use Rattle.std.specs.List.{range_with_len}
 use Rattle.ballot_base.specs.Lists.{IsIncreasing}
-use Rattle.ballot_base.specs.CandSet.{with_member}
 use Rattle.ballot_base.proofs.Committees.{length-increasing}
 use Rattle.ballot_base.proofs.Increasing.{with_member-above}
 use Rattle.tie_search.specs.Steps.Branches.{branches_after}

@@ -1,4 +1,4 @@
-use Rattle.std.proofs.Common.{◌≡◌, List, [], Some, ap, arith, length, subst, sym, ◌∙◌}
+use Rattle.std.proofs.Common.{List, [], ap, arith, length, subst, sym, ◌∙◌}
 use Rattle.std.specs.List.{AllByRecursion}
 use Rattle.tie_search.specs.Steps.Branches.{AreStacked, IsBranch, left_by}
 use Rattle.tie_search.specs.declared.branch.Branch.{Branch}

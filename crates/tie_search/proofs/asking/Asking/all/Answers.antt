@@ -1,4 +1,4 @@
-use Rattle.std.proofs.Common.{◌≡◌, ap, subst, sym, ◌∙◌}
+use Rattle.std.proofs.Common.{ap, subst, sym, ◌∙◌}
 use Rattle.std.specs.List.{AllByRecursion}
 use Rattle.tie_search.specs.Steps.Branches.{IsBranch, left_by}
 use Rattle.tie_search.proofs.BranchLemmas.{all-branch, all-left}

@@ -1,12 +1,12 @@
 use Rattle.std.specs.Prelude.{slice_index_or}
 use Rattle.ballot_base.specs.CandSet.{other_members, with_member}
-use Rattle.std.proofs.Common.{◌≡◌, ◌+◌, ◌≤◌, ◌++◌, ◌∷◌, [], List, ap, arith, refl, subst, sym, ◌∙◌, length}
+use Rattle.std.proofs.Common.{◌≡◌, ◌+◌, ◌≤◌, ◌++◌, ◌∷◌, [], List, ap, arith, subst, sym, ◌∙◌, length}
 use Rattle.tie_search.specs.Completions.{AreAlike}
 use Rattle.tie_search.specs.Steps.Branches.{IsBarren, IsWinnerOf, Kept, left_by}
 use Rattle.tie_search.specs.declared.best.Best.{Best}
 use Rattle.tie_search.specs.declared.branch.Branch.{Branch}
 use Rattle.tie_search.proofs.AskingLemmas.{way-joined, way-left, way-room}
-use Rattle.tie_search.proofs.BranchLemmas.{joined-left, left-fewer, left-left, some-free, with-branch}
+use Rattle.tie_search.proofs.BranchLemmas.{joined-left, left-left, some-free, with-branch}
 use Rattle.tie_search.proofs.CloneLemmas.{minus-most}
 use Rattle.tie_search.proofs.asking.Asking.below.Given.{Over}
 use Rattle.tie_search.proofs.asking.Asking.below.Goals as goal

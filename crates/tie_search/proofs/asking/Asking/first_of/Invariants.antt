@@ -1,4 +1,4 @@
-use Rattle.std.proofs.Common.{◌≡◌, ◌+◌, ◌-◌, ◌≤◌, ◌∷◌, ◌++◌, [], length}
+use Rattle.std.proofs.Common.{◌≡◌, ◌+◌, ◌≤◌, ◌∷◌, ◌++◌, [], length}
 use Rattle.tie_search.specs.Steps.Branches.{IsOnTheWay, left_by}
 use Rattle.tie_search.proofs.asking.Asking.first_of.Given as goal
 

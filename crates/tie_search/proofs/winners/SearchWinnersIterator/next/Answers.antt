@@ -1,4 +1,4 @@
-use Rattle.std.proofs.Common.{◌≡◌, ℕ, List, [], ◌∷◌, ◌++◌, Option, None, Some, ap, arith, option_to_list, refl, subst, sym, ◌∙◌}
+use Rattle.std.proofs.Common.{◌≡◌, ℕ, List, [], ◌++◌, Option, None, Some, ap, arith, option_to_list, refl, subst, sym, ◌∙◌}
 use Rattle.std.specs.Iterator.{YieldsFirst}
 use Rattle.tie_search.specs.Asked.{Asked, IsNextAsked}
 use Rattle.tie_search.specs.Steps.Branches.{left_by}
