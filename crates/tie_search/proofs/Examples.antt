@@ -1,11 +1,14 @@
 -- The definitions of the search, worked out by hand. The value of a set is the sum of its numbers; of committees of two
 -- of the candidates 1 to 3 the best has 2 and 3.
-use Rattle.std.proofs.Common.{◌≡◌, ◌+◌, ◌<◌, ℕ, zero, suc, true, false, List, [], ◌∷◌, refl, sym, ap, subst, sum, lit≤, lit<, arith}
+use Rattle.std.proofs.Common.{◌≡◌, ◌+◌, ◌<◌, ℕ, zero, suc, true, false, List, [], ◌∷◌, None, Some, refl, sym, ap, subst, sum, lit≤, lit<, arith}
 use Rattle.std.specs.Prelude.{slice_index_or}
 use Rattle.ballot_base.specs.Lists.{lists_of}
 use Rattle.tie_walk.specs.Values.{closeness}
 use Rattle.tie_walk.specs.Winners.{best_value}
 use Rattle.tie_search.specs.Completions.{IsNode, IsCompletion, IsReaching, IsOutOfReach}
+use Rattle.tie_search.specs.Asked.{Asked, IsNextAsked}
+use Rattle.tie_search.specs.Steps.Branches.{AreStacked, IsBranch, branches_after, completes, winners_of}
+use Rattle.tie_search.specs.declared.branch.Branch.{Branch}
 use Rattle.tie_search.specs.Tied.{AreBest, AreDistinct, AreTied, IsAmong, IsBest}
 
 -- ---- committees that complete a set
@@ -145,3 +148,59 @@ two_tie = record {
     apart zero (suc zero) before inside same = let heads : 1 ≡ 2 = ap sum same in omega (arith, heads)
     apart (suc i) (suc zero) before inside same = omega (arith, before)
     apart i (suc (suc j)) before inside same = omega (arith, inside)
+
+-- ---- branches: of two of the candidates 1 to 3, the committee of 2 and 3 wins
+
+from_one : Branch
+from_one = record { set = 1 ∷ []; free = 2 ∷ 3 ∷ [] }
+
+without_one : Branch
+without_one = record { set = []; free = 2 ∷ 3 ∷ [] }
+
+one_and_three : completes from_one (1 ∷ 3 ∷ []) ≡ true
+unfolding from_one
+one_and_three = refl
+
+two_and_three : completes from_one (2 ∷ 3 ∷ []) ≡ false
+unfolding from_one
+two_and_three = refl
+
+none_has_one : winners_of sum 3 2 (from_one ∷ []) ≡ []
+unfolding from_one lists_of
+none_has_one = refl
+
+one_without_one : winners_of sum 3 2 (without_one ∷ from_one ∷ []) ≡ (2 ∷ 3 ∷ []) ∷ []
+unfolding from_one without_one lists_of
+one_without_one = refl
+
+from_one-is : IsBranch 3 2 from_one
+unfolding from_one
+from_one-is = record {
+  last = 1;
+  within = lit≤ tt;
+  set_upto = (lit≤ tt, lit≤ tt, tt);
+  free_after = (lit≤ tt, lit≤ tt, (lit≤ tt, lit≤ tt, tt));
+  size = lit≤ tt;
+}
+
+-- the set of 1 goes on from the empty set, before all who are free there
+one_stacked : AreStacked 3 (without_one ∷ from_one ∷ [])
+unfolding from_one without_one
+one_stacked = ((record { next = 1; tail = []; begins = refl; later = (lit≤ tt, lit≤ tt, (lit≤ tt, lit≤ tt, tt)) }, tt), (tt, tt))
+
+-- after 1 and 2 come the committees without 1, and those of 1 and 3
+after_one_and_two : branches_after 3 [] (1 ∷ 2 ∷ []) ≡ record { set = []; free = 2 ∷ 3 ∷ [] } ∷ record { set = 1 ∷ []; free = 3 ∷ [] } ∷ []
+unfolding branches_after
+after_one_and_two = refl
+
+-- ---- a winner that is asked for: a search in whose place a number stands, three questions, and nothing after it
+
+before_winner : Asked ℕ
+before_winner = record { search = 3; k = 2; after = None; left = (2 ∷ 3 ∷ []) ∷ []; entered = 0; questions = 0 }
+
+after_winner : Asked ℕ
+after_winner = record { search = 3; k = 2; after = None; left = []; entered = 2; questions = 3 }
+
+winner_asked : IsNextAsked ℕ (λ m. m) before_winner (Some (2 ∷ 3 ∷ [])) after_winner
+unfolding before_winner after_winner
+winner_asked = record { first = refl; same_search = refl; same_k = refl; same_start = refl; short_wait = lit≤ tt }
