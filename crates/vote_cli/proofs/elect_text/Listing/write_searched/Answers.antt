@@ -1,4 +1,4 @@
-use Rattle.std.proofs.Common.{◌∙◌, ap, sym, subst}
+use Rattle.std.proofs.Common.{subst, sym}
 use Rattle.std.specs.Prelude.{is_ok}
 use Rattle.text_output.specs.Steps.Printing.{Sends}
 use Rattle.vote_cli.proofs.TextLemmas.{searched_parts}
