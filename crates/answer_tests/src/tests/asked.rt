@@ -39,8 +39,8 @@ fn new_beginnings(committee: CandSet, before: &Option<CandSet>) -> u128 {
         return u128::from(committee.len());
     };
     let mut count: u128 = 0;
-    for member in committee.members() {
-        let is_new = committee.upto(member) != before.upto(member);
+    for n in 1..MOST_CANDIDATES + 1 {
+        let is_new = committee.has(n) && committee.upto(n) != before.upto(n);
         count = count.saturating_add(u128::from(is_new));
     }
     count
@@ -85,6 +85,7 @@ fn assert_listed<S: Searchable>(rt: &impl Abort, search: &S, k: u8, start: Optio
 /// Asserts the same after each start, and without one.
 fn assert_starts<S: Searchable>(rt: &impl Abort, search: &S, m: u8, k: u8)
     requires candidates { m ≡ S.candidates search.now }
+    requires most { m ≤ most_candidates }
     requires some { 1 ≤ k }
     requires fits { k ≤ m }
 {
@@ -95,11 +96,11 @@ fn assert_starts<S: Searchable>(rt: &impl Abort, search: &S, m: u8, k: u8)
 }
 
 /// Asserts the same with a list of tied committees, if the search makes one, and without.
-fn assert_asked<S: Searchable>(rt: &impl Abort, search: &S, m: u8, k: u8)
-    requires candidates { m ≡ S.candidates search.now }
+fn assert_asked<S: Searchable>(rt: &impl Abort, search: &S, k: u8)
     requires some { 1 ≤ k }
-    requires fits { k ≤ m }
+    requires fits { k ≤ S.candidates search.now }
 {
+    let m = search.m();
     assert_starts(rt, search, m, k);
     let finds = Cell::new(0);
     let without_list = CountedSearch::new(search, &finds, false);
@@ -114,11 +115,10 @@ fn assert_rules(rt: &impl Abort, alloc: Global, profile: &Profile, k: u8)
     requires size { k ≤ most_members }
     requires fits { k ≤ profile.now.m }
 {
-    let m = profile.m();
     for rule in &RULES {
-        assert_asked(rt, &search_of(rt, alloc, profile, *rule, k), m, k);
+        assert_asked(rt, &search_of(rt, alloc, profile, *rule, k), k);
     }
-    assert_asked(rt, &MinimaxSearch::new(profile), m, k);
+    assert_asked(rt, &MinimaxSearch::new(profile), k);
 }
 
 /// Asserts the same of each size, in an election of m candidates, 40 at most.
