@@ -233,8 +233,8 @@ fn best_of(set: CandSet, worths: &[u128; PLACES]) -> Option<u8>
 }
 
 /// Whether a ballot is tighter than the tightest before, each given by how many of its free candidates it can spare and
-/// how many hits it needs: it can spare fewer, or equally few and needs more hits. Any ballot that needs a hit is right;
-/// a tight one leaves few candidates to try.
+/// how many hits it needs: it can spare fewer, or equally few and needs more hits. Any ballot that needs a hit is
+/// right; a tight one leaves few candidates to try.
 fn is_tighter(ballot: (u8, u8), tightest: (u8, u8)) -> bool {
     let (spare, needed) = ballot;
     let (fewest, most_needed) = tightest;
