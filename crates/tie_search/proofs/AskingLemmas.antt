@@ -5,18 +5,19 @@ use Rattle.std.specs.List.{AllByRecursion}
 use Rattle.ballot_base.specs.CandSet.{other_members, with_member}
 use Rattle.tie_search.specs.Completions.{AreAlike}
 use Rattle.tie_search.specs.Tied.{IsBest}
-use Rattle.tie_search.specs.Steps.Branches.{AreStacked, IsAsking, IsBarren, IsBranch, IsOnTheWay, IsWinnerOf, KnowsBest}
+use Rattle.tie_search.specs.Steps.Branches.{AreSized, AreStacked, IsAsking, IsBarren, IsBranch, IsOnTheWay, IsWinnerOf, KnowsBest}
 use Rattle.tie_search.specs.declared.asking.Asking.{Asking}
 use Rattle.tie_search.specs.declared.best.Best.{Best}
 use Rattle.tie_search.specs.declared.branch.Branch.{Branch}
-use Rattle.tie_search.proofs.BranchLemmas.{all-append, all-front, all-least, joined-stacked, left-branch, left-completes, left-stacked, stack-size, stacked-pop, with-branch, without-branch}
+use Rattle.tie_search.proofs.BranchLemmas.{all-append, all-front, grown-is, joined-stacked, left-branch, left-completes, left-stacked, sized-pop, sized-push, stacked-pop, with-branch, without-branch}
 
 module _ {S : Type 0} (value : S → List ℕ → ℕ) (candidates : S → ℕ) where
   -- the same is searched, and these branches are left
   pub asking-from : (best : Best S) (branches : List Branch) (to : Asking S) → to.best ≡ best → to.branches.items ≡ branches
       → KnowsBest value candidates best → IsBest (value best.search) best.m best.k to.found → AllByRecursion (IsBranch best.m best.k) branches → AreStacked best.m branches
-      → length branches ≤ best.k → IsAsking value candidates to
-  asking-from best branches to same are knows found each stacked few = record {
+      → AreSized 0 branches → length branches ≤ best.k → IsAsking value candidates to
+  asking-from best branches to same are knows found each stacked sized few = record {
+    sized = subst (AreSized 0) (sym are) sized;
     knows = subst (KnowsBest value candidates) (sym same) knows;
     found_is = subst (λ (b : Best S). IsBest (value b.search) b.m b.k to.found) (sym same) found;
     each = subst (λ (b : Best S). AllByRecursion (IsBranch b.m b.k) to.branches.items) (sym same) (subst (AllByRecursion (IsBranch best.m best.k)) (sym are) each);
@@ -26,23 +27,17 @@ module _ {S : Type 0} (value : S → List ℕ → ℕ) (candidates : S → ℕ) 
 
   pub way-from : (best : Best S) (branches : List Branch) (branch : Branch) (to : Asking S) → to.best ≡ best → to.branches.items ≡ branches
       → KnowsBest value candidates best → IsWinnerOf (value best.search) best.m best.k branch to.found → AllByRecursion (IsBranch best.m best.k) branches → IsBranch best.m best.k branch
-      → AreStacked best.m (branches ++ branch ∷ []) → IsOnTheWay value candidates to branch
-  way-from best branches branch to same are knows reached each is stacked = record {
+      → AreStacked best.m (branches ++ branch ∷ []) → AreSized 0 branches → length branch.set ≡ length branches → IsOnTheWay value candidates to branch
+  way-from best branches branch to same are knows reached each is stacked sized size = record {
+    size_is = omega (arith, size, ap length are);
     asking_is = asking-from best branches to same are knows reached.best each (stacked-pop best.m branches branch stacked).0
-        (let low : 0 + length branches ≤ length branch.set = stack-size best.m branches branch 0 stacked (all-least (branches ++ branch ∷ [])) in omega (arith, low, is.size));
+        sized (omega (arith, size, is.size));
     branch_is = subst (λ (b : Best S). IsBranch b.m b.k branch) (sym same) is;
     stacked = subst (λ (b : Best S). AreStacked b.m (to.branches.items ++ branch ∷ [])) (sym same) (subst (λ (bs : List Branch). AreStacked best.m (bs ++ branch ∷ [])) (sym are) stacked);
     reached = subst (λ (b : Best S). IsWinnerOf (value b.search) b.m b.k branch to.found) (sym same) reached;
   }
 
   module _ (asking : Asking S) (branch : Branch) (way : IsOnTheWay value candidates asking branch) where
-    -- there is room on the stack
-    pub way-room : length asking.branches.items ≤ length branch.set
-    way-room =
-        let size : 0 + length asking.branches.items ≤ length branch.set =
-        stack-size asking.best.m asking.branches.items branch 0 way.stacked (all-least (asking.branches.items ++ branch ∷ [])) in
-        omega (arith, size)
-
     module _ (short : length branch.set < asking.best.k) (next : ℕ) (rest : List ℕ) (first : branch.free ≡ next ∷ rest) where
       abbrev pub without : Branch
       without = record { set = branch.set; free = rest }
@@ -58,6 +53,14 @@ module _ {S : Type 0} (value : S → List ℕ → ℕ) (candidates : S → ℕ) 
           (all-append (IsBranch asking.best.m asking.best.k) asking.branches.items without way.asking_is.each (without-branch asking.best.m asking.best.k branch way.branch_is next rest first))
           (with-branch asking.best.m asking.best.k branch way.branch_is next rest first short)
           (joined-stacked (value asking.best.search) asking.best.m asking.best.k asking.branches.items branch way.branch_is way.stacked next rest first)
+          (sized-push 0 asking.branches.items without way.asking_is.sized (omega (arith, way.size_is)))
+          (omega (
+            arith,
+            way.size_is,
+            ap length (grown-is asking.best.m asking.best.k branch way.branch_is next rest first),
+            length-append branch.set (next ∷ []),
+            length-append asking.branches.items (without ∷ []),
+          ))
 
       -- the candidate leaves with its clones
       pub way-left : (classes : List (List ℕ)) → AreAlike (value asking.best.search) asking.best.m classes → IsBarren (value asking.best.search) asking.best.m asking.best.k with'
@@ -76,6 +79,7 @@ module _ {S : Type 0} (value : S → List ℕ → ℕ) (candidates : S → ℕ) 
           way.asking_is.each
           (left-branch v m k asking.branches.items branch way.branch_is way.stacked next rest first classes short alike none)
           (left-stacked v m k asking.branches.items branch way.branch_is way.stacked next rest first classes short alike none)
+          way.asking_is.sized way.size_is
 
   -- the last branch is taken off the stack
   module _ (asking : Asking S) (is : IsAsking value candidates asking) (branches : List Branch) (branch : Branch) (are : asking.branches.items ≡ branches ++ branch ∷ []) where
@@ -88,12 +92,15 @@ module _ {S : Type 0} (value : S → List ℕ → ℕ) (candidates : S → ℕ) 
     pub popped-stacked : AreStacked asking.best.m (branches ++ branch ∷ [])
     popped-stacked = subst (AreStacked asking.best.m) are is.stacked
 
+    pub popped-sized : AreSized 0 branches × (length branch.set ≡ 0 + length branches)
+    popped-sized = sized-pop 0 branches branch (subst (AreSized 0) are is.sized)
+
     pub popped-asking : (to : Asking S) → to.best ≡ asking.best → to.branches.items ≡ branches → to.found ≡ asking.found → IsAsking value candidates to
     popped-asking to same left found =
         asking-from asking.best branches to same left is.knows
         (subst (IsBest (value asking.best.search) asking.best.m asking.best.k) (sym found) is.found_is) popped-each (stacked-pop asking.best.m branches branch popped-stacked).0
-        (omega (arith, is.few, ap length are, length-append branches (branch ∷ [])))
+        popped-sized.0 (omega (arith, is.few, ap length are, length-append branches (branch ∷ [])))
 
     pub popped-way : (to : Asking S) → to.best ≡ asking.best → to.branches.items ≡ branches → IsWinnerOf (value asking.best.search) asking.best.m asking.best.k branch to.found
         → IsOnTheWay value candidates to branch
-    popped-way to same left reached = way-from asking.best branches branch to same left is.knows reached popped-each popped-branch popped-stacked
+    popped-way to same left reached = way-from asking.best branches branch to same left is.knows reached popped-each popped-branch popped-stacked popped-sized.0 (omega (arith, popped-sized.1))

@@ -22,7 +22,7 @@ use Rattle.tie_walk.proofs.StepLemmas.{has_member-range}
 use Rattle.tie_walk.proofs.WinnersLemmas.{same_filter}
 use Rattle.tie_search.specs.Completions.{AreAlike, IsCompletion, IsNode, IsOutOfReach, IsReaching}
 use Rattle.tie_search.specs.Tied.{IsBest}
-use Rattle.tie_search.specs.Steps.Branches.{AreStacked, ComesBefore, IsAnswer, IsBarren, IsBranch, IsWinnerOf, branches_after, completes, completes_some, winners_of}
+use Rattle.tie_search.specs.Steps.Branches.{AreSized, AreStacked, ComesBefore, IsAnswer, IsBarren, IsBranch, IsWinnerOf, branches_after, completes, completes_some, first_branches, winners_of}
 use Rattle.tie_search.specs.declared.branch.Branch.{Branch}
 use Rattle.tie_search.proofs.CloneLemmas.{clones-left, minus-is, minus-most}
 use Rattle.tie_search.proofs.CompletionLemmas.{added, added-free, added-size, completion-back, completion-few, completion-members, completion-whole, member-high, member-low, without-is}
@@ -282,7 +282,7 @@ winners-same value m k xs ys same =
     best-of : (set : List ℕ) → Contains (winners value m k) set → IsBest value m k set
     best-of set inside = let is = winner-is value m k set inside in record { candidates = is.0; size = is.1; best = is.2 }
 
-last-some : (xs : List Branch) (b : Branch) (committee : List ℕ) → completes_some (xs ++ b ∷ []) committee ≡ (completes_some xs committee || completes b committee)
+pub last-some : (xs : List Branch) (b : Branch) (committee : List ℕ) → completes_some (xs ++ b ∷ []) committee ≡ (completes_some xs committee || completes b committee)
 last-some xs b committee = list_any-append (λ branch. completes branch committee) xs (b ∷ []) ∙ ap (λ c. completes_some xs committee || c) (or-false (completes b committee))
 
 -- ---- the order of the stack
@@ -299,7 +299,7 @@ greater-later front more rest n y low same = IsLater-from_parts (front ++ y ∷ 
     less (x ∷ l) = slice_cmp_same x (l ++ n ∷ rest) (l ++ y ∷ more) ∙ less l
 
 -- a committee that completes the branch is its set and later candidates
-added-later : (m k : ℕ) (branch : Branch) (committee : List ℕ) → IsBranch m k branch → IsIncreasing 1 m committee → length committee ≡ k → completes branch committee ≡ true
+pub added-later : (m k : ℕ) (branch : Branch) (committee : List ℕ) → IsBranch m k branch → IsIncreasing 1 m committee → length committee ≡ k → completes branch committee ≡ true
     → (more : List ℕ) × (committee ≡ branch.set ++ more) × (length more ≡ k - length branch.set) × ((n : ℕ) → has_member more n ≡ true → has_member branch.free n ≡ true)
 added-later m k branch committee is up size whole =
     let node = branch-node m k branch is in
@@ -532,23 +532,14 @@ winner-from value m k branch committee last is up size whole reaches =
 
 -- ---- one step down
 
--- the stack is no higher than the set is large
-pub stack-size : (m : ℕ) (branches : List Branch) (branch : Branch) (least : ℕ) → AreStacked m (branches ++ branch ∷ [])
-    → AllByRecursion (λ (other : Branch). least ≤ length other.set) (branches ++ branch ∷ []) → least + length branches ≤ length branch.set
-stack-size m [] branch least stacked each = omega (arith, each.0)
-stack-size m (first ∷ branches) branch least stacked each =
-    omega (arith, stack-size m branches branch (least + 1) stacked.1 (larger (branches ++ branch ∷ []) stacked.0))
-  where
-    larger : (bs : List Branch) → AllByRecursion (λ (other : Branch). ComesBefore m other.set first) bs → AllByRecursion (λ (other : Branch). least + 1 ≤ length other.set) bs
-    larger [] before = tt
-    larger (b ∷ bs) before = (
-      omega (arith, each.0, ap length before.0.begins, length-append first.set (before.0.next ∷ before.0.tail)),
-      larger bs before.1,
-    )
+-- a set of each size
+pub sized-push : (size : ℕ) (branches : List Branch) (branch : Branch) → AreSized size branches → length branch.set ≡ size + length branches → AreSized size (branches ++ branch ∷ [])
+sized-push size [] branch sized is = (omega (arith, is), tt)
+sized-push size (first ∷ branches) branch sized is = (sized.0, sized-push (size + 1) branches branch sized.1 (omega (arith, is)))
 
-pub all-least : (branches : List Branch) → AllByRecursion (λ (other : Branch). 0 ≤ length other.set) branches
-all-least [] = tt
-all-least (b ∷ bs) = (omega arith, all-least bs)
+pub sized-pop : (size : ℕ) (branches : List Branch) (branch : Branch) → AreSized size (branches ++ branch ∷ []) → AreSized size branches × (length branch.set ≡ size + length branches)
+sized-pop size [] branch sized = (tt, omega (arith, sized.0))
+sized-pop size (first ∷ branches) branch sized = let rest = sized-pop (size + 1) branches branch sized.1 in ((sized.0, rest.0), omega (arith, rest.1))
 
 module _ (value : List ℕ → ℕ) (m k : ℕ) (branches : List Branch) (branch : Branch) (is : IsBranch m k branch) (stacked : AreStacked m (branches ++ branch ∷ [])) (next : ℕ) (rest : List ℕ)
     (first : branch.free ≡ next ∷ rest) where
@@ -637,30 +628,32 @@ free-most m k branch is = omega (arith, length-increasing (is.last + 1) m branch
 -- ---- the beginning
 
 -- all committees complete the branch of all
-pub all-left : (value : List ℕ → ℕ) (m k : ℕ) (branch : Branch) → branch.set ≡ [] → branch.free ≡ range_with_len 1 m → winners_of value m k (branch ∷ []) ≡ winners value m k
-all-left value m k branch none all =
-    filter-all (completes_some (branch ∷ [])) (winners value m k)
-    (recursion_from_All (λ set. completes_some (branch ∷ []) set ≡ true) (winners value m k)
+pub all-left : (value : List ℕ → ℕ) (m k : ℕ) → winners_of value m k (first_branches m None) ≡ winners value m k
+all-left value m k =
+    filter-all (completes_some (first_branches m None)) (winners value m k)
+    (recursion_from_All (λ set. completes_some (first_branches m None) set ≡ true) (winners value m k)
     (λ i d inside. whole (get_or (winners value m k) i d) (winner-is value m k (get_or (winners value m k) i d) (Contains-get_or (winners value m k) i d inside)).0))
   where
-    whole : (set : List ℕ) → IsIncreasing 1 m set → completes_some (branch ∷ []) set ≡ true
-    whole set up =
-        or_left (completes branch set) false
-        (and_from (includes set branch.set) (includes (either_members branch.set branch.free) set)
-        (all-from (has_member set) branch.set (λ n here. let no : true ≡ false = sym here ∙ ap (λ l. has_member l n) none in absurd (let e : false ≡ true = sym no in cc)))
-        (all-from (has_member (either_members branch.set branch.free)) set
-        (λ n here. has_member-either branch.set branch.free n
-        ∙ or_right (has_member branch.set n) (has_member branch.free n)
-        (ap (λ l. has_member l n) all ∙ has_member-range 1 m n (member-low 1 m set n up here) (omega (arith, member-high 1 m set n up here))))))
+    all : List ℕ
+    all = range_with_len 1 m
 
-pub all-branch : (m k : ℕ) (branch : Branch) → branch.set ≡ [] → branch.free ≡ range_with_len 1 m → IsBranch m k branch
-all-branch m k branch none all = record {
-  last = 0;
-  within = omega arith;
-  set_upto = subst (IsIncreasing 1 0) (sym none) tt;
-  free_after = subst (IsIncreasing 1 m) (sym all) (IsIncreasing-range 1 m m (omega arith));
-  size = omega (arith, ap length none);
-}
+    whole : (set : List ℕ) → IsIncreasing 1 m set → completes_some (first_branches m None) set ≡ true
+    whole set up =
+        or_left (includes (either_members [] all) set) false
+        (all-from (has_member (either_members [] all)) set
+        (λ n here. has_member-either [] all n ∙ has_member-range 1 m n (member-low 1 m set n up here) (omega (arith, member-high 1 m set n up here))))
+
+pub all-branch : (m k : ℕ) → AllByRecursion (IsBranch m k) (first_branches m None)
+all-branch m k = (
+  record {
+    last = 0;
+    within = omega arith;
+    set_upto = tt;
+    free_after = IsIncreasing-range 1 m m (omega arith);
+    size = omega arith;
+  },
+  tt,
+)
 
 -- ---- the branches after a start
 
@@ -695,6 +688,12 @@ module _ (m : ℕ) where
   unfolding branches_after
   after-length front [] = refl
   after-length front (n ∷ rest) = ap suc (after-length (front ++ n ∷ []) rest)
+
+  pub after-sized : (front rest : List ℕ) → AreSized (length front) (branches_after m front rest)
+  unfolding branches_after
+  after-sized front [] = tt
+  after-sized front (n ∷ rest) =
+      (refl, subst (λ size. AreSized size (branches_after m (front ++ n ∷ []) rest)) (length-append front (n ∷ [])) (after-sized (front ++ n ∷ []) rest))
 
   -- one more branch, as the start goes on
   pub after-next : (front rest : List ℕ) (n : ℕ) (before : List Branch) (all : List Branch) → before ++ branches_after m front (n ∷ rest) ≡ all

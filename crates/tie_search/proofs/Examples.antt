@@ -4,10 +4,10 @@ use Rattle.std.proofs.Common.{◌≡◌, ◌+◌, ◌<◌, ℕ, zero, suc, true,
 use Rattle.std.specs.Prelude.{slice_index_or}
 use Rattle.ballot_base.specs.Lists.{lists_of}
 use Rattle.tie_walk.specs.Values.{closeness}
-use Rattle.tie_walk.specs.Winners.{best_value}
+use Rattle.tie_walk.specs.Winners.{best_value, winners}
 use Rattle.tie_search.specs.Completions.{IsNode, IsCompletion, IsReaching, IsOutOfReach}
-use Rattle.tie_search.specs.Asked.{Asked, IsNextAsked}
-use Rattle.tie_search.specs.Steps.Branches.{AreStacked, IsBranch, branches_after, completes, winners_of}
+use Rattle.tie_search.specs.Asked.{Asked, IsNextAsked, beginnings, begins_some}
+use Rattle.tie_search.specs.Steps.Branches.{AreSized, AreStacked, IsBranch, branches_after, completes, first_branches, is_new, new_beginnings, winners_of}
 use Rattle.tie_search.specs.declared.branch.Branch.{Branch}
 use Rattle.tie_search.specs.Tied.{AreBest, AreDistinct, AreTied, IsAmong, IsBest}
 
@@ -188,6 +188,13 @@ one_stacked : AreStacked 3 (without_one ∷ from_one ∷ [])
 unfolding from_one without_one
 one_stacked = ((record { next = 1; tail = []; begins = refl; later = (lit≤ tt, lit≤ tt, (lit≤ tt, lit≤ tt, tt)) }, tt), (tt, tt))
 
+one_sized : AreSized 0 (without_one ∷ from_one ∷ [])
+unfolding from_one without_one
+one_sized = (refl, (refl, tt))
+
+all_first : first_branches 3 None ≡ record { set = []; free = 1 ∷ 2 ∷ 3 ∷ [] } ∷ []
+all_first = refl
+
 -- after 1 and 2 come the committees without 1, and those of 1 and 3
 after_one_and_two : branches_after 3 [] (1 ∷ 2 ∷ []) ≡ record { set = []; free = 2 ∷ 3 ∷ [] } ∷ record { set = 1 ∷ []; free = 3 ∷ [] } ∷ []
 unfolding branches_after
@@ -201,6 +208,25 @@ before_winner = record { search = 3; k = 2; after = None; left = (2 ∷ 3 ∷ []
 after_winner : Asked ℕ
 after_winner = record { search = 3; k = 2; after = None; left = []; entered = 2; questions = 3 }
 
-winner_asked : IsNextAsked ℕ (λ m. m) before_winner (Some (2 ∷ 3 ∷ [])) after_winner
+winner_asked : IsNextAsked ℕ (λ m set. sum set) (λ m. m) before_winner (Some (2 ∷ 3 ∷ [])) after_winner
 unfolding before_winner after_winner
-winner_asked = record { first = refl; same_search = refl; same_k = refl; same_start = refl; short_wait = lit≤ tt }
+winner_asked = record { first = refl; same_search = refl; same_k = refl; same_start = refl; entered_rises = lit≤ tt; all_entered = λ none. absurd cc; short_wait = lit≤ tt }
+
+-- 2, and 2 and 3, begin the winner
+two_begin : beginnings 3 2 (winners sum 3 2) ≡ 2
+unfolding lists_of
+two_begin = refl
+
+two_begins : begins_some ((2 ∷ 3 ∷ []) ∷ []) (2 ∷ []) ≡ true
+two_begins = refl
+
+three_begins_none : begins_some ((2 ∷ 3 ∷ []) ∷ []) (3 ∷ []) ≡ false
+three_begins_none = refl
+
+two_is_not_new : is_new ((2 ∷ []) ∷ []) ((2 ∷ 3 ∷ []) ∷ []) (2 ∷ []) ≡ false
+two_is_not_new = refl
+
+-- of these the set of 2 is not new
+one_is_new : new_beginnings 3 2 ((2 ∷ []) ∷ []) (winners sum 3 2) ≡ 1
+unfolding lists_of
+one_is_new = refl

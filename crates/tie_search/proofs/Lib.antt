@@ -2,6 +2,7 @@ pub mod AskingLemmas
 pub mod BranchLemmas
 pub mod CloneLemmas
 pub mod CompletionLemmas
+pub mod EnteredLemmas
 mod Examples
 pub mod FoundLemmas
 pub mod HitLemmas

@@ -7,14 +7,13 @@
 //!
 //! A clone may leave because it reaches no more: with the candidate in its place, a winner would stay one
 //! (`proofs/BranchLemmas.antt`).
-ghost use Rattle.std.specs.Prelude.{◌≡◌, ◌+◌, ◌<◌, ◌≤◌, ◌∷◌, ◌++◌, [], None, Some, true, false, length, option_to_list};
-ghost use Rattle.std.specs.List.{AllByRecursion, range_with_len};
+ghost use Rattle.std.specs.Prelude.{◌≡◌, ◌+◌, ◌^◌, ◌<◌, ◌≤◌, ◌∷◌, ◌++◌, [], None, Some, true, false, length, option_to_list};
+ghost use Rattle.std.specs.List.{AllByRecursion};
 ghost use Rattle.ballot_base.specs.Limits.{most_candidates};
 ghost use Rattle.ballot_base.specs.Lists.{IsIncreasing};
 ghost use Rattle.tie_walk.specs.Winners.{IsStart};
 ghost use Rattle.tie_search.specs.Steps.Branches.{AreStacked, IsAnswer, IsAsking, IsBarren, IsBegun, IsBranch, IsOnTheWay, IsWinnerOf};
-ghost use Rattle.tie_search.specs.Steps.Branches.{KnowsBest, branches_after, kept, left_by};
-ghost use Rattle.tie_search.specs.declared.branch.Branch.{Branch};
+ghost use Rattle.tie_search.specs.Steps.Branches.{AreSized, KnowsBest, branches_after, first_branches, kept, left_by, to_enter};
 
 use crate::best::Best;
 use crate::branch::Branch;
@@ -58,6 +57,7 @@ impl<S: Searchable> Asking<S> {
         requires knows { KnowsBest S.value_of S.candidates best }
         requires each { AllByRecursion (IsBranch best.m best.k) branches.items }
         requires stacked { AreStacked best.m branches.items }
+        requires sized { AreSized 0 branches.items }
         requires few { length branches.items ≤ best.k }
         ensures asking { IsAsking S.value_of S.candidates result }
         ensures best { result.best ≡ best }
@@ -77,11 +77,15 @@ impl<S: Searchable> Asking<S> {
     /// The first of those still to come.
     pub(crate) fn next(&mut self) -> Option<CandSet>
         requires asking { IsAsking S.value_of S.candidates self.old }
+        requires fits { self.old.entered + to_enter S.value_of self.old.best self.old.branches.items < 2 ^ 127 }
         ensures asking { IsAsking S.value_of S.candidates self.new }
         ensures best { self.new.best ≡ self.old.best }
         ensures first { left_by S.value_of self.old.best self.old.branches.items
             ≡ option_to_list result ++ left_by S.value_of self.old.best self.new.branches.items }
         ensures end { result ≡ None → self.new.branches.items ≡ [] }
+        ensures entered { self.old.entered ≤ self.new.entered }
+        ensures counted { self.new.entered + to_enter S.value_of self.old.best self.new.branches.items
+            ≡ self.old.entered + to_enter S.value_of self.old.best self.old.branches.items }
         ensures asked { self.new.questions ≤ self.old.questions + self.old.best.m + length self.old.branches.items }
     {
         while let Some(branch) = self.branches.pop() {
@@ -95,10 +99,15 @@ impl<S: Searchable> Asking<S> {
     /// The first that completes a branch, as the one that was found last does.
     fn first_of(&mut self, branch: Branch) -> CandSet
         requires way { IsOnTheWay S.value_of S.candidates self.old branch }
+        requires fits { self.old.entered
+            + to_enter S.value_of self.old.best (self.old.branches.items ++ branch ∷ []) < 2 ^ 127 }
         ensures asking { IsAsking S.value_of S.candidates self.new }
         ensures best { self.new.best ≡ self.old.best }
         ensures first { left_by S.value_of self.old.best (self.old.branches.items ++ branch ∷ [])
             ≡ result ∷ left_by S.value_of self.old.best self.new.branches.items }
+        ensures entered { self.old.entered ≤ self.new.entered }
+        ensures counted { self.new.entered + to_enter S.value_of self.old.best self.new.branches.items
+            ≡ self.old.entered + to_enter S.value_of self.old.best (self.old.branches.items ++ branch ∷ []) }
         ensures asked { self.new.questions ≤ self.old.questions + length branch.free }
     {
         let mut branch = branch;
@@ -112,10 +121,15 @@ impl<S: Searchable> Asking<S> {
     fn below(&mut self, branch: Branch) -> Branch
         requires way { IsOnTheWay S.value_of S.candidates self.old branch }
         requires short { length branch.set < self.old.best.k }
+        requires fits { self.old.entered
+            + to_enter S.value_of self.old.best (self.old.branches.items ++ branch ∷ []) < 2 ^ 127 }
         ensures way { IsOnTheWay S.value_of S.candidates self.new result }
         ensures best { self.new.best ≡ self.old.best }
         ensures left { left_by S.value_of self.old.best (self.new.branches.items ++ result ∷ [])
             ≡ left_by S.value_of self.old.best (self.old.branches.items ++ branch ∷ []) }
+        ensures entered { self.old.entered ≤ self.new.entered }
+        ensures counted { self.new.entered + to_enter S.value_of self.old.best (self.new.branches.items ++ result ∷ [])
+            ≡ self.old.entered + to_enter S.value_of self.old.best (self.old.branches.items ++ branch ∷ []) }
         ensures fewer { length result.free < length branch.free }
         ensures asked { self.new.questions + length result.free ≤ self.old.questions + length branch.free }
     {
@@ -144,13 +158,15 @@ impl<S: Searchable> Asking<S> {
     /// this one raises the count of sets.
     fn enter(&mut self, without: Branch)
         requires room { length self.old.branches.items < most_candidates }
+        requires fits { self.old.entered < 2 ^ 127 }
         ensures best { self.new.best ≡ self.old.best }
         ensures found { self.new.found ≡ self.old.found }
         ensures branches { self.new.branches.items ≡ self.old.branches.items ++ without ∷ [] }
+        ensures entered { self.new.entered ≡ self.old.entered + 1 }
         ensures questions { self.new.questions ≡ self.old.questions }
     {
         self.branches.push(without);
-        self.entered = self.entered.saturating_add(1);
+        self.entered += 1;
     }
 
     /// Whether a committee with the greatest value completes the branch. If one does, it is the one found last.
@@ -210,7 +226,7 @@ impl<S: Searchable> Asking<S> {
 /// The branch that all committees complete.
 fn all_branches(m: u8) -> ArrayVec<Branch, PLACES>
     requires { m ≤ most_candidates }
-    ensures { (branch : Branch) × (result.items ≡ branch ∷ []) × (branch.set ≡ []) × (branch.free ≡ range_with_len 1 m) }
+    ensures { result.items ≡ first_branches m None }
 {
     let mut branches = ArrayVec::new();
     branches.push(Branch {

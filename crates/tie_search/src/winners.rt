@@ -6,7 +6,7 @@ ghost use Rattle.std.specs.Prelude.{◌≡◌, ◌≤◌};
 ghost use Rattle.std.specs.Iterator.{item_count};
 ghost use Rattle.ballot_base.specs.Lists.{later_than};
 ghost use Rattle.tie_walk.specs.Winners.{IsStart, best_value, winners};
-ghost use Rattle.tie_search.specs.Asked.{Asked, IsNextAsked};
+ghost use Rattle.tie_search.specs.Asked.{Asked, IsNextAsked, beginnings};
 
 use crate::asking::Asking;
 use crate::best::Best;
@@ -25,7 +25,7 @@ pub struct SearchWinners<S: Searchable> {
 
 impl<S: Searchable> Model for SearchWinners<S> {
     ghost use Rattle.tie_search.specs.Asked.{Asked};
-    ghost use Rattle.tie_search.specs.Steps.Branches.{IsAsking, left_by};
+    ghost use Rattle.tie_search.specs.Steps.Branches.{IsCounted, left_by};
 
     ghost Value = { Asked S };
 
@@ -38,7 +38,7 @@ impl<S: Searchable> Model for SearchWinners<S> {
       questions = w.asking.questions;
     } };
 
-    ghost invariant = { λ w. IsAsking S.value_of S.candidates w.asking };
+    ghost invariant = { λ w. IsCounted S.value_of S.candidates w.after w.asking };
 }
 
 impl<S: Searchable> SearchWinners<S> {
@@ -75,9 +75,12 @@ impl<S: Searchable> SearchWinners<S> {
         self.asking.best.value
     }
 
-    /// How many sets were entered so far on the ways down to winners: a set counts where a candidate joins it.
+    /// How many sets were entered so far on the ways down to winners: a set counts where a candidate joins it. Each
+    /// begins a winner later than the start. Without a start, all such sets were entered after the last winner.
     pub fn entered(&self) -> u128
-        ensures { result ≡ self.now.entered }
+        ensures count { result ≡ self.now.entered }
+        ensures most { result ≤ beginnings (S.candidates self.now.search) self.now.k (later_than self.now.after
+            (winners (S.value_of self.now.search) (S.candidates self.now.search) self.now.k)) }
     {
         self.asking.entered
     }
@@ -95,7 +98,7 @@ impl<S: Searchable + Drop> Iterator for SearchWinners<S> {
     type Item = CandSet;
 
     // The first of the winners left, or None if none is left, and what was asked then.
-    ghost next_gives = { IsNextAsked S S.candidates };
+    ghost next_gives = { IsNextAsked S S.value_of S.candidates };
 
     ghost remaining = { item_count (λ (a : Asked S). a.left) };
 

@@ -1,5 +1,5 @@
 //! Winners by search after each start: against a plain list, with a count of the questions and of the sets that are
-//! entered. No clause says that these counts are right.
+//! entered. No clause says that a question is a search, nor how many sets are entered after a start, but for a bound.
 ghost use Rattle.std.specs.Prelude.{◌≡◌, ◌≤◌};
 ghost use Rattle.ballot_base.specs.Limits.{most_candidates, most_members};
 ghost use Rattle.tie_walk.specs.Winners.{IsStart};

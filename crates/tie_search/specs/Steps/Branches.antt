@@ -1,10 +1,12 @@
 -- Branches: sets that committees may begin with, and who may still join them; and the stack of those that the winners
 -- still to come complete.
-use Rattle.std.specs.Prelude.{◌≡◌, ℕ, ◌+◌, ◌-◌, ◌≤◌, ◌&&◌, Bool, true, false, List, [], ◌∷◌, ◌++◌, Option, ⊤, length, filter, MatchOption}
+use Rattle.std.specs.Prelude.{◌≡◌, ℕ, ◌+◌, ◌-◌, ◌≤◌, ◌&&◌, Bool, true, false, not, List, [], ◌∷◌, ◌++◌, Option, None, Some, ⊤, length, filter, map, sum_by, MatchOption}
 use Rattle.std.specs.List.{AllByRecursion, list_any, range_with_len}
 use Rattle.ballot_base.specs.CandSet.{either_members, includes}
-use Rattle.ballot_base.specs.Lists.{IsIncreasing, later_than}
+use Rattle.std.specs.Str.{bytes_eq}
+use Rattle.ballot_base.specs.Lists.{IsIncreasing, increasing_lists, later_than}
 use Rattle.tie_walk.specs.Winners.{winners}
+use Rattle.tie_search.specs.Asked.{begins_some}
 use Rattle.tie_search.specs.Tied.{IsAmong, IsBest}
 use Rattle.tie_search.specs.Steps.Searched.{IsSearched}
 use Rattle.tie_search.specs.declared.asking.Asking.{Asking}
@@ -45,6 +47,11 @@ abbrev pub AreStacked : ℕ → List Branch → Type 0
 AreStacked m [] = ⊤
 AreStacked m (branch ∷ above) = AllByRecursion (λ other. ComesBefore m other.set branch) above × AreStacked m above
 
+-- each set has one member more than that of the branch under it, the first of them `size`
+abbrev pub AreSized : ℕ → List Branch → Type 0
+AreSized size [] = ⊤
+AreSized size (branch ∷ above) = (length branch.set ≡ size) × AreSized (size + 1) above
+
 -- the branches that the committees later than those with all of `front` and `rest` complete, as far as they have all of
 -- `front`
 unfoldable pub branches_after : ℕ → List ℕ → List ℕ → List Branch
@@ -82,6 +89,7 @@ pub record IsAsking {S : Type 0} (value : S → List ℕ → ℕ) (candidates : 
   pub found_is : IsBest (value asking.best.search) asking.best.m asking.best.k asking.found
   pub each : AllByRecursion (IsBranch asking.best.m asking.best.k) asking.branches.items
   pub stacked : AreStacked asking.best.m asking.branches.items
+  pub sized : AreSized 0 asking.branches.items
   pub few : length asking.branches.items ≤ asking.best.k
 
 -- what is true on the way down from a branch to the first winner that completes it
@@ -90,17 +98,41 @@ pub record IsOnTheWay {S : Type 0} (value : S → List ℕ → ℕ) (candidates 
   pub asking_is : IsAsking value candidates asking
   pub branch_is : IsBranch asking.best.m asking.best.k branch
   pub stacked : AreStacked asking.best.m (asking.branches.items ++ branch ∷ [])
+  pub size_is : length branch.set ≡ length asking.branches.items
   pub reached : IsWinnerOf (value asking.best.search) asking.best.m asking.best.k branch asking.found
 
 -- the winners still to come where these branches are left
 abbrev pub left_by : {S : Type 0} → (S → List ℕ → ℕ) → Best S → List Branch → List (List ℕ)
 left_by value best branches = winners_of (value best.search) best.m best.k branches
 
+-- the sets of the branches
+abbrev pub sets_of : List Branch → List (List ℕ)
+sets_of branches = map (λ (branch : Branch). branch.set) branches
+
+-- whether some of the committees begins with the list, which is none of the sets
+abbrev pub is_new : List (List ℕ) → List (List ℕ) → List ℕ → Bool
+is_new sets committees list = begins_some committees list && not (list_any (bytes_eq list) sets)
+
+-- how many lists of 1 to k of the candidates 1 to m begin some of the committees, and are none of the sets
+abbrev pub new_beginnings : ℕ → ℕ → List (List ℕ) → List (List ℕ) → ℕ
+new_beginnings m k sets committees =
+    sum_by (λ size. length (filter (is_new sets committees) (increasing_lists 1 m size))) (range_with_len 1 k)
+
+-- how many sets are still to be entered for the winners that the branches leave
+abbrev pub to_enter : {S : Type 0} → (S → List ℕ → ℕ) → Best S → List Branch → ℕ
+to_enter value best branches = new_beginnings best.m best.k (sets_of branches) (left_by value best branches)
+
+-- the first branches after a start
+abbrev pub first_branches : ℕ → Option (List ℕ) → List Branch
+first_branches m None = record { set = []; free = range_with_len 1 m } ∷ []
+first_branches m (Some start) = branches_after m [] start
+
 -- all winners later than the start are still to come, and nothing was asked yet
 pub record IsBegun {S : Type 0} (value : S → List ℕ → ℕ) (candidates : S → ℕ) (best : Best S) (after : Option (List ℕ))
     (asking : Asking S) : Type 0 where
   pub asking_is : IsAsking value candidates asking
   pub best_is : asking.best ≡ best
+  pub are : asking.branches.items ≡ first_branches best.m after
   pub left : left_by value best asking.branches.items
       ≡ later_than after (winners (value best.search) best.m best.k)
   pub entered : asking.entered ≡ 0
@@ -114,3 +146,12 @@ pub record Kept (S : Type 0) : Type 0 where
 
 abbrev pub kept : {S : Type 0} → Asking S → Kept S
 kept asking = record { best = asking.best; branches = asking.branches.items; entered = asking.entered }
+
+-- what is true of the winners after a start: the sets that were entered and those still to be entered are all those
+-- that begin a later winner, but for the sets that begin the start
+pub record IsCounted {S : Type 0} (value : S → List ℕ → ℕ) (candidates : S → ℕ) (after : Option (List ℕ))
+    (asking : Asking S) : Type 0 where
+  pub asking_is : IsAsking value candidates asking
+  pub counted : asking.entered + to_enter value asking.best asking.branches.items
+      ≡ new_beginnings asking.best.m asking.best.k (sets_of (first_branches asking.best.m after))
+      (later_than after (winners (value asking.best.search) asking.best.m asking.best.k))

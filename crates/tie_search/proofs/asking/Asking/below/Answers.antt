@@ -2,12 +2,13 @@ use Rattle.std.specs.Prelude.{slice_index_or}
 use Rattle.ballot_base.specs.CandSet.{other_members, with_member}
 use Rattle.std.proofs.Common.{◌≡◌, ◌+◌, ◌≤◌, ◌++◌, ◌∷◌, [], List, ap, arith, subst, sym, ◌∙◌, length}
 use Rattle.tie_search.specs.Completions.{AreAlike}
-use Rattle.tie_search.specs.Steps.Branches.{IsBarren, IsWinnerOf, Kept, left_by}
+use Rattle.tie_search.specs.Steps.Branches.{IsBarren, IsWinnerOf, Kept, left_by, new_beginnings, sets_of, to_enter}
 use Rattle.tie_search.specs.declared.best.Best.{Best}
 use Rattle.tie_search.specs.declared.branch.Branch.{Branch}
-use Rattle.tie_search.proofs.AskingLemmas.{way-joined, way-left, way-room}
+use Rattle.tie_search.proofs.AskingLemmas.{way-joined, way-left}
 use Rattle.tie_search.proofs.BranchLemmas.{joined-left, left-left, some-free, with-branch}
 use Rattle.tie_search.proofs.CloneLemmas.{minus-most}
+use Rattle.tie_search.proofs.EnteredLemmas.{joined-new, sets-last}
 use Rattle.tie_search.proofs.asking.Asking.below.Given.{Over}
 use Rattle.tie_search.proofs.asking.Asking.below.Goals as goal
 use Rattle.tie_search.proofs.asking.Asking.below.Goals.{After-enter, After-minus}
@@ -28,10 +29,10 @@ pub enter-requires : goal.enter-requires
 enter-requires g c =
     let asking = c.args.self.now in
     let way = c.requires.way in
-    let room = way-room g.S.Tally.value_of g.S.Tally.candidates asking c.args.branch way in
     let knows = way.asking_is.knows in
     record {
-      room = omega (arith, room, c.requires.short, knows.size, knows.most, knows.fits, ap (λ (k : Kept g.row.S.Denot). length k.branches) c.reaches.ensures.kept);
+      room = omega (arith, way.size_is, c.requires.short, knows.size, knows.most, knows.fits, ap (λ (k : Kept g.row.S.Denot). length k.branches) c.reaches.ensures.kept);
+      fits = omega (arith, c.requires.fits, ap (λ (k : Kept g.row.S.Denot). k.entered) c.reaches.ensures.kept);
     }
 
 pub returns-then-reaches-clause-way : goal.returns-then-reaches-clause-way
@@ -58,6 +59,26 @@ returns-then-reaches-clause-left g c =
     (ap (λ (bs : List Branch). left_by g.S.Tally.value_of best (bs ++ with' ∷ []))
     (c.enter.ensures.branches ∙ ap (λ (k : Kept g.row.S.Denot). k.branches ++ record { set = c.args.branch.set; free = parts.1 } ∷ []) c.reaches.ensures.kept)
     ∙ joined-left (g.S.Tally.value_of best.search) best.m best.k asking.branches.items c.args.branch c.requires.way.branch_is c.requires.way.stacked parts.0 parts.1 c.in-Some.ensures)
+
+pub returns-then-reaches-clause-counted : goal.returns-then-reaches-clause-counted
+returns-then-reaches-clause-counted g c =
+    let asking = c.args.self.now in
+    let best = asking.best in
+    let way = c.requires.way in
+    let parts = c.in-Some.parts in
+    let with' : Branch = record { set = with_member c.args.branch.set parts.0; free = parts.1 } in
+    let wins : IsWinnerOf (g.S.Tally.value_of best.search) best.m best.k with' c.reaches.new.self.found = rw c.with.ensures at (c.reaches.ensures.yes c.if-reaches.true) in
+    let one = joined-new (g.S.Tally.value_of best.search) best.m best.k asking.branches.items c.args.branch way.branch_is way.stacked parts.0 parts.1 c.in-Some.ensures c.requires.short
+    way.asking_is.sized way.size_is c.reaches.new.self.found wins in
+    rw c.with.ensures
+    (omega (
+      arith,
+      one,
+      c.enter.ensures.entered,
+      ap (λ (k : Kept g.row.S.Denot). k.entered) c.reaches.ensures.kept,
+      ap (λ (bs : List Branch). to_enter g.S.Tally.value_of best (bs ++ with' ∷ []))
+          (c.enter.ensures.branches ∙ ap (λ (k : Kept g.row.S.Denot). k.branches ++ record { set = c.args.branch.set; free = parts.1 } ∷ []) c.reaches.ensures.kept),
+    ))
 
 -- the clones of the candidate, and what was left without them
 module _ (g : Over) (c : After-minus g) where
@@ -92,6 +113,23 @@ returns-clause-left g c =
     rw (over g c)
     (ap (λ (k : Kept g.row.S.Denot). left_by g.S.Tally.value_of best (k.branches ++ record { set = c.args.branch.set; free = other_members parts.1 (slice_index_or c.clones.result.now parts.0 []) } ∷ [])) c.reaches.ensures.kept
     ∙ left-left (g.S.Tally.value_of best.search) best.m best.k asking.branches.items c.args.branch c.requires.way.branch_is c.requires.way.stacked parts.0 parts.1 c.in-Some.ensures c.clones.result.now c.requires.short (alike g c) (none g c))
+
+pub returns-clause-counted : goal.returns-clause-counted
+returns-clause-counted g c =
+    let asking = c.args.self.now in
+    let best = asking.best in
+    let parts = c.in-Some.parts in
+    let left : Branch = record { set = c.args.branch.set; free = other_members parts.1 (slice_index_or c.clones.result.now parts.0 []) } in
+    rw (over g c)
+    (omega (
+      arith,
+      ap (λ (k : Kept g.row.S.Denot). k.entered) c.reaches.ensures.kept,
+      ap (λ (k : Kept g.row.S.Denot). to_enter g.S.Tally.value_of best (k.branches ++ left ∷ [])) c.reaches.ensures.kept,
+      ap (λ l. new_beginnings best.m best.k (sets_of (asking.branches.items ++ left ∷ [])) l)
+          (left-left (g.S.Tally.value_of best.search) best.m best.k asking.branches.items c.args.branch c.requires.way.branch_is c.requires.way.stacked parts.0 parts.1 c.in-Some.ensures c.clones.result.now
+          c.requires.short (alike g c) (none g c)),
+      ap (λ sets. new_beginnings best.m best.k sets (left_by g.S.Tally.value_of best (asking.branches.items ++ c.args.branch ∷ []))) (sets-last asking.branches.items left c.args.branch (λ i. c.args.branch.set)),
+    ))
 
 fewer : (g : Over) (c : After-minus g) → length c.minus.result + 1 ≤ length c.args.branch.free
 fewer g c =

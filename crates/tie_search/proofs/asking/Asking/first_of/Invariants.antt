@@ -1,5 +1,5 @@
 use Rattle.std.proofs.Common.{◌≡◌, ◌+◌, ◌≤◌, ◌∷◌, ◌++◌, [], length}
-use Rattle.tie_search.specs.Steps.Branches.{IsOnTheWay, left_by}
+use Rattle.tie_search.specs.Steps.Branches.{IsOnTheWay, left_by, to_enter}
 use Rattle.tie_search.proofs.asking.Asking.first_of.Given as goal
 
 abbrev pub invariant-loop-self : goal.invariant-loop-self
@@ -8,6 +8,9 @@ invariant-loop-self g l = record {
   best : l.self.best ≡ l.fn.self.best;
   left : left_by g.S.Tally.value_of l.fn.self.best (l.self.branches.items ++ l.branch ∷ [])
       ≡ left_by g.S.Tally.value_of l.fn.self.best (l.fn.self.branches.items ++ l.fn.branch ∷ []);
+  entered : l.fn.self.entered ≤ l.self.entered;
+  counted : l.self.entered + to_enter g.S.Tally.value_of l.fn.self.best (l.self.branches.items ++ l.branch ∷ [])
+      ≡ l.fn.self.entered + to_enter g.S.Tally.value_of l.fn.self.best (l.fn.self.branches.items ++ l.fn.branch ∷ []);
   asked : l.self.questions + length l.branch.free ≤ l.fn.self.questions + length l.fn.branch.free;
 }
 

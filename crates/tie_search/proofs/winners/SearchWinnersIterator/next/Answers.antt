@@ -1,9 +1,12 @@
-use Rattle.std.proofs.Common.{◌≡◌, ℕ, List, [], ◌++◌, Option, None, Some, ap, arith, option_to_list, refl, subst, sym, ◌∙◌}
+use Rattle.std.proofs.Common.{◌≡◌, ℕ, ◌+◌, List, [], ◌++◌, Option, None, Some, ap, arith, option_to_list, refl, subst, sym, ◌∙◌}
 use Rattle.std.specs.Iterator.{YieldsFirst}
-use Rattle.tie_search.specs.Asked.{Asked, IsNextAsked}
-use Rattle.tie_search.specs.Steps.Branches.{left_by}
+use Rattle.ballot_base.specs.Lists.{later_than}
+use Rattle.tie_walk.specs.Winners.{winners}
+use Rattle.tie_search.specs.Asked.{Asked, IsNextAsked, beginnings}
+use Rattle.tie_search.specs.Steps.Branches.{first_branches, left_by, new_beginnings, sets_of, to_enter}
 use Rattle.tie_search.specs.declared.best.Best.{Best}
 use Rattle.tie_search.proofs.BranchLemmas.{none-left}
+use Rattle.tie_search.proofs.EnteredLemmas.{all-entered, entered-fits}
 use Rattle.tie_search.proofs.winners.SearchWinnersIterator.next.Goals as goal
 
 -- the first of two lists, or none where both are empty
@@ -19,7 +22,7 @@ returns-clause-steps g c =
     let now = c.next.new.self in
     let same = c.next.ensures.best in
     let left : left_by V now.best now.branches.items ≡ left_by V was.best now.branches.items = ap (λ (b : Best g.row.S.Denot). left_by V b now.branches.items) same in
-    subst (λ from. IsNextAsked g.row.S.Denot g.S.Tally.candidates from c.next.result
+    subst (λ from. IsNextAsked g.row.S.Denot V g.S.Tally.candidates from c.next.result
     (record { search = now.best.search; k = now.best.k; after = c.self.inside.after; left = left_by V now.best now.branches.items; entered = now.entered; questions = now.questions })) c.self.view_is
     (record {
       first = first-of
@@ -31,5 +34,24 @@ returns-clause-steps g c =
       same_search = ap (λ (b : Best g.row.S.Denot). b.search) same;
       same_k = ap (λ (b : Best g.row.S.Denot). b.k) same;
       same_start = refl;
-      short_wait = omega (arith, c.next.ensures.asked, c.self.invariant.few, c.self.invariant.knows.size);
+      entered_rises = c.next.ensures.entered;
+      all_entered = λ none start. subst (λ (b : Best g.row.S.Denot). now.entered ≡ beginnings (g.S.Tally.candidates b.search) b.k (winners (V b.search) (g.S.Tally.candidates b.search) b.k)) (sym same)
+          (all-entered V g.S.Tally.candidates c.self.inside.after was c.self.invariant now.entered now.branches.items (c.next.ensures.end none) start c.next.ensures.counted);
+      short_wait = omega (arith, c.next.ensures.asked, c.self.invariant.asking_is.few, c.self.invariant.asking_is.knows.size);
     })
+
+pub next-requires-clause-fits : goal.next-requires-clause-fits
+next-requires-clause-fits g c = entered-fits g.S.Tally.value_of g.S.Tally.candidates c.self.inside.after c.self.inside.asking c.self.invariant
+
+pub invariant_of-self : goal.invariant_of-self
+invariant_of-self g c =
+    let V = g.S.Tally.value_of in
+    let was = c.self.inside.asking in
+    let now = c.next.new.self in
+    let after = c.self.inside.after in
+    record {
+      asking_is = c.next.ensures.asking;
+      counted = subst (λ (b : Best g.row.S.Denot). now.entered + to_enter V b now.branches.items
+          ≡ new_beginnings b.m b.k (sets_of (first_branches b.m after)) (later_than after (winners (V b.search) b.m b.k))) (sym c.next.ensures.best)
+          (c.next.ensures.counted ∙ c.self.invariant.counted);
+    }
