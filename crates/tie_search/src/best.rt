@@ -4,8 +4,8 @@
 //! the greatest value is found by searches for more than the best known, until one finds nothing, and questions are
 //! answered by further searches.
 //!
-//! Before such a search two committees are tried: the set with its last free candidates, and the one that was found last
-//! with clones in the place of others. They are tested by their members and value, so any may be tried.
+//! Before such a search two committees are tried: the set with its last free candidates, and the one that was found
+//! last with clones in the place of others. They are tested by their members and value, so any may be tried.
 ghost use Rattle.std.specs.Prelude.{◌≡◌, ◌+◌, ◌≤◌, [], true, MatchOption, length, ⊤};
 ghost use Rattle.ballot_base.specs.Limits.{most_candidates};
 ghost use Rattle.ballot_base.specs.Lists.{IsIncreasing};
@@ -68,8 +68,8 @@ impl<S: Searchable> Best<S> {
         None
     }
 
-    /// Such a committee, if one is shown without a search: the set with its last free candidates, or `found` with clones
-    /// in the place of others.
+    /// Such a committee, if one is shown without a search: the set with its last free candidates, or `found` with
+    /// clones in the place of others.
     pub(crate) fn shown(&self, found: CandSet, branch: &Branch) -> Option<CandSet>
         requires knows { KnowsBest S.value_of S.candidates self.now }
         requires branch { IsBranch self.now.m self.now.k branch.now }

@@ -1,7 +1,7 @@
 //! The winners by search, one by one.
 //!
-//! `new` finds the greatest value (module `best`). Then each winner is asked for (module `asking`), so no walk goes over
-//! committees that do not win. `entered` and `questions` count the steps; only tests read them.
+//! `new` finds the greatest value (module `best`). Then each winner is asked for (module `asking`), so no walk goes
+//! over committees that do not win. `entered` and `questions` count the steps; only tests read them.
 ghost use Rattle.std.specs.Prelude.{◌≡◌, ◌≤◌};
 ghost use Rattle.std.specs.Iterator.{item_count};
 ghost use Rattle.ballot_base.specs.Lists.{later_than};

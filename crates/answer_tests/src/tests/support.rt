@@ -13,8 +13,8 @@ use thiele_search::{SearchMemory, ThieleSearch};
 use tie_search::{SearchWinners, Searchable, Tied};
 use tie_walk::{Tally, Winners};
 
-/// Asserts something about two numbers, and shows both if it fails. One message serves many tests, since each message of
-/// its own takes seconds to prove.
+/// Asserts something about two numbers, and shows both if it fails. One message serves many tests, since each message
+/// of its own takes seconds to prove.
 pub(super) fn assert_of(rt: &impl Abort, is_right: bool, what: &str, first: u128, second: u128) {
     assert!(rt; is_right, "{what}: {first}, {second}");
 }
