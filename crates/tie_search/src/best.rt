@@ -4,8 +4,9 @@
 //! the greatest value is found by searches for more than the best known, until one finds nothing, and questions are
 //! answered by further searches.
 //!
-//! Before such a search two committees are tried: the set with its last free candidates, and the one that was found
-//! last with clones in the place of others. They are tested by their members and value, so any may be tried.
+//! Before such a search two committees are tried: the one that was found last with clones in the place of others, and
+//! the set with its first free candidates. They are tested by their members and value, so any may be tried. The first
+//! committees are tried since the first winner is looked for: if one of them wins, it serves all the way down.
 ghost use Rattle.std.specs.Prelude.{◌≡◌, ◌+◌, ◌≤◌, [], true, MatchOption, length, ⊤};
 ghost use Rattle.ballot_base.specs.Limits.{most_candidates};
 ghost use Rattle.ballot_base.specs.Lists.{IsIncreasing};
@@ -68,19 +69,19 @@ impl<S: Searchable> Best<S> {
         None
     }
 
-    /// Such a committee, if one is shown without a search: the set with its last free candidates, or `found` with
-    /// clones in the place of others.
+    /// Such a committee, if one is shown without a search: `found` with clones in the place of others, or the set with
+    /// its first free candidates.
     pub(crate) fn shown(&self, found: CandSet, branch: &Branch) -> Option<CandSet>
         requires knows { KnowsBest S.value_of S.candidates self.now }
         requires branch { IsBranch self.now.m self.now.k branch.now }
         ensures { MatchOption result ⊤ (IsWinnerOf (S.value_of self.now.search) self.now.m self.now.k branch.now) }
     {
-        let latest = branch.latest(self.k);
-        if self.wins(latest, branch) {
-            return Some(latest);
-        }
         let alike = branch.exchanged(self.search.clones(), found);
-        self.wins(alike, branch).then_some(alike)
+        if self.wins(alike, branch) {
+            return Some(alike);
+        }
+        let first = branch.first(self.k);
+        self.wins(first, branch).then_some(first)
     }
 
     /// Whether the committee has the greatest value and completes the branch.

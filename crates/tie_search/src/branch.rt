@@ -28,14 +28,14 @@ impl Branch {
         committee.includes(self.set) && self.set.union(self.free).includes(committee)
     }
 
-    /// The set and its last free candidates, as many as make a committee of k. Any answer is right.
-    pub(crate) fn latest(&self, k: u8) -> CandSet {
+    /// The set and its first free candidates, as many as make a committee of k. Any answer is right.
+    pub(crate) fn first(&self, k: u8) -> CandSet {
         self.set
-            .union(last_of(self.free, k.saturating_sub(self.set.len())))
+            .union(first_of(self.free, k.saturating_sub(self.set.len())))
     }
 
-    /// A committee like another one that completes the branch: clones take the place of members who may not stay.
-    /// Returns the other committee if there are too few of them. Any answer is right.
+    /// The first committee like another one that completes the branch: clones take the place of members. Returns the
+    /// other committee if there are too few of them. Any answer is right.
     pub(crate) fn exchanged(&self, clones: &Clones, committee: CandSet) -> CandSet {
         let mut made = self.set;
         let mut settled = CandSet::empty();
@@ -50,20 +50,20 @@ impl Branch {
             if seats < taken || open.len() < seats - taken {
                 return committee;
             }
-            made = made.union(last_of(open, seats - taken));
+            made = made.union(first_of(open, seats - taken));
             settled = settled.union(class);
         }
         made
     }
 }
 
-/// The last `count` members of the set, or all of them if there are fewer.
-fn last_of(set: CandSet, count: u8) -> CandSet {
-    let mut last = set;
-    for _passed in count..set.len() {
-        if let Some((_first, others)) = last.split_first() {
-            last = others;
+/// The first `count` members of the set, or all of them if there are fewer.
+fn first_of(set: CandSet, count: u8) -> CandSet {
+    let mut others = set;
+    for _taken in 0..count {
+        if let Some((_first, rest)) = others.split_first() {
+            others = rest;
         }
     }
-    last
+    set.minus(others)
 }
