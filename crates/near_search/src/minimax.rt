@@ -3,7 +3,7 @@ ghost use Rattle.std.specs.Prelude.{◌≡◌};
 ghost use Rattle.tie_walk.specs.Ceilings.{closeness_upto};
 ghost use Rattle.tie_walk.specs.Values.{closeness};
 
-use crate::near::{NearSearch, Shares, equal_shares};
+use crate::near::{NearSearch, Shares};
 use ballot_base::{CandSet, Clones, Profile};
 use std::alloc::{Allocator, Global};
 use std::marker::Model;
@@ -21,18 +21,16 @@ pub struct MinimaxSearch<'a, A: Allocator + Copy = Global> {
 }
 
 impl<'a, A: Allocator + Copy> Model for MinimaxSearch<'a, A> {
-    ghost use Rattle.std.specs.Prelude.{◌≡◌, ℕ, ◌≤◌, slice_index};
+    ghost use Rattle.std.specs.Prelude.{◌≡◌};
     ghost use Rattle.ballot_base.specs.Ballots.{Election, IsElection};
     ghost use Rattle.ballot_base.specs.Clones.{AreClones};
-    ghost use Rattle.near_search.specs.Steps.Near.{share_parts};
 
     ghost Value = { Election };
 
     ghost view = { λ t. t.profile.now };
 
     ghost invariant = { λ t. IsElection t.profile.now × (t.m ≡ t.profile.now.m)
-        × AreClones t.profile.now.m t.profile.now.rows t.clones
-        × ((n : ℕ) → slice_index t.shares n ≤ share_parts) };
+        × AreClones t.profile.now.m t.profile.now.rows t.clones };
 }
 
 impl<'a, A: Allocator + Copy> MinimaxSearch<'a, A> {
@@ -44,7 +42,7 @@ impl<'a, A: Allocator + Copy> MinimaxSearch<'a, A> {
             profile,
             m: profile.m(),
             clones: Clones::of(profile),
-            shares: equal_shares(),
+            shares: Shares::equal(),
         }
     }
 }

@@ -11,13 +11,13 @@
 //! whom the others fall short (`laws::weighted_needs`; Glover, Surrogate constraints, 1968). Any weights are right.
 ghost use Rattle.std.specs.Prelude.{◌≡◌, ℕ, ◌+◌, ◌-◌, ◌^◌, ◌≤◌, ◌&&◌, [], true, length};
 ghost use Rattle.std.specs.Prelude.{slice_index, MatchOption};
-ghost use Rattle.ballot_base.specs.Ballots.{IsElection};
 ghost use Rattle.ballot_base.specs.Clones.{AreClones};
 ghost use Rattle.ballot_base.specs.CandSet.{has_member};
 ghost use Rattle.ballot_base.specs.Limits.{most_candidates};
 ghost use Rattle.tie_walk.specs.Values.{closeness};
 ghost use Rattle.tie_search.specs.Completions.{IsNode, IsOutOfReach};
-ghost use Rattle.near_search.specs.Steps.Near.{AreBranches, AreWeighted, IsNearAnswer, need_weight, share_parts};
+ghost use Rattle.near_search.specs.Steps.Near.{AreBallots, AreBallots-prop, AreBranches, AreWeighted, IsNearAnswer};
+ghost use Rattle.near_search.specs.Steps.Near.{need_weight, share_parts};
 ghost use Rattle.tie_search.specs.Steps.Narrowed.{IsNarrowed};
 
 use crate::needs::still_needed;
@@ -35,19 +35,34 @@ const FEWEST_CHOICES: u8 = 3;
 /// The denominator of shares.
 const SHARE_PARTS: u64 = 1024;
 
-/// At each number of candidates, the share of one of them, in parts of `SHARE_PARTS`. A look-up is quicker than a
-/// division for each ballot.
-pub(crate) type Shares = [u64; PLACES];
+/// At each number of candidates, the share of one of them, in parts of `SHARE_PARTS`. Any shares would be right. A
+/// look-up is quicker than a division for each ballot.
+#[derive(Drop)]
+pub(crate) struct Shares {
+    of_one: [u64; PLACES],
+    ghost small: { (n : ℕ) → slice_index of_one n ≤ share_parts },
+}
 
-/// The share of one candidate among others. Any shares would be right.
-pub(crate) fn equal_shares() -> Shares
-    ensures { (n : ℕ) → slice_index result n ≤ share_parts }
-{
-    let mut shares = [SHARE_PARTS; PLACES];
-    for n in 1..PLACES {
-        shares[n] = SHARE_PARTS / n as u64;
+impl Shares {
+    /// Each candidate has an equal share.
+    pub(crate) fn equal() -> Shares {
+        let mut of_one = [SHARE_PARTS; PLACES];
+        for n in 1..PLACES {
+            of_one[n] = SHARE_PARTS / n as u64;
+        }
+        Shares { of_one }
     }
-    shares
+
+    /// The weight of a ballot that approves these free candidates and needs some of them: its need, times the cube of
+    /// the share of these candidates that it needs. Any weights are right; these refute a set early.
+    fn weight(&self, needed: u8, approved: CandSet) -> u64
+        ensures value { result ≡ need_weight (slice_index self.now.of_one (length approved)) needed }
+        ensures small { result ≤ 2 ^ 62 }
+    {
+        let needed = u64::from(needed);
+        let share = needed * self.of_one[usize::from(approved.len())];
+        needed * share * share * share
+    }
 }
 
 /// What all steps of a search share: the ballots, who are clones on them, the shares that weights are made of, and how
@@ -58,6 +73,9 @@ pub(crate) struct NearSearch<'a, A: Allocator + Copy> {
     pub(crate) clones: &'a Clones,
     pub(crate) shares: &'a Shares,
     pub(crate) most: u8,
+    ghost size: { profile.now.m ≤ most_candidates },
+    ghost ballots: { AreBallots profile.now.m profile.now.rows } by { AreBallots-prop profile.now.m profile.now.rows },
+    ghost classes: { AreClones profile.now.m profile.now.rows clones.now },
 }
 
 /// What all ballots still need, and what each free candidate can give. Each hit counts as much as the weight of the
@@ -67,14 +85,13 @@ struct WeightedNeeds {
     total: u128,
     // At the number of each free candidate, the total weight of the ballots that approve it.
     supports: [u128; PLACES],
+    ghost small: { (n : ℕ) → slice_index supports n ≤ 2 ^ 116 },
 }
 
 impl<A: Allocator + Copy> NearSearch<'_, A> {
     /// A committee of the set and of `left` of the free candidates that is near, if there is one.
     pub(crate) fn find_near(&self, set: CandSet, free: CandSet, left: u8) -> Option<CandSet>
-        requires clones { AreClones self.now.profile.now.m self.now.profile.now.rows self.now.clones.now }
-        requires shares { (n : ℕ) → slice_index self.now.shares.now n ≤ share_parts }
-        requires is_node { IsNode self.now.profile.now.m set free }
+        requires { IsNode self.now.profile.now.m set free }
         ensures { IsNearAnswer self.now.profile.now self.now.most set free left result }
     {
         let (choices, eligible) = self.choices(set, free, left)?;
@@ -142,11 +159,9 @@ impl<A: Allocator + Copy> NearSearch<'_, A> {
         left: u8,
         choices: CandSet,
     ) -> WeightedNeeds
-        requires few { left ≤ most_candidates }
-        requires shares { (n : ℕ) → slice_index self.now.shares.now n ≤ share_parts }
-        ensures weighted { AreWeighted self.now.profile.now.rows (length set + left) self.now.most set free result.total
+        requires { left ≤ most_candidates }
+        ensures { AreWeighted self.now.profile.now.rows (length set + left) self.now.most set free result.total
             result.supports }
-        ensures small { (n : ℕ) → slice_index result.supports n ≤ 2 ^ 116 }
     {
         let mut total = 0;
         let mut supports = [0; PLACES];
@@ -158,7 +173,7 @@ impl<A: Allocator + Copy> NearSearch<'_, A> {
             let needed = still_needed(ballot, set, k, self.most);
             if needed > 0 {
                 let approved = ballot.common(free);
-                let weight = u128::from(weight_of(self.shares, needed, approved.len()));
+                let weight = u128::from(self.shares.weight(needed, approved));
                 total += weight * u128::from(needed);
                 add_to_members(&mut supports, approved, weight);
             }
@@ -175,11 +190,9 @@ impl<A: Allocator + Copy> NearSearch<'_, A> {
         free: CandSet,
         left: u8,
     ) -> Option<CandSet>
-        requires election { IsElection self.now.profile.now }
         requires is_node { IsNode self.now.profile.now.m set free }
         requires weighted { AreWeighted self.now.profile.now.rows (length set + left) self.now.most set free
             needs.now.total needs.now.supports }
-        requires small { (n : ℕ) → slice_index needs.now.supports n ≤ 2 ^ 116 }
         ensures { MatchOption result
             (IsOutOfReach (closeness self.now.profile.now.m self.now.profile.now.rows) self.now.profile.now.m set free
             left (self.now.profile.now.m - self.now.most))
@@ -203,19 +216,6 @@ impl<A: Allocator + Copy> NearSearch<'_, A> {
 /// Whether weighing needs pays, with this many seats left and these candidates to try.
 fn is_worth_weighing(left: u8, choices: CandSet) -> bool {
     left >= FEWEST_SEATS && choices.len() >= FEWEST_CHOICES
-}
-
-/// The weight of a ballot that approves this many free candidates and needs some of them: its need, times the cube of
-/// the share of these candidates that it needs. Any weights are right; these refute a set early.
-fn weight_of(shares: &Shares, needed: u8, approved: u8) -> u64
-    requires approved { approved ≤ most_candidates }
-    requires shares { (n : ℕ) → slice_index shares.now n ≤ share_parts }
-    ensures value { result ≡ need_weight (slice_index shares.now approved) needed }
-    ensures small { result ≤ 2 ^ 62 }
-{
-    let needed = u64::from(needed);
-    let share = needed * shares[usize::from(approved)];
-    needed * share * share * share
 }
 
 /// A member with the highest worth. Returns `None` for the empty set.

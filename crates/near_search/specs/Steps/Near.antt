@@ -1,6 +1,10 @@
 -- Steps of the search for a committee that is near each ballot.
-use Rattle.std.specs.Prelude.{◌≡◌, ℕ, ◌-◌, ◌*◌, ◌≤◌, true, List, length, slice_index, Option, MatchOption}
-use Rattle.ballot_base.specs.Ballots.{Row, Election, IsElection}
+use Rattle.std.specs.Prelude.{◌≡◌, ℕ, ◌-◌, ◌*◌, ◌≤◌, true, List, [], ◌∷◌, length, slice_index, Option, MatchOption}
+use Rattle.std.specs.Coded.{Unit-prop, ×_prop}
+use Rattle.std.specs.List.{AllByRecursion}
+use Rattle.ballot_base.specs.Ballots.{Row, Election}
+use Rattle.ballot_base.specs.Lists.{IsIncreasing}
+use Rattle.ballot_base.specs.Steps.Lists.{IsIncreasing-prop}
 use Rattle.ballot_base.specs.CandSet.{has_member}
 use Rattle.tie_walk.specs.Values.{closeness, greatest_distance}
 use Rattle.tie_search.specs.Completions.{IsOutOfReach, IsReaching}
@@ -23,7 +27,6 @@ IsNearAnswer e most set free left answer =
 -- what is known before a set grows: who may be tried, and who can still join
 pub record AreBranches (e : Election) (most : ℕ) (set free : List ℕ) (left : ℕ) (choices eligible : List ℕ) : Type 0
   where
-    pub election : IsElection e
     pub enough : left ≤ length free
     pub whole : left ≡ 0 → greatest_distance e.rows set ≤ most
     pub narrowed : IsNarrowed (closeness e.m e.rows) e.m set free left (e.m - most) eligible
@@ -36,6 +39,14 @@ pub record AreWeighted (rows : List Row) (k most : ℕ) (set free : List ℕ) (t
     pub weight : Row → ℕ
     pub total_is : total ≡ weighted_needs weight k most set rows
     pub supports_are : (n : ℕ) → has_member free n ≡ true → slice_index supports n ≡ weighted_support weight rows n
+
+-- each ballot is a set of the candidates 1 to m
+abbrev pub AreBallots : ℕ → List Row → Type 0
+AreBallots m rows = AllByRecursion (λ row. IsIncreasing 1 m row.0) rows
+
+pub AreBallots-prop : (m : ℕ) (rows : List Row) → IsProp (AreBallots m rows)
+AreBallots-prop m [] = Unit-prop
+AreBallots-prop m (row ∷ rows) = ×_prop (IsIncreasing-prop 1 m row.0) (AreBallots-prop m rows)
 
 -- the denominator of shares
 abbrev pub share_parts : ℕ

@@ -33,19 +33,13 @@ tried m most rows set free rest clones left next ballots narrowed some here clon
 pub returns-then-left-eq0 : goal.returns-then-left-eq0
 returns-then-left-eq0 g t c =
     let e = c.args.self.now.profile.now in
-    set-reaches (closeness e.m e.rows) e.m c.args.set c.args.left (e.m - c.args.self.now.most) c.args.free c.if-left-eq0.true c.requires.is_node
+    set-reaches (closeness e.m e.rows) e.m c.args.set c.args.left (e.m - c.args.self.now.most) c.args.free c.if-left-eq0.true c.requires
     (near-value e.m e.rows c.args.self.now.most c.args.set (c.in_ok-choices.ensures.whole c.if-left-eq0.true))
 
 pub weighted_needs-needs-requires : goal.weighted_needs-needs-requires
 weighted_needs-needs-requires g t c =
     let m = c.args.self.now.profile.now.m in
-    record {
-      few = omega (arith, c.in_ok-choices.ensures.enough, length-increasing 1 m c.args.free c.requires.is_node.free_within, c.in_ok-choices.ensures.election.most);
-      shares = c.requires.shares;
-    }
-
-pub narrowed-requires-clause-election : goal.narrowed-requires-clause-election
-narrowed-requires-clause-election g t c = c.in_ok-choices.ensures.election
+    omega (arith, c.in_ok-choices.ensures.enough, length-increasing 1 m c.args.free c.requires.free_within, c.args.self.now.size)
 
 pub narrowed-requires-clause-is_node : goal.narrowed-requires-clause-is_node
 narrowed-requires-clause-is_node g t c = c.in_ok-choices.ensures.narrowed.is_node
@@ -63,7 +57,7 @@ loop-next-init g t c =
     record {
       narrowed = narrowed-more V e.m c.args.set c.args.free c.in_ok-choices.eligible c.args.left (e.m - c.args.self.now.most) c.in_ok-choices.ensures.narrowed c.in_ok-rest.rest c.in_ok-rest.ensures;
       weighted = weighted-fewer e.rows (length c.args.set + c.args.left) c.args.self.now.most c.args.set c.in_ok-choices.eligible c.in_ok-rest.rest c.weighted_needs-needs.result.total
-          c.weighted_needs-needs.result.supports c.weighted_needs-needs.ensures.weighted c.in_ok-rest.ensures.among;
+          c.weighted_needs-needs.result.supports c.weighted_needs-needs.ensures c.in_ok-rest.ensures.among;
     }
 
 pub with-requires-clause-low : goal.with-requires-clause-low
@@ -75,7 +69,7 @@ pub with-requires-clause-high : goal.with-requires-clause-high
 with-requires-clause-high g t c =
     omega (
       arith,
-      c.in_ok-choices.ensures.election.most,
+      c.args.self.now.size,
       member-high 1 c.args.self.now.profile.now.m c.loop-next.rest c.in-Some.next c.loop-next.invariant.narrowed.is_node.free_within
           (choice-left c.in_ok-choices.choices c.loop-next.rest c.common.result c.in-Some.next c.common.ensures c.in-Some.ensures.0),
     )
@@ -86,7 +80,7 @@ find_near-found-requires g t c κs within =
     let is_node : IsNode c.args.self.now.profile.now.m (with_member c.args.set next) (without_member c.loop-next.rest next) =
     node-with c.args.self.now.profile.now.m c.args.set c.loop-next.rest next c.loop-next.invariant.narrowed.is_node
     (choice-left c.in_ok-choices.choices c.loop-next.rest c.common.result next c.common.ensures c.in-Some.ensures.0) in
-    (omega (arith, c.if-left-eq0.false, c.decreases), (within, (c.requires.clones, (c.requires.shares, rw (c.with.ensures, c.without-others.ensures) is_node))))
+    (omega (arith, c.if-left-eq0.false, c.decreases), (within, rw (c.with.ensures, c.without-others.ensures) is_node))
 
 pub returns-in-Some-found : goal.returns-in-Some-found
 returns-in-Some-found g t c =
@@ -95,20 +89,17 @@ returns-in-Some-found g t c =
     let here = choice-left c.in_ok-choices.choices c.loop-next.rest c.common.result next c.common.ensures c.in-Some.ensures.0 in
     let narrowed = c.loop-next.invariant.narrowed in
     found-below (closeness e.m e.rows) e.m c.args.set c.args.left (e.m - c.args.self.now.most) c.args.free (without_member c.loop-next.rest next) c.in-Some-found.committee next
-    (omega (arith, c.if-left-eq0.false)) c.requires.is_node (narrowed.among next here) (λ n is. narrowed.among n (without-is c.loop-next.rest next n is))
+    (omega (arith, c.if-left-eq0.false)) c.requires (narrowed.among next here) (λ n is. narrowed.among n (without-is c.loop-next.rest next n is))
     (rw (c.with.ensures, c.without-others.ensures) at c.in-Some-found.ensures)
 
 pub class-requires : goal.class-requires
 class-requires g t c =
     omega (
       arith,
-      c.in_ok-choices.ensures.election.most,
+      c.args.self.now.size,
       member-high 1 c.args.self.now.profile.now.m c.loop-next.rest c.in-Some.next c.loop-next.invariant.narrowed.is_node.free_within
           (choice-left c.in_ok-choices.choices c.loop-next.rest c.common.result c.in-Some.next c.common.ensures c.in-Some.ensures.0),
     )
-
-pub narrowed-requires-in-Some-clause-election : goal.narrowed-requires-in-Some-clause-election
-narrowed-requires-in-Some-clause-election g t c = c.in_ok-choices.ensures.election
 
 pub narrowed-requires-in-Some-clause-is_node : goal.narrowed-requires-in-Some-clause-is_node
 narrowed-requires-in-Some-clause-is_node g t c =
@@ -138,8 +129,8 @@ returns-in_err-rest-2 g t c =
     let none : IsOutOfReach V e.m c.args.set untried c.args.left (e.m - c.args.self.now.most) = rw (c.minus-untried.ensures, c.without-others.ensures) at c.in_err-rest-2.ensures in
     rw c.from_residual-in_err-rest-2.ensures
     (narrowed-out V e.m c.args.set c.args.free untried c.args.left (e.m - c.args.self.now.most)
-    (tried e.m c.args.self.now.most e.rows c.args.set c.args.free rest c.class.result c.args.left next c.in_ok-choices.ensures.election.ballots c.loop-next.invariant.narrowed
-    (omega (arith, c.if-left-eq0.false)) here (λ low high. c.class.ensures ∙ c.requires.clones next low high)
+    (tried e.m c.args.self.now.most e.rows c.args.set c.args.free rest c.class.result c.args.left next c.args.self.now.ballots c.loop-next.invariant.narrowed
+    (omega (arith, c.if-left-eq0.false)) here (λ low high. c.class.ensures ∙ c.args.self.now.classes next low high)
     (rw (c.with.ensures, c.without-others.ensures) at c.in_default-found.ensures))
     none)
 
@@ -168,8 +159,8 @@ loop-next-preserved g t c =
     rw (c.minus-untried.ensures, c.without-others.ensures) at c.in_ok-rest-2.ensures in
     record {
       narrowed = narrowed-more V e.m c.args.set c.args.free untried c.args.left (e.m - c.args.self.now.most)
-          (tried e.m c.args.self.now.most e.rows c.args.set c.args.free rest c.class.result c.args.left next c.in_ok-choices.ensures.election.ballots c.loop-next.invariant.narrowed
-          (omega (arith, c.if-left-eq0.false)) here (λ low high. c.class.ensures ∙ c.requires.clones next low high)
+          (tried e.m c.args.self.now.most e.rows c.args.set c.args.free rest c.class.result c.args.left next c.args.self.now.ballots c.loop-next.invariant.narrowed
+          (omega (arith, c.if-left-eq0.false)) here (λ low high. c.class.ensures ∙ c.args.self.now.classes next low high)
           (rw (c.with.ensures, c.without-others.ensures) at c.in_default-found.ensures))
           c.in_ok-rest-2.rest now;
       weighted = weighted-fewer e.rows (length c.args.set + c.args.left) c.args.self.now.most c.args.set rest c.in_ok-rest-2.rest c.weighted_needs-needs.result.total
@@ -180,5 +171,5 @@ loop-next-preserved g t c =
 pub returns : goal.returns
 returns g t c =
     let e = c.args.self.now.profile.now in
-    all-tried (closeness e.m e.rows) e.m c.args.set c.args.free c.args.left (e.m - c.args.self.now.most) c.in_ok-choices.choices c.loop-next.rest c.requires.is_node
+    all-tried (closeness e.m e.rows) e.m c.args.set c.args.free c.args.left (e.m - c.args.self.now.most) c.in_ok-choices.choices c.loop-next.rest c.requires
     (c.in_ok-choices.ensures.choices_are (omega (arith, c.if-left-eq0.false))) c.loop-next.invariant.narrowed.kept (sym c.common.ensures ∙ c.in_default.ensures)

@@ -119,7 +119,6 @@ returns g c =
     let inv = c.loop-ballot.invariant in
     let all = all_passed e.rows (c.into_iter-ballot-iterator.ensures.into_iter_gives ∙ c.ballots-ballot-items.ensures.rows) c.loop-ballot.yielded c.loop-ballot.yielded_by c.in-None.ensures.steps.0 in
     record {
-      election = c.ballots-ballot-items.ensures.valid;
       enough = omega (arith, c.len.ensures.count, c.if-len-left.false);
       whole = λ none. subst (λ rows. greatest_distance rows c.args.set ≤ c.args.self.now.most) all (inv.whole none);
       narrowed = inv.narrowed;

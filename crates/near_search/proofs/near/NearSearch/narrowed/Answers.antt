@@ -16,7 +16,7 @@ returns-then-greatest-needs g c =
     let supports = c.args.needs.now.supports in
     let greatest : c.from.result * t + c.excess.result ≡ c.args.left * t + sum_by (λ n. get_or supports n 0 - t) c.args.free =
     omega (arith, ap (λ n. n * t) c.from.ensures, c.excess.ensures.sum) in
-    weighted-none e.m c.args.self.now.most e.rows c.args.set c.args.free c.args.left c.args.needs.now.total supports c.requires.election.ballots c.requires.is_node c.requires.weighted
+    weighted-none e.m c.args.self.now.most e.rows c.args.set c.args.free c.args.left c.args.needs.now.total supports c.args.self.now.ballots c.requires.is_node c.requires.weighted
     t (c.from.result * t + c.excess.result) greatest c.if-greatest-needs.true
 
 pub returns : goal.returns
@@ -27,6 +27,6 @@ returns g c =
     let total = c.args.needs.now.total in
     let greatest : c.from.result * t + c.excess.result ≡ c.args.left * t + sum_by (λ n. get_or supports n 0 - t) c.args.free =
     omega (arith, ap (λ n. n * t) c.from.ensures, c.excess.ensures.sum) in
-    weighted-narrowed e.m c.args.self.now.most e.rows c.args.set c.args.free c.args.left total supports c.requires.election.ballots c.requires.is_node c.requires.weighted
+    weighted-narrowed e.m c.args.self.now.most e.rows c.args.set c.args.free c.args.left total supports c.args.self.now.ballots c.requires.is_node c.requires.weighted
     t (c.from.result * t + c.excess.result) greatest c.if-greatest-needs.false c.at_least.result
     c.at_least.ensures.within c.at_least.ensures.among (rw c.saturating_sub.ensures at c.at_least.ensures.kept)

@@ -13,8 +13,8 @@ use Rattle.near_search.proofs.WeightedNeeds.{needs-more, row_weight, row_weight-
 use Rattle.tie_search.proofs.SearchLemmas.{part-most}
 use Rattle.near_search.proofs.near.NearSearch.weighted_needs.Goals as goal
 
-pub returns-then-not-is_worth_weighing-clause-weighted : goal.returns-then-not-is_worth_weighing-clause-weighted
-returns-then-not-is_worth_weighing-clause-weighted g c =
+pub returns-then-not-is_worth_weighing : goal.returns-then-not-is_worth_weighing
+returns-then-not-is_worth_weighing g c =
     let e = c.args.self.now.profile.now in
     let k = length c.args.set + c.args.left in
     record {
@@ -23,9 +23,10 @@ returns-then-not-is_worth_weighing-clause-weighted g c =
       supports_are = λ n is. no_total 65 n ∙ sym (weightless-support (supporters e.rows n));
     }
 
-pub returns-then-not-is_worth_weighing-clause-small : goal.returns-then-not-is_worth_weighing-clause-small
-returns-then-not-is_worth_weighing-clause-small g c =
-    λ n. let e : get_or {A = ℕ} (replicate 65 0) n 0 ≡ 0 = no_total 65 n in omega (arith, e)
+pub invariant_of-result : goal.invariant_of-result
+invariant_of-result g c = record {
+  small = λ n. let e : get_or {A = ℕ} (replicate 65 0) n 0 ≡ 0 = no_total 65 n in omega (arith, e);
+}
 
 pub loop-ballot-init : goal.loop-ballot-init
 loop-ballot-init g c = record {
@@ -46,13 +47,13 @@ pub overflow_add-total : goal.overflow_add-total
 overflow_add-total g c =
     let inv = c.loop-ballot.invariant in
     let needed : c.from.result ≤ 255 = omega (arith, c.from.ensures) in
-    let most = product-most c.from-weight.result c.from.result (omega (arith, c.from-weight.ensures, c.weight_of.ensures.small)) needed in
+    let most = product-most c.from-weight.result c.from.result (omega (arith, c.from-weight.ensures, c.weight.ensures.small)) needed in
     omega (arith, most, inv.small_total, inv.turns)
 
 pub add_to_members-requires : goal.add_to_members-requires
 add_to_members-requires g c =
     let inv = c.loop-ballot.invariant in
-    record { fits = λ n. omega (arith, inv.small n, inv.turns, c.from-weight.ensures, c.weight_of.ensures.small) }
+    record { fits = λ n. omega (arith, inv.small n, inv.turns, c.from-weight.ensures, c.weight.ensures.small) }
 
 pub loop-ballot-preserved-then-needed-gt0 : goal.loop-ballot-preserved-then-needed-gt0
 loop-ballot-preserved-then-needed-gt0 g c =
@@ -66,20 +67,19 @@ loop-ballot-preserved-then-needed-gt0 g c =
     let i = length c.loop-ballot.yielded in
     let next = sym (length_push c.loop-ballot.yielded row) in
     let inv = c.loop-ballot.invariant in
-    let W : Row → ℕ = row_weight c.args.self.now.shares.now k most set free in
+    let W : Row → ℕ = row_weight c.args.self.now.shares.now.of_one k most set free in
     let need = hits_needed (length row.0) k most - hits row.0 set in
     let needed : c.still_needed-needed.result ≡ need =
     c.still_needed-needed.ensures ∙ ap (λ n. hits_needed (length row.0) (n + c.args.left) most - hits row.0 set) c.len.ensures.count in
-    let approved : c.len-then-needed-gt0.result ≡ length (common_members row.0 free) = c.len-then-needed-gt0.ensures.count ∙ ap length c.common-approved.ensures in
     let weight : c.from-weight.result ≡ W row =
-    c.from-weight.ensures ∙ c.weight_of.ensures.value
-    ∙ ap (λ n. need_weight (get_or c.args.self.now.shares.now c.len-then-needed-gt0.result 0) n) needed
-    ∙ ap (λ n. need_weight (get_or c.args.self.now.shares.now n 0) need) approved
-    ∙ sym (row_weight-is c.args.self.now.shares.now k most set free row) in
+    c.from-weight.ensures ∙ c.weight.ensures.value
+    ∙ ap (λ n. need_weight (get_or c.args.self.now.shares.now.of_one (length c.common-approved.result) 0) n) needed
+    ∙ ap (λ l. need_weight (get_or c.args.self.now.shares.now.of_one (length l) 0) need) c.common-approved.ensures
+    ∙ sym (row_weight-is c.args.self.now.shares.now.of_one k most set free row) in
     let product : c.from-weight.result * c.from.result ≡ W row * need =
     ap (λ n. n * c.from.result) weight ∙ ap (λ n. W row * n) (c.from.ensures ∙ needed) in
     let few : c.from.result ≤ 255 = omega (arith, c.from.ensures) in
-    let slight : c.from-weight.result ≤ 2 ^ 62 = omega (arith, c.from-weight.ensures, c.weight_of.ensures.small) in
+    let slight : c.from-weight.result ≤ 2 ^ 62 = omega (arith, c.from-weight.ensures, c.weight.ensures.small) in
     let added = product-most c.from-weight.result c.from.result slight few in
     let turn = turns-few e i row c.ballots-ballot-items.ensures.valid at in
     record {
@@ -109,14 +109,14 @@ loop-ballot-preserved g c =
     let i = length c.loop-ballot.yielded in
     let next = sym (length_push c.loop-ballot.yielded row) in
     let inv = c.loop-ballot.invariant in
-    let W : Row → ℕ = row_weight c.args.self.now.shares.now k most set free in
+    let W : Row → ℕ = row_weight c.args.self.now.shares.now.of_one k most set free in
     let need = hits_needed (length row.0) k most - hits row.0 set in
     let needed : c.still_needed-needed.result ≡ need =
     c.still_needed-needed.ensures ∙ ap (λ n. hits_needed (length row.0) (n + c.args.left) most - hits row.0 set) c.len.ensures.count in
     let zero_need : need ≡ 0 = omega (arith, needed, c.if-needed-gt0.false) in
     let weight : W row ≡ 0 =
-    row_weight-is c.args.self.now.shares.now k most set free row ∙ ap (λ n. need_weight (get_or c.args.self.now.shares.now (length (common_members row.0 free)) 0) n) zero_need
-    ∙ weight-none (get_or c.args.self.now.shares.now (length (common_members row.0 free)) 0) in
+    row_weight-is c.args.self.now.shares.now.of_one k most set free row ∙ ap (λ n. need_weight (get_or c.args.self.now.shares.now.of_one (length (common_members row.0 free)) 0) n) zero_need
+    ∙ weight-none (get_or c.args.self.now.shares.now.of_one (length (common_members row.0 free)) 0) in
     let product : W row * need ≡ 0 = ap (λ n. n * need) weight ∙ none need in
     let turn = turns-few e i row c.ballots-ballot-items.ensures.valid at in
     record {
@@ -132,11 +132,11 @@ loop-ballot-preserved g c =
     none : (n : ℕ) → 0 * n ≡ 0
     none n = omega arith
 
-pub returns-clause-weighted : goal.returns-clause-weighted
-returns-clause-weighted g c =
+pub returns : goal.returns
+returns g c =
     let e = c.args.self.now.profile.now in
     let k = length c.args.set + c.args.left in
-    let W : Row → ℕ = row_weight c.args.self.now.shares.now k c.args.self.now.most c.args.set c.args.free in
+    let W : Row → ℕ = row_weight c.args.self.now.shares.now.of_one k c.args.self.now.most c.args.set c.args.free in
     let inv = c.loop-ballot.invariant in
     let all = all_passed e.rows (c.into_iter-ballot-iterator.ensures.into_iter_gives ∙ c.ballots-ballot-items.ensures.rows) c.loop-ballot.yielded c.loop-ballot.yielded_by c.in-None.ensures.steps.0 in
     record {
@@ -145,5 +145,5 @@ returns-clause-weighted g c =
       supports_are = λ n is. inv.supported n is ∙ ap (λ rows. weighted_support W rows n) all;
     }
 
-pub returns-clause-small : goal.returns-clause-small
-returns-clause-small g c = let inv = c.loop-ballot.invariant in λ n. omega (arith, inv.small n, inv.turns)
+pub invariant_of-result-2 : goal.invariant_of-result-2
+invariant_of-result-2 g c = let inv = c.loop-ballot.invariant in record { small = λ n. omega (arith, inv.small n, inv.turns) }

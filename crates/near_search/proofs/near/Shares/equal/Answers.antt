@@ -2,7 +2,7 @@ use Rattle.std.proofs.Common.{ℕ, ◌≤◌, ◌/◌, ◌<◌, List, refl, ap, 
 use Rattle.std.proofs.Math.Nat.{div-le_self}
 use Rattle.std.proofs.lemmas.Bool.{cases_eq}
 use Rattle.tie_search.proofs.SearchLemmas.{replicate-most}
-use Rattle.near_search.proofs.near.equal_shares.Goals as goal
+use Rattle.near_search.proofs.near.Shares.equal.Goals as goal
 
 one-more : (shares : List ℕ) (j n most : ℕ) → j < length shares → ((i : ℕ) → get_or shares i 0 ≤ most) → n ≤ most → (i : ℕ) → get_or (set shares j n) i 0 ≤ most
 one-more shares j n most inside few low i = elim (cases_eq i j) [
@@ -19,9 +19,6 @@ loop-n-init c = record {
 pub loop-n-preserved : goal.loop-n-preserved
 loop-n-preserved c = record {
   long = search rules;
-  small = one-more c.loop-n.shares c.loop-n.n (1024 / c.loop-n.n) 1024 (omega (arith, c.loop-n-test.true, c.loop-n.invariant.long)) c.loop-n.invariant.small
+  small = one-more c.loop-n.of_one c.loop-n.n (1024 / c.loop-n.n) 1024 (omega (arith, c.loop-n-test.true, c.loop-n.invariant.long)) c.loop-n.invariant.small
       (let less = div-le_self 1024 c.loop-n.n in omega (arith, less));
 }
-
-pub returns : goal.returns
-returns c = c.loop-n.invariant.small
