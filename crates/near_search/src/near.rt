@@ -9,16 +9,14 @@
 //! While several seats are left and several candidates are to be tried, all needs are added up as well, each with a
 //! weight. A set is given up if the sum passes what the best free candidates can give, and a candidate leaves without
 //! whom the others fall short (`laws::weighted_needs`; Glover, Surrogate constraints, 1968). Any weights are right.
-ghost use Rattle.std.specs.Prelude.{◌≡◌, ℕ, ◌+◌, ◌-◌, ◌^◌, ◌≤◌, ◌&&◌, [], true, length};
+ghost use Rattle.std.specs.Prelude.{◌≡◌, ℕ, ◌+◌, ◌^◌, ◌≤◌, ◌&&◌, [], true, length};
 ghost use Rattle.std.specs.Prelude.{slice_index, MatchOption};
 ghost use Rattle.ballot_base.specs.Clones.{AreClones};
 ghost use Rattle.ballot_base.specs.CandSet.{has_member};
 ghost use Rattle.ballot_base.specs.Limits.{most_candidates};
-ghost use Rattle.tie_walk.specs.Values.{closeness};
-ghost use Rattle.tie_search.specs.Completions.{IsNode, IsOutOfReach};
-ghost use Rattle.near_search.specs.Steps.Near.{AreBallots, AreBallots-prop, AreBranches, AreWeighted, IsNearAnswer};
-ghost use Rattle.near_search.specs.Steps.Near.{need_weight, share_parts};
-ghost use Rattle.tie_search.specs.Steps.Narrowed.{IsNarrowed};
+ghost use Rattle.tie_search.specs.Completions.{IsNode};
+ghost use Rattle.near_search.specs.Steps.Near.{AreBallots, AreBallots-prop, AreBranches, AreEligible, AreWeighted};
+ghost use Rattle.near_search.specs.Steps.Near.{IsHopeless, IsNearAnswer, need_weight, share_parts};
 
 use crate::needs::still_needed;
 use ballot_base::{CandSet, Clones, PLACES, Profile};
@@ -117,9 +115,7 @@ impl<A: Allocator + Copy> NearSearch<'_, A> {
     /// Returns `None` if some ballot needs more hits than it can have.
     fn choices(&self, set: CandSet, free: CandSet, left: u8) -> Option<(CandSet, CandSet)>
         requires { IsNode self.now.profile.now.m set free }
-        ensures { MatchOption result
-            (IsOutOfReach (closeness self.now.profile.now.m self.now.profile.now.rows) self.now.profile.now.m set free
-            left (self.now.profile.now.m - self.now.most))
+        ensures { MatchOption result (IsHopeless self.now.profile.now self.now.most set free left)
             (λ both. AreBranches self.now.profile.now self.now.most set free left both.0 both.1) }
     {
         if free.len() < left {
@@ -193,11 +189,8 @@ impl<A: Allocator + Copy> NearSearch<'_, A> {
         requires is_node { IsNode self.now.profile.now.m set free }
         requires weighted { AreWeighted self.now.profile.now.rows (length set + left) self.now.most set free
             needs.now.total needs.now.supports }
-        ensures { MatchOption result
-            (IsOutOfReach (closeness self.now.profile.now.m self.now.profile.now.rows) self.now.profile.now.m set free
-            left (self.now.profile.now.m - self.now.most))
-            (IsNarrowed (closeness self.now.profile.now.m self.now.profile.now.rows) self.now.profile.now.m set free
-            left (self.now.profile.now.m - self.now.most)) }
+        ensures { MatchOption result (IsHopeless self.now.profile.now self.now.most set free left)
+            (AreEligible self.now.profile.now self.now.most set free left) }
     {
         if needs.total == 0 {
             return Some(free);

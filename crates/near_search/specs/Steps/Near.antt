@@ -18,18 +18,26 @@ pub record AreChoices (value : List ℕ → ℕ) (m : ℕ) (set free : List ℕ)
     pub one : (committee : List ℕ) → IsReaching value m set free left least committee
         → (n : ℕ) × (has_member choices n ≡ true) × (has_member committee n ≡ true)
 
+-- no committee that completes the set is near each ballot
+abbrev pub IsHopeless : Election → ℕ → List ℕ → List ℕ → ℕ → Type 0
+IsHopeless e most set free left = IsOutOfReach (closeness e.m e.rows) e.m set free left (e.m - most)
+
 -- a search's answer: a committee that completes the set and is near each ballot, or nothing if there is none
 abbrev pub IsNearAnswer : Election → ℕ → List ℕ → List ℕ → ℕ → Option (List ℕ) → Type 0
 IsNearAnswer e most set free left answer =
-    MatchOption answer (IsOutOfReach (closeness e.m e.rows) e.m set free left (e.m - most))
+    MatchOption answer (IsHopeless e most set free left)
     (IsReaching (closeness e.m e.rows) e.m set free left (e.m - most))
+
+-- free candidates to whom all belong who are added by a committee that completes the set and is near each ballot
+abbrev pub AreEligible : Election → ℕ → List ℕ → List ℕ → ℕ → List ℕ → Type 0
+AreEligible e most set free left = IsNarrowed (closeness e.m e.rows) e.m set free left (e.m - most)
 
 -- what is known before a set grows: who may be tried, and who can still join
 pub record AreBranches (e : Election) (most : ℕ) (set free : List ℕ) (left : ℕ) (choices eligible : List ℕ) : Type 0
   where
     pub enough : left ≤ length free
     pub whole : left ≡ 0 → greatest_distance e.rows set ≤ most
-    pub narrowed : IsNarrowed (closeness e.m e.rows) e.m set free left (e.m - most) eligible
+    pub narrowed : AreEligible e most set free left eligible
     pub choices_are : 1 ≤ left → AreChoices (closeness e.m e.rows) e.m set free left (e.m - most) choices
 
 -- for some weights of the rows, `total` is their weighted need, and `supports` has the weighted support of each free

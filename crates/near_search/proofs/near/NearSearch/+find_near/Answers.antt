@@ -8,6 +8,7 @@ use Rattle.ballot_base.proofs.Committees.{length-increasing}
 use Rattle.tie_walk.specs.Values.{closeness}
 use Rattle.tie_search.specs.Completions.{IsNode, IsOutOfReach}
 use Rattle.tie_search.specs.Steps.Narrowed.{IsNarrowed}
+use Rattle.near_search.specs.Steps.Near.{AreEligible, IsHopeless}
 use Rattle.tie_search.proofs.CompletionLemmas.{member-low, member-high, node-with, node-without, without-is, without-shorter}
 use Rattle.tie_search.proofs.SearchLemmas.{found-below, set-reaches, length-among}
 use Rattle.tie_search.proofs.CloneLemmas.{class-are, minus-is, minus-most, node-minus}
@@ -126,7 +127,7 @@ returns-in_err-rest-2 g t c =
     let next = c.in-Some.next in
     let untried = other_members (without_member rest next) c.class.result in
     let here = choice-left c.in_ok-choices.choices rest c.common.result next c.common.ensures c.in-Some.ensures.0 in
-    let none : IsOutOfReach V e.m c.args.set untried c.args.left (e.m - c.args.self.now.most) = rw (c.minus-untried.ensures, c.without-others.ensures) at c.in_err-rest-2.ensures in
+    let none : IsHopeless e c.args.self.now.most c.args.set untried c.args.left = rw (c.minus-untried.ensures, c.without-others.ensures) at c.in_err-rest-2.ensures in
     rw c.from_residual-in_err-rest-2.ensures
     (narrowed-out V e.m c.args.set c.args.free untried c.args.left (e.m - c.args.self.now.most)
     (tried e.m c.args.self.now.most e.rows c.args.set c.args.free rest c.class.result c.args.left next c.args.self.now.ballots c.loop-next.invariant.narrowed
@@ -140,7 +141,7 @@ loop-next-smaller g t c =
     let rest = c.loop-next.rest in
     let next = c.in-Some.next in
     let is_node = node-minus m c.args.set (without_member rest next) c.class.result (node-without m c.args.set rest next c.loop-next.invariant.narrowed.is_node) in
-    let now : IsNarrowed (closeness m c.args.self.now.profile.now.rows) m c.args.set (other_members (without_member rest next) c.class.result) c.args.left (m - c.args.self.now.most) c.in_ok-rest-2.rest =
+    let now : AreEligible c.args.self.now.profile.now c.args.self.now.most c.args.set (other_members (without_member rest next) c.class.result) c.args.left c.in_ok-rest-2.rest =
     rw (c.minus-untried.ensures, c.without-others.ensures) at c.in_ok-rest-2.ensures in
     let short = length-among m c.in_ok-rest-2.rest (other_members (without_member rest next) c.class.result) now.is_node.free_within is_node.free_within now.among in
     let fewer = minus-most (without_member rest next) c.class.result in
@@ -155,7 +156,7 @@ loop-next-preserved g t c =
     let next = c.in-Some.next in
     let untried = other_members (without_member rest next) c.class.result in
     let here = choice-left c.in_ok-choices.choices rest c.common.result next c.common.ensures c.in-Some.ensures.0 in
-    let now : IsNarrowed V e.m c.args.set untried c.args.left (e.m - c.args.self.now.most) c.in_ok-rest-2.rest =
+    let now : AreEligible e c.args.self.now.most c.args.set untried c.args.left c.in_ok-rest-2.rest =
     rw (c.minus-untried.ensures, c.without-others.ensures) at c.in_ok-rest-2.ensures in
     record {
       narrowed = narrowed-more V e.m c.args.set c.args.free untried c.args.left (e.m - c.args.self.now.most)

@@ -1,7 +1,5 @@
-use Rattle.std.proofs.Common.{◌+◌, ◌-◌, length}
-use Rattle.tie_walk.specs.Values.{closeness}
-use Rattle.near_search.specs.Steps.Near.{AreWeighted}
-use Rattle.tie_search.specs.Steps.Narrowed.{IsNarrowed}
+use Rattle.std.proofs.Common.{◌+◌, length}
+use Rattle.near_search.specs.Steps.Near.{AreEligible, AreWeighted}
 use Rattle.near_search.proofs.near.NearSearch.+find_near.Given as goal
 
 abbrev pub decreases-find_near : goal.decreases-find_near
@@ -10,7 +8,7 @@ decreases-find_near g l = l.left
 -- the committees that are near are among those of the candidates that were not tried, for whom the needs are weighted
 abbrev pub invariant-loop-next : goal.invariant-loop-next
 invariant-loop-next g l = record {
-  narrowed : IsNarrowed (closeness l.self.profile.now.m l.self.profile.now.rows) l.self.profile.now.m l.set l.fn.free l.left (l.self.profile.now.m - l.self.most) l.rest;
+  narrowed : AreEligible l.self.profile.now l.self.most l.set l.fn.free l.left l.rest;
   weighted : AreWeighted l.self.profile.now.rows (length l.set + l.left) l.self.most l.set l.rest l.needs.total l.needs.supports;
 }
 

@@ -1,13 +1,11 @@
 use Rattle.std.proofs.Common.{◌≡◌, ◌-◌, ◌+◌, ◌≤◌, arith, ap, sym, subst, ◌∙◌, length, take}
 use Rattle.ballot_base.specs.CandSet.{common_members}
 use Rattle.std.proofs.lemmas.List.{length_push}
-use Rattle.ballot_base.specs.Ballots.{Row, hits}
+use Rattle.ballot_base.specs.Ballots.{Row}
 use Rattle.tie_walk.specs.Values.{closeness, greatest_distance}
 use Rattle.tie_walk.proofs.RowSums.{length-common}
 use Rattle.ballot_base.proofs.Turns.{row_of_turn, all_passed}
-use Rattle.near_search.specs.Needs.{hits_needed}
-use Rattle.near_search.specs.Steps.Near.{AreChoices}
-use Rattle.tie_search.specs.Steps.Narrowed.{IsNarrowed}
+use Rattle.near_search.specs.Steps.Near.{AreChoices, AreEligible}
 use Rattle.near_search.proofs.NeedLemmas.{choice-of_all, choice-of_ballot, hopeless, narrowed-choice, narrowed-to_ballot, near-more, too-few}
 use Rattle.tie_search.proofs.NarrowedLemmas.{narrowed-more, narrowed-none, narrowed-out}
 use Rattle.near_search.proofs.near.NearSearch.choices.Goals as goal
@@ -34,12 +32,10 @@ loop-ballot-preserved-then-needed-eq0 g c =
     let at = row_of_turn c.args.self.now.profile.now.rows (c.into_iter-ballot-iterator.ensures.into_iter_gives ∙ c.ballots-ballot-items.ensures.rows) c.loop-ballot.yielded c.loop-ballot.yielded_by row c.in-Some.ensures.steps in
     let next = sym (length_push c.loop-ballot.yielded row) in
     let inv = c.loop-ballot.invariant in
-    let needed : c.still_needed-needed.result ≡ hits_needed (length row.0) (length c.args.set + c.args.left) c.args.self.now.most - hits row.0 c.args.set =
-    c.still_needed-needed.ensures ∙ ap (λ n. hits_needed (length row.0) (n + c.args.left) c.args.self.now.most - hits row.0 c.args.set) c.len-2.ensures.count in
     record {
       whole = λ none.
           subst (λ n. greatest_distance (take n e.rows) c.args.set ≤ c.args.self.now.most) next (near-more e.m c.args.self.now.most (length c.args.set + c.args.left) e.rows c.args.set (length c.loop-ballot.yielded) row c.ballots-ballot-items.ensures.valid.ballots c.requires.set_within at
-          (omega (arith, none)) (omega (arith, needed, c.if-needed-eq0.true)) (inv.whole none));
+          (omega (arith, none)) (omega (arith, c.still_needed-needed.ensures, c.len-2.ensures.count, c.if-needed-eq0.true)) (inv.whole none));
       narrowed = inv.narrowed;
       choice = inv.choice;
     }
@@ -51,11 +47,9 @@ returns-then-needed-min g c =
     let row : Row = (c.in-Some.ballot, c.in-Some._voters) in
     let at = row_of_turn c.args.self.now.profile.now.rows (c.into_iter-ballot-iterator.ensures.into_iter_gives ∙ c.ballots-ballot-items.ensures.rows) c.loop-ballot.yielded c.loop-ballot.yielded_by row c.in-Some.ensures.steps in
     let rest = c.loop-ballot.rest in
-    let needed : c.still_needed-needed.result ≡ hits_needed (length row.0) (length c.args.set + c.args.left) c.args.self.now.most - hits row.0 c.args.set =
-    c.still_needed-needed.ensures ∙ ap (λ n. hits_needed (length row.0) (n + c.args.left) c.args.self.now.most - hits row.0 c.args.set) c.len-2.ensures.count in
     narrowed-out V e.m c.args.set c.args.free rest c.args.left (e.m - c.args.self.now.most) c.loop-ballot.invariant.narrowed
     (hopeless e.m e.rows c.args.self.now.most c.args.set rest c.args.left c.ballots-ballot-items.ensures.valid.ballots c.loop-ballot.invariant.narrowed.is_node (length c.loop-ballot.yielded) row at
-    (omega (arith, needed, c.if-needed-min.true, c.min.ensures, c.len-in-loop-ballot.ensures.count, ap length c.common-open.ensures, length-common row.0 rest)))
+    (omega (arith, c.still_needed-needed.ensures, c.len-2.ensures.count, c.if-needed-min.true, c.min.ensures, c.len-in-loop-ballot.ensures.count, ap length c.common-open.ensures, length-common row.0 rest)))
 
 pub loop-ballot-preserved-then-is_tighter : goal.loop-ballot-preserved-then-is_tighter
 loop-ballot-preserved-then-is_tighter g c =
@@ -66,25 +60,23 @@ loop-ballot-preserved-then-is_tighter g c =
     let next = sym (length_push c.loop-ballot.yielded row) in
     let rest = c.loop-ballot.rest in
     let inv = c.loop-ballot.invariant in
-    let needed : c.still_needed-needed.result ≡ hits_needed (length row.0) (length c.args.set + c.args.left) c.args.self.now.most - hits row.0 c.args.set =
-    c.still_needed-needed.ensures ∙ ap (λ n. hits_needed (length row.0) (n + c.args.left) c.args.self.now.most - hits row.0 c.args.set) c.len-2.ensures.count in
     record {
       whole = λ none.
           subst (λ n. greatest_distance (take n e.rows) c.args.set ≤ c.args.self.now.most) next (near-more e.m c.args.self.now.most (length c.args.set + c.args.left) e.rows c.args.set (length c.loop-ballot.yielded) row c.ballots-ballot-items.ensures.valid.ballots c.requires.set_within at
-          (omega (arith, none)) (omega (arith, needed, none, c.if-needed-min.false, c.min.ensures)) (inv.whole none));
+          (omega (arith, none)) (omega (arith, c.still_needed-needed.ensures, c.len-2.ensures.count, none, c.if-needed-min.false, c.min.ensures)) (inv.whole none));
       narrowed = elim c.if-needed-left.branch [
         | then-needed-left w ↦
-            subst (λ s. IsNarrowed V e.m c.args.set c.args.free c.args.left (e.m - c.args.self.now.most) s) (sym (w.rest-is ∙ c.common-open.ensures))
+            subst (λ s. AreEligible e c.args.self.now.most c.args.set c.args.free c.args.left s) (sym (w.rest-is ∙ c.common-open.ensures))
             (narrowed-more V e.m c.args.set c.args.free rest c.args.left (e.m - c.args.self.now.most) inv.narrowed (common_members row.0 rest)
             (narrowed-to_ballot e.m e.rows c.args.self.now.most c.args.set rest c.args.left c.ballots-ballot-items.ensures.valid.ballots inv.narrowed.is_node (length c.loop-ballot.yielded) row at
-            (omega (arith, needed, w.if-needed-left.true))))
-        | else-needed-left w ↦ subst (λ s. IsNarrowed V e.m c.args.set c.args.free c.args.left (e.m - c.args.self.now.most) s) (sym w.rest-is) inv.narrowed
+            (omega (arith, c.still_needed-needed.ensures, c.len-2.ensures.count, w.if-needed-left.true))))
+        | else-needed-left w ↦ subst (λ s. AreEligible e c.args.self.now.most c.args.set c.args.free c.args.left s) (sym w.rest-is) inv.narrowed
       ];
       choice = λ some.
           subst (λ s. AreChoices V e.m c.args.set c.args.free c.args.left (e.m - c.args.self.now.most) s) (sym c.common-open.ensures)
           (narrowed-choice V e.m c.args.set c.args.free rest c.args.left (e.m - c.args.self.now.most) inv.narrowed (common_members row.0 rest)
           (choice-of_ballot e.m e.rows c.args.self.now.most c.args.set rest c.args.left c.ballots-ballot-items.ensures.valid.ballots inv.narrowed.is_node (length c.loop-ballot.yielded) row at
-          (omega (arith, needed, c.if-needed-eq0.false))));
+          (omega (arith, c.still_needed-needed.ensures, c.len-2.ensures.count, c.if-needed-eq0.false))));
     }
 
 pub loop-ballot-preserved : goal.loop-ballot-preserved
@@ -96,19 +88,17 @@ loop-ballot-preserved g c =
     let next = sym (length_push c.loop-ballot.yielded row) in
     let rest = c.loop-ballot.rest in
     let inv = c.loop-ballot.invariant in
-    let needed : c.still_needed-needed.result ≡ hits_needed (length row.0) (length c.args.set + c.args.left) c.args.self.now.most - hits row.0 c.args.set =
-    c.still_needed-needed.ensures ∙ ap (λ n. hits_needed (length row.0) (n + c.args.left) c.args.self.now.most - hits row.0 c.args.set) c.len-2.ensures.count in
     record {
       whole = λ none.
           subst (λ n. greatest_distance (take n e.rows) c.args.set ≤ c.args.self.now.most) next (near-more e.m c.args.self.now.most (length c.args.set + c.args.left) e.rows c.args.set (length c.loop-ballot.yielded) row c.ballots-ballot-items.ensures.valid.ballots c.requires.set_within at
-          (omega (arith, none)) (omega (arith, needed, none, c.if-needed-min.false, c.min.ensures)) (inv.whole none));
+          (omega (arith, none)) (omega (arith, c.still_needed-needed.ensures, c.len-2.ensures.count, none, c.if-needed-min.false, c.min.ensures)) (inv.whole none));
       narrowed = elim c.if-needed-left.branch [
         | then-needed-left w ↦
-            subst (λ s. IsNarrowed V e.m c.args.set c.args.free c.args.left (e.m - c.args.self.now.most) s) (sym (w.rest-is ∙ c.common-open.ensures))
+            subst (λ s. AreEligible e c.args.self.now.most c.args.set c.args.free c.args.left s) (sym (w.rest-is ∙ c.common-open.ensures))
             (narrowed-more V e.m c.args.set c.args.free rest c.args.left (e.m - c.args.self.now.most) inv.narrowed (common_members row.0 rest)
             (narrowed-to_ballot e.m e.rows c.args.self.now.most c.args.set rest c.args.left c.ballots-ballot-items.ensures.valid.ballots inv.narrowed.is_node (length c.loop-ballot.yielded) row at
-            (omega (arith, needed, w.if-needed-left.true))))
-        | else-needed-left w ↦ subst (λ s. IsNarrowed V e.m c.args.set c.args.free c.args.left (e.m - c.args.self.now.most) s) (sym w.rest-is) inv.narrowed
+            (omega (arith, c.still_needed-needed.ensures, c.len-2.ensures.count, w.if-needed-left.true))))
+        | else-needed-left w ↦ subst (λ s. AreEligible e c.args.self.now.most c.args.set c.args.free c.args.left s) (sym w.rest-is) inv.narrowed
       ];
       choice = inv.choice;
     }
