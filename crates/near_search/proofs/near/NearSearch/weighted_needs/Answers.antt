@@ -69,8 +69,7 @@ loop-ballot-preserved-then-needed-gt0 g c =
     let inv = c.loop-ballot.invariant in
     let W : Row → ℕ = row_weight c.args.self.now.shares.now.of_one k most set free in
     let need = hits_needed (length row.0) k most - hits row.0 set in
-    let needed : c.still_needed-needed.result ≡ need =
-    c.still_needed-needed.ensures ∙ ap (λ n. hits_needed (length row.0) (n + c.args.left) most - hits row.0 set) c.len.ensures.count in
+    let needed : c.still_needed-needed.result ≡ need = omega (arith, c.still_needed-needed.ensures, c.len.ensures.count) in
     let weight : c.from-weight.result ≡ W row =
     c.from-weight.ensures ∙ c.weight.ensures.value
     ∙ ap (λ n. need_weight (get_or c.args.self.now.shares.now.of_one (length c.common-approved.result) 0) n) needed
@@ -111,8 +110,7 @@ loop-ballot-preserved g c =
     let inv = c.loop-ballot.invariant in
     let W : Row → ℕ = row_weight c.args.self.now.shares.now.of_one k most set free in
     let need = hits_needed (length row.0) k most - hits row.0 set in
-    let needed : c.still_needed-needed.result ≡ need =
-    c.still_needed-needed.ensures ∙ ap (λ n. hits_needed (length row.0) (n + c.args.left) most - hits row.0 set) c.len.ensures.count in
+    let needed : c.still_needed-needed.result ≡ need = omega (arith, c.still_needed-needed.ensures, c.len.ensures.count) in
     let zero_need : need ≡ 0 = omega (arith, needed, c.if-needed-gt0.false) in
     let weight : W row ≡ 0 =
     row_weight-is c.args.self.now.shares.now.of_one k most set free row ∙ ap (λ n. need_weight (get_or c.args.self.now.shares.now.of_one (length (common_members row.0 free)) 0) n) zero_need
