@@ -3,6 +3,7 @@ use Rattle.std.specs.List.{AllByRecursion}
 use Rattle.ballot_base.specs.Ballots.{Row}
 use Rattle.ballot_base.specs.CandSet.{has_member, other_members, with_member, without_member}
 use Rattle.ballot_base.specs.Clones.{clones_among}
+use Rattle.ballot_base.specs.Limits.{most_candidates}
 use Rattle.ballot_base.specs.Lists.{IsIncreasing}
 use Rattle.ballot_base.proofs.Committees.{length-increasing}
 use Rattle.tie_walk.specs.Values.{closeness}
@@ -17,6 +18,7 @@ use Rattle.near_search.proofs.NeedLemmas.{all-tried, choice-left, near-value}
 use Rattle.tie_search.proofs.NarrowedLemmas.{narrowed-clones, narrowed-more, narrowed-out}
 use Rattle.near_search.proofs.WeightedNeeds.{weighted-fewer}
 use Rattle.near_search.proofs.near.NearSearch.+find_near.Goals as goal
+use Rattle.near_search.proofs.near.NearSearch.+find_near.Goals.{In-Some}
 
 -- a candidate was tried, and is struck out with its clones
 tried : (m most : ℕ) (rows : List Row) (set free rest clones : List ℕ) (left next : ℕ) → AllByRecursion (λ (row : Row). IsIncreasing 1 m row.0) rows
@@ -61,19 +63,21 @@ loop-next-init g t c =
           c.weighted_needs-needs.result.supports c.weighted_needs-needs.ensures c.in_ok-rest.ensures.among;
     }
 
+-- the next candidate is still eligible
+next-left : (g : _) (t : _) (c : In-Some g t) → has_member c.loop-next.rest c.in-Some.next ≡ true
+next-left g t c = choice-left c.in_ok-choices.choices c.loop-next.rest c.common.result c.in-Some.next c.common.ensures c.in-Some.ensures.0
+
+next-high : (g : _) (t : _) (c : In-Some g t) → c.in-Some.next ≤ most_candidates
+next-high g t c =
+    let high = member-high 1 c.args.self.now.profile.now.m c.loop-next.rest c.in-Some.next c.loop-next.invariant.narrowed.is_node.free_within (next-left g t c) in
+    omega (arith, c.args.self.now.size, high)
+
 pub with-requires-clause-low : goal.with-requires-clause-low
 with-requires-clause-low g t c =
-    member-low 1 c.args.self.now.profile.now.m c.loop-next.rest c.in-Some.next c.loop-next.invariant.narrowed.is_node.free_within
-    (choice-left c.in_ok-choices.choices c.loop-next.rest c.common.result c.in-Some.next c.common.ensures c.in-Some.ensures.0)
+    member-low 1 c.args.self.now.profile.now.m c.loop-next.rest c.in-Some.next c.loop-next.invariant.narrowed.is_node.free_within (next-left g t (goal.at.with-requires-clause-low g t c).In-Some)
 
 pub with-requires-clause-high : goal.with-requires-clause-high
-with-requires-clause-high g t c =
-    omega (
-      arith,
-      c.args.self.now.size,
-      member-high 1 c.args.self.now.profile.now.m c.loop-next.rest c.in-Some.next c.loop-next.invariant.narrowed.is_node.free_within
-          (choice-left c.in_ok-choices.choices c.loop-next.rest c.common.result c.in-Some.next c.common.ensures c.in-Some.ensures.0),
-    )
+with-requires-clause-high g t c = next-high g t (goal.at.with-requires-clause-high g t c).In-Some
 
 pub find_near-found-requires : goal.find_near-found-requires
 find_near-found-requires g t c κs within =
@@ -94,13 +98,7 @@ returns-in-Some-found g t c =
     (rw (c.with.ensures, c.without-others.ensures) at c.in-Some-found.ensures)
 
 pub class-requires : goal.class-requires
-class-requires g t c =
-    omega (
-      arith,
-      c.args.self.now.size,
-      member-high 1 c.args.self.now.profile.now.m c.loop-next.rest c.in-Some.next c.loop-next.invariant.narrowed.is_node.free_within
-          (choice-left c.in_ok-choices.choices c.loop-next.rest c.common.result c.in-Some.next c.common.ensures c.in-Some.ensures.0),
-    )
+class-requires g t c = next-high g t (goal.at.class-requires g t c).In-Some
 
 pub narrowed-requires-in-Some-clause-is_node : goal.narrowed-requires-in-Some-clause-is_node
 narrowed-requires-in-Some-clause-is_node g t c =
