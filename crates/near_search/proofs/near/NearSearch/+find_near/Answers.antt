@@ -9,16 +9,16 @@ use Rattle.ballot_base.proofs.Committees.{length-increasing}
 use Rattle.tie_walk.specs.Values.{closeness}
 use Rattle.tie_search.specs.Completions.{IsNode, IsOutOfReach}
 use Rattle.tie_search.specs.Steps.Narrowed.{IsNarrowed}
-use Rattle.near_search.specs.Steps.Near.{AreEligible, IsHopeless}
-use Rattle.tie_search.proofs.CompletionLemmas.{member-low, member-high, node-with, node-without, without-is, without-shorter}
+use Rattle.near_search.specs.Steps.Near.{AreEligible}
+use Rattle.tie_search.proofs.CompletionLemmas.{member-low, member-high, node-with, without-is, without-shorter}
 use Rattle.tie_search.proofs.SearchLemmas.{found-below, set-reaches, length-among}
-use Rattle.tie_search.proofs.CloneLemmas.{class-are, minus-is, minus-most, node-minus}
+use Rattle.tie_search.proofs.CloneLemmas.{class-are, minus-is, minus-most}
 use Rattle.near_search.proofs.NearClones.{closeness-exchanged}
 use Rattle.near_search.proofs.NeedLemmas.{all-tried, choice-left, near-value}
 use Rattle.tie_search.proofs.NarrowedLemmas.{narrowed-clones, narrowed-more, narrowed-out}
 use Rattle.near_search.proofs.WeightedNeeds.{weighted-fewer}
 use Rattle.near_search.proofs.near.NearSearch.+find_near.Goals as goal
-use Rattle.near_search.proofs.near.NearSearch.+find_near.Goals.{In-Some}
+use Rattle.near_search.proofs.near.NearSearch.+find_near.Goals.{After-minus-untried, In-Some}
 
 -- a candidate was tried, and is struck out with its clones
 tried : (m most : ℕ) (rows : List Row) (set free rest clones : List ℕ) (left next : ℕ) → AllByRecursion (λ (row : Row). IsIncreasing 1 m row.0) rows
@@ -84,7 +84,7 @@ find_near-found-requires g t c κs within =
     let next = c.in-Some.next in
     let is_node : IsNode c.args.self.now.profile.now.m (with_member c.args.set next) (without_member c.loop-next.rest next) =
     node-with c.args.self.now.profile.now.m c.args.set c.loop-next.rest next c.loop-next.invariant.narrowed.is_node
-    (choice-left c.in_ok-choices.choices c.loop-next.rest c.common.result next c.common.ensures c.in-Some.ensures.0) in
+    (next-left g t (goal.at.find_near-found-requires g t c).In-Some) in
     (omega (arith, c.if-left-eq0.false, c.decreases), (within, rw (c.with.ensures, c.without-others.ensures) is_node))
 
 pub returns-in-Some-found : goal.returns-in-Some-found
@@ -100,71 +100,55 @@ returns-in-Some-found g t c =
 pub class-requires : goal.class-requires
 class-requires g t c = next-high g t (goal.at.class-requires g t c).In-Some
 
-pub narrowed-requires-in-Some-clause-is_node : goal.narrowed-requires-in-Some-clause-is_node
-narrowed-requires-in-Some-clause-is_node g t c =
-    let m = c.args.self.now.profile.now.m in
-    let rest = c.loop-next.rest in
+-- the candidate was tried, and is struck out with its clones
+still-eligible : (g : _) (t : _) (c : After-minus-untried g t) → AreEligible c.args.self.now.profile.now c.args.self.now.most c.args.set c.args.free c.args.left c.minus-untried.result
+still-eligible g t c =
+    let e = c.args.self.now.profile.now in
+    let next = c.in-Some.next in
     rw (c.minus-untried.ensures, c.without-others.ensures)
-    (node-minus m c.args.set (without_member rest c.in-Some.next) c.class.result (node-without m c.args.set rest c.in-Some.next c.loop-next.invariant.narrowed.is_node))
+    (tried e.m c.args.self.now.most e.rows c.args.set c.args.free c.loop-next.rest c.class.result c.args.left next c.args.self.now.ballots c.loop-next.invariant.narrowed
+    (omega (arith, c.if-left-eq0.false)) (choice-left c.in_ok-choices.choices c.loop-next.rest c.common.result next c.common.ensures c.in-Some.ensures.0)
+    (λ low high. c.class.ensures ∙ c.args.self.now.classes next low high)
+    (rw (c.with.ensures, c.without-others.ensures) at c.in_default-found.ensures))
+
+untried-among : (g : _) (t : _) (c : After-minus-untried g t) (n : ℕ) → has_member c.minus-untried.result n ≡ true → has_member c.loop-next.rest n ≡ true
+untried-among g t c n is =
+    without-is c.loop-next.rest c.in-Some.next n (minus-is (without_member c.loop-next.rest c.in-Some.next) c.class.result n (rw (c.minus-untried.ensures, c.without-others.ensures) at is))
+
+pub narrowed-requires-in-Some-clause-is_node : goal.narrowed-requires-in-Some-clause-is_node
+narrowed-requires-in-Some-clause-is_node g t c = (still-eligible g t (goal.at.narrowed-requires-in-Some-clause-is_node g t c).After-minus-untried).is_node
 
 pub narrowed-requires-in-Some-clause-weighted : goal.narrowed-requires-in-Some-clause-weighted
 narrowed-requires-in-Some-clause-weighted g t c =
-    let e = c.args.self.now.profile.now in
-    let rest = c.loop-next.rest in
-    let next = c.in-Some.next in
-    rw (c.minus-untried.ensures, c.without-others.ensures)
-    (weighted-fewer e.rows (length c.args.set + c.args.left) c.args.self.now.most c.args.set rest (other_members (without_member rest next) c.class.result) c.weighted_needs-needs.result.total
-    c.weighted_needs-needs.result.supports c.loop-next.invariant.weighted
-    (λ n is. without-is rest next n (minus-is (without_member rest next) c.class.result n is)))
+    weighted-fewer c.args.self.now.profile.now.rows (length c.args.set + c.args.left) c.args.self.now.most c.args.set c.loop-next.rest c.minus-untried.result c.weighted_needs-needs.result.total
+    c.weighted_needs-needs.result.supports c.loop-next.invariant.weighted (untried-among g t (goal.at.narrowed-requires-in-Some-clause-weighted g t c).After-minus-untried)
 
 pub returns-in_err-rest-2 : goal.returns-in_err-rest-2
 returns-in_err-rest-2 g t c =
     let e = c.args.self.now.profile.now in
-    let V = closeness e.m e.rows in
-    let rest = c.loop-next.rest in
-    let next = c.in-Some.next in
-    let untried = other_members (without_member rest next) c.class.result in
-    let here = choice-left c.in_ok-choices.choices rest c.common.result next c.common.ensures c.in-Some.ensures.0 in
-    let none : IsHopeless e c.args.self.now.most c.args.set untried c.args.left = rw (c.minus-untried.ensures, c.without-others.ensures) at c.in_err-rest-2.ensures in
     rw c.from_residual-in_err-rest-2.ensures
-    (narrowed-out V e.m c.args.set c.args.free untried c.args.left (e.m - c.args.self.now.most)
-    (tried e.m c.args.self.now.most e.rows c.args.set c.args.free rest c.class.result c.args.left next c.args.self.now.ballots c.loop-next.invariant.narrowed
-    (omega (arith, c.if-left-eq0.false)) here (λ low high. c.class.ensures ∙ c.args.self.now.classes next low high)
-    (rw (c.with.ensures, c.without-others.ensures) at c.in_default-found.ensures))
-    none)
+    (narrowed-out (closeness e.m e.rows) e.m c.args.set c.args.free c.minus-untried.result c.args.left (e.m - c.args.self.now.most)
+    (still-eligible g t (goal.at.returns-in_err-rest-2 g t c).After-minus-untried) c.in_err-rest-2.ensures)
 
 pub loop-next-smaller : goal.loop-next-smaller
 loop-next-smaller g t c =
-    let m = c.args.self.now.profile.now.m in
     let rest = c.loop-next.rest in
     let next = c.in-Some.next in
-    let is_node = node-minus m c.args.set (without_member rest next) c.class.result (node-without m c.args.set rest next c.loop-next.invariant.narrowed.is_node) in
-    let now : AreEligible c.args.self.now.profile.now c.args.self.now.most c.args.set (other_members (without_member rest next) c.class.result) c.args.left c.in_ok-rest-2.rest =
-    rw (c.minus-untried.ensures, c.without-others.ensures) at c.in_ok-rest-2.ensures in
-    let short = length-among m c.in_ok-rest-2.rest (other_members (without_member rest next) c.class.result) now.is_node.free_within is_node.free_within now.among in
-    let fewer = minus-most (without_member rest next) c.class.result in
-    let less = without-shorter rest next (choice-left c.in_ok-choices.choices rest c.common.result next c.common.ensures c.in-Some.ensures.0) in
+    let now = c.in_ok-rest-2.ensures in
+    let up = (still-eligible g t (goal.at.loop-next-smaller g t c).After-minus-untried).is_node.free_within in
+    let short = length-among c.args.self.now.profile.now.m c.in_ok-rest-2.rest c.minus-untried.result now.is_node.free_within up now.among in
+    let fewer : length c.minus-untried.result ≤ length (without_member rest next) = rw (c.minus-untried.ensures, c.without-others.ensures) (minus-most (without_member rest next) c.class.result) in
+    let less = without-shorter rest next (next-left g t (goal.at.loop-next-smaller g t c).In-Some) in
     omega (arith, short, fewer, less)
 
 pub loop-next-preserved : goal.loop-next-preserved
 loop-next-preserved g t c =
     let e = c.args.self.now.profile.now in
-    let V = closeness e.m e.rows in
-    let rest = c.loop-next.rest in
-    let next = c.in-Some.next in
-    let untried = other_members (without_member rest next) c.class.result in
-    let here = choice-left c.in_ok-choices.choices rest c.common.result next c.common.ensures c.in-Some.ensures.0 in
-    let now : AreEligible e c.args.self.now.most c.args.set untried c.args.left c.in_ok-rest-2.rest =
-    rw (c.minus-untried.ensures, c.without-others.ensures) at c.in_ok-rest-2.ensures in
+    let at = (goal.at.loop-next-preserved g t c).After-minus-untried in
     record {
-      narrowed = narrowed-more V e.m c.args.set c.args.free untried c.args.left (e.m - c.args.self.now.most)
-          (tried e.m c.args.self.now.most e.rows c.args.set c.args.free rest c.class.result c.args.left next c.args.self.now.ballots c.loop-next.invariant.narrowed
-          (omega (arith, c.if-left-eq0.false)) here (λ low high. c.class.ensures ∙ c.args.self.now.classes next low high)
-          (rw (c.with.ensures, c.without-others.ensures) at c.in_default-found.ensures))
-          c.in_ok-rest-2.rest now;
-      weighted = weighted-fewer e.rows (length c.args.set + c.args.left) c.args.self.now.most c.args.set rest c.in_ok-rest-2.rest c.weighted_needs-needs.result.total
-          c.weighted_needs-needs.result.supports c.loop-next.invariant.weighted
-          (λ n is. without-is rest next n (minus-is (without_member rest next) c.class.result n (now.among n is)));
+      narrowed = narrowed-more (closeness e.m e.rows) e.m c.args.set c.args.free c.minus-untried.result c.args.left (e.m - c.args.self.now.most) (still-eligible g t at) c.in_ok-rest-2.rest c.in_ok-rest-2.ensures;
+      weighted = weighted-fewer e.rows (length c.args.set + c.args.left) c.args.self.now.most c.args.set c.loop-next.rest c.in_ok-rest-2.rest c.weighted_needs-needs.result.total
+          c.weighted_needs-needs.result.supports c.loop-next.invariant.weighted (λ n is. untried-among g t at n (c.in_ok-rest-2.ensures.among n is));
     }
 
 pub returns : goal.returns
