@@ -25,7 +25,7 @@ use Rattle.tie_search.specs.Tied.{IsBest}
 use Rattle.tie_search.specs.Steps.Branches.{AreSized, AreStacked, ComesBefore, IsAnswer, IsBarren, IsBranch, IsWinnerOf, branches_after, completes, completes_some, first_branches, winners_of}
 use Rattle.tie_search.specs.declared.branch.Branch.{Branch}
 use Rattle.tie_search.proofs.CloneLemmas.{clones-left, minus-is, minus-most}
-use Rattle.tie_search.proofs.CompletionLemmas.{added, added-free, added-size, completion-back, completion-few, completion-members, completion-whole, member-high, member-low, without-is}
+use Rattle.tie_search.proofs.CompletionLemmas.{added, added-free, added-size, completion-back, completion-few, completion-members, completion-self, completion-whole, member-high, member-low, without-is}
 use Rattle.tie_search.proofs.ReachLemmas.{increasing-append}
 
 -- ---- a branch
@@ -839,3 +839,20 @@ module _ (m : ℕ) where
       (λ i d inside.
       let is = winner-is value m k (get_or (winners value m k) i d) (Contains-get_or (winners value m k) i d inside) in
       after-later [] start (get_or (winners value m k) i d) up is.0 (is.1 ∙ sym size)))
+
+-- ---- a whole committee
+
+-- if it is worth less, nothing completes the branch
+pub whole-barren : (value : List ℕ → ℕ) (m k : ℕ) (branch : Branch) → IsBranch m k branch → length branch.set ≡ k → value branch.set < best_value value m k → IsBarren value m k branch
+whole-barren value m k branch is long under committee best = elim (cases_Bool (completes branch committee)) [
+  | inl whole ↦
+      let same : committee ≡ branch.set = whole-is value m k branch committee is long (record { best = best; whole = whole }) in
+      absurd (omega (arith, under, ap value same, best.best))
+  | inr out ↦ out
+]
+
+-- if not, it completes the branch itself
+pub whole-winner : (value : List ℕ → ℕ) (m k : ℕ) (branch : Branch) → IsBranch m k branch → length branch.set ≡ k → best_value value m k ≤ value branch.set → IsWinnerOf value m k branch branch.set
+whole-winner value m k branch is long reaches =
+    let node = branch-node m k branch is in
+    winner-from value m k branch branch.set m is node.set_within long (completes-from m branch 0 branch.set (completion-self m branch.set branch.free node)) reaches

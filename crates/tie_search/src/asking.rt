@@ -203,6 +203,9 @@ impl<S: Searchable> Asking<S> {
         if self.best.tied.are_all {
             return self.best.listed(branch);
         }
+        if branch.set.len() == self.best.k {
+            return self.best.whole(branch);
+        }
         match self.best.shown(self.found, branch) {
             Some(winner) => Some(winner),
             None => self.ask(branch),

@@ -55,6 +55,19 @@ impl<S: Searchable> Best<S> {
         }
     }
 
+    /// The set of a branch that is a whole committee, if it has the greatest value.
+    pub(crate) fn whole(&self, branch: &Branch) -> Option<CandSet>
+        requires knows { KnowsBest S.value_of S.candidates self.now }
+        requires branch { IsBranch self.now.m self.now.k branch.now }
+        requires whole { length branch.now.set ≡ self.now.k }
+        ensures { IsAnswer (S.value_of self.now.search) self.now.m self.now.k branch.now result }
+    {
+        if self.search.value(branch.set) < self.value {
+            return None;
+        }
+        Some(branch.set)
+    }
+
     /// A committee with the greatest value that completes the branch, from the list of all of them.
     pub(crate) fn listed(&self, branch: &Branch) -> Option<CandSet>
         requires { KnowsBest S.value_of S.candidates self.now }
