@@ -856,3 +856,13 @@ pub whole-winner : (value : List ℕ → ℕ) (m k : ℕ) (branch : Branch) → 
 whole-winner value m k branch is long reaches =
     let node = branch-node m k branch is in
     winner-from value m k branch branch.set m is node.set_within long (completes-from m branch 0 branch.set (completion-self m branch.set branch.free node)) reaches
+
+-- too few are free
+pub few-barren : (value : List ℕ → ℕ) (m k : ℕ) (branch : Branch) → IsBranch m k branch → length branch.set + length branch.free < k → IsBarren value m k branch
+few-barren value m k branch is few committee best = elim (cases_Bool (completes branch committee)) [
+  | inl whole ↦
+      let enough = completion-few m branch.set branch.free (k - length branch.set) committee (branch-node m k branch is)
+      (completion-from m k branch committee is best.candidates best.size whole) in
+      absurd (omega (arith, enough, few))
+  | inr out ↦ out
+]

@@ -197,6 +197,9 @@ impl<S: Searchable> Asking<S> {
         ensures kept { kept self.new ≡ kept self.old }
         ensures asked { self.new.questions ≤ self.old.questions + 1 }
     {
+        if branch.set.len() + branch.free.len() < self.best.k {
+            return None;
+        }
         if branch.is_completed_by(self.found) {
             return Some(self.found);
         }
