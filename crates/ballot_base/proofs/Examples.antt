@@ -1,5 +1,6 @@
 -- Each definition, computed on a small example.
-use Rattle.std.proofs.Common.{◌≡◌, ◌+◌, ◌*◌, ◌^◌, List, [], ◌∷◌, true, false, refl, lit≤, Some, None, replicate, arith}
+use Rattle.std.proofs.Common.{◌≡◌, ℕ, ◌+◌, ◌*◌, ◌^◌, ◌≤◌, ◌==◌, ◌||◌, ◌∙◌, Bool, List, [], ◌∷◌, true, false, refl, sym, ap, inl, inr, lit≤, Some, None, get_or, replicate, sum_by, arith}
+use Rattle.std.proofs.lemmas.Bool.{cases_eq, ne_eqb}
 use Rattle.ballot_base.specs.Lists.{IsIncreasing, lists_of, increasing_lists, is_committee, is_later, IsLater, AreInOrder, later_than}
 use Rattle.ballot_base.specs.CandSet.{has_member, with_member, without_member, common_members, either_members, other_members, members_upto, includes}
 use Rattle.ballot_base.specs.Steps.Bits.{members_among, members, bits_of}
@@ -7,11 +8,13 @@ use Rattle.ballot_base.specs.Steps.Subsets.{lists_from, sets_from, MayComeNext, 
 use Rattle.ballot_base.specs.Ballots.{Row, IsElection, election, ballots_of, name_of, some_name, hits, voter_count, has_ballot, with_votes}
 use Rattle.ballot_base.specs.CommonMultiple.{least_multiple, common_multiple, AllDivide}
 use Rattle.ballot_base.specs.Increments.{increment, denominator, increments}
+use Rattle.ballot_base.specs.Worths.{AreChosen, AreTooLow, AreWanted}
 use Rattle.ballot_base.specs.Hashing.{word_of_bytes, begun, with_word, upper_half}
 use Rattle.ballot_base.specs.declared.increments.ThieleRule.TheVariants.{Av, Pav, Cc, Geom2, Geom3, Geom4}
 use Rattle.ballot_base.proofs.Committees.{increasing_lists-order}
 use Rattle.ballot_base.proofs.LeastMultiples.{common_multiple_divides}
 use Rattle.ballot_base.proofs.RowLemmas.{distinct-with_votes}
+use Rattle.ballot_base.proofs.Sums.{chosen-bound, chosen-with}
 
 -- ---- lists
 increasing : IsIncreasing 1 4 (1 ∷ 3 ∷ [])
@@ -292,3 +295,44 @@ bytes_as_a_word = refl
 hash_of_a_word : upper_half (with_word (begun (record { factor = 3 * 2 ^ 64 + 5; term = 7 * 2 ^ 64 })) (2 ∷ [])) ≡ 13
 unfolding word_of_bytes
 hash_of_a_word = refl
+
+-- ---- worths: three candidates who are worth 5, 3 and 1
+
+-- what a candidate is worth
+abbrev worth : ℕ → ℕ
+worth n = get_or (0 ∷ 5 ∷ 3 ∷ 1 ∷ []) n 0
+
+abbrev three : List ℕ
+three = 1 ∷ 2 ∷ 3 ∷ []
+
+increasing-three : IsIncreasing 1 64 three
+increasing-three = (lit≤ tt, lit≤ tt, (lit≤ tt, lit≤ tt, (lit≤ tt, lit≤ tt, tt)))
+
+-- any two of them are worth at most 8
+two-at-most : AreTooLow worth three 2 9
+two-at-most chosen are = omega (arith, chosen-bound worth 3 three 2 chosen increasing-three are)
+
+-- and the third is not among two who are worth 7
+without-third : (chosen : List ℕ) → AreChosen three 2 chosen → 7 ≤ sum_by worth chosen → has_member chosen 3 ≡ true → ⊥
+without-third chosen are high is = omega (arith, high, chosen-with worth 3 three 2 chosen increasing-three are 3 is)
+
+who-makes-seven : AreWanted worth three 2 7 (1 ∷ 2 ∷ [])
+who-makes-seven = record {
+  rises = λ m up. (up.0, up.1, (up.2.0, up.2.1, tt));
+  among = λ n is. more (1 == n) (2 == n) (3 == n) is;
+  all = λ chosen are high n is. elim (cases_eq 3 n) [
+    | inl third ↦ absurd (without-third chosen are high (ap (has_member chosen) third ∙ is))
+    | inr other ↦ fewer (1 == n) (2 == n) (3 == n) (ne_eqb 3 n other) (are.among n is)
+  ];
+}
+  where
+    more : (p q r : Bool) → (p || (q || false)) ≡ true → (p || (q || (r || false))) ≡ true
+    more true q r is = refl
+    more false true r is = refl
+    more false false r is = absurd cc
+
+    fewer : (p q r : Bool) → r ≡ false → (p || (q || (r || false))) ≡ true → (p || (q || false)) ≡ true
+    fewer true q r out is = refl
+    fewer false true r out is = refl
+    fewer false false true out is = absurd cc
+    fewer false false false out is = absurd cc

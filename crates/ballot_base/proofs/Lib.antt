@@ -13,3 +13,8 @@ pub mod NextSet
 pub mod RowLemmas
 pub mod Turns
 pub mod WeightLemmas
+pub mod Sums
+pub mod Passed
+pub mod MemberLemmas
+pub mod TotalLemmas
+pub mod Greatest

@@ -6,4 +6,5 @@ pub mod Clones
 pub mod CommonMultiple
 pub mod Hashing
 pub mod Increments
+pub mod Worths
 pub mod Steps

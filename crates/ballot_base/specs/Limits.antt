@@ -12,3 +12,7 @@ most_members = 40
 -- the most voters
 abbrev pub most_voters : ℕ
 most_voters = 2 ^ 32
+
+-- no worth of a candidate is so great
+abbrev pub worth_limit : ℕ
+worth_limit = 2 ^ 122

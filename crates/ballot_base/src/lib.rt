@@ -11,6 +11,7 @@ pub mod multiples;
 pub mod profile;
 mod rows;
 pub mod subsets;
+pub mod worths;
 
 pub use cand_set::CandSet;
 pub use clones::Clones;
@@ -21,3 +22,4 @@ pub use multiples::common_multiple;
 pub use profile::{AddFault, FinishFault, Profile, ProfileBuilder};
 pub use rows::Ballots;
 pub use subsets::KSets;
+pub use worths::Worths;

@@ -1,0 +1,32 @@
+-- One number for each candidate, and what some of the candidates are worth together.
+use Rattle.std.specs.Prelude.{◌≡◌, ℕ, ◌+◌, ◌<◌, ◌≤◌, true, List, filter, length, nat_le, sum_by}
+use Rattle.ballot_base.specs.Limits.{most_candidates}
+use Rattle.ballot_base.specs.Lists.{IsIncreasing}
+use Rattle.ballot_base.specs.CandSet.{has_member}
+
+-- a set of `size` of the candidates
+pub record AreChosen (candidates : List ℕ) (size : ℕ) (chosen : List ℕ) : Type 0 where
+  pub rises : IsIncreasing 1 most_candidates chosen
+  pub among : (n : ℕ) → has_member chosen n ≡ true → has_member candidates n ≡ true
+  pub few : length chosen ≡ size
+
+-- no `size` of the candidates are worth so much together
+abbrev pub AreTooLow : (ℕ → ℕ) → List ℕ → ℕ → ℕ → Type 0
+AreTooLow worth candidates size due =
+    (chosen : List ℕ) → AreChosen candidates size chosen → sum_by worth chosen < due
+
+-- candidates to whom all belong who are among some `size` of them that are worth so much together
+pub record AreWanted (worth : ℕ → ℕ) (candidates : List ℕ) (size due : ℕ) (wanted : List ℕ) : Type 0 where
+  pub rises : (m : ℕ) → IsIncreasing 1 m candidates → IsIncreasing 1 m wanted
+  pub among : (n : ℕ) → has_member wanted n ≡ true → has_member candidates n ≡ true
+  pub all : (chosen : List ℕ) → AreChosen candidates size chosen → due ≤ sum_by worth chosen
+      → (n : ℕ) → has_member chosen n ≡ true → has_member wanted n ≡ true
+
+-- how many of the candidates are worth so much at least
+abbrev pub reaching : (ℕ → ℕ) → ℕ → List ℕ → ℕ
+reaching worth least candidates = length (filter (λ n. nat_le least (worth n)) candidates)
+
+-- at least `left` of the candidates are worth as much as the threshold, and no more than `left` are worth more
+abbrev pub IsThreshold : (ℕ → ℕ) → List ℕ → ℕ → ℕ → Type 0
+IsThreshold worth candidates left threshold =
+    (reaching worth (threshold + 1) candidates ≤ left) × (left ≤ reaching worth threshold candidates)
