@@ -21,7 +21,7 @@ ghost use Rattle.tie_walk.specs.Steps.Choices.{HasSetsOf, change, worth};
 ghost use Rattle.ballot_base.specs.Clones.{AreClones};
 ghost use Rattle.tie_families.specs.Steps.Levels.{is_first_open, has_settled, ties, tied_worth, shares_no_voter, end, chosen, family_changes, other_end, IsFalling, IsStrict, IsFamilyLevel, IsNextFamilies, AreFamilies};
 
-use ballot_base::{CandSet, Clones, PLACES, Profile};
+use ballot_base::{CandSet, Clones, Profile, Worths};
 use std::alloc::{AllocError, Allocator};
 use std::collections::HashSet;
 use std::hash::{BuildHasherDefault, FoldHasher};
@@ -126,7 +126,7 @@ struct Levels<'a, A: Allocator + Copy> {
 impl<A: Allocator + Copy> Levels<'_, A> {
     /// The candidates who may be chosen next, given the worth of each candidate and the best worth. Of clones who tie,
     /// only the first is among them.
-    fn ties(&self, worths: &[u128; PLACES], best: u128, set: CandSet) -> CandSet
+    fn ties(&self, worths: &Worths, best: u128, set: CandSet) -> CandSet
         requires worths { (c : ℕ)
             → slice_index worths.now c ≡ worth self.now.step self.now.weights.now self.now.profile.now.rows set c }
         requires best { best ≡ tied_worth
@@ -137,7 +137,7 @@ impl<A: Allocator + Copy> Levels<'_, A> {
         let mut ties = CandSet::empty();
         for c in 1..self.profile.m() + 1 {
             if self.step.may_choose(set, c)
-                && worths[usize::from(c)] == best
+                && worths.of(c) == best
                 && is_first_open(self.step, self.clones.class(c), set, c)
             {
                 ties = ties.with(c);

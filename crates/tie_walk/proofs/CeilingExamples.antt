@@ -9,7 +9,8 @@ use Rattle.ballot_base.specs.CommonMultiple.{common_multiple}
 use Rattle.ballot_base.specs.Increments.{increments}
 use Rattle.ballot_base.specs.declared.increments.ThieleRule.TheVariants.{Av, Pav}
 use Rattle.tie_walk.specs.Ceilings.{greatest_sum, gain_at, IsSubmodular, IsBound, IsAdded, IsTight, IsExactAtBest, IsShort, IsReach, ceiling, greatest_distance_upto, closeness_upto, Prefix, is_open, is_ahead, IsLive, live_below, live_count}
-use Rattle.tie_walk.specs.Steps.Tables.{IsReachBySums, IsThreshold}
+use Rattle.ballot_base.specs.Worths.{IsThreshold}
+use Rattle.tie_walk.specs.Steps.Tables.{IsReachBySums}
 use Rattle.tie_walk.specs.Values.{thiele_value, satisfaction_value}
 use Rattle.tie_walk.proofs.GreatestSums.{ceiling-whole}
 use Rattle.tie_walk.proofs.WaitLemmas.{tight-exact}

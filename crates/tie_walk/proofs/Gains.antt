@@ -21,7 +21,7 @@ use Rattle.tie_walk.specs.declared.sequential.Step.TheVariants.{Grow}
 use Rattle.tie_walk.proofs.GreatestSums.{greatest_sum-same}
 use Rattle.tie_walk.proofs.RowSums.{AreBallots, rows-more, rows-bound, all-most, satisfaction_value-by_parts}
 use Rattle.tie_walk.proofs.TableLemmas.{sum-take_more, parts-at, sum-take-le, weight-le-sum, increments_sum-most}
-use Rattle.tie_walk.proofs.WorthLemmas.{partial, share, worth-most, worth-whole, supported}
+use Rattle.tie_walk.proofs.WorthLemmas.{part-most, partial, share, worth-most, worth-whole, supported}
 
 abbrev pub bit : Bool → ℕ
 bit b = cond b 1 0
@@ -142,14 +142,8 @@ satisfaction-ceiling e shares scores c left set valid up is are =
 -- ---- how large they are
 
 module _ (shares : List ℕ) (x : ℕ) (small : (n : ℕ) → get_or shares n 0 ≤ 2 ^ 90 - 1) where
-  given-most : (row : Row) → given shares x row ≤ 2 ^ 90 - 1
-  given-most row = elim (has_member row.0 x) as (λ b. cond b (get_or shares (length row.0) 0) 0 ≤ 2 ^ 90 - 1) [
-    | true ↦ small (length row.0)
-    | false ↦ omega arith
-  ]
-
   pub score-most : (e : Election) → IsElection e → score shares e.rows x ≤ 2 ^ 122 - 2 ^ 32
-  score-most e valid = omega (arith, score-whole shares e.rows x, all-most (given shares x) e (2 ^ 90 - 1) valid (λ r h. given-most r))
+  score-most e valid = omega (arith, score-whole shares e.rows x, all-most (given shares x) e (2 ^ 90 - 1) valid (λ r h. omega (arith, small (length r.0), part-most (has_member r.0 x) (get_or shares (length r.0) 0))))
 
   pub score-more : (rows : List Row) (i : ℕ) (row : Row) → slice_get rows i ≡ Some row
       → sum_by (λ (r : Row). r.1 * given shares x r) (take (i + 1) rows) ≡ sum_by (λ (r : Row). r.1 * given shares x r) (take i rows) + cond (has_member row.0 x) (row.1 * get_or shares (length row.0) 0) 0
@@ -159,11 +153,14 @@ module _ (shares : List ℕ) (x : ℕ) (small : (n : ℕ) → get_or shares n 0 
       product-of-part true n w = refl
       product-of-part false n w = omega arith
 
-  pub score-bound : (e : Election) (i : ℕ) (row : Row) → IsElection e → slice_get e.rows i ≡ Some row → sum_by (λ (r : Row). r.1 * given shares x r) (take i e.rows) ≤ 2 ^ 122
-  score-bound e i row valid found = omega (arith, rows-bound (given shares x) e (2 ^ 90 - 1) i row valid (λ r h. given-most r) found)
-
-  pub share-bound : (e : Election) (i : ℕ) (row : Row) → IsElection e → slice_get e.rows i ≡ Some row → row.1 * get_or shares (length row.0) 0 ≤ 2 ^ 122
-  share-bound e i row valid found = omega (arith, rows-bound (λ (r : Row). get_or shares (length r.0) 0) e (2 ^ 90 - 1) i row valid (λ r h. small (length r.0)) found)
+  -- the sum so far and what the next row's voters give
+  pub score-fits : (e : Election) (i : ℕ) (row : Row) → IsElection e → slice_get e.rows i ≡ Some row
+      → sum_by (λ (r : Row). r.1 * given shares x r) (take i e.rows) + row.1 * get_or shares (length row.0) 0 ≤ 2 ^ 122 - 2 ^ 32
+  score-fits e i row valid found =
+      omega (
+        arith,
+        rows-bound (λ (r : Row). get_or shares (length r.0) 0) (given shares x) (λ r. part-most (has_member r.0 x) (get_or shares (length r.0) 0)) e (2 ^ 90 - 1) i row valid (λ r h. small (length r.0)) found,
+      )
 
 pub hits-none : (ballot : List ℕ) → hits ballot [] ≡ 0
 hits-none [] = refl

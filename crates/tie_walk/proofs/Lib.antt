@@ -29,7 +29,6 @@ pub mod TableSums
 pub mod Thresholds
 pub mod HitWeights
 pub mod TightLemmas
-pub mod TotalLemmas
 pub mod ValueExamples
 pub mod WalkExamples
 pub mod WaitLemmas

@@ -1,8 +1,8 @@
 -- Sums over the rows of a profile, of the voters of each times what one of them gives.
 use Rattle.std.proofs.Common.{◌≡◌, ℕ, ◌+◌, ◌-◌, ◌*◌, ◌/◌, ◌<◌, ◌≤◌, ◌^◌, ◌==◌, ◌∙◌, List, [], ◌∷◌, Some, not, cond, filter, refl, ap, arith, length, take, get_or, slice_get, sum, sum_by}
-use Rattle.std.proofs.Math.Nat.{mul-le-mul}
+use Rattle.std.proofs.Math.Nat.{mul-le-mul, mul-le-mul_left}
 use Rattle.std.specs.List.{AllByRecursion}
-use Rattle.std.proofs.lemmas.List.Sums.{sum_by-cons, sum_by_more, sum_by_more_le, length-filter, count_by-le-length}
+use Rattle.std.proofs.lemmas.List.Sums.{sum_by-cons, sum_by_more, sum_by_more_le_part, length-filter, count_by-le-length}
 use Rattle.std.proofs.lemmas.Option.{get_or_from_slice_get, slice_get_within}
 use Rattle.std.proofs.lemmas.Bool.{ne_eqb}
 use Rattle.ballot_base.specs.Limits.{most_candidates, most_voters}
@@ -51,15 +51,15 @@ module _ (worth : Row → ℕ) where
       let product : voter_count e.rows * most ≤ most_voters * most = mul-le-mul {m₁ = most} valid.voters (omega arith) in
       omega (arith, product, rows-most e.m most e.rows valid.ballots each)
 
-  -- the sum so far and the next row's voters
-  pub rows-bound : (e : Election) (most i : ℕ) (row : Row) → IsElection e → ((r : Row) → IsIncreasing 1 e.m r.0 → worth r ≤ most) → slice_get e.rows i ≡ Some row
-      → sum_by (λ (r : Row). r.1 * worth r) (take i e.rows) + row.1 * worth row ≤ most_voters * most
-  rows-bound e most i row valid each found =
+  -- a part of what was given so far, and what the next row's voters give
+  pub rows-bound : (part : Row → ℕ) → ((r : Row) → part r ≤ worth r) → (e : Election) (most i : ℕ) (row : Row) → IsElection e → ((r : Row) → IsIncreasing 1 e.m r.0 → worth r ≤ most)
+      → slice_get e.rows i ≡ Some row → sum_by (λ (r : Row). r.1 * part r) (take i e.rows) + row.1 * worth row ≤ most_voters * most
+  rows-bound part less e most i row valid each found =
       let here : get_or e.rows i row ≡ row = get_or_from_slice_get e.rows i row row found in
       let within : i < length e.rows = slice_get_within e.rows i row found in
-      let part = rw here at (sum_by_more_le (λ (r : Row). r.1 * worth r) e.rows i row within) in
+      let so_far = rw here at (sum_by_more_le_part (λ (r : Row). r.1 * part r) (λ (r : Row). r.1 * worth r) e.rows i row within (λ r. mul-le-mul_left r.1 (less r))) in
       let product : voter_count e.rows * most ≤ most_voters * most = mul-le-mul {m₁ = most} valid.voters (omega arith) in
-      omega (arith, part, product, rows-most e.m most e.rows valid.ballots each)
+      omega (arith, so_far, product, rows-most e.m most e.rows valid.ballots each)
 
 -- by a table of the sums of increments
 pub thiele_value-by_sums : (m : ℕ) (weights sums : List ℕ) (rows : List Row) (committee : List ℕ) → m ≤ most_candidates → AreBallots m rows → sums ≡ prefix_sums weights
@@ -123,7 +123,7 @@ all_hits-most e committee valid = all-most (λ (r : Row). hits r.0 committee) e 
 -- a row has no more voters than there are
 pub votes-hits-most : (e : Election) (i : ℕ) (row : Row) (committee : List ℕ) → IsElection e → slice_get e.rows i ≡ Some row → row.1 * hits row.0 committee ≤ most_voters * most_candidates
 votes-hits-most e i row committee valid found =
-    omega (arith, rows-bound (λ (r : Row). hits r.0 committee) e most_candidates i row valid (λ r h. hits-most e.m r.0 committee valid.most h) found)
+    omega (arith, rows-bound (λ (r : Row). hits r.0 committee) (λ (r : Row). hits r.0 committee) (λ r. omega arith) e most_candidates i row valid (λ r h. hits-most e.m r.0 committee valid.most h) found)
 
 -- no part is more than the whole
 pub parts-bound : (n : ℕ) (shares : List ℕ) (x : ℕ) → n ≤ most_candidates → shares ≡ parts (common_multiple n) → get_or shares x 0 < 2 ^ 90

@@ -1,5 +1,5 @@
 -- What a set gains by a candidate, or loses with one, over the rows.
-use Rattle.std.proofs.Common.{◌≡◌, ℕ, zero, suc, ◌+◌, ◌*◌, ◌<◌, ◌≤◌, ◌^◌, ◌&&◌, ◌∙◌, Bool, true, false, cond, List, [], ◌∷◌, Some, refl, ap, arith, take, get_or, slice_get, sum_by, replicate}
+use Rattle.std.proofs.Common.{◌≡◌, ℕ, zero, suc, ◌+◌, ◌*◌, ◌≤◌, ◌^◌, ◌&&◌, ◌∙◌, Bool, true, false, cond, List, [], ◌∷◌, Some, refl, ap, arith, take, get_or, slice_get, sum_by, replicate}
 use Rattle.std.proofs.lemmas.List.Sums.{sum_by-cons}
 use Rattle.ballot_base.specs.CandSet.{has_member}
 use Rattle.ballot_base.specs.Ballots.{Row, Election, IsElection, hits}
@@ -39,17 +39,14 @@ weight-most : (weights : List ℕ) (j most : ℕ) → ((i : ℕ) → get_or weig
 weight-most weights zero most all = omega arith
 weight-most weights (suc j) most all = all j
 
-share-most : (step : Step) (weights set : List ℕ) (c most : ℕ) (row : Row) → ((i : ℕ) → get_or weights i 0 ≤ most) → share step weights set c row ≤ most
-share-most step weights set c most row all =
-    elim (has_member row.0 c) as (λ b. cond b (weight weights (hits_of step (hits row.0 set))) 0 ≤ most) [
-      | true ↦ weight-most weights (hits_of step (hits row.0 set)) most all
-      | false ↦ omega arith
-    ]
+pub part-most : (b : Bool) (n : ℕ) → cond b n 0 ≤ n
+part-most true n = omega arith
+part-most false n = omega arith
 
 pub worth-most : (step : Step) (e : Election) (weights set : List ℕ) (c most : ℕ) → IsElection e → ((i : ℕ) → get_or weights i 0 ≤ most)
     → worth step weights e.rows set c ≤ 2 ^ 32 * most
 worth-most step e weights set c most valid all =
-    omega (arith, worth-whole step weights e.rows set c, all-most (share step weights set c) e most valid (λ r up. share-most step weights set c most r all))
+    omega (arith, worth-whole step weights e.rows set c, all-most (share step weights set c) e most valid (λ r up. let more = weight-most weights (hits_of step (hits r.0 set)) most all in omega (arith, more, part-most (has_member r.0 c) (weight weights (hits_of step (hits r.0 set))))))
 
 module _ (step : Step) (weights set : List ℕ) where
   pub partial-more : (rows : List Row) (i c : ℕ) (row : Row) → slice_get rows i ≡ Some row
@@ -57,23 +54,12 @@ module _ (step : Step) (weights set : List ℕ) where
   partial-more rows i c row found =
       omega (arith, rows-more (share step weights set c) rows i row found, product-of-part (has_member row.0 c) row.1 (weight weights (hits_of step (hits row.0 set))))
 
-  pub partial-most : (e : Election) (most i c : ℕ) (row : Row) → IsElection e → ((j : ℕ) → get_or weights j 0 ≤ most) → slice_get e.rows i ≡ Some row
-      → partial step weights set c (take i e.rows) ≤ 2 ^ 32 * most
-  partial-most e most i c row valid all found =
-      omega (arith, rows-bound (share step weights set c) e most i row valid (λ r h. share-most step weights set c most r all) found)
-
-  pub row-most : (e : Election) (most i : ℕ) (row : Row) → IsElection e → ((j : ℕ) → get_or weights j 0 ≤ most) → slice_get e.rows i ≡ Some row
-      → row.1 * weight weights (hits_of step (hits row.0 set)) ≤ 2 ^ 32 * most
-  row-most e most i row valid all found =
-      omega (arith, rows-bound (λ (r : Row). weight weights (hits_of step (hits r.0 set))) e most i row valid (λ r h. weight-most weights (hits_of step (hits r.0 set)) most all) found)
-
-  pub partial-bound : (e : Election) (i c : ℕ) (row : Row) → IsElection e → ((j : ℕ) → get_or weights j 0 < 2 ^ 90) → slice_get e.rows i ≡ Some row
-      → partial step weights set c (take i e.rows) ≤ 2 ^ 122
-  partial-bound e i c row valid all = partial-most e (2 ^ 90) i c row valid (λ j. omega (arith, all j))
-
-  pub row-bound : (e : Election) (i : ℕ) (row : Row) → IsElection e → ((j : ℕ) → get_or weights j 0 < 2 ^ 90) → slice_get e.rows i ≡ Some row
-      → row.1 * weight weights (hits_of step (hits row.0 set)) ≤ 2 ^ 122
-  row-bound e i row valid all = row-most e (2 ^ 90) i row valid (λ j. omega (arith, all j))
+  -- the sum so far and what the next row's voters give
+  pub partial-fits : (e : Election) (most i c : ℕ) (row : Row) → IsElection e → ((j : ℕ) → get_or weights j 0 ≤ most) → slice_get e.rows i ≡ Some row
+      → partial step weights set c (take i e.rows) + row.1 * weight weights (hits_of step (hits row.0 set)) ≤ 2 ^ 32 * most
+  partial-fits e most i c row valid all found =
+      rows-bound (λ (r : Row). weight weights (hits_of step (hits r.0 set))) (share step weights set c) (λ r. part-most (has_member r.0 c) (weight weights (hits_of step (hits r.0 set)))) e most i row valid
+      (λ r h. weight-most weights (hits_of step (hits r.0 set)) most all) found
 
 pub no_total : (n i : ℕ) → get_or {A = ℕ} (replicate n 0) i 0 ≡ 0
 no_total zero i = refl

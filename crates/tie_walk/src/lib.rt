@@ -20,7 +20,7 @@ pub mod winners;
 
 pub use minimax::MinimaxTally;
 pub use satisfaction::SavTally;
-pub use sequential::{SeqRule, SeqWinners, add_to_members};
+pub use sequential::{SeqRule, SeqWinners};
 pub use tally::Tally;
 pub use thiele::ThieleTally;
 pub use winners::Winners;

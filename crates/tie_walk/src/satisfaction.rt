@@ -7,9 +7,8 @@ ghost use Rattle.tie_walk.specs.Ceilings.{IsTight, ceiling};
 ghost use Rattle.tie_walk.specs.Values.{satisfaction_value};
 ghost use Rattle.tie_walk.specs.Steps.Tables.{parts, score};
 
-use crate::sequential::add_to_members;
 use crate::tally::{Amounts, Tally, sum_of_worths};
-use ballot_base::{CandSet, PLACES, Profile, common_multiple};
+use ballot_base::{CandSet, PLACES, Profile, Worths, common_multiple};
 use std::alloc::{Allocator, Global};
 use std::marker::Model;
 
@@ -20,8 +19,8 @@ pub struct SavTally<'a, A: Allocator + Copy = Global> {
     profile: &'a Profile<A>,
     // What a hit on a ballot of n candidates gives, at n; 0 at 0.
     shares: [u128; PLACES],
-    // What each candidate gives a committee, at the candidate's number; 0 at 0.
-    scores: [u128; PLACES],
+    // What each candidate gives a committee.
+    scores: Worths,
 }
 
 impl<'a, A: Allocator + Copy> Model for SavTally<'a, A> {
@@ -96,15 +95,15 @@ fn parts(whole: u128) -> [u128; PLACES]
     parts
 }
 
-/// What each candidate gives a committee: the shares of the voters who approve the candidate; 0 at 0.
-fn scores<A: Allocator + Copy>(profile: &Profile<A>, shares: &[u128; PLACES]) -> [u128; PLACES]
+/// What each candidate gives a committee: the shares of the voters who approve the candidate.
+fn scores<A: Allocator + Copy>(profile: &Profile<A>, shares: &[u128; PLACES]) -> Worths
     requires { (n : ℕ) → slice_index shares.now n < 2 ^ 90 }
     ensures { (c : ℕ) → slice_index result c ≡ score shares.now profile.now.rows c }
 {
-    let mut totals = [0; PLACES];
+    let mut totals = Worths::none();
     for (ballot, voters) in profile.ballots() {
         let share = shares[usize::from(ballot.len())];
-        add_to_members(&mut totals, ballot, u128::from(voters) * share);
+        totals.add(ballot, u128::from(voters) * share);
     }
     totals
 }

@@ -2,16 +2,15 @@
 //!
 //! A walk knows of its tally only what the trait says: the value of a set, the law of the bound, and what `reach`
 //! answers about bounds. So one walk serves rules with plain bounds and families of committees. A sum of the greatest
-//! gains is found from the least of them, without sorting.
+//! gains is found from the least of them.
 ghost use Rattle.std.specs.Prelude.{◌≡◌, ℕ, ◌+◌, ◌-◌, ◌*◌, ◌^◌, ◌<◌, ◌≤◌, List, [], MatchOption, ⊤, filter, length, nat_le, slice_index, sum_by, true};
-ghost use Rattle.std.specs.List.{range_with_len};
 ghost use Rattle.ballot_base.specs.CandSet.{has_member};
-ghost use Rattle.ballot_base.specs.Limits.{most_candidates};
+ghost use Rattle.ballot_base.specs.Limits.{most_candidates, worth_limit};
 ghost use Rattle.ballot_base.specs.Lists.{IsIncreasing};
 ghost use Rattle.tie_walk.specs.Ceilings.{IsBound, IsShort, IsReach, greatest_sum};
-ghost use Rattle.tie_walk.specs.Steps.Tables.{sum_of_worths, IsReachBySums, IsThreshold};
+ghost use Rattle.tie_walk.specs.Steps.Tables.{sum_of_worths, IsReachBySums};
 
-use ballot_base::{CandSet, MOST_CANDIDATES, PLACES};
+use ballot_base::{CandSet, PLACES, Worths};
 
 /// What gives a committee its value.
 ///
@@ -89,10 +88,10 @@ pub(crate) fn sum_of_worths(counts: &[u64; PLACES], worths: &[u128; PLACES], mos
 /// What each of the candidates 1 to `m` adds to a committee, at the candidate's number.
 #[derive(Drop)]
 pub(crate) struct Amounts<'a> {
-    pub(crate) each: &'a [u128; PLACES],
+    pub(crate) each: &'a Worths,
     pub(crate) m: u8,
     ghost most: { m ≤ most_candidates },
-    ghost small: { (n : ℕ) → slice_index each.now n < 2 ^ 122 },
+    ghost small: { (n : ℕ) → slice_index each.now n < worth_limit },
 }
 
 impl Amounts<'_> {
@@ -104,8 +103,8 @@ impl Amounts<'_> {
         ensures most { (most : ℕ) → ((n : ℕ) → slice_index self.now.each.now n ≤ most) → result ≤ left * most }
     {
         let candidates = CandSet::after(c, self.m);
-        let threshold = self.threshold(candidates, left);
-        self.sum_above(candidates, left, threshold)
+        let threshold = self.each.nth_greatest(candidates, left);
+        u128::from(left) * threshold + self.each.excess(candidates, threshold)
     }
 
     /// A place from c on up to which the greatest sums of `left` candidates after it are as great as that after c.
@@ -116,74 +115,26 @@ impl Amounts<'_> {
         ensures { MatchOption result (greatest_sum (slice_index self.now.each.now) (c + 1) self.now.m left < least)
             (IsReachBySums (slice_index self.now.each.now) c self.now.m left least) }
     {
-        let candidates = CandSet::after(c, self.m);
-        let threshold = self.threshold(candidates, left);
-        if self.sum_above(candidates, left, threshold) < least {
+        if self.greatest_sum(c, left) < least {
             return None;
         }
-        Some(self.last_with(c, left, threshold))
-    }
-
-    /// The `left`-th greatest amount of the candidates: at least `left` of them reach it, and at most `left` exceed it.
-    /// (Hoare, Algorithm 65: Find, 1961)
-    fn threshold(&self, candidates: CandSet, left: u8) -> u128
-        requires { left ≤ length candidates }
-        ensures { IsThreshold (slice_index self.now.each.now) candidates left result }
-    {
-        let mut threshold = 0;
-        // Those above the threshold whose amounts are not known to be too great for it.
-        let mut open = candidates;
-        while let Some(candidate) = middle(open) {
-            let amount = self.each[usize::from(candidate)];
-            let reaching = self.reaching(candidates, amount);
-            if reaching.len() >= left {
-                threshold = amount;
-                open = self.reaching(open, amount + 1);
-            } else {
-                open = open.minus(reaching);
-            }
-        }
-        threshold
-    }
-
-    /// Those of the candidates whose amount is at least `least`.
-    fn reaching(&self, candidates: CandSet, least: u128) -> CandSet
-        ensures { result ≡ filter (λ n. nat_le least (slice_index self.now.each.now n)) candidates }
-    {
-        let mut reaching = candidates;
-        for candidate in candidates.members() {
-            if self.each[usize::from(candidate)] < least {
-                reaching = reaching.without(candidate);
-            }
-        }
-        reaching
-    }
-
-    /// `left` times the threshold, and what the candidates' amounts exceed it by.
-    fn sum_above(&self, candidates: CandSet, left: u8, threshold: u128) -> u128
-        requires { left * threshold + sum_by (λ n. slice_index self.now.each.now n - threshold) candidates < 2 ^ 128 }
-        ensures { result ≡ left * threshold + sum_by (λ n. slice_index self.now.each.now n - threshold) candidates }
-    {
-        let mut sum = u128::from(left) * threshold;
-        for candidate in candidates.members() {
-            sum += self.each[usize::from(candidate)].saturating_sub(threshold);
-        }
-        sum
+        Some(self.last_with(c, left))
     }
 
     /// The last place, from c on, that no candidate above the threshold is passed on the way to, and after which `left`
     /// still reach it.
-    fn last_with(&self, c: u8, left: u8, threshold: u128) -> u8
+    fn last_with(&self, c: u8, left: u8) -> u8
         requires within { c ≤ self.now.m }
-        requires threshold { IsThreshold (slice_index self.now.each.now) (range_with_len (c + 1) (self.now.m - c)) left
-            threshold }
+        requires fits { left ≤ self.now.m - c }
         ensures { (least : ℕ) → least ≤ greatest_sum (slice_index self.now.each.now) (c + 1) self.now.m left
             → IsReachBySums (slice_index self.now.each.now) c self.now.m left least result }
     {
-        let mut spare = self.reaching(CandSet::after(c, self.m), threshold).len() - left;
+        let candidates = CandSet::after(c, self.m);
+        let threshold = self.each.nth_greatest(candidates, left);
+        let mut spare = self.each.at_least(candidates, threshold).len() - left;
         let mut last = c;
         while last < self.m {
-            let amount = self.each[usize::from(last) + 1];
+            let amount = self.each.of(last + 1);
             if amount > threshold || amount == threshold && spare == 0 {
                 return last;
             }
@@ -193,17 +144,5 @@ impl Amounts<'_> {
             last += 1;
         }
         last
-    }
-}
-
-/// A member of a set, in the middle of its members if they follow each other.
-fn middle(set: CandSet) -> Option<u8>
-    ensures { MatchOption result (set ≡ []) (λ n. (has_member set n ≡ true) × (n ≤ most_candidates)) }
-{
-    let (first, _others) = set.split_first()?;
-    let passed = (first + set.len() / 2 - 1).min(MOST_CANDIDATES);
-    match set.minus(CandSet::all(passed)).split_first() {
-        Some((middle, _others)) => Some(middle),
-        None => Some(first),
     }
 }

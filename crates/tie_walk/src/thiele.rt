@@ -15,7 +15,7 @@ ghost use Rattle.tie_walk.specs.Steps.Tables.{prefix_sums};
 use crate::sequential::{Step, worths};
 use crate::tally::{Amounts, Tally, sum_of_worths};
 use ballot_base::{
-    CandSet, Increments, MOST_CANDIDATES, MOST_MEMBERS, PLACES, Profile, ThieleRule,
+    CandSet, Increments, MOST_CANDIDATES, MOST_MEMBERS, PLACES, Profile, ThieleRule, Worths,
 };
 use std::alloc::{Allocator, Global};
 use std::marker::Model;
@@ -78,8 +78,8 @@ impl<'a, A: Allocator + Copy> ThieleTally<'a, A> {
         self.rule
     }
 
-    /// What a set gains by each of the others, at the candidate's number.
-    pub fn gains(&self, set: CandSet, others: CandSet) -> [u128; PLACES]
+    /// What a set gains by each of the others.
+    pub fn gains(&self, set: CandSet, others: CandSet) -> Worths
         ensures gains { (n : ℕ) → has_member others n ≡ true → slice_index result n
             ≡ gain (increments self.now.rule self.now.k) self.now.election.rows set n }
         ensures small { (n : ℕ) → slice_index result n ≤ 2 ^ 116 }
@@ -87,11 +87,11 @@ impl<'a, A: Allocator + Copy> ThieleTally<'a, A> {
         if self.sums[PLACES - 1] >= SMALL {
             return worths(self.profile, Step::Grow, &self.weights, set);
         }
-        widened(&hits_and_gains(self.profile, &self.weights, set, others).1)
+        hits_and_gains(self.profile, &self.weights, set, others).1
     }
 
     /// The value of a set, and what `gains` returns, in one pass where the sums are small.
-    fn value_and_gains(&self, set: CandSet, others: CandSet) -> (u128, [u128; PLACES])
+    fn value_and_gains(&self, set: CandSet, others: CandSet) -> (u128, Worths)
         ensures value { result.0 ≡ thiele_value (increments self.now.rule self.now.k) self.now.election.rows set }
         ensures gains { (n : ℕ) → has_member others n ≡ true → slice_index result.1 n
             ≡ gain (increments self.now.rule self.now.k) self.now.election.rows set n }
@@ -103,12 +103,11 @@ impl<'a, A: Allocator + Copy> ThieleTally<'a, A> {
         }
         let (counts, gains) = hits_and_gains(self.profile, &self.weights, set, others);
         let value = sum_of_worths(&counts, &self.sums, self.m);
-        (value, widened(&gains))
+        (value, gains)
     }
 
-    /// The value of a set of the candidates 1 to c, and what it gains by each candidate after c, at the candidate's
-    /// number.
-    fn gains_after(&self, c: u8, set: CandSet) -> (u128, [u128; PLACES])
+    /// The value of a set of the candidates 1 to c, and what it gains by each candidate after c.
+    fn gains_after(&self, c: u8, set: CandSet) -> (u128, Worths)
         requires within { c ≤ self.now.election.m }
         ensures value { result.0 ≡ thiele_value (increments self.now.rule self.now.k) self.now.election.rows set }
         ensures gains { (n : ℕ) → c < n → n ≤ self.now.election.m → slice_index result.1 n
@@ -209,7 +208,7 @@ fn hits_and_gains<A: Allocator + Copy>(
     weights: &[u128],
     set: CandSet,
     others: CandSet,
-) -> ([u64; PLACES], [u64; PLACES])
+) -> ([u64; PLACES], Worths)
     requires small { (j : ℕ) → slice_index weights.now j < 2 ^ 31 }
     ensures counts { (j : ℕ) → slice_index result.0 j
         ≡ voter_count (filter (λ row. hits row.0 set == j) profile.now.rows) }
@@ -217,38 +216,14 @@ fn hits_and_gains<A: Allocator + Copy>(
         ≡ (if has_member others n then gain weights.now profile.now.rows set n else 0) }
 {
     let mut counts = [0; PLACES];
-    let mut gains = [0; PLACES];
+    let mut gains = Worths::none();
     for (ballot, voters) in profile.ballots() {
         let hits = ballot.common(set).len();
         counts[usize::from(hits)] += voters;
-        let weight = Step::Grow.weight(weights, hits) as u64;
-        add_votes(&mut gains, ballot.common(others), voters * weight);
+        let votes = voters * Step::Grow.weight(weights, hits) as u64;
+        if votes > 0 {
+            gains.add(ballot.common(others), u128::from(votes));
+        }
     }
     (counts, gains)
-}
-
-/// Adds to the total of each member of a set.
-fn add_votes(totals: &mut [u64; PLACES], set: CandSet, votes: u64)
-    requires fits { (c : ℕ) → slice_index totals.old c + votes < 2 ^ 64 }
-    ensures { (c : ℕ) → slice_index totals.new c
-        ≡ slice_index totals.old c + (if has_member set c then votes else 0) }
-{
-    if votes == 0 {
-        return;
-    }
-    for member in set.members() {
-        totals[usize::from(member)] += votes;
-    }
-}
-
-/// The same totals in wider words.
-fn widened(totals: &[u64; PLACES]) -> [u128; PLACES]
-    ensures same { (n : ℕ) → slice_index result n ≡ slice_index totals.now n }
-    ensures small { (n : ℕ) → slice_index result n < 2 ^ 64 }
-{
-    let mut wide = [0; PLACES];
-    for n in 0..PLACES {
-        wide[n] = u128::from(totals[n]);
-    }
-    wide
 }

@@ -1,5 +1,5 @@
 -- What tallies keep, and how they sum.
-use Rattle.std.specs.Prelude.{◌≡◌, ℕ, ◌+◌, ◌*◌, ◌/◌, ◌≤◌, List, ◌∷◌, filter, length, map, nat_le, sum, sum_by, take, slice_index}
+use Rattle.std.specs.Prelude.{◌≡◌, ℕ, ◌+◌, ◌*◌, ◌/◌, ◌≤◌, List, ◌∷◌, length, map, sum, sum_by, take, slice_index}
 use Rattle.std.specs.List.{range_with_len}
 use Rattle.ballot_base.specs.Limits.{most_candidates, most_members}
 use Rattle.ballot_base.specs.Ballots.{Row, Election, IsElection}
@@ -21,15 +21,6 @@ parts whole = 0 ∷ map (λ n. whole / n) (range_with_len 1 most_candidates)
 abbrev pub sum_of_worths : List ℕ → List ℕ → ℕ → ℕ
 sum_of_worths counts worths most =
     sum (map (λ j. slice_index counts j * slice_index worths j) (range_with_len 0 (most + 1)))
-
--- how many of the numbers are worth so much at least
-abbrev pub reaching : (ℕ → ℕ) → ℕ → List ℕ → ℕ
-reaching worth least numbers = length (filter (λ n. nat_le least (worth n)) numbers)
-
--- at least `left` of the numbers are worth as much as the threshold, and no more than `left` are worth more
-abbrev pub IsThreshold : (ℕ → ℕ) → List ℕ → ℕ → ℕ → Type 0
-IsThreshold worth numbers left threshold =
-    (reaching worth (threshold + 1) numbers ≤ left) × (left ≤ reaching worth threshold numbers)
 
 -- a candidate, from c on, up to whom the greatest sum of `left` of what the candidates after each have is so great
 pub record IsReachBySums (worth : ℕ → ℕ) (c m left least last : ℕ) : Type 0 where

@@ -1,15 +1,10 @@
 use Rattle.std.proofs.Common.{◌≡◌, ℕ, ◌+◌, ◌-◌, ◌*◌, ◌^◌, ◌≤◌, ◌∙◌, cond, sym, ap, arith, length, take, get_or, sum_by}
 use Rattle.std.proofs.lemmas.List.{length_push}
-use Rattle.ballot_base.specs.Limits.{most_candidates}
 use Rattle.ballot_base.specs.CandSet.{has_member}
 use Rattle.ballot_base.specs.Ballots.{Row}
 use Rattle.ballot_base.proofs.Turns.{row_of_turn, all_passed}
-use Rattle.tie_walk.proofs.Gains.{given, score-whole, score-more, score-bound, share-bound}
-use Rattle.tie_walk.proofs.WorthLemmas.{no_total}
+use Rattle.tie_walk.proofs.Gains.{given, score-whole, score-more, score-fits}
 use Rattle.tie_walk.proofs.satisfaction.scores.Goals as goal
-
-pub loop-ballot-init : goal.loop-ballot-init
-loop-ballot-init g c = no_total (most_candidates + 1)
 
 pub overflow_mul-from : goal.overflow_mul-from
 overflow_mul-from g c =
@@ -20,10 +15,10 @@ overflow_mul-from g c =
     let size : c.from.result ≡ length row.0 = c.from.ensures ∙ c.len.ensures.count in
     let product : c.from-in-loop-ballot.result * get_or shares c.from.result 0 ≡ row.1 * get_or shares (length row.0) 0 =
     ap (λ n. n * get_or shares c.from.result 0) c.from-in-loop-ballot.ensures ∙ ap (λ n. row.1 * get_or shares n 0) size in
-    omega (arith, product, share-bound shares 0 small c.args.profile.now (length c.loop-ballot.yielded) row c.ballots-ballot-items.ensures.valid at)
+    omega (arith, product, score-fits shares 0 small c.args.profile.now (length c.loop-ballot.yielded) row c.ballots-ballot-items.ensures.valid at)
 
-pub add_to_members-requires : goal.add_to_members-requires
-add_to_members-requires g c =
+pub add-requires : goal.add-requires
+add-requires g c =
     let row : Row = (c.in-Some.ballot, c.in-Some.voters) in
     let at = row_of_turn c.args.profile.now.rows (c.into_iter-ballot-iterator.ensures.into_iter_gives ∙ c.ballots-ballot-items.ensures.rows) c.loop-ballot.yielded c.loop-ballot.yielded_by row c.in-Some.ensures.steps in
     let shares = c.args.shares.now in
@@ -36,8 +31,7 @@ add_to_members-requires g c =
         arith,
         product,
         c.loop-ballot.invariant k,
-        score-bound shares k small c.args.profile.now (length c.loop-ballot.yielded) row c.ballots-ballot-items.ensures.valid at,
-        share-bound shares k small c.args.profile.now (length c.loop-ballot.yielded) row c.ballots-ballot-items.ensures.valid at,
+        score-fits shares k small c.args.profile.now (length c.loop-ballot.yielded) row c.ballots-ballot-items.ensures.valid at,
       );
     }
 
@@ -52,7 +46,7 @@ loop-ballot-preserved g c =
     let size : c.from.result ≡ length row.0 = c.from.ensures ∙ c.len.ensures.count in
     let product : c.from-in-loop-ballot.result * get_or shares c.from.result 0 ≡ row.1 * get_or shares (length row.0) 0 =
     ap (λ n. n * get_or shares c.from.result 0) c.from-in-loop-ballot.ensures ∙ ap (λ n. row.1 * get_or shares n 0) size in
-    λ k. c.add_to_members.ensures k ∙ ap (λ n. n + cond (has_member row.0 k) (c.from-in-loop-ballot.result * get_or shares c.from.result 0) 0) (c.loop-ballot.invariant k)
+    λ k. c.add.ensures k ∙ ap (λ n. n + cond (has_member row.0 k) (c.from-in-loop-ballot.result * get_or shares c.from.result 0) 0) (c.loop-ballot.invariant k)
     ∙ ap (λ x. sum_by (λ (r : Row). r.1 * given shares k r) (take (length c.loop-ballot.yielded) rows) + cond (has_member row.0 k) x 0) product
     ∙ sym (score-more shares k small rows (length c.loop-ballot.yielded) row at)
     ∙ ap (λ n. sum_by (λ (r : Row). r.1 * given shares k r) (take n rows)) next

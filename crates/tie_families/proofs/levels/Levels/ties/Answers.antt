@@ -1,12 +1,13 @@
-use Rattle.std.proofs.Common.{◌≡◌, ℕ, ◌-◌, ◌==◌, ◌&&◌, ◌∙◌, Bool, true, false, [], sym, ap, arith, get_or, filter}
+use Rattle.std.proofs.Common.{◌≡◌, ℕ, ◌-◌, ◌^◌, ◌==◌, ◌&&◌, ◌∙◌, Bool, true, false, [], sym, ap, arith, get_or, filter}
 use Rattle.std.specs.List.{range_with_len}
 use Rattle.std.proofs.lemmas.Bool.{and_from, and_left, and_right, eq-eqb, ne_eqb}
 use Rattle.tie_walk.specs.Steps.Choices.{may_choose}
 use Rattle.tie_walk.proofs.StepLemmas.{filter-left}
+use Rattle.tie_walk.proofs.WorthLemmas.{worth-most}
 use Rattle.tie_families.specs.Steps.Levels.{is_first_open}
 use Rattle.tie_families.proofs.StepLemmas.{ties-are, passes-more}
 use Rattle.tie_families.proofs.levels.Levels.ties.Goals as goal
-use Rattle.tie_families.proofs.levels.Levels.ties.Goals.{then-may_choose+then-worths-from+then-is_first_open, else-may_choose, else-may_choose-via-then-may_choose+then-worths-from+else-is_first_open, else-may_choose-via-then-may_choose+else-worths-from, else-may_choose-via-else-may_choose}
+use Rattle.tie_families.proofs.levels.Levels.ties.Goals.{then-may_choose+then-of-best+then-is_first_open, else-may_choose, else-may_choose-via-then-may_choose+then-of-best+else-is_first_open, else-may_choose-via-then-may_choose+else-of-best, else-may_choose-via-else-may_choose}
 
 pub loop-c-preserved : goal.loop-c-preserved
 loop-c-preserved g c =
@@ -18,21 +19,21 @@ loop-c-preserved g c =
     let table = c.args.self.now.clones.now in
     let test : ℕ → Bool = λ (d : ℕ). may_choose step set d && (get_or worths d 0 == best && is_first_open step (get_or table d []) set d) in
     elim c.if-may_choose.branch [
-      | then-may_choose+then-worths-from+then-is_first_open w ↦
+      | then-may_choose+then-of-best+then-is_first_open w ↦
           let free : may_choose step set k ≡ true = sym c.may_choose.ensures ∙ w.if-may_choose.true in
-          let worth : (get_or worths k 0 == best) ≡ true = eq-eqb (get_or worths k 0) best (ap (λ d. get_or worths d 0) (sym w.from.ensures) ∙ w.if-worths-from.true) in
+          let worth : (get_or worths k 0 == best) ≡ true = eq-eqb (get_or worths k 0) best (sym w.of.ensures.value ∙ w.if-of-best.true) in
           let first : is_first_open step (get_or table k []) set k ≡ true = ap (λ s. is_first_open step s set k) (sym w.class.ensures) ∙ sym w.is_first_open.ensures ∙ w.if-is_first_open.true in
           let is : test k ≡ true = and_from (may_choose step set k) (get_or worths k 0 == best && is_first_open step (get_or table k []) set k) free
           (and_from (get_or worths k 0 == best) (is_first_open step (get_or table k []) set k) worth first) in
           passes-more test k c.loop-c.ties c.if-may_choose.ties c.loop-c.auto.c is c.loop-c.invariant (w.ties-is ∙ w.with-ties.ensures)
       | else-may_choose w ↦
           let is : test k ≡ false = elim w.else-may_choose.branch [
-            | else-may_choose-via-then-may_choose+then-worths-from+else-is_first_open u ↦
+            | else-may_choose-via-then-may_choose+then-of-best+else-is_first_open u ↦
                 let later : is_first_open step (get_or table k []) set k ≡ false = ap (λ s. is_first_open step s set k) (sym u.class.ensures) ∙ sym u.is_first_open.ensures ∙ u.if-is_first_open.false in
                 and_right (may_choose step set k) (get_or worths k 0 == best && is_first_open step (get_or table k []) set k)
                 (and_right (get_or worths k 0 == best) (is_first_open step (get_or table k []) set k) later)
-            | else-may_choose-via-then-may_choose+else-worths-from u ↦
-                let less : get_or worths k 0 ≡ best → ⊥ = λ e. u.if-worths-from.false (ap (λ d. get_or worths d 0) u.from.ensures ∙ e) in
+            | else-may_choose-via-then-may_choose+else-of-best u ↦
+                let less : get_or worths k 0 ≡ best → ⊥ = λ e. u.if-of-best.false (u.of.ensures.value ∙ e) in
                 and_right (may_choose step set k) (get_or worths k 0 == best && is_first_open step (get_or table k []) set k)
                 (and_left (get_or worths k 0 == best) (is_first_open step (get_or table k []) set k) (ne_eqb (get_or worths k 0) best less))
             | else-may_choose-via-else-may_choose u ↦
@@ -51,4 +52,4 @@ returns g c =
     let all : c.loop-c.c - 1 ≡ e.m = omega (arith, c.m-c-end.ensures.value) in
     let test : ℕ → Bool = λ (d : ℕ). may_choose s.step set d && (get_or worths d 0 == c.args.best && is_first_open s.step (get_or table d []) set d) in
     c.loop-c.invariant ∙ ap (λ n. filter test (range_with_len 1 n)) all
-    ∙ ties-are s.step s.weights.now e.m e.rows set (λ d. get_or worths d 0) c.args.best table c.requires.worths (λ d. omega (arith, c.fits-worths d)) c.requires.best s.classes
+    ∙ ties-are s.step s.weights.now e.m e.rows set (λ d. get_or worths d 0) c.args.best table c.requires.worths (λ d. omega (arith, c.requires.worths d, worth-most s.step e s.weights.now set d (2 ^ 90 - 1) c.m-c-end.ensures.valid (λ i. omega (arith, s.small i)))) c.requires.best s.classes

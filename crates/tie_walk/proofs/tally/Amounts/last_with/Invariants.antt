@@ -1,7 +1,7 @@
 use Rattle.std.proofs.Common.{◌≡◌, ◌+◌, ◌-◌, ◌≤◌, get_or}
 use Rattle.std.specs.List.{range_with_len}
 use Rattle.tie_walk.specs.Ceilings.{greatest_sum}
-use Rattle.tie_walk.specs.Steps.Tables.{IsThreshold, reaching}
+use Rattle.ballot_base.specs.Worths.{IsThreshold, reaching}
 use Rattle.tie_walk.proofs.tally.Amounts.last_with.Given as goal
 
 -- the threshold is one of the candidates after the place, too, and their sum is as great

@@ -1,9 +1,11 @@
 use Rattle.std.proofs.Common.{◌≡◌, ℕ, ◌^◌, ◌≤◌, ◌∙◌, cond, ap, arith, get_or}
 use Rattle.ballot_base.specs.Ballots.{Election}
 use Rattle.ballot_base.specs.Increments.{increments}
+use Rattle.ballot_base.specs.CandSet.{has_member}
 use Rattle.tie_walk.specs.Sequences.{gain}
 use Rattle.tie_walk.specs.Values.{Thiele, thiele_of}
 use Rattle.tie_walk.proofs.Gains.{gain-most, weights-small}
+use Rattle.tie_walk.proofs.WorthLemmas.{part-most}
 use Rattle.tie_walk.proofs.TableLemmas.{weights-least}
 use Rattle.tie_walk.proofs.thiele.ThieleTally.gains.Goals as goal
 
@@ -28,10 +30,18 @@ returns-clause-gains g c n wanted =
     let t = c.self.inside in
     let e : Election = t.profile.now in
     let same : thiele_of e t.rule t.k ≡ c.args.self.now = c.self.view_is in
-    c.widened.ensures.same n ∙ c.hits_and_gains.ensures.gains n
+    c.hits_and_gains.ensures.gains n
     ∙ ap (λ b. cond b (gain t.weights e.rows c.args.set n) 0) wanted
     ∙ ap (λ l. gain l e.rows c.args.set n) c.self.invariant.weights_are
     ∙ ap (λ (x : Thiele). gain (increments x.rule x.k) x.election.rows c.args.set n) same
 
 pub returns-clause-small : goal.returns-clause-small
-returns-clause-small g c n = omega (arith, c.widened.ensures.small n)
+returns-clause-small g c n =
+    let t = c.self.inside in
+    let small : (i : ℕ) → get_or t.weights i 0 ≤ 2 ^ 84 = λ i. weights-small t.rule t.k t.weights i c.self.invariant.size c.self.invariant.weights_are in
+    omega (
+      arith,
+      c.hits_and_gains.ensures.gains n,
+      part-most (has_member c.args.others n) (gain t.weights t.profile.now.rows c.args.set n),
+      gain-most t.profile.now t.weights c.args.set n (2 ^ 84) c.self.invariant.election small,
+    )
