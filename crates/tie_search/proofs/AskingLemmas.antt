@@ -9,7 +9,8 @@ use Rattle.tie_search.specs.Steps.Branches.{AreSized, AreStacked, IsAsking, IsBa
 use Rattle.tie_search.specs.declared.asking.Asking.{Asking}
 use Rattle.tie_search.specs.declared.best.Best.{Best}
 use Rattle.tie_search.specs.declared.branch.Branch.{Branch}
-use Rattle.tie_search.proofs.BranchLemmas.{all-append, all-front, grown-is, joined-stacked, left-branch, left-completes, left-stacked, sized-pop, sized-push, stacked-pop, with-branch, without-branch}
+use Rattle.tie_search.proofs.BranchLemmas.{grown-is, with-branch, without-branch}
+use Rattle.tie_search.proofs.StackLemmas.{all-append, all-front, joined-stacked, left-branch, left-completes, left-stacked, sized-pop, sized-push, stacked-pop}
 
 module _ {S : Type 0} (value : S → List ℕ → ℕ) (candidates : S → ℕ) where
   -- the same is searched, and these branches are left

@@ -1,6 +1,6 @@
 -- A candidate who was tried takes the place of a clone.
 use Rattle.std.proofs.Common.{◌≡◌, ℕ, ◌-◌, ◌≤◌, ◌==◌, ◌&&◌, ◌||◌, ◌∙◌, Bool, true, false, not, List, refl, sym, ap, arith, inl, inr, length}
-use Rattle.std.proofs.lemmas.Bool.{cases_Bool, cases_eq, eq-eqb, ne_eqb}
+use Rattle.std.proofs.lemmas.Bool.{cases_Bool, cases_eq, eq-eqb, ne_eqb, or_right}
 use Rattle.ballot_base.specs.Lists.{IsIncreasing}
 use Rattle.ballot_base.specs.CandSet.{has_member, other_members, with_member, without_member}
 use Rattle.ballot_base.specs.Ballots.{Row}
@@ -65,9 +65,9 @@ module _ (m : ℕ) (committee : List ℕ) (c d : ℕ) (up : IsIncreasing 1 m com
       → IsCompletion m set free left (exchanged committee c d)
   completion-exchanged set free left is_node is_free not_in whole = record {
     candidates = IsIncreasing-with_member 1 m less c low high less-up;
-    whole = λ x is. has_member-with_member less c x ∙ or-right (c == x) (has_member less x) (stays x (whole.whole x is) (λ same. let e : true ≡ false = sym is ∙ ap (has_member set) same ∙ not_in in cc));
+    whole = λ x is. has_member-with_member less c x ∙ or_right (c == x) (has_member less x) (stays x (whole.whole x is) (λ same. let e : true ≡ false = sym is ∙ ap (has_member set) same ∙ not_in in cc));
     within = λ x is. elim (cases_eq x c) [
-      | inl same ↦ or-right (has_member set x) (has_member free x) (ap (has_member free) same ∙ is_free)
+      | inl same ↦ or_right (has_member set x) (has_member free x) (ap (has_member free) same ∙ is_free)
       | inr other ↦ whole.within x (without-is committee d x (sym (has_member-with_member less c x ∙ ap (λ b. b || has_member less x) (ne_eqb c x (λ e. other (sym e)))) ∙ is))
     ];
     size = exchanged-size low high ∙ whole.size;
@@ -78,10 +78,6 @@ module _ (m : ℕ) (committee : List ℕ) (c d : ℕ) (up : IsIncreasing 1 m com
 
       high : c ≤ m
       high = member-high 1 m free c is_node.free_within is_free
-
-      or-right : (p q : Bool) → q ≡ true → (p || q) ≡ true
-      or-right true q h = refl
-      or-right false q h = h
 
       stays : (x : ℕ) → has_member committee x ≡ true → (x ≡ d → ⊥) → has_member less x ≡ true
       stays x is other = member-without committee d x ∙ ap (λ b. not b && has_member committee x) (ne_eqb x d other) ∙ is

@@ -1,6 +1,6 @@
 -- Committees that complete a set, as its members grow and its free candidates are struck out.
 use Rattle.std.proofs.Common.{◌≡◌, ℕ, ◌+◌, ◌-◌, ◌*◌, ◌<◌, ◌≤◌, ◌==◌, ◌&&◌, ◌||◌, ◌∙◌, Bool, true, false, cond, not, List, [], ◌∷◌, ◌++◌, refl, sym, ap, arith, inl, inr, length, filter, sum, take}
-use Rattle.std.proofs.lemmas.Bool.{cases_eq, eq-eqb, ne_eqb, cases_lt}
+use Rattle.std.proofs.lemmas.Bool.{cases_eq, eq-eqb, ne_eqb, cases_lt, or_right}
 use Rattle.std.proofs.lemmas.List.Filters.{length-filter_both}
 use Rattle.std.proofs.lemmas.List.Folds.{list_any-append}
 use Rattle.std.proofs.lemmas.List.Sums.{sum_by-cons}
@@ -8,7 +8,9 @@ use Rattle.ballot_base.specs.Lists.{IsIncreasing}
 use Rattle.std.specs.List.{range_with_len}
 use Rattle.ballot_base.specs.CandSet.{common_members, has_member, with_member, without_member}
 use Rattle.ballot_base.specs.Ballots.{Row, hits}
-use Rattle.ballot_base.proofs.Increasing.{IsIncreasing-filter, IsIncreasing-with_member, has_member-below, has_member-above, has_member-filter, has_member-with_member, same_increasing}
+use Rattle.ballot_base.proofs.Increasing.{IsIncreasing-filter, IsIncreasing-with_member, has_member-below, has_member-filter, has_member-with_member, same_increasing}
+pub use Rattle.ballot_base.proofs.Passed.{member-high}
+use Rattle.ballot_base.proofs.Passed.{filter-member}
 use Rattle.tie_walk.specs.Values.{thiele_value}
 use Rattle.tie_walk.proofs.LawLemmas.{IsIncreasing-range}
 use Rattle.tie_search.specs.Completions.{IsNode, IsCompletion}
@@ -20,12 +22,6 @@ pub member-low : (first last : ℕ) (set : List ℕ) (n : ℕ) → IsIncreasing 
 member-low first last set n up here = elim (cases_lt n first) [
   | inl low ↦ absurd (let e : true ≡ false = sym here ∙ has_member-below first last set n up low in cc)
   | inr high ↦ omega arith
-]
-
-pub member-high : (first last : ℕ) (set : List ℕ) (n : ℕ) → IsIncreasing first last set → has_member set n ≡ true → n ≤ last
-member-high first last set n up here = elim (cases_lt last n) [
-  | inl high ↦ absurd (let e : true ≡ false = sym here ∙ has_member-above first last set n up high in cc)
-  | inr low ↦ omega arith
 ]
 
 pub member-without : (set : List ℕ) (n x : ℕ) → has_member (without_member set n) x ≡ (not (x == n) && has_member set x)
@@ -41,7 +37,7 @@ without-other n x h same = let e : not (x == n) ≡ false = ap not (eq-eqb x n s
 
 -- who is left without n was there, and is not n
 pub without-is : (set : List ℕ) (n x : ℕ) → has_member (without_member set n) x ≡ true → has_member set x ≡ true
-without-is set n x h = (and-true (not (x == n)) (has_member set x) (sym (member-without set n x) ∙ h)).1
+without-is set n = filter-member (λ y. not (y == n)) set
 
 pub without-not : (set : List ℕ) (n x : ℕ) → has_member (without_member set n) x ≡ true → x ≡ n → ⊥
 without-not set n x h = without-other n x (and-true (not (x == n)) (has_member set x) (sym (member-without set n x) ∙ h)).0
@@ -93,6 +89,10 @@ with-longer m set n up low high new =
       | inl same ↦ ap (λ b. not b && has_member (with_member set n) x) (eq-eqb x n same) ∙ sym new ∙ ap (has_member set) (sym same)
       | inr other ↦ ap (λ b. not b && has_member (with_member set n) x) (ne_eqb x n other) ∙ with-stays set n x other
     ]
+
+pub or-more : (p q r : Bool) → (q ≡ true → r ≡ true) → (p || q) ≡ true → (p || r) ≡ true
+or-more true q r h is = refl
+or-more false q r h is = h is
 
 -- ---- a branch of the search
 
@@ -152,20 +152,12 @@ module _ (m : ℕ) (set free : List ℕ) (left n : ℕ) (is_node : IsNode m set 
       | inr other ↦ below.whole x (with-stays set n x other ∙ is)
     ];
     within = λ x is. elim (cases_eq x n) [
-      | inl same ↦ or-right (has_member set x) (has_member free x) (ap (has_member free) same ∙ here)
+      | inl same ↦ or_right (has_member set x) (has_member free x) (ap (has_member free) same ∙ here)
       | inr other ↦ or-more (has_member set x) (has_member rest x) (has_member free x) (among x)
           (sym (ap (λ b. b || has_member rest x) (with-stays set n x other)) ∙ below.within x is)
     ];
     size = omega (arith, below.size, longer, some);
   }
-    where
-      or-right : (p q : Bool) → q ≡ true → (p || q) ≡ true
-      or-right true q h = refl
-      or-right false q h = h
-
-      or-more : (p q r : Bool) → (q ≡ true → r ≡ true) → (p || q) ≡ true → (p || r) ≡ true
-      or-more true q r h is = refl
-      or-more false q r h is = h is
 
 -- ---- the whole of a completion
 
@@ -178,7 +170,7 @@ module _ (m : ℕ) (set free : List ℕ) (left : ℕ) (committee : List ℕ) (is
   added-increasing = IsIncreasing-filter (has_member committee) 1 m free is_node.free_within
 
   pub added-free : (n : ℕ) → has_member added n ≡ true → has_member free n ≡ true
-  added-free n h = (and-true (has_member committee n) (has_member free n) (sym (has_member-filter (has_member committee) free n) ∙ h)).1
+  added-free = filter-member (has_member committee) free
 
   both-is : (p q r : Bool) → (p ≡ true → q ≡ true) → (q ≡ true → (p || r) ≡ true) → q ≡ (p || (q && r))
   both-is true q r h k = h refl

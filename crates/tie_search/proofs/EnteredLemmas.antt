@@ -9,6 +9,7 @@ use Rattle.std.proofs.Math.Bool.{or-false, or_assoc}
 use Rattle.std.proofs.Math.Seq.{take-append_seam}
 use Rattle.std.proofs.lemmas.Nat.{pow-add, pow_pos}
 use Rattle.std.proofs.lemmas.List.{length-map}
+use Rattle.std.proofs.lemmas.List.FromFn.{length-range_with_len}
 use Rattle.std.proofs.lemmas.List.Sums.{count_by-le-length, length-filter, sum_by-cons}
 use Rattle.std.proofs.lemmas.Slice.Eq.{bytes_eq-Decides}
 use Rattle.ballot_base.specs.Limits.{most_candidates}
@@ -16,6 +17,7 @@ use Rattle.ballot_base.specs.Lists.{IsIncreasing, increasing_lists, later_than, 
 use Rattle.ballot_base.proofs.Committees.{chosen-from_contains, increasing_lists-contains, increasing_lists-once}
 use Rattle.ballot_base.specs.CandSet.{has_member, with_member}
 use Rattle.ballot_base.proofs.Increasing.{has_member_head}
+use Rattle.ballot_base.proofs.Sums.{sum-most}
 use Rattle.tie_walk.specs.Winners.{winners}
 use Rattle.tie_walk.proofs.LawLemmas.{Contains-filter, Contains-from_filter, passes-from_filter, winner-from_is, winner-is}
 use Rattle.tie_walk.proofs.WinnersLemmas.{same_filter}
@@ -23,7 +25,8 @@ use Rattle.tie_search.specs.Asked.{begins_some, beginnings}
 use Rattle.tie_search.specs.Tied.{IsBest}
 use Rattle.tie_search.specs.Steps.Branches.{AreSized, AreStacked, ComesBefore, IsBranch, IsCounted, IsWinnerOf, completes, completes_some}
 use Rattle.tie_search.specs.Steps.Branches.{first_branches, is_new, new_beginnings, sets_of, to_enter, winners_of}
-use Rattle.tie_search.proofs.BranchLemmas.{AreBefore, added-later, branch-node, grown-is, joined-left, last-some, none-left, split-same, with-branch}
+use Rattle.tie_search.proofs.BranchLemmas.{branch-node, grown-is, split-same, with-branch}
+use Rattle.tie_search.proofs.StackLemmas.{AreBefore, added-later, joined-left, last-some, none-left}
 use Rattle.tie_search.proofs.CompletionLemmas.{member-low}
 use Rattle.tie_search.proofs.ReachLemmas.{any-found, any-true}
 use Rattle.tie_search.specs.declared.asking.Asking.{Asking}
@@ -69,11 +72,8 @@ sum-least f g a zero less = omega arith
 sum-least f g a (suc n) less =
     omega (arith, sum_by-cons f a (range_with_len (a + 1) n), sum_by-cons g a (range_with_len (a + 1) n), less a, sum-least f g (a + 1) n less)
 
-sum-most : (f : ℕ → ℕ) (most a n : ℕ) → ((s : ℕ) → f s ≤ most) → sum_by f (range_with_len a n) ≤ n * most
-sum-most f most a zero less = omega arith
-sum-most f most a (suc n) less =
-    let times : suc n * most ≡ n * most + most = omega arith in
-    omega (arith, times, sum_by-cons f a (range_with_len (a + 1) n), less a, sum-most f most (a + 1) n less)
+sum-most_in_range : (f : ℕ → ℕ) (most a n : ℕ) → ((s : ℕ) → f s ≤ most) → sum_by f (range_with_len a n) ≤ n * most
+sum-most_in_range f most a n less = subst (λ count. sum_by f (range_with_len a n) ≤ count * most) (length-range_with_len a n) (sum-most f most (range_with_len a n) less)
 
 -- ---- what tests keep
 
@@ -160,7 +160,7 @@ module _ (m k : ℕ) where
 
   pub new-most : (sets committees : List (List ℕ)) → new_beginnings m k sets committees ≤ k * 2 ^ m
   new-most sets committees =
-      sum-most (λ size. length (filter (is_new sets committees) (increasing_lists 1 m size))) (2 ^ m) 1 k
+      sum-most_in_range (λ size. length (filter (is_new sets committees) (increasing_lists 1 m size))) (2 ^ m) 1 k
       (λ s.
       let few = filter-few (is_new sets committees) (increasing_lists 1 m s) in
       let e : m + 1 - 1 ≡ m = omega arith in
@@ -173,7 +173,7 @@ module _ (m k : ℕ) where
   -- no committees have none
   pub new-none : (sets : List (List ℕ)) → new_beginnings m k sets [] ≡ 0
   new-none sets =
-      let most : new_beginnings m k sets [] ≤ k * 0 = sum-most (λ size. length (filter (is_new sets []) (increasing_lists 1 m size))) 0 1 k (λ s. omega (arith, nothing (increasing_lists 1 m s))) in
+      let most : new_beginnings m k sets [] ≤ k * 0 = sum-most_in_range (λ size. length (filter (is_new sets []) (increasing_lists 1 m size))) 0 1 k (λ s. omega (arith, nothing (increasing_lists 1 m s))) in
       let times : k * 0 ≡ 0 = omega arith in
       omega (arith, most, times)
     where

@@ -10,7 +10,7 @@ use Rattle.tie_search.specs.Steps.Found.{Advances, AreSearched, IsListed, IsSett
 use Rattle.tie_search.specs.declared.found.Found.{Found}
 use Rattle.tie_search.proofs.CompletionLemmas.{added-size, and-true, completion-back, completion-self, completion-whole, completion-with, node-with, without-is}
 use Rattle.tie_search.proofs.FoundLemmas.{advances-on, still-settled}
-use Rattle.tie_search.proofs.MemberLemmas.{first-gone, first-in, later-in, others-same}
+use Rattle.ballot_base.proofs.MemberLemmas.{first-gone, first-in, later-in, others-same}
 
 -- one number
 one-inside : (xs : List ℕ) → length xs ≡ 1 → (n : ℕ) × (has_member xs n ≡ true)

@@ -2,6 +2,7 @@ pub mod AskingLemmas
 pub mod BranchLemmas
 pub mod CloneLemmas
 pub mod CompletionLemmas
+pub mod DescentLemmas
 pub mod EnteredLemmas
 mod Examples
 pub mod FoundLemmas
@@ -11,3 +12,5 @@ pub mod MemberLemmas
 pub mod NarrowedLemmas
 pub mod ReachLemmas
 pub mod SearchLemmas
+pub mod StackLemmas
+pub mod StartLemmas

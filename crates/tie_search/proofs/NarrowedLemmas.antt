@@ -1,22 +1,26 @@
 -- Free candidates of whom all are who join.
-use Rattle.std.proofs.Common.{◌≡◌, ℕ, ◌-◌, ◌≤◌, ◌||◌, Bool, true, false, List, refl}
-use Rattle.ballot_base.specs.CandSet.{has_member, other_members, with_member, without_member}
+use Rattle.std.proofs.Common.{◌≡◌, ℕ, ◌≤◌, ◌&&◌, ◌∙◌, true, List, [], Option, None, Some, ap, arith, inl, inr, sum_by}
+use Rattle.std.specs.Prelude.{MatchOption}
+use Rattle.std.proofs.lemmas.Bool.{cases_lt}
+use Rattle.ballot_base.specs.CandSet.{common_members, has_member}
+use Rattle.ballot_base.specs.Limits.{most_candidates}
 use Rattle.ballot_base.specs.Lists.{IsIncreasing}
+use Rattle.ballot_base.specs.Worths.{AreChosen, AreTooLow, AreWanted}
+use Rattle.ballot_base.proofs.Increasing.{IsIncreasing-higher, has_member-filter}
 use Rattle.tie_search.specs.Completions.{IsNode, IsCompletion, IsOutOfReach}
 use Rattle.tie_search.specs.Steps.Narrowed.{IsNarrowed}
-use Rattle.tie_search.proofs.CloneLemmas.{clones-left, exchanged, minus-is, node-minus}
-use Rattle.tie_search.proofs.CompletionLemmas.{node-without, without-is}
+use Rattle.tie_search.proofs.CompletionLemmas.{added-free, added-increasing, added-size, or-more}
 use Rattle.tie_search.proofs.SearchLemmas.{none-left}
 
 -- the free candidates who stay are all whom a committee adds that reaches the value
-pub narrowed-by : (value : List ℕ → ℕ) (m : ℕ) (set free : List ℕ) (left least : ℕ) (kept : List ℕ) → IsNode m set free → ((x : ℕ) → IsIncreasing 1 x free → IsIncreasing 1 x kept)
+pub narrowed-by : (value : List ℕ → ℕ) (m : ℕ) (set free : List ℕ) (left least : ℕ) (kept : List ℕ) → IsNode m set free → IsIncreasing 1 m kept
     → ((n : ℕ) → has_member kept n ≡ true → has_member free n ≡ true)
     → ((committee : List ℕ) → IsCompletion m set free left committee → least ≤ value committee → (n : ℕ) → has_member committee n ≡ true → has_member free n ≡ true → has_member kept n ≡ true)
     → IsNarrowed value m set free left least kept
 narrowed-by value m set free left least kept is_node rises among still = record {
   is_node = record {
     set_within = is_node.set_within;
-    free_within = rises m is_node.free_within;
+    free_within = rises;
     apart = λ n h. is_node.apart n (among n h);
   };
   among = among;
@@ -27,10 +31,6 @@ narrowed-by value m set free left least kept is_node rises among still = record 
     size = whole.size;
   };
 }
-  where
-    or-more : (p q r : Bool) → (q ≡ true → r ≡ true) → (p || q) ≡ true → (p || r) ≡ true
-    or-more true q r h is = refl
-    or-more false q r h is = h is
 
 -- all are free at first
 pub narrowed-none : (value : List ℕ → ℕ) (m : ℕ) (set free : List ℕ) (left least : ℕ) → IsNode m set free → IsNarrowed value m set free left least free
@@ -48,15 +48,35 @@ module _ (value : List ℕ → ℕ) (m : ℕ) (set free rest : List ℕ) (left l
     kept = λ committee whole reaches. more.kept committee (narrowed.kept committee whole reaches) reaches;
   }
 
-  -- a candidate was tried, and is struck out with those in whose place it would make a committee as near
-  pub narrowed-clones : (n : ℕ) (clones : List ℕ) → 1 ≤ left → has_member rest n ≡ true
-      → ((committee : List ℕ) (d : ℕ) → IsIncreasing 1 m committee → has_member committee d ≡ true → has_member committee n ≡ false → has_member clones d ≡ true → value (exchanged committee n d) ≡ value committee)
-      → IsOutOfReach value m (with_member set n) (without_member rest n) (left - 1) least → IsNarrowed value m set free left least (other_members (without_member rest n) clones)
-  narrowed-clones n clones some here same none = record {
-    is_node = node-minus m set (without_member rest n) clones (node-without m set rest n narrowed.is_node);
-    among = λ x h. narrowed.among x (without-is rest n x (minus-is (without_member rest n) clones x h));
-    kept = clones-left value m set left least free rest clones n some narrowed.is_node here same narrowed.kept none;
-  }
-
   pub narrowed-out : IsOutOfReach value m set rest left least → IsOutOfReach value m set free left least
   narrowed-out none = none-left value m set left least free rest narrowed.kept none
+
+-- where those whom a committee adds that reaches the value are worth so much together, members for so much narrow
+module _ (value : List ℕ → ℕ) (m : ℕ) (set free : List ℕ) (left least : ℕ) (worth : ℕ → ℕ) (due : ℕ) (few : m ≤ most_candidates) (is_node : IsNode m set free)
+    (pays : (committee : List ℕ) → IsCompletion m set free left committee → least ≤ value committee → due ≤ sum_by worth (common_members free committee)) where
+  added-chosen : (committee : List ℕ) → IsCompletion m set free left committee → AreChosen free left (common_members free committee)
+  added-chosen committee whole = record {
+    rises = IsIncreasing-higher 1 m most_candidates (common_members free committee) few (added-increasing m set free left committee is_node whole);
+    among = added-free m set free left committee is_node whole;
+    few = added-size m set free left committee is_node whole;
+  }
+
+  pub narrowed-members : (answer : Option (List ℕ)) → MatchOption answer (AreTooLow worth free left due) (AreWanted worth free left due)
+      → MatchOption answer (IsOutOfReach value m set free left least) (IsNarrowed value m set free left least)
+  narrowed-members None low = λ committee whole. elim (cases_lt (value committee) least) [
+    | inl under ↦ under
+    | inr reaches ↦ absurd (omega (arith, low (common_members free committee) (added-chosen committee whole), pays committee whole (omega arith)))
+  ]
+  narrowed-members (Some kept) wanted = narrowed-by value m set free left least kept is_node (wanted.rises m is_node.free_within) wanted.among
+      (λ committee whole reaches n in_ open_.
+      wanted.all (common_members free committee) (added-chosen committee whole) (pays committee whole reaches) n
+      (has_member-filter (has_member committee) free n ∙ ap (λ b. b && has_member free n) in_ ∙ open_))
+
+-- where no completion reaches the value, nobody need be free
+pub narrowed-empty : (value : List ℕ → ℕ) (m : ℕ) (set free : List ℕ) (left least : ℕ) → IsNode m set free → IsOutOfReach value m set free left least
+    → IsNarrowed value m set free left least []
+narrowed-empty value m set free left least is_node none = record {
+  is_node = record { set_within = is_node.set_within; free_within = tt; apart = λ n is. absurd cc };
+  among = λ n is. absurd cc;
+  kept = λ committee whole reaches. absurd (omega (arith, none committee whole, reaches));
+}

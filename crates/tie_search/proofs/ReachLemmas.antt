@@ -1,5 +1,6 @@
 -- The greatest value of a committee.
 use Rattle.std.proofs.Common.{◌≡◌, ℕ, zero, suc, ◌+◌, ◌<◌, ◌≤◌, ◌||◌, ◌∙◌, Bool, true, false, List, [], ◌∷◌, ◌++◌, refl, sym, ap, arith, length, Contains}
+use Rattle.std.proofs.Math.Bool.{or-true}
 use Rattle.std.specs.List.{list_any}
 use Rattle.ballot_base.specs.Lists.{IsIncreasing}
 use Rattle.ballot_base.specs.CandSet.{has_member}
@@ -17,10 +18,6 @@ pub any-true : {X : Type 0} (p : X → Bool) (xs : List X) (x : X) → Contains 
 any-true p [] x c passes = absurd (omega (arith, c.1))
 any-true p (y ∷ ys) x (zero, inside, is) passes = ap (λ b. b || list_any p ys) (ap p is ∙ passes)
 any-true p (y ∷ ys) x (suc i, inside, is) passes = ap (λ b. p y || b) (any-true p ys x (i, omega (arith, inside), is) passes) ∙ or-true (p y)
-  where
-    or-true : (b : Bool) → (b || true) ≡ true
-    or-true true = refl
-    or-true false = refl
 
 pub any-found : {X : Type 0} (p : X → Bool) (xs : List X) → list_any p xs ≡ true → (x : X) × Contains xs x × (p x ≡ true)
 any-found p [] h = absurd cc

@@ -1,4 +1,5 @@
 pub mod Branches
+pub mod Descent
 pub mod Found
 pub mod Narrowed
 pub mod Searched

@@ -6,18 +6,18 @@
 //! each, so it goes only where a winner is. A walk over plain bounds enters prefixes in vain, if their bound reaches
 //! the greatest value and no committee below does.
 //!
-//! The modules `found`, `node` and `worths` have what searches are made of: what was found so far, a set with the
-//! candidates that are free to join it, and one number for each candidate.
+//! The modules `found` and `node` have what searches are made of: what was found so far, and a set with the candidates
+//! that are free to join it.
 #![tactic(auto)]
 
 mod asking;
 mod best;
 mod branch;
+pub mod descent;
 pub mod found;
 pub mod node;
 pub mod searchable;
 pub mod winners;
-pub mod worths;
 
 pub use found::{MOST_TIED, Tied};
 pub use node::Node;

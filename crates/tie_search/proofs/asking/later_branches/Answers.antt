@@ -5,7 +5,7 @@ use Rattle.ballot_base.proofs.Committees.{length-increasing}
 use Rattle.ballot_base.proofs.Increasing.{with_member-above}
 use Rattle.tie_search.specs.Steps.Branches.{branches_after}
 use Rattle.tie_search.specs.declared.branch.Branch.{Branch}
-use Rattle.tie_search.proofs.BranchLemmas.{after-next, after-none, front-under}
+use Rattle.tie_search.proofs.StartLemmas.{after-next, after-none, front-under}
 use Rattle.tie_search.proofs.asking.later_branches.Goals as goal
 
 pub after-requires-clause-within : goal.after-requires-clause-within

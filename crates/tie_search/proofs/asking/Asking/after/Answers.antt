@@ -2,7 +2,7 @@ use Rattle.std.proofs.Common.{List, [], ap, arith, length, subst, sym, ◌∙◌
 use Rattle.std.specs.List.{AllByRecursion}
 use Rattle.tie_search.specs.Steps.Branches.{AreSized, AreStacked, IsBranch, left_by}
 use Rattle.tie_search.specs.declared.branch.Branch.{Branch}
-use Rattle.tie_search.proofs.BranchLemmas.{after-each, after-left, after-length, after-sized, after-stacked}
+use Rattle.tie_search.proofs.StartLemmas.{after-each, after-left, after-length, after-sized, after-stacked}
 use Rattle.tie_search.proofs.asking.Asking.after.Goals as goal
 
 pub of-requires-clause-each : goal.of-requires-clause-each

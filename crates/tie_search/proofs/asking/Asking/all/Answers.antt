@@ -1,7 +1,7 @@
 use Rattle.std.proofs.Common.{ap, subst, sym, ◌∙◌}
 use Rattle.std.specs.List.{AllByRecursion}
 use Rattle.tie_search.specs.Steps.Branches.{IsBranch, left_by}
-use Rattle.tie_search.proofs.BranchLemmas.{all-branch, all-left}
+use Rattle.tie_search.proofs.StackLemmas.{all-branch, all-left}
 use Rattle.tie_search.proofs.asking.Asking.all.Goals as goal
 
 pub of-requires-clause-each : goal.of-requires-clause-each

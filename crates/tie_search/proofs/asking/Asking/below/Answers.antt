@@ -6,7 +6,8 @@ use Rattle.tie_search.specs.Steps.Branches.{IsBarren, IsWinnerOf, Kept, left_by,
 use Rattle.tie_search.specs.declared.best.Best.{Best}
 use Rattle.tie_search.specs.declared.branch.Branch.{Branch}
 use Rattle.tie_search.proofs.AskingLemmas.{way-joined, way-left}
-use Rattle.tie_search.proofs.BranchLemmas.{joined-left, left-left, some-free, with-branch}
+use Rattle.tie_search.proofs.BranchLemmas.{with-branch}
+use Rattle.tie_search.proofs.StackLemmas.{joined-left, left-left, some-free}
 use Rattle.tie_search.proofs.CloneLemmas.{minus-most}
 use Rattle.tie_search.proofs.EnteredLemmas.{joined-new, sets-last}
 use Rattle.tie_search.proofs.asking.Asking.below.Given.{Over}

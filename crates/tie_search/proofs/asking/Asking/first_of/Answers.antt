@@ -1,7 +1,7 @@
 use Rattle.std.proofs.Common.{◌≡◌, ◌++◌, ◌∷◌, [], ap, arith, length, subst, sym, ◌∙◌}
 use Rattle.tie_search.specs.Steps.Branches.{left_by, new_beginnings, sets_of, to_enter}
 use Rattle.tie_search.specs.declared.best.Best.{Best}
-use Rattle.tie_search.proofs.BranchLemmas.{first-left, stacked-pop}
+use Rattle.tie_search.proofs.StackLemmas.{first-left, stacked-pop}
 use Rattle.tie_search.proofs.EnteredLemmas.{finished-new}
 use Rattle.tie_search.proofs.asking.Asking.first_of.Given.{Over}
 use Rattle.tie_search.proofs.asking.Asking.first_of.Goals as goal

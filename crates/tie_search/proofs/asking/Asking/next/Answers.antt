@@ -3,7 +3,7 @@ use Rattle.tie_search.specs.Steps.Branches.{Kept, left_by, new_beginnings, sets_
 use Rattle.tie_search.specs.declared.best.Best.{Best}
 use Rattle.tie_search.specs.declared.branch.Branch.{Branch}
 use Rattle.tie_search.proofs.AskingLemmas.{popped-asking, popped-branch, popped-each, popped-stacked, popped-way}
-use Rattle.tie_search.proofs.BranchLemmas.{barren-left, free-most, stacked-pop}
+use Rattle.tie_search.proofs.StackLemmas.{barren-left, free-most, stacked-pop}
 use Rattle.tie_search.proofs.EnteredLemmas.{barren-new}
 use Rattle.tie_search.proofs.asking.Asking.next.Goals as goal
 

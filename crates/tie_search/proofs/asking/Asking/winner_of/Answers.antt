@@ -1,5 +1,5 @@
 use Rattle.std.proofs.Common.{arith}
-use Rattle.tie_search.proofs.BranchLemmas.{few-barren}
+use Rattle.tie_search.proofs.StackLemmas.{few-barren}
 use Rattle.tie_search.proofs.asking.Asking.winner_of.Goals as goal
 
 pub returns-then-len-self-clause-answer : goal.returns-then-len-self-clause-answer

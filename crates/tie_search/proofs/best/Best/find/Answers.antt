@@ -1,7 +1,8 @@
 use Rattle.std.proofs.Common.{subst, sym}
 use Rattle.tie_search.specs.Completions.{IsNode}
 use Rattle.tie_search.specs.Steps.Branches.{IsAnswer, IsBranch}
-use Rattle.tie_search.proofs.BranchLemmas.{branch-node, found-answer}
+use Rattle.tie_search.proofs.BranchLemmas.{branch-node}
+use Rattle.tie_search.proofs.StackLemmas.{found-answer}
 use Rattle.tie_search.proofs.best.Best.find.Goals as goal
 
 pub find-requires : goal.find-requires

@@ -1,7 +1,8 @@
 use Rattle.std.proofs.Common.{arith, subst, sym}
 use Rattle.ballot_base.specs.Lists.{IsIncreasing}
 use Rattle.tie_search.specs.Steps.Branches.{IsBarren, IsBranch, IsWinnerOf}
-use Rattle.tie_search.proofs.BranchLemmas.{branch-node, whole-barren, whole-winner}
+use Rattle.tie_search.proofs.BranchLemmas.{branch-node}
+use Rattle.tie_search.proofs.StackLemmas.{whole-barren, whole-winner}
 use Rattle.tie_search.proofs.best.Best.whole.Goals as goal
 
 pub value-requires : goal.value-requires

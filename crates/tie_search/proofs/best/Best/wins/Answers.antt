@@ -3,7 +3,8 @@ use Rattle.std.proofs.lemmas.Bool.{leb-true}
 use Rattle.ballot_base.specs.Limits.{most_candidates}
 use Rattle.ballot_base.specs.Lists.{IsIncreasing}
 use Rattle.tie_search.specs.Steps.Branches.{IsBranch, IsWinnerOf}
-use Rattle.tie_search.proofs.BranchLemmas.{completes-up, winner-from}
+use Rattle.tie_search.proofs.BranchLemmas.{completes-up}
+use Rattle.tie_search.proofs.StackLemmas.{winner-from}
 use Rattle.tie_search.proofs.best.Best.wins.Goals as goal
 
 pub value-requires : goal.value-requires

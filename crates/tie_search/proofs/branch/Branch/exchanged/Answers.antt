@@ -1,6 +1,6 @@
 use Rattle.std.proofs.Common.{◌∙◌}
 use Rattle.ballot_base.specs.Limits.{most_candidates}
-use Rattle.tie_search.proofs.SearchLemmas.{rest-increasing}
+use Rattle.ballot_base.proofs.Sums.{rest-increasing}
 use Rattle.tie_search.proofs.branch.Branch.exchanged.Goals as goal
 
 pub loop-member-init : goal.loop-member-init

@@ -5,7 +5,7 @@ use Rattle.tie_walk.specs.Winners.{winners}
 use Rattle.tie_search.specs.Asked.{Asked, IsNextAsked, beginnings}
 use Rattle.tie_search.specs.Steps.Branches.{first_branches, left_by, new_beginnings, sets_of, to_enter}
 use Rattle.tie_search.specs.declared.best.Best.{Best}
-use Rattle.tie_search.proofs.BranchLemmas.{none-left}
+use Rattle.tie_search.proofs.StackLemmas.{none-left}
 use Rattle.tie_search.proofs.EnteredLemmas.{all-entered, entered-fits}
 use Rattle.tie_search.proofs.winners.SearchWinnersIterator.next.Goals as goal
 
