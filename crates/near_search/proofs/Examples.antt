@@ -86,4 +86,4 @@ are_classes (suc (suc (suc (suc c)))) low high = absurd (omega (arith, high))
 
 -- 1 in the place of 2, or 2 in the place of 1, leaves a committee as close to the voter as it was
 are_alike : AreAlike (closeness 3 approving_two) 3 classes
-are_alike = alike (election 3 ([] ∷ [] ∷ [] ∷ []) approving_two) approving_two-is_election classes are_classes
+are_alike = alike (election 3 ([] ∷ [] ∷ [] ∷ []) approving_two) approving_two-is_election.ballots classes are_classes

@@ -4,7 +4,8 @@ use Rattle.std.specs.Prelude.{slice_index_or}
 use Rattle.std.specs.List.{AllByRecursion}
 use Rattle.ballot_base.specs.Lists.{IsIncreasing}
 use Rattle.ballot_base.specs.CandSet.{has_member, without_member}
-use Rattle.ballot_base.specs.Ballots.{Election, IsElection, Row, hits}
+use Rattle.ballot_base.specs.Ballots.{Election, Row, hits}
+use Rattle.near_search.specs.Steps.Near.{AreBallots}
 use Rattle.ballot_base.specs.Clones.{AreClones, are_clones}
 use Rattle.ballot_base.proofs.CloneLemmas.{clones-same}
 use Rattle.ballot_base.proofs.Increasing.{IsIncreasing-with_member}
@@ -48,6 +49,6 @@ module _ (m : ℕ) (committee : List ℕ) (c d : ℕ) (up : IsIncreasing 1 m com
       all (row ∷ rows) up same = (distance-exchanged row.0 up.0 same.0, all rows up.1 same.1)
 
 -- the classes of clones are alike
-pub alike : (e : Election) → IsElection e → (classes : List (List ℕ)) → AreClones e.m e.rows classes → AreAlike (closeness e.m e.rows) e.m classes
-alike e valid classes are committee c d up low high class here out =
-    closeness-exchanged e.m committee c d up here out low high e.rows valid.ballots (class-are e.m e.rows c (slice_index_or classes c []) (are c low high) d class)
+pub alike : (e : Election) → AreBallots e.m e.rows → (classes : List (List ℕ)) → AreClones e.m e.rows classes → AreAlike (closeness e.m e.rows) e.m classes
+alike e ballots classes are committee c d up low high class here out =
+    closeness-exchanged e.m committee c d up here out low high e.rows ballots (class-are e.m e.rows c (slice_index_or classes c []) (are c low high) d class)

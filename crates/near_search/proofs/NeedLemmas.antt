@@ -1,21 +1,21 @@
 -- Distances and the hits that they need.
-use Rattle.std.proofs.Common.{◌≡◌, ℕ, zero, suc, ◌+◌, ◌-◌, ◌*◌, ◌<◌, ◌≤◌, ◌∙◌, ◌↔◌, ◌==◌, ◌&&◌, ◌||◌, Bool, true, false, cond, List, [], ◌∷◌, ◌++◌, Some, refl, sym, ap, subst, arith, inl, inr, length, filter, fold, max, min, slice_get, take}
+use Rattle.std.proofs.Common.{◌≡◌, ℕ, zero, suc, ◌+◌, ◌-◌, ◌*◌, ◌<◌, ◌≤◌, ◌∙◌, ◌↔◌, ◌==◌, ◌&&◌, Bool, true, false, cond, List, [], ◌∷◌, ◌++◌, Some, refl, sym, ap, subst, arith, inl, inr, length, filter, fold, max, min, slice_get}
 use Rattle.std.specs.List.{AllByRecursion}
-use Rattle.std.proofs.lemmas.Bool.{cases_eq, cases_lt}
+use Rattle.std.proofs.lemmas.Bool.{cases_eq, cases_lt, and_parts, or_right}
 use Rattle.std.proofs.lemmas.List.Sums.{sum_by-cons, length-filter, count_by-le-length}
 use Rattle.ballot_base.specs.CandSet.{has_member, common_members}
 use Rattle.ballot_base.specs.Lists.{IsIncreasing}
 use Rattle.ballot_base.specs.Ballots.{Row, hits}
 use Rattle.ballot_base.proofs.Increasing.{IsIncreasing-filter, has_member-filter, has_member_head, has_member_tail}
 use Rattle.tie_walk.specs.Values.{distance, greatest_distance, closeness}
-use Rattle.tie_walk.proofs.Distances.{ballot-found, common-least_right, common-turned, distance-sizes, greatest-more, greatest_distance-most}
+use Rattle.tie_walk.proofs.Distances.{ballot-found, common-least_right, common-turned, distance-sizes, greatest_distance-most}
 use Rattle.tie_walk.proofs.RowSums.{length-common}
 use Rattle.tie_search.specs.Completions.{IsNode, IsCompletion, IsReaching, IsOutOfReach}
-use Rattle.tie_search.proofs.CompletionLemmas.{added, added-free, added-increasing, added-size, and-true, completion-few, completion-members, hits-same}
+use Rattle.tie_search.proofs.CompletionLemmas.{added, added-free, added-increasing, added-size, completion-few, completion-members, hits-same}
+use Rattle.tie_search.proofs.NarrowedLemmas.{narrowed-by}
 use Rattle.tie_search.proofs.HitLemmas.{hits-append, hits-more}
-use Rattle.tie_search.proofs.SearchLemmas.{AreLeft}
 use Rattle.near_search.specs.Needs.{hits_needed}
-use Rattle.near_search.specs.Steps.Near.{AreChoices}
+use Rattle.tie_search.specs.Steps.Descent.{AreChoices}
 use Rattle.tie_search.specs.Steps.Narrowed.{IsNarrowed}
 
 -- ---- one ballot
@@ -91,17 +91,13 @@ some-hit : (ballot xs : List ℕ) → 1 ≤ hits ballot xs → (n : ℕ) × (has
 some-hit [] xs h = absurd (omega (arith, h))
 some-hit (n ∷ ballot) xs h = by (has_member xs n) refl (some-hit ballot xs)
   where
-    or-true : (p q : Bool) → q ≡ true → (p || q) ≡ true
-    or-true true q h = refl
-    or-true false q h = h
-
     by : (b : Bool) → has_member xs n ≡ b → (1 ≤ hits ballot xs → (x : ℕ) × (has_member ballot x ≡ true) × (has_member xs x ≡ true))
         → (x : ℕ) × (has_member (n ∷ ballot) x ≡ true) × (has_member xs x ≡ true)
     by true here later = (n, has_member_head n ballot, here)
     by false there later =
         let none : cond (has_member xs n) 1 0 ≡ 0 = ap {B = ℕ} (λ b. cond b 1 0) there in
         let rest = later (omega (arith, h, none, sum_by-cons (λ y. cond (has_member xs y) 1 0) n ballot)) in
-        (rest.0, or-true (n == rest.0) (has_member ballot rest.0) rest.1, rest.2)
+        (rest.0, or_right (n == rest.0) (has_member ballot rest.0) rest.1, rest.2)
 
 all-left : (p : ℕ → Bool) (xs : List ℕ) → length xs ≤ length (filter p xs) → (n : ℕ) → has_member xs n ≡ true → p n ≡ true
 all-left p [] h n is = absurd cc
@@ -126,10 +122,11 @@ pub all-hit : (m : ℕ) (ballot xs : List ℕ) → IsIncreasing 1 m ballot → I
 all-hit m ballot xs up rises enough =
     all-left (has_member ballot) xs (omega (arith, enough, length-common ballot xs, ap length (common-turned 1 m ballot xs up rises)))
 
--- ---- committees that are near
+-- a common member is in the second set
+common-in : (xs ys : List ℕ) (n : ℕ) → has_member (common_members xs ys) n ≡ true → has_member ys n ≡ true
+common-in xs ys n h = (and_parts (has_member ys n) (has_member xs n) (sym (has_member-filter (has_member ys) xs n) ∙ h)).0
 
-pub near-value : (m : ℕ) (rows : List Row) (most : ℕ) (committee : List ℕ) → greatest_distance rows committee ≤ most → m - most ≤ closeness m rows committee
-near-value m rows most committee near = omega (arith, near)
+-- ---- committees that are near
 
 pub value-near : (m : ℕ) (rows : List Row) (most : ℕ) (committee : List ℕ) → AllByRecursion (λ (row : Row). IsIncreasing 1 m row.0) rows → IsIncreasing 1 m committee
     → m - most ≤ closeness m rows committee → greatest_distance rows committee ≤ most
@@ -179,28 +176,10 @@ module _ (m : ℕ) (rows : List Row) (most : ℕ) (set free : List ℕ) (left : 
 
   -- where a ballot needs as many hits as there are seats left, all who join are on it
   pub narrowed-to_ballot : left ≤ hits_needed (length row.0) (length set + left) most - hits row.0 set → IsNarrowed (closeness m rows) m set free left (m - most) (common_members row.0 free)
-  narrowed-to_ballot all = record {
-    is_node = record {
-      set_within = is_node.set_within;
-      free_within = IsIncreasing-filter (has_member free) 1 m row.0 (ballot-found m rows i row ballots found);
-      apart = λ n h. is_node.apart n (in-free n h);
-    };
-    among = in-free;
-    kept = λ committee whole reaches. record {
-      candidates = whole.candidates;
-      whole = whole.whole;
-      within = λ n h. or-more (has_member set n) (has_member free n) (has_member (common_members row.0 free) n) (on-ballot committee whole reaches n h) (whole.within n h);
-      size = whole.size;
-    };
-  }
+  narrowed-to_ballot all =
+      narrowed-by (closeness m rows) m set free left (m - most) (common_members row.0 free) is_node (IsIncreasing-filter (has_member free) 1 m row.0 (ballot-found m rows i row ballots found))
+      (common-in row.0 free) on-ballot
     where
-      in-free : (n : ℕ) → has_member (common_members row.0 free) n ≡ true → has_member free n ≡ true
-      in-free n h = (and-true (has_member free n) (has_member row.0 n) (sym (has_member-filter (has_member free) row.0 n) ∙ h)).0
-
-      or-more : (p q r : Bool) → (q ≡ true → r ≡ true) → (p || q) ≡ true → (p || r) ≡ true
-      or-more true q r h is = refl
-      or-more false q r h is = h is
-
       on-ballot : (committee : List ℕ) → IsCompletion m set free left committee → m - most ≤ closeness m rows committee → (n : ℕ) → has_member committee n ≡ true → has_member free n ≡ true
           → has_member (common_members row.0 free) n ≡ true
       on-ballot committee whole reaches n in_ open_ =
@@ -213,75 +192,18 @@ module _ (m : ℕ) (rows : List Row) (most : ℕ) (set free : List ℕ) (left : 
   -- one of those on a ballot that needs a hit has to join
   pub choice-of_ballot : 1 ≤ hits_needed (length row.0) (length set + left) most - hits row.0 set → AreChoices (closeness m rows) m set free left (m - most) (common_members row.0 free)
   choice-of_ballot some = record {
-    among = λ n h. (and-true (has_member free n) (has_member row.0 n) (sym (has_member-filter (has_member free) row.0 n) ∙ h)).0;
+    among = common-in row.0 free;
     one = λ committee near.
         let more = added m set free left committee is_node near.completes in
         let hit = some-hit row.0 more (omega (arith, some, hits-added committee near near.completes)) in
         let open_ : has_member free hit.0 ≡ true = added-free m set free left committee is_node near.completes hit.0 hit.2 in (
           hit.0,
           in-both hit.0 open_ hit.1,
-          (and-true (has_member committee hit.0) (has_member free hit.0) (sym (has_member-filter (has_member committee) free hit.0) ∙ hit.2)).0,
+          common-in free committee hit.0 hit.2,
         );
   }
 
 -- ---- a node
-
-module _ (value : List ℕ → ℕ) (m : ℕ) (set free rest : List ℕ) (left least : ℕ) (narrowed : IsNarrowed value m set free left least rest) where
-  pub narrowed-choice : (choices : List ℕ) → AreChoices value m set rest left least choices → AreChoices value m set free left least choices
-  narrowed-choice choices choice = record {
-    among = λ n h. narrowed.among n (choice.among n h);
-    one = λ committee near. choice.one committee record { completes = narrowed.kept committee near.completes near.reaches; reaches = near.reaches };
-  }
-
--- one of all has to join, where someone does
-pub choice-of_all : (value : List ℕ → ℕ) (m : ℕ) (set free : List ℕ) (left least : ℕ) → IsNode m set free → 1 ≤ left → AreChoices value m set free left least free
-choice-of_all value m set free left least is_node some = record {
-  among = λ n h. h;
-  one = λ committee near.
-      let more = added m set free left committee is_node near.completes in
-      let one = member-of more (omega (arith, some, added-size m set free left committee is_node near.completes)) in (
-        one.0,
-        added-free m set free left committee is_node near.completes one.0 one.1,
-        (and-true (has_member committee one.0) (has_member free one.0) (sym (has_member-filter (has_member committee) free one.0) ∙ one.1)).0,
-      );
-}
-  where
-    member-of : (xs : List ℕ) → 1 ≤ length xs → (n : ℕ) × (has_member xs n ≡ true)
-    member-of [] h = absurd (omega (arith, h))
-    member-of (x ∷ xs) h = (x, has_member_head x xs)
-
--- a row more, where nobody is to be added
-pub near-more : (m most k : ℕ) (rows : List Row) (set : List ℕ) (i : ℕ) (row : Row) → AllByRecursion (λ (r : Row). IsIncreasing 1 m r.0) rows → IsIncreasing 1 m set
-    → slice_get rows i ≡ Some row → length set ≡ k → hits_needed (length row.0) k most - hits row.0 set ≤ 0 → greatest_distance (take i rows) set ≤ most
-    → greatest_distance (take (i + 1) rows) set ≤ most
-near-more m most k rows set i row ballots up found size none near =
-    omega (
-      arith,
-      near,
-      greatest-more rows set i row found,
-      hits-near m k most row.0 set (ballot-found m rows i row ballots found) up size (omega (arith, none)),
-    )
-
--- ---- a node that was searched
-
-module _ (value : List ℕ → ℕ) (m : ℕ) (set free : List ℕ) (left least : ℕ) (choices rest : List ℕ) (is_node : IsNode m set free) (choice : AreChoices value m set free left least choices) where
-  -- each of the choices was tried
-  pub all-tried : AreLeft value m set left least free rest → common_members choices rest ≡ [] → IsOutOfReach value m set free left least
-  all-tried are none committee whole = elim (cases_lt (value committee) least) [
-    | inl under ↦ under
-    | inr reaches ↦
-        let one = choice.one committee record { completes = whole; reaches = reaches } in
-        let now : IsCompletion m set rest left committee = are committee whole reaches in
-        let free_ : has_member free one.0 ≡ true = choice.among one.0 one.1 in
-        let in_rest : has_member rest one.0 ≡ true = ap (λ b. b || has_member rest one.0) (sym (is_node.apart one.0 free_)) ∙ now.within one.0 one.2 in
-        let there : has_member (common_members choices rest) one.0 ≡ true = has_member-filter (has_member rest) choices one.0 ∙ ap (λ b. b && has_member choices one.0) in_rest ∙ one.1 in
-        absurd (let e : true ≡ false = sym there ∙ ap (λ l. has_member l one.0) none in cc)
-  ]
-
--- a choice that is left is left
-pub choice-left : (choices rest both : List ℕ) (next : ℕ) → both ≡ common_members choices rest → has_member both next ≡ true → has_member rest next ≡ true
-choice-left choices rest both next are is =
-    (and-true (has_member rest next) (has_member choices next) (sym (has_member-filter (has_member rest) choices next) ∙ ap (λ l. has_member l next) (sym are) ∙ is)).0
 
 -- too few are free
 pub too-few : (value : List ℕ → ℕ) (m : ℕ) (set free : List ℕ) (left least : ℕ) → IsNode m set free → length free < left → IsOutOfReach value m set free left least

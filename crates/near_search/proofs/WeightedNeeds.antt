@@ -1,8 +1,8 @@
 -- What ballots need, weighted, and the weights of the candidates who can join.
-use Rattle.std.proofs.Common.{◌≡◌, ℕ, ◌+◌, ◌-◌, ◌*◌, ◌<◌, ◌≤◌, ◌∙◌, ◌&&◌, Bool, true, false, cond, List, [], ◌∷◌, ◌++◌, refl, ap, arith, inl, inr, length, sum_by, take, get_or, slice_get, Some, ◌^◌}
+use Rattle.std.proofs.Common.{◌≡◌, ℕ, ◌+◌, ◌-◌, ◌*◌, ◌<◌, ◌≤◌, ◌∙◌, ◌&&◌, Bool, true, false, cond, List, [], ◌∷◌, ◌++◌, refl, ap, arith, length, sum_by, take, get_or, slice_get, slice_index, Some, ◌^◌}
+use native.Mathlib.Numerals.{unary_clauses}
 use Rattle.std.specs.List.{AllByRecursion}
 use Rattle.std.proofs.Math.Nat.{mul-le-mul_left}
-use Rattle.std.proofs.lemmas.Bool.{cases_lt}
 use Rattle.std.proofs.lemmas.List.Sums.{sum_by-cons, sum_by_more}
 use Rattle.std.proofs.lemmas.Option.{get_or_from_slice_get, slice_get_within}
 use Rattle.ballot_base.specs.CandSet.{has_member, common_members}
@@ -11,15 +11,13 @@ use Rattle.ballot_base.specs.Ballots.{Row, Election, IsElection, hits, voter_cou
 use Rattle.ballot_base.proofs.Increasing.{has_member-filter}
 use Rattle.tie_walk.specs.Sequences.{supporters}
 use Rattle.tie_walk.specs.Values.{closeness, greatest_distance}
-use Rattle.tie_search.specs.Completions.{IsNode, IsCompletion, IsOutOfReach}
+use Rattle.tie_search.specs.Completions.{IsNode, IsCompletion}
 use Rattle.near_search.specs.Needs.{hits_needed, weighted_needs, weighted_support}
 use Rattle.near_search.specs.Steps.Near.{AreWeighted, need_weight}
-use Rattle.tie_search.specs.Steps.Narrowed.{IsNarrowed}
 use Rattle.tie_search.proofs.CompletionLemmas.{added, added-free, added-increasing, added-size, completion-members, hits-same}
 use Rattle.tie_search.proofs.HitLemmas.{hits-append, hits-turned}
-use Rattle.tie_search.proofs.NarrowedLemmas.{narrowed-by}
 use Rattle.near_search.proofs.NeedLemmas.{needs-met, value-near}
-use Rattle.tie_search.proofs.SearchLemmas.{sum-member, sum-part, sum-threshold}
+use Rattle.ballot_base.proofs.Sums.{sum-member, sum-part, sum-threshold}
 
 -- ---- hits by rows and by candidates
 
@@ -153,7 +151,7 @@ weight-none share = omega arith
 module _ (weight : Row → ℕ) (m k most : ℕ) (rows : List Row) (set free : List ℕ) (left : ℕ) (committee : List ℕ) (ballots : AllByRecursion (λ (row : Row). IsIncreasing 1 m row.0) rows)
     (is_node : IsNode m set free) (whole : IsCompletion m set free left committee) (size : length set + left ≡ k) (near : greatest_distance rows committee ≤ most) where
   -- the weights of those who join are no less than the needs
-  needs-joined : weighted_needs weight k most set rows ≤ sum_by (weighted_support weight rows) (added m set free left committee is_node whole)
+  pub needs-joined : weighted_needs weight k most set rows ≤ sum_by (weighted_support weight rows) (added m set free left committee is_node whole)
   needs-joined =
       let more = added m set free left committee is_node whole in
       omega (
@@ -177,30 +175,29 @@ module _ (weight : Row → ℕ) (m k most : ℕ) (rows : List Row) (set free : L
             split rows met.1,
           )
 
-  pub needs-bound : (t : ℕ) (g : ℕ → ℕ) → ((n : ℕ) → has_member free n ≡ true → weighted_support weight rows n ≤ g n)
-      → weighted_needs weight k most set rows ≤ left * t + sum_by (λ n. g n - t) free
-  needs-bound t g less =
-      let more = added m set free left committee is_node whole in
+  pub needs-bound : (t : ℕ) → weighted_needs weight k most set rows ≤ left * t + sum_by (λ n. weighted_support weight rows n - t) free
+  needs-bound t =
+      let support = weighted_support weight rows in
       omega (
         arith,
         needs-joined,
-        sum-threshold (weighted_support weight rows) g t more (λ n is. less n (added-free m set free left committee is_node whole n is)),
+        sum-threshold support support t (added m set free left committee is_node whole) (λ n is. omega arith),
         ap (λ n. n * t) (added-size m set free left committee is_node whole),
-        sum-part (λ n. g n - t) (has_member committee) free,
+        sum-part (λ n. support n - t) (has_member committee) free,
       )
 
-  pub member-bound : (t : ℕ) (g : ℕ → ℕ) (n : ℕ) → ((n : ℕ) → has_member free n ≡ true → weighted_support weight rows n ≤ g n)
-      → has_member free n ≡ true → has_member committee n ≡ true
-      → weighted_needs weight k most set rows + (t - g n) ≤ left * t + sum_by (λ n. g n - t) free
-  member-bound t g n less open_ in_ =
+  pub member-bound : (t n : ℕ) → has_member free n ≡ true → has_member committee n ≡ true
+      → weighted_needs weight k most set rows + (t - weighted_support weight rows n) ≤ left * t + sum_by (λ n. weighted_support weight rows n - t) free
+  member-bound t n open_ in_ =
+      let support = weighted_support weight rows in
       let more = added m set free left committee is_node whole in
       let here : has_member more n ≡ true = has_member-filter (has_member committee) free n ∙ ap (λ b. b && has_member free n) in_ ∙ open_ in
       omega (
         arith,
         needs-joined,
-        sum-member (weighted_support weight rows) g t n more (λ n is. less n (added-free m set free left committee is_node whole n is)) here,
+        sum-member support support t n more (λ n is. omega arith) here,
         ap (λ n. n * t) (added-size m set free left committee is_node whole),
-        sum-part (λ n. g n - t) (has_member committee) free,
+        sum-part (λ n. support n - t) (has_member committee) free,
       )
 
 -- ---- what weighted needs say of a set
@@ -214,36 +211,17 @@ weighted-fewer rows k most set free rest total supports are among = record {
   supports_are = λ n is. are.supports_are n (among n is);
 }
 
-module _ (m most : ℕ) (rows : List Row) (set free : List ℕ) (left total : ℕ) (supports : List ℕ) (ballots : AllByRecursion (λ (row : Row). IsIncreasing 1 m row.0) rows)
-    (is_node : IsNode m set free) (are : AreWeighted rows (length set + left) most set free total supports) (t greatest : ℕ)
-    (greatest_is : greatest ≡ left * t + sum_by (λ n. get_or supports n 0 - t) free) where
-  no-less : (n : ℕ) → has_member free n ≡ true → weighted_support are.weight rows n ≤ get_or supports n 0
-  no-less n is = omega (arith, are.supports_are n is)
-
-  -- the needs pass what any committee can give
-  pub weighted-none : greatest < total → IsOutOfReach (closeness m rows) m set free left (m - most)
-  weighted-none low committee whole = elim (cases_lt (closeness m rows committee) (m - most)) [
-    | inl under ↦ under
-    | inr reaches ↦ absurd (omega (
+-- the supports of those who join are no less than the total
+pub weighted-paid : (m most : ℕ) (rows : List Row) (set free : List ℕ) (left total : ℕ) (supports : List ℕ) → AllByRecursion (λ (row : Row). IsIncreasing 1 m row.0) rows → IsNode m set free
+    → AreWeighted rows (length set + left) most set free total supports → (committee : List ℕ) → IsCompletion m set free left committee → m - most ≤ closeness m rows committee
+    → total ≤ sum_by (slice_index supports) (common_members free committee)
+weighted-paid m most rows set free left total supports ballots is_node are committee whole reaches =
+    let none : sum_by (λ n. slice_index supports n - 0) (common_members free committee) ≡ sum_by (slice_index supports) (common_members free committee) = simp unary_clauses refl in
+    omega (
       arith,
-      low,
-      greatest_is,
       are.total_is,
-      needs-bound are.weight m (length set + left) most rows set free left committee ballots is_node whole refl
-          (value-near m rows most committee ballots whole.candidates reaches) t (λ n. get_or supports n 0) no-less,
-    ))
-  ]
-
-  -- whoever joins has enough support
-  pub weighted-narrowed : total ≤ greatest → (kept : List ℕ) → ((x : ℕ) → IsIncreasing 1 x free → IsIncreasing 1 x kept) → ((n : ℕ) → has_member kept n ≡ true → has_member free n ≡ true)
-      → ((n : ℕ) → has_member free n ≡ true → t - (greatest - total) ≤ get_or supports n 0 → has_member kept n ≡ true) → IsNarrowed (closeness m rows) m set free left (m - most) kept
-  weighted-narrowed enough kept rises among stays =
-      narrowed-by (closeness m rows) m set free left (m - most) kept is_node rises among still
-    where
-      still : (committee : List ℕ) → IsCompletion m set free left committee → m - most ≤ closeness m rows committee → (n : ℕ) → has_member committee n ≡ true → has_member free n ≡ true
-          → has_member kept n ≡ true
-      still committee whole reaches n in_ open_ =
-          let joined = member-bound are.weight m (length set + left) most rows set free left committee ballots is_node whole refl
-          (value-near m rows most committee ballots whole.candidates reaches) t (λ x. get_or supports x 0) n no-less open_ in_ in
-          let high : t - (greatest - total) ≤ get_or supports n 0 = omega (arith, joined, enough, greatest_is, are.total_is) in
-          stays n open_ high
+      needs-joined are.weight m (length set + left) most rows set free left committee ballots is_node whole refl (value-near m rows most committee ballots whole.candidates reaches),
+      sum-threshold (weighted_support are.weight rows) (slice_index supports) 0 (common_members free committee)
+          (λ n is. omega (arith, are.supports_are n (added-free m set free left committee is_node whole n is))),
+      none,
+    )

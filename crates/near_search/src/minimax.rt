@@ -7,7 +7,7 @@ use crate::near::{NearSearch, Shares};
 use ballot_base::{CandSet, Clones, Profile};
 use std::alloc::{Allocator, Global};
 use std::marker::Model;
-use tie_search::{Searchable, Tied};
+use tie_search::{Node, Searchable, Tied, descent};
 use tie_walk::{MinimaxTally, Tally};
 
 /// The values under minimax approval voting, and what a search among them is helped by. Contracts see the election.
@@ -73,16 +73,18 @@ impl<'a, A: Allocator + Copy> Searchable for MinimaxSearch<'a, A> {
     }
 
     fn find(&self, set: CandSet, free: CandSet, left: u8, least: u128) -> Option<CandSet> {
-        if least > u128::from(self.m) {
-            return None;
-        }
-        let search = NearSearch {
+        let mut search = NearSearch {
             profile: self.profile,
             clones: &self.clones,
             shares: &self.shares,
-            most: self.m - least as u8,
         };
-        search.find_near(set, free, left)
+        let node = Node {
+            set,
+            value: 0,
+            free,
+            left,
+        };
+        descent::find(&mut search, node, least)
     }
 
     // Under this rule committees tie by thousands.

@@ -1,28 +1,28 @@
-//! A search for a committee that is near each ballot (minimax): depth first, giving up sets that cannot be completed.
+//! Bounds on committees that are near each ballot (minimax), for a search from set to set.
 //!
 //! A ballot is no farther than a distance from a committee of k exactly if it has enough hits: half of what its size
 //! and k together exceed the distance by, rounded up (`laws::needs`). A set is given up if a ballot needs more hits
 //! than seats are left, or more than free candidates on it. If a ballot needs a hit from each seat left, all candidates
-//! not on it leave. One of the free candidates on the ballot that can spare the fewest must join: each in turn is
-//! searched below and then leaves, with its clones.
+//! not on it leave. One of the free candidates on the ballot that can spare the fewest must join.
 //!
 //! While several seats are left and several candidates are to be tried, all needs are added up as well, each with a
 //! weight. A set is given up if the sum passes what the best free candidates can give, and a candidate leaves without
 //! whom the others fall short (`laws::weighted_needs`; Glover, Surrogate constraints, 1968). Any weights are right.
-ghost use Rattle.std.specs.Prelude.{◌≡◌, ℕ, ◌+◌, ◌^◌, ◌≤◌, ◌&&◌, [], true, length};
-ghost use Rattle.std.specs.Prelude.{slice_index, MatchOption};
+ghost use Rattle.std.specs.Prelude.{◌≡◌, ℕ, ◌+◌, ◌^◌, ◌≤◌, ◌&&◌, length, slice_index, MatchOption, ⊤};
 ghost use Rattle.ballot_base.specs.Clones.{AreClones};
-ghost use Rattle.ballot_base.specs.CandSet.{has_member};
 ghost use Rattle.ballot_base.specs.Limits.{most_candidates};
+ghost use Rattle.ballot_base.specs.Worths.{AreTooLow, AreWanted};
 ghost use Rattle.tie_search.specs.Completions.{IsNode};
-ghost use Rattle.near_search.specs.Steps.Near.{AreBallots, AreBallots-prop, AreBranches, AreEligible, AreWeighted};
-ghost use Rattle.near_search.specs.Steps.Near.{IsHopeless, IsNearAnswer, need_weight, share_parts};
+ghost use Rattle.tie_walk.specs.Values.{closeness};
+ghost use Rattle.near_search.specs.Steps.Near.{AreBallots, AreBallots-prop, AreBranches, AreWeighted, IsHopeless};
+ghost use Rattle.near_search.specs.Steps.Near.{IsNearPlan, need_weight, share_parts};
 
 use crate::needs::still_needed;
-use ballot_base::{CandSet, Clones, PLACES, Profile};
+use ballot_base::{CandSet, Clones, PLACES, Profile, Worths};
 use std::alloc::Allocator;
-use tie_search::worths::{at_least, excess, first_member, nth_greatest};
-use tie_walk::add_to_members;
+use tie_search::Node;
+use tie_search::descent::{Narrowing, Plan};
+use tie_walk::{MinimaxTally, Tally};
 
 /// With fewer seats left than this, going through the sets is quicker than weighing needs. Any number is right.
 const FEWEST_SEATS: u8 = 4;
@@ -63,14 +63,12 @@ impl Shares {
     }
 }
 
-/// What all steps of a search share: the ballots, who are clones on them, the shares that weights are made of, and how
-/// far a committee may be from each ballot.
+/// What all steps of a search share: the ballots, who are clones on them, and the shares that weights are made of.
 #[derive(Drop)]
 pub(crate) struct NearSearch<'a, A: Allocator + Copy> {
     pub(crate) profile: &'a Profile<A>,
     pub(crate) clones: &'a Clones,
     pub(crate) shares: &'a Shares,
-    pub(crate) most: u8,
     ghost size: { profile.now.m ≤ most_candidates },
     ghost ballots: { AreBallots profile.now.m profile.now.rows } by { AreBallots-prop profile.now.m profile.now.rows },
     ghost classes: { AreClones profile.now.m profile.now.rows clones.now },
@@ -81,60 +79,92 @@ pub(crate) struct NearSearch<'a, A: Allocator + Copy> {
 #[derive(Drop)]
 struct WeightedNeeds {
     total: u128,
-    // At the number of each free candidate, the total weight of the ballots that approve it.
-    supports: [u128; PLACES],
-    ghost small: { (n : ℕ) → slice_index supports n ≤ 2 ^ 116 },
+    // Of each free candidate, the total weight of the ballots that approve it.
+    supports: Worths,
+}
+
+impl<A: Allocator + Copy> Narrowing for NearSearch<'_, A> {
+    ghost candidates = { λ search. search.profile.now.m };
+
+    ghost value_of = { λ search set. closeness search.profile.now.m search.profile.now.rows set };
+
+    // A whole committee is valued when it is reached.
+    ghost is_valued = { λ search set value. ⊤ };
+
+    ghost is_plan = { λ search set left plan. IsNearPlan search.profile.now set left plan };
+
+    fn clones(&self) -> &Clones {
+        self.clones
+    }
+
+    fn whole_value(&self, node: &Node) -> u128 {
+        MinimaxTally::new(self.profile).value(node.set)
+    }
+
+    fn plan(&mut self, node: &Node, least: u128) -> Option<Plan> {
+        let m = self.profile.m();
+        if least > u128::from(m) {
+            return None;
+        }
+        let most = m - least as u8;
+        let (choices, eligible) = self.choices(node, most)?;
+        let narrowed = Node {
+            free: eligible,
+            ..*node
+        };
+        let needs = self.weighted_needs(&narrowed, choices, most);
+        Some(Plan {
+            eligible: members_for(&needs.supports, &narrowed, needs.total)?,
+            choices,
+            worths: needs.supports,
+            due: needs.total,
+            least,
+        })
+    }
+
+    fn narrowed(&mut self, plan: &Plan, node: &Node, least: u128) -> Option<CandSet> {
+        if least > u128::from(self.profile.m()) {
+            return None;
+        }
+        members_for(&plan.worths, node, plan.due)
+    }
+
+    fn child(&self, _plan: &Plan, node: &Node, next: u8, _least: u128) -> Node {
+        Node {
+            set: node.set.with(next),
+            value: 0,
+            free: node.free.without(next),
+            left: node.left - 1,
+        }
+    }
 }
 
 impl<A: Allocator + Copy> NearSearch<'_, A> {
-    /// A committee of the set and of `left` of the free candidates that is near, if there is one.
-    pub(crate) fn find_near(&self, set: CandSet, free: CandSet, left: u8) -> Option<CandSet>
-        requires { IsNode self.now.profile.now.m set free }
-        ensures { IsNearAnswer self.now.profile.now self.now.most set free left result }
+    /// Two sets: branching candidates, at least one of which must join so that no ballot is farther than `most`; and
+    /// the candidates that are still eligible. Returns `None` if some ballot needs more hits than it can have.
+    fn choices(&self, node: &Node, most: u8) -> Option<(CandSet, CandSet)>
+        requires is_node { IsNode self.now.profile.now.m node.now.set node.now.free }
+        requires some { 1 ≤ node.now.left }
+        ensures { MatchOption result (IsHopeless self.now.profile.now most node.now.set node.now.free node.now.left)
+            (λ both. AreBranches self.now.profile.now most node.now.set node.now.free node.now.left both.0 both.1) }
     {
-        let (choices, eligible) = self.choices(set, free, left)?;
-        if left == 0 {
-            return Some(set);
-        }
-        let needs = self.weighted_needs(set, eligible, left, choices);
-        let mut rest = self.narrowed(&needs, set, eligible, left)?;
-        while let Some(next) = best_of(choices.common(rest), &needs.supports) {
-            let others = rest.without(next);
-            let found = self.find_near(set.with(next), others, left - 1);
-            if let Some(committee) = found {
-                return Some(committee);
-            }
-            // A committee with a clone of the candidate would be as near with the candidate in its place.
-            let untried = others.minus(self.clones.class(next));
-            rest = self.narrowed(&needs, set, untried, left)?;
-        }
-        None
-    }
-
-    /// Two sets: branching candidates, at least one of which must join; and the candidates that are still eligible.
-    /// Returns `None` if some ballot needs more hits than it can have.
-    fn choices(&self, set: CandSet, free: CandSet, left: u8) -> Option<(CandSet, CandSet)>
-        requires { IsNode self.now.profile.now.m set free }
-        ensures { MatchOption result (IsHopeless self.now.profile.now self.now.most set free left)
-            (λ both. AreBranches self.now.profile.now self.now.most set free left both.0 both.1) }
-    {
-        if free.len() < left {
+        if node.free.len() < node.left {
             return None;
         }
-        let k = set.len() + left;
-        let mut choices = free;
-        let mut rest = free;
+        let k = node.set.len() + node.left;
+        let mut choices = node.free;
+        let mut rest = node.free;
         let mut tightest = (u8::MAX, 0);
         for (ballot, _voters) in self.profile.ballots() {
-            let needed = still_needed(ballot, set, k, self.most);
+            let needed = still_needed(ballot, node.set, k, most);
             if needed == 0 {
                 continue;
             }
             let open = ballot.common(rest);
-            if needed > left.min(open.len()) {
+            if needed > node.left.min(open.len()) {
                 return None;
             }
-            if needed == left {
+            if needed == node.left {
                 rest = open;
             }
             let spare = open.len() - needed;
@@ -146,83 +176,46 @@ impl<A: Allocator + Copy> NearSearch<'_, A> {
         Some((choices, rest))
     }
 
-    /// What the ballots still need, if `left` of the free candidates complete the set, and these choices are tried. If
+    /// What the ballots still need so that none is farther than `most`, at a node where these choices are tried. If
     /// weighing does not pay, no ballot has a weight.
-    fn weighted_needs(
-        &self,
-        set: CandSet,
-        free: CandSet,
-        left: u8,
-        choices: CandSet,
-    ) -> WeightedNeeds
-        requires { left ≤ most_candidates }
-        ensures { AreWeighted self.now.profile.now.rows (length set + left) self.now.most set free result.total
-            result.supports }
+    fn weighted_needs(&self, node: &Node, choices: CandSet, most: u8) -> WeightedNeeds
+        requires { node.now.left ≤ most_candidates }
+        ensures { AreWeighted self.now.profile.now.rows (length node.now.set + node.now.left) most node.now.set
+            node.now.free result.total result.supports }
     {
         let mut total = 0;
-        let mut supports = [0; PLACES];
-        if !is_worth_weighing(left, choices) {
+        let mut supports = Worths::none();
+        if !is_worth_weighing(node.left, choices) {
             return WeightedNeeds { total, supports };
         }
-        let k = set.len() + left;
+        let k = node.set.len() + node.left;
         for (ballot, _voters) in self.profile.ballots() {
-            let needed = still_needed(ballot, set, k, self.most);
+            let needed = still_needed(ballot, node.set, k, most);
             if needed > 0 {
-                let approved = ballot.common(free);
+                let approved = ballot.common(node.free);
                 let weight = u128::from(self.shares.weight(needed, approved));
                 total += weight * u128::from(needed);
-                add_to_members(&mut supports, approved, weight);
+                supports.add(approved, weight);
             }
         }
         WeightedNeeds { total, supports }
     }
+}
 
-    /// The free candidates that can still join, by the weighted needs. Returns `None` if no near committee completes
-    /// the set.
-    fn narrowed(
-        &self,
-        needs: &WeightedNeeds,
-        set: CandSet,
-        free: CandSet,
-        left: u8,
-    ) -> Option<CandSet>
-        requires is_node { IsNode self.now.profile.now.m set free }
-        requires weighted { AreWeighted self.now.profile.now.rows (length set + left) self.now.most set free
-            needs.now.total needs.now.supports }
-        ensures { MatchOption result (IsHopeless self.now.profile.now self.now.most set free left)
-            (AreEligible self.now.profile.now self.now.most set free left) }
-    {
-        if needs.total == 0 {
-            return Some(free);
-        }
-        let threshold = nth_greatest(&needs.supports, free, left);
-        let greatest = u128::from(left) * threshold + excess(&needs.supports, free, threshold);
-        if greatest < needs.total {
-            return None;
-        }
-        // The support of a candidate that joins is below the threshold by `spare` at most.
-        let spare = greatest - needs.total;
-        Some(at_least(&needs.supports, free, threshold.saturating_sub(spare)))
+/// The free candidates of a node that can be among those who join, if these are worth `due` together.
+fn members_for(worths: &Worths, node: &Node, due: u128) -> Option<CandSet>
+    ensures { MatchOption result (AreTooLow (slice_index worths.now) node.now.free node.now.left due)
+        (AreWanted (slice_index worths.now) node.now.free node.now.left due) }
+{
+    if due == 0 {
+        return Some(node.free);
     }
+    worths.members_for(node.free, node.left, due)
 }
 
 /// Whether weighing needs pays, with this many seats left and these candidates to try.
 fn is_worth_weighing(left: u8, choices: CandSet) -> bool {
     left >= FEWEST_SEATS && choices.len() >= FEWEST_CHOICES
-}
-
-/// A member with the highest worth. Returns `None` for the empty set.
-fn best_of(set: CandSet, worths: &[u128; PLACES]) -> Option<u8>
-    ensures { MatchOption result (set ≡ []) (λ best. (has_member set best ≡ true)
-        × ((n : ℕ) → has_member set n ≡ true → slice_index worths.now n ≤ slice_index worths.now best)) }
-{
-    let mut best = first_member(set)?;
-    for candidate in set.members() {
-        if worths[usize::from(candidate)] > worths[usize::from(best)] {
-            best = candidate;
-        }
-    }
-    Some(best)
 }
 
 /// Whether a ballot is tighter than the tightest before, each given by how many of its free candidates it can spare and

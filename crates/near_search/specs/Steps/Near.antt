@@ -1,32 +1,21 @@
 -- Steps of the search for a committee that is near each ballot.
-use Rattle.std.specs.Prelude.{◌≡◌, ℕ, ◌-◌, ◌*◌, ◌≤◌, true, List, [], ◌∷◌, length, slice_index, Option, MatchOption}
+use Rattle.std.specs.Prelude.{◌≡◌, ℕ, ◌-◌, ◌+◌, ◌*◌, ◌≤◌, true, List, [], ◌∷◌, length, slice_index}
 use Rattle.std.specs.Coded.{Unit-prop, ×_prop}
 use Rattle.std.specs.List.{AllByRecursion}
 use Rattle.ballot_base.specs.Ballots.{Row, Election}
 use Rattle.ballot_base.specs.Lists.{IsIncreasing}
 use Rattle.ballot_base.specs.Steps.Lists.{IsIncreasing-prop}
 use Rattle.ballot_base.specs.CandSet.{has_member}
-use Rattle.tie_walk.specs.Values.{closeness, greatest_distance}
-use Rattle.tie_search.specs.Completions.{IsOutOfReach, IsReaching}
+use Rattle.tie_walk.specs.Values.{closeness}
+use Rattle.tie_search.specs.Completions.{IsOutOfReach}
+use Rattle.tie_search.specs.Steps.Descent.{AreChoices}
 use Rattle.tie_search.specs.Steps.Narrowed.{IsNarrowed}
+use Rattle.tie_search.specs.declared.descent.Plan.{Plan}
 use Rattle.near_search.specs.Needs.{weighted_needs, weighted_support}
-
--- free candidates of whom each committee has one that completes the set and reaches the value
-pub record AreChoices (value : List ℕ → ℕ) (m : ℕ) (set free : List ℕ) (left least : ℕ) (choices : List ℕ) : Type 0
-  where
-    pub among : (n : ℕ) → has_member choices n ≡ true → has_member free n ≡ true
-    pub one : (committee : List ℕ) → IsReaching value m set free left least committee
-        → (n : ℕ) × (has_member choices n ≡ true) × (has_member committee n ≡ true)
 
 -- no committee that completes the set is near each ballot
 abbrev pub IsHopeless : Election → ℕ → List ℕ → List ℕ → ℕ → Type 0
 IsHopeless e most set free left = IsOutOfReach (closeness e.m e.rows) e.m set free left (e.m - most)
-
--- a search's answer: a committee that completes the set and is near each ballot, or nothing if there is none
-abbrev pub IsNearAnswer : Election → ℕ → List ℕ → List ℕ → ℕ → Option (List ℕ) → Type 0
-IsNearAnswer e most set free left answer =
-    MatchOption answer (IsHopeless e most set free left)
-    (IsReaching (closeness e.m e.rows) e.m set free left (e.m - most))
 
 -- free candidates to whom all belong who are added by a committee that completes the set and is near each ballot
 abbrev pub AreEligible : Election → ℕ → List ℕ → List ℕ → ℕ → List ℕ → Type 0
@@ -36,9 +25,8 @@ AreEligible e most set free left = IsNarrowed (closeness e.m e.rows) e.m set fre
 pub record AreBranches (e : Election) (most : ℕ) (set free : List ℕ) (left : ℕ) (choices eligible : List ℕ) : Type 0
   where
     pub enough : left ≤ length free
-    pub whole : left ≡ 0 → greatest_distance e.rows set ≤ most
     pub narrowed : AreEligible e most set free left eligible
-    pub choices_are : 1 ≤ left → AreChoices (closeness e.m e.rows) e.m set free left (e.m - most) choices
+    pub choices_are : AreChoices (closeness e.m e.rows) e.m set free left (e.m - most) choices
 
 -- for some weights of the rows, `total` is their weighted need, and `supports` has the weighted support of each free
 -- candidate
@@ -47,6 +35,12 @@ pub record AreWeighted (rows : List Row) (k most : ℕ) (set free : List ℕ) (t
     pub weight : Row → ℕ
     pub total_is : total ≡ weighted_needs weight k most set rows
     pub supports_are : (n : ℕ) → has_member free n ≡ true → slice_index supports n ≡ weighted_support weight rows n
+
+-- what a search goes by at a set: weighted needs of the value that its completions are to have
+pub record IsNearPlan (e : Election) (set : List ℕ) (left : ℕ) (plan : Plan) : Type 0 where
+  pub most : ℕ
+  pub least_is : plan.least ≡ e.m - most
+  pub weighted : AreWeighted e.rows (length set + left) most set plan.eligible plan.due plan.worths
 
 -- each ballot is a set of the candidates 1 to m
 abbrev pub AreBallots : ℕ → List Row → Type 0

@@ -1,12 +1,10 @@
-use Rattle.std.proofs.Common.{arith}
-use Rattle.near_search.specs.Needs.{weighted_support}
 use Rattle.near_search.proofs.WeightedNeeds.{member-bound, needs-bound}
 use Rattle.near_search.proofs.laws.weighted_needs.Goals as goal
 
 pub returns-clause-completions : goal.returns-clause-completions
 returns-clause-completions c weight m k most rows set free left threshold committee ballots is_node whole size near =
-    needs-bound weight m k most rows set free left committee ballots is_node whole size near threshold (weighted_support weight rows) (λ n is. omega arith)
+    needs-bound weight m k most rows set free left committee ballots is_node whole size near threshold
 
 pub returns-clause-members : goal.returns-clause-members
 returns-clause-members c weight m k most rows set free left threshold committee n ballots is_node whole size near open_ in_ =
-    member-bound weight m k most rows set free left committee ballots is_node whole size near threshold (weighted_support weight rows) n (λ n is. omega arith) open_ in_
+    member-bound weight m k most rows set free left committee ballots is_node whole size near threshold n open_ in_

@@ -9,4 +9,4 @@ pub returns : goal.returns
 returns g c =
     let t = c.self.inside in
     subst (λ (e : Election). AreAlike (closeness e.m e.rows) e.m t.clones) c.self.view_is
-    (alike t.profile.now c.self.invariant.0 t.clones c.self.invariant.2)
+    (alike t.profile.now c.self.invariant.0.ballots t.clones c.self.invariant.2)

@@ -1,12 +1,12 @@
-use Rattle.std.proofs.Common.{◌≡◌, ◌-◌, ◌≤◌, length, take}
-use Rattle.tie_walk.specs.Values.{closeness, greatest_distance}
-use Rattle.near_search.specs.Steps.Near.{AreChoices, AreEligible}
+use Rattle.std.proofs.Common.{◌-◌}
+use Rattle.tie_walk.specs.Values.{closeness}
+use Rattle.tie_search.specs.Steps.Descent.{AreChoices}
+use Rattle.near_search.specs.Steps.Near.{AreEligible}
 use Rattle.near_search.proofs.near.NearSearch.choices.Given as goal
 
--- where nobody is to be added, no ballot so far is far
+-- who can still join, and of whom one must
 abbrev pub invariant-loop-ballot : goal.invariant-loop-ballot
 invariant-loop-ballot g l = record {
-  whole : l.left ≡ 0 → greatest_distance (take (length l.yielded) l.self.profile.now.rows) l.set ≤ l.self.most;
-  narrowed : AreEligible l.self.profile.now l.self.most l.set l.fn.free l.left l.rest;
-  choice : 1 ≤ l.left → AreChoices (closeness l.self.profile.now.m l.self.profile.now.rows) l.self.profile.now.m l.set l.fn.free l.left (l.self.profile.now.m - l.self.most) l.choices;
+  narrowed : AreEligible l.self.profile.now l.most l.node.set l.fn.node.free l.node.left l.rest;
+  choice : AreChoices (closeness l.self.profile.now.m l.self.profile.now.rows) l.self.profile.now.m l.node.set l.fn.node.free l.node.left (l.self.profile.now.m - l.most) l.choices;
 }

@@ -1,11 +1,10 @@
-use Rattle.std.proofs.Common.{◌≡◌, ℕ, ◌+◌, ◌-◌, ◌*◌, ◌^◌, ◌≤◌, ◌∙◌, cond, sym, ap, subst, arith, get_or, length, replicate, take}
+use Rattle.std.proofs.Common.{◌≡◌, ℕ, ◌+◌, ◌-◌, ◌*◌, ◌^◌, ◌≤◌, ◌∙◌, cond, sym, ap, subst, arith, get_or, length, slice_index, take}
 use Rattle.std.proofs.Math.Nat.{mul-le-mul}
 use Rattle.std.proofs.lemmas.List.{length_push}
 use Rattle.ballot_base.specs.CandSet.{has_member, common_members}
 use Rattle.ballot_base.specs.Ballots.{Row, hits}
 use Rattle.tie_walk.specs.Sequences.{supporters}
 use Rattle.ballot_base.proofs.Turns.{row_of_turn, all_passed}
-use Rattle.tie_walk.proofs.WorthLemmas.{no_total}
 use Rattle.near_search.specs.Needs.{hits_needed, weighted_needs, weighted_support}
 use Rattle.near_search.specs.Steps.Near.{need_weight}
 use Rattle.tie_search.proofs.HitLemmas.{free-common}
@@ -16,25 +15,20 @@ use Rattle.near_search.proofs.near.NearSearch.weighted_needs.Goals as goal
 pub returns-then-not-is_worth_weighing : goal.returns-then-not-is_worth_weighing
 returns-then-not-is_worth_weighing g c =
     let e = c.args.self.now.profile.now in
-    let k = length c.args.set + c.args.left in
+    let k = length c.args.node.now.set + c.args.node.now.left in
     record {
       weight = λ row. 0;
-      total_is = sym (weightless-sum (λ row. hits_needed (length row.0) k c.args.self.now.most - hits row.0 c.args.set) e.rows);
-      supports_are = λ n is. no_total 65 n ∙ sym (weightless-support (supporters e.rows n));
+      total_is = sym (weightless-sum (λ row. hits_needed (length row.0) k c.args.most - hits row.0 c.args.node.now.set) e.rows);
+      supports_are = λ n is. c.none-supports.ensures n ∙ sym (weightless-support (supporters e.rows n));
     }
-
-pub invariant_of-result : goal.invariant_of-result
-invariant_of-result g c = record {
-  small = λ n. let e : get_or {A = ℕ} (replicate 65 0) n 0 ≡ 0 = no_total 65 n in omega (arith, e);
-}
 
 pub loop-ballot-init : goal.loop-ballot-init
 loop-ballot-init g c = record {
   summed = omega arith;
-  supported = λ n is. no_total 65 n;
+  supported = λ n is. c.none-supports.ensures n;
   turns = omega arith;
   small_total = omega arith;
-  small = λ n. let e : get_or {A = ℕ} (replicate 65 0) n 0 ≡ 0 = no_total 65 n in omega (arith, e);
+  small = λ n. omega (arith, c.none-supports.ensures n);
 }
 
 -- what a ballot adds to the whole
@@ -50,18 +44,18 @@ overflow_add-total g c =
     let most = product-most c.from-weight.result c.from.result (omega (arith, c.from-weight.ensures, c.weight.ensures.small)) needed in
     omega (arith, most, inv.small_total, inv.turns)
 
-pub add_to_members-requires : goal.add_to_members-requires
-add_to_members-requires g c =
+pub add-requires : goal.add-requires
+add-requires g c =
     let inv = c.loop-ballot.invariant in
     record { fits = λ n. omega (arith, inv.small n, inv.turns, c.from-weight.ensures, c.weight.ensures.small) }
 
 pub loop-ballot-preserved-then-needed-gt0 : goal.loop-ballot-preserved-then-needed-gt0
 loop-ballot-preserved-then-needed-gt0 g c =
     let e = c.args.self.now.profile.now in
-    let k = length c.args.set + c.args.left in
-    let most = c.args.self.now.most in
-    let set = c.args.set in
-    let free = c.args.free in
+    let k = length c.args.node.now.set + c.args.node.now.left in
+    let most = c.args.most in
+    let set = c.args.node.now.set in
+    let free = c.args.node.now.free in
     let row : Row = (c.in-Some.ballot, c.in-Some._voters) in
     let at = row_of_turn e.rows (c.into_iter-ballot-iterator.ensures.into_iter_gives ∙ c.ballots-ballot-items.ensures.rows) c.loop-ballot.yielded c.loop-ballot.yielded_by row c.in-Some.ensures.steps in
     let i = length c.loop-ballot.yielded in
@@ -84,8 +78,8 @@ loop-ballot-preserved-then-needed-gt0 g c =
     record {
       summed = subst (λ n. c.loop-ballot.total + c.from-weight.result * c.from.result ≡ weighted_needs W k most set (take n e.rows)) next
           (omega (arith, inv.summed, product, needs-more W k most set e.rows i row at));
-      supported = λ n is. subst (λ x. get_or c.add_to_members.new.totals n 0 ≡ weighted_support W (take x e.rows) n) next
-          (c.add_to_members.ensures n
+      supported = λ n is. subst (λ x. slice_index c.add.new.self n ≡ weighted_support W (take x e.rows) n) next
+          (c.add.ensures n
           ∙ ap (λ x. x + cond (has_member c.common-approved.result n) c.from-weight.result 0) (inv.supported n is)
           ∙ ap (λ l. weighted_support W (take i e.rows) n + cond (has_member l n) c.from-weight.result 0) c.common-approved.ensures
           ∙ ap (λ b. weighted_support W (take i e.rows) n + cond b c.from-weight.result 0) (free-common row.0 free n is)
@@ -93,16 +87,16 @@ loop-ballot-preserved-then-needed-gt0 g c =
           ∙ sym (support-more W e.rows i row n at));
       turns = omega (arith, turn, next);
       small_total = omega (arith, added, inv.small_total, next);
-      small = λ n. omega (arith, slight, next, inv.small n, c.add_to_members.ensures n, part-most (has_member c.common-approved.result n) c.from-weight.result);
+      small = λ n. omega (arith, slight, next, inv.small n, c.add.ensures n, part-most (has_member c.common-approved.result n) c.from-weight.result);
     }
 
 pub loop-ballot-preserved : goal.loop-ballot-preserved
 loop-ballot-preserved g c =
     let e = c.args.self.now.profile.now in
-    let k = length c.args.set + c.args.left in
-    let most = c.args.self.now.most in
-    let set = c.args.set in
-    let free = c.args.free in
+    let k = length c.args.node.now.set + c.args.node.now.left in
+    let most = c.args.most in
+    let set = c.args.node.now.set in
+    let free = c.args.node.now.free in
     let row : Row = (c.in-Some.ballot, c.in-Some._voters) in
     let at = row_of_turn e.rows (c.into_iter-ballot-iterator.ensures.into_iter_gives ∙ c.ballots-ballot-items.ensures.rows) c.loop-ballot.yielded c.loop-ballot.yielded_by row c.in-Some.ensures.steps in
     let i = length c.loop-ballot.yielded in
@@ -120,7 +114,7 @@ loop-ballot-preserved g c =
     record {
       summed = subst (λ n. c.loop-ballot.total ≡ weighted_needs W k most set (take n e.rows)) next
           (omega (arith, inv.summed, product, needs-more W k most set e.rows i row at));
-      supported = λ n is. subst (λ x. get_or c.loop-ballot.supports n 0 ≡ weighted_support W (take x e.rows) n) next
+      supported = λ n is. subst (λ x. slice_index c.loop-ballot.supports n ≡ weighted_support W (take x e.rows) n) next
           (omega (arith, inv.supported n is, weight, part-most (has_member row.0 n) (W row), support-more W e.rows i row n at));
       turns = omega (arith, turn, next);
       small_total = omega (arith, inv.small_total, next);
@@ -133,15 +127,12 @@ loop-ballot-preserved g c =
 pub returns : goal.returns
 returns g c =
     let e = c.args.self.now.profile.now in
-    let k = length c.args.set + c.args.left in
-    let W : Row → ℕ = row_weight c.args.self.now.shares.now.of_one k c.args.self.now.most c.args.set c.args.free in
+    let k = length c.args.node.now.set + c.args.node.now.left in
+    let W : Row → ℕ = row_weight c.args.self.now.shares.now.of_one k c.args.most c.args.node.now.set c.args.node.now.free in
     let inv = c.loop-ballot.invariant in
     let all = all_passed e.rows (c.into_iter-ballot-iterator.ensures.into_iter_gives ∙ c.ballots-ballot-items.ensures.rows) c.loop-ballot.yielded c.loop-ballot.yielded_by c.in-None.ensures.steps.0 in
     record {
       weight = W;
-      total_is = inv.summed ∙ ap (weighted_needs W k c.args.self.now.most c.args.set) all;
+      total_is = inv.summed ∙ ap (weighted_needs W k c.args.most c.args.node.now.set) all;
       supports_are = λ n is. inv.supported n is ∙ ap (λ rows. weighted_support W rows n) all;
     }
-
-pub invariant_of-result-2 : goal.invariant_of-result-2
-invariant_of-result-2 g c = let inv = c.loop-ballot.invariant in record { small = λ n. omega (arith, inv.small n, inv.turns) }

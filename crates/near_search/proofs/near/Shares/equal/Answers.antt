@@ -1,7 +1,7 @@
 use Rattle.std.proofs.Common.{ℕ, ◌≤◌, ◌/◌, ◌<◌, List, refl, ap, arith, inl, inr, get_or, length, set, get_or-set_same, get_or-set_other, rules}
 use Rattle.std.proofs.Math.Nat.{div-le_self}
 use Rattle.std.proofs.lemmas.Bool.{cases_eq}
-use Rattle.tie_search.proofs.SearchLemmas.{replicate-most}
+use Rattle.ballot_base.proofs.Sums.{replicate-most}
 use Rattle.near_search.proofs.near.Shares.equal.Goals as goal
 
 one-more : (shares : List ℕ) (j n most : ℕ) → j < length shares → ((i : ℕ) → get_or shares i 0 ≤ most) → n ≤ most → (i : ℕ) → get_or (set shares j n) i 0 ≤ most

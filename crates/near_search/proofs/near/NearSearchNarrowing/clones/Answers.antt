@@ -1,0 +1,5 @@
+use Rattle.near_search.proofs.NearClones.{alike}
+use Rattle.near_search.proofs.near.NearSearchNarrowing.clones.Goals as goal
+
+pub returns-clause-alike : goal.returns-clause-alike
+returns-clause-alike g c = alike c.args.self.now.profile.now c.args.self.now.ballots c.args.self.now.clones.now c.args.self.now.classes
