@@ -296,49 +296,42 @@ given-first ballot_at block holds weights set c covered fits some end =
 
 -- ---- one candidate after another
 
-module _ (gains left rest : List ℕ) (first x : ℕ) (is : left ≡ first ∷ rest) (up : IsIncreasing 1 most_candidates left) (inside : first < length gains) where
+module _ (gains after left rest : List ℕ) (first x : ℕ) (is : left ≡ first ∷ rest) (up : IsIncreasing 1 most_candidates left)
+    (is_set : (n : ℕ) → get_or after n 0 ≡ cond (n == first) (get_or gains first 0 + x) (get_or gains n 0)) where
+  set-here : (c : ℕ) → c ≡ first → get_or after c 0 ≡ get_or gains c 0 + x
+  set-here c here = is_set c ∙ ap (λ b. cond b (get_or gains first 0 + x) (get_or gains c 0)) (eq-eqb c first here) ∙ ap (λ j. get_or gains j 0 + x) (sym here)
+
+  set-other : (c : ℕ) → (c ≡ first → ⊥) → get_or after c 0 ≡ get_or gains c 0
+  set-other c other = is_set c ∙ ap (λ b. cond b (get_or gains first 0 + x) (get_or gains c 0)) (ne_eqb c first other)
+
   -- one of those who are left has got its part
   pub one-added : (c wanted : ℕ) (part : ℕ → ℕ) → x ≡ part first → get_or gains c 0 + cond (has_member left c) (part c) 0 ≡ wanted
-      → get_or (set gains first (get_or gains first 0 + x)) c 0 + cond (has_member rest c) (part c) 0 ≡ wanted
+      → get_or after c 0 + cond (has_member rest c) (part c) 0 ≡ wanted
   one-added c wanted part more before = elim (cases_eq c first) [
     | inl here ↦ omega (
       arith,
       before,
       more,
-      ap (λ j. get_or (set gains first (get_or gains first 0 + x)) j 0) here,
-      get_or-set_same gains first (get_or gains first 0 + x) 0 inside,
-      ap (λ j. get_or gains j 0) here,
+      set-here c here,
       ap part here,
       ap (λ b. cond b (part c) 0) (ap (has_member left) here ∙ first-in left rest first is up),
       ap (λ b. cond b (part c) 0) (ap (has_member rest) here ∙ first-gone left rest first is up),
     )
-    | inr other ↦ omega (
-      arith,
-      before,
-      get_or-set_other gains first c (get_or gains first 0 + x) 0 other,
-      ap (λ b. cond b (part c) 0) (others-same left rest first is up c other),
-    )
+    | inr other ↦ omega (arith, before, set-other c other, ap (λ b. cond b (part c) 0) (others-same left rest first is up c other))
   ]
 
   pub one-most : (c begun most : ℕ) → x ≤ most → get_or gains c 0 ≤ begun + cond (has_member left c) 0 most
-      → get_or (set gains first (get_or gains first 0 + x)) c 0 ≤ begun + cond (has_member rest c) 0 most
+      → get_or after c 0 ≤ begun + cond (has_member rest c) 0 most
   one-most c begun most small before = elim (cases_eq c first) [
     | inl here ↦ omega (
       arith,
       before,
       small,
-      ap (λ j. get_or (set gains first (get_or gains first 0 + x)) j 0) here,
-      get_or-set_same gains first (get_or gains first 0 + x) 0 inside,
-      ap (λ j. get_or gains j 0) here,
+      set-here c here,
       ap (λ b. cond b 0 most) (ap (has_member left) here ∙ first-in left rest first is up),
       ap (λ b. cond b 0 most) (ap (has_member rest) here ∙ first-gone left rest first is up),
     )
-    | inr other ↦ omega (
-      arith,
-      before,
-      get_or-set_other gains first c (get_or gains first 0 + x) 0 other,
-      ap (λ b. cond b 0 most) (others-same left rest first is up c other),
-    )
+    | inr other ↦ omega (arith, before, set-other c other, ap (λ b. cond b 0 most) (others-same left rest first is up c other))
   ]
 
 -- the voters of a block who approve a member are those who have some hit

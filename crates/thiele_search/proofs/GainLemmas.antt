@@ -1,18 +1,22 @@
 -- The bound of a node by gains, under a Thiele rule.
-use Rattle.std.proofs.Common.{◌≡◌, ℕ, ◌+◌, ◌-◌, ◌*◌, ◌^◌, ◌≤◌, true, List, ap, arith, inl, inr, length, get_or, sum_by}
-use Rattle.std.proofs.lemmas.Bool.{cases_lt}
+use Rattle.std.proofs.Common.{◌≡◌, ℕ, ◌+◌, ◌-◌, ◌^◌, ◌≤◌, ◌==◌, ◌||◌, ◌∙◌, Bool, true, false, List, [], ◌∷◌, ◌++◌, refl, sym, ap, arith, get_or, sum_by}
+use Rattle.std.proofs.lemmas.List.{append-nil}
+use Rattle.std.proofs.lemmas.List.Folds.{list_any-append}
 use Rattle.ballot_base.specs.Limits.{most_members}
-use Rattle.ballot_base.specs.CandSet.{has_member, with_member}
+use Rattle.ballot_base.specs.CandSet.{common_members, has_member, with_member}
+use Rattle.ballot_base.proofs.Increasing.{has_member-with_member}
+use Rattle.tie_walk.specs.Ceilings.{IsSubmodular, gain_at}
 use Rattle.ballot_base.specs.Ballots.{IsElection}
 use Rattle.ballot_base.specs.Increments.{increments}
 use Rattle.tie_walk.specs.Sequences.{gain}
 use Rattle.tie_walk.specs.Values.{Thiele}
 use Rattle.tie_walk.proofs.Gains.{thiele-gain, thiele-most}
 use Rattle.tie_walk.proofs.TableLemmas.{increments_sum-most, sum-take-le}
-use Rattle.tie_walk.proofs.Submodular.{thiele_rule-submodular}
-use Rattle.tie_search.specs.Completions.{IsNode, IsOutOfReach, tally_value}
-use Rattle.tie_search.proofs.CompletionLemmas.{completion-few, thiele-same}
-use Rattle.tie_search.proofs.SearchLemmas.{node-bounds}
+use Rattle.tie_walk.proofs.Submodular.{gains-bound, thiele_rule-submodular}
+use Rattle.tie_search.specs.Completions.{IsCompletion, IsNode, tally_value}
+use Rattle.tie_search.proofs.CompletionLemmas.{added, added-free, completion-members, thiele-same}
+use Rattle.tie_search.proofs.SearchLemmas.{push-same}
+use Rattle.thiele_search.proofs.PairBounds.PairLemmas.{sum-less}
 use Rattle.thiele_search.proofs.WholeLemmas.{value-with}
 
 -- no value is too large to add to
@@ -25,41 +29,71 @@ value-most tally set valid size =
     )
 
 -- the value and a gain are the value of a larger set
-pub joined-value : (tally : Thiele) (set free gains : List ℕ) (value n c : ℕ) → IsElection tally.election → IsNode tally.election.m set free → has_member free n ≡ true → value ≡ tally_value tally set
-    → ((x : ℕ) → has_member free x ≡ true → get_or gains x 0 ≡ gain (increments tally.rule tally.k) tally.election.rows set x) → c ≡ n
-    → value + get_or gains c 0 ≡ tally_value tally (with_member set n)
-joined-value tally set free gains value n c valid is_node here is are same =
+pub joined-value : (tally : Thiele) (set free gains : List ℕ) (value n x : ℕ) → IsElection tally.election → IsNode tally.election.m set free → has_member free n ≡ true → value ≡ tally_value tally set
+    → ((y : ℕ) → has_member free y ≡ true → get_or gains y 0 ≡ gain (increments tally.rule tally.k) tally.election.rows set y) → x ≡ get_or gains n 0
+    → value + x ≡ tally_value tally (with_member set n)
+joined-value tally set free gains value n x valid is_node here is are same =
     omega (
       arith,
       is,
-      ap (λ x. get_or gains x 0) same,
+      same,
       are n here,
       value-with tally set n valid (is_node.apart n here),
     )
 
-pub joined-small : (tally : Thiele) (set free gains : List ℕ) (value n c : ℕ) → IsElection tally.election → tally.k ≤ most_members → IsNode tally.election.m set free → has_member free n ≡ true
+pub joined-small : (tally : Thiele) (set free gains : List ℕ) (value n x : ℕ) → IsElection tally.election → tally.k ≤ most_members → IsNode tally.election.m set free → has_member free n ≡ true
     → value ≡ tally_value tally set
-    → ((x : ℕ) → has_member free x ≡ true → get_or gains x 0 ≡ gain (increments tally.rule tally.k) tally.election.rows set x) → c ≡ n → value + get_or gains c 0 ≤ 2 ^ 116
-joined-small tally set free gains value n c valid size is_node here is are same =
-    omega (arith, joined-value tally set free gains value n c valid is_node here is are same, value-most tally (with_member set n) valid size)
+    → ((y : ℕ) → has_member free y ≡ true → get_or gains y 0 ≡ gain (increments tally.rule tally.k) tally.election.rows set y) → x ≡ get_or gains n 0 → value + x ≤ 2 ^ 116
+joined-small tally set free gains value n x valid size is_node here is are same =
+    omega (arith, joined-value tally set free gains value n x valid is_node here is are same, value-most tally (with_member set n) valid size)
 
-module _ (tally : Thiele) (set free : List ℕ) (left least : ℕ) where
-  -- no completion reaches the value where too few are free, or the bound is too low
-  pub node-none : IsElection tally.election → tally.k ≤ most_members → IsNode tally.election.m set free
-      → (t : ℕ) (gains : List ℕ) → ((n : ℕ) → has_member free n ≡ true → get_or gains n 0 ≡ gain (increments tally.rule tally.k) tally.election.rows set n)
-      → ((left ≤ length free) × (least ≤ tally_value tally set + left * t + sum_by (λ n. get_or gains n 0 - t) free) → ⊥)
-      → IsOutOfReach (tally_value tally) tally.election.m set free left least
-  node-none valid size is_node t gains are low committee whole =
-      elim (cases_lt (tally_value tally committee) least) [
-        | inl under ↦ under
-        | inr reaches ↦ absurd (low (completion-few tally.election.m set free left committee is_node whole, omega (arith, reaches, bound)))
-      ]
+module _ (value : List ℕ → ℕ) (falls : IsSubmodular value) (same : (xs ys : List ℕ) → ((n : ℕ) → has_member xs n ≡ has_member ys n) → value xs ≡ value ys) where
+  -- each member that is added brings its gain at most
+  pub node-gains : (m : ℕ) (set free : List ℕ) (left : ℕ) (committee : List ℕ) → IsNode m set free → IsCompletion m set free left committee
+      → value committee ≤ value set + sum_by (gain_at value set) (common_members free committee)
+  node-gains m set free left committee is_node whole =
+      let more = added m set free left committee is_node whole in
+      let is : value committee ≡ value (set ++ more) = same committee (set ++ more) (completion-members m set free left committee is_node whole) in
+      let none : set ++ [] ≡ set = append-nil set in
+      let step : value (set ++ more) ≤ value set + sum_by (λ n. value (set ++ n ∷ []) - value set) more = rw none at (gains-bound value falls set [] more) in
+      omega (arith, is, step, sum-less (λ n. value (set ++ n ∷ []) - value set) (gain_at value set) more (λ n in_. omega (arith, push-same value falls same set n)))
+
+  push-twice : (set : List ℕ) (x n : ℕ) → value ((set ++ x ∷ []) ++ n ∷ []) ≡ value (with_member (with_member set x) n)
+  push-twice set x n =
+      push-same value falls same (set ++ x ∷ []) n
+      ∙ same (with_member (set ++ x ∷ []) n) (with_member (with_member set x) n) (λ y.
+      has_member-with_member (set ++ x ∷ []) n y
+      ∙ ap (λ b. (n == y) || b) (list_any-append (λ z. z == y) set (x ∷ []) ∙ swap (has_member set y) (x == y) ∙ sym (has_member-with_member set x y))
+      ∙ sym (has_member-with_member (with_member set x) n y))
     where
-      bound : tally_value tally committee ≤ tally_value tally set + left * t + sum_by (λ n. get_or gains n 0 - t) free
-      bound = node-bounds (tally_value tally) (thiele_rule-submodular tally.rule tally.k tally.election.rows size)
-          (thiele-same (increments tally.rule tally.k) tally.election.rows) tally.election.m set free left t (λ n. get_or gains n 0) committee is_node whole
-          (λ n in_. omega (
-            arith,
-            are n in_,
-            thiele-gain tally.election.m (increments tally.rule tally.k) tally.election.rows set n valid.ballots (is_node.apart n in_),
-          ))
+      swap : (p q : Bool) → (p || (q || false)) ≡ (q || p)
+      swap true true = refl
+      swap true false = refl
+      swap false true = refl
+      swap false false = refl
+
+  -- a gain is no larger after a candidate has joined
+  pub gain-falls : (set : List ℕ) (x n : ℕ) → gain_at value (with_member set x) n ≤ gain_at value set n
+  gain-falls set x n = omega (arith, falls set (x ∷ []) n, push-twice set x n, push-same value falls same set x, push-same value falls same set n)
+
+-- the gains at a set are those of the rule
+pub gain-same : (tally : Thiele) (set free gains : List ℕ) → IsElection tally.election → IsNode tally.election.m set free
+    → ((n : ℕ) → has_member free n ≡ true → get_or gains n 0 ≡ gain (increments tally.rule tally.k) tally.election.rows set n)
+    → (n : ℕ) → has_member free n ≡ true → gain_at (tally_value tally) set n ≤ get_or gains n 0
+gain-same tally set free gains valid is_node are n here =
+    omega (arith, are n here, thiele-gain tally.election.m (increments tally.rule tally.k) tally.election.rows set n valid.ballots (is_node.apart n here))
+
+-- who completes a set to a committee that reaches the value makes up what is missing
+pub gains-pay : (tally : Thiele) (set free : List ℕ) (left least value : ℕ) (gains committee : List ℕ) → tally.k ≤ most_members → IsNode tally.election.m set free → value ≡ tally_value tally set
+    → ((n : ℕ) → has_member free n ≡ true → gain_at (tally_value tally) set n ≤ get_or gains n 0)
+    → IsCompletion tally.election.m set free left committee → least ≤ tally_value tally committee → least - value ≤ sum_by (λ n. get_or gains n 0) (common_members free committee)
+gains-pay tally set free left least value gains committee size is_node is high whole reaches =
+    let V = tally_value tally in
+    let more = common_members free committee in
+    omega (
+      arith,
+      is,
+      reaches,
+      node-gains V (thiele_rule-submodular tally.rule tally.k tally.election.rows size) (thiele-same (increments tally.rule tally.k) tally.election.rows) tally.election.m set free left committee is_node whole,
+      sum-less (gain_at V set) (λ n. get_or gains n 0) more (λ n in_. high n (added-free tally.election.m set free left committee is_node whole n in_)),
+    )

@@ -3,7 +3,6 @@ pub mod ColumnLemmas
 pub mod CoverLemmas
 mod Examples
 pub mod GainLemmas
-pub mod KeptLemmas
 pub mod PairBounds
 pub mod PriceBounds
 mod WholeLemmas

@@ -16,7 +16,7 @@ ghost use Rattle.tie_walk.specs.Values.{thiele_of};
 ghost use Rattle.thiele_search.specs.Steps.Columns.{block_voters, most_blocks, total, shared, given, approves_some, IsBlock, AreByHits, AreColumns, AreColumnsOf, AreRising, AreWeights, voters_of, voter_ballot, word_before};
 
 use crate::weights::{HitWeights, Weights};
-use ballot_base::{CandSet, Increments, MOST_MEMBERS, PLACES, Profile, ThieleRule};
+use ballot_base::{CandSet, Increments, MOST_MEMBERS, PLACES, Profile, ThieleRule, Worths};
 use std::alloc::{AllocError, Allocator};
 
 /// How many voters share a word.
@@ -243,17 +243,16 @@ impl<A: Allocator + Copy + Drop> Columns<A> {
 }
 
 impl<A: Allocator> Columns<A> {
-    /// What the set gains by each candidate of `among`, at the candidate's number.
-    pub(crate) fn gains_of(&self, set: CandSet, among: CandSet) -> [u128; PLACES]
+    /// What the set gains by each candidate of `among`.
+    pub(crate) fn gains_of(&self, set: CandSet, among: CandSet) -> Worths
         requires few { length self.now.blocks.items ≤ most_blocks }
         requires weights { AreWeights self.now.weights self.now.levels }
-        ensures gains { (ballots : List (List ℕ)) → AreColumns ballots self.now.blocks.items → AreRising ballots
+        ensures { (ballots : List (List ℕ)) → AreColumns ballots self.now.blocks.items → AreRising ballots
             → (c : ℕ) → has_member among c ≡ true → slice_index result c
             ≡ total (λ v. given self.now.weights set c (voter_ballot ballots v))
             (length self.now.blocks.items * block_voters) }
-        ensures small { (c : ℕ) → slice_index result c ≤ 2 ^ 106 }
     {
-        let mut gains = [0; PLACES];
+        let mut gains = Worths::none();
         for block in &self.blocks {
             self.add_block(&mut gains, block, set, among);
         }
@@ -276,7 +275,7 @@ impl<A: Allocator> Columns<A> {
 
     /// Adds to the gains of the candidates of `among` what the voters of a block give. No voter has more hits than the
     /// set has members.
-    fn add_block(&self, gains: &mut [u128; PLACES], block: &Block, set: CandSet, among: CandSet)
+    fn add_block(&self, gains: &mut Worths, block: &Block, set: CandSet, among: CandSet)
         requires weights { AreWeights self.now.weights self.now.levels }
         requires fits { (c : ℕ) → slice_index gains.old c < 2 ^ 106 }
         ensures sum { (ballot_at : ℕ → List ℕ) → IsBlock ballot_at block.now
@@ -291,19 +290,14 @@ impl<A: Allocator> Columns<A> {
         let levels = self.levels.min(usize::from(set.len()) + 1);
         let words = by_hits(block, set, levels);
         for candidate in among.members() {
-            let c = usize::from(candidate);
-            gains[c] += given_by(&words, block[c], &self.weights, levels);
+            let column = block[usize::from(candidate)];
+            let given = given_by(&words, column, &self.weights, levels);
+            gains.set(candidate, gains.of(candidate) + given);
         }
     }
 
     /// The same if only a voter's first hit counts: those who approve no member of the set give for a candidate.
-    fn add_first_hits(
-        &self,
-        gains: &mut [u128; PLACES],
-        block: &Block,
-        set: CandSet,
-        among: CandSet,
-    )
+    fn add_first_hits(&self, gains: &mut Worths, block: &Block, set: CandSet, among: CandSet)
         requires weights { AreWeights self.now.weights self.now.levels }
         requires first { self.now.levels ≡ 1 }
         requires fits { (c : ℕ) → slice_index gains.old c < 2 ^ 106 }
@@ -315,8 +309,8 @@ impl<A: Allocator> Columns<A> {
         let uncovered = !covered_by(block, set);
         let weight = self.weights.first();
         for candidate in among.members() {
-            let c = usize::from(candidate);
-            gains[c] += given_first(block[c], uncovered, weight);
+            let given = given_first(block[usize::from(candidate)], uncovered, weight);
+            gains.set(candidate, gains.of(candidate) + given);
         }
     }
 }

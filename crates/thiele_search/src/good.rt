@@ -7,8 +7,7 @@ ghost use Rattle.std.specs.Prelude.{◌≡◌};
 ghost use Rattle.tie_search.specs.Completions.{IsNode};
 ghost use Rattle.thiele_search.specs.Steps.Aided.{IsAided};
 
-use crate::order::Order;
-use crate::search::{Search, may_reach};
+use crate::search::Search;
 use ballot_base::CandSet;
 use std::alloc::Allocator;
 use tie_search::Node;
@@ -76,34 +75,27 @@ impl<A: Allocator + Copy> Search<'_, A> {
         if left == 0 && node.value >= self.least {
             return ShortAnswer::Found(set);
         }
-        if left == 0
-            || !self.may_suffice(set, node.free)
-            || !self.may_afford(set, node.free, left)
-        {
+        if left == 0 || !self.may_suffice(set, node.free) {
             return ShortAnswer::NoneExists;
         }
+        let Some(free) = self.affordable(&node) else {
+            return ShortAnswer::NoneExists;
+        };
         if *patience == 0 {
             return ShortAnswer::GaveUp;
         }
         *patience -= 1;
-        let gains = self.gains_at(set, node.free);
-        let order = Order::by_worth(node.free, &gains);
+        let gains = self.gains_at(set, free);
         let needed = self.least.saturating_sub(node.value);
-        let mut rest = node.free;
-        while may_reach(
-            &gains,
-            rest,
-            left,
-            order.threshold(rest, left, &gains),
-            needed,
-        ) {
-            let Some(next) = order.first_of(rest) else {
+        let mut rest = free;
+        while let Some(hopeful) = gains.members_for(rest, left, needed) {
+            let Some(next) = gains.best_of(hopeful) else {
                 break;
             };
-            rest = rest.without(next);
+            rest = hopeful.without(next);
             let child = Node {
                 set: set.with(next),
-                value: node.value.saturating_add(gains[usize::from(next)]),
+                value: node.value.saturating_add(gains.of(next)),
                 free: rest,
                 left: left - 1,
             };

@@ -30,53 +30,39 @@ pub fn pairs()
 
 /// Row sums bound worths less overlaps. The row of a member has its own worth and that of each other member beside it,
 /// which is raised so that it is not below 0. Any threshold bounds a row: each of the others brings the threshold, and
-/// what its worth beside the member exceeds it by. Any threshold bounds the sum of the rows likewise. If n is a member,
-/// the bound is lower by what the row sum of n is below the threshold.
+/// what its worth beside the member exceeds it by.
 pub fn row_sums()
-    ensures members { (worth : ℕ → ℕ) (overlap : ℕ → ℕ → ℕ) (m left raise most : ℕ) (threshold : ℕ → ℕ)
-        (free members : List ℕ) → 2 ≤ left → IsIncreasing 1 m free → IsIncreasing 1 m members → length members ≡ left
+    ensures { (worth : ℕ → ℕ) (overlap : ℕ → ℕ → ℕ) (m left raise : ℕ) (threshold : ℕ → ℕ) (free members : List ℕ)
+        → 2 ≤ left → IsIncreasing 1 m free → IsIncreasing 1 m members → length members ≡ left
         → ((n : ℕ) → has_member members n ≡ true → has_member free n ≡ true)
         → ((i j : ℕ) → has_member free i ≡ true → has_member free j ≡ true
         → 2 * (left - 1) * overlap i j ≤ worth j + raise)
         → 2 * (left - 1) * sum_by worth members + left * left * raise
-        ≤ 2 * (left - 1) * pair_sum overlap members + left * most
-        + sum_by (λ i. row_sum worth overlap free left raise (threshold i) i - most) free }
-    ensures member { (worth : ℕ → ℕ) (overlap : ℕ → ℕ → ℕ) (m left raise most : ℕ) (threshold : ℕ → ℕ)
-        (free members : List ℕ) (n : ℕ) → 2 ≤ left → IsIncreasing 1 m free → IsIncreasing 1 m members
-        → length members ≡ left → ((n : ℕ) → has_member members n ≡ true → has_member free n ≡ true)
-        → ((i j : ℕ) → has_member free i ≡ true → has_member free j ≡ true
-        → 2 * (left - 1) * overlap i j ≤ worth j + raise)
-        → has_member members n ≡ true
-        → 2 * (left - 1) * sum_by worth members + left * left * raise
-        + (most - row_sum worth overlap free left raise (threshold n) n)
-        ≤ 2 * (left - 1) * pair_sum overlap members + left * most
-        + sum_by (λ i. row_sum worth overlap free left raise (threshold i) i - most) free }
+        ≤ 2 * (left - 1) * pair_sum overlap members
+        + sum_by (λ i. row_sum worth overlap free left raise (threshold i) i) members }
 {}
 
-/// Any threshold bounds the committees that complete a set: each member that is added brings its gain at the set at
-/// most, which is at most the threshold and what the gain exceeds it by.
-pub fn thresholds()
-    ensures { (rule : ThieleRule) (k : ℕ) (rows : List Row) (m : ℕ) (set free : List ℕ) (left threshold : ℕ)
+/// Each member that is added to a set brings its gain at the set at most, since gains only fall as a set grows.
+pub fn gains()
+    ensures { (rule : ThieleRule) (k : ℕ) (rows : List Row) (m : ℕ) (set free : List ℕ) (left : ℕ)
         (committee : List ℕ) → k ≤ most_members → IsNode m set free → IsCompletion m set free left committee
         → thiele_value (increments rule k) rows committee ≤ thiele_value (increments rule k) rows set
-        + left * threshold
-        + sum_by (λ n. gain_at (thiele_value (increments rule k) rows) set n - threshold) free }
+        + sum_by (gain_at (thiele_value (increments rule k) rows) set) (common_members free committee) }
 {}
 
 /// Prices bound values: whatever multiplier is chosen for each row, no committee is worth more than what all voters
-/// keep and the prices of its members, times the scale; and any threshold bounds the committees that complete a set.
-/// Weights may be rounded up to larger units.
+/// keep and the prices of its members, times the scale. Weights may be rounded up to larger units.
 pub fn prices()
     ensures committees { (weights : List ℕ) (scale m : ℕ) (priced : List Priced) (committee : List ℕ)
         → AllByRecursion (λ row. IsIncreasing 1 m row.0) (priced_rows priced) → IsIncreasing 1 m committee
         → scale * thiele_value weights (priced_rows priced) committee
         ≤ base weights scale priced + sum_by (price priced) committee }
-    ensures completions { (weights : List ℕ) (scale m : ℕ) (priced : List Priced) (set free : List ℕ)
-        (left threshold : ℕ) (committee : List ℕ) → AllByRecursion (λ row. IsIncreasing 1 m row.0) (priced_rows priced)
+    ensures completions { (weights : List ℕ) (scale m : ℕ) (priced : List Priced) (set free : List ℕ) (left : ℕ)
+        (committee : List ℕ) → AllByRecursion (λ row. IsIncreasing 1 m row.0) (priced_rows priced)
         → IsNode m set free → IsCompletion m set free left committee
         → scale * thiele_value weights (priced_rows priced) committee
-        ≤ base weights scale priced + sum_by (price priced) set + left * threshold
-        + sum_by (λ n. price priced n - threshold) free }
+        ≤ base weights scale priced + sum_by (price priced) set
+        + sum_by (price priced) (common_members free committee) }
     ensures rounded { (weights : List ℕ) (unit : ℕ) (rounded : List ℕ) (rows : List Row) (committee : List ℕ)
         → AreRounded weights unit rounded
         → thiele_value weights rows committee ≤ unit * thiele_value rounded rows committee }

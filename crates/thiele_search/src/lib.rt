@@ -1,10 +1,10 @@
 //! Thiele's rules as values that can be searched.
 //!
 //! `ThieleSearch` finds a committee of at least a given value, with certain members and others from certain free
-//! candidates. One search also lists all tied committees, if they are few. `search` descends from set to set. It gives
-//! up a set if one of several bounds is too low: by gains, which `columns` counts for 64 voters at once; by `prices`,
-//! made of `multipliers`; and by `pairs` of candidates, made of `majorant`s. `tie_search::SearchWinners` asks it for
-//! one winner after another.
+//! candidates. One search also lists all tied committees, if they are few. `tie_search::descent` goes from set to set,
+//! and `bounds` narrow each: by gains, which `columns` counts for 64 voters at once; by `prices`, made of
+//! `multipliers`; and by `pairs` of candidates, made of `majorant`s. `tie_search::SearchWinners` asks for one winner
+//! after another.
 //!
 //! A `SearchMemory` holds all memory that such a search takes. So a caller can take it before anything is written, and
 //! prepare the search afterwards.
@@ -13,13 +13,13 @@
 //! is proved of them but their ranges: any choice gives the same answers.
 #![tactic(auto)]
 
+mod bounds;
 mod columns;
 mod good;
 mod known;
 pub mod laws;
 mod majorant;
 mod multipliers;
-mod order;
 mod pairs;
 mod prices;
 mod search;

@@ -12,12 +12,10 @@ ghost use Rattle.ballot_base.specs.Limits.{most_candidates};
 ghost use Rattle.ballot_base.specs.Lists.{IsIncreasing};
 ghost use Rattle.thiele_search.specs.Steps.Priced.{HasRoom};
 
-use crate::order::Order;
 use crate::prices::{SCALE, base_of, prices_of};
 use crate::weights::{RoundedWeights, Weights};
-use ballot_base::{CandSet, MOST_MEMBERS, PLACES, Profile};
+use ballot_base::{CandSet, MOST_MEMBERS, Profile, Worths};
 use std::alloc::{AllocError, Allocator};
-use tie_search::worths::excess;
 use tie_walk::{Tally, ThieleTally};
 
 /// For how many rows multipliers are chosen at most.
@@ -86,7 +84,9 @@ pub(crate) fn chosen<A: Allocator + Copy + Drop>(
     for _round in 0..ROUNDS {
         let worths = prices_of(profile, &multipliers);
         let dearest = dearest(&worths, m, k);
-        let bound = base_of(profile, weights, &multipliers) + excess(&worths, dearest, 0);
+        let bound = base_of(profile, weights, &multipliers).saturating_add(worths.excess(
+            dearest, 0,
+        ));
         progress.meet(dearest, values.value(dearest) / rounded.unit);
         if progress.lowers(bound) {
             best.copy_from_slice(&multipliers);
@@ -184,15 +184,14 @@ fn set_all(multipliers: &mut [u64], multiplier: u64)
 }
 
 /// The `count` candidates of the greatest worth.
-fn dearest(worths: &[u128; PLACES], m: u8, count: u8) -> CandSet
+fn dearest(worths: &Worths, m: u8, count: u8) -> CandSet
     requires { m ≤ most_candidates }
     ensures { IsIncreasing 1 m result }
 {
     let mut rest = CandSet::all(m);
-    let order = Order::by_worth(rest, worths);
     let mut dearest = CandSet::empty();
     for _passed in 0..count {
-        if let Some(next) = order.first_of(rest) {
+        if let Some(next) = worths.best_of(rest) {
             dearest = dearest.with(next);
             rest = rest.without(next);
         }

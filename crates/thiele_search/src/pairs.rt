@@ -8,7 +8,7 @@
 ghost use Rattle.std.specs.Prelude.{◌≡◌, ℕ, ◌+◌, ◌-◌, ◌*◌, ◌^◌, ◌<◌, ◌≤◌, ◌==◌, true, List, length, max, min, slice_index, if◌then◌else◌};
 ghost use Rattle.ballot_base.specs.Ballots.{IsElection};
 ghost use Rattle.ballot_base.specs.CandSet.{has_member};
-ghost use Rattle.ballot_base.specs.Limits.{most_candidates};
+ghost use Rattle.ballot_base.specs.Limits.{most_candidates, worth_limit};
 ghost use Rattle.ballot_base.specs.Lists.{IsIncreasing};
 ghost use Rattle.tie_walk.specs.Values.{thiele_value};
 ghost use Rattle.tie_search.specs.Completions.{IsNode};
@@ -19,11 +19,9 @@ ghost use Rattle.thiele_search.specs.Steps.Rows.{AreBeside, AreRows};
 
 use crate::known::{Known, KnownTotals};
 use crate::majorant::{HitSums, Majorant, Majorants};
-use ballot_base::{CandSet, MOST_CANDIDATES, PLACES, Profile};
+use ballot_base::{CandSet, MOST_CANDIDATES, Profile, Worths};
 use std::alloc::Allocator;
 use tie_search::Node;
-use tie_search::worths::{at_least, excess, nth_greatest};
-use tie_walk::add_to_members;
 
 /// How many places a table of pairs has: 65 * 66 / 2.
 const TABLE_PLACES: usize = 2145;
@@ -44,8 +42,8 @@ pub(crate) struct PairSearch<'a, A: Allocator + Copy> {
 #[derive(Drop)]
 pub(crate) struct Totals {
     kept: u128,
-    // At the number of each free candidate, the worths of all voters who approve it.
-    worths: [u128; PLACES],
+    // For each free candidate, the worths of all voters who approve it.
+    worths: Worths,
     // For each pair of free candidates, the overlaps of all voters who approve both.
     overlaps: Table,
 }
@@ -126,20 +124,12 @@ impl<A: Allocator + Copy> PairSearch<'_, A> {
             left,
             raise,
         };
-        let sums = rows.sums();
-        let threshold = nth_greatest(&sums, free, left);
-        let most = factor * totals.kept
-            + u128::from(left) * threshold
-            + excess(&sums, free, threshold);
         let due = self
             .units()
             .saturating_mul(factor)
             .saturating_add(u128::from(left) * u128::from(left) * raise);
-        if most < due {
-            return None;
-        }
-        // The row sum of a candidate that joins is below the threshold by the difference at most.
-        Some(at_least(&sums, free, threshold.saturating_sub(most - due)))
+        rows.sums()
+            .members_for(free, left, due.saturating_sub(factor * totals.kept))
     }
 
     /// The value that a committee has to reach, in units.
@@ -182,7 +172,7 @@ impl Totals {
     {
         Totals {
             kept: 0,
-            worths: [0; PLACES],
+            worths: Worths::none(),
             overlaps: [0; TABLE_PLACES],
         }
     }
@@ -201,11 +191,8 @@ impl Totals {
     {
         let count = u128::from(voters);
         self.kept += count * u128::from(majorant.kept);
-        add_to_members(
-            &mut self.worths,
-            approved,
-            count * u128::from(majorant.worth),
-        );
+        self.worths
+            .add(approved, count * u128::from(majorant.worth));
         if majorant.overlap > 0 {
             add_pairs(&mut self.overlaps, approved, voters * majorant.overlap);
         }
@@ -237,54 +224,51 @@ struct Rows<'a> {
 }
 
 impl Rows<'_> {
-    /// The row sum of each free candidate, at its number.
-    fn sums(&self) -> [u128; PLACES]
+    /// The row sum of each free candidate.
+    fn sums(&self) -> Worths
         requires { AreRows self.now }
-        ensures sums { (i : ℕ) → has_member self.now.free i ≡ true
+        ensures { (i : ℕ) → has_member self.now.free i ≡ true
             → IsRowSum self.now.totals.now.worths self.now.totals.now.overlaps self.now.free self.now.left
             self.now.raise i (slice_index result i) }
-        ensures small { (i : ℕ) → slice_index result i ≤ 2 ^ 80 }
     {
-        let mut sums = [0; PLACES];
-        let mut beside = [0; PLACES];
+        let mut sums = Worths::none();
         for i in self.free.members() {
-            self.put_beside(&mut beside, i);
-            sums[usize::from(i)] = self.sum_of(&beside, i);
+            sums.set(i, self.sum_of(i));
         }
         sums
     }
 
-    /// The row sum of a free candidate, from the worths of all beside it.
-    fn sum_of(&self, beside: &[u128; PLACES], i: u8) -> u128
+    /// The row sum of a free candidate.
+    fn sum_of(&self, i: u8) -> u128
         requires rows { AreRows self.now }
         requires candidates { IsIncreasing 1 most_candidates self.now.free }
         requires member { has_member self.now.free i ≡ true }
-        requires beside { AreBeside self.now i beside.now }
         ensures sum { IsRowSum self.now.totals.now.worths self.now.totals.now.overlaps self.now.free self.now.left
             self.now.raise i result }
-        ensures small { result ≤ 2 ^ 80 }
+        ensures small { result < worth_limit }
     {
+        let beside = self.beside(i);
         let others = self.free.without(i);
-        let threshold = nth_greatest(beside, others, self.left - 1);
-        u128::from(self.left - 2) * self.totals.worths[usize::from(i)]
-            + beside[usize::from(i)]
+        let threshold = beside.nth_greatest(others, self.left - 1);
+        u128::from(self.left - 2) * self.totals.worths.of(i)
+            + beside.of(i)
             + u128::from(self.left - 1) * threshold
-            + excess(beside, others, threshold)
+            + beside.excess(others, threshold)
     }
 
-    /// Puts the worth of each free candidate beside the candidate i at its number.
-    fn put_beside(&self, beside: &mut [u128; PLACES], i: u8)
+    /// The worth of each free candidate beside the candidate i.
+    fn beside(&self, i: u8) -> Worths
         requires rows { AreRows self.now }
         requires within { i ≤ most_candidates }
-        requires small { (j : ℕ) → slice_index beside.old j ≤ 2 ^ 68 }
-        ensures { AreBeside self.now i beside.new }
+        ensures { AreBeside self.now i result }
     {
         let factor = 2 * u128::from(self.left - 1);
-        for other in self.free.members() {
-            let j = usize::from(other);
-            let overlap = u128::from(self.totals.overlaps[place(i, other)]);
-            beside[j] = self.totals.worths[j] + self.raise - factor * overlap;
+        let mut beside = Worths::none();
+        for j in self.free.members() {
+            let overlap = u128::from(self.totals.overlaps[place(i, j)]);
+            beside.set(j, self.totals.worths.of(j) + self.raise - factor * overlap);
         }
+        beside
     }
 }
 

@@ -12,26 +12,23 @@ ghost use Rattle.thiele_search.specs.Prices.{kept, base, price};
 ghost use Rattle.thiele_search.specs.Steps.Priced.{ArePrices, HasRoom, scale, most_rows, priced_by};
 
 use crate::multipliers::{MultiplierMemory, chosen};
-use crate::order::Order;
 use crate::weights::{Weights, rounded_weights};
-use ballot_base::{CandSet, Increments, PLACES, Profile, ThieleRule};
+use ballot_base::{CandSet, Increments, Profile, ThieleRule, Worths};
 use std::alloc::Allocator;
-use tie_search::worths::excess;
-use tie_walk::{Tally, ThieleTally, add_to_members};
+use tie_walk::ThieleTally;
 
 /// What hits give is multiplied by this, so that there are multipliers between two increments.
 pub(crate) const SCALE: u64 = 4096;
 
-/// The price of each candidate, at its number: times the scale, all voters together give a committee no more units than
-/// what they keep and the prices of its members.
+/// The price of each candidate: times the scale, all voters together give a committee no more units than what they keep
+/// and the prices of its members.
 #[derive(Drop)]
 pub(crate) struct Prices {
     // How many of the rule's units are one unit of the weights that the prices are made of.
     pub(crate) unit: u128,
     // What all voters keep.
     pub(crate) base: u128,
-    pub(crate) worths: [u128; PLACES],
-    pub(crate) order: Order,
+    pub(crate) worths: Worths,
     // A good committee that was met when the multipliers were chosen.
     pub(crate) committee: CandSet,
 }
@@ -55,13 +52,10 @@ impl Prices {
         let memory = memory?;
         let rounded = rounded_weights(&Increments::of(rule, k).w)?;
         let (multipliers, committee) = chosen(memory, profile, values, &rounded, k);
-        let worths = prices_of(profile, &multipliers);
-        let candidates = CandSet::all(profile.m());
         Some(Prices {
             unit: rounded.unit,
             base: base_of(profile, &rounded.weights, &multipliers),
-            worths,
-            order: Order::by_worth(candidates, &worths),
+            worths: prices_of(profile, &multipliers),
             committee,
         })
     }
@@ -96,8 +90,7 @@ pub(crate) fn base_of<A: Allocator + Copy>(
     requires each { length multipliers.now ≡ length profile.now.rows }
     requires weights { (j : ℕ) → slice_index weights.now j < 2 ^ 44 }
     requires multipliers { (i : ℕ) → slice_index multipliers.now i ≤ 2 ^ 56 }
-    ensures value { result ≡ base weights.now scale (priced_by (slice_index multipliers.now) profile.now.rows) }
-    ensures small { result ≤ 2 ^ 116 }
+    ensures { result ≡ base weights.now scale (priced_by (slice_index multipliers.now) profile.now.rows) }
 {
     let mut sum = 0;
     for i in 0..profile.rows() {
@@ -107,23 +100,18 @@ pub(crate) fn base_of<A: Allocator + Copy>(
     sum
 }
 
-/// The price of each candidate, at its number.
-pub(crate) fn prices_of<A: Allocator + Copy>(
-    profile: &Profile<A>,
-    multipliers: &[u64],
-) -> [u128; PLACES]
+/// The price of each candidate.
+pub(crate) fn prices_of<A: Allocator + Copy>(profile: &Profile<A>, multipliers: &[u64]) -> Worths
     requires rows { length profile.now.rows ≤ most_rows }
     requires each { length multipliers.now ≡ length profile.now.rows }
     requires multipliers { (i : ℕ) → slice_index multipliers.now i ≤ 2 ^ 56 }
-    ensures value { (n : ℕ) → n ≤ most_candidates → slice_index result n
+    ensures { (n : ℕ) → n ≤ most_candidates → slice_index result n
         ≡ price (priced_by (slice_index multipliers.now) profile.now.rows) n }
-    ensures small { (n : ℕ) → slice_index result n ≤ 2 ^ 116 }
 {
-    let mut worths = [0; PLACES];
+    let mut worths = Worths::none();
     for i in 0..profile.rows() {
         let (ballot, count) = profile.row(i);
-        let worth = u128::from(count) * u128::from(multipliers[i]);
-        add_to_members(&mut worths, ballot, worth);
+        worths.add(ballot, u128::from(count) * u128::from(multipliers[i]));
     }
     worths
 }

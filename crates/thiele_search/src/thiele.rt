@@ -7,6 +7,7 @@ ghost use Rattle.tie_walk.specs.Ceilings.{ceiling};
 ghost use Rattle.tie_search.specs.Completions.{tally_value};
 ghost use Rattle.thiele_search.specs.Steps.Aided.{IsAided};
 
+use crate::bounds::Bounds;
 use crate::columns::Columns;
 use crate::good::Good;
 use crate::majorant::HitSums;
@@ -17,7 +18,7 @@ use crate::trials::Uses;
 use ballot_base::{CandSet, Clones, Profile, ThieleRule};
 use std::alloc::{AllocError, Allocator, Global};
 use std::marker::Model;
-use tie_search::{Searchable, Tied};
+use tie_search::{Searchable, Tied, descent};
 use tie_walk::{Tally, ThieleTally};
 
 /// A candidate has many clones if there are so many with itself.
@@ -190,7 +191,9 @@ impl<'a, A: Allocator + Copy> Searchable for ThieleSearch<'a, A> {
 
     fn find(&self, set: CandSet, free: CandSet, left: u8, least: u128) -> Option<CandSet> {
         // The walk over the winners asks for many such searches, most of which end after a few sets.
-        self.search(least, false).find(set, free, left)
+        let search = self.search(least, false);
+        let node = search.node(set, free, left);
+        descent::find(&mut Bounds::of(search), node, least)
     }
 
     fn tied(&self, k: u8) -> Option<Tied> {
@@ -198,7 +201,10 @@ impl<'a, A: Allocator + Copy> Searchable for ThieleSearch<'a, A> {
         if self.good.is_best || are_mostly_clones(&self.aids.clones, self.m()) {
             return None;
         }
-        Some(self.search(self.good_value(k), true).tied(k))
+        let least = self.good_value(k);
+        let search = self.search(least, true);
+        let all = search.node(CandSet::empty(), CandSet::all(self.m()), k);
+        Some(descent::list_tied(&mut Bounds::of(search), all, least))
     }
 }
 

@@ -1,15 +1,13 @@
 -- Totals that are used for fewer free candidates.
-use Rattle.std.proofs.Common.{◌≡◌, ℕ, zero, suc, ◌==◌, ◌&&◌, ◌||◌, ◌∙◌, Bool, true, false, List, [], ◌∷◌, None, Some, Option, refl, sym, subst}
+use Rattle.std.proofs.Common.{◌≡◌, ℕ, ◌==◌, ◌&&◌, ◌||◌, ◌∙◌, Bool, true, false, List, [], ◌∷◌, refl, sym, subst}
 use Rattle.std.proofs.lemmas.Bool.{eqb-true}
-use Rattle.std.specs.Prelude.{MatchOption, ⊤, slice_get}
 use Rattle.ballot_base.specs.Ballots.{Row, Election}
 use Rattle.ballot_base.specs.CandSet.{has_member, common_members, includes}
 use Rattle.ballot_base.proofs.Increasing.{IsIncreasing-filter, has_member-filter, same_increasing}
 use Rattle.tie_search.specs.Completions.{IsNode}
-use Rattle.thiele_search.specs.Steps.Known.{AreKnown, AreKnownIf, IsKnown}
+use Rattle.thiele_search.specs.Steps.Known.{IsKnown}
 use Rattle.thiele_search.specs.Steps.Paired.{AreSums, AreTotals}
 use Rattle.thiele_search.specs.declared.known.Known.{Known}
-use Rattle.thiele_search.specs.declared.known.KnownTotals.{KnownTotals}
 use Rattle.thiele_search.specs.declared.majorant.HitSums.{HitSums}
 use Rattle.tie_search.proofs.CompletionLemmas.{and-true}
 use Rattle.tie_search.proofs.FoundLemmas.{completion-among}
@@ -56,12 +54,3 @@ known-fewer e given known set free left is is_node same size among weights are =
     subst (λ s. AreTotals weights given.scale given.unit e.m e.rows s known.free known.left known.totals.kept known.totals.worths known.totals.overlaps) same (is.totals weights are) in
     subst (λ l. AreTotals weights given.scale given.unit e.m e.rows set free l known.totals.kept known.totals.worths known.totals.overlaps) size
     (totals-fewer weights given.scale given.unit e.m e.rows set known.free free known.left known.totals.kept known.totals.worths known.totals.overlaps before is_node among all)
-
--- nothing is kept at the start
-pub known-none : (e : Election) (sums : Option HitSums) (known : KnownTotals) → ((other : Election) (given : HitSums) → AreKnown other given known) → AreKnownIf e sums (known ∷ [])
-known-none e None known none = tt
-known-none e (Some given) known none = at
-  where
-    at : (i : ℕ) → MatchOption (slice_get (known ∷ []) i) ⊤ (AreKnown e given)
-    at zero = none e given
-    at (suc i) = tt

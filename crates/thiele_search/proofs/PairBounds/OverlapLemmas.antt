@@ -83,22 +83,26 @@ place-row row column other last few less same = elim (cases_lt row other) [
 ]
 
 module _ (left rest : List ℕ) (first : ℕ) (is : left ≡ first ∷ rest) (up : IsIncreasing 1 most_candidates left) where
-  -- the value of the first of those who are left is set
-  pub set-made : (P : ℕ → ℕ → Type 0) (free values : List ℕ) (v : ℕ) → first < length values → P first v
-      → ((j : ℕ) → has_member free j ≡ true → has_member left j ≡ false → P j (get_or values j 0))
-      → (j : ℕ) → has_member free j ≡ true → has_member rest j ≡ false → P j (get_or (set values first v) j 0)
-  set-made P free values v inside here before j in_ gone = elim (cases_eq j first) [
-    | inl same ↦
-        let now : get_or (set values first v) j 0 ≡ v = ap (λ n. get_or (set values first v) n 0) same ∙ get_or-set_same values first v 0 inside in
-        subst (λ x. P j x) (sym now) (subst (λ x. P x v) (sym same) here)
-    | inr other ↦ subst (λ x. P j x) (sym (get_or-set_other values first j v 0 other)) (before j in_ (others-same left rest first is up j other ∙ gone))
-  ]
+  module _ (before after : List ℕ) (v : ℕ) (is_set : (n : ℕ) → get_or after n 0 ≡ cond (n == first) v (get_or before n 0)) where
+    first-is : get_or after first 0 ≡ v
+    first-is = is_set first ∙ ap (λ b. cond b v (get_or before first 0)) (eq-eqb first first refl)
 
-  pub set-most : (values : List ℕ) (v most : ℕ) → first < length values → v ≤ most → ((j : ℕ) → get_or values j 0 ≤ most) → (j : ℕ) → get_or (set values first v) j 0 ≤ most
-  set-most values v most inside low before j = elim (cases_eq j first) [
-    | inl same ↦ omega (arith, low, ap (λ n. get_or (set values first v) n 0) same, get_or-set_same values first v 0 inside)
-    | inr other ↦ omega (arith, before j, get_or-set_other values first j v 0 other)
-  ]
+    other-is : (n : ℕ) → (n ≡ first → ⊥) → get_or after n 0 ≡ get_or before n 0
+    other-is n other = is_set n ∙ ap (λ b. cond b v (get_or before n 0)) (ne_eqb n first other)
+
+    -- the worth of the first of those who are left is set
+    pub one-made : (P : ℕ → ℕ → Type 0) (free : List ℕ) → P first v → ((j : ℕ) → has_member free j ≡ true → has_member left j ≡ false → P j (get_or before j 0))
+        → (j : ℕ) → has_member free j ≡ true → has_member rest j ≡ false → P j (get_or after j 0)
+    one-made P free here made j in_ gone = elim (cases_eq j first) [
+      | inl same ↦ subst (λ x. P x (get_or after x 0)) (sym same) (subst (λ x. P first x) (sym first-is) here)
+      | inr other ↦ subst (λ x. P j x) (sym (other-is j other)) (made j in_ (others-same left rest first is up j other ∙ gone))
+    ]
+
+    pub one-most : (most : ℕ) → v ≤ most → ((j : ℕ) → get_or before j 0 ≤ most) → (j : ℕ) → get_or after j 0 ≤ most
+    one-most most low small j = elim (cases_eq j first) [
+      | inl same ↦ omega (arith, low, ap (λ n. get_or after n 0) same, first-is)
+      | inr other ↦ omega (arith, small j, other-is j other)
+    ]
 
   module _ (table begun columns : List ℕ) (row amount : ℕ) (low : first ≤ row)
       (made : (i j : ℕ) → overlap_at table i j + portion (max i j == row) (has_member left (min i j)) amount ≡ overlap_at begun i j + portion (max i j == row) (has_member columns (min i j)) amount) where

@@ -14,7 +14,7 @@ use Rattle.tie_search.specs.Completions.{IsNode, IsCompletion}
 use Rattle.thiele_search.specs.Pairs.{IsMajorant, all_kept, all_worth, all_overlap, pair_sum, worth_beside, row_sum}
 use Rattle.tie_search.proofs.CompletionLemmas.{added, added-free, added-increasing, added-size, completion-members, hits-same, member-without}
 use Rattle.tie_search.proofs.HitLemmas.{hits-append, hits-more, hits-turned}
-use Rattle.tie_search.proofs.SearchLemmas.{sum-among, sum-member, sum-threshold}
+use Rattle.tie_search.proofs.SearchLemmas.{sum-among, sum-threshold}
 
 or-true : (p q : Bool) → q ≡ true → (p || q) ≡ true
 or-true true q h = refl
@@ -28,6 +28,13 @@ sum-equal f g [] same = refl
 sum-equal f g (x ∷ xs) same =
     let tail = sum-equal f g xs (λ n is. same n (or-true (x == n) (has_member xs n) is)) in
     omega (arith, tail, same x (has_member_head x xs), sum_by-cons f x xs, sum_by-cons g x xs)
+
+-- what is no more for each is no more for all
+pub sum-less : (f g : ℕ → ℕ) (xs : List ℕ) → ((n : ℕ) → has_member xs n ≡ true → f n ≤ g n) → sum_by f xs ≤ sum_by g xs
+sum-less f g [] less = omega arith
+sum-less f g (x ∷ xs) less =
+    let tail = sum-less f g xs (λ n is. less n (or-true (x == n) (has_member xs n) is)) in
+    omega (arith, tail, less x (has_member_head x xs), sum_by-cons f x xs, sum_by-cons g x xs)
 
 -- members of a ballot are worth more by the same
 pub sum-more : (f g : ℕ → ℕ) (has : ℕ → Bool) (more : ℕ) (xs : List ℕ) → ((n : ℕ) → has_member xs n ≡ true → g n ≡ f n + cond (has n) more 0)
@@ -177,30 +184,12 @@ module _ (worth : ℕ → ℕ) (overlap : ℕ → ℕ → ℕ) (m : ℕ) (free m
       both true q r h is = h is
       both false q r h is = is
 
-  module _ (sums : ℕ → ℕ) (most : ℕ) (high : (n : ℕ) → has_member free n ≡ true → (t : ℕ) × (row_sum worth overlap free left raise t n ≤ sums n)) where
+  module _ (sums : ℕ → ℕ) (high : (n : ℕ) → has_member free n ≡ true → (t : ℕ) × (row_sum worth overlap free left raise t n ≤ sums n)) where
     own-most : (n : ℕ) → has_member more n ≡ true → own_row n ≤ sums n
     own-most n is = let h = high n (among n is) in omega (arith, h.1, own-low n h.0 is)
 
-    pub rows-bound : 2 * (left - 1) * sum_by worth more + left * left * raise ≤ 2 * (left - 1) * pair_sum overlap more + left * most + sum_by (λ n. sums n - most) free
-    rows-bound =
-        omega (
-          arith,
-          own-whole,
-          sum-threshold own_row sums most more own-most,
-          ap (λ n. n * most) size,
-          sum-among (λ n. sums n - most) m more free up rises among,
-        )
-
-    pub rows-bound_member : (n : ℕ) → has_member more n ≡ true
-        → 2 * (left - 1) * sum_by worth more + left * left * raise + (most - sums n) ≤ 2 * (left - 1) * pair_sum overlap more + left * most + sum_by (λ n. sums n - most) free
-    rows-bound_member n here =
-        omega (
-          arith,
-          own-whole,
-          sum-member own_row sums most n more own-most here,
-          ap (λ n. n * most) size,
-          sum-among (λ n. sums n - most) m more free up rises among,
-        )
+    pub rows-bound : 2 * (left - 1) * sum_by worth more + left * left * raise ≤ 2 * (left - 1) * pair_sum overlap more + sum_by sums more
+    rows-bound = omega (arith, own-whole, sum-less own_row sums more own-most)
 
 -- ---- pairs
 

@@ -1,21 +1,17 @@
 -- What the totals of pairs say of a set.
-use Rattle.std.proofs.Common.{◌≡◌, ℕ, ◌+◌, ◌-◌, ◌*◌, ◌<◌, ◌≤◌, ◌&&◌, ◌∙◌, true, List, ap, arith, inl, inr, sum_by, get_or}
+use Rattle.std.proofs.Common.{◌≡◌, ℕ, ◌+◌, ◌-◌, ◌*◌, ◌≤◌, true, List, ap, arith, inl, inr, sum_by, get_or}
 use Rattle.std.specs.Prelude.{slice_index}
 use Rattle.std.proofs.Math.Nat.{mul-le-mul_left}
 use Rattle.std.proofs.lemmas.Bool.{cases_lt}
 use Rattle.ballot_base.specs.CandSet.{has_member, common_members}
 use Rattle.ballot_base.specs.Limits.{most_candidates}
-use Rattle.ballot_base.specs.Lists.{IsIncreasing}
 use Rattle.ballot_base.specs.Ballots.{Row}
-use Rattle.ballot_base.proofs.Increasing.{has_member-filter}
 use Rattle.tie_walk.specs.Values.{thiele_value}
-use Rattle.tie_search.specs.Completions.{IsNode, IsCompletion, IsOutOfReach}
+use Rattle.tie_search.specs.Completions.{IsNode, IsCompletion}
 use Rattle.thiele_search.specs.Pairs.{pair_sum, row_sum}
-use Rattle.tie_search.specs.Steps.Narrowed.{IsNarrowed}
 use Rattle.thiele_search.specs.Steps.Paired.{AreTotals, IsRowSum, overlap_at}
 use Rattle.tie_search.proofs.CompletionLemmas.{added-free, added-increasing, added-size, member-high}
-use Rattle.tie_search.proofs.NarrowedLemmas.{narrowed-by}
-use Rattle.thiele_search.proofs.PairBounds.PairLemmas.{rows-bound, rows-bound_member}
+use Rattle.thiele_search.proofs.PairBounds.PairLemmas.{rows-bound}
 
 -- a value that is reached in units is reached by the bound
 units-low : (scale unit least needed all overlaps : ℕ) → 1 ≤ unit → ((value : ℕ) → scale * least ≤ unit * value → needed ≤ value) → scale * least + unit * overlaps ≤ unit * all → needed + overlaps ≤ all
@@ -34,8 +30,8 @@ units-low scale unit least needed all overlaps some units bound = elim (cases_lt
 module _ (weights : List ℕ) (scale unit m : ℕ) (rows : List Row) (set free : List ℕ) (left kept : ℕ) (worths table : List ℕ) (is_node : IsNode m set free) (size : m ≤ most_candidates) (two : 2 ≤ left) (some : 1 ≤ unit)
     (totals : AreTotals weights scale unit m rows set free left kept worths table) (least needed raise : ℕ) (units : (value : ℕ) → scale * least ≤ unit * value → needed ≤ value)
     (enough : (i j : ℕ) → i ≤ most_candidates → j ≤ most_candidates → 2 * (left - 1) * overlap_at table i j ≤ raise) (sums : List ℕ)
-    (sums_are : (i : ℕ) → has_member free i ≡ true → IsRowSum worths table free left raise i (get_or sums i 0)) (t greatest due : ℕ)
-    (greatest_is : greatest ≡ 2 * (left - 1) * kept + left * t + sum_by (λ n. get_or sums n 0 - t) free) (due_low : due ≤ 2 * (left - 1) * needed + left * left * raise) where
+    (sums_are : (i : ℕ) → has_member free i ≡ true → IsRowSum worths table free left raise i (get_or sums i 0)) (due : ℕ)
+    (due_low : due ≤ 2 * (left - 1) * needed + left * left * raise - 2 * (left - 1) * kept) where
   module _ (committee : List ℕ) (whole : IsCompletion m set free left committee) (reaches : least ≤ thiele_value weights rows committee) where
     -- what is needed, times the factor of the row sums
     reach-low : 2 * (left - 1) * needed + 2 * (left - 1) * pair_sum (overlap_at table) (common_members free committee) ≤ 2 * (left - 1) * kept + 2 * (left - 1) * sum_by (slice_index worths) (common_members free committee)
@@ -63,41 +59,14 @@ module _ (weights : List ℕ) (scale unit m : ℕ) (rows : List Row) (set free :
     sums-high : (n : ℕ) → has_member free n ≡ true → (s : ℕ) × (row_sum (slice_index worths) (overlap_at table) free left raise s n ≤ get_or sums n 0)
     sums-high n is = let exact = sums_are n is in (exact.0, omega (arith, exact.1))
 
-    due-most : due ≤ greatest
-    due-most =
+    -- who joins has what is due
+    pub pairs-pay : due ≤ sum_by (λ n. get_or sums n 0) (common_members free committee)
+    pairs-pay =
         let more = common_members free committee in
         omega (
           arith,
           reach-low,
           rows-bound (slice_index worths) (overlap_at table) m free more left raise two is_node.free_within (added-increasing m set free left committee is_node whole) (added-size m set free left committee is_node whole)
-              (λ n is. added-free m set free left committee is_node whole n is) beside-free (λ n. get_or sums n 0) t sums-high,
-          greatest_is,
+              (λ n is. added-free m set free left committee is_node whole n is) beside-free (λ n. get_or sums n 0) sums-high,
           due_low,
         )
-
-    member-high_sum : (n : ℕ) → has_member committee n ≡ true → has_member free n ≡ true → due + (t - get_or sums n 0) ≤ greatest
-    member-high_sum n in_ open_ =
-        let more = common_members free committee in
-        let here : has_member more n ≡ true = has_member-filter (has_member committee) free n ∙ ap (λ b. b && has_member free n) in_ ∙ open_ in
-        omega (
-          arith,
-          reach-low,
-          rows-bound_member (slice_index worths) (overlap_at table) m free more left raise two is_node.free_within (added-increasing m set free left committee is_node whole) (added-size m set free left committee is_node whole)
-              (λ n is. added-free m set free left committee is_node whole n is) beside-free (λ n. get_or sums n 0) t sums-high n here,
-          greatest_is,
-          due_low,
-        )
-
-  -- no completion reaches the value
-  pub pairs-none : greatest < due → IsOutOfReach (thiele_value weights rows) m set free left least
-  pairs-none low committee whole = elim (cases_lt (thiele_value weights rows committee) least) [
-    | inl under ↦ under
-    | inr reaches ↦ absurd (omega (arith, low, due-most committee whole reaches))
-  ]
-
-  -- whoever joins has a row sum that is high enough
-  pub pairs-narrowed : due ≤ greatest → (stay : List ℕ) → ((x : ℕ) → IsIncreasing 1 x free → IsIncreasing 1 x stay) → ((n : ℕ) → has_member stay n ≡ true → has_member free n ≡ true)
-      → ((n : ℕ) → has_member free n ≡ true → t - (greatest - due) ≤ get_or sums n 0 → has_member stay n ≡ true) → IsNarrowed (thiele_value weights rows) m set free left least stay
-  pairs-narrowed high stay rises among stays =
-      narrowed-by (thiele_value weights rows) m set free left least stay is_node rises among
-      (λ committee whole reaches n in_ open_. stays n open_ (omega (arith, member-high_sum committee whole reaches n in_ open_, high)))

@@ -6,14 +6,13 @@ use Rattle.std.proofs.lemmas.Bool.{cases_eq}
 use Rattle.std.proofs.lemmas.List.Filters.{sum_by-filter_both}
 use Rattle.std.proofs.lemmas.List.Sums.{sum_by-cons, count_by-le-length}
 use Rattle.ballot_base.specs.Lists.{IsIncreasing}
-use Rattle.ballot_base.specs.CandSet.{has_member}
+use Rattle.ballot_base.specs.CandSet.{common_members, has_member}
 use Rattle.ballot_base.specs.Ballots.{Row, hits}
 use Rattle.tie_walk.specs.Values.{thiele_value}
 use Rattle.tie_search.specs.Completions.{IsNode, IsCompletion}
 use Rattle.thiele_search.specs.Prices.{Priced, priced_rows, kept, base, price}
-use Rattle.tie_search.proofs.CompletionLemmas.{added, added-size, completion-inside, completion-outside}
+use Rattle.tie_search.proofs.CompletionLemmas.{completion-inside, completion-outside}
 use Rattle.tie_search.proofs.HitLemmas.{hits-turned}
-use Rattle.tie_search.proofs.SearchLemmas.{sum-threshold, sum-part}
 
 -- ---- one row
 
@@ -94,23 +93,18 @@ price-bounds w scale m (p ∷ priced) committee all up =
       price-bounds w scale m priced committee all.1 up,
     )
 
--- prices bound the committees that complete a set, by any threshold
-pub priced-node : (w : List ℕ) (scale m : ℕ) (priced : List Priced) (set free : List ℕ) (left t : ℕ) (committee : List ℕ) → AllByRecursion (λ row. IsIncreasing 1 m row.0) (priced_rows priced)
+-- prices bound the committees that complete a set
+pub priced-node : (w : List ℕ) (scale m : ℕ) (priced : List Priced) (set free : List ℕ) (left : ℕ) (committee : List ℕ) → AllByRecursion (λ row. IsIncreasing 1 m row.0) (priced_rows priced)
     → IsNode m set free → IsCompletion m set free left committee
-    → scale * thiele_value w (priced_rows priced) committee ≤ base w scale priced + sum_by (price priced) set + left * t + sum_by (λ n. price priced n - t) free
-priced-node w scale m priced set free left t committee all is_node whole =
+    → scale * thiele_value w (priced_rows priced) committee ≤ base w scale priced + sum_by (price priced) set + sum_by (price priced) (common_members free committee)
+priced-node w scale m priced set free left committee all is_node whole =
     let f = price priced in
-    let more = added m set free left committee is_node whole in
     let both : sum_by f (filter (has_member set) committee) + sum_by f (filter (λ x. not (has_member set x)) committee) ≡ sum_by f committee =
     sum_by-filter_both (has_member set) (λ x. not (has_member set x)) (λ x. refl) f committee in
-    let size : length more * t ≡ left * t = ap (λ n. n * t) (added-size m set free left committee is_node whole) in
     omega (
       arith,
       price-bounds w scale m priced committee all whole.candidates,
       both,
       ap (sum_by f) (completion-inside m set free left committee is_node whole),
       ap (sum_by f) (completion-outside m set free left committee is_node whole),
-      sum-threshold f f t more (λ n h. omega arith),
-      size,
-      sum-part (λ n. f n - t) (has_member committee) free,
     )

@@ -1,5 +1,5 @@
 -- Prices by the multipliers of an array: what the loops over rows add up, and what prices say of a set.
-use Rattle.std.proofs.Common.{◌≡◌, ℕ, zero, suc, true, false, ◌+◌, ◌-◌, ◌*◌, ◌<◌, ◌≤◌, ◌==◌, ◌||◌, ◌∙◌, Bool, cond, List, [], ◌∷◌, ◌++◌, refl, sym, ap, subst, arith, inl, inr, length, map, fold, max, sum, sum_by, take, slice_get, Some, get_or, add-one}
+use Rattle.std.proofs.Common.{◌≡◌, ℕ, zero, suc, true, ◌+◌, ◌-◌, ◌*◌, ◌<◌, ◌≤◌, ◌∙◌, cond, List, [], ◌∷◌, ◌++◌, refl, sym, ap, subst, arith, inl, inr, length, map, fold, max, sum, sum_by, take, slice_get, Some, get_or, add-one}
 use Rattle.std.specs.Int.{div_ceil}
 use Rattle.std.specs.List.{AllByRecursion, range_with_len}
 use Rattle.std.proofs.Math.Nat.{mul-le-mul_left, mul-le-mul_right}
@@ -11,30 +11,19 @@ use Rattle.std.proofs.lemmas.List.Sums.{sum_by-append, sum_by-cons, fold-append}
 use Rattle.std.proofs.lemmas.Option.{get_or_from_slice_get, slice_get_within}
 use Rattle.ballot_base.specs.Limits.{most_voters}
 use Rattle.ballot_base.specs.Lists.{IsIncreasing}
-use Rattle.ballot_base.specs.CandSet.{has_member}
+use Rattle.ballot_base.specs.CandSet.{common_members, has_member}
 use Rattle.ballot_base.specs.Ballots.{Row, IsElection, hits, voter_count}
-use Rattle.ballot_base.proofs.Increasing.{has_member_head}
 use Rattle.tie_walk.proofs.TableLemmas.{sum-take_more}
 use Rattle.tie_walk.specs.Values.{Thiele, thiele_value}
 use Rattle.thiele_search.specs.Prices.{AreRounded, Priced, priced_rows, kept, base, price}
 use Rattle.tie_search.specs.Completions.{IsNode, IsCompletion}
 use Rattle.thiele_search.specs.Steps.Priced.{ArePrices, scale, priced_by}
 use Rattle.thiele_search.proofs.ColumnLemmas.{voters-part}
-use Rattle.tie_search.proofs.CompletionLemmas.{member-high}
+use Rattle.tie_search.proofs.CompletionLemmas.{added-increasing, member-high}
+use Rattle.thiele_search.proofs.PairBounds.PairLemmas.{sum-less}
 use Rattle.thiele_search.proofs.PriceBounds.PriceLemmas.{price-cons, row-price, priced-node}
 
 -- ---- sums
-
--- what is less for each is less for all
-sum-less : (f g : ℕ → ℕ) (xs : List ℕ) → ((n : ℕ) → has_member xs n ≡ true → f n ≤ g n) → sum_by f xs ≤ sum_by g xs
-sum-less f g [] less = omega arith
-sum-less f g (x ∷ xs) less =
-    let tail : sum_by f xs ≤ sum_by g xs = sum-less f g xs (λ n is. less n (or-true (x == n) (has_member xs n) is)) in
-    omega (arith, tail, less x (has_member_head x xs), sum_by-cons f x xs, sum_by-cons g x xs)
-  where
-    or-true : (p q : Bool) → q ≡ true → (p || q) ≡ true
-    or-true true q h = refl
-    or-true false q h = h
 
 -- ---- rows and their multipliers
 
@@ -97,17 +86,6 @@ kept-same : (v w : List ℕ) (s size : ℕ) → ((j : ℕ) → get_or v j 0 ≡ 
 kept-same v w s size same =
     ap (fold max 0) (map-same (λ j. scale * sum (take j v) - j * s) (λ j. scale * sum (take j w) - j * s) (range_with_len 0 (size + 1))
     (λ j. ap (λ x. scale * x - j * s) (take-same v w same j)))
-
-pub base-same : (v w : List ℕ) (priced : List Priced) → ((j : ℕ) → get_or v j 0 ≡ get_or w j 0) → base v scale priced ≡ base w scale priced
-base-same v w [] same = refl
-base-same v w (p ∷ priced) same =
-    omega (
-      arith,
-      sum_by-cons (λ (q : Priced). q.0.1 * kept v scale q.1 (length q.0.0)) p priced,
-      sum_by-cons (λ (q : Priced). q.0.1 * kept w scale q.1 (length q.0.0)) p priced,
-      ap (λ x. p.0.1 * x) (kept-same v w p.1 (length p.0.0) same),
-      base-same v w priced same,
-    )
 
 -- one number of hits more
 pub greatest-more : (f : ℕ → ℕ) (n : ℕ) → fold max 0 (map f (range_with_len 0 (n + 1))) ≡ max (fold max 0 (map f (range_with_len 0 n))) (f n)
@@ -185,19 +163,20 @@ ceil-low n unit v some low = elim (cases_lt v (div_ceil n unit)) [
 
 -- ---- what prices say of a set
 
-pub prices-bound : (tally : Thiele) (unit all_keep : ℕ) (worths set free : List ℕ) (left t : ℕ) (committee : List ℕ) (are : ArePrices tally unit all_keep worths) → IsElection tally.election
+pub prices-bound : (tally : Thiele) (unit all_keep : ℕ) (worths set free : List ℕ) (left : ℕ) (committee : List ℕ) (are : ArePrices tally unit all_keep worths) → IsElection tally.election
     → IsNode tally.election.m set free → IsCompletion tally.election.m set free left committee
-    → scale * thiele_value are.weights tally.election.rows committee ≤ all_keep + sum_by (λ n. get_or worths n 0 - 0) set + left * t + sum_by (λ n. get_or worths n 0 - t) free
-prices-bound tally unit all_keep worths set free left t committee are valid is_node whole =
+    → scale * thiele_value are.weights tally.election.rows committee ≤ all_keep + sum_by (λ n. get_or worths n 0 - 0) set + sum_by (λ n. get_or worths n 0) (common_members free committee)
+prices-bound tally unit all_keep worths set free left committee are valid is_node whole =
     let rows = tally.election.rows in
     let m = tally.election.m in
     let priced = priced_by are.multiplier rows in
     let w = are.weights in
+    let more = common_members free committee in
     let same : priced_rows priced ≡ rows = rows-priced are.multiplier rows in
     let rises : AllByRecursion {X = Row} (λ row. IsIncreasing 1 m row.0) (priced_rows priced) = subst (AllByRecursion {X = Row} (λ row. IsIncreasing 1 m row.0)) (sym same) valid.ballots in
-    let node : scale * thiele_value w rows committee ≤ base w scale priced + sum_by (price priced) set + left * t + sum_by (λ n. price priced n - t) free =
-    subst (λ (l : List Row). scale * thiele_value w l committee ≤ base w scale priced + sum_by (price priced) set + left * t + sum_by (λ n. price priced n - t) free)
-    same (priced-node w scale m priced set free left t committee rises is_node whole) in
+    let node : scale * thiele_value w rows committee ≤ base w scale priced + sum_by (price priced) set + sum_by (price priced) more =
+    subst (λ (l : List Row). scale * thiele_value w l committee ≤ base w scale priced + sum_by (price priced) set + sum_by (price priced) more)
+    same (priced-node w scale m priced set free left committee rises is_node whole) in
     let worth : (xs : List ℕ) → IsIncreasing 1 m xs → (n : ℕ) → has_member xs n ≡ true → get_or worths n 0 ≡ price priced n =
     λ xs up n here. are.prices n (let high : n ≤ m = member-high 1 m xs n up here in omega (arith, high, valid.most)) in
     omega (
@@ -205,7 +184,7 @@ prices-bound tally unit all_keep worths set free left t committee are valid is_n
       node,
       are.keep,
       sum-less (price priced) (λ n. get_or worths n 0 - 0) set (λ n here. omega (arith, worth set is_node.set_within n here)),
-      sum-less (λ n. price priced n - t) (λ n. get_or worths n 0 - t) free (λ n here. omega (arith, worth free is_node.free_within n here)),
+      sum-less (price priced) (λ n. get_or worths n 0) more (λ n here. omega (arith, worth more (added-increasing m set free left committee is_node whole) n here)),
     )
 
 -- before the first row

@@ -1,5 +1,5 @@
 -- Totals of pairs that a search keeps.
-use Rattle.std.specs.Prelude.{ℕ, List, Option, MatchOption, ⊤, slice_get}
+use Rattle.std.specs.Prelude.{ℕ, List, Option, MatchOption, ⊤}
 use Rattle.ballot_base.specs.Ballots.{Election}
 use Rattle.tie_search.specs.Completions.{IsNode}
 use Rattle.thiele_search.specs.Steps.Paired.{AreSmall, AreSums, AreTotals}
@@ -24,6 +24,6 @@ pub record AreKnown (e : Election) (given : HitSums) (known : KnownTotals) : Typ
   pub even : IsKept e given known.even
   pub odd : IsKept e given known.odd
 
--- the same of all that are kept, if it is known what hits give
-abbrev pub AreKnownIf : Election → Option HitSums → List KnownTotals → Type 0
-AreKnownIf e sums kept = MatchOption sums ⊤ (λ given. (i : ℕ) → MatchOption (slice_get kept i) ⊤ (AreKnown e given))
+-- the same of what is kept, if it is known what hits give
+abbrev pub AreKnownIf : Election → Option HitSums → Option KnownTotals → Type 0
+AreKnownIf e sums kept = MatchOption sums ⊤ (λ given. MatchOption kept ⊤ (AreKnown e given))

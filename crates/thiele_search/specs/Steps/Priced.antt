@@ -1,5 +1,5 @@
 -- Rows with the multipliers that were chosen for them, and the prices that a search keeps.
-use Rattle.std.specs.Prelude.{ℕ, suc, ◌≡◌, ◌≤◌, ◌^◌, List, [], ◌∷◌, length, slice_index, Option, MatchOption, ⊤}
+use Rattle.std.specs.Prelude.{ℕ, suc, ◌≡◌, ◌≤◌, List, [], ◌∷◌, length, slice_index, Option, MatchOption, ⊤}
 use Rattle.ballot_base.specs.Limits.{most_candidates}
 use Rattle.ballot_base.specs.Ballots.{Row}
 use Rattle.ballot_base.specs.Increments.{increments}
@@ -37,8 +37,6 @@ pub record ArePrices (tally : Thiele) (unit all_keep : ℕ) (worths : List ℕ) 
   pub keep : all_keep ≡ base weights scale (priced_by multiplier tally.election.rows)
   pub prices : (n : ℕ) → n ≤ most_candidates
       → slice_index worths n ≡ price (priced_by multiplier tally.election.rows) n
-  pub small_base : all_keep ≤ 2 ^ 116
-  pub small : (n : ℕ) → slice_index worths n ≤ 2 ^ 116
 
 -- the prices are those of the election, where they are kept
 abbrev pub IsPriced : Thiele → Option Prices → Type 0

@@ -1,6 +1,5 @@
-use Rattle.std.proofs.Common.{◌≡◌, ℕ, Bool, true, false, ◌*◌, ◌^◌, ◌≤◌, ◌∙◌, cond, sym, ap, arith, get_or, replicate}
+use Rattle.std.proofs.Common.{◌≡◌, ℕ, Bool, true, false, ◌*◌, ◌^◌, ◌≤◌, ◌∙◌, cond, sym, ap, arith, get_or}
 use Rattle.std.proofs.Math.Nat.{mul-le-mul}
-use Rattle.tie_walk.proofs.WorthLemmas.{no_total}
 use Rattle.ballot_base.specs.CandSet.{has_member}
 use Rattle.thiele_search.proofs.PriceBounds.PricedLemmas.{price-more, price-none, row-voters}
 use Rattle.thiele_search.proofs.prices.prices_of.Goals as goal
@@ -11,8 +10,8 @@ part-most false n = omega arith
 
 pub loop-i-init : goal.loop-i-init
 loop-i-init g c = record {
-  priced = λ n low. no_total 65 n ∙ sym (price-none (λ i. get_or c.args.multipliers.now i 0) c.args.profile.now.rows n);
-  small = λ n. let e : get_or {A = ℕ} (replicate 65 0) n 0 ≡ 0 = no_total 65 n in omega (arith, e);
+  priced = λ n low. c.none-worths.ensures n ∙ sym (price-none (λ i. get_or c.args.multipliers.now i 0) c.args.profile.now.rows n);
+  small = λ n. omega (arith, c.none-worths.ensures n);
 }
 
 pub loop-i-preserved : goal.loop-i-preserved
@@ -29,10 +28,10 @@ loop-i-preserved g c =
     record {
       priced = λ n low. omega (
         arith,
-        c.add_to_members.ensures n,
+        c.add.ensures n,
         ap (λ x. cond (has_member row.0 n) x 0) product,
         c.loop-i.invariant.priced n low,
         price-more f rows i row n c.row-ballot.ensures,
       );
-      small = λ n. omega (arith, few, c.add_to_members.ensures n, part-most (has_member row.0 n) (c.from.result * c.from-in-loop-i.result), c.loop-i.invariant.small n);
+      small = λ n. omega (arith, few, c.add.ensures n, part-most (has_member row.0 n) (c.from.result * c.from-in-loop-i.result), c.loop-i.invariant.small n);
     }

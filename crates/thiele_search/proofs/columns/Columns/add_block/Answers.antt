@@ -1,6 +1,4 @@
-use Rattle.std.proofs.Common.{◌≡◌, ℕ, ◌+◌, ◌*◌, ◌^◌, ◌<◌, ◌≤◌, ◌∙◌, Bool, Fits, true, false, cond, ◌∷◌, sym, ap, arith, length, get_or}
-use Rattle.std.specs.Int.{w128}
-use Rattle.std.proofs.Math.ListN.{length-set}
+use Rattle.std.proofs.Common.{◌≡◌, ℕ, ◌+◌, ◌*◌, ◌^◌, ◌<◌, ◌≤◌, ◌==◌, ◌∙◌, Bool, true, false, cond, ◌∷◌, sym, ap, arith, get_or}
 use Rattle.ballot_base.specs.Limits.{most_candidates, most_members}
 use Rattle.ballot_base.specs.CandSet.{has_member}
 use Rattle.ballot_base.specs.Ballots.{hits}
@@ -12,22 +10,23 @@ use Rattle.thiele_search.proofs.columns.Columns.add_block.Goals as goal
 
 pub loop-candidate-preserved : goal.loop-candidate-preserved
 loop-candidate-preserved g c =
-    let gains = c.loop-candidate.gains in
     let left = c.loop-candidate.candidate-iterator in
     let rest = c.next.new.self in
-    let at = c.from-c.result in
-    let is : left ≡ at ∷ rest = c.in-Some.ensures.steps ∙ ap (λ n. n ∷ rest) (sym c.from-c.ensures) in
+    let at = c.from-in-loop-candidate.result in
+    let is : left ≡ at ∷ rest = c.in-Some.ensures.steps ∙ ap (λ n. n ∷ rest) (sym c.from-in-loop-candidate.ensures) in
     let up = c.loop-candidate.invariant.rises in
-    let next = rest-increasing most_candidates left rest at is up in
-    let inside : at < length gains = omega (arith, next.0, c.loop-candidate.invariant.long) in
+    let given = c.given_by-given in
+    let is_set : (n : ℕ) → get_or c.set.new.self n 0 ≡ cond (n == at) (get_or c.loop-candidate.gains at 0 + given.result) (get_or c.loop-candidate.gains n 0) =
+    λ n. c.set.ensures n
+    ∙ ap (λ x. cond (n == c.in-Some.candidate) (x + given.result) (get_or c.loop-candidate.gains n 0)) c.of.ensures.value
+    ∙ ap (λ m. cond (n == m) (get_or c.loop-candidate.gains m 0 + given.result) (get_or c.loop-candidate.gains n 0)) (sym c.from-in-loop-candidate.ensures) in
     record {
-      long = length-set gains at (get_or gains at 0 + c.given_by.result) ∙ c.loop-candidate.invariant.long;
-      rises = next.1;
-      made = λ n. one-added gains left rest at c.given_by.result is up inside n _
+      rises = (rest-increasing most_candidates left rest at is up).1;
+      made = λ n. one-added c.loop-candidate.gains c.set.new.self left rest at given.result is up is_set n _
           (λ j. total (λ h. get_or c.args.self.now.weights h 0 * shared (get_or c.args.block.now j 0) (get_or c.by_hits-words.result h 0)) c.min-levels.result)
-          c.given_by.ensures.sum (c.loop-candidate.invariant.made n);
-      most = λ n. one-most gains left rest at c.given_by.result is up inside n (get_or c.args.gains.now n 0) (most_members * 2 ^ 90)
-          (omega (arith, c.given_by.ensures.most, c.min-levels.ensures, c.requires.weights.few)) (c.loop-candidate.invariant.most n);
+          given.ensures.sum (c.loop-candidate.invariant.made n);
+      most = λ n. one-most c.loop-candidate.gains c.set.new.self left rest at given.result is up is_set n (get_or c.args.gains.now n 0) (most_members * 2 ^ 90)
+          (omega (arith, given.ensures.most, c.min-levels.ensures, c.requires.weights.few)) (c.loop-candidate.invariant.most n);
     }
 
 pub returns-clause-sum : goal.returns-clause-sum
@@ -46,12 +45,13 @@ returns-clause-sum g c ballot_at block n in_ =
     omega (arith, made, summed, whole, ap (λ l. cond (has_member l n) part 0) c.in-None.ensures.steps.0, ap (λ b. cond b part 0) in_)
 
 -- a gain stays small
-gain-fits : (done : Bool) (before gain part : ℕ) → before < 2 ^ 106 → gain ≤ before + cond done 0 (most_members * 2 ^ 90) → part ≤ most_members * 2 ^ 90 → Fits w128 (gain + part)
+gain-fits : (done : Bool) (before gain part : ℕ) → before < 2 ^ 106 → gain ≤ before + cond done 0 (most_members * 2 ^ 90) → part ≤ most_members * 2 ^ 90 → gain + part < 2 ^ 122
 gain-fits true before gain part low near more = omega arith
 gain-fits false before gain part low near more = omega arith
 
-pub overflow_add-gains : goal.overflow_add-gains
-overflow_add-gains g c =
-    let at = c.from-c.result in
-    gain-fits (has_member c.loop-candidate.candidate-iterator at) (get_or c.args.gains.now at 0) (get_or c.loop-candidate.gains at 0) c.given_by.result
-    (c.requires.fits at) (c.loop-candidate.invariant.most at) (omega (arith, c.given_by.ensures.most, c.min-levels.ensures, c.requires.weights.few))
+pub set-requires-clause-small : goal.set-requires-clause-small
+set-requires-clause-small g c =
+    let at = c.in-Some.candidate in
+    let fits = gain-fits (has_member c.loop-candidate.candidate-iterator at) (get_or c.args.gains.now at 0) (get_or c.loop-candidate.gains at 0) c.given_by-given.result
+    (c.requires.fits at) (c.loop-candidate.invariant.most at) (omega (arith, c.given_by-given.ensures.most, c.min-levels.ensures, c.requires.weights.few)) in
+    omega (arith, fits, c.of.ensures.value)

@@ -1,6 +1,5 @@
-use Rattle.std.proofs.Common.{◌≡◌, ℕ, ◌+◌, ◌*◌, ◌^◌, ◌<◌, ◌∙◌, cond, ◌∷◌, sym, ap, arith, length, get_or, w64}
+use Rattle.std.proofs.Common.{◌≡◌, ℕ, ◌+◌, ◌*◌, ◌^◌, ◌==◌, ◌∙◌, cond, ap, arith, get_or, w64}
 use Rattle.std.specs.Int.{bit_not}
-use Rattle.std.proofs.Math.ListN.{length-set}
 use Rattle.ballot_base.specs.Limits.{most_candidates, most_members}
 use Rattle.ballot_base.specs.CandSet.{has_member}
 use Rattle.thiele_search.specs.Steps.Columns.{block_voters, total, shared, given}
@@ -10,22 +9,20 @@ use Rattle.thiele_search.proofs.columns.Columns.add_first_hits.Goals as goal
 
 pub loop-candidate-preserved : goal.loop-candidate-preserved
 loop-candidate-preserved g c =
-    let gains = c.loop-candidate.gains in
     let left = c.loop-candidate.candidate-iterator in
     let rest = c.next.new.self in
-    let at = c.from-c.result in
-    let is : left ≡ at ∷ rest = c.in-Some.ensures.steps ∙ ap (λ n. n ∷ rest) (sym c.from-c.ensures) in
+    let at = c.in-Some.candidate in
     let up = c.loop-candidate.invariant.rises in
-    let next = rest-increasing most_candidates left rest at is up in
-    let inside : at < length gains = omega (arith, next.0, c.loop-candidate.invariant.long) in
+    let given = c.given_first-given in
+    let is_set : (n : ℕ) → get_or c.set.new.self n 0 ≡ cond (n == at) (get_or c.loop-candidate.gains at 0 + given.result) (get_or c.loop-candidate.gains n 0) =
+    λ n. c.set.ensures n ∙ ap (λ x. cond (n == at) (x + given.result) (get_or c.loop-candidate.gains n 0)) c.of.ensures.value in
     record {
-      long = length-set gains at (get_or gains at 0 + c.given_first.result) ∙ c.loop-candidate.invariant.long;
-      rises = next.1;
-      made = λ n. one-added gains left rest at c.given_first.result is up inside n _
+      rises = (rest-increasing most_candidates left rest at c.in-Some.ensures.steps up).1;
+      made = λ n. one-added c.loop-candidate.gains c.set.new.self left rest at given.result c.in-Some.ensures.steps up is_set n _
           (λ j. c.first-weight.result * shared (get_or c.args.block.now j 0) (bit_not w64 c.covered_by-uncovered.result))
-          c.given_first.ensures.sum (c.loop-candidate.invariant.made n);
-      most = λ n. one-most gains left rest at c.given_first.result is up inside n (get_or c.args.gains.now n 0) (most_members * 2 ^ 90)
-          (omega (arith, c.given_first.ensures.most)) (c.loop-candidate.invariant.most n);
+          (given.ensures.sum ∙ ap (λ j. c.first-weight.result * shared (get_or c.args.block.now j 0) (bit_not w64 c.covered_by-uncovered.result)) c.from.ensures) (c.loop-candidate.invariant.made n);
+      most = λ n. one-most c.loop-candidate.gains c.set.new.self left rest at given.result c.in-Some.ensures.steps up is_set n (get_or c.args.gains.now n 0) (most_members * 2 ^ 90)
+          (omega (arith, c.given_first-given.ensures.most)) (c.loop-candidate.invariant.most n);
     }
 
 pub returns-clause-sum : goal.returns-clause-sum

@@ -1,4 +1,4 @@
-use Rattle.std.proofs.Common.{◌≡◌, ℕ, ◌+◌, ◌*◌, ◌^◌, ◌≤◌, cond, length, get_or}
+use Rattle.std.proofs.Common.{◌≡◌, ℕ, ◌+◌, ◌*◌, ◌^◌, ◌≤◌, cond, get_or}
 use Rattle.ballot_base.specs.Limits.{most_candidates, most_members}
 use Rattle.ballot_base.specs.Lists.{IsIncreasing}
 use Rattle.ballot_base.specs.CandSet.{has_member}
@@ -8,7 +8,6 @@ use Rattle.thiele_search.proofs.columns.Columns.add_first_hits.Given as goal
 -- with what is still to be added, the gains are those at the end
 abbrev pub invariant-loop-candidate : goal.invariant-loop-candidate
 invariant-loop-candidate g l = record {
-  long : length l.gains ≡ most_candidates + 1;
   rises : IsIncreasing 1 most_candidates l.candidate-iterator;
   made : (c : ℕ) → get_or l.gains c 0 + cond (has_member l.candidate-iterator c) (l.weight * shared (get_or l.block c 0) l.uncovered) 0
       ≡ get_or l.fn.gains c 0 + cond (has_member l.fn.among c) (l.weight * shared (get_or l.block c 0) l.uncovered) 0;

@@ -1,13 +1,12 @@
-use Rattle.std.proofs.Common.{◌≡◌, ℕ, ◌+◌, ◌*◌, ◌∙◌, sym, ap, arith, length, get_or, replicate}
-use Rattle.tie_walk.proofs.WorthLemmas.{no_total}
+use Rattle.std.proofs.Common.{◌≡◌, ℕ, ◌+◌, ◌*◌, ◌∙◌, sym, ap, arith, length}
 use Rattle.thiele_search.specs.Steps.Columns.{block_voters, total, given, voter_ballot}
 use Rattle.thiele_search.proofs.ColumnLemmas.{block-at, total-add, total-zero}
 use Rattle.thiele_search.proofs.columns.Columns.gains_of.Goals as goal
 
 pub loop-block-init : goal.loop-block-init
 loop-block-init g c = record {
-  summed = λ ballots held up n low. no_total 65 n ∙ sym (total-zero (λ v. given c.args.self.now.weights c.args.set n (voter_ballot ballots v)));
-  most = λ n. let e : get_or {A = ℕ} (replicate 65 0) n 0 ≡ 0 = no_total 65 n in omega (arith, e);
+  summed = λ ballots held up n low. c.none-gains.ensures n ∙ sym (total-zero (λ v. given c.args.self.now.weights c.args.set n (voter_ballot ballots v)));
+  most = λ n. omega (arith, c.none-gains.ensures n);
 }
 
 pub add_block-requires-clause-fits : goal.add_block-requires-clause-fits
@@ -26,10 +25,7 @@ loop-block-preserved g c = record {
   most = λ n. omega (arith, c.add_block.ensures.most n, c.loop-block.invariant.most n, c.requires.weights.few);
 }
 
-pub returns-clause-gains : goal.returns-clause-gains
-returns-clause-gains g c ballots held up n low =
+pub returns : goal.returns
+returns g c ballots held up n low =
     c.loop-block.invariant.summed ballots held up n low
     ∙ ap (λ b. total (λ v. given c.args.self.now.weights c.args.set n (voter_ballot ballots v)) (b * block_voters)) (let e : c.loop-block.block-index ≡ length c.args.self.now.blocks.items = omega (arith, c.loop-block-test.false, c.loop-block.auto.block-index-end, ap length c.deref-block-items.ensures.value) in e)
-
-pub returns-clause-small : goal.returns-clause-small
-returns-clause-small g c n = omega (arith, c.loop-block.invariant.most n, c.requires.few, c.loop-block.auto.block-index-end, ap length c.deref-block-items.ensures.value)

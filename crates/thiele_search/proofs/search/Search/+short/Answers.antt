@@ -1,41 +1,62 @@
 use Rattle.std.proofs.Common.{arith}
+use Rattle.tie_search.specs.Completions.{IsNode}
 use Rattle.tie_search.proofs.CompletionLemmas.{member-low, member-high, node-with, node-without, without-shorter}
+use Rattle.tie_search.proofs.SearchLemmas.{length-among}
 use Rattle.thiele_search.proofs.search.Search.+short.Goals as goal
+use Rattle.thiele_search.proofs.search.Search.+short.Goals.{In-Some-best_of}
+
+pub loop-hopeful-init : goal.loop-hopeful-init
+loop-hopeful-init g t c = c.in-Some.ensures.is_node
+
+-- those who can still join are free
+hopeful-node : (g : _) (t : _) (c : In-Some-best_of g t) → IsNode c.args.self.now.tally.now.election.m c.args.node.set c.in-Some-members_for.hopeful
+hopeful-node g t c = record {
+  set_within = c.loop-hopeful.invariant.set_within;
+  free_within = c.in-Some-members_for.ensures.rises c.args.self.now.tally.now.election.m c.loop-hopeful.invariant.free_within;
+  apart = λ n is. c.loop-hopeful.invariant.apart n (c.in-Some-members_for.ensures.among n is);
+}
 
 pub with-requires-clause-low : goal.with-requires-clause-low
 with-requires-clause-low g t c =
-    member-low 1 c.args.self.now.tally.now.election.m c.loop-node.rest c.in-Some.next c.loop-node.invariant.free_within c.in-Some.ensures
+    let is_node = hopeful-node g t (goal.at.with-requires-clause-low g t c).In-Some-best_of in
+    member-low 1 c.args.self.now.tally.now.election.m c.in-Some-members_for.hopeful c.in-Some-best_of.next is_node.free_within c.in-Some-best_of.ensures.0
 
 pub with-requires-clause-high : goal.with-requires-clause-high
 with-requires-clause-high g t c =
+    let is_node = hopeful-node g t (goal.at.with-requires-clause-high g t c).In-Some-best_of in
     omega (
       arith,
       c.requires.aids.election.most,
-      member-high 1 c.args.self.now.tally.now.election.m c.loop-node.rest c.in-Some.next c.loop-node.invariant.free_within c.in-Some.ensures,
+      member-high 1 c.args.self.now.tally.now.election.m c.in-Some-members_for.hopeful c.in-Some-best_of.next is_node.free_within c.in-Some-best_of.ensures.0,
     )
 
-pub bounds-gains-from : goal.bounds-gains-from
-bounds-gains-from g t c =
+pub of-requires : goal.of-requires
+of-requires g t c =
+    let is_node = hopeful-node g t (goal.at.of-requires g t c).In-Some-best_of in
     omega (
       arith,
       c.requires.aids.election.most,
-      member-high 1 c.args.self.now.tally.now.election.m c.loop-node.rest c.in-Some.next c.loop-node.invariant.free_within c.in-Some.ensures,
-      c.from.ensures,
+      member-high 1 c.args.self.now.tally.now.election.m c.in-Some-members_for.hopeful c.in-Some-best_of.next is_node.free_within c.in-Some-best_of.ensures.0,
     )
 
 pub short-requires : goal.short-requires
 short-requires g t c κs within =
     let m = c.args.self.now.tally.now.election.m in
-    let is_node = node-with m c.args.node.set c.loop-node.rest c.in-Some.next c.loop-node.invariant c.in-Some.ensures in (
+    let is_node = node-with m c.args.node.set c.in-Some-members_for.hopeful c.in-Some-best_of.next (hopeful-node g t (goal.at.short-requires g t c).In-Some-best_of) c.in-Some-best_of.ensures.0 in (
       omega (arith, c.if-left-eq0-2.false, c.decreases),
       (within, (c.requires.ballots, (c.requires.aids, rw c.with.ensures (rw c.without-rest.ensures is_node)))),
     )
 
-pub loop-node-smaller : goal.loop-node-smaller
-loop-node-smaller g t c =
-    let shorter = without-shorter c.loop-node.rest c.in-Some.next c.in-Some.ensures in
-    rw c.without-rest.ensures (omega (arith, shorter))
+pub loop-hopeful-smaller : goal.loop-hopeful-smaller
+loop-hopeful-smaller g t c =
+    let m = c.args.self.now.tally.now.election.m in
+    let hopeful = c.in-Some-members_for.hopeful in
+    let is_node = hopeful-node g t (goal.at.loop-hopeful-smaller g t c).In-Some-best_of in
+    let few = length-among m hopeful c.loop-hopeful.rest is_node.free_within c.loop-hopeful.invariant.free_within c.in-Some-members_for.ensures.among in
+    let shorter = without-shorter hopeful c.in-Some-best_of.next c.in-Some-best_of.ensures.0 in
+    rw c.without-rest.ensures (omega (arith, few, shorter))
 
-pub loop-node-preserved : goal.loop-node-preserved
-loop-node-preserved g t c =
-    rw c.without-rest.ensures (node-without c.args.self.now.tally.now.election.m c.args.node.set c.loop-node.rest c.in-Some.next c.loop-node.invariant)
+pub loop-hopeful-preserved : goal.loop-hopeful-preserved
+loop-hopeful-preserved g t c =
+    rw c.without-rest.ensures (node-without c.args.self.now.tally.now.election.m c.args.node.set c.in-Some-members_for.hopeful c.in-Some-best_of.next
+    (hopeful-node g t (goal.at.loop-hopeful-preserved g t c).In-Some-best_of))

@@ -5,8 +5,8 @@ use Rattle.thiele_search.proofs.search.Search.+short.Given as goal
 abbrev pub decreases-short : goal.decreases-short
 decreases-short g l = l.node.left
 
-abbrev pub invariant-loop-node : goal.invariant-loop-node
-invariant-loop-node g l = IsNode l.self.tally.now.election.m l.set l.rest
+abbrev pub invariant-loop-hopeful : goal.invariant-loop-hopeful
+invariant-loop-hopeful g l = IsNode l.self.tally.now.election.m l.set l.rest
 
-abbrev pub decreases-loop-node : goal.decreases-loop-node
-decreases-loop-node g l = length l.rest
+abbrev pub decreases-loop-hopeful : goal.decreases-loop-hopeful
+decreases-loop-hopeful g l = length l.rest
