@@ -16,11 +16,12 @@ use Rattle.tie_walk.proofs.Submodular.{gains-bound, thiele_rule-submodular}
 use Rattle.tie_search.specs.Completions.{IsCompletion, IsNode, tally_value}
 use Rattle.tie_search.proofs.CompletionLemmas.{added, added-free, completion-members, thiele-same}
 use Rattle.tie_search.proofs.SearchLemmas.{push-same}
+use Rattle.thiele_search.specs.Steps.Aided.{IsValued}
 use Rattle.thiele_search.proofs.PairBounds.PairLemmas.{sum-less}
 use Rattle.thiele_search.proofs.WholeLemmas.{value-with}
 
 -- no value is too large to add to
-pub value-most : (tally : Thiele) (set : List ℕ) → IsElection tally.election → tally.k ≤ most_members → tally_value tally set ≤ 2 ^ 116
+value-most : (tally : Thiele) (set : List ℕ) → IsElection tally.election → tally.k ≤ most_members → tally_value tally set ≤ 2 ^ 116
 value-most tally set valid size =
     omega (
       arith,
@@ -28,24 +29,18 @@ value-most tally set valid size =
           (λ x. omega (arith, sum-take-le (increments tally.rule tally.k) x, increments_sum-most tally.rule tally.k size)),
     )
 
--- the value and a gain are the value of a larger set
-pub joined-value : (tally : Thiele) (set free gains : List ℕ) (value n x : ℕ) → IsElection tally.election → IsNode tally.election.m set free → has_member free n ≡ true → value ≡ tally_value tally set
-    → ((y : ℕ) → has_member free y ≡ true → get_or gains y 0 ≡ gain (increments tally.rule tally.k) tally.election.rows set y) → x ≡ get_or gains n 0
-    → value + x ≡ tally_value tally (with_member set n)
-joined-value tally set free gains value n x valid is_node here is are same =
-    omega (
-      arith,
-      is,
-      same,
-      are n here,
-      value-with tally set n valid (is_node.apart n here),
-    )
+pub valued-small : (tally : Thiele) (set : List ℕ) (value : ℕ) → IsValued tally set value → value ≤ 2 ^ 116
+valued-small tally set value is = omega (arith, is.value_is, value-most tally set is.election is.size)
 
-pub joined-small : (tally : Thiele) (set free gains : List ℕ) (value n x : ℕ) → IsElection tally.election → tally.k ≤ most_members → IsNode tally.election.m set free → has_member free n ≡ true
-    → value ≡ tally_value tally set
-    → ((y : ℕ) → has_member free y ≡ true → get_or gains y 0 ≡ gain (increments tally.rule tally.k) tally.election.rows set y) → x ≡ get_or gains n 0 → value + x ≤ 2 ^ 116
-joined-small tally set free gains value n x valid size is_node here is are same =
-    omega (arith, joined-value tally set free gains value n x valid is_node here is are same, value-most tally (with_member set n) valid size)
+-- the value and a gain are the value of a larger set
+pub valued-more : (tally : Thiele) (set free gains : List ℕ) (value n x : ℕ) → IsValued tally set value → IsNode tally.election.m set free → has_member free n ≡ true
+    → ((y : ℕ) → has_member free y ≡ true → get_or gains y 0 ≡ gain (increments tally.rule tally.k) tally.election.rows set y) → x ≡ get_or gains n 0
+    → IsValued tally (with_member set n) (value + x)
+valued-more tally set free gains value n x is is_node here are same = record {
+  election = is.election;
+  size = is.size;
+  value_is = omega (arith, is.value_is, same, are n here, value-with tally set n is.election (is_node.apart n here));
+}
 
 module _ (value : List ℕ → ℕ) (falls : IsSubmodular value) (same : (xs ys : List ℕ) → ((n : ℕ) → has_member xs n ≡ has_member ys n) → value xs ≡ value ys) where
   -- each member that is added brings its gain at most

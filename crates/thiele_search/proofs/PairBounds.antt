@@ -1,5 +1,4 @@
 -- Bounds by pairs of members.
-pub mod KnownLemmas
 pub mod MajorantLemmas
 pub mod OverlapLemmas
 pub mod PairLemmas

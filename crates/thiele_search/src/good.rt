@@ -3,9 +3,9 @@
 //! They begin with the committee that was met when prices were made. If the last of them shows that none is better, the
 //! greatest value is known before the long search has begun. This is common under Chamberlin-Courant, where hundreds of
 //! committees may tie: winners can then come one by one, and the first does not wait for a list of all.
-ghost use Rattle.std.specs.Prelude.{◌≡◌};
+ghost use Rattle.std.specs.Prelude.{◌≤◌};
+ghost use Rattle.ballot_base.specs.Limits.{most_candidates};
 ghost use Rattle.tie_search.specs.Completions.{IsNode};
-ghost use Rattle.thiele_search.specs.Steps.Aided.{IsAided};
 
 use crate::search::Search;
 use ballot_base::CandSet;
@@ -39,16 +39,13 @@ enum ShortAnswer {
 
 impl<A: Allocator + Copy> Search<'_, A> {
     /// Climbs from a committee to better ones of size k.
-    pub(crate) fn climb(&self, start: CandSet, k: u8) -> Good
-        requires ballots { self.now.profile.now ≡ self.now.tally.now.election }
-        requires aids { IsAided self.now.tally.now self.now.aids.now }
-    {
+    pub(crate) fn climb(&self, start: CandSet, k: u8) -> Good {
         let all = CandSet::all(self.tally.m());
         let mut committee = all.common(start);
         let mut patience = PATIENCE;
         for _searched in 0..MOST_SEARCHES {
-            let better = self.seeking(self.tally.value(committee).saturating_add(1));
-            match better.short(&mut patience, self.node(CandSet::empty(), all, k)) {
+            let more = self.tally.value(committee).saturating_add(1);
+            match self.short(&mut patience, self.node(CandSet::empty(), all, k), more) {
                 ShortAnswer::Found(found) => committee = all.common(found),
                 ShortAnswer::NoneExists => {
                     return Good {
@@ -66,19 +63,18 @@ impl<A: Allocator + Copy> Search<'_, A> {
     }
 
     /// Searches the completions of a node, the highest gains first, until the patience is over. It counts no pairs.
-    fn short(&self, patience: &mut u8, node: Node) -> ShortAnswer
-        requires ballots { self.now.profile.now ≡ self.now.tally.now.election }
-        requires aids { IsAided self.now.tally.now self.now.aids.now }
-        requires is_node { IsNode self.now.tally.now.election.m node.set node.free }
+    fn short(&self, patience: &mut u8, node: Node, least: u128) -> ShortAnswer
+        requires is_node { IsNode self.now.election.m node.set node.free }
+        requires most { self.now.election.m ≤ most_candidates }
     {
         let (set, left) = (node.set, node.left);
-        if left == 0 && node.value >= self.least {
+        if left == 0 && node.value >= least {
             return ShortAnswer::Found(set);
         }
-        if left == 0 || !self.may_suffice(set, node.free) {
+        if left == 0 || !self.may_suffice(&node, least) {
             return ShortAnswer::NoneExists;
         }
-        let Some(free) = self.affordable(&node) else {
+        let Some(free) = self.affordable(&node, least) else {
             return ShortAnswer::NoneExists;
         };
         if *patience == 0 {
@@ -86,7 +82,7 @@ impl<A: Allocator + Copy> Search<'_, A> {
         }
         *patience -= 1;
         let gains = self.gains_at(set, free);
-        let needed = self.least.saturating_sub(node.value);
+        let needed = least.saturating_sub(node.value);
         let mut rest = free;
         while let Some(hopeful) = gains.members_for(rest, left, needed) {
             let Some(next) = gains.best_of(hopeful) else {
@@ -99,7 +95,7 @@ impl<A: Allocator + Copy> Search<'_, A> {
                 free: rest,
                 left: left - 1,
             };
-            match self.short(patience, child) {
+            match self.short(patience, child, least) {
                 ShortAnswer::NoneExists => (),
                 answer => return answer,
             }

@@ -2,7 +2,7 @@
 //!
 //! `ThieleSearch` finds a committee of at least a given value, with certain members and others from certain free
 //! candidates. One search also lists all tied committees, if they are few. `tie_search::descent` goes from set to set,
-//! and `bounds` narrow each: by gains, which `columns` counts for 64 voters at once; by `prices`, made of
+//! and `search` narrows each: by gains, which `columns` counts for 64 voters at once; by `prices`, made of
 //! `multipliers`; and by `pairs` of candidates, made of `majorant`s. `tie_search::SearchWinners` asks for one winner
 //! after another.
 //!
@@ -13,10 +13,8 @@
 //! is proved of them but their ranges: any choice gives the same answers.
 #![tactic(auto)]
 
-mod bounds;
 mod columns;
 mod good;
-mod known;
 pub mod laws;
 mod majorant;
 mod multipliers;

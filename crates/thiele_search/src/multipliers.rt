@@ -7,13 +7,12 @@
 //! with. Only the range of the multipliers is proved, since prices bound values whatever the multipliers are.
 ghost use Rattle.std.specs.Prelude.{◌≡◌, ℕ, ◌^◌, ◌<◌, ◌≤◌, length, slice_index, IfOk, MatchOption, ⊤};
 ghost use Rattle.ballot_base.specs.Ballots.{IsElection};
-ghost use Rattle.ballot_base.specs.CandSet.{common_members};
 ghost use Rattle.ballot_base.specs.Limits.{most_candidates};
 ghost use Rattle.ballot_base.specs.Lists.{IsIncreasing};
 ghost use Rattle.thiele_search.specs.Steps.Priced.{HasRoom};
 
-use crate::prices::{SCALE, base_of, prices_of};
-use crate::weights::{RoundedWeights, Weights};
+use crate::prices::{Pricing, SCALE};
+use crate::weights::RoundedWeights;
 use ballot_base::{CandSet, MOST_MEMBERS, Profile, Worths};
 use std::alloc::{AllocError, Allocator};
 use tie_walk::{Tally, ThieleTally};
@@ -57,49 +56,103 @@ impl<A: Allocator + Copy + Drop> MultiplierMemory<A> {
     }
 }
 
-/// Multipliers by which the bound of all committees of k is low, a multiplier for each row, and a good committee that
-/// was met on the way. They lie in this memory.
-pub(crate) fn chosen<A: Allocator + Copy + Drop>(
-    memory: MultiplierMemory<A>,
-    profile: &Profile<A>,
-    values: &ThieleTally<A>,
-    rounded: &RoundedWeights,
-    k: u8,
-) -> (Vec<u64, A>, CandSet)
-    requires room { HasRoom profile.now.rows memory }
-    requires unit { 1 ≤ rounded.now.unit }
-    requires weights { (j : ℕ) → slice_index rounded.now.weights j < 2 ^ 44 }
-    ensures each { length result.0.items ≡ length profile.now.rows }
-    ensures small { (i : ℕ) → slice_index result.0.items i ≤ 2 ^ 56 }
-{
-    let weights = &rounded.weights;
-    let m = values.m();
-    let MultiplierMemory {
-        tried: mut multipliers,
-        mut best,
-    } = memory;
-    set_all(&mut multipliers, SCALE * weights[0] / 2);
-    best.copy_from_slice(&multipliers);
-    let mut progress = Progress::none();
-    for _round in 0..ROUNDS {
-        let worths = prices_of(profile, &multipliers);
-        let dearest = dearest(&worths, m, k);
-        let bound = base_of(profile, weights, &multipliers).saturating_add(worths.excess(
-            dearest, 0,
-        ));
-        progress.meet(dearest, values.value(dearest) / rounded.unit);
-        if progress.lowers(bound) {
-            best.copy_from_slice(&multipliers);
+impl<A: Allocator + Copy + Drop> Pricing<'_, A> {
+    /// Multipliers by which the bound of all committees of k is low, a multiplier for each row, and a good committee
+    /// that was met on the way. They lie in this memory.
+    pub(crate) fn chosen(
+        &self,
+        memory: MultiplierMemory<A>,
+        values: &ThieleTally<A>,
+        k: u8,
+    ) -> (Vec<u64, A>, CandSet)
+        requires { HasRoom self.now.profile.now.rows memory }
+        ensures each { length result.0.items ≡ length self.now.profile.now.rows }
+        ensures small { (i : ℕ) → slice_index result.0.items i ≤ 2 ^ 56 }
+    {
+        let m = values.m();
+        let MultiplierMemory {
+            tried: mut multipliers,
+            mut best,
+        } = memory;
+        set_all(&mut multipliers, SCALE * self.rounded.weights[0] / 2);
+        best.copy_from_slice(&multipliers);
+        let mut progress = Progress::none();
+        for _round in 0..ROUNDS {
+            let worths = self.prices(&multipliers);
+            let dearest = dearest(&worths, m, k);
+            let bound = self
+                .base(&multipliers)
+                .saturating_add(worths.excess(dearest, 0));
+            progress.meet(dearest, values.value(dearest) / self.rounded.unit);
+            if progress.lowers(bound) {
+                best.copy_from_slice(&multipliers);
+            }
+            if progress.is_over() {
+                break;
+            }
+            match progress.next_gap(bound) {
+                Some(gap) => self.step(&mut multipliers, dearest, gap),
+                None => multipliers.copy_from_slice(&best),
+            }
         }
-        if progress.is_over() {
-            break;
+        (best, progress.committee)
+    }
+
+    /// Moves the multiplier of each row: up where the committee hits it less often than the row asks for at this
+    /// multiplier, and down where more often. The step is the gap over the square of all these differences.
+    fn step(&self, multipliers: &mut [u64], committee: CandSet, gap: u128)
+        requires each { length multipliers.old ≡ length self.now.profile.now.rows }
+        requires before { (i : ℕ) → slice_index multipliers.old i ≤ 2 ^ 56 }
+        ensures kept { length multipliers.new ≡ length multipliers.old }
+        ensures small { (i : ℕ) → slice_index multipliers.new i ≤ 2 ^ 56 }
+    {
+        let mut square: u128 = 1;
+        for i in 0..self.profile.rows() {
+            let (ballot, count) = self.profile.row(i);
+            let hits = ballot.common(committee).len();
+            let wanted = self.rounded.wanted(multipliers[i], ballot.len(), hits);
+            let apart = u128::from(hits.abs_diff(wanted));
+            let square_apart = apart.saturating_mul(apart);
+            square = square.saturating_add(u128::from(count).saturating_mul(square_apart));
         }
-        match progress.next_gap(bound) {
-            Some(gap) => step(profile, weights, &mut multipliers, dearest, gap),
-            None => multipliers.copy_from_slice(&best),
+        let top = SCALE * self.rounded.weights[0];
+        let length = (gap / square).min(u128::from(top)) as u64;
+        for i in 0..self.profile.rows() {
+            let (ballot, _count) = self.profile.row(i);
+            let hits = ballot.common(committee).len();
+            let wanted = self.rounded.wanted(multipliers[i], ballot.len(), hits);
+            let up = length.saturating_mul(u64::from(wanted.saturating_sub(hits)));
+            let down = length.saturating_mul(u64::from(hits.saturating_sub(wanted)));
+            multipliers[i] = multipliers[i]
+                .saturating_add(up)
+                .saturating_sub(down)
+                .min(top);
         }
     }
-    (best, progress.committee)
+}
+
+impl RoundedWeights {
+    /// The number of hits, nearest to `hits`, at which a ballot of this size gives the most beside the multiplier for
+    /// each.
+    fn wanted(&self, multiplier: u64, size: u8, hits: u8) -> u8 {
+        let mut least = 0;
+        while least < size && self.given(least) > multiplier {
+            least += 1;
+        }
+        let mut most = least;
+        while most < size && self.given(most) == multiplier {
+            most += 1;
+        }
+        hits.max(least).min(most)
+    }
+
+    /// What a voter gives for the hit after so many, times the scale.
+    fn given(&self, hits: u8) -> u64 {
+        if hits >= MOST_MEMBERS {
+            return 0;
+        }
+        SCALE * self.weights[usize::from(hits)]
+    }
 }
 
 /// What was met so far, and how long the next step is. Bounds and values are in parts of which a unit has `SCALE`.
@@ -197,71 +250,4 @@ fn dearest(worths: &Worths, m: u8, count: u8) -> CandSet
         }
     }
     dearest
-}
-
-/// Moves the multiplier of each row: up where the committee hits it less often than the row asks for at this
-/// multiplier, and down where more often. The step is the gap over the square of all these differences.
-fn step<A: Allocator + Copy>(
-    profile: &Profile<A>,
-    weights: &Weights,
-    multipliers: &mut [u64],
-    committee: CandSet,
-    gap: u128,
-)
-    requires each { length multipliers.old ≡ length profile.now.rows }
-    requires weights { (j : ℕ) → slice_index weights.now j < 2 ^ 44 }
-    requires before { (i : ℕ) → slice_index multipliers.old i ≤ 2 ^ 56 }
-    ensures kept { length multipliers.new ≡ length multipliers.old }
-    ensures small { (i : ℕ) → slice_index multipliers.new i ≤ 2 ^ 56 }
-{
-    let mut square: u128 = 1;
-    for i in 0..profile.rows() {
-        let (ballot, count) = profile.row(i);
-        let (hits, wanted) = hits_and_wanted(weights, multipliers[i], ballot, committee);
-        let apart = u128::from(hits.abs_diff(wanted));
-        square = square.saturating_add(u128::from(count).saturating_mul(apart.saturating_mul(
-            apart,
-        )));
-    }
-    let top = SCALE * weights[0];
-    let length = (gap / square).min(u128::from(top)) as u64;
-    for i in 0..profile.rows() {
-        let (ballot, _count) = profile.row(i);
-        let (hits, wanted) = hits_and_wanted(weights, multipliers[i], ballot, committee);
-        let up = length.saturating_mul(u64::from(wanted.saturating_sub(hits)));
-        let down = length.saturating_mul(u64::from(hits.saturating_sub(wanted)));
-        multipliers[i] = multipliers[i]
-            .saturating_add(up)
-            .saturating_sub(down)
-            .min(top);
-    }
-}
-
-/// How often a committee hits a ballot, and how often the ballot asks for it at this multiplier.
-fn hits_and_wanted(
-    weights: &Weights,
-    multiplier: u64,
-    ballot: CandSet,
-    committee: CandSet,
-) -> (u8, u8)
-    requires weights { (j : ℕ) → slice_index weights.now j < 2 ^ 44 }
-    ensures hits { result.0 ≡ length (common_members ballot committee) }
-{
-    let hits = ballot.common(committee).len();
-    (hits, wanted(weights, multiplier, ballot.len(), hits))
-}
-
-/// The number of hits, nearest to `hits`, at which a ballot of this size gives the most beside the multiplier for each.
-fn wanted(weights: &Weights, multiplier: u64, size: u8, hits: u8) -> u8
-    requires weights { (j : ℕ) → slice_index weights.now j < 2 ^ 44 }
-{
-    let mut least = 0;
-    while least < size && least < MOST_MEMBERS && SCALE * weights[usize::from(least)] > multiplier {
-        least += 1;
-    }
-    let mut most = least;
-    while most < size && most < MOST_MEMBERS && SCALE * weights[usize::from(most)] == multiplier {
-        most += 1;
-    }
-    hits.max(least).min(most)
 }

@@ -3,21 +3,17 @@
 //! Majorants (module `majorant`) are summed over the ballots. No completion of a set is worth more than what all voters
 //! keep and the worths of the added members, less the overlaps of all pairs of them (`laws::pairs`). Row sums bound
 //! this in turn by a sum over the members (`laws::row_sums`; Gallo, Hammer and Simeone, Quadratic knapsack problems,
-//! 1980). A candidate leaves if the others fall short with it. Totals are used again for fewer free candidates (module
-//! `known`).
+//! 1980). A candidate leaves if the others fall short with it.
 ghost use Rattle.std.specs.Prelude.{◌≡◌, ℕ, ◌+◌, ◌-◌, ◌*◌, ◌^◌, ◌<◌, ◌≤◌, ◌==◌, true, List, length, max, min, slice_index, if◌then◌else◌};
-ghost use Rattle.ballot_base.specs.Ballots.{IsElection};
 ghost use Rattle.ballot_base.specs.CandSet.{has_member};
 ghost use Rattle.ballot_base.specs.Limits.{most_candidates, worth_limit};
 ghost use Rattle.ballot_base.specs.Lists.{IsIncreasing};
 ghost use Rattle.tie_walk.specs.Values.{thiele_value};
 ghost use Rattle.tie_search.specs.Completions.{IsNode};
-ghost use Rattle.thiele_search.specs.Steps.Known.{AreKnown, IsKept};
 ghost use Rattle.tie_search.specs.Steps.Narrowed.{Narrows};
 ghost use Rattle.thiele_search.specs.Steps.Paired.{AreNothing, AreSmall, AreSums, AreTotals, IsRowSum, IsSmallMajorant, overlap_at, pair_place, triangle};
 ghost use Rattle.thiele_search.specs.Steps.Rows.{AreBeside, AreRows};
 
-use crate::known::{Known, KnownTotals};
 use crate::majorant::{HitSums, Majorant, Majorants};
 use ballot_base::{CandSet, MOST_CANDIDATES, Profile, Worths};
 use std::alloc::Allocator;
@@ -36,6 +32,9 @@ pub(crate) struct PairSearch<'a, A: Allocator + Copy> {
     pub(crate) profile: &'a Profile<A>,
     pub(crate) given: &'a HitSums,
     pub(crate) least: u128,
+    ghost size: { profile.now.m ≤ most_candidates },
+    ghost unit: { 1 ≤ given.now.unit },
+    ghost small: { (n : ℕ) → slice_index given.now.sums n ≤ 2 ^ 26 },
 }
 
 /// The majorants of all voters, added up.
@@ -50,15 +49,10 @@ pub(crate) struct Totals {
 
 impl<A: Allocator + Copy> PairSearch<'_, A> {
     /// The free candidates of a node that can still join. Returns `None` if no completion of its set reaches the value.
-    pub(crate) fn narrowed(&self, known: &mut KnownTotals, node: &Node) -> Option<CandSet>
-        requires election { IsElection self.now.profile.now }
+    pub(crate) fn narrowed(&self, node: &Node) -> Option<CandSet>
         requires is_node { IsNode self.now.profile.now.m node.now.set node.now.free }
         requires several { 2 ≤ node.now.left }
-        requires small { (n : ℕ) → slice_index self.now.given.now.sums n ≤ 2 ^ 26 }
-        requires unit { 1 ≤ self.now.given.now.unit }
-        requires known { AreKnown self.now.profile.now self.now.given.now known.old }
-        ensures known { AreKnown self.now.profile.now self.now.given.now known.new }
-        ensures narrowed { (weights : List ℕ)
+        ensures { (weights : List ℕ)
             → AreSums weights self.now.given.now.scale self.now.given.now.unit self.now.given.now.sums
             → Narrows (thiele_value weights self.now.profile.now.rows) self.now.profile.now.m node.now self.now.least
             result }
@@ -66,47 +60,15 @@ impl<A: Allocator + Copy> PairSearch<'_, A> {
         if node.free.len() < node.left {
             return None;
         }
-        if node.left % 2 == 0 {
-            self.narrowed_by(&mut known.even, node)
-        } else {
-            self.narrowed_by(&mut known.odd, node)
-        }
-    }
-
-    /// Narrows a node by the totals that are kept if they serve it. Otherwise new ones are added up, and kept.
-    fn narrowed_by(&self, kept: &mut Option<Known>, node: &Node) -> Option<CandSet>
-        requires election { IsElection self.now.profile.now }
-        requires is_node { IsNode self.now.profile.now.m node.now.set node.now.free }
-        requires several { 2 ≤ node.now.left }
-        requires some { 1 ≤ length node.now.free }
-        requires small { (n : ℕ) → slice_index self.now.given.now.sums n ≤ 2 ^ 26 }
-        requires unit { 1 ≤ self.now.given.now.unit }
-        requires kept { IsKept self.now.profile.now self.now.given.now kept.old }
-        ensures kept { IsKept self.now.profile.now self.now.given.now kept.new }
-        ensures narrowed { (weights : List ℕ)
-            → AreSums weights self.now.given.now.scale self.now.given.now.unit self.now.given.now.sums
-            → Narrows (thiele_value weights self.now.profile.now.rows) self.now.profile.now.m node.now self.now.least
-            result }
-    {
-        if let Some(known) = kept {
-            if known.serves(node) {
-                known.note_use();
-                return self.narrowed_with(&known.totals, node);
-            }
-        }
         let mut totals = Totals::nothing();
-        self.add_ballots(&mut totals, node.set, node.free, node.left);
-        let narrowed = self.narrowed_with(&totals, node);
-        *kept = Some(Known::of(node, totals));
-        narrowed
+        self.add_ballots(&mut totals, node);
+        self.narrowed_with(&totals, node)
     }
 
     /// Narrows a node by totals that bound the completions of its set.
     fn narrowed_with(&self, totals: &Totals, node: &Node) -> Option<CandSet>
-        requires election { IsElection self.now.profile.now }
         requires is_node { IsNode self.now.profile.now.m node.now.set node.now.free }
         requires several { 2 ≤ node.now.left }
-        requires unit { 1 ≤ self.now.given.now.unit }
         requires small { AreSmall totals.now.kept totals.now.worths totals.now.overlaps }
         ensures { (weights : List ℕ)
             → AreTotals weights self.now.given.now.scale self.now.given.now.unit self.now.profile.now.m
@@ -134,7 +96,6 @@ impl<A: Allocator + Copy> PairSearch<'_, A> {
 
     /// The value that a committee has to reach, in units.
     fn units(&self) -> u128
-        requires unit { 1 ≤ self.now.given.now.unit }
         ensures { (value : ℕ) → self.now.given.now.scale * self.now.least ≤ self.now.given.now.unit * value
             → result ≤ value }
     {
@@ -143,22 +104,22 @@ impl<A: Allocator + Copy> PairSearch<'_, A> {
             .div_ceil(self.given.unit)
     }
 
-    /// Adds up the majorants of all voters, if `left` of the free candidates complete the set.
-    fn add_ballots(&self, totals: &mut Totals, set: CandSet, free: CandSet, left: u8)
-        requires is_node { IsNode self.now.profile.now.m set free }
-        requires some { 1 ≤ length free }
-        requires small { (n : ℕ) → slice_index self.now.given.now.sums n ≤ 2 ^ 26 }
+    /// Adds up the majorants of all voters at a node.
+    fn add_ballots(&self, totals: &mut Totals, node: &Node)
+        requires is_node { IsNode self.now.profile.now.m node.now.set node.now.free }
+        requires some { 1 ≤ length node.now.free }
         requires nothing { AreNothing totals.old.kept totals.old.worths totals.old.overlaps }
         ensures totals { (weights : List ℕ)
             → AreSums weights self.now.given.now.scale self.now.given.now.unit self.now.given.now.sums
             → AreTotals weights self.now.given.now.scale self.now.given.now.unit self.now.profile.now.m
-            self.now.profile.now.rows set free left totals.new.kept totals.new.worths totals.new.overlaps }
+            self.now.profile.now.rows node.now.set node.now.free node.now.left totals.new.kept totals.new.worths
+            totals.new.overlaps }
         ensures small { AreSmall totals.new.kept totals.new.worths totals.new.overlaps }
     {
-        let mut majorants = Majorants::new(&self.given.sums, left, free.len());
+        let mut majorants = Majorants::new(&self.given.sums, node.left, node.free.len());
         for (ballot, voters) in self.profile.ballots() {
-            let approved = ballot.common(free);
-            let before = ballot.common(set).len();
+            let approved = ballot.common(node.free);
+            let before = ballot.common(node.set).len();
             let majorant = majorants.of_ballot(before, approved.len());
             totals.add(majorant, approved, voters);
         }

@@ -7,13 +7,12 @@
 //! which they are below 2^44. There are no prices for more than 8,192 different ballots.
 ghost use Rattle.std.specs.Prelude.{◌≡◌, ℕ, ◌+◌, ◌^◌, ◌<◌, ◌≤◌, length, slice_index, MatchOption, ⊤};
 ghost use Rattle.ballot_base.specs.Limits.{most_candidates, most_members};
-ghost use Rattle.tie_walk.specs.Values.{thiele_of};
 ghost use Rattle.thiele_search.specs.Prices.{kept, base, price};
 ghost use Rattle.thiele_search.specs.Steps.Priced.{ArePrices, HasRoom, scale, most_rows, priced_by};
 
-use crate::multipliers::{MultiplierMemory, chosen};
-use crate::weights::{Weights, rounded_weights};
-use ballot_base::{CandSet, Increments, Profile, ThieleRule, Worths};
+use crate::multipliers::MultiplierMemory;
+use crate::weights::{RoundedWeights, rounded_weights};
+use ballot_base::{CandSet, Increments, Profile, Worths};
 use std::alloc::Allocator;
 use tie_walk::ThieleTally;
 
@@ -40,78 +39,87 @@ impl Prices {
         memory: Option<MultiplierMemory<A>>,
         profile: &Profile<A>,
         values: &ThieleTally<A>,
-        rule: ThieleRule,
         k: u8,
     ) -> Option<Prices>
         requires some { 1 ≤ k }
         requires size { k ≤ most_members }
+        requires ballots { profile.now ≡ values.now.election }
+        requires k_is { k ≡ values.now.k }
         requires room { MatchOption memory ⊤ (HasRoom profile.now.rows) }
-        ensures { MatchOption result ⊤ (λ prices.
-            ArePrices (thiele_of profile.now rule k) prices.unit prices.base prices.worths) }
+        ensures { MatchOption result ⊤ (λ prices. ArePrices values.now prices.unit prices.base prices.worths) }
     {
         let memory = memory?;
-        let rounded = rounded_weights(&Increments::of(rule, k).w)?;
-        let (multipliers, committee) = chosen(memory, profile, values, &rounded, k);
+        let rounded = rounded_weights(&Increments::of(values.rule(), k).w)?;
+        let pricing = Pricing {
+            profile,
+            rounded: &rounded,
+        };
+        let (multipliers, committee) = pricing.chosen(memory, values, k);
         Some(Prices {
             unit: rounded.unit,
-            base: base_of(profile, &rounded.weights, &multipliers),
-            worths: prices_of(profile, &multipliers),
+            base: pricing.base(&multipliers),
+            worths: pricing.prices(&multipliers),
             committee,
         })
     }
 }
 
-/// The most that a voter of a ballot of this size gives, times the scale, beside the multiplier for each hit.
-fn kept(weights: &Weights, multiplier: u64, size: u8) -> u64
-    requires weights { (j : ℕ) → slice_index weights.now j < 2 ^ 44 }
-    requires multiplier { multiplier ≤ 2 ^ 56 }
-    requires size { size ≤ most_candidates }
-    ensures value { result ≡ kept weights.now scale multiplier size }
-    ensures most { result ≤ 2 ^ 62 }
-{
-    let mut most = 0;
-    let mut given: u64 = 0;
-    for hits in 0..usize::from(size) + 1 {
-        most = given.saturating_sub(hits as u64 * multiplier).max(most);
-        if hits < weights.len() {
-            given += SCALE * weights[hits];
+/// What prices are made of beside multipliers: the ballots, and what hits give.
+#[derive(Drop)]
+pub(crate) struct Pricing<'a, A: Allocator + Copy> {
+    pub(crate) profile: &'a Profile<A>,
+    pub(crate) rounded: &'a RoundedWeights,
+    ghost few: { length profile.now.rows ≤ most_rows },
+}
+
+impl<A: Allocator + Copy> Pricing<'_, A> {
+    /// What all voters keep.
+    pub(crate) fn base(&self, multipliers: &[u64]) -> u128
+        requires each { length multipliers.now ≡ length self.now.profile.now.rows }
+        requires small { (i : ℕ) → slice_index multipliers.now i ≤ 2 ^ 56 }
+        ensures { result ≡ base self.now.rounded.now.weights scale
+            (priced_by (slice_index multipliers.now) self.now.profile.now.rows) }
+    {
+        let mut sum = 0;
+        for i in 0..self.profile.rows() {
+            let (ballot, count) = self.profile.row(i);
+            sum += u128::from(count) * u128::from(self.rounded.kept(multipliers[i], ballot.len()));
         }
+        sum
     }
-    most
+
+    /// The price of each candidate.
+    pub(crate) fn prices(&self, multipliers: &[u64]) -> Worths
+        requires each { length multipliers.now ≡ length self.now.profile.now.rows }
+        requires small { (i : ℕ) → slice_index multipliers.now i ≤ 2 ^ 56 }
+        ensures { (n : ℕ) → n ≤ most_candidates → slice_index result n
+            ≡ price (priced_by (slice_index multipliers.now) self.now.profile.now.rows) n }
+    {
+        let mut worths = Worths::none();
+        for i in 0..self.profile.rows() {
+            let (ballot, count) = self.profile.row(i);
+            worths.add(ballot, u128::from(count) * u128::from(multipliers[i]));
+        }
+        worths
+    }
 }
 
-/// What all voters keep.
-pub(crate) fn base_of<A: Allocator + Copy>(
-    profile: &Profile<A>,
-    weights: &Weights,
-    multipliers: &[u64],
-) -> u128
-    requires rows { length profile.now.rows ≤ most_rows }
-    requires each { length multipliers.now ≡ length profile.now.rows }
-    requires weights { (j : ℕ) → slice_index weights.now j < 2 ^ 44 }
-    requires multipliers { (i : ℕ) → slice_index multipliers.now i ≤ 2 ^ 56 }
-    ensures { result ≡ base weights.now scale (priced_by (slice_index multipliers.now) profile.now.rows) }
-{
-    let mut sum = 0;
-    for i in 0..profile.rows() {
-        let (ballot, count) = profile.row(i);
-        sum += u128::from(count) * u128::from(kept(weights, multipliers[i], ballot.len()));
+impl RoundedWeights {
+    /// The most that a voter of a ballot of this size gives, times the scale, beside the multiplier for each hit.
+    fn kept(&self, multiplier: u64, size: u8) -> u64
+        requires multiplier { multiplier ≤ 2 ^ 56 }
+        requires size { size ≤ most_candidates }
+        ensures value { result ≡ kept self.now.weights scale multiplier size }
+        ensures most { result ≤ 2 ^ 62 }
+    {
+        let mut most = 0;
+        let mut given: u64 = 0;
+        for hits in 0..usize::from(size) + 1 {
+            most = given.saturating_sub(hits as u64 * multiplier).max(most);
+            if hits < self.weights.len() {
+                given += SCALE * self.weights[hits];
+            }
+        }
+        most
     }
-    sum
-}
-
-/// The price of each candidate.
-pub(crate) fn prices_of<A: Allocator + Copy>(profile: &Profile<A>, multipliers: &[u64]) -> Worths
-    requires rows { length profile.now.rows ≤ most_rows }
-    requires each { length multipliers.now ≡ length profile.now.rows }
-    requires multipliers { (i : ℕ) → slice_index multipliers.now i ≤ 2 ^ 56 }
-    ensures { (n : ℕ) → n ≤ most_candidates → slice_index result n
-        ≡ price (priced_by (slice_index multipliers.now) profile.now.rows) n }
-{
-    let mut worths = Worths::none();
-    for i in 0..profile.rows() {
-        let (ballot, count) = profile.row(i);
-        worths.add(ballot, u128::from(count) * u128::from(multipliers[i]));
-    }
-    worths
 }

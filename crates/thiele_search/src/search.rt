@@ -7,26 +7,26 @@
 //! While enough seats are left, a bound by pairs of candidates comes before the gains as well (module `pairs`). It
 //! counts a voter who approves two members less than twice. A search begins without it, since a short one is quicker
 //! so. If few sets are given up for it, it is left out again (module `trials`).
-ghost use Rattle.std.specs.Prelude.{◌≡◌, ℕ, ◌+◌, ◌-◌, ◌≤◌, true, false, IsTrue, slice_index};
+ghost use Rattle.std.specs.Prelude.{◌≡◌, ℕ, ◌≤◌, true, false, IsTrue, slice_index};
 ghost use Rattle.ballot_base.specs.CandSet.{has_member};
 ghost use Rattle.ballot_base.specs.Lists.{IsIncreasing};
 ghost use Rattle.ballot_base.specs.Increments.{increments};
 ghost use Rattle.tie_walk.specs.Ceilings.{gain_at};
 ghost use Rattle.tie_walk.specs.Sequences.{gain};
-ghost use Rattle.thiele_search.specs.Steps.Known.{AreKnownIf};
 ghost use Rattle.tie_search.specs.Steps.Narrowed.{Narrows};
-ghost use Rattle.thiele_search.specs.Steps.Aided.{IsAided};
+ghost use Rattle.thiele_search.specs.Steps.Aided.{IsAided, IsValued};
 ghost use Rattle.tie_search.specs.Completions.{IsNode, IsOutOfReach, tally_value};
 
 use crate::columns::Columns;
-use crate::known::KnownTotals;
 use crate::majorant::HitSums;
 use crate::pairs::PairSearch;
 use crate::prices::{Prices, SCALE};
 use crate::trials::Uses;
 use ballot_base::{CandSet, Clones, Profile, ThieleRule, Worths};
 use std::alloc::Allocator;
+use std::marker::Model;
 use tie_search::Node;
+use tie_search::descent::{Narrowing, Plan};
 use tie_walk::{Tally, ThieleTally};
 
 /// What a search is helped by: who are clones; columns and prices, if they are worth their making; what hits give, for
@@ -40,23 +40,53 @@ pub(crate) struct Aids<A: Allocator> {
     pub(crate) uses: Uses,
 }
 
-/// What bounds the completions of sets whose value is at least `least`.
+/// A search for committees under a Thiele rule. Contracts see the election, the rule and k.
 #[derive(Drop)]
 pub(crate) struct Search<'a, A: Allocator + Copy> {
-    pub(crate) profile: &'a Profile<A>,
+    profile: &'a Profile<A>,
     pub(crate) tally: &'a ThieleTally<'a, A>,
-    pub(crate) aids: &'a Aids<A>,
-    pub(crate) least: u128,
+    aids: &'a Aids<A>,
     // Whether pairs are counted. A search that ends after few sets is quicker without.
-    pub(crate) counts_pairs: bool,
+    counts_pairs: bool,
 }
 
-impl<A: Allocator + Copy> Search<'_, A> {
+impl<'a, A: Allocator + Copy> Model for Search<'a, A> {
+    ghost use Rattle.std.specs.Prelude.{◌≡◌};
+    ghost use Rattle.tie_walk.specs.Values.{Thiele};
+    ghost use Rattle.thiele_search.specs.Steps.Aided.{IsAided};
+
+    ghost Value = { Thiele };
+
+    ghost view = { λ t. t.tally.now };
+
+    ghost invariant = { λ t. (t.profile.now ≡ t.tally.now.election) × IsAided t.tally.now t.aids.now };
+}
+
+impl<'a, A: Allocator + Copy> Search<'a, A> {
+    /// A search with this help.
+    pub(crate) fn new(
+        profile: &'a Profile<A>,
+        tally: &'a ThieleTally<'a, A>,
+        aids: &'a Aids<A>,
+        counts_pairs: bool,
+    ) -> Search<'a, A>
+        requires ballots { profile.now ≡ tally.now.election }
+        requires aids { IsAided tally.now aids.now }
+        ensures { result ≡ tally.now }
+    {
+        Search {
+            profile,
+            tally,
+            aids,
+            counts_pairs,
+        }
+    }
+
     /// The node of a set, free candidates, and how many of them are to join.
     pub(crate) fn node(&self, set: CandSet, free: CandSet, left: u8) -> Node
-        requires candidates { IsIncreasing 1 self.now.tally.now.election.m set }
+        requires candidates { IsIncreasing 1 self.now.election.m set }
         ensures set { result.set ≡ set }
-        ensures value { result.value ≡ tally_value self.now.tally.now set }
+        ensures valued { IsValued self.now set result.value }
         ensures free { result.free ≡ free }
         ensures left { result.left ≡ left }
     {
@@ -68,78 +98,52 @@ impl<A: Allocator + Copy> Search<'_, A> {
         }
     }
 
-    /// The same search for committees of at least another value.
-    pub(crate) fn seeking(&self, least: u128) -> Search<'_, A>
-        ensures { result ≡ record {
-          profile = self.now.profile;
-          tally = self.now.tally;
-          aids = self.now.aids;
-          least = least;
-          counts_pairs = self.now.counts_pairs;
-        } }
-    {
-        Search {
-            profile: self.profile,
-            tally: self.tally,
-            aids: self.aids,
-            least,
-            counts_pairs: self.counts_pairs,
-        }
-    }
-
     /// The free candidates of a node that can still join, by what its set, or one with fewer members, gains by each.
     /// Returns `None` if no completion of the set has at least the value.
-    pub(crate) fn promising(&self, least: u128, gains: &Worths, node: &Node) -> Option<CandSet>
-        requires aids { IsAided self.now.tally.now self.now.aids.now }
-        requires is_node { IsNode self.now.tally.now.election.m node.now.set node.now.free }
-        requires value { node.now.value ≡ tally_value self.now.tally.now node.now.set }
+    pub(crate) fn promising(&self, gains: &Worths, node: &Node, least: u128) -> Option<CandSet>
+        requires is_node { IsNode self.now.election.m node.now.set node.now.free }
+        requires valued { IsValued self.now node.now.set node.now.value }
         requires gains { (n : ℕ) → has_member node.now.free n ≡ true
-            → gain_at (tally_value self.now.tally.now) node.now.set n ≤ slice_index gains.now n }
-        ensures { Narrows (tally_value self.now.tally.now) self.now.tally.now.election.m node.now least result }
+            → gain_at (tally_value self.now) node.now.set n ≤ slice_index gains.now n }
+        ensures { Narrows (tally_value self.now) self.now.election.m node.now least result }
     {
         gains.members_for(node.free, node.left, least.saturating_sub(node.value))
     }
 
     /// The free candidates of a node that can still join. Returns `None` if no completion of its set reaches the value.
-    pub(crate) fn eligible(&self, known: &mut Option<KnownTotals>, node: &Node) -> Option<CandSet>
-        requires ballots { self.now.profile.now ≡ self.now.tally.now.election }
-        requires aids { IsAided self.now.tally.now self.now.aids.now }
-        requires is_node { IsNode self.now.tally.now.election.m node.now.set node.now.free }
-        requires known { AreKnownIf self.now.tally.now.election self.now.aids.now.sums known.old }
-        ensures known { AreKnownIf self.now.tally.now.election self.now.aids.now.sums known.new }
-        ensures narrowed { Narrows (tally_value self.now.tally.now) self.now.tally.now.election.m node.now
-            self.now.least result }
+    pub(crate) fn eligible(&self, node: &Node, least: u128) -> Option<CandSet>
+        requires is_node { IsNode self.now.election.m node.now.set node.now.free }
+        ensures { Narrows (tally_value self.now) self.now.election.m node.now
+            least result }
     {
-        if !self.covers(node) {
+        if !self.covers(node, least) {
             return None;
         }
-        let free = self.priced(node)?;
-        self.narrowed(known, &Node { free, ..*node })
+        let free = self.priced(node, least)?;
+        self.pair_narrowed(&Node { free, ..*node }, least)
     }
 
     /// Whether the free candidates of a node cover enough, if this is worth asking.
-    fn covers(&self, node: &Node) -> bool
-        requires aids { IsAided self.now.tally.now self.now.aids.now }
-        requires is_node { IsNode self.now.tally.now.election.m node.now.set node.now.free }
+    fn covers(&self, node: &Node, least: u128) -> bool
+        requires is_node { IsNode self.now.election.m node.now.set node.now.free }
         ensures { result ≡ false
-            → IsOutOfReach (tally_value self.now.tally.now) self.now.tally.now.election.m node.now.set node.now.free
-            node.now.left self.now.least }
+            → IsOutOfReach (tally_value self.now) self.now.election.m node.now.set node.now.free
+            node.now.left least }
     {
         let cover = &self.aids.uses.cover;
         if !cover.are_due(node.left) {
             return true;
         }
-        let suffices = self.may_suffice(node.set, node.free);
+        let suffices = self.may_suffice(node, least);
         cover.note(!suffices);
         suffices
     }
 
     /// The free candidates of a node that can still join, by prices, if they are worth asking. Returns `None` if no
     /// completion of its set reaches the value.
-    fn priced(&self, node: &Node) -> Option<CandSet>
-        requires aids { IsAided self.now.tally.now self.now.aids.now }
-        requires is_node { IsNode self.now.tally.now.election.m node.now.set node.now.free }
-        ensures { Narrows (tally_value self.now.tally.now) self.now.tally.now.election.m node.now self.now.least result }
+    fn priced(&self, node: &Node, least: u128) -> Option<CandSet>
+        requires is_node { IsNode self.now.election.m node.now.set node.now.free }
+        ensures { Narrows (tally_value self.now) self.now.election.m node.now least result }
     {
         // A search that counts no pairs answers a question of the walk.
         let prices = if self.counts_pairs {
@@ -150,7 +154,7 @@ impl<A: Allocator + Copy> Search<'_, A> {
         if !prices.are_due(node.left) {
             return Some(node.free);
         }
-        let affordable = self.affordable(node);
+        let affordable = self.affordable(node, least);
         prices.note(affordable.is_none());
         affordable
     }
@@ -159,24 +163,17 @@ impl<A: Allocator + Copy> Search<'_, A> {
     fn sees_pairs(&self, left: u8) -> bool
         ensures { IsTrue result → 2 ≤ left }
     {
-        left >= fewest_seats(self.tally.rule()) && self.aids.uses.pairs.are_due()
+        self.counts_pairs && left >= fewest_seats(self.tally.rule()) && self.aids.uses.pairs.are_due()
     }
 
     /// The free candidates of a node that can still join, by pairs. Returns `None` if no completion of its set reaches
     /// the value.
-    fn narrowed(&self, known: &mut Option<KnownTotals>, node: &Node) -> Option<CandSet>
-        requires ballots { self.now.profile.now ≡ self.now.tally.now.election }
-        requires aids { IsAided self.now.tally.now self.now.aids.now }
-        requires is_node { IsNode self.now.tally.now.election.m node.now.set node.now.free }
-        requires known { AreKnownIf self.now.tally.now.election self.now.aids.now.sums known.old }
-        ensures known { AreKnownIf self.now.tally.now.election self.now.aids.now.sums known.new }
-        ensures narrowed { Narrows (tally_value self.now.tally.now) self.now.tally.now.election.m node.now
-            self.now.least result }
+    fn pair_narrowed(&self, node: &Node, least: u128) -> Option<CandSet>
+        requires is_node { IsNode self.now.election.m node.now.set node.now.free }
+        ensures { Narrows (tally_value self.now) self.now.election.m node.now
+            least result }
     {
         let Some(given) = &self.aids.sums else {
-            return Some(node.free);
-        };
-        let Some(known) = known else {
             return Some(node.free);
         };
         if !self.sees_pairs(node.left) {
@@ -186,18 +183,17 @@ impl<A: Allocator + Copy> Search<'_, A> {
         let pairs = PairSearch {
             profile: self.profile,
             given,
-            least: self.least,
+            least,
         };
-        let narrowed = pairs.narrowed(known, node);
+        let narrowed = pairs.narrowed(node);
         self.aids.uses.pairs.note(narrowed.is_none());
         narrowed
     }
 
     /// What the set gains by each of the free candidates: from the columns, if they are kept.
     pub(crate) fn gains_at(&self, set: CandSet, free: CandSet) -> Worths
-        requires aids { IsAided self.now.tally.now self.now.aids.now }
         ensures { (n : ℕ) → has_member free n ≡ true → slice_index result n
-            ≡ gain (increments self.now.tally.now.rule self.now.tally.now.k) self.now.tally.now.election.rows set n }
+            ≡ gain (increments self.now.rule self.now.k) self.now.election.rows set n }
     {
         match &self.aids.columns {
             Some(columns) => columns.gains_of(set, free),
@@ -207,14 +203,13 @@ impl<A: Allocator + Copy> Search<'_, A> {
 
     /// Whether all the free candidates together could lift the set to the value. Asked only if just a voter's first hit
     /// counts, as the answer is soon no then; under other rules it is yes.
-    pub(crate) fn may_suffice(&self, set: CandSet, free: CandSet) -> bool
-        requires aids { IsAided self.now.tally.now self.now.aids.now }
-        requires is_node { IsNode self.now.tally.now.election.m set free }
-        ensures { result ≡ false → (left : ℕ)
-            → IsOutOfReach (tally_value self.now.tally.now) self.now.tally.now.election.m set free left self.now.least }
+    pub(crate) fn may_suffice(&self, node: &Node, least: u128) -> bool
+        requires is_node { IsNode self.now.election.m node.now.set node.now.free }
+        ensures { result ≡ false
+            → IsOutOfReach (tally_value self.now) self.now.election.m node.now.set node.now.free node.now.left least }
     {
         match self.tally.rule() {
-            ThieleRule::Cc => self.most_covered(set.union(free)) >= self.least,
+            ThieleRule::Cc => self.most_covered(node.set.union(node.free)) >= least,
             _ => true,
         }
     }
@@ -222,10 +217,9 @@ impl<A: Allocator + Copy> Search<'_, A> {
     /// An upper bound on the value of the set if only a voter's first hit counts: the number of voters who approve a
     /// member.
     fn most_covered(&self, set: CandSet) -> u128
-        requires aids { IsAided self.now.tally.now self.now.aids.now }
-        requires rule { self.now.tally.now.rule ≡ ThieleRule.Cc }
-        requires candidates { IsIncreasing 1 self.now.tally.now.election.m set }
-        ensures { tally_value self.now.tally.now set ≤ result }
+        requires rule { self.now.rule ≡ ThieleRule.Cc }
+        requires candidates { IsIncreasing 1 self.now.election.m set }
+        ensures { tally_value self.now set ≤ result }
     {
         match &self.aids.columns {
             Some(columns) => columns.covered(set) as u128,
@@ -235,10 +229,9 @@ impl<A: Allocator + Copy> Search<'_, A> {
 
     /// The free candidates of a node that can still join, by prices, if they are kept. Returns `None` if no completion of
     /// its set reaches the value.
-    pub(crate) fn affordable(&self, node: &Node) -> Option<CandSet>
-        requires aids { IsAided self.now.tally.now self.now.aids.now }
-        requires is_node { IsNode self.now.tally.now.election.m node.now.set node.now.free }
-        ensures { Narrows (tally_value self.now.tally.now) self.now.tally.now.election.m node.now self.now.least result }
+    pub(crate) fn affordable(&self, node: &Node, least: u128) -> Option<CandSet>
+        requires is_node { IsNode self.now.election.m node.now.set node.now.free }
+        ensures { Narrows (tally_value self.now) self.now.election.m node.now least result }
     {
         let Some(prices) = &self.aids.prices else {
             return Some(node.free);
@@ -246,9 +239,67 @@ impl<A: Allocator + Copy> Search<'_, A> {
         let paid = prices
             .base
             .saturating_add(prices.worths.excess(node.set, 0));
-        let units = self.least.div_ceil(prices.unit);
+        let units = least.div_ceil(prices.unit);
         let due = units.saturating_mul(u128::from(SCALE)).saturating_sub(paid);
         prices.worths.members_for(node.free, node.left, due)
+    }
+}
+
+impl<'a, A: Allocator + Copy> Narrowing for Search<'a, A> {
+    ghost use Rattle.std.specs.Prelude.{◌≡◌, ℕ, true, slice_index};
+    ghost use Rattle.ballot_base.specs.CandSet.{has_member};
+    ghost use Rattle.ballot_base.specs.Increments.{increments};
+    ghost use Rattle.tie_walk.specs.Sequences.{gain};
+    ghost use Rattle.tie_search.specs.Completions.{tally_value};
+    ghost use Rattle.thiele_search.specs.Steps.Aided.{IsValued};
+
+    ghost candidates = { λ tally. tally.election.m };
+
+    ghost value_of = { λ tally set. tally_value tally set };
+
+    ghost is_valued = { λ tally set value. IsValued tally set value };
+
+    ghost is_plan = { λ tally set left plan. (n : ℕ) → has_member plan.eligible n ≡ true
+        → slice_index plan.worths n ≡ gain (increments tally.rule tally.k) tally.election.rows set n };
+
+    fn clones(&self) -> &Clones {
+        &self.aids.clones
+    }
+
+    fn whole_value(&self, node: &Node) -> u128 {
+        node.value
+    }
+
+    fn plan(&mut self, node: &Node, least: u128) -> Option<Plan> {
+        let free = self.eligible(node, least)?;
+        let gains = self.gains_at(node.set, free);
+        let eligible = self.promising(&gains, &Node { free, ..*node }, least)?;
+        Some(Plan {
+            eligible,
+            choices: eligible,
+            worths: gains,
+            due: least.saturating_sub(node.value),
+            least,
+        })
+    }
+
+    fn narrowed(&mut self, plan: &Plan, node: &Node, least: u128) -> Option<CandSet> {
+        let free = self.eligible(node, least)?;
+        self.promising(&plan.worths, &Node { free, ..*node }, least)
+    }
+
+    fn child(&self, plan: &Plan, node: &Node, next: u8, least: u128) -> Node {
+        let child = Node {
+            set: node.set.with(next),
+            value: node.value + plan.worths.of(next),
+            free: node.free.without(next),
+            left: node.left - 1,
+        };
+        let free = match self.promising(&plan.worths, &child, least) {
+            Some(kept) => kept,
+            None => CandSet::empty(),
+        };
+        Node { free, ..child }
     }
 }
 

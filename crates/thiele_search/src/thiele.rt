@@ -7,7 +7,6 @@ ghost use Rattle.tie_walk.specs.Ceilings.{ceiling};
 ghost use Rattle.tie_search.specs.Completions.{tally_value};
 ghost use Rattle.thiele_search.specs.Steps.Aided.{IsAided};
 
-use crate::bounds::Bounds;
 use crate::columns::Columns;
 use crate::good::Good;
 use crate::majorant::HitSums;
@@ -112,7 +111,7 @@ impl<'a, A: Allocator + Copy + Drop> ThieleSearch<'a, A> {
         let aids = Aids {
             clones: Clones::of(profile),
             columns,
-            prices: Prices::of(multipliers, profile, &values, rule, k),
+            prices: Prices::of(multipliers, profile, &values, k),
             sums: HitSums::of(rule, k),
             uses: Uses::none(),
         };
@@ -139,20 +138,11 @@ impl<'a, A: Allocator + Copy> ThieleSearch<'a, A> {
         }
     }
 
-    /// A search for committees of at least this value, which may count pairs.
-    fn search(&self, least: u128, counts_pairs: bool) -> Search<'_, A>
-        ensures ballots { result.profile.now ≡ result.tally.now.election }
-        ensures tally { result.tally.now ≡ self.now }
-        ensures aids { IsAided result.tally.now result.aids.now }
-        ensures least { result.least ≡ least }
+    /// A search, which may count pairs.
+    fn search(&self, counts_pairs: bool) -> Search<'_, A>
+        ensures { result ≡ self.now }
     {
-        Search {
-            profile: self.profile,
-            tally: &self.values,
-            aids: &self.aids,
-            least,
-            counts_pairs,
-        }
+        Search::new(self.profile, &self.values, &self.aids, counts_pairs)
     }
 }
 
@@ -191,9 +181,9 @@ impl<'a, A: Allocator + Copy> Searchable for ThieleSearch<'a, A> {
 
     fn find(&self, set: CandSet, free: CandSet, left: u8, least: u128) -> Option<CandSet> {
         // The walk over the winners asks for many such searches, most of which end after a few sets.
-        let search = self.search(least, false);
+        let mut search = self.search(false);
         let node = search.node(set, free, left);
-        descent::find(&mut Bounds::of(search), node, least)
+        descent::find(&mut search, node, least)
     }
 
     fn tied(&self, k: u8) -> Option<Tied> {
@@ -201,10 +191,9 @@ impl<'a, A: Allocator + Copy> Searchable for ThieleSearch<'a, A> {
         if self.good.is_best || are_mostly_clones(&self.aids.clones, self.m()) {
             return None;
         }
-        let least = self.good_value(k);
-        let search = self.search(least, true);
+        let mut search = self.search(true);
         let all = search.node(CandSet::empty(), CandSet::all(self.m()), k);
-        Some(descent::list_tied(&mut Bounds::of(search), all, least))
+        Some(descent::list_tied(&mut search, all, self.good_value(k)))
     }
 }
 
@@ -235,12 +224,5 @@ fn good_committee<A: Allocator + Copy>(
         Some(prices) => prices.committee,
         None => CandSet::empty(),
     };
-    let search = Search {
-        profile,
-        tally: values,
-        aids,
-        least: 0,
-        counts_pairs: false,
-    };
-    search.climb(start, k)
+    Search::new(profile, values, aids, false).climb(start, k)
 }

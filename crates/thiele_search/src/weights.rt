@@ -70,14 +70,14 @@ pub(crate) struct RoundedWeights {
     pub(crate) weights: Weights,
     // How large a unit is: 1 if none of the weights is too large.
     pub(crate) unit: u128,
+    ghost some: { 1 ≤ unit },
+    ghost small: { (j : ℕ) → slice_index weights j < 2 ^ 44 },
 }
 
 /// The weights in larger units, rounded up. (None only if a later weight were larger than the first, which no rule
 /// has.)
 pub(crate) fn rounded_weights(weights: &[u128; MOST_MEMBERS as usize]) -> Option<RoundedWeights>
-    ensures { MatchOption result ⊤ (λ rounded. (1 ≤ rounded.unit)
-        × AreRounded weights.now rounded.unit rounded.weights
-        × ((j : ℕ) → slice_index rounded.weights j < 2 ^ 44)) }
+    ensures { MatchOption result ⊤ (λ rounded. AreRounded weights.now rounded.unit rounded.weights) }
 {
     let unit = weights[0] / (LARGE_WEIGHT - 1) + 1;
     let mut rounded = [0; MOST_MEMBERS as usize];

@@ -1,15 +1,22 @@
 -- What a search under a Thiele rule is helped by.
-use Rattle.std.specs.Prelude.{◌≡◌, ℕ, ◌≤◌, Option, MatchOption, ⊤}
+use Rattle.std.specs.Prelude.{◌≡◌, ℕ, ◌≤◌, List, Option, MatchOption, ⊤}
 use Rattle.ballot_base.specs.Ballots.{IsElection}
 use Rattle.ballot_base.specs.Clones.{AreClones}
 use Rattle.ballot_base.specs.Limits.{most_members}
 use Rattle.tie_walk.specs.Values.{Thiele}
+use Rattle.tie_search.specs.Completions.{tally_value}
 use Rattle.thiele_search.specs.declared.columns.Columns.{Columns}
 use Rattle.thiele_search.specs.declared.multipliers.MultiplierMemory.{MultiplierMemory}
 use Rattle.thiele_search.specs.declared.search.Aids.{Aids}
 use Rattle.thiele_search.specs.Steps.Columns.{AreColumnsOf}
 use Rattle.thiele_search.specs.Steps.Paired.{HasSums}
 use Rattle.thiele_search.specs.Steps.Priced.{HasRoom, IsPriced}
+
+-- the value is that of the set, in an election and under a rule that can be searched
+pub record IsValued (tally : Thiele) (set : List ℕ) (value : ℕ) : Type 0 where
+  pub election : IsElection tally.election
+  pub size : tally.k ≤ most_members
+  pub value_is : value ≡ tally_value tally set
 
 -- the columns are those of the election, where they are kept
 abbrev pub KeepsColumns : {A : Type 0} → Thiele → Option (Columns A) → Type 0

@@ -40,11 +40,7 @@ loop-j-preserved c = record {
 }
 
 pub returns : goal.returns
-returns c = (
-  omega arith,
-  λ j. elim (cases_lt j 40) [
-    | inl low ↦ c.loop-j.invariant.up j (omega (arith, low, c.loop-j-test.false))
-    | inr high ↦ omega (arith, get_or_past c.args.weights.now j 0 (omega (arith, high, c.told-weights)))
-  ],
-  c.loop-j.invariant.few,
-)
+returns c j = elim (cases_lt j 40) [
+  | inl low ↦ c.loop-j.invariant.up j (omega (arith, low, c.loop-j-test.false))
+  | inr high ↦ omega (arith, get_or_past c.args.weights.now j 0 (omega (arith, high, c.told-weights)))
+]

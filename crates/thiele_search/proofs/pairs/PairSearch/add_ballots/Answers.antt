@@ -23,7 +23,7 @@ loop-ballot-init g c =
     record {
       sums = c.new-majorants.ensures.sums;
       left = c.new-majorants.ensures.left;
-      totals = λ weights are. totals-none weights self.given.now.scale self.given.now.unit self.profile.now.m self.profile.now.rows c.args.set c.args.free c.args.left totals.kept totals.worths totals.overlaps nothing;
+      totals = λ weights are. totals-none weights self.given.now.scale self.given.now.unit self.profile.now.m self.profile.now.rows c.args.node.now.set c.args.node.now.free c.args.node.now.left totals.kept totals.worths totals.overlaps nothing;
       small_kept = omega (arith, nothing.kept_none);
       small_worths = λ n. omega (arith, nothing.worths_none n);
       self_overlaps = λ i j one other. omega (arith, nothing.overlaps_none i j);
@@ -39,11 +39,11 @@ of_ballot-majorant-requires g c =
       arith,
       c.len-before.ensures.count,
       ap length c.common.ensures,
-      length-common c.in-Some.ballot c.args.set,
+      length-common c.in-Some.ballot c.args.node.now.set,
       c.len-in-loop-ballot.ensures.count,
       ap length c.common-approved.ensures,
-      length-common c.in-Some.ballot c.args.free,
-      hits-both e.m c.in-Some.ballot c.args.set c.args.free (row-up e c.ballots-ballot-items.ensures.valid (length c.loop-ballot.yielded) row at) c.ballots-ballot-items.ensures.valid.most c.requires.is_node,
+      length-common c.in-Some.ballot c.args.node.now.free,
+      hits-both e.m c.in-Some.ballot c.args.node.now.set c.args.node.now.free (row-up e c.ballots-ballot-items.ensures.valid (length c.loop-ballot.yielded) row at) c.ballots-ballot-items.ensures.valid.most c.requires.is_node,
     )
 
 pub add-requires : goal.add-requires
@@ -68,8 +68,8 @@ pub loop-ballot-preserved : goal.loop-ballot-preserved
 loop-ballot-preserved g c =
     let self = c.args.self.now in
     let e = self.profile.now in
-    let set = c.args.set in
-    let free = c.args.free in
+    let set = c.args.node.now.set in
+    let free = c.args.node.now.free in
     let row : Row = (c.in-Some.ballot, c.in-Some.voters) in
     let at = row_of_turn e.rows (c.into_iter-ballot-iterator.ensures.into_iter_gives ∙ c.ballots-ballot-items.ensures.rows) c.loop-ballot.yielded c.loop-ballot.yielded_by row c.in-Some.ensures.steps in
     let i = length c.loop-ballot.yielded in
@@ -80,7 +80,7 @@ loop-ballot-preserved g c =
     let majorant = c.of_ballot-majorant.result in
     let before : c.len-before.result ≡ hits row.0 set = c.len-before.ensures.count ∙ ap length c.common.ensures ∙ length-common row.0 set in
     let open_ : c.len-in-loop-ballot.result ≡ hits row.0 free = c.len-in-loop-ballot.ensures.count ∙ ap length c.common-approved.ensures ∙ length-common row.0 free in
-    let is : IsMajorantOf self.given.now.sums c.len-before.result (min c.args.left c.len-in-loop-ballot.result) majorant =
+    let is : IsMajorantOf self.given.now.sums c.len-before.result (min c.args.node.now.left c.len-in-loop-ballot.result) majorant =
     subst (λ n. IsMajorantOf self.given.now.sums c.len-before.result (min n c.len-in-loop-ballot.result) majorant) inv.left
     (subst (λ (l : List ℕ). IsMajorantOf l c.len-before.result (min c.loop-ballot.majorants.left c.len-in-loop-ballot.result) majorant) inv.sums c.of_ballot-majorant.ensures.majorant) in
     let before_totals = c.loop-ballot.totals in
@@ -98,10 +98,10 @@ loop-ballot-preserved g c =
     record {
       sums = ap (λ (m : Majorized). m.sums) c.of_ballot-majorant.ensures.same ∙ inv.sums;
       left = ap (λ (m : Majorized). m.left) c.of_ballot-majorant.ensures.same ∙ inv.left;
-      totals = λ weights are. subst (λ n. AreTotals weights self.given.now.scale self.given.now.unit e.m (take n e.rows) set free c.args.left totals.kept totals.worths totals.overlaps) next
-          (subst (λ n. AreTotals weights self.given.now.scale self.given.now.unit e.m (take (i + 1) e.rows) set free c.args.left n totals.worths totals.overlaps) (sym c.add.ensures.kept)
-          (totals-more e valid i row at weights self.given.now.sums self.given.now.scale self.given.now.unit set free c.args.left c.len-before.result (min c.args.left c.len-in-loop-ballot.result) majorant.kept majorant.worth
-          majorant.overlap before_totals.kept before_totals.worths totals.worths before_totals.overlaps totals.overlaps c.requires.is_node are before (ap (min c.args.left) open_) is.bounds
+      totals = λ weights are. subst (λ n. AreTotals weights self.given.now.scale self.given.now.unit e.m (take n e.rows) set free c.args.node.now.left totals.kept totals.worths totals.overlaps) next
+          (subst (λ n. AreTotals weights self.given.now.scale self.given.now.unit e.m (take (i + 1) e.rows) set free c.args.node.now.left n totals.worths totals.overlaps) (sym c.add.ensures.kept)
+          (totals-more e valid i row at weights self.given.now.sums self.given.now.scale self.given.now.unit set free c.args.node.now.left c.len-before.result (min c.args.node.now.left c.len-in-loop-ballot.result) majorant.kept majorant.worth
+          majorant.overlap before_totals.kept before_totals.worths totals.worths before_totals.overlaps totals.overlaps c.requires.is_node are before (ap (min c.args.node.now.left) open_) is.bounds
           (inv.totals weights are) worths overlaps));
       small_kept = subst (λ n. totals.kept ≤ voter_count (take n e.rows) * 2 ^ 39) next (omega (arith, c.add.ensures.kept, small_kept, voters, inv.small_kept));
       small_worths = λ n. subst (λ x. get_or totals.worths n 0 ≤ voter_count (take x e.rows) * 2 ^ 34) next
@@ -117,7 +117,7 @@ returns-clause-totals g c weights are =
     let self = c.args.self.now in
     let e = self.profile.now in
     let all = all_passed e.rows (c.into_iter-ballot-iterator.ensures.into_iter_gives ∙ c.ballots-ballot-items.ensures.rows) c.loop-ballot.yielded c.loop-ballot.yielded_by c.in-None.ensures.steps.0 in
-    subst (λ rows. AreTotals weights self.given.now.scale self.given.now.unit e.m rows c.args.set c.args.free c.args.left c.loop-ballot.totals.kept c.loop-ballot.totals.worths c.loop-ballot.totals.overlaps) all
+    subst (λ rows. AreTotals weights self.given.now.scale self.given.now.unit e.m rows c.args.node.now.set c.args.node.now.free c.args.node.now.left c.loop-ballot.totals.kept c.loop-ballot.totals.worths c.loop-ballot.totals.overlaps) all
     (c.loop-ballot.invariant.totals weights are)
 
 pub returns-clause-small : goal.returns-clause-small

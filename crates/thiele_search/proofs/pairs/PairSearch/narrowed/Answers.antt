@@ -2,8 +2,8 @@ use Rattle.std.proofs.Common.{arith}
 use Rattle.tie_search.proofs.CompletionLemmas.{completion-few}
 use Rattle.thiele_search.proofs.pairs.PairSearch.narrowed.Goals as goal
 
-pub returns-then-len-node-clause-narrowed : goal.returns-then-len-node-clause-narrowed
-returns-then-len-node-clause-narrowed g c weights are committee whole =
+pub returns-then-len-node : goal.returns-then-len-node
+returns-then-len-node g c weights are committee whole =
     let node = c.args.node.now in
     absurd (omega (
       arith,

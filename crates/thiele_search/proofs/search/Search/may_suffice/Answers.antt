@@ -7,12 +7,12 @@ use Rattle.thiele_search.proofs.search.Search.may_suffice.Goals as goal
 
 pub most_covered-requires-clause-candidates : goal.most_covered-requires-clause-candidates
 most_covered-requires-clause-candidates g c =
-    rw c.union.ensures (IsIncreasing-either 1 c.args.self.now.tally.now.election.m c.args.set c.args.free c.requires.is_node.set_within c.requires.is_node.free_within)
+    rw c.union.ensures (IsIncreasing-either 1 c.args.self.now.election.m c.args.node.now.set c.args.node.now.free c.requires.is_node.set_within c.requires.is_node.free_within)
 
 pub returns-in-Cc : goal.returns-in-Cc
-returns-in-Cc g c short left =
-    let low : c.most_covered.result < c.args.self.now.least = leb-false c.args.self.now.least c.most_covered.result short in
-    whole-none (increments c.args.self.now.tally.now.rule c.args.self.now.tally.now.k) c.args.self.now.tally.now.election.rows c.args.self.now.tally.now.election.m
-    c.args.set c.args.free c.union.result c.args.self.now.least
-    (λ n. ap (λ l. has_member l n) c.union.ensures ∙ has_member-either c.args.set c.args.free n)
-    (omega (arith, c.most_covered.ensures, low)) left
+returns-in-Cc g c short =
+    let low : c.most_covered.result < c.args.least = leb-false c.args.least c.most_covered.result short in
+    whole-none (increments c.args.self.now.rule c.args.self.now.k) c.args.self.now.election.rows c.args.self.now.election.m
+    c.args.node.now.set c.args.node.now.free c.union.result c.args.least
+    (λ n. ap (λ l. has_member l n) c.union.ensures ∙ has_member-either c.args.node.now.set c.args.node.now.free n)
+    (omega (arith, c.most_covered.ensures, low)) c.args.node.now.left
