@@ -72,19 +72,13 @@ impl<'a, A: Allocator + Copy> Searchable for MinimaxSearch<'a, A> {
         &self.clones
     }
 
-    fn find(&self, set: CandSet, free: CandSet, left: u8, least: u128) -> Option<CandSet> {
+    fn find(&self, node: &Node, least: u128) -> Option<CandSet> {
         let mut search = NearSearch {
             profile: self.profile,
             clones: &self.clones,
             shares: &self.shares,
         };
-        let node = Node {
-            set,
-            value: 0,
-            free,
-            left,
-        };
-        descent::find(&mut search, node, least)
+        descent::find(&mut search, *node, least)
     }
 
     // Under this rule committees tie by thousands.

@@ -145,11 +145,11 @@ impl<'a, A: Allocator + Copy> Search<'a, A> {
         requires is_node { IsNode self.now.election.m node.now.set node.now.free }
         ensures { Narrows (tally_value self.now) self.now.election.m node.now least result }
     {
-        // A search that counts no pairs answers a question of the walk.
+        // A search that counts no pairs answers a question for one winner.
         let prices = if self.counts_pairs {
             &self.aids.uses.prices
         } else {
-            &self.aids.uses.prices_in_walk
+            &self.aids.uses.prices_in_questions
         };
         if !prices.are_due(node.left) {
             return Some(node.free);

@@ -17,7 +17,7 @@ use crate::trials::Uses;
 use ballot_base::{CandSet, Clones, Profile, ThieleRule};
 use std::alloc::{AllocError, Allocator, Global};
 use std::marker::Model;
-use tie_search::{Searchable, Tied, descent};
+use tie_search::{Node, Searchable, Tied, descent};
 use tie_walk::{Tally, ThieleTally};
 
 /// A candidate has many clones if there are so many with itself.
@@ -179,11 +179,9 @@ impl<'a, A: Allocator + Copy> Searchable for ThieleSearch<'a, A> {
         &self.aids.clones
     }
 
-    fn find(&self, set: CandSet, free: CandSet, left: u8, least: u128) -> Option<CandSet> {
-        // The walk over the winners asks for many such searches, most of which end after a few sets.
-        let mut search = self.search(false);
-        let node = search.node(set, free, left);
-        descent::find(&mut search, node, least)
+    fn find(&self, node: &Node, least: u128) -> Option<CandSet> {
+        // One winner after another is asked for, and most of these searches end after a few sets.
+        descent::find(&mut self.search(false), *node, least)
     }
 
     fn tied(&self, k: u8) -> Option<Tied> {

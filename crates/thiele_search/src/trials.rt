@@ -16,8 +16,8 @@ const TRIALS: u32 = 256;
 /// A quick test is worth its making if one set of so many is given up for it.
 const LEAST_HELP: u32 = 4;
 
-/// Questions of the walk are many and mostly short, so prices have to help more often there.
-const LEAST_HELP_IN_WALK: u32 = 2;
+/// Questions for one winner after another are many and mostly short, so prices have to help more often there.
+const LEAST_HELP_IN_QUESTIONS: u32 = 2;
 
 /// One set of so many has a quick test that is not worth its making, so that its use is judged anew.
 const SAMPLE: u32 = 16;
@@ -42,7 +42,7 @@ const SAMPLE_OF_PAIRS: u32 = 256;
 pub(crate) struct Uses {
     pub(crate) cover: Trials,
     pub(crate) prices: Trials,
-    pub(crate) prices_in_walk: Trials,
+    pub(crate) prices_in_questions: Trials,
     pub(crate) pairs: PairTrials,
 }
 
@@ -52,7 +52,7 @@ impl Uses {
         Uses {
             cover: Trials::none(FEW_SEATS, LEAST_HELP),
             prices: Trials::none(FEW_SEATS, LEAST_HELP),
-            prices_in_walk: Trials::none(MOST_CANDIDATES, LEAST_HELP_IN_WALK),
+            prices_in_questions: Trials::none(MOST_CANDIDATES, LEAST_HELP_IN_QUESTIONS),
             pairs: PairTrials::none(),
         }
     }

@@ -17,6 +17,7 @@ ghost use Rattle.tie_search.specs.Steps.Searched.{IsBetter};
 
 use crate::branch::Branch;
 use crate::found::Tied;
+use crate::node::Node;
 use crate::searchable::Searchable;
 use ballot_base::CandSet;
 
@@ -116,8 +117,13 @@ impl<S: Searchable> Best<S> {
         requires branch { IsBranch self.now.m self.now.k branch.now }
         ensures { IsAnswer (S.value_of self.now.search) self.now.m self.now.k branch.now result }
     {
-        let left = self.k - branch.set.len();
-        self.search.find(branch.set, branch.free, left, self.value)
+        let node = Node {
+            set: branch.set,
+            value: self.search.value(branch.set),
+            free: branch.free,
+            left: self.k - branch.set.len(),
+        };
+        self.search.find(&node, self.value)
     }
 }
 
@@ -164,6 +170,11 @@ fn better_than<S: Searchable>(search: &S, committee: CandSet, k: u8, most: u128)
     if value >= most {
         return None;
     }
-    let all = CandSet::all(search.m());
-    search.find(CandSet::empty(), all, k, value + 1)
+    let all = Node {
+        set: CandSet::empty(),
+        value: search.value(CandSet::empty()),
+        free: CandSet::all(search.m()),
+        left: k,
+    };
+    search.find(&all, value + 1)
 }

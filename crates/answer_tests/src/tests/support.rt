@@ -10,7 +10,7 @@ use std::alloc::Global;
 use std::cell::Cell;
 use std::process::Abort;
 use thiele_search::{SearchMemory, ThieleSearch};
-use tie_search::{SearchWinners, Searchable, Tied};
+use tie_search::{Node, SearchWinners, Searchable, Tied};
 use tie_walk::{Tally, Winners};
 
 /// Asserts something about two numbers, and shows both if it fails. One message serves many tests, since each message
@@ -247,9 +247,9 @@ impl<'a, S: Searchable> Searchable for CountedSearch<'a, S> {
         self.search.clones()
     }
 
-    fn find(&self, set: CandSet, free: CandSet, left: u8, least: u128) -> Option<CandSet> {
+    fn find(&self, node: &Node, least: u128) -> Option<CandSet> {
         count(self.finds);
-        self.search.find(set, free, left, least)
+        self.search.find(node, least)
     }
 
     fn tied(&self, k: u8) -> Option<Tied> {

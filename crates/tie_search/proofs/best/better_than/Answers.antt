@@ -22,16 +22,16 @@ found value m k all committee all-in (Some better) some = record {
   more = omega (arith, some.reaches);
 }
 
-pub find-requires : goal.find-requires
-find-requires g c =
+pub find-requires-clause-is_node : goal.find-requires-clause-is_node
+find-requires-clause-is_node g c =
     let m = g.S.Tally.candidates c.args.search.now in
-    let up : IsIncreasing 1 m c.all-all.result = rw (c.all-all.ensures, c.m.ensures.value) (IsIncreasing-range 1 m m (omega arith)) in
-    let is_node : IsNode m [] c.all-all.result = record { set_within = tt; free_within = up; apart = λ n is. refl } in
+    let up : IsIncreasing 1 m c.all.result = rw (c.all.ensures, c.m.ensures.value) (IsIncreasing-range 1 m m (omega arith)) in
+    let is_node : IsNode m [] c.all.result = record { set_within = tt; free_within = up; apart = λ n is. refl } in
     rw c.empty.ensures is_node
 
 pub returns : goal.returns
 returns g c =
     let m = g.S.Tally.candidates c.args.search.now in
-    found (g.S.Tally.value_of c.args.search.now) m c.args.k c.all-all.result c.args.committee
-    (λ n low high. rw (c.all-all.ensures, c.m.ensures.value) (has_member-range 1 m n (omega (arith, low)) (omega (arith, high)))) c.find.result
+    found (g.S.Tally.value_of c.args.search.now) m c.args.k c.all.result c.args.committee
+    (λ n low high. rw (c.all.ensures, c.m.ensures.value) (has_member-range 1 m n (omega (arith, low)) (omega (arith, high)))) c.find.result
     (rw (c.empty.ensures, c.value-value.ensures) at c.find.ensures)
