@@ -18,6 +18,7 @@ ghost use Rattle.thiele_search.specs.Steps.Columns.{block_voters, most_blocks, t
 use crate::weights::{HitWeights, Weights};
 use ballot_base::{CandSet, Increments, MOST_MEMBERS, PLACES, Profile, ThieleRule, Worths};
 use std::alloc::{AllocError, Allocator};
+use tie_search::Node;
 
 /// How many voters share a word.
 const BLOCK_VOTERS: usize = 64;
@@ -243,18 +244,18 @@ impl<A: Allocator + Copy + Drop> Columns<A> {
 }
 
 impl<A: Allocator> Columns<A> {
-    /// What the set gains by each candidate of `among`.
-    pub(crate) fn gains_of(&self, set: CandSet, among: CandSet) -> Worths
+    /// What the set of a node gains by each of the free candidates.
+    pub(crate) fn gains_of(&self, node: &Node) -> Worths
         requires few { length self.now.blocks.items ≤ most_blocks }
         requires weights { AreWeights self.now.weights self.now.levels }
         ensures { (ballots : List (List ℕ)) → AreColumns ballots self.now.blocks.items → AreRising ballots
-            → (c : ℕ) → has_member among c ≡ true → slice_index result c
-            ≡ total (λ v. given self.now.weights set c (voter_ballot ballots v))
+            → (c : ℕ) → has_member node.now.free c ≡ true → slice_index result c
+            ≡ total (λ v. given self.now.weights node.now.set c (voter_ballot ballots v))
             (length self.now.blocks.items * block_voters) }
     {
         let mut gains = Worths::none();
         for block in &self.blocks {
-            self.add_block(&mut gains, block, set, among);
+            self.add_block(&mut gains, block, node);
         }
         gains
     }
@@ -273,23 +274,23 @@ impl<A: Allocator> Columns<A> {
         covered
     }
 
-    /// Adds to the gains of the candidates of `among` what the voters of a block give. No voter has more hits than the
-    /// set has members.
-    fn add_block(&self, gains: &mut Worths, block: &Block, set: CandSet, among: CandSet)
+    /// Adds to the gains of the free candidates what the voters of a block give. No voter has more hits than the set has
+    /// members.
+    fn add_block(&self, gains: &mut Worths, block: &Block, node: &Node)
         requires weights { AreWeights self.now.weights self.now.levels }
         requires fits { (c : ℕ) → slice_index gains.old c < 2 ^ 106 }
         ensures sum { (ballot_at : ℕ → List ℕ) → IsBlock ballot_at block.now
-            → (c : ℕ) → has_member among c ≡ true → slice_index gains.new c
-            ≡ slice_index gains.old c + total (λ i. given self.now.weights set c (ballot_at i)) block_voters }
+            → (c : ℕ) → has_member node.now.free c ≡ true → slice_index gains.new c
+            ≡ slice_index gains.old c + total (λ i. given self.now.weights node.now.set c (ballot_at i)) block_voters }
         ensures most { (c : ℕ) → slice_index gains.new c ≤ slice_index gains.old c + most_members * 2 ^ 90 }
     {
         if self.levels == 1 {
-            self.add_first_hits(gains, block, set, among);
+            self.add_first_hits(gains, block, node);
             return;
         }
-        let levels = self.levels.min(usize::from(set.len()) + 1);
-        let words = by_hits(block, set, levels);
-        for candidate in among.members() {
+        let levels = self.levels.min(usize::from(node.set.len()) + 1);
+        let words = by_hits(block, node.set, levels);
+        for candidate in node.free.members() {
             let column = block[usize::from(candidate)];
             let given = given_by(&words, column, &self.weights, levels);
             gains.set(candidate, gains.of(candidate) + given);
@@ -297,18 +298,18 @@ impl<A: Allocator> Columns<A> {
     }
 
     /// The same if only a voter's first hit counts: those who approve no member of the set give for a candidate.
-    fn add_first_hits(&self, gains: &mut Worths, block: &Block, set: CandSet, among: CandSet)
+    fn add_first_hits(&self, gains: &mut Worths, block: &Block, node: &Node)
         requires weights { AreWeights self.now.weights self.now.levels }
         requires first { self.now.levels ≡ 1 }
         requires fits { (c : ℕ) → slice_index gains.old c < 2 ^ 106 }
         ensures sum { (ballot_at : ℕ → List ℕ) → IsBlock ballot_at block.now
-            → (c : ℕ) → has_member among c ≡ true → slice_index gains.new c
-            ≡ slice_index gains.old c + total (λ i. given self.now.weights set c (ballot_at i)) block_voters }
+            → (c : ℕ) → has_member node.now.free c ≡ true → slice_index gains.new c
+            ≡ slice_index gains.old c + total (λ i. given self.now.weights node.now.set c (ballot_at i)) block_voters }
         ensures most { (c : ℕ) → slice_index gains.new c ≤ slice_index gains.old c + most_members * 2 ^ 90 }
     {
-        let uncovered = !covered_by(block, set);
+        let uncovered = !covered_by(block, node.set);
         let weight = self.weights.first();
-        for candidate in among.members() {
+        for candidate in node.free.members() {
             let given = given_first(block[usize::from(candidate)], uncovered, weight);
             gains.set(candidate, gains.of(candidate) + given);
         }

@@ -81,7 +81,7 @@ impl<A: Allocator + Copy> Search<'_, A> {
             return ShortAnswer::GaveUp;
         }
         *patience -= 1;
-        let gains = self.gains_at(set, free);
+        let gains = self.gains_at(&Node { free, ..node });
         let needed = least.saturating_sub(node.value);
         let mut rest = free;
         while let Some(hopeful) = gains.members_for(rest, left, needed) {

@@ -190,14 +190,14 @@ impl<'a, A: Allocator + Copy> Search<'a, A> {
         narrowed
     }
 
-    /// What the set gains by each of the free candidates: from the columns, if they are kept.
-    pub(crate) fn gains_at(&self, set: CandSet, free: CandSet) -> Worths
-        ensures { (n : ℕ) → has_member free n ≡ true → slice_index result n
-            ≡ gain (increments self.now.rule self.now.k) self.now.election.rows set n }
+    /// What the set of a node gains by each of the free candidates: from the columns, if they are kept.
+    pub(crate) fn gains_at(&self, node: &Node) -> Worths
+        ensures { (n : ℕ) → has_member node.now.free n ≡ true → slice_index result n
+            ≡ gain (increments self.now.rule self.now.k) self.now.election.rows node.now.set n }
     {
         match &self.aids.columns {
-            Some(columns) => columns.gains_of(set, free),
-            None => self.tally.gains(set, free),
+            Some(columns) => columns.gains_of(node),
+            None => self.tally.gains(node.set, node.free),
         }
     }
 
@@ -272,7 +272,7 @@ impl<'a, A: Allocator + Copy> Narrowing for Search<'a, A> {
 
     fn plan(&mut self, node: &Node, least: u128) -> Option<Plan> {
         let free = self.eligible(node, least)?;
-        let gains = self.gains_at(node.set, free);
+        let gains = self.gains_at(&Node { free, ..*node });
         let eligible = self.promising(&gains, &Node { free, ..*node }, least)?;
         Some(Plan {
             eligible,
