@@ -214,6 +214,8 @@ pub(crate) struct Columns<A: Allocator> {
     pub(crate) blocks: Vec<Block, A>,
     pub(crate) weights: HitWeights,
     pub(crate) levels: usize,
+    ghost few: { length blocks.items ≤ most_blocks },
+    ghost sound: { AreWeights weights levels },
 }
 
 impl<A: Allocator + Copy + Drop> Columns<A> {
@@ -246,8 +248,6 @@ impl<A: Allocator + Copy + Drop> Columns<A> {
 impl<A: Allocator> Columns<A> {
     /// What the set of a node gains by each of the free candidates.
     pub(crate) fn gains_of(&self, node: &Node) -> Worths
-        requires few { length self.now.blocks.items ≤ most_blocks }
-        requires weights { AreWeights self.now.weights self.now.levels }
         ensures { (ballots : List (List ℕ)) → AreColumns ballots self.now.blocks.items → AreRising ballots
             → (c : ℕ) → has_member node.now.free c ≡ true → slice_index result c
             ≡ total (λ v. given self.now.weights node.now.set c (voter_ballot ballots v))
@@ -262,7 +262,6 @@ impl<A: Allocator> Columns<A> {
 
     /// How many voters approve a member of the set.
     pub(crate) fn covered(&self, set: CandSet) -> usize
-        requires few { length self.now.blocks.items ≤ most_blocks }
         ensures { (ballots : List (List ℕ)) → AreColumns ballots self.now.blocks.items → AreRising ballots
             → result ≡ total (λ v. approves_some set (voter_ballot ballots v))
             (length self.now.blocks.items * block_voters) }
@@ -277,8 +276,7 @@ impl<A: Allocator> Columns<A> {
     /// Adds to the gains of the free candidates what the voters of a block give. No voter has more hits than the set has
     /// members.
     fn add_block(&self, gains: &mut Worths, block: &Block, node: &Node)
-        requires weights { AreWeights self.now.weights self.now.levels }
-        requires fits { (c : ℕ) → slice_index gains.old c < 2 ^ 106 }
+        requires { (c : ℕ) → slice_index gains.old c < 2 ^ 106 }
         ensures sum { (ballot_at : ℕ → List ℕ) → IsBlock ballot_at block.now
             → (c : ℕ) → has_member node.now.free c ≡ true → slice_index gains.new c
             ≡ slice_index gains.old c + total (λ i. given self.now.weights node.now.set c (ballot_at i)) block_voters }
@@ -299,7 +297,6 @@ impl<A: Allocator> Columns<A> {
 
     /// The same if only a voter's first hit counts: those who approve no member of the set give for a candidate.
     fn add_first_hits(&self, gains: &mut Worths, block: &Block, node: &Node)
-        requires weights { AreWeights self.now.weights self.now.levels }
         requires first { self.now.levels ≡ 1 }
         requires fits { (c : ℕ) → slice_index gains.old c < 2 ^ 106 }
         ensures sum { (ballot_at : ℕ → List ℕ) → IsBlock ballot_at block.now

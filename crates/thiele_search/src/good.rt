@@ -27,15 +27,9 @@ pub(crate) struct Good {
     pub(crate) is_best: bool,
 }
 
-/// What a short search ends with.
-enum ShortAnswer {
-    /// A committee that completes the node and has at least the value.
-    Found(CandSet),
-    /// There is no such committee.
-    NoneExists,
-    /// It is not known within the limit whether there is one.
-    GaveUp,
-}
+/// A short search ran out of patience: it is not known whether there is such a committee.
+#[derive(Clone, Copy, Drop)]
+struct GaveUp;
 
 impl<A: Allocator + Copy> Search<'_, A> {
     /// Climbs from a committee to better ones of size k.
@@ -46,14 +40,14 @@ impl<A: Allocator + Copy> Search<'_, A> {
         for _searched in 0..MOST_SEARCHES {
             let more = self.tally.value(committee).saturating_add(1);
             match self.short(&mut patience, self.node(CandSet::empty(), all, k), more) {
-                ShortAnswer::Found(found) => committee = all.common(found),
-                ShortAnswer::NoneExists => {
+                Ok(Some(better)) => committee = all.common(better),
+                Ok(None) => {
                     return Good {
                         committee,
                         is_best: true,
                     };
                 }
-                ShortAnswer::GaveUp => break,
+                Err(GaveUp) => break,
             }
         }
         Good {
@@ -62,44 +56,45 @@ impl<A: Allocator + Copy> Search<'_, A> {
         }
     }
 
-    /// Searches the completions of a node, the highest gains first, until the patience is over. It counts no pairs.
-    fn short(&self, patience: &mut u8, node: Node, least: u128) -> ShortAnswer
+    /// Searches the completions of a node, the highest gains first, for one that is worth `least`, until the patience is
+    /// over. It counts no pairs.
+    fn short(
+        &self,
+        patience: &mut u8,
+        node: Node,
+        least: u128,
+    ) -> Result<Option<CandSet>, GaveUp>
         requires is_node { IsNode self.now.election.m node.set node.free }
         requires most { self.now.election.m ≤ most_candidates }
     {
-        let (set, left) = (node.set, node.left);
-        if left == 0 && node.value >= least {
-            return ShortAnswer::Found(set);
+        if node.left == 0 {
+            return Ok((node.value >= least).then_some(node.set));
         }
-        if left == 0 || !self.may_suffice(&node, least) {
-            return ShortAnswer::NoneExists;
+        if !self.may_suffice(&node, least) {
+            return Ok(None);
         }
         let Some(free) = self.affordable(&node, least) else {
-            return ShortAnswer::NoneExists;
+            return Ok(None);
         };
-        if *patience == 0 {
-            return ShortAnswer::GaveUp;
-        }
-        *patience -= 1;
+        *patience = patience.checked_sub(1).ok_or(GaveUp)?;
         let gains = self.gains_at(&Node { free, ..node });
         let needed = least.saturating_sub(node.value);
         let mut rest = free;
-        while let Some(hopeful) = gains.members_for(rest, left, needed) {
+        while let Some(hopeful) = gains.members_for(rest, node.left, needed) {
             let Some(next) = gains.best_of(hopeful) else {
                 break;
             };
             rest = hopeful.without(next);
             let child = Node {
-                set: set.with(next),
+                set: node.set.with(next),
                 value: node.value.saturating_add(gains.of(next)),
                 free: rest,
-                left: left - 1,
+                left: node.left - 1,
             };
-            match self.short(patience, child, least) {
-                ShortAnswer::NoneExists => (),
-                answer => return answer,
+            if let Some(found) = self.short(patience, child, least)? {
+                return Ok(Some(found));
             }
         }
-        ShortAnswer::NoneExists
+        Ok(None)
     }
 }

@@ -77,8 +77,6 @@ AreRising ballots = (v : ℕ) → IsIncreasing 1 most_candidates (voter_ballot b
 
 -- what is kept of an election: all its voters in blocks, and what each hit gives
 pub record AreColumnsOf (tally : Thiele) (blocks : List (List ℕ)) (weights : List ℕ) (levels : ℕ) : Type 0 where
-  pub few : length blocks ≤ most_blocks
   pub all : length (voters_of tally.election.rows) ≤ length blocks * block_voters
   pub columns : AreColumns (voters_of tally.election.rows) blocks
-  pub sound : AreWeights weights levels
   pub weights_are : (j : ℕ) → slice_index weights j ≡ slice_index (increments tally.rule tally.k) j

@@ -26,7 +26,7 @@ loop-candidate-preserved g c =
           (λ j. total (λ h. get_or c.args.self.now.weights h 0 * shared (get_or c.args.block.now j 0) (get_or c.by_hits-words.result h 0)) c.min-levels.result)
           given.ensures.sum (c.loop-candidate.invariant.made n);
       most = λ n. one-most c.loop-candidate.gains c.set.new.self left rest at given.result is up is_set n (get_or c.args.gains.now n 0) (most_members * 2 ^ 90)
-          (omega (arith, given.ensures.most, c.min-levels.ensures, c.requires.weights.few)) (c.loop-candidate.invariant.most n);
+          (omega (arith, given.ensures.most, c.min-levels.ensures, c.args.self.now.sound.few)) (c.loop-candidate.invariant.most n);
     }
 
 pub returns-clause-sum : goal.returns-clause-sum
@@ -40,7 +40,7 @@ returns-clause-sum g c ballot_at block n in_ =
     given-sum ballot_at c.args.block.now block weights c.args.node.now.set n c.by_hits-words.result levels levels (c.by_hits-words.ensures ballot_at block) (omega arith) in
     let whole : total (λ i. given_below weights c.args.node.now.set n levels (ballot_at i)) block_voters ≡ total (λ i. given weights c.args.node.now.set n (ballot_at i)) block_voters =
     given-whole ballot_at c.args.block.now block weights c.args.node.now.set n levels (λ i high.
-    c.requires.weights.end (hits (ballot_at i) c.args.node.now.set)
+    c.args.self.now.sound.end (hits (ballot_at i) c.args.node.now.set)
     (omega (arith, high, c.min-levels.ensures, c.len.ensures.count, hits-most 1 most_candidates 1 most_candidates (ballot_at i) c.args.node.now.set (block.rises i) c.len.ensures.valid))) in
     omega (arith, made, summed, whole, ap (λ l. cond (has_member l n) part 0) c.in-None.ensures.steps.0, ap (λ b. cond b part 0) in_)
 
@@ -53,5 +53,5 @@ pub set-requires-clause-small : goal.set-requires-clause-small
 set-requires-clause-small g c =
     let at = c.in-Some.candidate in
     let fits = gain-fits (has_member c.loop-candidate.candidate-iterator at) (get_or c.args.gains.now at 0) (get_or c.loop-candidate.gains at 0) c.given_by-given.result
-    (c.requires.fits at) (c.loop-candidate.invariant.most at) (omega (arith, c.given_by-given.ensures.most, c.min-levels.ensures, c.requires.weights.few)) in
+    (c.requires at) (c.loop-candidate.invariant.most at) (omega (arith, c.given_by-given.ensures.most, c.min-levels.ensures, c.args.self.now.sound.few)) in
     omega (arith, fits, c.of.ensures.value)

@@ -33,5 +33,5 @@ returns-clause-sum g c ballot_at block n in_ =
     let whole : part ≡ total (λ i. given weights c.args.node.now.set n (ballot_at i)) block_voters =
     ap (λ w. w * shared (get_or c.args.block.now n 0) (bit_not w64 c.covered_by-uncovered.result)) c.first-weight.ensures
     ∙ given-first ballot_at c.args.block.now block weights c.args.node.now.set n c.covered_by-uncovered.result c.covered_by-uncovered.type_inv (c.covered_by-uncovered.ensures ballot_at block)
-    (λ j high. c.requires.weights.end j (omega (arith, high, c.requires.first))) in
+    (λ j high. c.args.self.now.sound.end j (omega (arith, high, c.requires.first))) in
     omega (arith, made, whole, ap (λ l. cond (has_member l n) part 0) c.in-None.ensures.steps.0, ap (λ b. cond b part 0) in_)

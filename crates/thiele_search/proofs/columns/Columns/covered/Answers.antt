@@ -36,7 +36,7 @@ overflow_add-covered g c =
       arith,
       c.loop-block.invariant.most,
       ones-most c.covered_by.result c.covered_by.type_inv,
-      c.requires,
+      c.args.self.now.few,
       c.loop-block-test.true,
       ap length c.deref-block-items.ensures.value,
     )

@@ -9,8 +9,8 @@ loop-block-init g c = record {
   most = λ n. omega (arith, c.none-gains.ensures n);
 }
 
-pub add_block-requires-clause-fits : goal.add_block-requires-clause-fits
-add_block-requires-clause-fits g c n = omega (arith, c.loop-block.invariant.most n, c.requires.few, c.loop-block-test.true, ap length c.deref-block-items.ensures.value)
+pub add_block-requires : goal.add_block-requires
+add_block-requires g c n = omega (arith, c.loop-block.invariant.most n, c.args.self.now.few, c.loop-block-test.true, ap length c.deref-block-items.ensures.value)
 
 pub loop-block-preserved : goal.loop-block-preserved
 loop-block-preserved g c = record {
@@ -22,7 +22,7 @@ loop-block-preserved g c = record {
       c.add_block.ensures.sum (λ i. voter_ballot ballots (b * block_voters + i)) (rw c.deref-block-items.ensures.value (block-at ballots c.args.self.now.blocks.items b held up)) n in_
       ∙ ap (λ x. x + total (λ i. f (b * block_voters + i)) block_voters) (c.loop-block.invariant.summed ballots held up n in_)
       ∙ sym more;
-  most = λ n. omega (arith, c.add_block.ensures.most n, c.loop-block.invariant.most n, c.requires.weights.few);
+  most = λ n. omega (arith, c.add_block.ensures.most n, c.loop-block.invariant.most n, c.args.self.now.sound.few);
 }
 
 pub returns : goal.returns

@@ -43,7 +43,7 @@ pub short-requires : goal.short-requires
 short-requires g t c κs within =
     let m = c.args.self.now.election.m in
     let is_node = node-with m c.args.node.set c.in-Some-members_for.hopeful c.in-Some-best_of.next (hopeful-node g t (goal.at.short-requires g t c).In-Some-best_of) c.in-Some-best_of.ensures.0 in (
-      omega (arith, c.if-left-eq0-2.false, c.decreases),
+      omega (arith, c.if-node-eq0.false, c.decreases),
       (within, (rw c.with.ensures (rw c.without-rest.ensures is_node), c.requires.most)),
     )
 

@@ -6,7 +6,7 @@ abbrev pub decreases-short : goal.decreases-short
 decreases-short g l = l.node.left
 
 abbrev pub invariant-loop-hopeful : goal.invariant-loop-hopeful
-invariant-loop-hopeful g l = IsNode l.self.election.m l.set l.rest
+invariant-loop-hopeful g l = IsNode l.self.election.m l.node.set l.rest
 
 abbrev pub decreases-loop-hopeful : goal.decreases-loop-hopeful
 decreases-loop-hopeful g l = length l.rest

@@ -18,7 +18,7 @@ short-requires-clause-is_node g c =
 
 pub loop-searched-preserved : goal.loop-searched-preserved
 loop-searched-preserved g c =
-    rw (c.m.ensures.value, c.self.view_is) at (candidates-among c.m.result c.all-all.result c.in-Found.found c.common-committee-in-Found.result c.all-all.ensures c.common-committee-in-Found.ensures)
+    rw (c.m.ensures.value, c.self.view_is) at (candidates-among c.m.result c.all-all.result c.in-Ok-Some.better c.common-committee-in-Ok-Some.result c.all-all.ensures c.common-committee-in-Ok-Some.ensures)
 
 pub short-requires-clause-most : goal.short-requires-clause-most
 short-requires-clause-most g c = (rw c.self.view_is at c.self.invariant.1).election.most
