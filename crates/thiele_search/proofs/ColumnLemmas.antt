@@ -460,9 +460,9 @@ voters-rising m (row ∷ rows) most all v =
     rising-replicate row.1 row.0 (voters_of rows) (IsIncreasing-higher 1 m most_candidates row.0 most all.0) (voters-rising m rows most all.1) v
 
 -- the gain of a candidate, summed over all blocks
-pub columns-gain : (tally : Thiele) (blocks : List (List ℕ)) (levels : ℕ) (weights set : List ℕ) (c : ℕ) → AreColumnsOf tally blocks weights levels
+pub columns-gain : (tally : Thiele) (blocks : List (List ℕ)) (weights set : List ℕ) (c : ℕ) → AreColumnsOf tally blocks weights
     → total (λ v. given weights set c (voter_ballot (voters_of tally.election.rows) v)) (length blocks * block_voters) ≡ gain (increments tally.rule tally.k) tally.election.rows set c
-columns-gain tally blocks levels weights set c is =
+columns-gain tally blocks weights set c is =
     total-voters (given weights set c) refl (voters_of tally.election.rows) (length blocks * block_voters) is.all
     ∙ voters-sum (given weights set c) tally.election.rows
     ∙ gain-given weights (increments tally.rule tally.k) set c is.weights_are tally.election.rows

@@ -44,9 +44,9 @@ rows-cover w set alone (row ∷ rows) =
       sum_by-cons (λ (r : Row). r.1 * approves_some set r.0) row rows,
     )
 
-pub columns-cover : (tally : Thiele) (blocks : List (List ℕ)) (levels : ℕ) (weights set : List ℕ) → AreColumnsOf tally blocks weights levels → tally.k ≤ most_members → tally.rule ≡ Cc
+pub columns-cover : (tally : Thiele) (blocks : List (List ℕ)) (weights set : List ℕ) → AreColumnsOf tally blocks weights → tally.k ≤ most_members → tally.rule ≡ Cc
     → tally_value tally set ≤ total (λ v. approves_some set (voter_ballot (voters_of tally.election.rows) v)) (length blocks * block_voters)
-columns-cover tally blocks levels weights set are size rule =
+columns-cover tally blocks weights set are size rule =
     omega (
       arith,
       rows-cover (increments tally.rule tally.k) set (λ x. rw rule (cc-alone tally.k x size)) tally.election.rows,

@@ -230,7 +230,7 @@ impl<A: Allocator + Copy + Drop> Columns<A> {
         requires some { 1 ≤ k }
         requires size { k ≤ most_members }
         ensures { IfOk result (λ kept. MatchOption kept ⊤ (λ columns. AreColumnsOf (thiele_of profile.now rule k)
-            columns.blocks.items columns.weights columns.levels)) }
+            columns.blocks.items columns.weights)) }
     {
         let voters = profile.voters() as usize;
         if voters > MOST_BLOCKS * BLOCK_VOTERS || voters / ROW_VOTERS > profile.rows() {

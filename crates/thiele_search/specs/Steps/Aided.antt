@@ -21,7 +21,7 @@ pub record IsValued (tally : Thiele) (set : List ℕ) (value : ℕ) : Type 0 whe
 -- the columns are those of the election, where they are kept
 abbrev pub KeepsColumns : {A : Type 0} → Thiele → Option (Columns A) → Type 0
 KeepsColumns tally columns = MatchOption columns ⊤ (λ kept.
-    AreColumnsOf tally kept.blocks.items kept.weights kept.levels)
+    AreColumnsOf tally kept.blocks.items kept.weights)
 
 -- the memory is for a search among the committees of this size, and the columns in it are those of the election
 pub record IsMemoryFor {A : Type 0} (tally : Thiele) (k : ℕ) (columns : Option (Columns A))

@@ -76,7 +76,7 @@ abbrev pub AreRising : List (List ℕ) → Type 0
 AreRising ballots = (v : ℕ) → IsIncreasing 1 most_candidates (voter_ballot ballots v)
 
 -- what is kept of an election: all its voters in blocks, and what each hit gives
-pub record AreColumnsOf (tally : Thiele) (blocks : List (List ℕ)) (weights : List ℕ) (levels : ℕ) : Type 0 where
+pub record AreColumnsOf (tally : Thiele) (blocks : List (List ℕ)) (weights : List ℕ) : Type 0 where
   pub all : length (voters_of tally.election.rows) ≤ length blocks * block_voters
   pub columns : AreColumns (voters_of tally.election.rows) blocks
   pub weights_are : (j : ℕ) → slice_index weights j ≡ slice_index (increments tally.rule tally.k) j
