@@ -43,11 +43,11 @@ pub(crate) struct Aids<A: Allocator> {
 /// A search for committees under a Thiele rule. Contracts see the election, the rule and k.
 #[derive(Drop)]
 pub(crate) struct Search<'a, A: Allocator + Copy> {
-    profile: &'a Profile<A>,
+    pub(crate) profile: &'a Profile<A>,
     pub(crate) tally: &'a ThieleTally<'a, A>,
-    aids: &'a Aids<A>,
+    pub(crate) aids: &'a Aids<A>,
     // Whether pairs are counted. A search that ends after few sets is quicker without.
-    counts_pairs: bool,
+    pub(crate) counts_pairs: bool,
 }
 
 impl<'a, A: Allocator + Copy> Model for Search<'a, A> {
@@ -63,25 +63,6 @@ impl<'a, A: Allocator + Copy> Model for Search<'a, A> {
 }
 
 impl<'a, A: Allocator + Copy> Search<'a, A> {
-    /// A search with this help.
-    pub(crate) fn new(
-        profile: &'a Profile<A>,
-        tally: &'a ThieleTally<'a, A>,
-        aids: &'a Aids<A>,
-        counts_pairs: bool,
-    ) -> Search<'a, A>
-        requires ballots { profile.now ≡ tally.now.election }
-        requires aids { IsAided tally.now aids.now }
-        ensures { result ≡ tally.now }
-    {
-        Search {
-            profile,
-            tally,
-            aids,
-            counts_pairs,
-        }
-    }
-
     /// The node of a set, free candidates, and how many of them are to join.
     pub(crate) fn node(&self, set: CandSet, free: CandSet, left: u8) -> Node
         requires candidates { IsIncreasing 1 self.now.election.m set }

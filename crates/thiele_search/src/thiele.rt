@@ -142,7 +142,12 @@ impl<'a, A: Allocator + Copy> ThieleSearch<'a, A> {
     fn search(&self, counts_pairs: bool) -> Search<'_, A>
         ensures { result ≡ self.now }
     {
-        Search::new(self.profile, &self.values, &self.aids, counts_pairs)
+        Search {
+            profile: self.profile,
+            tally: &self.values,
+            aids: &self.aids,
+            counts_pairs,
+        }
     }
 }
 
@@ -222,5 +227,11 @@ fn good_committee<A: Allocator + Copy>(
         Some(prices) => prices.committee,
         None => CandSet::empty(),
     };
-    Search::new(profile, values, aids, false).climb(start, k)
+    let search = Search {
+        profile,
+        tally: values,
+        aids,
+        counts_pairs: false,
+    };
+    search.climb(start, k)
 }
