@@ -91,13 +91,6 @@ minus-is free clones x is = both (not (has_member clones x)) (has_member free x)
     both true q h = h
     both false q h = absurd cc
 
-pub node-minus : (m : ℕ) (set free clones : List ℕ) → IsNode m set free → IsNode m set (other_members free clones)
-node-minus m set free clones is_node = record {
-  set_within = is_node.set_within;
-  free_within = IsIncreasing-filter (λ x. not (has_member clones x)) 1 m free is_node.free_within;
-  apart = λ x is. is_node.apart x (minus-is free clones x is);
-}
-
 pub minus-most : (free clones : List ℕ) → length (other_members free clones) ≤ length free
 minus-most free clones = filter-most (λ x. not (has_member clones x)) free
 

@@ -7,7 +7,6 @@ pub mod EnteredLemmas
 mod Examples
 pub mod FoundLemmas
 pub mod HitLemmas
-pub mod LastLemmas
 pub mod MemberLemmas
 pub mod NarrowedLemmas
 pub mod ReachLemmas
