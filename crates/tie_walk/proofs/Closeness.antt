@@ -1,6 +1,7 @@
 -- Minimax: distances only grow as candidates are decided on.
-use Rattle.std.proofs.Common.{◌≡◌, ℕ, ◌+◌, ◌<◌, ◌≤◌, ◌==◌, ◌||◌, ◌&&◌, ◌∙◌, Bool, false, cond, not, List, [], ◌∷◌, ◌++◌, sym, ap, arith, inl, inr, length, count_by, fold, max, take, get_or, slice_get, Some}
+use Rattle.std.proofs.Common.{◌≡◌, ℕ, ◌+◌, ◌-◌, ◌<◌, ◌≤◌, ◌==◌, ◌||◌, ◌&&◌, ◌∙◌, Bool, false, cond, not, List, [], ◌∷◌, ◌++◌, refl, sym, ap, arith, inl, inr, length, count_by, fold, max, take, get_or, slice_get, Some}
 use Rattle.std.specs.Prelude.{nat_le}
+use Rattle.std.specs.List.{AllByRecursion}
 use Rattle.std.specs.Ordering.{ord_max, nat_cmp}
 use Rattle.std.proofs.lemmas.List.{take_more}
 use Rattle.std.proofs.lemmas.Option.{get_or_from_slice_get, slice_get_within}
@@ -15,6 +16,7 @@ use Rattle.ballot_base.proofs.Increasing.{has_member-below, has_member-filter, I
 use Rattle.tie_walk.specs.Values.{distance, closeness}
 use Rattle.tie_walk.specs.Ceilings.{greatest_distance_upto, closeness_upto, IsBound}
 use Rattle.tie_walk.proofs.Distances.{distance-most, ord_max-max}
+use Rattle.tie_walk.proofs.LiveLemmas.{upto-all}
 
 -- those of the ballot up to c who are not in the set are not in the committee either
 ballot-side : (c m : ℕ) (set added ballot : List ℕ) → IsIncreasing (c + 1) m added
@@ -70,6 +72,15 @@ greatest-grows c m set added (row ∷ rows) low high h up above =
 
 pub closeness-bounds : (m : ℕ) (rows : List Row) (c : ℕ) (set : List ℕ) (left : ℕ) → IsIncreasing 1 c set → IsBound (closeness m rows) m c set left (closeness_upto m rows c set)
 closeness-bounds m rows c set left up added above size = omega (arith, greatest-grows c m set added rows 0 0 (omega arith) up above)
+
+-- up to the last candidate ballots are whole
+pub closeness-all : (m : ℕ) (rows : List Row) (set : List ℕ) → AllByRecursion (λ (row : Row). IsIncreasing 1 m row.0) rows → closeness_upto m rows m set ≡ closeness m rows set
+closeness-all m rows set all = ap (λ n. m - n) (whole 0 rows all)
+  where
+    whole : (low : ℕ) (rest : List Row) → AllByRecursion (λ (row : Row). IsIncreasing 1 m row.0) rest
+        → fold (λ greatest (row : Row). max greatest (distance (members_upto row.0 m) set)) low rest ≡ fold (λ greatest (row : Row). max greatest (distance row.0 set)) low rest
+    whole low [] each = refl
+    whole low (row ∷ rest) each = rw (upto-all 1 m row.0 each.0) (whole (max low (distance row.0 set)) rest each.1)
 
 -- ---- the pass over the rows
 

@@ -1,12 +1,10 @@
 -- Distances of ballots and committees: by their sizes, and that none exceeds the number of candidates.
-use Rattle.std.proofs.Common.{◌≡◌, ℕ, zero, suc, ◌+◌, ◌*◌, ◌<◌, ◌≤◌, ◌∙◌, ◌&&◌, ◌||◌, ◌==◌, Bool, true, false, cond, List, [], ◌∷◌, ◌++◌, ◌⊎◌, Some, not, filter, fold, max, refl, sym, ap, subst, arith, length, take, get_or, slice_get, count_by, inl, inr}
+use Rattle.std.proofs.Common.{◌≡◌, ℕ, zero, suc, ◌+◌, ◌*◌, ◌≤◌, ◌∙◌, ◌&&◌, ◌||◌, ◌==◌, Bool, true, false, cond, List, [], ◌∷◌, ◌⊎◌, Some, not, filter, fold, max, refl, sym, ap, subst, arith, length, slice_get, count_by, inl, inr}
 use Rattle.std.specs.List.{AllByRecursion}
 use Rattle.std.specs.Ordering.{ord_max, nat_cmp}
 use Rattle.std.proofs.lemmas.Bool.Decides.{nat_tests}
 use Rattle.std.proofs.lemmas.Bool.{cases_order}
-use Rattle.std.proofs.lemmas.List.{take_more}
-use Rattle.std.proofs.lemmas.List.Sums.{fold-append, sum_by-cons, length-filter, count_by-le-length}
-use Rattle.std.proofs.lemmas.Option.{get_or_from_slice_get, slice_get_within}
+use Rattle.std.proofs.lemmas.List.Sums.{sum_by-cons, length-filter, count_by-le-length}
 use Rattle.std.proofs.Math.Bool.{and_comm}
 use Rattle.ballot_base.specs.Lists.{IsIncreasing}
 use Rattle.ballot_base.specs.CandSet.{has_member, common_members}
@@ -117,14 +115,6 @@ distance-most m ballot committee i j =
 
 -- ---- the greatest
 
-pub greatest-more : (rows : List Row) (committee : List ℕ) (i : ℕ) (row : Row) → slice_get rows i ≡ Some row
-    → greatest_distance (take (i + 1) rows) committee ≡ max (greatest_distance (take i rows) committee) (distance row.0 committee)
-greatest-more rows committee i row found =
-    let here : get_or rows i row ≡ row = get_or_from_slice_get rows i row row found in
-    let within : i < length rows = slice_get_within rows i row found in
-    ap (λ l. greatest_distance l committee) (take_more rows i row within ∙ ap (λ (r : Row). take i rows ++ r ∷ []) here)
-    ∙ fold-append (λ greatest (r : Row). max greatest (distance r.0 committee)) 0 (take i rows) (row ∷ [])
-
 pub greatest_distance-most : (m : ℕ) (rows : List Row) (committee : List ℕ) → AllByRecursion (λ (row : Row). IsIncreasing 1 m row.0) rows → IsIncreasing 1 m committee → greatest_distance rows committee ≤ m
 greatest_distance-most m rows committee all j = from 0 rows (omega arith) all
   where
@@ -141,9 +131,3 @@ ballot-found m (r ∷ rows) (suc i) row all found = ballot-found m rows i row al
 -- the maximum of two numbers as their method has it
 pub ord_max-max : (a b : ℕ) → ord_max nat_cmp a b ≡ max a b
 ord_max-max a b = grind (arith, nat_tests)
-
--- a row more, as the code takes it
-pub greatest-step : (rows : List Row) (committee : List ℕ) (i : ℕ) (row : Row) (greatest far more : ℕ) → slice_get rows i ≡ Some row → more ≡ ord_max nat_cmp greatest far → far ≡ distance row.0 committee
-    → greatest ≡ greatest_distance (take i rows) committee → more ≡ greatest_distance (take (i + 1) rows) committee
-greatest-step rows committee i row greatest far more found e f is =
-    e ∙ ord_max-max greatest far ∙ ap (λ n. max n far) is ∙ ap (λ n. max (greatest_distance (take i rows) committee) n) f ∙ sym (greatest-more rows committee i row found)

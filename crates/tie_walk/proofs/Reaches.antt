@@ -1,6 +1,8 @@
 -- How far the bounds of a set reach the best value.
-use Rattle.std.proofs.Common.{◌≡◌, ℕ, zero, suc, ◌+◌, ◌-◌, ◌<◌, ◌≤◌, List, [], ◌∷◌, Option, None, Some, subst, arith, length, get_or}
-use Rattle.std.specs.Prelude.{MatchOption}
+use Rattle.std.proofs.Common.{◌≡◌, ℕ, zero, suc, ◌+◌, ◌-◌, ◌<◌, ◌≤◌, List, [], ◌∷◌, Option, None, Some, inl, inr, subst, arith, length, get_or}
+use Rattle.std.specs.Prelude.{MatchOption, nat_le}
+use Rattle.std.specs.Bool.{then_some}
+use Rattle.std.proofs.lemmas.Bool.{cases_lt, le-leb, lt-leb}
 use Rattle.tie_walk.specs.Ceilings.{IsBound, IsShort, IsReach, greatest_sum}
 use Rattle.tie_walk.specs.Steps.Tables.{IsReachBySums}
 use Rattle.tie_walk.specs.Steps.Walks.{IsKnown, AreKnown}
@@ -21,16 +23,12 @@ module _ (value : List ℕ → ℕ) (bound : ℕ → List ℕ → ℕ → ℕ) (
   }
 
   -- where nobody is left to add
-  module _ (base : ℕ) (none : left ≡ 0) (same : (n : ℕ) → c ≤ n → bound n set left ≡ base) where
-    pub reach-all : c ≤ m → best ≤ base → IsReach bound m set left best c m
-    reach-all within high = record {
-      low = within;
-      high = omega (arith, none);
-      reached = λ n low h. omega (arith, same n low, high);
-    }
-
-    pub reach-none : base < best → IsShort value bound m set left best c
-    reach-none low = (omega (arith, same c (omega arith), low), law)
+  pub reach-whole : (base : ℕ) → left ≡ 0 → ((n : ℕ) → c ≤ n → bound n set left ≡ base) → c ≤ m
+      → MatchOption (then_some (nat_le best base) m) (IsShort value bound m set left best c) (IsReach bound m set left best c)
+  reach-whole base none same within = elim (cases_lt base best) [
+    | inl low ↦ rw (lt-leb best base low) (omega (arith, same c (omega arith), low), law)
+    | inr high ↦ rw (le-leb best base high) (record { low = within; high = omega (arith, none); reached = λ n low h. omega (arith, same n low, high) })
+  ]
 
 -- ---- what is known of a prefix
 

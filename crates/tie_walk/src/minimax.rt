@@ -4,7 +4,7 @@
 ghost use Rattle.std.specs.Prelude.{◌≡◌, ◌≤◌};
 ghost use Rattle.ballot_base.specs.Lists.{IsIncreasing};
 ghost use Rattle.tie_walk.specs.Ceilings.{greatest_distance_upto, closeness_upto};
-ghost use Rattle.tie_walk.specs.Values.{greatest_distance, closeness};
+ghost use Rattle.tie_walk.specs.Values.{closeness};
 
 use crate::tally::Tally;
 use ballot_base::{CandSet, Profile};
@@ -47,25 +47,12 @@ impl<'a, A: Allocator + Copy> Tally for MinimaxTally<'a, A> {
     }
 
     fn value(&self, set: CandSet) -> u128 {
-        u128::from(self.profile.m() - farthest(self.profile, set))
+        u128::from(self.profile.m() - farthest_upto(self.profile, self.profile.m(), set))
     }
 
     fn bound(&self, c: u8, set: CandSet, _left: u8) -> u128 {
         u128::from(self.profile.m() - farthest_upto(self.profile, c, set))
     }
-}
-
-/// The greatest distance of a ballot from the committee.
-fn farthest<A: Allocator + Copy>(profile: &Profile<A>, committee: CandSet) -> u8
-    requires { IsIncreasing 1 profile.now.m committee }
-    ensures value { result ≡ greatest_distance profile.now.rows committee }
-    ensures most { result ≤ profile.now.m }
-{
-    let mut greatest = 0;
-    for (ballot, _voters) in profile.ballots() {
-        greatest = greatest.max(ballot.distance(committee));
-    }
-    greatest
 }
 
 /// The greatest distance of a ballot from the set, as far as the candidates 1 to c tell.

@@ -63,7 +63,11 @@ impl<'a, A: Allocator + Copy> Tally for SavTally<'a, A> {
     }
 
     fn value(&self, set: CandSet) -> u128 {
-        sum_of_shares(self.profile, &self.shares, set)
+        sum_of_worths(
+            &hits_by_size(self.profile, set),
+            &self.shares,
+            self.profile.m(),
+        )
     }
 
     fn bound(&self, c: u8, set: CandSet, left: u8) -> u128 {
@@ -106,19 +110,6 @@ fn scores<A: Allocator + Copy>(profile: &Profile<A>, shares: &[u128; PLACES]) ->
         totals.add(ballot, u128::from(voters) * share);
     }
     totals
-}
-
-/// The sum over the voters of what they give for their hits on ballots of that many candidates.
-fn sum_of_shares<A: Allocator + Copy>(
-    profile: &Profile<A>,
-    shares: &[u128; PLACES],
-    set: CandSet,
-) -> u128
-    requires { shares.now ≡ parts (common_multiple profile.now.m) }
-    ensures { result ≡ satisfaction_value profile.now.m profile.now.rows set }
-{
-    let counts = hits_by_size(profile, set);
-    sum_of_worths(&counts, shares, profile.m())
 }
 
 /// For each number of candidates on a ballot, the hits of all voters with such a ballot together.

@@ -54,10 +54,7 @@ pub trait Tally {
             (IsShort (value_of self.now) (bound_of self.now) (candidates self.now) set left best c)
             (IsReach (bound_of self.now) (candidates self.now) set left best c) }
     {
-        if self.bound(c, set, left) < best {
-            return None;
-        }
-        Some(c)
+        (self.bound(c, set, left) >= best).then_some(c)
     }
 
     /// A committee of k to begin with, where the tally knows a good one: the search for the greatest value passes over

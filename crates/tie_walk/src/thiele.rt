@@ -8,8 +8,7 @@ ghost use Rattle.ballot_base.specs.Ballots.{hits, voter_count};
 ghost use Rattle.ballot_base.specs.Increments.{increments};
 ghost use Rattle.tie_walk.specs.Ceilings.{IsTight, ceiling};
 ghost use Rattle.tie_walk.specs.Sequences.{gain};
-ghost use Rattle.tie_walk.specs.Values.{thiele_value};
-ghost use Rattle.tie_walk.specs.Values.{Thiele, thiele_of};
+ghost use Rattle.tie_walk.specs.Values.{thiele_value, Thiele, thiele_of};
 ghost use Rattle.tie_walk.specs.Steps.Tables.{prefix_sums};
 
 use crate::sequential::{Step, worths};
@@ -90,31 +89,28 @@ impl<'a, A: Allocator + Copy> ThieleTally<'a, A> {
         hits_and_gains(self.profile, &self.weights, set, others).1
     }
 
-    /// The value of a set, and what `gains` returns, in one pass where the sums are small.
-    fn value_and_gains(&self, set: CandSet, others: CandSet) -> (u128, Worths)
-        ensures value { result.0 ≡ thiele_value (increments self.now.rule self.now.k) self.now.election.rows set }
-        ensures gains { (n : ℕ) → has_member others n ≡ true → slice_index result.1 n
-            ≡ gain (increments self.now.rule self.now.k) self.now.election.rows set n }
-        ensures small { (n : ℕ) → slice_index result.1 n ≤ 2 ^ 116 }
+    /// The sum over the voters of what they give for their hits.
+    fn sum_of_hits(&self, set: CandSet) -> u128
+        ensures { result ≡ thiele_value (increments self.now.rule self.now.k) self.now.election.rows set }
     {
-        if self.sums[PLACES - 1] >= SMALL {
-            let value = sum_of_hits(self.profile, &self.sums, set);
-            return (value, self.gains(set, others));
-        }
-        let (counts, gains) = hits_and_gains(self.profile, &self.weights, set, others);
-        let value = sum_of_worths(&counts, &self.sums, self.m);
-        (value, gains)
+        sum_of_worths(&voters_by_hits(self.profile, set), &self.sums, self.m)
     }
 
-    /// The value of a set of the candidates 1 to c, and what it gains by each candidate after c.
-    fn gains_after(&self, c: u8, set: CandSet) -> (u128, Worths)
+    /// The value of a set of the candidates 1 to c, and what it gains by each candidate after c, in one pass where the
+    /// sums are small.
+    fn value_and_gains(&self, c: u8, set: CandSet) -> (u128, Worths)
         requires within { c ≤ self.now.election.m }
         ensures value { result.0 ≡ thiele_value (increments self.now.rule self.now.k) self.now.election.rows set }
         ensures gains { (n : ℕ) → c < n → n ≤ self.now.election.m → slice_index result.1 n
             ≡ gain (increments self.now.rule self.now.k) self.now.election.rows set n }
         ensures small { (n : ℕ) → slice_index result.1 n ≤ 2 ^ 116 }
     {
-        self.value_and_gains(set, CandSet::after(c, self.m))
+        let others = CandSet::after(c, self.m);
+        if self.sums[PLACES - 1] >= SMALL {
+            return (self.sum_of_hits(set), self.gains(set, others));
+        }
+        let (counts, gains) = hits_and_gains(self.profile, &self.weights, set, others);
+        (sum_of_worths(&counts, &self.sums, self.m), gains)
     }
 }
 
@@ -131,14 +127,14 @@ impl<'a, A: Allocator + Copy> Tally for ThieleTally<'a, A> {
     }
 
     fn value(&self, set: CandSet) -> u128 {
-        sum_of_hits(self.profile, &self.sums, set)
+        self.sum_of_hits(set)
     }
 
     fn bound(&self, c: u8, set: CandSet, left: u8) -> u128 {
         if left == 0 {
-            return self.value(set);
+            return self.sum_of_hits(set);
         }
-        let (value, gains) = self.gains_after(c, set);
+        let (value, gains) = self.value_and_gains(c, set);
         let amounts = Amounts {
             each: &gains,
             m: self.m,
@@ -148,13 +144,9 @@ impl<'a, A: Allocator + Copy> Tally for ThieleTally<'a, A> {
 
     fn reach(&self, c: u8, set: CandSet, left: u8, best: u128) -> Option<u8> {
         if left == 0 {
-            return if self.value(set) < best {
-                None
-            } else {
-                Some(self.m)
-            };
+            return (self.sum_of_hits(set) >= best).then_some(self.m);
         }
-        let (value, gains) = self.gains_after(c, set);
+        let (value, gains) = self.value_and_gains(c, set);
         let amounts = Amounts {
             each: &gains,
             m: self.m,
@@ -174,20 +166,6 @@ fn prefix_sums(w: [u128; MOST_MEMBERS as usize]) -> [u128; PLACES]
         sums[x + 1] = sums[x] + more;
     }
     sums
-}
-
-/// The sum over the voters of what they give for their hits.
-fn sum_of_hits<A: Allocator + Copy>(
-    profile: &Profile<A>,
-    sums: &[u128; PLACES],
-    set: CandSet,
-) -> u128
-    requires { (x : ℕ) → slice_index sums.now x ≤ 2 ^ 84 }
-    ensures { (weights : List ℕ) → sums.now ≡ prefix_sums weights
-        → result ≡ thiele_value weights profile.now.rows set }
-{
-    let counts = voters_by_hits(profile, set);
-    sum_of_worths(&counts, sums, profile.m())
 }
 
 /// How many voters have each number of hits.

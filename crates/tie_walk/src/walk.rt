@@ -18,7 +18,7 @@ use crate::tally::Tally;
 use ballot_base::{CandSet, PLACES};
 
 /// How many prefixes a walk has entered, and how many bounds it has asked for.
-#[derive(Clone, Copy)]
+#[derive(Clone, Copy, Default)]
 pub(crate) struct Counts {
     pub(crate) entered: u128,
     pub(crate) ceilings: u128,
@@ -67,10 +67,7 @@ impl<'a, T: Tally> Walk<'a, T> {
             k,
             best,
             place,
-            counts: Counts {
-                entered: 0,
-                ceilings: 0,
-            },
+            counts: Counts::default(),
             levels: [None; PLACES],
         }
     }
@@ -233,12 +230,8 @@ fn is_known(levels: &Levels, prefix: Prefix) -> bool
         → best ≤ bound prefix.c prefix.set (k - length prefix.set) }
 {
     let Prefix { c, set } = prefix;
-    if let Some(known) = levels[usize::from(set.len())] {
-        if known.set == set && known.first <= c && c <= known.last {
-            return true;
-        }
-    }
-    false
+    let kept = levels[usize::from(set.len())];
+    matches!(kept, Some(known) if known.set == set && known.first <= c && c <= known.last)
 }
 
 /// Keeps what is known of the bounds of a set, in place of what was known of another one with as many members.

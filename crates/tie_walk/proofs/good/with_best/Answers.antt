@@ -1,12 +1,9 @@
-use Rattle.std.proofs.Common.{◌≡◌, ◌+◌, ◌≤◌, ◌∙◌, refl, sym, subst, arith, length}
+use Rattle.std.proofs.Common.{◌≡◌, ◌+◌, ◌≤◌, ◌∙◌, sym, subst, arith, length}
 use Rattle.ballot_base.specs.Lists.{IsIncreasing}
 use Rattle.ballot_base.proofs.Increasing.{IsIncreasing-with_member}
 use Rattle.tie_walk.proofs.BestLemmas.{IsOneMore, one-more-member, one-more-kept, one-more-found, one-more-done}
 use Rattle.tie_walk.proofs.good.with_best.Goals as goal
 use Rattle.tie_walk.proofs.good.with_best.Goals.{then-not-has+then-value-best, then-not-has+else-value-best, else-not-has}
-
-pub loop-n-init : goal.loop-n-init
-loop-n-init g c = (refl, λ x low high. absurd (omega (arith, low, high)))
 
 pub value-value-requires : goal.value-value-requires
 value-value-requires g c =
@@ -30,12 +27,6 @@ loop-n-preserved g c =
           subst (IsOneMore m set (n + 1) c.if-not-has.best) (sym w.grown-is) (subst (λ b. IsOneMore m set (n + 1) b c.loop-n.grown) (sym w.best-is)
           (one-more-member m set n c.loop-n.best c.loop-n.grown (sym c.has.ensures ∙ w.if-not-has.false) c.loop-n.invariant))
     ]
-
-pub returns-clause-candidates : goal.returns-clause-candidates
-returns-clause-candidates g c =
-    let end : c.loop-n.n ≡ (g.T.Tally.candidates c.args.tally.now) + 1 = omega (arith, c.loop-n-test.false, c.loop-n.auto.n-end, c.m-n-end.ensures.value) in
-    subst (IsIncreasing 1 (g.T.Tally.candidates c.args.tally.now)) (sym c.unwrap_or.ensures)
-    (one-more-done (g.T.Tally.candidates c.args.tally.now) c.args.set c.loop-n.best c.loop-n.grown c.requires.members c.requires.room (subst (λ n. IsOneMore (g.T.Tally.candidates c.args.tally.now) c.args.set n c.loop-n.best c.loop-n.grown) end c.loop-n.invariant)).0
 
 pub returns-clause-size : goal.returns-clause-size
 returns-clause-size g c =

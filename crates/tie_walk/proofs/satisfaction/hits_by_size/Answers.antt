@@ -5,20 +5,12 @@ use Rattle.ballot_base.specs.Limits.{most_candidates}
 use Rattle.ballot_base.specs.Ballots.{Row, hits}
 use Rattle.ballot_base.proofs.Turns.{row_of_turn, all_passed}
 use Rattle.tie_walk.proofs.Groups.{group-fits, groups-more}
-use Rattle.tie_walk.proofs.RowSums.{length-common, votes-hits-most, all_hits-most}
+use Rattle.tie_walk.proofs.RowSums.{length-common, all_hits-most}
 use Rattle.tie_walk.proofs.WorthLemmas.{no_total}
 use Rattle.tie_walk.proofs.satisfaction.hits_by_size.Goals as goal
 
 pub loop-ballot-init : goal.loop-ballot-init
 loop-ballot-init g c = record { long = refl; made = no_total (most_candidates + 1) }
-
-pub overflow_mul-counts : goal.overflow_mul-counts
-overflow_mul-counts g c =
-    let row : Row = (c.in-Some.ballot, c.in-Some.voters) in
-    let at = row_of_turn c.args.profile.now.rows (c.into_iter-ballot-iterator.ensures.into_iter_gives ∙ c.ballots-ballot-items.ensures.rows) c.loop-ballot.yielded c.loop-ballot.yielded_by row c.in-Some.ensures.steps in
-    let set = c.args.set in
-    let same : c.from-hits.result ≡ hits row.0 set = c.from-hits.ensures ∙ c.len.ensures.count ∙ ap length c.common.ensures ∙ length-common row.0 set in
-    omega (arith, ap (λ n. row.1 * n) same, votes-hits-most c.args.profile.now (length c.loop-ballot.yielded) row set c.ballots-ballot-items.ensures.valid at)
 
 pub overflow_add-counts : goal.overflow_add-counts
 overflow_add-counts g c =

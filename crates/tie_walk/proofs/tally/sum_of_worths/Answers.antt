@@ -1,5 +1,4 @@
-use Rattle.std.proofs.Common.{◌≡◌, ℕ, ◌+◌, ◌*◌, ◌∙◌, ap, arith, get_or, map, sum}
-use Rattle.std.specs.List.{range_with_len}
+use Rattle.std.proofs.Common.{ℕ, ◌+◌, ◌*◌, ap, arith, get_or}
 use Rattle.tie_walk.proofs.Groups.{below-more, below-part}
 use Rattle.tie_walk.proofs.tally.sum_of_worths.Goals as goal
 
@@ -22,9 +21,3 @@ loop-j-preserved c =
     let worth : ℕ → ℕ = λ j. get_or c.args.counts.now j 0 * get_or c.args.worths.now j 0 in
     let here = ap (λ n. n * get_or c.args.worths.now c.loop-j.j 0) c.from.ensures in
     omega (arith, here, c.loop-j.invariant, below-more worth c.loop-j.j)
-
-pub returns : goal.returns
-returns c =
-    let worth : ℕ → ℕ = λ j. get_or c.args.counts.now j 0 * get_or c.args.worths.now j 0 in
-    let end : c.loop-j.j ≡ c.args.most + 1 = omega (arith, c.loop-j-test.false, c.loop-j.auto.j-end, c.from-j-end.ensures) in
-    c.loop-j.invariant ∙ ap (λ n. sum (map worth (range_with_len 0 n))) end

@@ -35,16 +35,6 @@ overflow_add-counts g c =
       c.ballots-ballot-items.ensures.valid.voters,
     )
 
-pub overflow_mul-votes : goal.overflow_mul-votes
-overflow_mul-votes g c =
-    let row : Row = (c.in-Some.ballot, c.in-Some.voters) in
-    let at = row_of_turn c.args.profile.now.rows (c.into_iter-ballot-iterator.ensures.into_iter_gives ∙ c.ballots-ballot-items.ensures.rows) c.loop-ballot.yielded c.loop-ballot.yielded_by row c.in-Some.ensures.steps in
-    let w = c.args.weights.now in
-    let same : c.len-hits.result ≡ hits row.0 c.args.set = c.len-hits.ensures.count ∙ ap length c.common.ensures ∙ length-common row.0 c.args.set in
-    let product : row.1 * c.weight.result ≡ row.1 * weight w (hits row.0 c.args.set + 1) =
-    ap (λ x. row.1 * x) (c.weight.ensures ∙ ap (λ h. weight w (h + 1)) same) in
-    omega (arith, product, partial-fits Grow w c.args.set c.args.profile.now (2 ^ 31 - 1) (length c.loop-ballot.yielded) 0 row c.ballots-ballot-items.ensures.valid (λ j. omega (arith, c.requires.small j)) at)
-
 pub add-requires : goal.add-requires
 add-requires g c =
     let row : Row = (c.in-Some.ballot, c.in-Some.voters) in

@@ -2,16 +2,6 @@ use Rattle.std.proofs.Common.{ℕ, ◌*◌, ap, arith, get_or}
 use Rattle.tie_walk.proofs.Thresholds.{after-fits, sum-fits, sum-is, sum-most}
 use Rattle.tie_walk.proofs.tally.Amounts.greatest_sum.Goals as goal
 
-pub overflow_mul-result : goal.overflow_mul-result
-overflow_mul-result c =
-    let w : ℕ → ℕ = λ n. get_or c.args.self.now.each.now n 0 in
-    omega (
-      arith,
-      ap (λ n. n * c.nth_greatest-threshold.result) c.from.ensures,
-      sum-is w c.nth_greatest-threshold.result c.args.c c.args.self.now.m c.args.left c.after-candidates.result c.after-candidates.ensures (c.nth_greatest-threshold.ensures.threshold (after-fits c.args.c c.args.self.now.m c.args.left c.after-candidates.result c.after-candidates.ensures c.requires.fits)),
-      sum-fits w c.args.c c.args.self.now.m c.args.left c.args.self.now.small (omega (arith, c.requires.fits, c.args.self.now.most)),
-    )
-
 pub overflow_add-result : goal.overflow_add-result
 overflow_add-result c =
     let w : ℕ → ℕ = λ n. get_or c.args.self.now.each.now n 0 in

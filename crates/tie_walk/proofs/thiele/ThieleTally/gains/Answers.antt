@@ -1,9 +1,6 @@
-use Rattle.std.proofs.Common.{◌≡◌, ℕ, ◌^◌, ◌≤◌, ◌∙◌, cond, ap, arith, get_or}
-use Rattle.ballot_base.specs.Ballots.{Election}
-use Rattle.ballot_base.specs.Increments.{increments}
+use Rattle.std.proofs.Common.{ℕ, ◌^◌, ◌≤◌, arith, get_or}
 use Rattle.ballot_base.specs.CandSet.{has_member}
 use Rattle.tie_walk.specs.Sequences.{gain}
-use Rattle.tie_walk.specs.Values.{Thiele, thiele_of}
 use Rattle.tie_walk.proofs.Gains.{gain-most, weights-small}
 use Rattle.tie_walk.proofs.WorthLemmas.{part-most}
 use Rattle.tie_walk.proofs.TableLemmas.{weights-least}
@@ -24,16 +21,6 @@ pub hits_and_gains-requires : goal.hits_and_gains-requires
 hits_and_gains-requires g c =
     let t = c.self.inside in
     record { small = λ j. omega (arith, weights-least t.rule t.k t.weights t.sums j c.self.invariant.weights_are c.self.invariant.sums_are, c.if-self-ge-SMALL.false) }
-
-pub returns-clause-gains : goal.returns-clause-gains
-returns-clause-gains g c n wanted =
-    let t = c.self.inside in
-    let e : Election = t.profile.now in
-    let same : thiele_of e t.rule t.k ≡ c.args.self.now = c.self.view_is in
-    c.hits_and_gains.ensures.gains n
-    ∙ ap (λ b. cond b (gain t.weights e.rows c.args.set n) 0) wanted
-    ∙ ap (λ l. gain l e.rows c.args.set n) c.self.invariant.weights_are
-    ∙ ap (λ (x : Thiele). gain (increments x.rule x.k) x.election.rows c.args.set n) same
 
 pub returns-clause-small : goal.returns-clause-small
 returns-clause-small g c n =

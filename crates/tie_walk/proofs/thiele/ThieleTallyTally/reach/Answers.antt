@@ -9,28 +9,13 @@ use Rattle.tie_walk.specs.Steps.Tables.{IsReachBySums}
 use Rattle.tie_walk.specs.Values.{thiele_value, Thiele}
 use Rattle.tie_walk.proofs.Gains.{thiele-ceiling}
 use Rattle.tie_walk.proofs.GreatestSums.{ceiling-whole}
-use Rattle.tie_walk.proofs.Reaches.{reach-sums, reach-all, reach-none}
+use Rattle.tie_walk.proofs.Reaches.{reach-sums, reach-whole}
 use Rattle.tie_walk.proofs.Submodular.{ceiling-bounds, thiele_rule-submodular}
 use Rattle.tie_walk.proofs.thiele.ThieleTallyTally.reach.Goals as goal
 
-pub value-requires : goal.value-requires
-value-requires g c = IsIncreasing-higher 1 c.args.c c.args.self.now.election.m c.args.set c.requires.within c.requires.candidates
-
 -- no candidate is left to add
-pub returns-then-value-best : goal.returns-then-value-best
-returns-then-value-best g c =
-    let t : Thiele = c.args.self.now in
-    let value = thiele_value (increments t.rule t.k) t.election.rows in
-    let few = subst (λ (x : Thiele). x.k ≤ most_members) c.self.view_is c.self.invariant.size in
-    let law : IsBound value t.election.m c.args.c c.args.set c.args.left (ceiling value t.election.m c.args.c c.args.set c.args.left) =
-    ceiling-bounds value (thiele_rule-submodular t.rule t.k t.election.rows few) t.election.m c.args.c c.args.set c.args.left c.requires.candidates in
-    let same : (n : ℕ) → c.args.c ≤ n → ceiling value t.election.m n c.args.set c.args.left ≡ value c.args.set = λ n low.
-    ap (ceiling value t.election.m n c.args.set) c.if-left-eq0.true ∙ ceiling-whole value t.election.m n c.args.set in
-    reach-none value (ceiling value t.election.m) t.election.m c.args.set c.args.left c.args.best c.args.c law (value c.args.set) c.if-left-eq0.true same
-    (omega (arith, c.if-value-best.true, c.value.ensures))
-
-pub returns-else-value-best : goal.returns-else-value-best
-returns-else-value-best g c =
+pub returns-then-left-eq0 : goal.returns-then-left-eq0
+returns-then-left-eq0 g c =
     let t : Thiele = c.args.self.now in
     let value = thiele_value (increments t.rule t.k) t.election.rows in
     let few = subst (λ (x : Thiele). x.k ≤ most_members) c.self.view_is c.self.invariant.size in
@@ -39,16 +24,15 @@ returns-else-value-best g c =
     ceiling-bounds value (thiele_rule-submodular t.rule t.k t.election.rows few) t.election.m c.args.c c.args.set c.args.left c.requires.candidates in
     let same : (n : ℕ) → c.args.c ≤ n → ceiling value t.election.m n c.args.set c.args.left ≡ value c.args.set = λ n low.
     ap (ceiling value t.election.m n c.args.set) c.if-left-eq0.true ∙ ceiling-whole value t.election.m n c.args.set in
-    let all = reach-all value (ceiling value t.election.m) t.election.m c.args.set c.args.left c.args.best c.args.c law (value c.args.set) c.if-left-eq0.true same c.requires.within
-    (omega (arith, c.if-value-best.false, c.value.ensures)) in
-    rw size all
+    rw (c.then_some.ensures, c.sum_of_hits.ensures, size)
+    (reach-whole value (ceiling value t.election.m) t.election.m c.args.set c.args.left c.args.best c.args.c law (value c.args.set) c.if-left-eq0.true same c.requires.within)
 
 pub returns : goal.returns
 returns g c =
     let t : Thiele = c.args.self.now in
     let w = increments t.rule t.k in
     let value = thiele_value w t.election.rows in
-    let gains = c.gains_after-value.result.1 in
+    let gains = c.value_and_gains-value.result.1 in
     let least = c.saturating_sub.result in
     let few = subst (λ (x : Thiele). x.k ≤ most_members) c.self.view_is c.self.invariant.size in
     let valid = subst (λ (x : Thiele). IsElection x.election) c.self.view_is c.self.invariant.election in
@@ -57,8 +41,8 @@ returns g c =
     let law : IsBound value t.election.m c.args.c c.args.set c.args.left (ceiling value t.election.m c.args.c c.args.set c.args.left) =
     ceiling-bounds value (thiele_rule-submodular t.rule t.k t.election.rows few) t.election.m c.args.c c.args.set c.args.left c.requires.candidates in
     let same : (n : ℕ) → c.args.c ≤ n → ceiling value t.election.m n c.args.set c.args.left ≡ value c.args.set + greatest_sum (λ x. get_or gains x 0) (n + 1) t.election.m c.args.left = λ n low.
-    sym (thiele-ceiling t.election w gains n c.args.left c.args.set valid (higher n low) (λ x from to. c.gains_after-value.ensures.gains x (omega (arith, low, from)) to)) in
+    sym (thiele-ceiling t.election w gains n c.args.left c.args.set valid (higher n low) (λ x from to. c.value_and_gains-value.ensures.gains x (omega (arith, low, from)) to)) in
     let found = subst (λ n. MatchOption c.last_reaching.result (greatest_sum (λ x. get_or gains x 0) (c.args.c + 1) n c.args.left < least)
     (IsReachBySums (λ x. get_or gains x 0) c.args.c n c.args.left least)) size c.last_reaching.ensures in
     reach-sums value (ceiling value t.election.m) t.election.m c.args.set c.args.left c.args.best c.args.c law (λ x. get_or gains x 0) (value c.args.set) least c.last_reaching.result
-    (omega (arith, c.requires.fits, c.requires.within)) same (c.saturating_sub.ensures ∙ ap (λ n. c.args.best - n) c.gains_after-value.ensures.value) found
+    (omega (arith, c.requires.fits, c.requires.within)) same (c.saturating_sub.ensures ∙ ap (λ n. c.args.best - n) c.value_and_gains-value.ensures.value) found
