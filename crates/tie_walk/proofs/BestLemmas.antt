@@ -1,5 +1,6 @@
 -- From a good committee on to the greatest value.
-use Rattle.std.proofs.Common.{◌≡◌, ℕ, ◌+◌, ◌-◌, ◌<◌, ◌≤◌, ◌∙◌, true, false, List, [], ◌∷◌, ◌++◌, Option, None, Some, sym, ap, subst, arith, inl, inr, length, map, not, ◌==◌, unwrap_or}
+use Rattle.std.proofs.lemmas.Grind.{common_steps}
+use Rattle.std.proofs.Common.{◌≡◌, ℕ, ◌+◌, ◌-◌, ◌<◌, ◌≤◌, ◌∙◌, true, false, List, [], ◌∷◌, ◌++◌, Option, None, Some, sym, ap, subst, arith, inl, inr, length, map, not, unwrap_or}
 use Rattle.std.specs.Prelude.{nat_le}
 use Rattle.std.specs.List.{AllByRecursion}
 use Rattle.std.proofs.lemmas.Bool.{cases_Bool, cases_eq, cases_lt, false≢true, leb-true}
@@ -33,9 +34,7 @@ module _ (m k : ℕ) where
   after-candidates : (last : ℕ) (front rest : List ℕ) → IsIncreasing 1 last front → IsIncreasing (last + 1) m rest → AllByRecursion (IsIncreasing 1 m) (committees_after m k front rest)
   after-candidates last front [] up more = tt
   after-candidates last front (n ∷ rest) up more =
-      AllByRecursion-append (IsIncreasing 1 m) (committees_after m k (front ++ n ∷ []) rest) (committees_below m k n front)
-      (after-candidates n (front ++ n ∷ []) rest (IsIncreasing-push 1 last front n up (omega (arith, more.0)) (omega (arith, more.0))) more.2)
-      (below-candidates n front more.1 (IsIncreasing-higher 1 last n front (omega (arith, more.0)) up))
+      grind (arith, common_steps, after-candidates n (front ++ n ∷ []) rest (IsIncreasing-push 1 last front n up (omega (arith, more.0)) (omega (arith, more.0))) more.2, AllByRecursion-append, IsIncreasing-push, below-candidates, IsIncreasing-higher)
 
   pub from-candidates : (place : Option Prefix) → IsPlace m k place → AllByRecursion (IsIncreasing 1 m) (committees_from m k place)
   from-candidates None here = tt
@@ -104,13 +103,7 @@ IsOneMore m set n best None = (best ≡ 0) × ((x : ℕ) → 1 ≤ x → x < n �
 IsOneMore m set n best (Some more) = IsIncreasing 1 m more × (length more ≡ length set + 1)
 
 pub one-more-member : (m : ℕ) (set : List ℕ) (n best : ℕ) (grown : Option (List ℕ)) → has_member set n ≡ true → IsOneMore m set n best grown → IsOneMore m set (n + 1) best grown
-one-more-member m set n best None inside is = (
-  is.0,
-  λ x low high. elim (cases_eq x n) [
-    | inl same ↦ subst (λ y. has_member set y ≡ true) (sym same) inside
-    | inr other ↦ is.1 x low (omega (arith, high, other))
-  ],
-)
+one-more-member m set n best None inside is = grind (arith, common_steps, cases_eq)
 one-more-member m set n best (Some more) inside is = is
 
 pub one-more-kept : (m : ℕ) (set : List ℕ) (n best value : ℕ) (grown : Option (List ℕ)) → value < best → IsOneMore m set n best grown → IsOneMore m set (n + 1) best grown
@@ -118,10 +111,8 @@ one-more-kept m set n best value None low is = absurd (omega (arith, low, is.0))
 one-more-kept m set n best value (Some more) low is = is
 
 pub one-more-found : (m : ℕ) (set : List ℕ) (n best : ℕ) (more : List ℕ) → IsIncreasing 1 m set → 1 ≤ n → n ≤ m → has_member set n ≡ false → more ≡ with_member set n → IsOneMore m set (n + 1) best (Some more)
-one-more-found m set n best more up low high outside is = (
-  subst (IsIncreasing 1 m) (sym is) (IsIncreasing-with_member 1 m set n low high up),
-  ap length is ∙ length-with_member set n outside,
-)
+one-more-found m set n best more up low high outside is =
+    grind (arith, common_steps, IsIncreasing-with_member, length-with_member)
 
 pub one-more-done : (m : ℕ) (set : List ℕ) (best : ℕ) (grown : Option (List ℕ)) → IsIncreasing 1 m set → length set < m → IsOneMore m set (m + 1) best grown
     → IsIncreasing 1 m (unwrap_or grown set) × (length (unwrap_or grown set) ≡ length set + 1)
@@ -132,8 +123,4 @@ one-more-done m set best (Some more) up room is = is
 pub one-fewer : (m : ℕ) (set fewer : List ℕ) (n : ℕ) → IsIncreasing 1 m set → has_member set n ≡ true → fewer ≡ without_member set n
     → IsIncreasing 1 m fewer × (length fewer + 1 ≡ length set) × (length fewer < m)
 one-fewer m set fewer n up inside is =
-    let size : length fewer + 1 ≡ length set = omega (arith, ap length is, length-without_member 1 m set n up inside) in (
-      subst (IsIncreasing 1 m) (sym is) (IsIncreasing-filter (λ x. not (x == n)) 1 m set up),
-      size,
-      omega (arith, size, length-increasing 1 m set up),
-    )
+    grind (arith, common_steps, length-without_member, IsIncreasing-filter, not, length-increasing)

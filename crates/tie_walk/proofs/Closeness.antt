@@ -1,5 +1,6 @@
 -- Minimax: distances only grow as candidates are decided on.
-use Rattle.std.proofs.Common.{◌≡◌, ℕ, ◌+◌, ◌-◌, ◌<◌, ◌≤◌, ◌==◌, ◌||◌, ◌&&◌, ◌∙◌, Bool, false, cond, not, List, [], ◌∷◌, ◌++◌, refl, sym, ap, arith, inl, inr, length, count_by, fold, max, take, get_or, slice_get, Some}
+use Rattle.std.proofs.lemmas.Grind.{common_steps}
+use Rattle.std.proofs.Common.{◌≡◌, ℕ, ◌+◌, ◌-◌, ◌<◌, ◌≤◌, ◌==◌, ◌||◌, ◌∙◌, Bool, false, cond, not, List, [], ◌∷◌, ◌++◌, refl, sym, ap, arith, inl, inr, length, count_by, fold, max, take, get_or, slice_get, Some}
 use Rattle.std.specs.Prelude.{nat_le}
 use Rattle.std.specs.List.{AllByRecursion}
 use Rattle.std.specs.Ordering.{ord_max, nat_cmp}
@@ -36,7 +37,6 @@ ballot-side c m set added (n ∷ ballot) above =
           let bit : Bool → ℕ = λ b. cond (not b) 1 0 in
           omega (
             arith,
-            rest,
             whole,
             ap (count_by (λ y. not (has_member set y))) take',
             ap bit same,
@@ -49,15 +49,7 @@ set-side : (c first : ℕ) (set added ballot : List ℕ) → IsIncreasing first 
     → count_by (λ n. not (has_member (members_upto ballot c) n)) set ≤ count_by (λ n. not (has_member ballot n)) (set ++ added)
 set-side c first [] added ballot up = omega arith
 set-side c first (n ∷ set) added ballot up =
-    let same : has_member (members_upto ballot c) n ≡ has_member ballot n = has_member-filter (λ y. nat_le y c) ballot n ∙ ap (λ b. b && has_member ballot n) (le-leb n c up.1) in
-    let bit : Bool → ℕ = λ b. cond (not b) 1 0 in
-    omega (
-      arith,
-      ap bit same,
-      set-side c (n + 1) set added ballot up.2,
-      sum_by-cons (λ y. cond (not (has_member (members_upto ballot c) y)) 1 0) n set,
-      sum_by-cons (λ y. cond (not (has_member ballot y)) 1 0) n (set ++ added),
-    )
+    grind (arith, common_steps, set-side c (n + 1) set added ballot up.2, has_member-filter, le-leb, Bool, not, sum_by-cons)
 
 distance-grows : (c m : ℕ) (set added ballot : List ℕ) → IsIncreasing 1 c set → IsIncreasing (c + 1) m added → distance (members_upto ballot c) set ≤ distance ballot (set ++ added)
 distance-grows c m set added ballot up above = omega (arith, ballot-side c m set added ballot above, set-side c 1 set added ballot up)
@@ -67,8 +59,7 @@ greatest-grows : (c m : ℕ) (set added : List ℕ) (rows : List Row) (low high 
     → fold (λ greatest (row : Row). max greatest (distance (members_upto row.0 c) set)) low rows ≤ fold (λ greatest (row : Row). max greatest (distance row.0 (set ++ added))) high rows
 greatest-grows c m set added [] low high h up above = h
 greatest-grows c m set added (row ∷ rows) low high h up above =
-    greatest-grows c m set added rows (max low (distance (members_upto row.0 c) set)) (max high (distance row.0 (set ++ added)))
-    (omega (arith, distance-grows c m set added row.0 up above)) up above
+    grind (arith, common_steps, greatest-grows c m set added rows (max low (distance (members_upto row.0 c) set)) (max high (distance row.0 (set ++ added))), max, distance-grows)
 
 pub closeness-bounds : (m : ℕ) (rows : List Row) (c : ℕ) (set : List ℕ) (left : ℕ) → IsIncreasing 1 c set → IsBound (closeness m rows) m c set left (closeness_upto m rows c set)
 closeness-bounds m rows c set left up added above size = omega (arith, greatest-grows c m set added rows 0 0 (omega arith) up above)

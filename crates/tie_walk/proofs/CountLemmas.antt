@@ -1,12 +1,12 @@
 -- What is live before a start and at it: only what a walk enters on its way down to the start.
-use Rattle.std.proofs.Common.{◌≡◌, ℕ, ◌+◌, ◌-◌, ◌<◌, ◌≤◌, ◌==◌, ◌||◌, ◌∙◌, Bool, true, false, cond, List, [], ◌∷◌, ◌++◌, Some, refl, sym, ap, subst, arith, inl, inr, length, length-append, filter, append_assoc, Less}
+use Rattle.std.proofs.lemmas.Grind.{common_steps}
+use Rattle.std.proofs.Common.{◌≡◌, ℕ, ◌+◌, ◌-◌, ◌<◌, ◌≤◌, ◌==◌, ◌∙◌, Bool, true, false, List, [], ◌∷◌, ◌++◌, Some, refl, sym, ap, subst, arith, inl, inr, length, length-append, filter, append_assoc, Less}
 use Rattle.std.specs.List.{AllByRecursion, list_any}
 use Rattle.std.specs.Ordering.{nat_cmp, is_gt, ordering_then}
 use Rattle.std.specs.Cmp.Lexicographic.{slice_cmp}
-use Rattle.std.specs.Str.{bytes_eq}
 use Rattle.std.proofs.lemmas.Bool.{cases_Bool, cases_lt, and_right, lt-ltb, false≢true}
 use Rattle.std.proofs.lemmas.Slice.Eq.{bytes_eq-Decides}
-use Rattle.ballot_base.specs.Lists.{IsIncreasing, increasing_lists, is_later}
+use Rattle.ballot_base.specs.Lists.{IsIncreasing, is_later}
 use Rattle.ballot_base.specs.CandSet.{members_upto}
 use Rattle.ballot_base.proofs.Committees.{IsChosen, increasing_lists-chosen}
 use Rattle.ballot_base.proofs.FirstMember.{slice_cmp_same}
@@ -35,24 +35,14 @@ smaller-before front more rest n y low =
 
 none-passes : (p q : List ℕ → Bool) (xs : List (List ℕ)) → AllByRecursion (λ x. p x ≡ true → q x ≡ false) xs → list_any p (filter q xs) ≡ false
 none-passes p q [] all = refl
-none-passes p q (x ∷ xs) all = elim (cases_Bool (q x)) [
-  | inr out ↦ ap (λ b. list_any p (cond b (x ∷ filter q xs) (filter q xs))) out ∙ none-passes p q xs all.1
-  | inl kept ↦ elim (cases_Bool (p x)) [
-    | inl is ↦ absurd (false≢true (sym (all.0 is) ∙ kept))
-    | inr not' ↦
-        ap (λ b. list_any p (cond b (x ∷ filter q xs) (filter q xs))) kept ∙ ap (λ b. b || list_any p (filter q xs)) not' ∙ none-passes p q xs all.1
-  ]
-]
+none-passes p q (x ∷ xs) all = grind (arith, common_steps, none-passes p q xs all.1, cases_Bool, filter, false≢true)
 
 module _ (m k : ℕ) (start : List ℕ) (up : IsIncreasing 1 m start) (size : length start ≡ k) where
   -- nothing is ahead where no committee with just these members up to c is later than the start
   not-ahead : (c : ℕ) (set : List ℕ) → ((list : List ℕ) → IsIncreasing 1 m list → members_upto list c ≡ set → is_later list start ≡ false)
       → is_ahead m k (Some start) c set ≡ false
   not-ahead c set none =
-      none-passes (λ list. bytes_eq (members_upto list c) set) (λ list. is_later list start) (increasing_lists 1 m k)
-      (AllByRecursion-weaker (IsChosen 1 m k) (λ list. bytes_eq (members_upto list c) set ≡ true → is_later list start ≡ false)
-      (λ list chosen same. none list chosen.0 ((bytes_eq-Decides (members_upto list c) set).0 same))
-      (increasing_lists 1 m k) (increasing_lists-chosen 1 m k))
+      grind (arith, common_steps, none-passes, AllByRecursion-weaker, IsChosen, bytes_eq-Decides, increasing_lists-chosen)
 
   -- the start itself
   pub ahead-whole : is_ahead m k (Some start) m start ≡ false
@@ -96,10 +86,5 @@ module _ (m k : ℕ) (start : List ℕ) (up : IsIncreasing 1 m start) (size : le
     where
       before : (n : ℕ) → members_upto start (n + 1) ≡ members_upto start n
           → live_below bound m k best (Some start) (m - (n + 1)) (n + 1) (members_upto start n ++ (n + 1) ∷ []) ≡ 0
-      before n gone = elim (cases_lt (length (members_upto start n)) k) [
-        | inl few ↦
-            live-past m k (Some start) bound best (m - (n + 1)) (n + 1) (members_upto start n ++ (n + 1) ∷ []) (ahead-before n gone few)
-        | inr full ↦
-            live-shut m k (Some start) bound best (m - (n + 1)) (n + 1) (members_upto start n ++ (n + 1) ∷ [])
-            (shut-large bound m k best (n + 1) (members_upto start n ++ (n + 1) ∷ []) (omega (arith, full, length-append (members_upto start n) ((n + 1) ∷ []))))
-      ]
+      before n gone =
+          grind (arith, common_steps, cases_lt, live-past, Some, ahead-before, live-shut, shut-large, length-append)

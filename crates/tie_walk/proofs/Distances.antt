@@ -1,5 +1,6 @@
 -- Distances of ballots and committees: by their sizes, and that none exceeds the number of candidates.
-use Rattle.std.proofs.Common.{◌≡◌, ℕ, zero, suc, ◌+◌, ◌*◌, ◌≤◌, ◌∙◌, ◌&&◌, ◌||◌, ◌==◌, Bool, true, false, cond, List, [], ◌∷◌, ◌⊎◌, Some, not, filter, fold, max, refl, sym, ap, subst, arith, length, slice_get, count_by, inl, inr}
+use Rattle.std.proofs.lemmas.Grind.{common_steps}
+use Rattle.std.proofs.Common.{◌≡◌, ℕ, zero, suc, ◌+◌, ◌*◌, ◌≤◌, ◌∙◌, ◌&&◌, ◌||◌, ◌==◌, Bool, true, false, List, [], ◌∷◌, ◌⊎◌, Some, not, filter, fold, max, refl, sym, ap, subst, arith, length, slice_get, count_by, inl, inr}
 use Rattle.std.specs.List.{AllByRecursion}
 use Rattle.std.specs.Ordering.{ord_max, nat_cmp}
 use Rattle.std.proofs.lemmas.Bool.Decides.{nat_tests}
@@ -16,11 +17,7 @@ use Rattle.tie_walk.specs.Values.{distance, greatest_distance}
 -- those that pass a test and those that do not
 count-not : (p : ℕ → Bool) (xs : List ℕ) → count_by p xs + count_by (λ n. not (p n)) xs ≡ length xs
 count-not p [] = refl
-count-not p (x ∷ xs) =
-    let yes : count_by p (x ∷ xs) ≡ cond (p x) 1 0 + count_by p xs = sum_by-cons (λ n. cond (p n) 1 0) x xs in
-    let no' : count_by (λ n. not (p n)) (x ∷ xs) ≡ cond (not (p x)) 1 0 + count_by (λ n. not (p n)) xs = sum_by-cons (λ n. cond (not (p n)) 1 0) x xs in
-    let one : cond (p x) 1 0 + cond (not (p x)) 1 0 ≡ 1 = elim (p x) as (λ b. cond b 1 0 + cond (not b) 1 0 ≡ 1) [ true ↦ refl | false ↦ refl ] in
-    omega (arith, yes, no', one, count-not p xs)
+count-not p (x ∷ xs) = grind (arith, common_steps, count-not p xs, count_by, sum_by-cons, not)
 
 -- the common members, either way
 pub common-turned : (first last : ℕ) (xs ys : List ℕ) → IsIncreasing first last xs → IsIncreasing first last ys → common_members xs ys ≡ common_members ys xs
@@ -31,16 +28,7 @@ common-turned first last xs ys i j =
 -- both sizes have the common members and those who stand in one alone
 pub distance-sizes : (first last : ℕ) (xs ys : List ℕ) → IsIncreasing first last xs → IsIncreasing first last ys
     → distance xs ys + 2 * length (common_members xs ys) ≡ length xs + length ys
-distance-sizes first last xs ys i j =
-    let turned : length (common_members xs ys) ≡ length (common_members ys xs) = ap length (common-turned first last xs ys i j) in
-    omega (
-      arith,
-      turned,
-      length-filter (has_member ys) xs,
-      length-filter (has_member xs) ys,
-      count-not (has_member ys) xs,
-      count-not (has_member xs) ys,
-    )
+distance-sizes first last xs ys i j = grind (arith, common_steps, common-turned, length-filter, count-not)
 
 pub common-least : (xs ys : List ℕ) → length (common_members xs ys) ≤ length xs
 common-least xs ys = omega (arith, length-filter (has_member ys) xs, count_by-le-length (has_member ys) xs)

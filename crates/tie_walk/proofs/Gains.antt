@@ -1,5 +1,6 @@
 -- What a set gains by a candidate: over the rows, and as the difference of two values.
-use Rattle.std.proofs.Common.{◌≡◌, ℕ, zero, suc, ◌+◌, ◌-◌, ◌*◌, ◌/◌, ◌<◌, ◌≤◌, ◌^◌, ◌||◌, ◌∙◌, Bool, true, false, cond, List, [], ◌∷◌, Some, refl, sym, ap, subst, arith, inl, inr, length, take, get_or, slice_get, sum, sum_by, add-one}
+use Rattle.std.proofs.lemmas.Grind.{common_steps}
+use Rattle.std.proofs.Common.{◌≡◌, ℕ, zero, suc, ◌+◌, ◌-◌, ◌*◌, ◌/◌, ◌<◌, ◌≤◌, ◌^◌, ◌∙◌, Bool, true, false, cond, List, [], ◌∷◌, Some, refl, sym, ap, arith, length, take, get_or, slice_get, sum, sum_by, add-one}
 use Rattle.std.proofs.lemmas.Bool.{cases_eq, eq-eqb, ne_eqb}
 use Rattle.std.proofs.lemmas.List.Sums.{sum_by-cons, count_by-le-length}
 use Rattle.std.proofs.Math.Nat.{mul-le-mul_right, div-mul-le_self}
@@ -31,21 +32,7 @@ pub hits-with : (first last : ℕ) (ballot set : List ℕ) (x : ℕ) → IsIncre
     → hits ballot (with_member set x) ≡ hits ballot set + bit (has_member ballot x)
 hits-with first last [] set x up none = refl
 hits-with first last (n ∷ ballot) set x up none =
-    let rest = hits-with (n + 1) last ballot set x up.2 none in
-    let with' = sum_by-cons (λ y. bit (has_member (with_member set x) y)) n ballot in
-    let without' = sum_by-cons (λ y. bit (has_member set y)) n ballot in
-    elim (cases_eq x n) [
-      | inl same ↦
-          let here : has_member (with_member set x) n ≡ true = has_member-with_member set x n ∙ ap (λ b. b || has_member set n) (eq-eqb x n same) in
-          let was : has_member set n ≡ false = subst (λ y. has_member set y ≡ false) same none in
-          let head : has_member (n ∷ ballot) x ≡ true = subst (λ y. has_member (n ∷ ballot) y ≡ true) (sym same) (has_member_head n ballot) in
-          let later : has_member ballot x ≡ false = subst (λ y. has_member ballot y ≡ false) (sym same) (has_member-below (n + 1) last ballot n up.2 (omega arith)) in
-          omega (arith, rest, with', without', ap bit here, ap bit was, ap bit head, ap bit later)
-      | inr other ↦
-          let here : has_member (with_member set x) n ≡ has_member set n = has_member-with_member set x n ∙ ap (λ b. b || has_member set n) (ne_eqb x n other) in
-          let head : has_member (n ∷ ballot) x ≡ has_member ballot x = has_member_tail n x ballot (λ e. other (sym e)) in
-          omega (arith, rest, with', without', ap bit here, ap bit head)
-    ]
+    grind (arith, common_steps, hits-with (n + 1) last ballot set x up.2 none, none, sum_by-cons, cases_eq, has_member-with_member, eq-eqb, has_member_head, has_member-below, ne_eqb, has_member_tail)
 
 product-of-bit : (b : Bool) (n w : ℕ) → n * bit b * w ≡ n * cond b w 0
 product-of-bit true n w = omega arith
@@ -68,7 +55,6 @@ thiele-partial m w (row ∷ rows) set x all none =
     ap (λ n. row.1 * n) one ∙ omega arith in
     omega (
       arith,
-      product,
       thiele-partial m w rows set x all.1 none,
       sum_by-cons (λ (r : Row). r.1 * sum (take (hits r.0 (with_member set x)) w)) row rows,
       sum_by-cons (λ (r : Row). r.1 * sum (take (hits r.0 set) w)) row rows,
@@ -108,7 +94,6 @@ shares-with m shares (row ∷ rows) set x all none =
     let split : (n h t w : ℕ) → n * (h + t) * w ≡ n * h * w + n * t * w = λ n h t w. omega arith in
     omega (
       arith,
-      one,
       split row.1 (hits row.0 set) (bit b) s,
       product-of-bit b row.1 s,
       shares-with m shares rows set x all.1 none,
@@ -179,8 +164,6 @@ voter-most e shares set (x ∷ ballot, voters) valid is up =
     omega (
       arith,
       ap (λ n. hits own set * n) here,
-      product,
-      turned,
       div-mul-le_self (common_multiple e.m) (length own),
       common_multiple_small e.m valid.most,
     )
@@ -200,20 +183,12 @@ satisfaction-most e shares set valid is =
 
     products : (rows : List Row) → sum_by (λ (r : Row). r.1 * hits r.0 set * get_or shares (length r.0) 0) rows ≡ sum_by (λ (r : Row). r.1 * (hits r.0 set * get_or shares (length r.0) 0)) rows
     products [] = refl
-    products (row ∷ rows) =
-        omega (
-          arith,
-          sum_by-cons (λ (r : Row). r.1 * hits r.0 set * get_or shares (length r.0) 0) row rows,
-          sum_by-cons (λ (r : Row). r.1 * (hits r.0 set * get_or shares (length r.0) 0)) row rows,
-          products rows,
-          mul-assoc row.1 (hits row.0 set) (get_or shares (length row.0) 0),
-        )
+    products (row ∷ rows) = grind (arith, common_steps, products rows, sum_by-cons, get_or, mul-assoc)
 
 satisfaction-none : (n : ℕ) (shares : List ℕ) (rows : List Row) → sum_by (λ (r : Row). r.1 * hits r.0 [] * get_or shares (length r.0) 0) rows ≡ 0
 satisfaction-none n shares [] = refl
 satisfaction-none n shares (row ∷ rows) =
-    let zero' : row.1 * hits row.0 [] * get_or shares (length row.0) 0 ≡ 0 = ap (λ h. row.1 * h * get_or shares (length row.0) 0) (hits-none row.0) ∙ omega arith in
-    omega (arith, zero', satisfaction-none n shares rows, sum_by-cons (λ (r : Row). r.1 * hits r.0 [] * get_or shares (length r.0) 0) row rows)
+    grind (arith, common_steps, satisfaction-none n shares rows, get_or, hits-none, sum_by-cons)
 
 -- value and gains fit in 128 bits
 pub satisfaction-fits : (e : Election) (shares set : List ℕ) (c left value more : ℕ) → IsElection e → shares ≡ parts (common_multiple e.m) → IsIncreasing 1 c set → c ≤ e.m → left ≤ e.m - c
@@ -229,9 +204,7 @@ satisfaction-fits e shares set zero left value more valid is up within few are m
     none [] h = refl
     none (x ∷ s) h = absurd (omega (arith, h.0, h.1))
 satisfaction-fits e shares set (suc c) left value more valid is up within few are most =
-    let size : left ≤ 63 = omega (arith, few, within, valid.most) in
-    let product : left * (2 ^ 122 - 2 ^ 32) ≤ 63 * (2 ^ 122 - 2 ^ 32) = mul-le-mul_right (2 ^ 122 - 2 ^ 32) size in
-    omega (arith, product, most, are, satisfaction-most e shares set valid is)
+    grind (arith, common_steps, mul-le-mul_right, satisfaction-most)
 
 -- ---- under Thiele's rules
 
@@ -253,8 +226,5 @@ thiele-fits e rule k c left value more set valid small few are most =
     let product : left * 2 ^ 116 ≤ 64 * 2 ^ 116 = mul-le-mul_right (2 ^ 116) size in
     omega (
       arith,
-      product,
-      most,
-      are,
       thiele-most e (increments rule k) set (2 ^ 84) valid (λ x. omega (arith, sum-take-le (increments rule k) x, increments_sum-most rule k small)),
     )

@@ -1,5 +1,6 @@
 -- The greatest sum of so many numbers, one number more at a time.
-use Rattle.std.proofs.Common.{◌≡◌, ℕ, zero, suc, ◌+◌, ◌-◌, ◌*◌, ◌<◌, ◌≤◌, ◌∙◌, List, [], ◌∷◌, ◌++◌, refl, sym, ap, arith, inl, inr, map, max, sum_by}
+use Rattle.std.proofs.lemmas.Grind.{common_steps}
+use Rattle.std.proofs.Common.{◌≡◌, ℕ, zero, suc, ◌+◌, ◌-◌, ◌*◌, ◌<◌, ◌≤◌, ◌∙◌, List, [], ◌∷◌, ◌++◌, refl, sym, ap, arith, map, max, sum_by}
 use Rattle.std.specs.Prelude.{fold}
 use Rattle.std.specs.List.{AllByRecursion}
 use Rattle.std.proofs.lemmas.Bool.{cases_lt}
@@ -55,13 +56,10 @@ module _ (worth : ℕ → ℕ) where
   shifted : (first low : ℕ) (lists : List (List ℕ)) → greatest (sum_by worth) (worth first + low) (map (λ rest. first ∷ rest) lists) ≡ worth first + greatest (sum_by worth) low lists
   shifted first low [] = refl
   shifted first low (list ∷ lists) =
-      let here : max (worth first + low) (sum_by worth (first ∷ list)) ≡ worth first + max low (sum_by worth list) = omega (arith, sum_by-cons worth first list) in
-      ap (λ n. greatest (sum_by worth) n (map (λ rest. first ∷ rest) lists)) here ∙ shifted first (max low (sum_by worth list)) lists
+      grind (arith, common_steps, shifted first (max low (sum_by worth list)) lists, max, sum_by, sum_by-cons, greatest, map)
 
   shifted_some : (first : ℕ) (list : List ℕ) (lists : List (List ℕ)) → greatest (sum_by worth) 0 (map (λ rest. first ∷ rest) (list ∷ lists)) ≡ worth first + greatest (sum_by worth) 0 (list ∷ lists)
-  shifted_some first list lists =
-      let here : max 0 (sum_by worth (first ∷ list)) ≡ worth first + max 0 (sum_by worth list) = omega (arith, sum_by-cons worth first list) in
-      ap (λ n. greatest (sum_by worth) n (map (λ rest. first ∷ rest) lists)) here ∙ shifted first (max 0 (sum_by worth list)) lists
+  shifted_some first list lists = grind (arith, common_steps, max, sum_by, sum_by-cons, greatest, map, shifted)
 
   -- one number more is among the best, or it is not
   pub best_of-more : (n first size : ℕ) → size ≤ n → best_of (suc n) first (suc size) ≡ max (best_of n (first + 1) (suc size)) (best_of n (first + 1) size + worth first)
@@ -79,48 +77,21 @@ module _ (worth : ℕ → ℕ) where
   pub best_of-most : (most : ℕ) → ((n : ℕ) → worth n ≤ most) → (n first size : ℕ) → best_of n first size ≤ size * most
   best_of-most most each n first zero = omega (arith, best_of-none n first)
   best_of-most most each zero first (suc size) = omega (arith, best_of-short 0 first (suc size) (omega arith))
-  best_of-most most each (suc n) first (suc size) = elim (cases_lt n size) [
-    | inl few ↦ omega (arith, best_of-short (suc n) first (suc size) (omega arith))
-    | inr enough ↦
-        let product : suc size * most ≡ size * most + most = omega arith in
-        omega (
-          arith,
-          product,
-          best_of-more n first size enough,
-          each first,
-          best_of-most most each n (first + 1) size,
-          best_of-most most each n (first + 1) (suc size),
-        )
-  ]
+  best_of-most most each (suc n) first (suc size) =
+      grind (arith, common_steps, best_of-most most each n (first + 1) size, best_of-most most each n (first + 1) (suc size), cases_lt, best_of-short, best_of-more)
 
   pub sum-of : (c m size : ℕ) → greatest_sum worth (c + 1) m size ≡ best_of (m - c) (c + 1) size
-  sum-of c m size =
-      let count : m + 1 - (c + 1) ≡ m - c = omega arith in
-      ap (λ n. best_of n (c + 1) size) count
+  sum-of c m size = grind (arith, common_steps)
 
   -- more numbers to choose from
   pub best_of-next : (n first size : ℕ) → best_of n (first + 1) size ≤ best_of (suc n) first size
   best_of-next n first zero = omega (arith, best_of-none n (first + 1), best_of-none (suc n) first)
-  best_of-next n first (suc size) = elim (cases_lt n size) [
-    | inl few ↦ omega (arith, best_of-short n (first + 1) (suc size) (omega arith))
-    | inr enough ↦ omega (arith, best_of-more n first size enough)
-  ]
+  best_of-next n first (suc size) = grind (arith, common_steps, cases_lt, best_of-short, best_of-more)
 
   best_of-later : (steps n first size : ℕ) → best_of n (first + steps) size ≤ best_of (steps + n) first size
-  best_of-later zero n first size =
-      let here : first + 0 ≡ first = omega arith in
-      let count : 0 + n ≡ n = omega arith in
-      omega (arith, ap (λ f. best_of n f size) here, ap (λ k. best_of k first size) count)
+  best_of-later zero n first size = grind (arith, common_steps)
   best_of-later (suc steps) n first size =
-      let here : first + suc steps ≡ first + 1 + steps = omega arith in
-      let count : suc steps + n ≡ suc (steps + n) = omega arith in
-      omega (
-        arith,
-        ap (λ f. best_of n f size) here,
-        ap (λ k. best_of k first size) count,
-        best_of-later steps n (first + 1) size,
-        best_of-next (steps + n) first size,
-      )
+      grind (arith, common_steps, best_of-later steps n (first + 1) size, best_of-next)
 
   sum-later : (c n m size : ℕ) → c ≤ n → n ≤ m → greatest_sum worth (n + 1) m size ≤ greatest_sum worth (c + 1) m size
   sum-later c n m size low high =

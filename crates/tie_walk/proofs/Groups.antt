@@ -1,5 +1,6 @@
 -- Sums of a list's values, grouped by a key of each element.
-use Rattle.std.proofs.Common.{◌≡◌, ℕ, zero, suc, ◌+◌, ◌*◌, ◌<◌, ◌≤◌, ◌==◌, ◌∙◌, true, false, cond, List, [], ◌∷◌, Some, refl, sym, ap, subst, arith, inl, inr, length, take, map, filter, sum, sum_by, get_or, set, slice_get, get_or-set_same, get_or-set_other}
+use Rattle.std.proofs.lemmas.Grind.{common_steps}
+use Rattle.std.proofs.Common.{◌≡◌, ℕ, zero, suc, ◌+◌, ◌*◌, ◌<◌, ◌≤◌, ◌==◌, ◌∙◌, cond, List, [], ◌∷◌, Some, refl, sym, ap, arith, inl, inr, length, take, map, filter, sum, sum_by, get_or, set, slice_get, get_or-set_same, get_or-set_other}
 use Rattle.std.proofs.Math.Numerals.{suc-eq-add-one}
 use Rattle.std.specs.List.{AllByRecursion, range_with_len}
 use Rattle.std.proofs.lemmas.Bool.{cases_eq, eq-eqb, ne_eqb}
@@ -59,10 +60,7 @@ module _ {X : Type 0} (key value : X → ℕ) where
   group j xs = sum_by value (filter (λ x. key x == j) xs)
 
   group-cons : (j : ℕ) (x : X) (xs : List X) → group j (x ∷ xs) ≡ only (key x) (value x) j + group j xs
-  group-cons j x xs = elim (key x == j) as (λ b. sum_by value (cond b (x ∷ filter (λ y. key y == j) xs) (filter (λ y. key y == j) xs)) ≡ cond b (value x) 0 + group j xs) [
-    | true ↦ sum_by-cons value x (filter (λ y. key y == j) xs)
-    | false ↦ omega arith
-  ]
+  group-cons j x xs = grind (arith, common_steps, sum_by, filter, sum_by-cons)
 
   as_sum : (j : ℕ) (xs : List X) → group j xs ≡ sum_by (λ x. only (key x) (value x) j) xs
   as_sum j [] = refl
@@ -70,9 +68,7 @@ module _ {X : Type 0} (key value : X → ℕ) where
 
   pub group-most : (j : ℕ) (xs : List X) → group j xs ≤ sum_by value xs
   group-most j [] = omega arith
-  group-most j (x ∷ xs) =
-      let part : only (key x) (value x) j ≤ value x = elim (key x == j) as (λ b. cond b (value x) 0 ≤ value x) [ true ↦ omega arith | false ↦ omega arith ] in
-      omega (arith, part, group-cons j x xs, group-most j xs, sum_by-cons value x xs)
+  group-most j (x ∷ xs) = grind (arith, common_steps, group-most j xs, group-cons, sum_by-cons)
 
   module _ (xs : List X) (i : ℕ) (x : X) (found : slice_get xs i ≡ Some x) where
     group-more : (j : ℕ) → group j (take (i + 1) xs) ≡ group j (take i xs) + only (key x) (value x) j
@@ -88,15 +84,8 @@ module _ {X : Type 0} (key value : X → ℕ) where
     -- a table of the groups so far, with the next element
     pub groups-more : (table : List ℕ) (k v : ℕ) → k ≡ key x → v ≡ value x → k < length table → ((j : ℕ) → get_or table j 0 ≡ group j (take i xs))
         → (j : ℕ) → get_or (set table k (get_or table k 0 + v)) j 0 ≡ group j (take (i + 1) xs)
-    groups-more table k v is worth inside made j = elim (cases_eq j k) [
-      | inl same ↦
-          let now : get_or (set table k (get_or table k 0 + v)) k 0 ≡ get_or table k 0 + v = rw get_or-set_same in
-          let all : only (key x) (value x) k ≡ value x = ap (only (key x) (value x)) is ∙ only-same (key x) (value x) in
-          subst (λ d. get_or (set table k (get_or table k 0 + v)) d 0 ≡ group d (take (i + 1) xs)) (sym same) (omega (arith, now, all, worth, made k, group-more k))
-      | inr other ↦
-          let now : get_or (set table k (get_or table k 0 + v)) j 0 ≡ get_or table j 0 = rw get_or-set_other in
-          omega (arith, now, made j, group-more j, only-other (key x) (value x) j (λ e. other (sym e ∙ sym is)))
-    ]
+    groups-more table k v is worth inside made j =
+        grind (arith, common_steps, cases_eq, get_or, set, get_or-set_same, only-same, take, group-more, get_or-set_other, only-other)
 
   -- what the groups give together for their keys is what the elements give
   pub regrouped : (w : ℕ → ℕ) (n : ℕ) (xs : List X) → AllByRecursion (λ x. key x < n) xs
@@ -115,7 +104,6 @@ module _ {X : Type 0} (key value : X → ℕ) where
           let last : group n (x ∷ xs) * w n ≡ only (key x) (value x) n * w n + group n xs * w n = ap (λ g. g * w n) (group-cons n x xs) ∙ omega arith in
           omega (
             arith,
-            last,
             apart n,
             below-next (λ j. group j (x ∷ xs) * w j) n,
             below-next (λ j. only (key x) (value x) j * w j) n,

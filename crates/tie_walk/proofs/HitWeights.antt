@@ -1,5 +1,6 @@
 -- What hits add under the sequential rules, as a table has it.
-use Rattle.std.proofs.Common.{◌≡◌, ℕ, ◌+◌, ◌<◌, ◌≤◌, ◌^◌, ◌==◌, ◌∙◌, Bool, true, false, cond, List, sym, arith, inl, inr, length, take, get_or}
+use Rattle.std.proofs.lemmas.Grind.{common_steps}
+use Rattle.std.proofs.Common.{◌≡◌, ℕ, ◌+◌, ◌<◌, ◌≤◌, ◌^◌, ◌==◌, ◌∙◌, Bool, true, false, cond, List, sym, arith, length, take, get_or}
 use Rattle.std.proofs.Math.Nat.{div-le_self}
 use Rattle.std.proofs.lemmas.Bool.{cases_lt}
 use Rattle.std.proofs.lemmas.List.{ext_get_or, get_or_past, get_or-take, length-take-le}
@@ -35,7 +36,5 @@ hit_weight-small SeqCc m j most low = omega (arith, one-most (j == 1))
 hit_weight-small RevSeqPav m j most low = omega (arith, div-le_self (common_multiple m) j, common_multiple_small m most)
 
 pub hit_weights-small : (rule : SeqRule) (m i : ℕ) → m ≤ most_candidates → get_or (hit_weights rule m) i 0 < 2 ^ 90
-hit_weights-small rule m i most = elim (cases_lt i m) [
-  | inl low ↦ omega (arith, hit_weights-at rule m i low, hit_weight-small rule m (i + 1) most (omega arith))
-  | inr high ↦ omega (arith, get_or_past (hit_weights rule m) i 0 (omega (arith, hit_weights-length rule m, high)))
-]
+hit_weights-small rule m i most =
+    grind (arith, common_steps, cases_lt, hit_weights-at, hit_weight-small, get_or_past, hit_weights-length)

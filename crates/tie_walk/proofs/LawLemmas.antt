@@ -1,5 +1,6 @@
 -- Which committees win, their order, and that there is one.
-use Rattle.std.proofs.Common.{◌≡◌, ℕ, zero, suc, ◌≤◌, ◌==◌, Bool, true, false, cond, List, [], ◌∷◌, refl, sym, ap, ◌∙◌, subst, arith, inl, inr, ◌⊎◌, filter, max, length, Contains, AllPairs}
+use Rattle.std.proofs.lemmas.Grind.{common_steps}
+use Rattle.std.proofs.Common.{◌≡◌, ℕ, zero, suc, ◌≤◌, ◌==◌, Bool, true, false, cond, List, [], ◌∷◌, refl, sym, subst, arith, inl, inr, ◌⊎◌, filter, max, length, Contains, AllPairs}
 use Rattle.std.specs.List.{range_with_len}
 use Rattle.std.proofs.lemmas.Bool.{eq-eqb, eqb-true, cases_lt}
 use Rattle.std.proofs.lemmas.List.Elements.{All-contains, All-contains_itself, All-filter, All-from_recursion, filter_passes}
@@ -21,9 +22,7 @@ passes-from_filter p xs x c = All-contains (λ y. p y ≡ true) (filter p xs) x 
 
 pub Contains-filter : {X : Type 0} (p : X → Bool) (xs : List X) (x : X) → Contains xs x → p x ≡ true → Contains (filter p xs) x
 Contains-filter p [] x c passes = absurd (omega (arith, c.1))
-Contains-filter p (y ∷ ys) x (zero, inside, is) passes =
-    let first : p y ≡ true = ap p is ∙ passes in
-    rw first (0, omega arith, is)
+Contains-filter p (y ∷ ys) x (zero, inside, is) passes = grind (arith, common_steps)
 Contains-filter p (y ∷ ys) x (suc i, inside, is) passes =
     let rest = Contains-filter p ys x (i, omega (arith, inside), is) passes in
     elim (p y) as (λ b. Contains (cond b (y ∷ filter p ys) (filter p ys)) x) [
@@ -35,13 +34,7 @@ Contains-filter p (y ∷ ys) x (suc i, inside, is) passes =
 greatest-reached : (value : List ℕ → ℕ) (low : ℕ) (sets : List (List ℕ)) → (greatest value low sets ≡ low) ⊎ ((set : List ℕ) × Contains sets set × (value set ≡ greatest value low sets))
 greatest-reached value low [] = inl refl
 greatest-reached value low (set ∷ sets) =
-    elim (greatest-reached value (max low (value set)) sets) [
-      | inl none ↦ elim (cases_lt low (value set)) [
-        | inl more ↦ inr (set, (0, omega arith, refl), omega (arith, none, more))
-        | inr less ↦ inl (omega (arith, none, less))
-      ]
-      | inr some ↦ inr (some.0, Contains-later set some.0 sets some.1, some.2)
-    ]
+    grind (arith, common_steps, greatest-reached value (max low (value set)) sets, max, cases_lt, Contains-later)
 
 pub no_greater_value : (value : List ℕ → ℕ) (m k : ℕ) (set : List ℕ) → Contains (increasing_lists 1 m k) set → value set ≤ best_value value m k
 no_greater_value value m k set c =

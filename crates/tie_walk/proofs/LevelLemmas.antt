@@ -1,5 +1,6 @@
 -- The levels of the sequential rules: what they have, and that the last one has the winners.
-use Rattle.std.proofs.Common.{◌≡◌, ℕ, zero, suc, ◌+◌, ◌≤◌, ◌==◌, Bool, true, false, not, List, [], ◌∷◌, sym, ◌∙◌, subst, arith, inl, inr, filter, Contains}
+use Rattle.std.proofs.lemmas.Grind.{common_steps}
+use Rattle.std.proofs.Common.{◌≡◌, ℕ, zero, suc, ◌+◌, ◌≤◌, ◌==◌, Bool, true, false, not, List, [], ◌∷◌, sym, ◌∙◌, subst, arith, filter, Contains}
 use Rattle.std.specs.List.{range_with_len}
 use Rattle.std.specs.List.Sorted.{IsStrictlySortedBy}
 use Rattle.std.specs.Cmp.Lexicographic.{slice_cmp}
@@ -28,16 +29,7 @@ pub both_false : (b : Bool) → b ≡ false → b ≡ true → ⊥
 both_false b left right = let e : false ≡ true = sym left ∙ right in cc
 
 pub in_bounds : (m : ℕ) (set : List ℕ) (c : ℕ) → IsIncreasing 1 m set → has_member set c ≡ true → (1 ≤ c) × (c ≤ m)
-in_bounds m set c up inside =
-    let low : 1 ≤ c = elim (cases_lt c 1) [
-      | inl below ↦ absurd (both_false (has_member set c) (has_member-below 1 m set c up below) inside)
-      | inr fine ↦ fine
-    ] in
-    let high : c ≤ m = elim (cases_lt m c) [
-      | inl above ↦ absurd (both_false (has_member set c) (has_member-above 1 m set c up above) inside)
-      | inr fine ↦ fine
-    ] in
-    (low, high)
+in_bounds m set c up inside = grind (arith, common_steps, cases_lt, both_false, has_member-below, has_member-above)
 
 module _ (step : Step) (weights : List ℕ) (m : ℕ) (rows : List Row) where
   pub choice-parts : (set : List ℕ) (c : ℕ) → is_choice step weights m rows set c ≡ true → ((1 ≤ c) × (c ≤ m)) × (may_choose step set c ≡ true)

@@ -1,6 +1,6 @@
 -- Live prefixes: those still to be entered after a start, and on the way down to it.
-use Rattle.std.proofs.Common.{◌≡◌, ℕ, zero, suc, ◌+◌, ◌-◌, ◌<◌, ◌≤◌, ◌||◌, ◌∙◌, ◌⊎◌, Bool, true, false, cond, List, [], ◌∷◌, ◌++◌, Option, None, Some, refl, sym, ap, subst, arith, inl, inr, length, length-append, filter, map, append_assoc, append-nil}
-use Rattle.std.specs.Prelude.{nat_le}
+use Rattle.std.proofs.lemmas.Grind.{common_steps}
+use Rattle.std.proofs.Common.{◌≡◌, ℕ, zero, suc, ◌+◌, ◌-◌, ◌<◌, ◌≤◌, ◌||◌, ◌∙◌, ◌⊎◌, Bool, true, false, List, [], ◌∷◌, ◌++◌, Option, None, Some, refl, sym, ap, subst, arith, inl, inr, length, length-append, filter, map, append_assoc, append-nil}
 use Rattle.std.specs.List.{AllByRecursion, list_any}
 use Rattle.std.specs.Str.{bytes_eq}
 use Rattle.std.proofs.lemmas.Bool.{cases_Bool, cases_lt, cases_eq, le-leb, lt-leb, or_left, or_right, false≢true}
@@ -31,16 +31,11 @@ upto-none first last c [] low up = refl
 upto-none first last c (x ∷ set) low up = rw (lt-leb x c (omega (arith, low, up.0))) (upto-none (x + 1) last c set (omega (arith, low, up.0)) up.2)
 
 upto-part : (c d m : ℕ) (set added : List ℕ) → d ≤ c → IsIncreasing 1 d set → IsIncreasing (c + 1) m added → members_upto (set ++ added) d ≡ set
-upto-part c d m set added low up more =
-    filter-append (λ n. nat_le n d) set added ∙ ap (λ l. l ++ members_upto added d) (upto-all 1 d set up)
-    ∙ ap (λ l. set ++ l) (upto-none (c + 1) m d added (omega arith) more) ∙ append-nil set
+upto-part c d m set added low up more = grind (arith, common_steps, filter-append, upto-all, upto-none, append-nil)
 
 pub upto-twice : (c : ℕ) (set : List ℕ) → members_upto (members_upto set (c + 1)) c ≡ members_upto set c
 upto-twice c [] = refl
-upto-twice c (x ∷ set) = elim (cases_lt (c + 1) x) [
-  | inl high ↦ rw (lt-leb x (c + 1) high, lt-leb x c (omega arith)) (upto-twice c set)
-  | inr low ↦ rw (le-leb x (c + 1) low) (ap (λ l. cond (nat_le x c) (x ∷ l) l) (upto-twice c set))
-]
+upto-twice c (x ∷ set) = grind (arith, common_steps, upto-twice c set, cases_lt, lt-leb, le-leb)
 
 -- one candidate more is a member, or not
 pub upto-next : (first last c : ℕ) (set : List ℕ) → IsIncreasing first last set
@@ -153,9 +148,7 @@ module _ (m k : ℕ) (after : Option (List ℕ)) where
       any-weaker (λ list. bytes_eq (members_upto list (c + 1)) set) (λ list. bytes_eq (members_upto list c) front) later each is
     where
       each : (x : List ℕ) → bytes_eq (members_upto x (c + 1)) set ≡ true → bytes_eq (members_upto x c) front ≡ true
-      each x e =
-          let same : members_upto x (c + 1) ≡ set = (bytes_eq-Decides (members_upto x (c + 1)) set).0 e in
-          (bytes_eq-Decides (members_upto x c) front).1 (sym (upto-twice c x) ∙ ap (λ l. members_upto l c) same ∙ cut)
+      each x e = grind (arith, common_steps, bytes_eq-Decides, upto-twice)
 
   module _ (bound : ℕ → List ℕ → ℕ → ℕ) (best : ℕ) where
     pub live-shut : (rest c : ℕ) (set : List ℕ) → is_open bound m k best c set ≡ false → live_below bound m k best after rest c set ≡ 0
@@ -163,25 +156,14 @@ module _ (m k : ℕ) (after : Option (List ℕ)) where
     live-shut (suc rest) c set shut = rw shut
 
     pub live-past : (rest c : ℕ) (set : List ℕ) → is_ahead m k after c set ≡ false → live_below bound m k best after rest c set ≡ 0
-    live-past zero c set past = elim (cases_Bool (is_open bound m k best c set)) [
-      | inl is ↦ rw (is, past)
-      | inr shut ↦ live-shut zero c set shut
-    ]
-    live-past (suc rest) c set past = elim (cases_Bool (is_open bound m k best c set)) [
-      | inl is ↦ rw (is, past)
-      | inr shut ↦ live-shut (suc rest) c set shut
-    ]
+    live-past zero c set past = grind (arith, common_steps, cases_Bool, live-shut)
+    live-past (suc rest) c set past = grind (arith, common_steps, cases_Bool, live-shut)
 
     -- where all committees below come after the start, those still to be entered are live
     pub live-open : (rest c : ℕ) (set : List ℕ) → c + rest ≡ m → IsIncreasing 1 c set → AllAhead c set
         → live_below bound m k best after rest c set ≡ open_below bound m k best rest c set
-    live-open zero c set e up all = elim (cases_Bool (is_open bound m k best c set)) [
-      | inr shut ↦ live-shut zero c set shut ∙ sym (open-none bound m k best zero c set shut)
-      | inl is ↦
-          let sizes = open-sizes bound m k best c set is in
-          let ahead = ahead-here c c set (omega (arith, e)) (omega arith) up sizes.0 sizes.1 all in
-          rw (is, ahead)
-    ]
+    live-open zero c set e up all =
+        grind (arith, common_steps, cases_Bool, live-shut, open-none, open-sizes, ahead-here)
     live-open (suc rest) c set e up all = elim (cases_Bool (is_open bound m k best c set)) [
       | inr shut ↦ live-shut (suc rest) c set shut ∙ sym (open-none bound m k best (suc rest) c set shut)
       | inl is ↦
@@ -194,53 +176,30 @@ module _ (m k : ℕ) (after : Option (List ℕ)) where
     ]
       where
         ahead-without : (n : ℕ) (s : List ℕ) → n < m → length s ≤ k → AllAhead n s → AllAhead (n + 1) s
-        ahead-without n s more few all' test is = elim (cases_lt (length s) k) [
-          | inl small ↦
-              all' test (ap (list_any test) (below-split m k n s more small)
-              ∙ any-back test (committees_below m k (n + 1) (s ++ (n + 1) ∷ [])) (committees_below m k (n + 1) s) is)
-          | inr enough ↦
-              let full : length s ≡ k = omega (arith, few, enough) in
-              all' test (ap (list_any test) (below-full m k n s full ∙ sym (below-full m k (n + 1) s full)) ∙ is)
-        ]
+        ahead-without n s more few all' test is =
+            grind (arith, common_steps, cases_lt, below-split, any-back, below-full)
 
         live-grown : (r n : ℕ) (s : List ℕ) → n + suc r ≡ m → IsIncreasing 1 n s → length s ≤ k → AllAhead n s
             → (IsIncreasing 1 (n + 1) (s ++ (n + 1) ∷ []) → AllAhead (n + 1) (s ++ (n + 1) ∷ [])
             → live_below bound m k best after r (n + 1) (s ++ (n + 1) ∷ []) ≡ open_below bound m k best r (n + 1) (s ++ (n + 1) ∷ []))
             → live_below bound m k best after r (n + 1) (s ++ (n + 1) ∷ []) ≡ open_below bound m k best r (n + 1) (s ++ (n + 1) ∷ [])
-        live-grown r n s e' up' few all' again = elim (cases_lt (length s) k) [
-          | inl small ↦
-              again (IsIncreasing-push 1 n s (n + 1) up' (omega arith) (omega arith))
-              (λ test is. all' test (ap (list_any test) (below-split m k n s (omega (arith, e')) small)
-              ∙ any-front test (committees_below m k (n + 1) (s ++ (n + 1) ∷ [])) (committees_below m k (n + 1) s) is))
-          | inr enough ↦
-              let large : k < length (s ++ (n + 1) ∷ []) = omega (arith, enough, length-append s ((n + 1) ∷ [])) in
-              let shut = shut-large bound m k best (n + 1) (s ++ (n + 1) ∷ []) large in
-              live-shut r (n + 1) (s ++ (n + 1) ∷ []) shut ∙ sym (open-none bound m k best r (n + 1) (s ++ (n + 1) ∷ []) shut)
-        ]
+        live-grown r n s e' up' few all' again =
+            grind (arith, common_steps, cases_lt, IsIncreasing-push, below-split, any-front, length-append, shut-large, live-shut, open-none)
 
     -- ---- on the way down to the start: the prefix with the next candidate, and the one without
     module _ (c : ℕ) (set : List ℕ) (more : c < m) (up : IsIncreasing 1 c set) (is : is_open bound m k best c set ≡ true) where
       live-split : is_ahead m k after c set ≡ true → live_below bound m k best after (m - c) c set
           ≡ 1 + live_below bound m k best after (m - (c + 1)) (c + 1) (set ++ (c + 1) ∷ []) + live_below bound m k best after (m - (c + 1)) (c + 1) set
-      live-split ahead =
-          let count : m - c ≡ suc (m - (c + 1)) = omega arith in
-          let grown : with_member set (c + 1) ≡ set ++ (c + 1) ∷ [] = with_member-above 1 c set (c + 1) up (omega arith) in
-          rw (count, is, ahead, grown)
+      live-split ahead = grind (arith, common_steps, with_member-above)
 
       -- no more than the prefix itself, those with the next candidate, and those without
       pub live-parts : live_below bound m k best after (m - c) c set
           ≤ 1 + live_below bound m k best after (m - (c + 1)) (c + 1) (set ++ (c + 1) ∷ []) + live_below bound m k best after (m - (c + 1)) (c + 1) set
-      live-parts = elim (cases_Bool (is_ahead m k after c set)) [
-        | inl ahead ↦ omega (arith, live-split ahead)
-        | inr past ↦ omega (arith, live-past (m - c) c set past)
-      ]
+      live-parts = grind (arith, common_steps, cases_Bool, live-split, live-past)
 
       -- the parts of a prefix that the walk is past are past
       past-part : (next : List ℕ) → members_upto next c ≡ set → is_ahead m k after c set ≡ false → live_below bound m k best after (m - (c + 1)) (c + 1) next ≡ 0
-      past-part next cut past = elim (cases_Bool (is_ahead m k after (c + 1) next)) [
-        | inl ahead ↦ absurd (false≢true (sym past ∙ ahead-beginning c next set cut ahead))
-        | inr here ↦ live-past (m - (c + 1)) (c + 1) next here
-      ]
+      past-part next cut past = grind (arith, common_steps, cases_Bool, false≢true, ahead-beginning, live-past)
 
       upto-set : members_upto set c ≡ set
       upto-set = upto-all 1 c set up
@@ -249,10 +208,7 @@ module _ (m k : ℕ) (after : Option (List ℕ)) where
       upto-grown = upto-part c c (c + 1) set ((c + 1) ∷ []) (omega arith) up (omega arith, omega arith, tt)
 
       pub down-without : live_below bound m k best after (m - (c + 1)) (c + 1) set ≤ live_below bound m k best after (m - c) c set
-      down-without = elim (cases_Bool (is_ahead m k after c set)) [
-        | inl ahead ↦ omega (arith, live-split ahead)
-        | inr past ↦ omega (arith, past-part set upto-set past)
-      ]
+      down-without = grind (arith, common_steps, cases_Bool, live-split, past-part, upto-set)
 
       pub down-with : AllAhead (c + 1) set
           → live_below bound m k best after (m - (c + 1)) (c + 1) (set ++ (c + 1) ∷ []) + open_below bound m k best (m - (c + 1)) (c + 1) set ≤ live_below bound m k best after (m - c) c set
@@ -278,17 +234,11 @@ module _ (m k : ℕ) where
   -- the committees after one of them are those after the last of its beginnings, and then those after the beginning
   pub after-append : (front set rest : List ℕ) → committees_after m k front (set ++ rest) ≡ committees_after m k (front ++ set) rest ++ committees_after m k front set
   after-append front [] rest = ap (λ f. committees_after m k f rest) (sym (append-nil front)) ∙ sym (append-nil (committees_after m k (front ++ []) rest))
-  after-append front (x ∷ set) rest =
-      ap (λ ls. ls ++ committees_below m k x front) (after-append (front ++ x ∷ []) set rest)
-      ∙ append_assoc (committees_after m k ((front ++ x ∷ []) ++ set) rest) (committees_after m k (front ++ x ∷ []) set) (committees_below m k x front)
-      ∙ ap (λ f. committees_after m k f rest ++ committees_after m k front (x ∷ set)) (append_assoc front (x ∷ []) set)
+  after-append front (x ∷ set) rest = grind (arith, common_steps, after-append (front ++ x ∷ []) set rest, append_assoc)
 
   in-after : (test : List ℕ → Bool) (set rest : List ℕ) (n : ℕ) → list_any test (committees_below m k n set) ≡ true
       → list_any test (committees_after m k [] (set ++ n ∷ rest)) ≡ true
-  in-after test set rest n is =
-      ap (list_any test) (after-append [] set (n ∷ rest))
-      ∙ any-front test (committees_after m k (set ++ n ∷ []) rest ++ committees_below m k n set) (committees_after m k [] set)
-      (any-back test (committees_after m k (set ++ n ∷ []) rest) (committees_below m k n set) is)
+  in-after test set rest n is = grind (arith, common_steps, after-append, any-front, any-back)
 
   -- without a member of the start, and with all before it, come committees after the start
   pub ahead-start : (start set rest : List ℕ) (n : ℕ) → IsIncreasing 1 m start → length start ≡ k → start ≡ set ++ n ∷ rest → AllAhead m k (Some start) n set
@@ -320,11 +270,7 @@ module _ (m k : ℕ) where
 
   -- each beginning of a start is a place
   pub place-upto : (c : ℕ) (start set : List ℕ) → c ≤ m → IsIncreasing 1 m start → length start ≡ k → set ≡ members_upto start c → IsPlace m k (Some (prefix_at c set))
-  place-upto c start set inside up size is = (
-    inside,
-    subst (IsIncreasing 1 c) (sym is) (upto-increasing 1 m c start up),
-    omega (arith, ap length is, upto-few c start up size),
-  )
+  place-upto c start set inside up size is = grind (arith, common_steps, upto-increasing, upto-few)
 
   -- a step down: what is live below the next beginning, and what is still to be entered after it, is no more
   pub down-step : (bound : ℕ → List ℕ → ℕ → ℕ) (best c : ℕ) (start : List ℕ) → c < m → IsIncreasing 1 m start → length start ≡ k
@@ -346,9 +292,4 @@ pub winners-left : (value : List ℕ → ℕ) (n m k best : ℕ) (sets : List (L
     → those_reaching value best sets ≡ those_reaching value best (later_than start (increasing_lists 1 n k)) → after ≡ start
     → those_reaching value best sets ≡ later_than after (winners value m k)
 winners-left value n m k best sets start after count greatest left is =
-    let all = increasing_lists 1 n k in
-    left ∙ later_than-filter (λ set. nat_le best (value set)) start all
-    ∙ ap (λ b. later_than start (filter (λ set. nat_le b (value set)) all)) greatest
-    ∙ ap (later_than start) (sym (winners-from_best value n k))
-    ∙ ap (λ x. later_than start (winners value x k)) count
-    ∙ ap (λ s. later_than s (winners value m k)) (sym is)
+    grind (arith, common_steps, later_than-filter, filter, winners-from_best)

@@ -1,5 +1,6 @@
 -- Which prefixes the count of the live ones counts.
-use Rattle.std.proofs.Common.{◌≡◌, ℕ, zero, suc, ◌+◌, ◌-◌, ◌≤◌, true, List, Option, refl, sym, subst, arith, inl, inr}
+use Rattle.std.proofs.lemmas.Grind.{common_steps}
+use Rattle.std.proofs.Common.{◌≡◌, ℕ, zero, suc, ◌+◌, ◌-◌, ◌≤◌, true, List, Option, refl, sym, subst, arith}
 use Rattle.std.proofs.lemmas.Bool.{cases_Bool}
 use Rattle.ballot_base.specs.Lists.{IsIncreasing}
 use Rattle.ballot_base.specs.CandSet.{members_upto}
@@ -13,23 +14,15 @@ module _ (bound : ℕ → List ℕ → ℕ → ℕ) (m k best : ℕ) (after : Op
   counted (suc rest) c set opened ahead = rw (opened, ahead) (omega arith)
 
   open-counted : (rest c : ℕ) (set : List ℕ) → 1 ≤ live_below bound m k best after rest c set → is_open bound m k best c set ≡ true
-  open-counted rest c set some = elim (cases_Bool (is_open bound m k best c set)) [
-    | inl is ↦ is
-    | inr shut ↦ absurd (omega (arith, some, live-shut m k after bound best rest c set shut))
-  ]
+  open-counted rest c set some = grind (arith, common_steps, cases_Bool, live-shut)
 
   ahead-counted : (rest c : ℕ) (set : List ℕ) → 1 ≤ live_below bound m k best after rest c set → is_ahead m k after c set ≡ true
-  ahead-counted rest c set some = elim (cases_Bool (is_ahead m k after c set)) [
-    | inl is ↦ is
-    | inr past ↦ absurd (omega (arith, some, live-past m k after bound best rest c set past))
-  ]
+  ahead-counted rest c set some = grind (arith, common_steps, cases_Bool, live-past)
 
   -- what is ahead has all its beginnings ahead
   ahead-down : (d c e : ℕ) (set : List ℕ) → e ≡ c + d → is_ahead m k after e (members_upto set e) ≡ true
       → is_ahead m k after c (members_upto set c) ≡ true
-  ahead-down zero c e set same is =
-      let here : e ≡ c = omega (arith, same) in
-      subst (λ n. is_ahead m k after n (members_upto set n) ≡ true) here is
+  ahead-down zero c e set same is = grind (arith, common_steps)
   ahead-down (suc d) c e set same is =
       let next : e ≡ (c + d) + 1 = omega (arith, same) in
       let last = subst (λ n. is_ahead m k after n (members_upto set n) ≡ true) next is in
@@ -48,11 +41,4 @@ module _ (bound : ℕ → List ℕ → ℕ → ℕ) (m k best : ℕ) (after : Op
   pub counted-live : (prefix : Prefix) → IsIncreasing 1 prefix.c prefix.set → prefix.c ≤ m
       → ((c : ℕ) → c ≤ prefix.c → 1 ≤ live_below bound m k best after (m - c) c (members_upto prefix.set c))
       → IsLive bound m k best after prefix
-  counted-live prefix up inside each =
-      let whole = upto-all 1 prefix.c prefix.set up in
-      let last = ahead-counted (m - prefix.c) prefix.c (members_upto prefix.set prefix.c) (each prefix.c (omega arith)) in (
-        up,
-        inside,
-        λ c low. open-counted (m - c) c (members_upto prefix.set c) (each c low),
-        subst (λ set. is_ahead m k after prefix.c set ≡ true) whole last,
-      )
+  counted-live prefix up inside each = grind (arith, common_steps, upto-all, ahead-counted, open-counted)

@@ -1,15 +1,15 @@
 -- The walk over the winners: which prefixes are still to be entered, and which committees reach the best value.
-use Rattle.std.proofs.Common.{◌≡◌, ℕ, zero, suc, ◌+◌, ◌-◌, ◌^◌, ◌<◌, ◌≤◌, ◌&&◌, ◌∙◌, true, false, cond, List, [], ◌∷◌, ◌++◌, Option, None, Some, refl, sym, ap, arith, inl, inr, length, length-append, append_assoc, append-nil}
+use Rattle.std.proofs.lemmas.Grind.{common_steps}
+use Rattle.std.proofs.Common.{◌≡◌, ℕ, zero, suc, ◌+◌, ◌-◌, ◌^◌, ◌<◌, ◌≤◌, ◌∙◌, true, false, cond, List, [], ◌∷◌, ◌++◌, Option, None, Some, refl, sym, ap, arith, length, length-append, append_assoc, append-nil}
 use Rattle.std.specs.Prelude.{nat_le}
 use Rattle.std.specs.List.{AllByRecursion}
 use Rattle.std.proofs.Math.Nat.{pow-suc, pow-le-pow_right}
 use Rattle.std.proofs.lemmas.Bool.{cases_Bool, cases_lt, le-leb, lt-leb, leb-true, and_parts, and_from}
 use Rattle.std.proofs.lemmas.List.Elements.{filter-append}
 use Rattle.ballot_base.specs.Lists.{IsIncreasing}
-use Rattle.ballot_base.specs.CandSet.{with_member}
 use Rattle.ballot_base.proofs.Increasing.{with_member-above}
 use Rattle.tie_walk.specs.Ceilings.{IsBound, is_open}
-use Rattle.tie_walk.specs.Steps.Walks.{committees_below, committees_after, committees_from, IsPlace, IsPast, work_left, those_reaching, open_below, open_after, open_from}
+use Rattle.tie_walk.specs.Steps.Walks.{committees_below, committees_from, IsPlace, IsPast, work_left, those_reaching, open_below, open_after, open_from}
 use Rattle.tie_walk.specs.declared.prefix.Prefix.{Prefix}
 use Rattle.tie_walk.proofs.WalkLemmas.{below-full, below-short, below-bounded, from-grown, from-past, work-grown}
 
@@ -21,9 +21,7 @@ module _ (value : List ℕ → ℕ) (best : ℕ) where
 
   pub none_reaching : (bound : ℕ) (lists : List (List ℕ)) → bound < best → AllByRecursion (λ s. value s ≤ bound) lists → those_reaching value best lists ≡ []
   none_reaching bound [] low all = refl
-  none_reaching bound (l ∷ lists) low all =
-      let under : nat_le best (value l) ≡ false = lt-leb best (value l) (omega (arith, low, all.0)) in
-      rw under (none_reaching bound lists low all.1)
+  none_reaching bound (l ∷ lists) low all = grind (arith, common_steps, none_reaching bound lists low all.1, lt-leb)
 
   -- what nothing is left of has nothing in its parts
   pub none-last : (xs ys : List (List ℕ)) → those_reaching value best (xs ++ ys) ≡ [] → those_reaching value best ys ≡ []
@@ -42,18 +40,12 @@ module _ (value : List ℕ → ℕ) (best : ℕ) where
 
     pub reaching-past : (prefix : Prefix) (next : Option Prefix) → IsPast prefix next → those_reaching value best (committees_below m k prefix.c prefix.set) ≡ []
         → those_reaching value best (committees_from m k (Some prefix)) ≡ those_reaching value best (committees_from m k next)
-    reaching-past prefix next is none =
-        reaching-append (committees_below m k prefix.c prefix.set) (committees_after m k [] prefix.set)
-        ∙ ap (λ ls. ls ++ those_reaching value best (committees_after m k [] prefix.set)) none
-        ∙ ap (those_reaching value best) (sym (from-past m k prefix next is))
+    reaching-past prefix next is none = grind (arith, common_steps, reaching-append, from-past)
 
     -- a whole committee, and what comes after it
     pub reaching-whole : (prefix : Prefix) (next : Option Prefix) → IsPast prefix next → length prefix.set ≡ k
         → those_reaching value best (committees_from m k (Some prefix)) ≡ cond (nat_le best (value prefix.set)) (prefix.set ∷ []) [] ++ those_reaching value best (committees_from m k next)
-    reaching-whole prefix next is full =
-        reaching-append (committees_below m k prefix.c prefix.set) (committees_after m k [] prefix.set)
-        ∙ ap (λ ls. those_reaching value best ls ++ those_reaching value best (committees_after m k [] prefix.set)) (below-full m k prefix.c prefix.set full)
-        ∙ ap (λ ls. cond (nat_le best (value prefix.set)) (prefix.set ∷ []) [] ++ those_reaching value best ls) (sym (from-past m k prefix next is))
+    reaching-whole prefix next is full = grind (arith, common_steps, reaching-append, below-full, from-past)
 
 shrinks : (m c : ℕ) → c < m → 3 ^ (m - (c + 1)) < 3 ^ (m - c)
 shrinks m c more =
@@ -68,54 +60,29 @@ module _ (m k : ℕ) where
   pub from-first : (prefix next : Prefix) → prefix.c < m → IsPlace m k (Some prefix) → next.c ≡ prefix.c + 1
       → (length prefix.set < k → next.set ≡ prefix.set ++ (prefix.c + 1) ∷ []) → (length prefix.set ≡ k → next.set ≡ prefix.set)
       → (committees_from m k (Some next) ≡ committees_from m k (Some prefix)) × (work_left m (Some next) < work_left m (Some prefix))
-  from-first prefix next more here at grown full = elim (cases_lt (length prefix.set) k) [
-    | inl few ↦ (
-      rw (at, grown few) (from-grown m k prefix.c prefix.set more few),
-      rw (at, grown few) (work-grown m k prefix.c prefix.set more),
-    )
-    | inr enough ↦ (
-      let all : length prefix.set ≡ k = omega (arith, enough, here.2) in
-          rw (at, full all)
-          (ap (λ ls. ls ++ committees_after m k [] prefix.set) (below-full m k (prefix.c + 1) prefix.set all ∙ sym (below-full m k prefix.c prefix.set all))),
-      let all : length prefix.set ≡ k = omega (arith, enough, here.2) in
-          rw (at, full all) (omega (arith, shrinks m prefix.c more)),
-    )
-  ]
+  from-first prefix next more here at grown full =
+      grind (arith, common_steps, cases_lt, from-grown, work-grown, below-full, shrinks)
 
 -- ---- prefixes still to be entered
 
 module _ (bound : ℕ → List ℕ → ℕ → ℕ) (m k best : ℕ) where
   pub open-is : (c : ℕ) (set : List ℕ) → length set ≤ k → k ≤ length set + (m - c) → best ≤ bound c set (k - length set) → is_open bound m k best c set ≡ true
-  open-is c set few enough reaches =
-      and_from (nat_le (length set) k && nat_le k (length set + (m - c))) (nat_le best (bound c set (k - length set)))
-      (and_from (nat_le (length set) k) (nat_le k (length set + (m - c))) (le-leb (length set) k few) (le-leb k (length set + (m - c)) enough))
-      (le-leb best (bound c set (k - length set)) reaches)
+  open-is c set few enough reaches = grind (arith, common_steps, and_from, le-leb)
 
   pub open-sizes : (c : ℕ) (set : List ℕ) → is_open bound m k best c set ≡ true → (length set ≤ k) × (k ≤ length set + (m - c))
-  open-sizes c set is =
-      let parts = and_parts (nat_le (length set) k && nat_le k (length set + (m - c))) (nat_le best (bound c set (k - length set))) is in
-      let sizes = and_parts (nat_le (length set) k) (nat_le k (length set + (m - c))) parts.0 in
-      (leb-true (length set) k sizes.0, leb-true k (length set + (m - c)) sizes.1)
+  open-sizes c set is = grind (arith, common_steps, and_parts, leb-true)
 
   pub open-reaches : (c : ℕ) (set : List ℕ) → is_open bound m k best c set ≡ true → best ≤ bound c set (k - length set)
-  open-reaches c set is =
-      let parts = and_parts (nat_le (length set) k && nat_le k (length set + (m - c))) (nat_le best (bound c set (k - length set))) is in
-      leb-true best (bound c set (k - length set)) parts.1
+  open-reaches c set is = grind (arith, common_steps, and_parts, leb-true)
 
   pub shut-large : (c : ℕ) (set : List ℕ) → k < length set → is_open bound m k best c set ≡ false
   shut-large c set large = rw (lt-leb (length set) k large)
 
   pub shut-short : (c : ℕ) (set : List ℕ) → length set + (m - c) < k → is_open bound m k best c set ≡ false
-  shut-short c set few = elim (cases_Bool (is_open bound m k best c set)) [
-    | inl is ↦ absurd (omega (arith, (open-sizes c set is).1, few))
-    | inr shut ↦ shut
-  ]
+  shut-short c set few = grind (arith, common_steps, cases_Bool, open-sizes)
 
   pub shut-low : (c : ℕ) (set : List ℕ) → bound c set (k - length set) < best → is_open bound m k best c set ≡ false
-  shut-low c set low = elim (cases_Bool (is_open bound m k best c set)) [
-    | inl is ↦ absurd (omega (arith, open-reaches c set is, low))
-    | inr shut ↦ shut
-  ]
+  shut-low c set low = grind (arith, common_steps, cases_Bool, open-reaches)
 
   pub open-none : (rest c : ℕ) (set : List ℕ) → is_open bound m k best c set ≡ false → open_below bound m k best rest c set ≡ 0
   open-none zero c set shut = rw shut
@@ -125,25 +92,15 @@ module _ (bound : ℕ → List ℕ → ℕ → ℕ) (m k best : ℕ) where
   pub open-split : (c : ℕ) (set : List ℕ) → c < m → IsIncreasing 1 c set → is_open bound m k best c set ≡ true
       → open_below bound m k best (m - c) c set
       ≡ 1 + open_below bound m k best (m - (c + 1)) (c + 1) (set ++ (c + 1) ∷ []) + open_below bound m k best (m - (c + 1)) (c + 1) set
-  open-split c set more up is =
-      let count : m - c ≡ suc (m - (c + 1)) = omega arith in
-      let grown : with_member set (c + 1) ≡ set ++ (c + 1) ∷ [] = with_member-above 1 c set (c + 1) up (omega arith) in
-      rw (count, is, grown)
+  open-split c set more up is = grind (arith, common_steps, with_member-above)
 
   pub open-last : (c : ℕ) (set : List ℕ) → m ≤ c → is_open bound m k best c set ≡ true → open_below bound m k best (m - c) c set ≡ 1
-  open-last c set last is =
-      let none : m - c ≡ 0 = omega arith in
-      rw (none, is)
+  open-last c set last is = grind (arith, common_steps)
 
   pub open_after-push : (front set : List ℕ) (n : ℕ)
       → open_after bound m k best front (set ++ n ∷ []) ≡ open_below bound m k best (m - n) n (front ++ set) + open_after bound m k best front set
   open_after-push front [] n = omega (arith, ap (open_below bound m k best (m - n) n) (append-nil front))
-  open_after-push front (x ∷ set) n =
-      omega (
-        arith,
-        open_after-push (front ++ x ∷ []) set n,
-        ap (open_below bound m k best (m - n) n) (append_assoc front (x ∷ []) set),
-      )
+  open_after-push front (x ∷ set) n = grind (arith, common_steps, open_after-push (front ++ x ∷ []) set n, append_assoc)
 
   pub open-past : (prefix : Prefix) (next : Option Prefix) → IsPast prefix next → open_from bound m k best next ≡ open_after bound m k best [] prefix.set
   open-past prefix None is = sym (ap (open_after bound m k best []) is)
@@ -159,20 +116,8 @@ module _ (bound : ℕ → List ℕ → ℕ → ℕ) (m k best : ℕ) where
       → (length prefix.set < k → next.set ≡ prefix.set ++ (prefix.c + 1) ∷ []) → (length prefix.set ≡ k → next.set ≡ prefix.set)
       → is_open bound m k best prefix.c prefix.set ≡ true
       → 1 + open_from bound m k best (Some next) ≡ open_from bound m k best (Some prefix)
-  entered-first prefix next more here at grown full is = elim (cases_lt (length prefix.set) k) [
-    | inl few ↦
-        rw (at, grown few)
-        (omega (arith, open-split prefix.c prefix.set more here.1 is, open_after-push [] prefix.set (prefix.c + 1)))
-    | inr enough ↦
-        let all : length prefix.set ≡ k = omega (arith, enough, here.2) in
-        let large : k < length (prefix.set ++ (prefix.c + 1) ∷ []) = omega (arith, all, length-append prefix.set ((prefix.c + 1) ∷ [])) in
-        rw (at, full all)
-        (omega (
-          arith,
-          open-split prefix.c prefix.set more here.1 is,
-          open-none (m - (prefix.c + 1)) (prefix.c + 1) (prefix.set ++ (prefix.c + 1) ∷ []) (shut-large (prefix.c + 1) (prefix.set ++ (prefix.c + 1) ∷ []) large),
-        ))
-  ]
+  entered-first prefix next more here at grown full is =
+      grind (arith, common_steps, cases_lt, open-split, open_after-push, length-append, open-none, shut-large)
 
   pub entered-last : (prefix : Prefix) (next : Option Prefix) → IsPast prefix next → m ≤ prefix.c → is_open bound m k best prefix.c prefix.set ≡ true
       → 1 + open_from bound m k best next ≡ open_from bound m k best (Some prefix)

@@ -1,4 +1,5 @@
 -- In which ranges values and bounds lie, whatever the election is.
+use Rattle.std.proofs.lemmas.Grind.{common_steps}
 use Rattle.std.proofs.Common.{◌≡◌, ℕ, zero, suc, ◌+◌, ◌-◌, ◌*◌, ◌/◌, ◌^◌, ◌<◌, ◌≤◌, ◌∙◌, Bool, true, false, cond, List, [], ◌∷◌, ◌++◌, add-one, ap, arith, get_or, length, lit≤, map, refl, sum, sum_by, sym, take}
 use Rattle.std.specs.Prelude.{nat_le}
 use Rattle.std.specs.List.{range_with_len}
@@ -90,19 +91,12 @@ geometric-by rule e k committee valid each =
 pub geometric : (e : Election) (k : ℕ) (committee : List ℕ) → IsElection e → k ≤ most_members
     → (thiele_value (increments Geom2 k) e.rows committee < 2 ^ 114) × (thiele_value (increments Geom3 k) e.rows committee < 2 ^ 114)
     × (thiele_value (increments Geom4 k) e.rows committee < 2 ^ 114)
-geometric e k committee valid most = (
-  geometric-by Geom2 e k committee valid (λ j h. power-most 2 k j (omega arith) (omega arith) most),
-  geometric-by Geom3 e k committee valid (λ j h. power-most 3 k j (omega arith) (omega arith) most),
-  geometric-by Geom4 e k committee valid (λ j h. power-most 4 k j (omega arith) (omega arith) most),
-)
+geometric e k committee valid most = grind (arith, common_steps, geometric-by, power-most)
 
 -- the shares of the members whom a ballot approves are no more than the whole
 shares-most : (whole n h : ℕ) → h ≤ n → n ≤ most_candidates → h * get_or (parts whole) n 0 ≤ whole
 shares-most whole zero h few most = omega (arith, ap (λ x. h * x) (parts-first whole))
-shares-most whole (suc n) h few most =
-    let here : h * get_or (parts whole) (suc n) 0 ≡ h * (whole / suc n) = ap (λ x. h * x) (parts-at whole (suc n) (omega arith) most) in
-    let less : h * (whole / suc n) ≤ suc n * (whole / suc n) = mul-le-mul {n₁ = h} few (omega arith) in
-    omega (arith, here, less, mul-div-le whole (suc n))
+shares-most whole (suc n) h few most = grind (arith, common_steps, get_or, parts-at, mul-le-mul, mul-div-le)
 
 pub satisfaction : (e : Election) (committee : List ℕ) → IsElection e → satisfaction_value e.m e.rows committee < 2 ^ 125
 satisfaction e committee valid =
@@ -177,11 +171,7 @@ pub geometric-ceiling : (e : Election) (k c : ℕ) (set : List ℕ) (left : ℕ)
     → left ≤ e.m - c → (ceiling (thiele_value (increments Geom2 k) e.rows) e.m c set left ≤ 2 ^ 116)
     × (ceiling (thiele_value (increments Geom3 k) e.rows) e.m c set left ≤ 2 ^ 116)
     × (ceiling (thiele_value (increments Geom4 k) e.rows) e.m c set left ≤ 2 ^ 116)
-geometric-ceiling e k c set left valid small inside up fits = (
-  geometric-by_denominator Geom2 e k c set left valid small inside up fits,
-  geometric-by_denominator Geom3 e k c set left valid small inside up fits,
-  geometric-by_denominator Geom4 e k c set left valid small inside up fits,
-)
+geometric-ceiling e k c set left valid small inside up fits = grind (arith, common_steps, geometric-by_denominator)
 
 -- the bound is the value of some committee
 pub satisfaction-ceiling : (e : Election) (c : ℕ) (set : List ℕ) (left : ℕ) → IsElection e → c ≤ e.m → IsIncreasing 1 c set → left ≤ e.m - c

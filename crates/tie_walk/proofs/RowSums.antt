@@ -1,4 +1,5 @@
 -- Sums over the rows of a profile, of the voters of each times what one of them gives.
+use Rattle.std.proofs.lemmas.Grind.{common_steps}
 use Rattle.std.proofs.Common.{◌≡◌, ℕ, ◌+◌, ◌-◌, ◌*◌, ◌/◌, ◌<◌, ◌≤◌, ◌^◌, ◌==◌, ◌∙◌, List, [], ◌∷◌, Some, not, cond, filter, refl, ap, arith, length, take, get_or, slice_get, sum, sum_by}
 use Rattle.std.proofs.Math.Nat.{mul-le-mul, mul-le-mul_left}
 use Rattle.std.specs.List.{AllByRecursion}
@@ -70,7 +71,6 @@ thiele_value-by_sums m weights sums (row ∷ rows) committee most all is =
     ap (λ s. row.1 * get_or s (hits row.0 committee) 0) is ∙ ap (λ n. row.1 * n) (prefix_sums-at weights (hits row.0 committee) (hits-most m row.0 committee most all.0)) in
     omega (
       arith,
-      here,
       thiele_value-by_sums m weights sums rows committee most all.1 is,
       sum_by-cons (λ (r : Row). r.1 * get_or sums (hits r.0 committee) 0) row rows,
       sum_by-cons (λ (r : Row). r.1 * sum (take (hits r.0 committee) weights)) row rows,
@@ -81,11 +81,7 @@ pub satisfaction_value-by_parts : (m n : ℕ) (shares : List ℕ) (rows : List R
     → sum_by (λ (r : Row). r.1 * hits r.0 committee * get_or shares (length r.0) 0) rows ≡ satisfaction_value n rows committee
 satisfaction_value-by_parts m n shares [] committee most all is = refl
 satisfaction_value-by_parts m n shares (([], voters) ∷ rows) committee most all is =
-    omega (
-      arith,
-      satisfaction_value-by_parts m n shares rows committee most all.1 is,
-      sum_by-cons (λ (r : Row). r.1 * hits r.0 committee * get_or shares (length r.0) 0) ([], voters) rows,
-    )
+    grind (arith, common_steps, satisfaction_value-by_parts m n shares rows committee most all.1 is, sum_by-cons, get_or)
 satisfaction_value-by_parts m n shares ((x ∷ ballot, voters) ∷ rows) committee most all is =
     let own : List ℕ = x ∷ ballot in
     let row : Row = (x ∷ ballot, voters) in

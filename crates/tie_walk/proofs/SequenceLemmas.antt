@@ -1,13 +1,13 @@
 -- The last level has the sequential winners.
+use Rattle.std.proofs.lemmas.Grind.{common_steps}
 use Rattle.std.proofs.Common.{◌≡◌, ℕ, zero, suc, ◌+◌, ◌-◌, ◌≤◌, ◌==◌, ◌&&◌, ◌||◌, Bool, true, false, not, cond, List, [], ◌∷◌, refl, sym, ap, ◌∙◌, subst, arith, inl, inr, ◌⊎◌, filter, length, Contains, Ordering}
-use Rattle.std.specs.Prelude.{fold, nat_le}
-use Rattle.std.specs.List.{list_all, list_any, range_with_len, AllByRecursion}
+use Rattle.std.specs.Prelude.{fold}
+use Rattle.std.specs.List.{list_any, range_with_len, AllByRecursion}
 use Rattle.std.specs.List.Sorted.{IsStrictlySortedBy}
 use Rattle.std.specs.Cmp.{IsTotalOrder}
 use Rattle.std.specs.Cmp.Lexicographic.{slice_cmp}
 use Rattle.std.specs.Ordering.{nat_cmp, ordering_reverse}
 use Rattle.std.specs.declared.cmp.Ordering.TheVariants.{Less, Equal, Greater}
-use Rattle.std.specs.Str.{bytes_eq}
 use Rattle.std.proofs.lemmas.Bool.{cases_Bool, cases_eq, cases_order, ne_eqb, not-true}
 use Rattle.std.proofs.lemmas.Cmp.{nat_list_cmp_total, tied_itself}
 use Rattle.std.proofs.lemmas.List.Elements.{All-from_recursion, All-contains}
@@ -21,7 +21,7 @@ use Rattle.ballot_base.proofs.FirstMember.{without_member_head}
 use Rattle.ballot_base.proofs.Increasing.{IsIncreasing-filter, has_member-filter, has_member_head, has_member_tail, same_increasing, with_member-lt, with_member-gt}
 use Rattle.ballot_base.proofs.Later.{sorted_from_later}
 use Rattle.ballot_base.proofs.ListLemmas.{Contains-later}
-use Rattle.tie_walk.specs.Sequences.{hit_weights, sequential_winners, loss, has_greatest_gain, has_least_loss, is_grown, is_shrunk, is_grown_set, is_left_set, sequences}
+use Rattle.tie_walk.specs.Sequences.{hit_weights, sequential_winners, has_greatest_gain, is_grown, is_shrunk, is_grown_set, is_left_set}
 use Rattle.tie_walk.specs.Steps.Choices.{step_of, choices_of, may_choose, change, open_candidates, is_choice, start, follows, IsReached, IsLevel}
 use Rattle.tie_walk.specs.declared.sequential.SeqRule.{SeqRule}
 use Rattle.tie_walk.specs.declared.sequential.SeqRule.TheVariants.{SeqPav, SeqCc, RevSeqPav}
@@ -136,37 +136,23 @@ open-left m set up =
     (λ n. has_member-filter (has_member set) (range_with_len 1 m) n ∙ member n)
   where
     member : (n : ℕ) → (has_member set n && has_member (range_with_len 1 m) n) ≡ has_member set n
-    member n = elim (cases_Bool (has_member set n)) [
-      | inl inside ↦
-          let bounds = in_bounds m set n up inside in
-          rw (inside, has_member-range 1 m n bounds.0 (omega (arith, bounds.1)))
-      | inr outside ↦ rw outside
-    ]
+    member n = grind (arith, common_steps, cases_Bool, in_bounds, has_member-range)
 
 pub shrunk-follows : (weights : List ℕ) (m : ℕ) (rows : List Row) (set list : List ℕ) → IsIncreasing 1 m set → is_shrunk weights rows set list ≡ follows (is_choice Shrink weights m rows) (change Shrink) set list
 shrunk-follows weights m rows set [] up = refl
 shrunk-follows weights m rows set (c ∷ list) up =
-    let here : has_least_loss weights rows set c ≡ is_choice Shrink weights m rows set c =
-    ap (λ l. has_member l c && list_all (λ d. nat_le (loss weights rows set c) (loss weights rows set d)) l) (sym (open-left m set up)) in
-    let later = shrunk-follows weights m rows (without_member set c) list (IsIncreasing-filter (λ x. not (x == c)) 1 m set up) in
-    ap (λ b. b && is_shrunk weights rows (without_member set c) list) here ∙ ap (λ b. is_choice Shrink weights m rows set c && b) later
+    grind (arith, common_steps, shrunk-follows weights m rows (without_member set c) list (IsIncreasing-filter (λ x. not (x == c)) 1 m set up), open-left, IsIncreasing-filter, not)
 
 list_any-same : {X : Type 0} (p q : X → Bool) (xs : List X) → ((x : X) → p x ≡ q x) → list_any p xs ≡ list_any q xs
 list_any-same p q [] same = refl
 list_any-same p q (x ∷ xs) same = ap (λ b. b || list_any p xs) (same x) ∙ ap (λ b. q x || b) (list_any-same p q xs same)
 
 pub grown_set-made : (weights : List ℕ) (m : ℕ) (rows : List Row) (k : ℕ) (set : List ℕ) → is_grown_set weights m rows k set ≡ is_made (is_choice Grow weights m rows) (change Grow) m [] k set
-grown_set-made weights m rows k set =
-    list_any-same (λ list. is_grown weights m rows [] list && bytes_eq (fold with_member [] list) set) (λ list. follows (is_choice Grow weights m rows) (change Grow) [] list && bytes_eq (fold (change Grow) [] list) set) (sequences m k)
-    (λ list. ap (λ b. b && bytes_eq (fold with_member [] list) set) (grown-follows weights m rows [] list)
-    ∙ ap (λ l. follows (is_choice Grow weights m rows) (change Grow) [] list && bytes_eq l set) (sym (fold-grow [] list)))
+grown_set-made weights m rows k set = grind (arith, common_steps, list_any-same, grown-follows, fold-grow)
 
 pub left_set-made : (weights : List ℕ) (m : ℕ) (rows : List Row) (k : ℕ) (set : List ℕ) → is_left_set weights m rows k set ≡ is_made (is_choice Shrink weights m rows) (change Shrink) m (range_with_len 1 m) (m - k) set
 left_set-made weights m rows k set =
-    let all = range_with_len 1 m in
-    list_any-same (λ list. is_shrunk weights rows all list && bytes_eq (fold without_member all list) set) (λ list. follows (is_choice Shrink weights m rows) (change Shrink) all list && bytes_eq (fold (change Shrink) all list) set) (sequences m (m - k))
-    (λ list. ap (λ b. b && bytes_eq (fold without_member all list) set) (shrunk-follows weights m rows all list (IsIncreasing-range 1 m m (omega arith)))
-    ∙ ap (λ l. follows (is_choice Shrink weights m rows) (change Shrink) all list && bytes_eq l set) (sym (fold-shrink all list)))
+    grind (arith, common_steps, list_any-same, shrunk-follows, IsIncreasing-range, fold-shrink)
 
 -- ---- the winners
 
@@ -204,8 +190,4 @@ level-sequential RevSeqPav e k sets fits level = winners-left (hit_weights RevSe
 pub winners-sequential : (rule : SeqRule) (e : Election) (k m size : ℕ) (step : Step) (weights table : List ℕ) (sets : List (List ℕ)) → k ≤ e.m → m ≡ e.m → step ≡ step_of rule → size ≡ choices_of rule m k
     → weights ≡ hit_weights rule m → table ≡ weights → IsLevel step table e.m e.rows size sets → sets ≡ sequential_winners rule e k
 winners-sequential rule e k m size step weights table sets fits is by many are same level =
-    level-sequential rule e k sets fits
-    (subst (λ n. IsLevel (step_of rule) (hit_weights rule e.m) e.m e.rows (choices_of rule n k) sets) is
-    (subst (λ n. IsLevel (step_of rule) (hit_weights rule e.m) e.m e.rows n sets) many
-    (subst (λ w. IsLevel (step_of rule) w e.m e.rows size sets) (same ∙ are ∙ ap (hit_weights rule) is)
-    (subst (λ s. IsLevel s table e.m e.rows size sets) by level))))
+    grind (arith, common_steps, level-sequential)

@@ -1,4 +1,5 @@
 -- Walks from a start.
+use Rattle.std.proofs.lemmas.Grind.{common_steps}
 use Rattle.std.proofs.Common.{◌≡◌, ℕ, zero, suc, ◌<◌, ◌≤◌, ◌==◌, Bool, true, false, cond, List, [], ◌∷◌, ◌++◌, refl, sym, ap, ◌∙◌, subst, arith, inl, inr, length, filter, drop, get_or, All, Option, None, Some, Ordering, Less, Equal, Greater}
 use Rattle.std.specs.List.{AllByRecursion}
 use Rattle.std.specs.List.Sorted.{IsPartitionedBy, IsPartitionPoint}
@@ -29,11 +30,7 @@ pub all-later_than : (P : List ℕ → Type 0) (start : Option (List ℕ)) (list
 all-later_than P None lists all = all
 all-later_than P (Some start) [] all = tt
 all-later_than P (Some start) (x ∷ lists) all =
-    let rest = all-later_than P (Some start) lists all.1 in
-    elim (is_later x start) as (λ b. AllByRecursion P (cond b (x ∷ later_than (Some start) lists) (later_than (Some start) lists))) [
-      | true ↦ (all.0, rest)
-      | false ↦ rest
-    ]
+    grind (arith, common_steps, all-later_than P (Some start) lists all.1, Some)
 
 -- after one of the lists come those that stand after it
 pub later_than-at : (lists before after : List (List ℕ)) (start : List ℕ) → AreInOrder lists → lists ≡ before ++ start ∷ after → later_than (Some start) lists ≡ after
@@ -59,11 +56,7 @@ later-from set start size e =
     and_from (length set == length start) (is_gt (slice_cmp nat_cmp set start)) (eq-eqb (length set) (length start) size) (greater-after (slice_cmp nat_cmp set start) e)
 
 earlier-from : (set start : List ℕ) → is_up_to start set ≡ true → is_later set start ≡ false
-earlier-from set start e = elim (cases_Bool (is_later set start)) [
-  | inl later ↦
-      absurd (false≢true (sym (after-greater (slice_cmp nat_cmp set start) e) ∙ (and_parts (length set == length start) (is_gt (slice_cmp nat_cmp set start)) later).1))
-  | inr none ↦ none
-]
+earlier-from set start e = grind (arith, common_steps, cases_Bool, false≢true, after-greater, and_parts)
 
 pub up_to-partitioned : (sets : List (List ℕ)) (start : List ℕ) → AreInOrder sets → All (λ set. length set ≡ length start) sets → IsPartitionedBy (is_up_to start) sets
 up_to-partitioned sets start order sizes i j d le inside e = elim (cases_eq i j) [

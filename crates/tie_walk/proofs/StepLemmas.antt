@@ -1,4 +1,5 @@
 -- The best candidates of a set, found one by one.
+use Rattle.std.proofs.lemmas.Grind.{common_steps}
 use Rattle.std.proofs.Common.{◌≡◌, ℕ, zero, suc, ◌+◌, ◌-◌, ◌<◌, ◌≤◌, ◌^◌, ◌==◌, ◌&&◌, ◌++◌, Bool, true, false, cond, List, [], ◌∷◌, refl, sym, ap, ◌∙◌, arith, inl, inr, map, filter, min, append-nil}
 use Rattle.std.specs.Prelude.{fold, nat_le}
 use Rattle.std.specs.List.{list_all, range_with_len, AllByRecursion}
@@ -22,9 +23,7 @@ range-more a zero j e = ap (λ x. x ∷ []) (omega (arith, e))
 range-more a (suc n) j e = ap (λ l. a ∷ l) (range-more (a + 1) n j (omega (arith, e)))
 
 range-next : (c : ℕ) → 1 ≤ c → range_with_len 1 (c + 1 - 1) ≡ range_with_len 1 (c - 1) ++ c ∷ []
-range-next c low =
-    let e : c + 1 - 1 ≡ suc (c - 1) = omega arith in
-    ap (range_with_len 1) e ∙ range-more 1 (c - 1) c (omega arith)
+range-next c low = grind (arith, common_steps, range-more)
 
 pub filter-next : (p : ℕ → Bool) (c : ℕ) → 1 ≤ c → filter p (range_with_len 1 (c + 1 - 1)) ≡ filter p (range_with_len 1 (c - 1)) ++ cond (p c) (c ∷ []) []
 filter-next p c low = ap (filter p) (range-next c low) ∙ filter-append p (range_with_len 1 (c - 1)) (c ∷ [])
@@ -35,10 +34,7 @@ map-push f (x ∷ xs) ys = ap (λ l. f x ∷ l) (map-push f xs ys)
 
 pub best-taken : (f : ℕ → ℕ → ℕ) (low : ℕ) (w : ℕ → ℕ) (p : ℕ → Bool) (c : ℕ) → 1 ≤ c → p c ≡ true
     → fold f low (map w (filter p (range_with_len 1 (c + 1 - 1)))) ≡ f (fold f low (map w (filter p (range_with_len 1 (c - 1))))) (w c)
-best-taken f low w p c start is =
-    let kept = filter p (range_with_len 1 (c - 1)) in
-    ap (λ l. fold f low (map w l)) (filter-next p c start ∙ ap (λ b. kept ++ cond b (c ∷ []) []) is)
-    ∙ ap (fold f low) (map-push w kept (c ∷ [])) ∙ fold-append f low (map w kept) (w c ∷ [])
+best-taken f low w p c start is = grind (arith, common_steps, filter, map, filter-next, map-push, fold-append)
 
 pub filter-left : (p : ℕ → Bool) (c : ℕ) → 1 ≤ c → p c ≡ false → filter p (range_with_len 1 (c + 1 - 1)) ≡ filter p (range_with_len 1 (c - 1))
 filter-left p c low is =
@@ -46,9 +42,7 @@ filter-left p c low is =
 
 pub map-taken : {X : Type 0} (f : ℕ → X) (p : ℕ → Bool) (c : ℕ) → 1 ≤ c → p c ≡ true
     → map f (filter p (range_with_len 1 (c + 1 - 1))) ≡ map f (filter p (range_with_len 1 (c - 1))) ++ f c ∷ []
-map-taken f p c low is =
-    ap (map f) (filter-next p c low ∙ ap (λ b. filter p (range_with_len 1 (c - 1)) ++ cond b (c ∷ []) []) is)
-    ∙ map-push f (filter p (range_with_len 1 (c - 1))) (c ∷ [])
+map-taken f p c low is = grind (arith, common_steps, map, filter-next, filter, map-push)
 
 pub has_member-range : (a n c : ℕ) → a ≤ c → c < a + n → has_member (range_with_len a n) c ≡ true
 has_member-range a zero c low high = absurd (omega arith)
@@ -89,10 +83,7 @@ module _ {X : Type 0} (value : X → ℕ) where
   pub bounds-lowest : (high bound : ℕ) (xs : List X) → (nat_le bound high && list_all (λ x. nat_le bound (value x)) xs) ≡ nat_le bound (lowest high xs)
   bounds-lowest high bound [] = grind arith
   bounds-lowest high bound (x ∷ xs) =
-      let more = bounds-lowest (min high (value x)) bound xs in
-      let split : nat_le bound (min high (value x)) ≡ (nat_le bound high && nat_le bound (value x)) = grind arith in
-      sym (and_assoc (nat_le bound high) (nat_le bound (value x)) (list_all (λ y. nat_le bound (value y)) xs))
-      ∙ ap (λ b. b && list_all (λ y. nat_le bound (value y)) xs) (sym split) ∙ more
+      grind (arith, common_steps, bounds-lowest (min high (value x)) bound xs, min, and_assoc)
 
 at_most_is_equal : (n best : ℕ) → best ≤ n → nat_le n best ≡ (n == best)
 at_most_is_equal n best h = grind arith
@@ -119,20 +110,7 @@ module _ (step : Step) (weights : List ℕ) (m : ℕ) (rows : List Row) (set : L
   choice-is : ((c : ℕ) → w c ≡ worth step weights rows set c) → ((c : ℕ) → w c ≤ 2 ^ 128 - 1) → best ≡ fold (better step) (worst step) (map w (open_candidates step m set))
       → (c : ℕ) → 1 ≤ c → c < 1 + m → (may_choose step set c && (w c == best)) ≡ is_choice step weights m rows set c
   choice-is are fit is c low high =
-      let all = open_candidates step m set in
-      let member : has_member all c ≡ may_choose step set c = has_member-filter (may_choose step set) (range_with_len 1 m) c ∙ ap (λ b. may_choose step set c && b) (has_member-range 1 m c low high) ∙ and-true (may_choose step set c) in
-      elim (cases_Bool (may_choose step set c)) [
-        | inl open' ↦
-            let inside : has_member all c ≡ true = member ∙ open' in
-            let here : (w c == best) ≡ list_all (λ d. is_no_better step (worth step weights rows set d) (worth step weights rows set c)) all =
-            ap (λ n. w c == n) is ∙ best-is step w all c inside (fit c)
-            ∙ list_all-same (λ d. is_no_better step (w d) (w c)) (λ d. is_no_better step (worth step weights rows set d) (worth step weights rows set c)) all
-            (λ d. ap (λ n. is_no_better step n (w c)) (are d) ∙ ap (λ n. is_no_better step (worth step weights rows set d) n) (are c)) in
-            ap (λ b. b && (w c == best)) (sym member) ∙ ap (λ b. has_member all c && b) here
-        | inr shut ↦
-            and_left (may_choose step set c) (w c == best) shut
-            ∙ sym (and_left (has_member all c) (list_all (λ d. is_no_better step (worth step weights rows set d) (worth step weights rows set c)) all) (member ∙ shut))
-      ]
+      grind (arith, common_steps, has_member-filter, has_member-range, and-true, cases_Bool, best-is, list_all-same, and_left)
 
   -- the candidates with the best worth are the choices
   pub changes-made : ((c : ℕ) → w c ≡ worth step weights rows set c) → ((c : ℕ) → w c ≤ 2 ^ 128 - 1) → best ≡ fold (better step) (worst step) (map w (open_candidates step m set))

@@ -1,12 +1,12 @@
 -- Values whose gains only fall as a set grows: the greatest gains bound every completion.
-use Rattle.std.proofs.Common.{◌≡◌, ℕ, zero, suc, ◌+◌, ◌-◌, ◌*◌, ◌/◌, ◌<◌, ◌≤◌, ◌==◌, ◌||◌, Bool, true, false, cond, List, [], ◌∷◌, ◌++◌, refl, sym, ap, ◌∙◌, arith, append_assoc, length, get_or, take, sum, sum_by, filter, not, append-nil}
+use Rattle.std.proofs.lemmas.Grind.{common_steps}
+use Rattle.std.proofs.Common.{◌≡◌, ℕ, zero, suc, ◌+◌, ◌-◌, ◌*◌, ◌/◌, ◌<◌, ◌≤◌, ◌==◌, ◌||◌, Bool, true, false, cond, List, [], ◌∷◌, ◌++◌, refl, ap, arith, append_assoc, length, get_or, take, sum, sum_by, filter, not, append-nil}
 use Rattle.std.proofs.Math.Nat.{mul-le-mul_left}
 use Rattle.std.proofs.lemmas.List.Elements.{All-from_recursion, All-contains}
 use Rattle.std.proofs.lemmas.List.Folds.{list_any-append}
 use Rattle.std.proofs.lemmas.List.Sums.{sum_by-cons}
 use Rattle.ballot_base.specs.Limits.{most_members}
 use Rattle.ballot_base.specs.Lists.{IsIncreasing, increasing_lists}
-use Rattle.ballot_base.specs.CandSet.{has_member}
 use Rattle.ballot_base.specs.Ballots.{Row, hits}
 use Rattle.ballot_base.specs.CommonMultiple.{common_multiple}
 use Rattle.ballot_base.specs.Increments.{increments}
@@ -32,18 +32,7 @@ module _ (value : List ℕ → ℕ) (falls : IsSubmodular value) where
   pub gains-bound : (set before added : List ℕ) → value ((set ++ before) ++ added) ≤ value (set ++ before) + sum_by (λ n. value (set ++ n ∷ []) - value set) added
   gains-bound set before [] = omega (arith, ap value (append-nil (set ++ before)))
   gains-bound set before (x ∷ added) =
-      let more : value ((set ++ (before ++ x ∷ [])) ++ added) ≤ value (set ++ (before ++ x ∷ [])) + sum_by (λ n. value (set ++ n ∷ []) - value set) added =
-      gains-bound set (before ++ x ∷ []) added in
-      let here : (set ++ before) ++ x ∷ [] ≡ set ++ (before ++ x ∷ []) = append_assoc set before (x ∷ []) in
-      let whole : (set ++ before) ++ x ∷ added ≡ (set ++ (before ++ x ∷ [])) ++ added = sym (append_assoc (set ++ before) (x ∷ []) added) ∙ ap (λ l. l ++ added) here in
-      omega (
-        arith,
-        more,
-        ap value here,
-        ap value whole,
-        falls set before x,
-        sum_by-cons (λ n. value (set ++ n ∷ []) - value set) x added,
-      )
+      grind (arith, common_steps, gains-bound set (before ++ x ∷ []) added, sum_by, append_assoc, sum_by-cons)
 
   same_gains : (c m : ℕ) (set added : List ℕ) → IsIncreasing 1 c set → IsIncreasing (c + 1) m added
       → sum_by (λ n. value (set ++ n ∷ []) - value set) added ≡ sum_by (gain_at value set) added
@@ -52,7 +41,6 @@ module _ (value : List ℕ → ℕ) (falls : IsSubmodular value) where
       let here : gain_at value set x ≡ value (set ++ x ∷ []) - value set = ap (λ s. value s - value set) (with_member-above 1 c set x up (omega (arith, above.0))) in
       omega (
         arith,
-        here,
         same_gains-from (x + 1) added (omega (arith, above.0)) above.2,
         sum_by-cons (λ n. value (set ++ n ∷ []) - value set) x added,
         sum_by-cons (gain_at value set) x added,
@@ -61,13 +49,7 @@ module _ (value : List ℕ → ℕ) (falls : IsSubmodular value) where
       same_gains-from : (first : ℕ) (rest : List ℕ) → c < first → IsIncreasing first m rest → sum_by (λ n. value (set ++ n ∷ []) - value set) rest ≡ sum_by (gain_at value set) rest
       same_gains-from first [] low h = refl
       same_gains-from first (y ∷ rest) low h =
-          omega (
-            arith,
-            ap (λ s. value s - value set) (with_member-above 1 c set y up (omega (arith, h.0))),
-            same_gains-from (y + 1) rest (omega (arith, h.0)) h.2,
-            sum_by-cons (λ n. value (set ++ n ∷ []) - value set) y rest,
-            sum_by-cons (gain_at value set) y rest,
-          )
+          grind (arith, common_steps, same_gains-from (y + 1) rest (omega (arith, h.0)) h.2, with_member-above, sum_by-cons)
 
   -- the greatest gains bound every completion
   pub ceiling-bounds : (m c : ℕ) (set : List ℕ) (left : ℕ) → IsIncreasing 1 c set → IsBound value m c set left (ceiling value m c set left)
@@ -105,53 +87,23 @@ bits-more false false = omega arith
 pub hits-submodular : (ballot set added : List ℕ) (x : ℕ) → hits ballot ((set ++ added) ++ x ∷ []) + hits ballot set ≤ hits ballot (set ++ added) + hits ballot (set ++ x ∷ [])
 hits-submodular [] set added x = omega arith
 hits-submodular (n ∷ ballot) set added x =
-    let p = has_member set n in
-    let q = has_member added n in
-    let e = has_member (x ∷ []) n in
-    let first : has_member (set ++ added) n ≡ (p || q) = list_any-append (λ y. y == n) set added in
-    let one : has_member (set ++ x ∷ []) n ≡ (p || e) = list_any-append (λ y. y == n) set (x ∷ []) in
-    let both : has_member ((set ++ added) ++ x ∷ []) n ≡ ((p || q) || e) = list_any-append (λ y. y == n) (set ++ added) (x ∷ []) ∙ ap (λ b. b || e) first in
-    omega (
-      arith,
-      bits-submodular p q e,
-      ap bit first,
-      ap bit one,
-      ap bit both,
-      hits-submodular ballot set added x,
-      sum_by-cons (λ y. cond (has_member set y) 1 0) n ballot,
-      sum_by-cons (λ y. cond (has_member (set ++ added) y) 1 0) n ballot,
-      sum_by-cons (λ y. cond (has_member (set ++ x ∷ []) y) 1 0) n ballot,
-      sum_by-cons (λ y. cond (has_member ((set ++ added) ++ x ∷ []) y) 1 0) n ballot,
-    )
+    grind (arith, common_steps, hits-submodular ballot set added x, list_any-append, bits-submodular, sum_by-cons)
 
 pub hits-more : (ballot set added : List ℕ) → hits ballot set ≤ hits ballot (set ++ added)
 hits-more [] set added = omega arith
 hits-more (n ∷ ballot) set added =
-    let first : has_member (set ++ added) n ≡ (has_member set n || has_member added n) = list_any-append (λ y. y == n) set added in
-    omega (
-      arith,
-      bits-more (has_member set n) (has_member added n),
-      ap bit first,
-      hits-more ballot set added,
-      sum_by-cons (λ y. cond (has_member set y) 1 0) n ballot,
-      sum_by-cons (λ y. cond (has_member (set ++ added) y) 1 0) n ballot,
-    )
+    grind (arith, common_steps, hits-more ballot set added, list_any-append, bits-more, sum_by-cons)
 
 -- ---- Thiele's rules
 
 module _ (w : List ℕ) (falls : (i : ℕ) → get_or w (i + 1) 0 ≤ get_or w i 0) where
   increments-lower : (i d : ℕ) → get_or w (i + d) 0 ≤ get_or w i 0
   increments-lower i zero = omega (arith, ap (λ n. get_or w n 0) (let e : i + 0 ≡ i = omega arith in e))
-  increments-lower i (suc d) =
-      let e : i + suc d ≡ (i + d) + 1 = omega arith in
-      omega (arith, ap (λ n. get_or w n 0) e, falls (i + d), increments-lower i d)
+  increments-lower i (suc d) = grind (arith, common_steps, increments-lower i d, get_or)
 
   -- later hits bring no more than earlier ones
   later_hits : (low d more : ℕ) → sum (take ((low + d) + more) w) + sum (take low w) ≤ sum (take (low + d) w) + sum (take (low + more) w)
-  later_hits low d zero =
-      let e : (low + d) + 0 ≡ low + d = omega arith in
-      let f : low + 0 ≡ low = omega arith in
-      omega (arith, ap (λ n. sum (take n w)) e, ap (λ n. sum (take n w)) f)
+  later_hits low d zero = grind (arith, common_steps, sum, take)
   later_hits low d (suc more) =
       let e : (low + d) + suc more ≡ ((low + d) + more) + 1 = omega arith in
       let f : low + suc more ≡ (low + more) + 1 = omega arith in
@@ -199,9 +151,6 @@ module _ (w : List ℕ) (falls : (i : ℕ) → get_or w (i + 1) 0 ≤ get_or w i
       let right : row.1 * (worth (set ++ added) + worth (set ++ x ∷ [])) ≡ row.1 * worth (set ++ added) + row.1 * worth (set ++ x ∷ []) = omega arith in
       omega (
         arith,
-        product,
-        left,
-        right,
         thiele-submodular rows set added x,
         sum_by-cons (λ (r : Row). r.1 * sum (take (hits r.0 set) w)) row rows,
         sum_by-cons (λ (r : Row). r.1 * sum (take (hits r.0 (set ++ added)) w)) row rows,
@@ -222,7 +171,6 @@ shares-submodular share (row ∷ rows) set added x =
     let split : (u v n s : ℕ) → (n * s) * (u + v) ≡ n * u * s + n * v * s = λ u v n s. omega arith in
     omega (
       arith,
-      product,
       split a b row.1 (share row),
       split c d row.1 (share row),
       shares-submodular share rows set added x,

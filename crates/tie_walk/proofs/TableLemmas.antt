@@ -1,5 +1,6 @@
 -- The tables of tallies, at a place.
-use Rattle.std.proofs.Common.{◌≡◌, ℕ, zero, suc, ◌+◌, ◌/◌, ◌<◌, ◌≤◌, ◌^◌, ◌∙◌, List, refl, sym, ap, arith, length, take, get_or, sum, inl, inr}
+use Rattle.std.proofs.lemmas.Grind.{common_steps}
+use Rattle.std.proofs.Common.{◌≡◌, ℕ, zero, suc, ◌+◌, ◌/◌, ◌<◌, ◌≤◌, ◌^◌, ◌∙◌, List, refl, sym, ap, arith, length, take, get_or, sum}
 use Rattle.std.proofs.Math.Nat.{div-le_self}
 use Rattle.std.proofs.lemmas.Bool.{cases_lt}
 use Rattle.std.proofs.lemmas.List.{ext_get_or, get_or_past, take_all}
@@ -36,25 +37,11 @@ increments_sum-most rule k most =
 
 -- the sum of one more
 pub sum-take_more : (w : List ℕ) (x : ℕ) → sum (take (x + 1) w) ≡ sum (take x w) + get_or w x 0
-sum-take_more w x = elim (cases_lt x (length w)) [
-  | inl low ↦ sum_take_more w x low
-  | inr high ↦
-      let all : take x w ≡ w = take_all x w high in
-      let more : take (x + 1) w ≡ w = take_all (x + 1) w (omega (arith, high)) in
-      rw (all, more, get_or_past w x 0 high) (omega arith)
-]
+sum-take_more w x = grind (arith, common_steps, cases_lt, sum_take_more, take, take_all, get_or_past)
 
 pub sums-most : (rule : ThieleRule) (k : ℕ) (sums : List ℕ) (x : ℕ) → k ≤ most_members → sums ≡ prefix_sums (increments rule k) → get_or sums x 0 ≤ 2 ^ 84
-sums-most rule k sums x most is = elim (cases_lt x (most_candidates + 1)) [
-  | inl low ↦ omega (
-    arith,
-    ap (λ s. get_or s x 0) is,
-    prefix_sums-at (increments rule k) x (omega arith),
-    sum-take-le (increments rule k) x,
-    increments_sum-most rule k most,
-  )
-  | inr high ↦ omega (arith, get_or_past sums x 0 (omega (arith, ap length is, prefix_sums-length (increments rule k), high)))
-]
+sums-most rule k sums x most is =
+    grind (arith, common_steps, cases_lt, get_or, prefix_sums-at, sum-take-le, increments_sum-most, get_or_past, prefix_sums-length)
 
 -- ---- parts of a whole
 
@@ -81,10 +68,7 @@ parts-made whole list long first made =
 
 pub parts-most : (whole n : ℕ) → get_or (parts whole) n 0 ≤ whole
 parts-most whole zero = omega (arith, parts-first whole)
-parts-most whole (suc n) = elim (cases_lt (suc n) (most_candidates + 1)) [
-  | inl low ↦ omega (arith, parts-at whole (suc n) (omega arith) (omega arith), div-le_self whole (suc n))
-  | inr high ↦ omega (arith, get_or_past (parts whole) (suc n) 0 (omega (arith, parts-length whole, high)))
-]
+parts-most whole (suc n) = grind (arith, common_steps, cases_lt, parts-at, div-le_self, get_or_past, parts-length)
 
 -- ---- one increment
 

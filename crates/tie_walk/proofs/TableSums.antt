@@ -1,5 +1,6 @@
 -- What the tables of tallies sum to: voters by their hits, and hits by the sizes of ballots.
-use Rattle.std.proofs.Common.{◌≡◌, ℕ, ◌+◌, ◌*◌, ◌<◌, ◌≤◌, ◌==◌, ◌^◌, ◌∙◌, List, ap, arith, length, filter, get_or, map, sum, sum_by}
+use Rattle.std.proofs.lemmas.Grind.{common_steps}
+use Rattle.std.proofs.Common.{◌≡◌, ℕ, ◌+◌, ◌*◌, ◌<◌, ◌≤◌, ◌==◌, ◌^◌, ◌∙◌, List, arith, length, filter, get_or, map, sum, sum_by}
 use Rattle.std.specs.List.{range_with_len}
 use Rattle.ballot_base.specs.CommonMultiple.{common_multiple}
 use Rattle.ballot_base.specs.Ballots.{Row, Election, IsElection, hits, voter_count}
@@ -12,10 +13,7 @@ module _ (e : Election) (valid : IsElection e) (set counts worths : List ℕ) (m
   -- a table of the elements by a key
   by_key : (key value : Row → ℕ) → ((j : ℕ) → get_or counts j 0 ≡ sum_by value (filter (λ r. key r == j) e.rows))
       → sum_of_worths counts worths most ≡ sum (map (λ j. sum_by value (filter (λ r. key r == j) e.rows) * get_or worths j 0) (range_with_len 0 (e.m + 1)))
-  by_key key value are =
-      ap (λ n. sum_of_worths counts worths n) is
-      ∙ below-same (λ j. get_or counts j 0 * get_or worths j 0) (λ j. sum_by value (filter (λ r. key r == j) e.rows) * get_or worths j 0) (e.m + 1)
-      (λ j. ap (λ n. n * get_or worths j 0) (are j))
+  by_key key value are = grind (arith, common_steps, below-same, get_or, sum_by, filter)
 
   by_hits : ((j : ℕ) → get_or counts j 0 ≡ voter_count (filter (λ r. hits r.0 set == j) e.rows))
       → sum_of_worths counts worths most ≡ sum_by (λ r. r.1 * get_or worths (hits r.0 set) 0) e.rows

@@ -1,5 +1,6 @@
 -- The greatest sum of so many numbers, by a threshold that just so many reach.
-use Rattle.std.proofs.Common.{◌≡◌, ℕ, zero, suc, ◌+◌, ◌-◌, ◌*◌, ◌^◌, ◌<◌, ◌≤◌, ◌==◌, ◌||◌, ◌⊎◌, ◌∙◌, Bool, true, false, cond, not, List, [], ◌∷◌, refl, sym, ap, subst, arith, inl, inr, length, sum_by}
+use Rattle.std.proofs.lemmas.Grind.{common_steps}
+use Rattle.std.proofs.Common.{◌≡◌, ℕ, zero, suc, ◌+◌, ◌-◌, ◌*◌, ◌^◌, ◌<◌, ◌≤◌, ◌==◌, ◌||◌, ◌⊎◌, ◌∙◌, Bool, true, false, cond, not, List, [], ◌∷◌, refl, sym, ap, arith, inl, inr, length, sum_by}
 use Rattle.std.proofs.Math.Nat.{mul-le-mul_right}
 use Rattle.std.specs.Prelude.{filter, nat_le}
 use Rattle.std.specs.List.{range_with_len}
@@ -38,19 +39,8 @@ module _ (worth : ℕ → ℕ) (t : ℕ) where
   best-under : (n first size : ℕ) → best_of worth n first size ≤ size * t + over (range_with_len first n)
   best-under n first zero = omega (arith, best_of-none worth n first)
   best-under zero first (suc size) = omega (arith, best_of-short worth 0 first (suc size) (omega arith))
-  best-under (suc n) first (suc size) = elim (cases_lt n size) [
-    | inl few ↦ omega (arith, best_of-short worth (suc n) first (suc size) (omega (arith, few)))
-    | inr enough ↦
-        let product : suc size * t ≡ size * t + t = omega arith in
-        omega (
-          arith,
-          product,
-          best_of-more worth n first size enough,
-          best-under n (first + 1) size,
-          best-under n (first + 1) (suc size),
-          sum_by-cons (λ x. worth x - t) first (range_with_len (first + 1) n),
-        )
-  ]
+  best-under (suc n) first (suc size) =
+      grind (arith, common_steps, best-under n (first + 1) size, best-under n (first + 1) (suc size), cases_lt, best_of-short, best_of-more, sum_by-cons)
 
   -- how many reach a number, and one more or not
   more-yes : (least x : ℕ) (xs : List ℕ) → least ≤ worth x → reaching worth least (x ∷ xs) ≡ suc (reaching worth least xs)
@@ -60,9 +50,7 @@ module _ (worth : ℕ → ℕ) (t : ℕ) where
   more-no least x xs h = ap (λ b. length (cond b (x ∷ filter (λ n. nat_le least (worth n)) xs) (filter (λ n. nat_le least (worth n)) xs))) (lt-leb least (worth x) h)
 
   above-fewer : (xs : List ℕ) → reaching worth (t + 1) xs ≤ reaching worth t xs
-  above-fewer xs =
-      filter-fewer (λ n. nat_le (t + 1) (worth n)) (λ n. nat_le t (worth n)) xs
-      (λ n in_ h. le-leb t (worth n) (let more : t + 1 ≤ worth n = leb-true (t + 1) (worth n) h in omega (arith, more)))
+  above-fewer xs = grind (arith, common_steps, filter-fewer, le-leb, leb-true)
 
   pub reaching-most : (least : ℕ) (n first : ℕ) → reaching worth least (range_with_len first n) ≤ n
   reaching-most least n first =
@@ -75,9 +63,7 @@ module _ (worth : ℕ → ℕ) (t : ℕ) where
   -- the first is among the best
   with-first : (n first size : ℕ) → size ≤ n → t ≤ worth first → size * t + over (range_with_len (first + 1) n) ≤ best_of worth n (first + 1) size
       → suc size * t + over (range_with_len first (suc n)) ≤ best_of worth (suc n) first (suc size)
-  with-first n first size enough large rest =
-      let product : suc size * t ≡ size * t + t = omega arith in
-      omega (arith, product, rest, large, best_of-more worth n first size enough, sum_by-cons (λ x. worth x - t) first (range_with_len (first + 1) n))
+  with-first n first size enough large rest = grind (arith, common_steps, rest, large, best_of-more, sum_by-cons)
 
   -- it is not
   without-first : (n first size : ℕ) → worth first ≤ t → size * t + over (range_with_len (first + 1) n) ≤ best_of worth n (first + 1) size
@@ -86,9 +72,7 @@ module _ (worth : ℕ → ℕ) (t : ℕ) where
 
   -- with a right threshold it is reached
   under-best : (n first size : ℕ) → IsThreshold worth (range_with_len first n) size t → size * t + over (range_with_len first n) ≤ best_of worth n first size
-  under-best zero first size is =
-      let none : size ≡ 0 = omega (arith, is.1) in
-      omega (arith, ap (λ s. s * t) none)
+  under-best zero first size is = grind (arith, common_steps)
   under-best (suc n) first size is = elim (cases_lt t (worth first)) [
     | inl above ↦ large size is above (under-best n (first + 1))
     | inr under ↦ elim (cases_lt (worth first) t) [
@@ -110,19 +94,14 @@ module _ (worth : ℕ → ℕ) (t : ℕ) where
       large : (size : ℕ) → IsThreshold worth (range_with_len first (suc n)) size t → t < worth first → ((s : ℕ) → IsThreshold worth rest s t → s * t + over rest ≤ best_of worth n (first + 1) s)
           → size * t + over (range_with_len first (suc n)) ≤ best_of worth (suc n) first size
       large zero is above below = absurd (omega (arith, is.0, more-yes (t + 1) first rest (omega (arith, above))))
-      large (suc s) is above below =
-          let few : s ≤ reaching worth t rest = omega (arith, is.1, more-yes t first rest (omega (arith, above))) in
-          with-first n first s (omega (arith, few, reaching-most t n (first + 1))) (omega (arith, above))
-          (below s (omega (arith, is.0, more-yes (t + 1) first rest (omega (arith, above))), few))
+      large (suc s) is above below = grind (arith, common_steps, rest, more-yes, with-first, reaching-most)
 
       level : (size : ℕ) → IsThreshold worth (range_with_len first (suc n)) size t → worth first ≤ t → t ≤ worth first → reaching worth t rest < size
           → ((s : ℕ) → IsThreshold worth rest s t → s * t + over rest ≤ best_of worth n (first + 1) s)
           → size * t + over (range_with_len first (suc n)) ≤ best_of worth (suc n) first size
       level zero is under same all below = absurd (omega (arith, all))
       level (suc s) is under same all below =
-          let few : s ≤ reaching worth t rest = omega (arith, is.1, more-yes t first rest same) in
-          with-first n first s (omega (arith, few, reaching-most t n (first + 1))) same
-          (below s (omega (arith, all, above-fewer rest), few))
+          grind (arith, common_steps, rest, more-yes, with-first, reaching-most, above-fewer)
 
   -- so it is the greatest sum
   pub threshold-sum : (n first size : ℕ) → IsThreshold worth (range_with_len first n) size t → best_of worth n first size ≡ size * t + sum_by (λ x. worth x - t) (range_with_len first n)
@@ -131,10 +110,7 @@ module _ (worth : ℕ → ℕ) (t : ℕ) where
   -- for the candidates after c
   pub sum-is : (c m left : ℕ) (numbers : List ℕ) → numbers ≡ range_with_len (c + 1) (m - c) → IsThreshold worth numbers left t
       → left * t + sum_by (λ n. worth n - t) numbers ≡ greatest_sum worth (c + 1) m left
-  sum-is c m left numbers are is =
-      ap (λ l. left * t + sum_by (λ n. worth n - t) l) are
-      ∙ sym (threshold-sum (m - c) (c + 1) left (subst (λ l. IsThreshold worth l left t) are is))
-      ∙ sym (sum-of worth c m left)
+  sum-is c m left numbers are is = grind (arith, common_steps, sum_by, threshold-sum, sum-of)
 
   -- One number that is not above the threshold is passed: the others have it for a threshold, and their sum is as great.
   module _ (m last left spare spare' : ℕ) (inside : last < m) (low : worth (last + 1) ≤ t) (is : IsThreshold worth (range_with_len (last + 1) (m - last)) left t)
@@ -144,31 +120,16 @@ module _ (worth : ℕ → ℕ) (t : ℕ) where
     others = range_with_len (last + 1 + 1) (m - (last + 1))
 
     whole : range_with_len (last + 1) (m - last) ≡ (last + 1) ∷ others
-    whole =
-        let count : m - last ≡ suc (m - (last + 1)) = omega (arith, inside) in
-        ap (range_with_len (last + 1)) count
+    whole = grind (arith, common_steps)
 
     pub passed-many : reaching worth t others ≡ spare' + left
-    passed-many = elim next [
-      | inl (same, one) ↦ omega (arith, many, one, ap (reaching worth t) whole, more-yes t (last + 1) others (omega (arith, same)))
-      | inr (other, one) ↦ omega (arith, many, one, ap (reaching worth t) whole, more-no t (last + 1) others (elim (cases_lt (worth (last + 1)) t) [ inl under ↦ under | inr over' ↦ absurd (other (omega (arith, low, over'))) ]))
-    ]
+    passed-many = grind (arith, common_steps, whole, more-yes, more-no, cases_lt)
 
     pub passed-threshold : IsThreshold worth others left t
     passed-threshold = (omega (arith, is.0, ap (reaching worth (t + 1)) whole, more-no (t + 1) (last + 1) others (omega (arith, low))), omega (arith, passed-many))
 
     pub passed-sum : greatest_sum worth (last + 1 + 1) m left ≡ greatest_sum worth (last + 1) m left
-    passed-sum =
-        omega (
-          arith,
-          low,
-          sum-of worth last m left,
-          sum-of worth (last + 1) m left,
-          threshold-sum (m - last) (last + 1) left is,
-          threshold-sum (m - (last + 1)) (last + 1 + 1) left passed-threshold,
-          ap over whole,
-          sum_by-cons (λ x. worth x - t) (last + 1) others,
-        )
+    passed-sum = grind (arith, common_steps, sum-of, threshold-sum, passed-threshold, whole, sum_by-cons)
 
 pub sum-most : (worth : ℕ → ℕ) (c m left most : ℕ) → ((n : ℕ) → worth n ≤ most) → greatest_sum worth (c + 1) m left ≤ left * most
 sum-most worth c m left most each = omega (arith, sum-of worth c m left, best_of-most worth most each (m - c) (c + 1) left)

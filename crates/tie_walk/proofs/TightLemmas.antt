@@ -1,5 +1,6 @@
 -- Bounds that are the value of a completion: under approval voting and satisfaction approval voting each candidate gives
 -- a committee the same, whoever else is in it.
+use Rattle.std.proofs.lemmas.Grind.{common_steps}
 use Rattle.std.proofs.Common.{◌≡◌, ℕ, zero, suc, ◌+◌, ◌-◌, ◌*◌, ◌<◌, ◌≤◌, ◌∙◌, false, cond, List, [], ◌∷◌, ◌++◌, refl, sym, ap, arith, inl, inr, length, length-append, append_assoc, sum_by, add-one, append-nil}
 use Rattle.std.proofs.lemmas.Bool.{cases_lt}
 use Rattle.std.proofs.lemmas.List.Sums.{sum_by-cons}
@@ -13,7 +14,6 @@ use Rattle.ballot_base.specs.Ballots.{Row, Election, IsElection, hits}
 use Rattle.ballot_base.proofs.Increasing.{IsIncreasing-push, IsIncreasing-lower, with_member-above, with_member-lt, has_member-above, has_member-below}
 use Rattle.ballot_base.proofs.WeightLemmas.{increments-within}
 use Rattle.tie_walk.specs.Ceilings.{IsTight, ceiling, gain_at, greatest_sum}
-use Rattle.tie_walk.specs.Sequences.{weight}
 use Rattle.tie_walk.specs.Steps.Tables.{parts, score}
 use Rattle.tie_walk.specs.Values.{thiele_value, satisfaction_value}
 use Rattle.tie_walk.specs.declared.sequential.Step.TheVariants.{Grow}
@@ -64,18 +64,12 @@ module _ (value : List ℕ → ℕ) (m k : ℕ) (worth : ℕ → ℕ)
       omega (
         arith,
         ap value (sym (append_assoc set (x ∷ []) added)),
-        next,
         same set d x up over above.1 (omega (arith, few)),
         sum_by-cons worth x added,
       )
 
   gains-same : (set : List ℕ) (c : ℕ) → IsIncreasing 1 c set → length set < k → (x : ℕ) → c + 1 ≤ x → x ≤ m → gain_at value set x ≡ worth x
-  gains-same set c up few x low high =
-      omega (
-        arith,
-        ap value (with_member-above 1 c set x up (omega (arith, low))),
-        same set c x up (omega (arith, low)) high few,
-      )
+  gains-same set c up few x low high = grind (arith, common_steps, with_member-above)
 
   pub additive-tight : IsTight value (λ c set left. ceiling value m c set left) m k
   additive-tight c set zero inside up size fits = ([], (tt, refl), ceiling-whole value m c set ∙ sym (ap value (append-nil set)))
@@ -115,17 +109,7 @@ approved : (m k d x : ℕ) (rows : List Row) (set : List ℕ) → k ≤ most_mem
 unfolding approvals
 approved m k d x [] set small all up few = refl
 approved m k d x (row ∷ rows) set small all up few =
-    let w = increments Av k in
-    let h = hits row.0 set in
-    let within : h < k = omega (arith, few, hits-most 1 m 1 d row.0 set all.0 up) in
-    let one : weight w (h + 1) ≡ 1 = ap (weight w) (add-one h) ∙ increments-within Av k h (omega (arith, within, small)) within in
-    omega (
-      arith,
-      ap (λ n. row.1 * cond (has_member row.0 x) n 0) one,
-      approved m k d x rows set small all.1 up few,
-      sum_by-cons (λ (r : Row). r.1 * cond (has_member r.0 x) (weight w (hits r.0 set + 1)) 0) row rows,
-      sum_by-cons (λ (r : Row). r.1 * cond (has_member r.0 x) 1 0) row rows,
-    )
+    grind (arith, common_steps, approved m k d x rows set small all.1 up few, hits-most, add-one, increments-within, sum_by-cons)
 
 pub approval-tight : (e : Election) (k : ℕ) → IsElection e → k ≤ most_members
     → IsTight (λ set. thiele_value (increments Av k) e.rows set) (λ c set left. ceiling (thiele_value (increments Av k) e.rows) e.m c set left) e.m k

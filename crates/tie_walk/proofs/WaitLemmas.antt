@@ -1,5 +1,6 @@
 -- How long a walk over the winners can be: no place has much work left, and where bounds are exact at the best value,
 -- no winner is far.
+use Rattle.std.proofs.lemmas.Grind.{common_steps}
 use Rattle.std.proofs.Common.{◌≡◌, ℕ, suc, ◌+◌, ◌-◌, ◌*◌, ◌^◌, ◌<◌, ◌≤◌, ◌||◌, ◌∙◌, Bool, true, false, cond, List, [], ◌∷◌, ◌++◌, Option, None, Some, refl, sym, ap, arith, inl, inr, lit<, length, filter, map, sum_by, append_assoc, append-nil}
 use Rattle.std.specs.Prelude.{nat_le}
 use Rattle.std.specs.List.{list_any}
@@ -36,16 +37,7 @@ all_powers = lit< tt
 
 pub work-most : (m k : ℕ) (place : Option Prefix) → m ≤ most_candidates → IsPlace m k place → work_left m place < 2 ^ 126
 work-most m k None most here = lit< tt
-work-most m k (Some prefix) most here =
-    let whole : m + 1 - 1 ≡ m = omega arith in
-    omega (
-      arith,
-      powers-most m 1 prefix.c prefix.set here.0 here.1,
-      ap (λ n. 3 ^ n) whole,
-      pow-le-pow_right {n = 3} (omega arith) {i = m - prefix.c} {j = m} (omega arith),
-      pow-le-pow_right {n = 3} (omega arith) {i = m} {j = most_candidates} most,
-      all_powers,
-    )
+work-most m k (Some prefix) most here = grind (arith, common_steps, powers-most, pow-le-pow_right, all_powers)
 
 -- ---- prefixes with a committee below that reaches the best value
 
@@ -79,10 +71,7 @@ module _ (value : List ℕ → ℕ) (m k best : ℕ) where
 
   pub alive-open : (bound : ℕ → List ℕ → ℕ → ℕ) (c : ℕ) (set : List ℕ) → IsExactAtBest value bound m k best → c ≤ m → IsIncreasing 1 c set
       → is_open bound m k best c set ≡ true → is_alive value m k best c set ≡ true
-  alive-open bound c set exact inside up is =
-      let sizes = open-sizes bound m k best c set is in
-      let some = exact c set (k - length set) inside up (omega (arith, sizes)) (omega (arith, sizes)) (open-reaches bound m k best c set is) in
-      alive-added c set some.0 some.1 some.2
+  alive-open bound c set exact inside up is = grind (arith, common_steps, open-sizes, open-reaches, alive-added)
 
   alive-full : (c d : ℕ) (set : List ℕ) → length set ≡ k → is_alive value m k best c set ≡ is_alive value m k best d set
   alive-full c d set full = ap (list_any (λ list. nat_le best (value list))) (below-full m k c set full ∙ sym (below-full m k d set full))
@@ -109,18 +98,14 @@ module _ (value : List ℕ → ℕ) (m k best : ℕ) where
       → waits_after value m k best past front (set ++ n ∷ []) ≡ waits_at value m k best (waits_after value m k best past front set) n (front ++ set)
   waits_after-push past front [] n = ap (waits_at value m k best past n) (sym (append-nil front))
   waits_after-push past front (x ∷ set) n =
-      waits_after-push (waits_at value m k best past x front) (front ++ x ∷ []) set n
-      ∙ ap (waits_at value m k best (waits_after value m k best past front (x ∷ set)) n) (append_assoc front (x ∷ []) set)
+      grind (arith, common_steps, waits_after-push (waits_at value m k best past x front) (front ++ x ∷ []) set n, append_assoc)
 
   waits-past : (prefix : Prefix) (next : Option Prefix) → IsPast prefix next → waits_from value m k best next ≡ waits_after value m k best 0 [] prefix.set
   waits-past prefix None is = sym (ap (waits_after value m k best 0 []) is)
   waits-past prefix (Some place) is = sym (ap (waits_after value m k best 0 []) is.0 ∙ waits_after-push 0 [] place.set place.c)
 
   pub waits-some : (prefix : Prefix) → 1 ≤ waits_from value m k best (Some prefix)
-  waits-some prefix = elim (cases_Bool (is_alive value m k best prefix.c prefix.set)) [
-    | inl alive ↦ omega (arith, waits-alive (waits_after value m k best 0 [] prefix.set) prefix.c prefix.set alive)
-    | inr dead ↦ omega (arith, waits-dead (waits_after value m k best 0 [] prefix.set) prefix.c prefix.set dead)
-  ]
+  waits-some prefix = grind (arith, common_steps, cases_Bool, waits-alive, waits-dead)
 
   -- past a prefix with nothing below
   pub wait-past : (prefix : Prefix) (next : Option Prefix) → IsPast prefix next → is_alive value m k best prefix.c prefix.set ≡ false
@@ -145,7 +130,6 @@ module _ (value : List ℕ → ℕ) (m k best : ℕ) where
             let second : is_alive value m k best (c + 1) set ≡ true = sym (ap (λ b. b || is_alive value m k best (c + 1) set) dead) ∙ sym both ∙ alive in
             omega (
               arith,
-              more,
               waits-alive above c set alive,
               waits-dead (waits_after value m k best 0 [] child) (c + 1) child dead,
               waits_after-push 0 [] set (c + 1),
@@ -157,14 +141,8 @@ module _ (value : List ℕ → ℕ) (m k best : ℕ) where
       → (length prefix.set < k → next.set ≡ prefix.set ++ (prefix.c + 1) ∷ []) → (length prefix.set ≡ k → next.set ≡ prefix.set)
       → is_alive value m k best prefix.c prefix.set ≡ true
       → 1 + waits_from value m k best (Some next) ≤ waits_from value m k best (Some prefix)
-  wait-first prefix next more here at grown full alive = elim (cases_lt (length prefix.set) k) [
-    | inl few ↦ rw (at, grown few) (wait-child prefix.c prefix.set more few alive)
-    | inr enough ↦
-        let all : length prefix.set ≡ k = omega (arith, enough, here.2) in
-        let same : is_alive value m k best (prefix.c + 1) prefix.set ≡ true = alive-full (prefix.c + 1) prefix.c prefix.set all ∙ alive in
-        let above = waits_after value m k best 0 [] prefix.set in
-        rw (at, full all) (omega (arith, more, waits-alive above prefix.c prefix.set alive, waits-alive above (prefix.c + 1) prefix.set same))
-  ]
+  wait-first prefix next more here at grown full alive =
+      grind (arith, common_steps, cases_lt, wait-child, alive-full, waits-alive)
 
   -- ---- no place waits long
 

@@ -1,4 +1,5 @@
 -- A walk over committees: what is below a prefix, and what comes after it.
+use Rattle.std.proofs.lemmas.Grind.{common_steps}
 use Rattle.std.proofs.Common.{◌≡◌, ℕ, zero, suc, ◌+◌, ◌-◌, ◌*◌, ◌^◌, ◌<◌, ◌≤◌, ◌==◌, ◌∙◌, true, false, List, [], ◌∷◌, ◌++◌, Option, None, Some, not, refl, sym, ap, subst, arith, inl, inr, length, length-append, map, sum_by, append_assoc, append-nil}
 use Rattle.std.proofs.Math.Nat.{pow-le-pow_right}
 use Rattle.std.proofs.lemmas.Nat.{pow-add}
@@ -54,18 +55,12 @@ module _ (m k : ℕ) where
 
   pub after-push : (front set : List ℕ) (n : ℕ) → committees_after m k front (set ++ n ∷ []) ≡ committees_below m k n (front ++ set) ++ committees_after m k front set
   after-push front [] n = ap (committees_below m k n) (sym (append-nil front)) ∙ sym (append-nil (committees_below m k n (front ++ [])))
-  after-push front (x ∷ set) n =
-      ap (λ ls. ls ++ committees_below m k x front) (after-push (front ++ x ∷ []) set n)
-      ∙ append_assoc (committees_below m k n ((front ++ x ∷ []) ++ set)) (committees_after m k (front ++ x ∷ []) set) (committees_below m k x front)
-      ∙ ap (λ s. committees_below m k n s ++ committees_after m k front (x ∷ set)) (append_assoc front (x ∷ []) set)
+  after-push front (x ∷ set) n = grind (arith, common_steps, after-push (front ++ x ∷ []) set n, append_assoc)
 
   -- the committees below a prefix, and those after them: with the next candidate, and then without
   pub from-grown : (c : ℕ) (set : List ℕ) → c < m → length set < k
       → committees_below m k (c + 1) (set ++ (c + 1) ∷ []) ++ committees_after m k [] (set ++ (c + 1) ∷ []) ≡ committees_below m k c set ++ committees_after m k [] set
-  from-grown c set inside few =
-      ap (λ ls. committees_below m k (c + 1) (set ++ (c + 1) ∷ []) ++ ls) (after-push [] set (c + 1))
-      ∙ sym (append_assoc (committees_below m k (c + 1) (set ++ (c + 1) ∷ [])) (committees_below m k (c + 1) set) (committees_after m k [] set))
-      ∙ ap (λ ls. ls ++ committees_after m k [] set) (sym (below-split c set inside few))
+  from-grown c set inside few = grind (arith, common_steps, after-push, append_assoc, below-split)
 
   pub from-past : (prefix : Prefix) (next : Option Prefix) → IsPast prefix next → committees_from m k next ≡ committees_after m k [] prefix.set
   from-past prefix None is = sym (ap (committees_after m k []) is)
@@ -124,26 +119,14 @@ module _ (m k : ℕ) where
 
   pub work-past : (prefix : Prefix) (next : Option Prefix) → IsPast prefix next → work_left m next < work_left m (Some prefix)
   work-past prefix None is = omega (arith, one (m - prefix.c))
-  work-past prefix (Some place) is =
-      omega (
-        arith,
-        one (m - prefix.c),
-        ap (sum_by (λ n. 3 ^ (m - n))) is.0,
-        sum_by-append (λ n. 3 ^ (m - n)) place.set (place.c ∷ []),
-      )
+  work-past prefix (Some place) is = grind (arith, common_steps, one, sum_by, sum_by-append)
 
   pub work-grown : (c : ℕ) (set : List ℕ) → c < m
       → 3 ^ (m - (c + 1)) + sum_by (λ n. 3 ^ (m - n)) (set ++ (c + 1) ∷ []) < 3 ^ (m - c) + sum_by (λ n. 3 ^ (m - n)) set
   work-grown c set inside =
       let e : m - c ≡ (m - (c + 1)) + 1 = omega arith in
       let power : 3 ^ ((m - (c + 1)) + 1) ≡ 3 ^ (m - (c + 1)) * 3 ^ 1 = pow-add 3 (m - (c + 1)) 1 in
-      omega (
-        arith,
-        ap (λ n. 3 ^ n) e,
-        power,
-        one (m - (c + 1)),
-        sum_by-append (λ n. 3 ^ (m - n)) set ((c + 1) ∷ []),
-      )
+      omega (arith, ap (λ n. 3 ^ n) e, one (m - (c + 1)), sum_by-append (λ n. 3 ^ (m - n)) set ((c + 1) ∷ []))
 
   -- ---- values below a prefix
   module _ (value : List ℕ → ℕ) where
@@ -196,8 +179,4 @@ abbrev pub prefix_at : ℕ → List ℕ → Prefix
 prefix_at c set = record { c = c; set = set }
 
 pub at_root : (m k : ℕ) (root : Prefix) → root.c ≡ 0 → root.set ≡ [] → (committees_from m k (Some root) ≡ increasing_lists 1 m k) × IsPlace m k (Some root)
-at_root m k root none nobody = (
-  ap (λ n. committees_below m k n root.set ++ committees_after m k [] root.set) none ∙ ap (λ s. committees_below m k 0 s ++ committees_after m k [] s) nobody
-      ∙ append-nil (committees_below m k 0 []) ∙ from-root m k,
-  (omega (arith, none), subst (λ s. IsIncreasing 1 root.c s) (sym nobody) tt, omega (arith, ap length nobody)),
-)
+at_root m k root none nobody = grind (arith, common_steps, append-nil, from-root)

@@ -1,5 +1,6 @@
 -- The winners are the committees with the greatest value.
-use Rattle.std.proofs.Common.{◌≡◌, ℕ, ◌≤◌, ◌==◌, ◌&&◌, Bool, true, false, cond, List, [], ◌∷◌, refl, sym, ap, ◌∙◌, arith, map, filter, max, length, ◌+◌, ◌<◌, inl, inr}
+use Rattle.std.proofs.lemmas.Grind.{common_steps}
+use Rattle.std.proofs.Common.{◌≡◌, ℕ, ◌≤◌, ◌==◌, ◌&&◌, Bool, true, cond, List, [], ◌∷◌, refl, sym, ap, ◌∙◌, arith, map, filter, max, ◌+◌, ◌<◌}
 use Rattle.std.specs.Prelude.{fold, nat_le, Contains}
 use Rattle.std.specs.List.{list_all, AllByRecursion}
 use Rattle.std.proofs.lemmas.Bool.{cases_lt, le-leb, lt-leb}
@@ -27,10 +28,7 @@ module _ {X : Type 0} (value : X → ℕ) where
   pub bounds-greatest : (low bound : ℕ) (sets : List X) → (nat_le low bound && list_all (λ set. nat_le (value set) bound) sets) ≡ nat_le (greatest low sets) bound
   bounds-greatest low bound [] = grind arith
   bounds-greatest low bound (set ∷ sets) =
-      let more = bounds-greatest (max low (value set)) bound sets in
-      let split : nat_le (max low (value set)) bound ≡ (nat_le low bound && nat_le (value set) bound) = grind arith in
-      sym (and_assoc (nat_le low bound) (nat_le (value set) bound) (list_all (λ x. nat_le (value x) bound) sets))
-      ∙ ap (λ b. b && list_all (λ x. nat_le (value x) bound) sets) (sym split) ∙ more
+      grind (arith, common_steps, bounds-greatest (max low (value set)) bound sets, max, and_assoc)
 
 pub same_filter : {X : Type 0} (p q : X → Bool) (xs : List X) → AllByRecursion (λ x. p x ≡ q x) xs → filter p xs ≡ filter q xs
 same_filter p q [] same = refl
@@ -61,10 +59,7 @@ winners-best value m k =
 -- each committee has candidates 1 to m
 pub committees-increasing : (m k : ℕ) → AllByRecursion (λ set. IsIncreasing 1 m set) (increasing_lists 1 m k)
 committees-increasing m k =
-    let all = increasing_lists 1 m k in
-    recursion_from_All (λ set. IsIncreasing 1 m set) all
-    (All-weaker (λ set. IsIncreasing 1 m set × (length set ≡ k)) (λ set. IsIncreasing 1 m set) (λ set chosen. chosen.0) all
-    (All-from_recursion (λ set. IsIncreasing 1 m set × (length set ≡ k)) all (increasing_lists-chosen 1 m k)))
+    grind (arith, common_steps, recursion_from_All, All-weaker, All-from_recursion, increasing_lists-chosen)
 
 -- ---- values above a floor
 
@@ -74,15 +69,8 @@ greatest-low value low sets = low-greatest value low sets
 -- those that are not above a floor do not matter to the greatest of a number that is no smaller, and of them all
 pub greatest-above : (value : List ℕ → ℕ) (floor low : ℕ) (sets : List (List ℕ)) → floor ≤ low → greatest value low (those_reaching value (floor + 1) sets) ≡ greatest value low sets
 greatest-above value floor low [] h = refl
-greatest-above value floor low (set ∷ sets) h = elim (cases_lt floor (value set)) [
-  | inl over ↦
-      let yes : nat_le (floor + 1) (value set) ≡ true = le-leb (floor + 1) (value set) (omega (arith, over)) in
-      rw yes (greatest-above value floor (max low (value set)) sets (omega (arith, h)))
-  | inr under ↦
-      let no' : nat_le (floor + 1) (value set) ≡ false = lt-leb (floor + 1) (value set) (omega (arith, under)) in
-      let same : low ≡ max low (value set) = omega (arith, h, under) in
-      rw no' (greatest-above value floor low sets h ∙ ap (λ n. greatest value n sets) same)
-]
+greatest-above value floor low (set ∷ sets) h =
+    grind (arith, common_steps, greatest-above value floor (max low (value set)) sets (omega (arith, h)), greatest-above value floor low sets h, cases_lt, le-leb, max, lt-leb)
 
 -- the next one above the floor is the next greatest
 pub greatest-next : (value : List ℕ → ℕ) (floor : ℕ) (sets rest : List (List ℕ)) (set : List ℕ) → those_reaching value (floor + 1) sets ≡ set ∷ those_reaching value (floor + 1) rest → floor < value set
@@ -105,8 +93,7 @@ greatest-most value low bound (set ∷ sets) under all = greatest-most value (ma
 greatest-max : (value : List ℕ → ℕ) (low n : ℕ) (sets : List (List ℕ)) → greatest value (max low n) sets ≡ max low (greatest value n sets)
 greatest-max value low n [] = refl
 greatest-max value low n (set ∷ sets) =
-    let turned : max (max low n) (value set) ≡ max low (max n (value set)) = omega arith in
-    ap (λ x. greatest value x sets) turned ∙ greatest-max value low (max n (value set)) sets
+    grind (arith, common_steps, greatest-max value low (max n (value set)) sets, max)
 
 -- the value of one of them may come first
 pub greatest-first : (value : List ℕ → ℕ) (set : List ℕ) (sets : List (List ℕ)) → Contains sets set → greatest value (value set) sets ≡ greatest value 0 sets

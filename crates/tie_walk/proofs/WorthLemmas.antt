@@ -1,5 +1,6 @@
 -- What a set gains by a candidate, or loses with one, over the rows.
-use Rattle.std.proofs.Common.{◌≡◌, ℕ, zero, suc, ◌+◌, ◌*◌, ◌≤◌, ◌^◌, ◌&&◌, ◌∙◌, Bool, true, false, cond, List, [], ◌∷◌, Some, refl, ap, arith, take, get_or, slice_get, sum_by, replicate}
+use Rattle.std.proofs.lemmas.Grind.{common_steps}
+use Rattle.std.proofs.Common.{◌≡◌, ℕ, zero, suc, ◌+◌, ◌*◌, ◌≤◌, ◌^◌, ◌&&◌, Bool, true, false, cond, List, [], ◌∷◌, Some, refl, ap, arith, take, get_or, slice_get, sum_by, replicate}
 use Rattle.std.proofs.lemmas.List.Sums.{sum_by-cons}
 use Rattle.ballot_base.specs.CandSet.{has_member}
 use Rattle.ballot_base.specs.Ballots.{Row, Election, IsElection, hits}
@@ -23,13 +24,7 @@ product-of-part false n w = omega arith
 
 pub supported : (f : Row → ℕ) (c : ℕ) (rows : List Row) → sum_by (λ (row : Row). row.1 * cond (has_member row.0 c) (f row) 0) rows ≡ sum_by (λ (row : Row). row.1 * f row) (supporters rows c)
 supported f c [] = refl
-supported f c (row ∷ rows) =
-    let rest = supported f c rows in
-    sum_by-cons (λ (r : Row). r.1 * cond (has_member r.0 c) (f r) 0) row rows
-    ∙ (elim (has_member row.0 c) as (λ b. row.1 * cond b (f row) 0 + sum_by (λ (r : Row). r.1 * cond (has_member r.0 c) (f r) 0) rows ≡ sum_by (λ (r : Row). r.1 * f r) (cond b (row ∷ supporters rows c) (supporters rows c))) [
-      | true ↦ omega (arith, rest, sum_by-cons (λ (r : Row). r.1 * f r) row (supporters rows c))
-      | false ↦ omega (arith, rest)
-    ])
+supported f c (row ∷ rows) = grind (arith, common_steps, supported f c rows, sum_by-cons, sum_by)
 
 pub worth-whole : (step : Step) (weights : List ℕ) (rows : List Row) (set : List ℕ) (c : ℕ) → partial step weights set c rows ≡ worth step weights rows set c
 worth-whole Grow weights rows set c = supported (λ (row : Row). weight weights (hits row.0 set + 1)) c rows

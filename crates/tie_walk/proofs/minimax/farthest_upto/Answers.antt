@@ -21,10 +21,7 @@ loop-ballot-preserved g c =
       value = greatest_upto-step c.args.c e.m c.requires.within e.rows c.args.set (length c.loop-ballot.yielded) row c.loop-ballot.greatest c.distance.result c.max-greatest.result at c.max-greatest.ensures far c.loop-ballot.invariant.value ∙ ap (λ k. greatest_distance_upto c.args.c (take k e.rows) c.args.set) next;
       most = omega (
         arith,
-        c.max-greatest.ensures,
         ord_max-max c.loop-ballot.greatest c.distance.result,
-        c.loop-ballot.invariant.most,
-        far,
         distance_upto-most c.args.c e.m c.requires.within row.0 c.args.set ballot c.requires.candidates,
       );
     }

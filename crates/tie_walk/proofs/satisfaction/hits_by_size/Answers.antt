@@ -26,7 +26,6 @@ overflow_add-counts g c =
       ap (λ n. row.1 * n) same,
       ap (λ n. sum_by (λ (r : Row). r.1 * hits r.0 set) (filter (λ (r : Row). length r.0 == n) (take (length c.loop-ballot.yielded) rows))) size,
       c.loop-ballot.invariant.made c.from.result,
-      fits,
       all_hits-most c.args.profile.now set c.ballots-ballot-items.ensures.valid,
     )
 

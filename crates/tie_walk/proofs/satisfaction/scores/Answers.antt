@@ -29,7 +29,6 @@ add-requires g c =
     record {
       fits = λ k. omega (
         arith,
-        product,
         c.loop-ballot.invariant k,
         score-fits shares k small c.args.profile.now (length c.loop-ballot.yielded) row c.ballots-ballot-items.ensures.valid at,
       );

@@ -31,8 +31,6 @@ overflow_add-counts g c =
       arith,
       ap (λ j. voter_count (filter (λ (r : Row). hits r.0 set == j) (take (length c.loop-ballot.yielded) c.args.profile.now.rows))) same,
       c.loop-ballot.invariant.counted c.from.result,
-      fits,
-      c.ballots-ballot-items.ensures.valid.voters,
     )
 
 pub add-requires : goal.add-requires
@@ -48,8 +46,6 @@ add-requires g c =
     record {
       fits = λ n. omega (
         arith,
-        product,
-        c.from-then-votes-gt0.ensures,
         c.loop-ballot.invariant.gained n,
         part-most (has_member c.args.others n) (partial Grow w c.args.set n (take (length c.loop-ballot.yielded) e.rows)),
         partial-fits Grow w c.args.set e (2 ^ 31 - 1) (length c.loop-ballot.yielded) n row c.ballots-ballot-items.ensures.valid least at,

@@ -8,7 +8,6 @@ overflow_add-result c =
     omega (
       arith,
       ap (λ n. n * c.nth_greatest-threshold.result) c.from.ensures,
-      c.excess.ensures.sum,
       sum-is w c.nth_greatest-threshold.result c.args.c c.args.self.now.m c.args.left c.after-candidates.result c.after-candidates.ensures (c.nth_greatest-threshold.ensures.threshold (after-fits c.args.c c.args.self.now.m c.args.left c.after-candidates.result c.after-candidates.ensures c.requires.fits)),
       sum-fits w c.args.c c.args.self.now.m c.args.left c.args.self.now.small (omega (arith, c.requires.fits, c.args.self.now.most)),
     )
@@ -19,7 +18,6 @@ returns-clause-value c =
     omega (
       arith,
       ap (λ n. n * c.nth_greatest-threshold.result) c.from.ensures,
-      c.excess.ensures.sum,
       sum-is w c.nth_greatest-threshold.result c.args.c c.args.self.now.m c.args.left c.after-candidates.result c.after-candidates.ensures (c.nth_greatest-threshold.ensures.threshold (after-fits c.args.c c.args.self.now.m c.args.left c.after-candidates.result c.after-candidates.ensures c.requires.fits)),
     )
 

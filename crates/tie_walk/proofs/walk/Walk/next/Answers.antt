@@ -19,7 +19,6 @@ returns-in-Some-visit-clause-wait g c exact =
     let was = c.requires.walk in
     omega (
       arith,
-      here,
       ap (waits_from value a.m a.k a.best) c.in-Some.is,
       c.loop-self.invariant.wait exact,
       waits-most value a.m a.k a.best c.args.self.now.place (omega (arith, was.some, was.fits)) was.place_is,

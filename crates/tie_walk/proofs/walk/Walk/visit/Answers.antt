@@ -30,7 +30,6 @@ returns-then-not-enter-clause-stride g c =
       next = reaching-past value c.args.self.now.best c.args.self.now.m c.args.self.now.k c.args.prefix next c.past-self.ensures (c.enter.ensures.none c.if-not-enter.true);
       count = omega (
         arith,
-        c.enter.ensures.entered,
         ap {B = ℕ} (λ b. cond b 1 0) c.if-not-enter.true,
         passed bound c.args.self.now.m c.args.self.now.k c.args.self.now.best c.args.prefix next c.past-self.ensures (sym c.enter.ensures.open ∙ c.if-not-enter.true),
       );
@@ -124,7 +123,6 @@ returns-then-c-m-clause-wait g c exact =
     let alive = alive-open value c.args.self.now.m c.args.self.now.k c.args.self.now.best bound p.c p.set exact c.requires.place.0 c.requires.place.1 (sym c.enter.ensures.open ∙ c.if-not-enter.false) in
     omega (
       arith,
-      c.enter.ensures.once,
       wait-first value c.args.self.now.m c.args.self.now.k c.args.self.now.best p c.first_below.result c.if-c-m.true c.requires.place made.c made.grown made.full alive,
     )
 
