@@ -129,7 +129,6 @@ partials-fall weights set other c (row ∷ rows) falls few =
     let here : row.1 * share Grow weights other c row ≤ row.1 * share Grow weights set c row = mul-le-mul {n₁ = row.1} (omega arith) (shares-fall weights set other c row falls few.0) in
     omega (
       arith,
-      here,
       sum_by-cons (λ (r : Row). r.1 * share Grow weights other c r) row rows,
       sum_by-cons (λ (r : Row). r.1 * share Grow weights set c r) row rows,
       partials-fall weights set other c rows falls few.1,

@@ -127,7 +127,6 @@ module _ (rows : List Row) (family : List ℕ) where
                   own y,
                   one y,
                   ap bit same,
-                  less,
                   below x,
                   count-class (are_clones rows) (clones-sameness rows) y x set same,
                   count-class (are_clones rows) (clones-sameness rows) y x other same,
@@ -149,8 +148,6 @@ module _ (rows : List Row) (family : List ℕ) where
             | inl same ↦
                 omega (
                   arith,
-                  few,
-                  enough',
                   count-class (are_clones rows) (clones-sameness rows) y x set same,
                   count-class (are_clones rows) (clones-sameness rows) y x family same,
                 )

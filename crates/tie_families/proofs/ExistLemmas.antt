@@ -82,8 +82,6 @@ some-free : (step : Step) (m size : ℕ) (set : List ℕ) → IsIncreasing 1 m s
 some-free Grow m size set up sized more =
     omega (
       arith,
-      sized,
-      more,
       count-others (λ (x : ℕ). true) m set up,
       length-sum set,
       length-sum (others m set),

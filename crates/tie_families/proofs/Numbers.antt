@@ -170,7 +170,6 @@ module _ (same : ℕ → ℕ → Bool) (sameness : IsSameness same) where
   within-turned xs ys within most c =
       omega (
         arith,
-        most,
         count-both (same c) xs,
         count-both (same c) ys,
         sums-within (λ x. cond (not (same c x)) 1 0) (λ d e de. ap (λ b. cond (not b) 1 0) (same-right d e c de)) xs ys within,

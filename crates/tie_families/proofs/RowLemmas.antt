@@ -83,7 +83,6 @@ module _ (step : Step) (weights set other : List ℕ) (c d : ℕ) where
         let here : share step weights set c row ≡ weight weights (hits_of step (hits row.0 set)) = ap (λ b. cond b (weight weights (hits_of step (hits row.0 set))) 0) approved in
         omega (
           arith,
-          here,
           ap (λ b. cond b (weight weights (hits_of step (hits row.0 other))) 0) (sym later.0 ∙ approved),
           strict-at weights falls strict (hits_of step (hits row.0 set)) (hits_of step (hits row.0 other)) some.0 some.1 (omega (arith, positive, here)),
         )
@@ -99,7 +98,6 @@ module _ (step : Step) (weights set other : List ℕ) (c d : ℕ) where
       let here : row.1 * share step weights other d row ≤ row.1 * share step weights set c row = mul-le-mul {n₁ = row.1} (omega arith) (shares-later falls row later.0) in
       omega (
         arith,
-        here,
         sum_by-cons (λ (r : Row). r.1 * share step weights set c r) row rows,
         sum_by-cons (λ (r : Row). r.1 * share step weights other d r) row rows,
         partials-later falls rows later.1,

@@ -153,8 +153,6 @@ module _ (weights : List ℕ) (m : ℕ) (rows : List Row) (ballots : AreBallots 
           | inl is ↦
               omega (
                 arith,
-                split,
-                less,
                 same x t.0 is made,
                 same c t.0 t.2 made,
                 same x t.0 is (fold (change Grow) set all),
@@ -176,8 +174,6 @@ module _ (weights : List ℕ) (m : ℕ) (rows : List Row) (ballots : AreBallots 
                   hits-members m row.0 made ballot up',
                   hits-members m row.0 set ballot up,
                   hits-members m row.0 all ballot tied-increasing,
-                  few,
-                  mine,
                   fewer (has_member row.0),
                   ap bit (sym (whole c t.0 t.2) ∙ approved),
                   sums-within (are_clones rows) (clones-sameness rows) (λ y. cond (has_member row.0 y) 1 0) (λ x y xy. ap bit (whole x y xy)) made (set ++ rest) within,
@@ -202,8 +198,6 @@ module _ (weights : List ℕ) (m : ℕ) (rows : List Row) (ballots : AreBallots 
                       arith,
                       count-cons (are_clones rows x) u.0 set,
                       ap bit alike,
-                      full,
-                      some,
                       same x u.0 alike made,
                       same c u.0 u.2 made,
                       same x u.0 alike set,
@@ -433,8 +427,6 @@ module _ (weights : List ℕ) (m : ℕ) (rows : List Row) (ballots : AreBallots 
           | inl is ↦
               omega (
                 arith,
-                split,
-                less,
                 same weights m rows ballots falls set up x t.0 is made,
                 same weights m rows ballots falls set up c t.0 t.2 made,
                 same weights m rows ballots falls set up x t.0 is last,
@@ -456,8 +448,6 @@ module _ (weights : List ℕ) (m : ℕ) (rows : List Row) (ballots : AreBallots 
                   hits-members m row.0 made ballot up',
                   hits-members m row.0 set ballot up,
                   hits-members m row.0 all ballot left-increasing,
-                  few,
-                  mine,
                   fewer (has_member row.0),
                   ap bit approved,
                   sums-within (are_clones rows) (clones-sameness rows) (λ y. cond (has_member row.0 y) 1 0) (λ x y xy. ap bit (whole x y xy)) set (made ++ rest) within,
@@ -483,8 +473,6 @@ module _ (weights : List ℕ) (m : ℕ) (rows : List Row) (ballots : AreBallots 
                       arith,
                       count-cons (are_clones rows x) u.0 made,
                       ap bit alike,
-                      full,
-                      some,
                       same weights m rows ballots falls set up x u.0 alike made,
                       same weights m rows ballots falls set up c u.0 u.2 made,
                       same weights m rows ballots falls set up x u.0 alike set,
@@ -544,7 +532,6 @@ module _ (weights : List ℕ) (m : ℕ) (rows : List Row) (ballots : AreBallots 
                 | inl alike ↦
                     omega (
                       arith,
-                      less,
                       count-without (are_clones rows x) 1 m made c up' inside,
                       ap bit alike,
                       same weights m rows ballots falls set up x c alike made,

@@ -69,7 +69,6 @@ module _ (m : ℕ) (rows : List Row) (set committee : List ℕ) where
         (all-at (λ d. nat_le (clone_count rows set d) (clone_count rows committee d)) (range_with_len 1 m) t.0 all (has_member-range 1 m t.0 bounds.0 (omega (arith, bounds.1)))) in
         omega (
           arith,
-          here,
           count-class (are_clones rows) (clones-sameness rows) c t.0 set t.2,
           count-class (are_clones rows) (clones-sameness rows) c t.0 committee t.2,
         )

@@ -185,10 +185,5 @@ impl<'a, A: Allocator + Copy> Tally for Families<'a, A> {
 fn all_have(sets: &[CandSet], k: u8) -> bool
     ensures { result ≡ list_all (λ set. length set == k) sets.now }
 {
-    for set in sets {
-        if set.len() != k {
-            return false;
-        }
-    }
-    true
+    sets.iter().all(|set| set.len() == k)
 }

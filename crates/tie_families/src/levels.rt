@@ -43,12 +43,7 @@ pub(crate) struct Spans<A: Allocator + Copy> {
 fn is_first_open(step: Step, clones: CandSet, set: CandSet, c: u8) -> bool
     ensures { result ≡ is_first_open step clones set c }
 {
-    for d in 1..c {
-        if clones.has(d) && step.may_choose(set, d) {
-            return false;
-        }
-    }
-    true
+    (1..c).all(|d| !(clones.has(d) && step.may_choose(set, d)))
 }
 
 /// Whether no candidate adds anything to a set, given the best worth.
@@ -65,12 +60,7 @@ fn is_settled(step: Step, best: u128) -> bool
 fn shares_no_voter<A: Allocator + Copy>(profile: &Profile<A>, candidates: CandSet) -> bool
     ensures { result ≡ shares_no_voter profile.now.rows candidates }
 {
-    for (ballot, _voters) in profile.ballots() {
-        if ballot.common(candidates).len() > 1 {
-            return false;
-        }
-    }
-    true
+    profile.ballots().all(|(ballot, _voters)| ballot.common(candidates).len() <= 1)
 }
 
 /// The set after all of these choices.

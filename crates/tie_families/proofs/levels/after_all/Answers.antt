@@ -5,12 +5,6 @@ use Rattle.tie_walk.specs.Steps.Choices.{change}
 use Rattle.tie_families.proofs.StepLemmas.{first-parts}
 use Rattle.tie_families.proofs.levels.after_all.Goals as goal
 
-pub change-after-requires-clause-low : goal.change-after-requires-clause-low
-change-after-requires-clause-low c = (first-parts c.loop-candidate.candidate-iterator c.next.new.self c.in-Some.candidate most_candidates c.in-Some.ensures.steps c.loop-candidate.invariant.members).0.0
-
-pub change-after-requires-clause-high : goal.change-after-requires-clause-high
-change-after-requires-clause-high c = (first-parts c.loop-candidate.candidate-iterator c.next.new.self c.in-Some.candidate most_candidates c.in-Some.ensures.steps c.loop-candidate.invariant.members).0.1
-
 pub loop-candidate-preserved : goal.loop-candidate-preserved
 loop-candidate-preserved c =
     let step = c.args.step in
@@ -18,6 +12,3 @@ loop-candidate-preserved c =
       members = (first-parts c.loop-candidate.candidate-iterator c.next.new.self c.in-Some.candidate most_candidates c.in-Some.ensures.steps c.loop-candidate.invariant.members).1;
       made = ap (λ s. fold (change step) s c.next.new.self) c.change-after.ensures ∙ sym (ap (fold (change step) c.loop-candidate.after) c.in-Some.ensures.steps) ∙ c.loop-candidate.invariant.made;
     }
-
-pub returns : goal.returns
-returns c = sym (ap (fold (change c.args.step) c.loop-candidate.after) c.in-None.ensures.steps.0) ∙ c.loop-candidate.invariant.made

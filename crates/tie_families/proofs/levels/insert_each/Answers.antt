@@ -5,12 +5,6 @@ use Rattle.tie_walk.proofs.FoundLemmas.{found-inserted}
 use Rattle.tie_families.proofs.StepLemmas.{first-parts, found-first}
 use Rattle.tie_families.proofs.levels.insert_each.Goals as goal
 
-pub change-requires-clause-low : goal.change-requires-clause-low
-change-requires-clause-low g c = (first-parts c.loop-candidate.candidate-iterator c.next.new.self c.in-Some.candidate most_candidates c.in-Some.ensures.steps c.loop-candidate.invariant.members).0.0
-
-pub change-requires-clause-high : goal.change-requires-clause-high
-change-requires-clause-high g c = (first-parts c.loop-candidate.candidate-iterator c.next.new.self c.in-Some.candidate most_candidates c.in-Some.ensures.steps c.loop-candidate.invariant.members).0.1
-
 pub loop-candidate-preserved : goal.loop-candidate-preserved
 loop-candidate-preserved g c =
     let step = c.args.step in

@@ -20,14 +20,6 @@ may_be_in-requires-clause-least_set g c =
     let turn = zip_turn leasts mosts c.loop-least.yielded z c.loop-least.least-iterator c.next.new.self c.next.result refl refl c.loop-least.yielded_by (c.in-Some.least, c.in-Some.most) c.in-Some.is c.next.ensures.steps in
     least-of c.self.invariant c.args.self.now c.self.view_is leasts (length c.loop-least.yielded) c.in-Some.least.now (rw (c.into_iter-least-iterator.ensures.into_iter_gives, c.zip-least-items.ensures.first) (c.iter.ensures.rest ∙ c.deref.ensures.value)) turn.0 turn.2
 
-pub may_be_in-requires-clause-most_set : goal.may_be_in-requires-clause-most_set
-may_be_in-requires-clause-most_set g c =
-    let z = c.into_iter-least-iterator.result in
-    let leasts = iter_rest (zip_first z) in
-    let mosts = iter_rest (zip_second z) in
-    let turn = zip_turn leasts mosts c.loop-least.yielded z c.loop-least.least-iterator c.next.new.self c.next.result refl refl c.loop-least.yielded_by (c.in-Some.least, c.in-Some.most) c.in-Some.is c.next.ensures.steps in
-    most-of c.self.invariant c.args.self.now c.self.view_is mosts (length c.loop-least.yielded) c.in-Some.most.now (rw c.into_iter-least-iterator.ensures.into_iter_gives c.zip-least-items.ensures.second.0) turn.1 turn.3
-
 pub returns-then-may_be_in : goal.returns-then-may_be_in
 returns-then-may_be_in g c =
     let z = c.into_iter-least-iterator.result in

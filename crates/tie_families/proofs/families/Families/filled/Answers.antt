@@ -13,8 +13,6 @@ pub with-filled-requires-clause-high : goal.with-filled-requires-clause-high
 with-filled-requires-clause-high g c =
     omega (
       arith,
-      c.self.invariant.most,
-      c.self.invariant.m_is,
       ap (λ (x : Sequential). x.election.m) c.self.view_is,
       (free-among c.args.self.now.election.m c.args.most c.loop-most.filled c.in_ok-next.next c.in_ok-next._others c.requires.most_set (sym c.minus.ensures ∙ c.in_ok-next.ensures)).0.1,
     )
