@@ -12,10 +12,9 @@ pub(crate) fn good_committee<T: Tally>(tally: &T, k: u8) -> CandSet
     ensures candidates { IsIncreasing 1 (T.candidates tally.now) result }
     ensures size { length result ≡ k }
 {
-    match tally.good_committee(k) {
-        Some(set) => set,
-        None => improved(tally, grown_committee(tally, k)),
-    }
+    tally
+        .good_committee(k)
+        .unwrap_or_else(|| improved(tally, grown_committee(tally, k)))
 }
 
 /// A committee of k: the candidates who raise the value most, added one after another.

@@ -7,8 +7,7 @@ ghost use Rattle.ballot_base.specs.Ballots.{Row, Election, IsElection};
 ghost use Rattle.ballot_base.specs.Lists.{IsIncreasing, increasing_lists, AreInOrder, later_than};
 ghost use Rattle.ballot_base.specs.CandSet.{with_member, without_member, members_upto};
 ghost use Rattle.tie_walk.specs.Sequences.{hit_weights, has_greatest_gain, has_least_loss, IsGrown, IsShrunk, sequential_winners};
-ghost use Rattle.tie_walk.specs.Ceilings.{Prefix, IsLive, IsSubmodular, IsBound, IsTight, IsExactAtBest};
-ghost use Rattle.tie_walk.specs.Ceilings.{ceiling, closeness_upto, live_below};
+ghost use Rattle.tie_walk.specs.Ceilings.{Prefix, IsLive, IsSubmodular, IsBound, IsTight, IsExactAtBest, ceiling, closeness_upto, live_below};
 ghost use Rattle.tie_walk.specs.Values.{greatest_distance, closeness, satisfaction_value, thiele_value};
 ghost use Rattle.tie_walk.specs.Winners.{Winning, IsNextWinner, best_value, winners};
 

@@ -66,16 +66,11 @@ impl<'a, T: Tally> Winners<'a, T> {
         ensures left { result.left ≡ later_than after (winners (T.value_of tally.now) m k) }
     {
         let best = greatest_value(tally, k);
-        match after {
-            Some(set) => Winners {
-                walk: Walk::begin_after(tally, k, best, set),
-                after: Some(set),
-            },
-            None => Winners {
-                walk: Walk::begin(tally, k, best),
-                after: None,
-            },
-        }
+        let walk = match after {
+            Some(set) => Walk::begin_after(tally, k, best, set),
+            None => Walk::begin(tally, k, best),
+        };
+        Winners { walk, after }
     }
 
     /// The greatest value that a committee has.
