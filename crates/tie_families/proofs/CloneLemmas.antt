@@ -1,5 +1,6 @@
 -- Clones bring a set the same, and two sets with as many of each class of clones gain and lose the same.
-use Rattle.std.proofs.Common.{◌≡◌, ℕ, ◌+◌, ◌*◌, ◌≤◌, ◌∙◌, Bool, true, false, cond, List, [], ◌∷◌, refl, sym, ap, arith, length, count_by}
+use Rattle.std.proofs.lemmas.Grind.{common_steps}
+use Rattle.std.proofs.Common.{◌≡◌, ℕ, ◌≤◌, ◌∙◌, Bool, true, false, cond, List, [], ◌∷◌, refl, sym, ap, arith, length, count_by}
 use Rattle.std.proofs.Math.Nat.{mul-le-mul}
 use Rattle.std.specs.List.{AllByRecursion}
 use Rattle.std.proofs.lemmas.Bool.{and_parts, and_from}
@@ -66,10 +67,8 @@ IsWhole same row = (c d : ℕ) → same c d ≡ true → has_member row.0 c ≡ 
 
 whole-rows : (same : ℕ → ℕ → Bool) (rows : List Row) → ((c d : ℕ) → same c d ≡ true → are_clones rows c d ≡ true) → AllByRecursion (IsWhole same) rows
 whole-rows same [] are = tt
-whole-rows same (row ∷ rows) are = (
-  λ c d cd. both-same (has_member row.0 c) (has_member row.0 d) (and_parts (is_both (has_member row.0 c) (has_member row.0 d)) (are_clones rows c d) (are c d cd)).0,
-  whole-rows same rows (λ c d cd. (and_parts (is_both (has_member row.0 c) (has_member row.0 d)) (are_clones rows c d) (are c d cd)).1),
-)
+whole-rows same (row ∷ rows) are =
+    grind (arith, common_steps, whole-rows same rows (λ c d cd. (and_parts (is_both (has_member row.0 c) (has_member row.0 d)) (are_clones rows c d) (are c d cd)).1), both-same, and_parts, is_both)
 
 pub all_whole : (rows : List Row) → AllByRecursion (IsWhole (are_clones rows)) rows
 all_whole rows = whole-rows (are_clones rows) rows (λ c d cd. cd)
@@ -109,30 +108,16 @@ partials-same : (same : ℕ → ℕ → Bool) (step : Step) (weights set other :
     → partial step weights set c rows ≡ partial step weights other d rows
 partials-same same step weights set other c d [] cd whole few many = refl
 partials-same same step weights set other c d (row ∷ rows) cd whole few many =
-    let here : hits row.0 set ≡ hits row.0 other = omega (arith, few.0, many.0) in
-    sum_by-cons (λ (r : Row). r.1 * share step weights set c r) row rows
-    ∙ ap (λ n. n + partial step weights set c rows) (ap (λ n. row.1 * n) (shares-same step weights set other c d row here (whole.0 c d cd)))
-    ∙ ap (λ n. row.1 * share step weights other d row + n) (partials-same same step weights set other c d rows cd whole.1 few.1 many.1)
-    ∙ sym (sum_by-cons (λ (r : Row). r.1 * share step weights other d r) row rows)
+    grind (arith, common_steps, partials-same same step weights set other c d rows cd whole.1 few.1 many.1, sum_by-cons, share, partial, shares-same)
 
 shares-fall : (weights set other : List ℕ) (c : ℕ) (row : Row) → IsFalling weights → hits row.0 set ≤ hits row.0 other → share Grow weights other c row ≤ share Grow weights set c row
-shares-fall weights set other c row falls few =
-    elim (has_member row.0 c) as (λ b. cond b (weight weights (hits row.0 other + 1)) 0 ≤ cond b (weight weights (hits row.0 set + 1)) 0) [
-      | true ↦ falls (hits row.0 set) (hits row.0 other) few
-      | false ↦ omega arith
-    ]
+shares-fall weights set other c row falls few = grind (arith, common_steps)
 
 partials-fall : (weights set other : List ℕ) (c : ℕ) (rows : List Row) → IsFalling weights → AllByRecursion (λ (row : Row). hits row.0 set ≤ hits row.0 other) rows
     → partial Grow weights other c rows ≤ partial Grow weights set c rows
 partials-fall weights set other c [] falls few = omega arith
 partials-fall weights set other c (row ∷ rows) falls few =
-    let here : row.1 * share Grow weights other c row ≤ row.1 * share Grow weights set c row = mul-le-mul {n₁ = row.1} (omega arith) (shares-fall weights set other c row falls few.0) in
-    omega (
-      arith,
-      sum_by-cons (λ (r : Row). r.1 * share Grow weights other c r) row rows,
-      sum_by-cons (λ (r : Row). r.1 * share Grow weights set c r) row rows,
-      partials-fall weights set other c rows falls few.1,
-    )
+    grind (arith, common_steps, partials-fall weights set other c rows falls few.1, share, mul-le-mul, shares-fall, sum_by-cons)
 
 module _ (m : ℕ) (rows : List Row) (ballots : AreBallots m rows) where
   -- sets with as many of each class gain the same by clones, and lose the same with them

@@ -1,5 +1,6 @@
 -- Which families have a committee of a set and of some of the candidates after it: those that the set lacks of each
 -- class are added one by one, and fit, and more of them can be added up to the most.
+use Rattle.std.proofs.lemmas.Grind.{common_steps}
 use Rattle.std.proofs.Common.{◌≡◌, ℕ, zero, suc, ◌+◌, ◌-◌, ◌≤◌, ◌∙◌, Bool, true, false, cond, not, ◌&&◌, ◌<◌, List, [], ◌∷◌, ◌++◌, sym, ap, subst, arith, inl, inr, filter, length, length-append, append_assoc, count_by, append-nil}
 use Rattle.std.specs.Prelude.{fold, nat_le}
 use Rattle.std.specs.List.{list_any, range_with_len}
@@ -45,10 +46,8 @@ range-most p (suc n) first last (x ∷ xs) all up = elim (cases_eq x first) [
 ]
 
 bounded : (first last : ℕ) (xs : List ℕ) (x : ℕ) → IsIncreasing first last xs → has_member xs x ≡ true → (first ≤ x) × (x ≤ last)
-bounded first last xs x up inside = (
-  elim (cases_lt x first) [ inl below ↦ absurd (both_ways (has_member xs x) (has_member-below first last xs x up below) inside) | inr fine ↦ fine ],
-  elim (cases_lt last x) [ inl above ↦ absurd (both_ways (has_member xs x) (has_member-above first last xs x up above) inside) | inr fine ↦ fine ],
-)
+bounded first last xs x up inside =
+    grind (arith, common_steps, cases_lt, both_ways, has_member-below, last, has_member-above)
 
 -- of a list with more that pass there is one outside the other
 missing : (p : ℕ → Bool) (first last : ℕ) (xs ys : List ℕ) → IsIncreasing first last xs → IsIncreasing first last ys → count_by p xs < count_by p ys

@@ -1,4 +1,5 @@
 -- Some sequence of choices makes a committee: at each set somebody ties for the best.
+use Rattle.std.proofs.lemmas.Grind.{common_steps}
 use Rattle.std.proofs.Common.{◌≡◌, ℕ, zero, suc, ◌+◌, ◌-◌, ◌<◌, ◌≤◌, ◌==◌, ◌∙◌, Bool, true, false, cond, List, [], ◌∷◌, refl, sym, ap, subst, arith, inl, inr, ◌⊎◌, length}
 use Rattle.std.specs.List.{range_with_len, AllByRecursion}
 use Rattle.std.proofs.lemmas.Bool.{cases_lt, cases_eq, le-leb, leb-true, and_from}
@@ -71,10 +72,7 @@ some-best step w x (y ∷ ys) =
     ]
   where
     later : (c : ℕ) → has_member (y ∷ ys) c ≡ true → has_member (x ∷ y ∷ ys) c ≡ true
-    later c inside = elim (cases_eq x c) [
-      | inl same ↦ subst (λ k. has_member (x ∷ y ∷ ys) k ≡ true) same (has_member_head x (y ∷ ys))
-      | inr other ↦ has_member_tail x c (y ∷ ys) other ∙ inside
-    ]
+    later c inside = grind (arith, common_steps, cases_eq, has_member_head, has_member_tail)
 
 -- ---- somebody is free as long as choices are left
 
@@ -100,9 +98,7 @@ module _ (step : Step) (weights : List ℕ) (m : ℕ) (rows : List Row) where
       tied : (c : ℕ) → has_member (open_candidates step m set) c ≡ true
           → ((d : ℕ) → has_member (open_candidates step m set) d ≡ true → is_no_better step (worth step weights rows set d) (worth step weights rows set c) ≡ true)
           → is_choice step weights m rows set c ≡ true
-      tied c free each =
-          and_from (has_member (open_candidates step m set) c) _ free
-          (all-from (λ d. is_no_better step (worth step weights rows set d) (worth step weights rows set c)) (open_candidates step m set) each)
+      tied c free each = grind (arith, common_steps, and_from, all-from)
 
   some-reached : (size : ℕ) → size ≤ m → (set : List ℕ) × IsReachedBy step weights m rows size set
   some-reached zero fits = (start step m, reached_none (is_choice step weights m rows) (change step) (start step m))

@@ -1,4 +1,5 @@
 -- The families of the last level have the winners of a sequential rule.
+use Rattle.std.proofs.lemmas.Grind.{common_steps}
 use Rattle.std.proofs.Common.{◌≡◌, ℕ, zero, suc, ◌+◌, ◌*◌, ◌/◌, ◌<◌, ◌≤◌, ◌==◌, ◌||◌, ◌++◌, take, ◌∙◌, Bool, true, false, cond, Option, Some, List, [], ◌∷◌, refl, sym, ap, subst, arith, inl, inr, length, map, get_or, Contains, add-one}
 use Rattle.std.proofs.Math.Nat.{mul-le-mul, mul-div_cancel'}
 use Rattle.std.specs.Prelude.{slice_index_or}
@@ -13,7 +14,7 @@ use Rattle.ballot_base.specs.CommonMultiple.{common_multiple}
 use Rattle.ballot_base.specs.Ballots.{Row, Election}
 use Rattle.ballot_base.proofs.LeastMultiples.{common_multiple_divides}
 use Rattle.ballot_base.proofs.ListLemmas.{Contains-later}
-use Rattle.tie_walk.specs.Sequences.{hit_weight, hit_weights, weight, is_sequential_winner}
+use Rattle.tie_walk.specs.Sequences.{hit_weight, hit_weights, is_sequential_winner}
 use Rattle.tie_walk.specs.Steps.Choices.{step_of, choices_of, change, is_choice, start}
 use Rattle.tie_walk.specs.declared.sequential.SeqRule.{SeqRule}
 use Rattle.tie_walk.specs.declared.sequential.SeqRule.TheVariants.{SeqPav, SeqCc, RevSeqPav}
@@ -25,7 +26,7 @@ use Rattle.tie_walk.proofs.LevelLemmas.{followed-candidates}
 use Rattle.tie_walk.proofs.RowSums.{AreBallots}
 use Rattle.tie_walk.proofs.SequenceLemmas.{grown_set-made, left_set-made}
 use Rattle.tie_families.specs.Clones.{has_as_many, is_between}
-use Rattle.tie_families.specs.Steps.Levels.{end, end_or, other_end, chosen, IsAhead, IsFalling, IsStrict, IsOfSize, IsOf, IsPlaced, IsFamilyLevel, AreFamilies}
+use Rattle.tie_families.specs.Steps.Levels.{end, end_or, other_end, IsAhead, IsFalling, IsStrict, IsOfSize, IsOf, IsPlaced, IsFamilyLevel, AreFamilies}
 use Rattle.tie_families.proofs.LevelLemmas.{ahead-itself, ahead-joined, ahead-turned, sized-chosen, level-candidates}
 use Rattle.tie_families.proofs.Numbers.{bit}
 use Rattle.tie_families.proofs.SpanLemmas.{end-span, end-increasing}
@@ -108,9 +109,7 @@ module _ (step : Step) (weights : List ℕ) (m : ℕ) (rows : List Row) (ballots
       where
         by : (length set == k) ≡ false → (o : Option (List ℕ)) → end step weights m rows set ≡ o → IsPlaced step weights m rows size set → IsOther set (other_end step weights m rows k set)
         by differs o is (inl sized) = absurd (both_ways (length set == k) differs (eq-eqb (length set) k (unsizes set sized)))
-        by differs o is (inr placed) =
-            let at : end_or set (end step weights m rows set) ≡ placed.1.0 = ap (end_or set) placed.1.1 in
-            subst (IsOther set) (sym (ap (λ b. cond b set (end_or set (end step weights m rows set))) differs ∙ at)) (lasting differs placed.1.1)
+        by differs o is (inr placed) = grind (arith, common_steps, lasting)
 
     other-increasing : (set : List ℕ) → Contains sets set → IsIncreasing 1 m (other_end step weights m rows k set)
     other-increasing set inside = by (other_end step weights m rows k set) (other-is set inside)
@@ -133,9 +132,7 @@ module _ (step : Step) (weights : List ℕ) (m : ℕ) (rows : List Row) (ballots
         by : (last : List ℕ) → IsOther set last → length last ≡ k → IsPlaced step weights m rows size set → last ≡ set
         by last (itself many same) many' placed = sym same
         by last (lasting differs is) many' (inl sized) = absurd (both_ways (length set == k) differs (eq-eqb (length set) k (unsizes set sized)))
-        by last (lasting differs is) many' (inr placed) =
-            let same : placed.1.0 ≡ last = ap (end_or []) (sym placed.1.1 ∙ is) in
-            absurd (omega (arith, placed.1.2, ap (chosen step m) same, sized-chosen step m size last (sizes last many')))
+        by last (lasting differs is) many' (inr placed) = grind (arith, common_steps, sized-chosen)
 
     module _ (committee : List ℕ) (up : IsIncreasing 1 m committee) (many : length committee ≡ k) where
       spanned-of : (set : List ℕ) → Contains sets set → IsOf step weights m rows set committee → is_spanned step m rows committee set (other_end step weights m rows k set) ≡ true
@@ -195,39 +192,19 @@ rule-unsizes RevSeqPav m k set fits sized = omega (arith, sized, fits)
 -- ---- after a hit that brings something, the next one brings less
 
 exact-falls : (n a b j : ℕ) → 1 ≤ j → n ≡ j * a → n ≡ (j + 1) * b → 0 < a → b < a
-exact-falls n a b j low at next some = elim (cases_lt b a) [
-  | inl less ↦ less
-  | inr more ↦
-      let split : (j + 1) * b ≡ j * b + b = grind arith in
-      let wide : j * a ≤ j * b = mul-le-mul {n₁ = j} (omega arith) more in
-      absurd (omega (arith, at, next, split, wide, more, some))
-]
+exact-falls n a b j low at next some = grind (arith, common_steps, cases_lt, mul-le-mul)
 
 shares-fall : (m j : ℕ) → 1 ≤ j → j + 1 ≤ m → 0 < common_multiple m / j → common_multiple m / (j + 1) < common_multiple m / j
-shares-fall m j low high some =
-    let here : j * (common_multiple m / j) ≡ common_multiple m = mul-div_cancel' j (common_multiple_divides m j low (omega (arith, high))) in
-    let next : (j + 1) * (common_multiple m / (j + 1)) ≡ common_multiple m = mul-div_cancel' (j + 1) (common_multiple_divides m (j + 1) (omega arith) high) in
-    exact-falls (common_multiple m) (common_multiple m / j) (common_multiple m / (j + 1)) j low (sym here) (sym next) some
+shares-fall m j low high some = grind (arith, common_steps, mul-div_cancel', common_multiple_divides, exact-falls)
 
 hit-strict : (rule : SeqRule) (m j : ℕ) → 1 ≤ j → j + 1 ≤ m → 0 < hit_weight rule m j → hit_weight rule m (j + 1) < hit_weight rule m j
 hit-strict SeqPav m j low high some = shares-fall m j low high some
-hit-strict SeqCc m j low high some =
-    let none : hit_weight SeqCc m (j + 1) ≡ 0 = ap (λ b. bit b) (ne_eqb (j + 1) 1 (λ e. omega (arith, e, low))) in
-    omega (arith, some, none)
+hit-strict SeqCc m j low high some = grind (arith, common_steps, bit, ne_eqb)
 hit-strict RevSeqPav m j low high some = shares-fall m j low high some
 
 pub hit_weights-strict : (rule : SeqRule) (m : ℕ) → IsStrict (hit_weights rule m)
 hit_weights-strict rule m j some =
-    let all = hit_weights rule m in
-    let here : weight all (j + 1) ≡ get_or all j 0 = ap (weight all) (add-one j) in
-    let next : weight all (j + 1 + 1) ≡ get_or all (j + 1) 0 = ap (weight all) (add-one (j + 1)) in
-    elim (cases_lt (j + 1) m) [
-      | inl low ↦
-          let at = hit_weights-at rule m j (omega (arith, low)) in
-          let after = hit_weights-at rule m (j + 1) low in
-          omega (arith, here, next, at, after, some, hit-strict rule m (j + 1) (omega arith) (omega (arith, low)) (omega (arith, some, here, at)))
-      | inr high ↦ omega (arith, here, next, some, get_or_past all (j + 1) 0 (omega (arith, hit_weights-length rule m, high)))
-    ]
+    grind (arith, common_steps, get_or, add-one, cases_lt, hit_weights-at, hit-strict, get_or_past, hit_weights-length)
 
 -- ---- the families of the last level
 

@@ -1,4 +1,5 @@
 -- The families of a level have exactly the sets that so many choices make.
+use Rattle.std.proofs.lemmas.Grind.{common_steps}
 use Rattle.std.proofs.Common.{◌≡◌, ℕ, zero, suc, ◌+◌, ◌<◌, ◌≤◌, Option, Some, None, is_some, ◌&&◌, ◌∙◌, Bool, true, false, cond, List, [], ◌∷◌, refl, sym, ap, subst, arith, inl, inr, filter, length, Contains}
 use Rattle.std.specs.Prelude.{nat_le}
 use Rattle.std.specs.List.{range_with_len, AllByRecursion}
@@ -198,15 +199,11 @@ module _ (step : Step) (weights : List ℕ) (m : ℕ) (rows : List Row) (size : 
 
   pub stays-contains : (set last : List ℕ) → end step weights m rows set ≡ Some last → size + 1 < chosen step m last → Contains (family_changes step weights m rows size set) set
   unfolding family_changes
-  stays-contains set last is more =
-      subst (λ o. Contains (followed step m size set (ties step weights m rows set) o) set) (sym is)
-      (one-contains (cond (nat_le (chosen step m last) (size + 1)) last set) set (ap (λ b. cond b last set) (fails-over (chosen step m last) (size + 1) more)))
+  stays-contains set last is more = grind (arith, common_steps, Contains, is, one-contains, fails-over)
 
   pub ends-contains : (set last : List ℕ) → end step weights m rows set ≡ Some last → chosen step m last ≤ size + 1 → Contains (family_changes step weights m rows size set) last
   unfolding family_changes
-  ends-contains set last is over =
-      subst (λ o. Contains (followed step m size set (ties step weights m rows set) o) last) (sym is)
-      (one-contains (cond (nat_le (chosen step m last) (size + 1)) last set) last (ap (λ b. cond b last set) (le-leb (chosen step m last) (size + 1) over)))
+  ends-contains set last is over = grind (arith, common_steps, Contains, is, one-contains, le-leb)
 
   pub changed-contains : (set : List ℕ) (c : ℕ) → end step weights m rows set ≡ None → is_choice step weights m rows set c ≡ true → is_first_open step (clones_among m rows c) set c ≡ true
       → Contains (family_changes step weights m rows size set) (change step set c)
@@ -241,9 +238,7 @@ module _ (step : Step) (weights : List ℕ) (m : ℕ) (rows : List Row) (ballots
   still-lasts size set last fits up (inl sized) e =
       let many = sized-chosen step m size set sized in
       (omega (arith, many), omega (arith, many, (end-span step weights m rows ballots falls strict set last up e).1 (omega (arith, many, fits))))
-  still-lasts size set last fits up (inr lasting) e =
-      let same : lasting.1.0 ≡ last = ap (end_or []) (sym lasting.1.1 ∙ e) in
-      (omega (arith, lasting.0), omega (arith, lasting.1.2, ap (chosen step m) same))
+  still-lasts size set last fits up (inr lasting) e = grind (arith, common_steps)
 
   still-sized : (size : ℕ) (set : List ℕ) → IsPlaced step weights m rows size set → end step weights m rows set ≡ None → IsOfSize step m size set
   still-sized size set (inl sized) none = sized
@@ -293,8 +288,7 @@ module _ (step : Step) (weights : List ℕ) (m : ℕ) (rows : List Row) (ballots
         by old up (stays last e more same) = subst (IsIncreasing 1 m) same up
         by old up (ends last e over same) = subst (IsIncreasing 1 m) same (end-span step weights m rows ballots falls strict old last up e).0.increasing
         by old up (changed c none choice is) =
-            let candidate = (choice-parts step weights m rows old c choice).0 in
-            subst (IsIncreasing 1 m) is (change-increasing step m old c up candidate.0 candidate.1)
+            grind (arith, common_steps, choice-parts, old, choice, is, change-increasing)
 
     next-placed : (set : List ℕ) → Contains next set → IsPlaced step weights m rows (size + 1) set
     next-placed set inside =
@@ -302,13 +296,8 @@ module _ (step : Step) (weights : List ℕ) (m : ℕ) (rows : List Row) (ballots
         by some.0 (level.candidates some.0 some.1) (level.placed some.0 some.1) some.2
       where
         by : (old : List ℕ) → IsIncreasing 1 m old → IsPlaced step weights m rows size old → IsMade step weights m rows size old set → IsPlaced step weights m rows (size + 1) set
-        by old up placed (stays last e more same) =
-            let lasts = still-lasts size old last fits up placed e in
-            subst (IsPlaced step weights m rows (size + 1)) same (inr (omega (arith, lasts.0), (last, e, more)))
-        by old up placed (ends last e over same) =
-            let lasts = still-lasts size old last fits up placed e in
-            inl (subst (IsOfSize step m (size + 1)) same
-            (chosen-sized step m (size + 1) last (end-span step weights m rows ballots falls strict old last up e).0.increasing (omega (arith, lasts.1, over))))
+        by old up placed (stays last e more same) = grind (arith, common_steps, still-lasts, old)
+        by old up placed (ends last e over same) = grind (arith, common_steps, still-lasts, old, chosen-sized, end-span)
         by old up placed (changed c none choice is) =
             inl (subst (IsOfSize step m (size + 1)) is (change-sized step m size old c up (choice-parts step weights m rows old c choice).1 (still-sized size old placed none)))
 
@@ -397,11 +386,7 @@ module _ (step : Step) (weights : List ℕ) (m : ℕ) (rows : List Row) (ballots
             let here : IsOf step weights m rows old made = subst (λ s. IsOf step weights m rows s made) (sym same) of in
             span-reached old last made from e up sized here.ahead (here.until last e)
         by old from up' placed (ends last e over same) =
-            let lasts = still-lasts size old last fits up' placed e in
-            let span = (end-span step weights m rows ballots falls strict old last up' e).0 in
-            let ended = chosen-sized step m (size + 1) last span.increasing (omega (arith, lasts.1, over)) in
-            let beyond : IsAhead step rows last made = subst (λ s. IsAhead step rows s made) (sym same) of.ahead in
-            span-reached old last made from e up sized (ahead-joined step rows old last made span.ahead beyond) (ahead-turned step m (size + 1) rows last made ended sized beyond)
+            grind (arith, common_steps, still-lasts, old, end-span, chosen-sized, span-reached, sized, ahead-joined, ahead-turned)
         by old from up' placed (changed c none choice is) =
             let parts = choice-parts step weights m rows old c choice in
             let old-is = still-sized size old placed none in

@@ -1,11 +1,12 @@
 -- Members of lists, of filters and of sets.
+use Rattle.std.proofs.lemmas.Grind.{common_steps}
 use Rattle.std.proofs.Common.{◌≡◌, ℕ, zero, suc, ◌+◌, ◌-◌, ◌≤◌, ◌==◌, ◌&&◌, ◌||◌, ◌∙◌, Bool, true, false, not, List, [], ◌∷◌, refl, sym, ap, arith, inl, inr, filter, count_by, Contains}
 use Rattle.std.specs.List.{list_all, range_with_len}
 use Rattle.std.proofs.lemmas.Bool.{cases_Bool, cases_eq, and_parts, and_from, and_left, both_ways, not-true, eq-eqb, ne_eqb, or_right, or_left, not_from_true}
 use Rattle.ballot_base.specs.Lists.{IsIncreasing}
 pub use Rattle.ballot_base.proofs.Included.{all-at, all-from}
 use Rattle.ballot_base.specs.CandSet.{has_member, other_members, with_member, without_member}
-use Rattle.ballot_base.proofs.Increasing.{IsIncreasing-filter, IsIncreasing-with_member, has_member-filter, has_member-with_member, has_member_head, has_member_tail, same_increasing}
+use Rattle.ballot_base.proofs.Increasing.{IsIncreasing-filter, IsIncreasing-with_member, has_member-filter, has_member-with_member, has_member_head, same_increasing}
 use Rattle.tie_walk.specs.Sequences.{others}
 use Rattle.tie_walk.specs.Steps.Choices.{may_choose, open_candidates}
 use Rattle.tie_walk.specs.declared.sequential.Step.{Step}
@@ -70,10 +71,7 @@ module _ (m : ℕ) (set : List ℕ) (n : ℕ) (up : IsIncreasing 1 m set) (low :
       (λ x. has_member-with_member (without_member set n) n x ∙ ap (λ b. (n == x) || b) (member-without set n x) ∙ at x)
     where
       at : (x : ℕ) → ((n == x) || (not (x == n) && has_member set x)) ≡ has_member set x
-      at x = elim (cases_eq n x) [
-        | inl same ↦ or_left (n == x) (not (x == n) && has_member set x) (eq-eqb n x same) ∙ sym (ap (has_member set) (sym same) ∙ inside)
-        | inr other ↦ ap (λ b. b || (not (x == n) && has_member set x)) (ne_eqb n x other) ∙ ap (λ b. not b && has_member set x) (ne_eqb x n (λ e. other (sym e)))
-      ]
+      at x = grind (arith, common_steps, cases_eq, or_left, not, eq-eqb, ne_eqb)
 
   pub without-with : has_member set n ≡ false → without_member (with_member set n) n ≡ set
   without-with outside =
@@ -81,10 +79,7 @@ module _ (m : ℕ) (set : List ℕ) (n : ℕ) (up : IsIncreasing 1 m set) (low :
       (λ x. member-without (with_member set n) n x ∙ ap (λ b. not (x == n) && b) (has_member-with_member set n x) ∙ at x)
     where
       at : (x : ℕ) → (not (x == n) && ((n == x) || has_member set x)) ≡ has_member set x
-      at x = elim (cases_eq x n) [
-        | inl same ↦ and_left (not (x == n)) ((n == x) || has_member set x) (not_from_true (x == n) (eq-eqb x n same)) ∙ sym (ap (has_member set) same ∙ outside)
-        | inr other ↦ ap (λ b. not b && ((n == x) || has_member set x)) (ne_eqb x n other) ∙ ap (λ b. b || has_member set x) (ne_eqb n x (λ e. other (sym e)))
-      ]
+      at x = grind (arith, common_steps, cases_eq, and_left, not, not_from_true, eq-eqb, ne_eqb)
 
 -- ---- the candidates inside and outside
 
@@ -95,12 +90,7 @@ members-of m set up =
     (λ n. has_member-filter (has_member set) (range_with_len 1 m) n ∙ member n)
   where
     member : (n : ℕ) → (has_member set n && has_member (range_with_len 1 m) n) ≡ has_member set n
-    member n = elim (cases_Bool (has_member set n)) [
-      | inl inside ↦
-          let bounds = in_bounds m set n up inside in
-          rw (inside, has_member-range 1 m n bounds.0 (omega (arith, bounds.1)))
-      | inr outside ↦ rw outside
-    ]
+    member n = grind (arith, common_steps, cases_Bool, in_bounds, has_member-range)
 
 pub count-others : (p : ℕ → Bool) (m : ℕ) (set : List ℕ) → IsIncreasing 1 m set → count_by p set + count_by p (others m set) ≡ count_by p (range_with_len 1 m)
 count-others p m set up = omega (arith, count-parts p (has_member set) (range_with_len 1 m), ap (count_by p) (members-of m set up))

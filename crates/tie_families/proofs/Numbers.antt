@@ -1,5 +1,6 @@
 -- Lists of candidates of several classes: how many there are of each class decides every sum in which the candidates of
 -- a class count alike.
+use Rattle.std.proofs.lemmas.Grind.{common_steps}
 use Rattle.std.proofs.Common.{◌≡◌, ℕ, ◌+◌, ◌<◌, ◌≤◌, ◌==◌, ◌∙◌, Bool, true, false, cond, not, List, [], ◌∷◌, ◌++◌, refl, sym, ap, subst, arith, inl, inr, ◌⊎◌, filter, length, sum_by, count_by}
 use Rattle.std.specs.List.{AllByRecursion}
 use Rattle.std.proofs.lemmas.Bool.{cases_Bool, cases_lt, cases_eq, cases_order, both_ways, ne_eqb, or_right}
@@ -73,12 +74,7 @@ count-both p (x ∷ xs) = omega (arith, count-cons p x xs, count-cons (λ y. not
 
 pub count-parts : (p q : ℕ → Bool) (xs : List ℕ) → count_by p (filter q xs) + count_by p (filter (λ x. not (q x)) xs) ≡ count_by p xs
 count-parts p q [] = refl
-count-parts p q (x ∷ xs) =
-    let rest = count-parts p q xs in
-    elim (q x) as (λ b. count_by p (cond b (x ∷ filter q xs) (filter q xs)) + count_by p (cond (not b) (x ∷ filter (λ y. not (q y)) xs) (filter (λ y. not (q y)) xs)) ≡ count_by p (x ∷ xs)) [
-      | true ↦ omega (arith, rest, count-cons p x xs, count-cons p x (filter q xs))
-      | false ↦ omega (arith, rest, count-cons p x xs, count-cons p x (filter (λ y. not (q y)) xs))
-    ]
+count-parts p q (x ∷ xs) = grind (arith, common_steps, count-parts p q xs, count_by, filter, not, count-cons)
 
 pub count-same : (p q : ℕ → Bool) (xs : List ℕ) → ((x : ℕ) → p x ≡ q x) → count_by p xs ≡ count_by q xs
 count-same p q [] same = refl
@@ -115,22 +111,10 @@ count-without p first last (x ∷ xs) n up inside = elim (cases_eq x n) [
 module _ (same : ℕ → ℕ → Bool) (sameness : IsSameness same) where
   -- who is in the class of c is in that of d
   pub same-left : (c d e : ℕ) → same c d ≡ true → same c e ≡ same d e
-  same-left c d e cd = elim (cases_Bool (same d e)) [
-    | inl de ↦ sameness.joined c d e cd de ∙ sym de
-    | inr apart ↦ elim (cases_Bool (same c e)) [
-      | inl ce ↦ absurd (both_ways (same d e) apart (sameness.joined d c e (sameness.turned c d cd) ce))
-      | inr none ↦ none ∙ sym apart
-    ]
-  ]
+  same-left c d e cd = grind (arith, common_steps, cases_Bool, both_ways)
 
   pub same-right : (c d e : ℕ) → same c d ≡ true → same e c ≡ same e d
-  same-right c d e cd = elim (cases_Bool (same e d)) [
-    | inl ed ↦ sameness.joined e d c ed (sameness.turned c d cd) ∙ sym ed
-    | inr apart ↦ elim (cases_Bool (same e c)) [
-      | inl ec ↦ absurd (both_ways (same e d) apart (sameness.joined e c d ec cd))
-      | inr none ↦ none ∙ sym apart
-    ]
-  ]
+  same-right c d e cd = grind (arith, common_steps, cases_Bool, both_ways)
 
   pub count-class : (c d : ℕ) (xs : List ℕ) → same c d ≡ true → count_by (same c) xs ≡ count_by (same d) xs
   count-class c d xs cd = count-same (same c) (same d) xs (λ e. same-left c d e cd)
@@ -167,23 +151,12 @@ module _ (same : ℕ → ℕ → Bool) (sameness : IsSameness same) where
 
   -- where no more are left over, there are as many of each class
   pub within-turned : (xs ys : List ℕ) → IsWithin xs ys → length ys ≤ length xs → IsWithin ys xs
-  within-turned xs ys within most c =
-      omega (
-        arith,
-        count-both (same c) xs,
-        count-both (same c) ys,
-        sums-within (λ x. cond (not (same c x)) 1 0) (λ d e de. ap (λ b. cond (not b) 1 0) (same-right d e c de)) xs ys within,
-      )
+  within-turned xs ys within most c = grind (arith, common_steps, count-both, sums-within, not, same-right)
 
   search-less : (xs ys among : List ℕ) → ((y : ℕ) × (has_member among y ≡ true) × (count_by (same y) xs < count_by (same y) ys)) ⊎ AllByRecursion (λ y. count_by (same y) ys ≤ count_by (same y) xs) among
   search-less xs ys [] = inr tt
-  search-less xs ys (y ∷ among) = elim (cases_lt (count_by (same y) xs) (count_by (same y) ys)) [
-    | inl less ↦ inl (y, has_member_head y among, less)
-    | inr enough ↦ elim (search-less xs ys among) [
-      | inl some ↦ inl (some.0, or_right (y == some.0) (has_member among some.0) some.1, some.2)
-      | inr all ↦ inr (enough, all)
-    ]
-  ]
+  search-less xs ys (y ∷ among) =
+      grind (arith, common_steps, search-less xs ys among, cases_lt, count_by, has_member_head, or_right)
 
   pub at_member : (P : ℕ → Type 0) (xs : List ℕ) (x : ℕ) → AllByRecursion P xs → has_member xs x ≡ true → P x
   at_member P [] x all inside = absurd (let e : false ≡ true = inside in cc)

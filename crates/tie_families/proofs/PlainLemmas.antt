@@ -1,5 +1,6 @@
 -- Families without clones: where each has k members, they are the winners.
-use Rattle.std.proofs.Common.{◌≡◌, ℕ, ◌<◌, ◌≤◌, ◌==◌, ◌&&◌, ◌∙◌, true, false, List, [], ◌∷◌, sym, ap, subst, arith, inl, inr, length, get_or, Contains, Option, None, Some}
+use Rattle.std.proofs.lemmas.Grind.{common_steps}
+use Rattle.std.proofs.Common.{◌≡◌, ℕ, ◌<◌, ◌≤◌, ◌==◌, ◌&&◌, ◌∙◌, true, List, [], ◌∷◌, sym, ap, subst, arith, inl, inr, length, get_or, Contains, Option, None, Some}
 use Rattle.std.specs.Prelude.{All, MatchOption, ⊤}
 use Rattle.std.specs.List.{list_all, list_any, range_with_len, zip, AllByRecursion}
 use Rattle.std.proofs.lemmas.Bool.{cases_Bool, cases_eq, eqb-true, both_ways, and_parts, and_from}
@@ -36,10 +37,7 @@ only-one [] c d one inside inside' = absurd (omega (arith, one))
 only-one (x ∷ []) c d one inside inside' = sym (same x c inside) ∙ same x d inside'
   where
     same : (y e : ℕ) → has_member (y ∷ []) e ≡ true → y ≡ e
-    same y e is = elim (cases_eq y e) [
-      | inl equal ↦ equal
-      | inr other ↦ absurd (let f : false ≡ true = sym (has_member_tail y e [] other) ∙ is in cc)
-    ]
+    same y e is = grind (arith, common_steps, cases_eq, has_member_tail)
 only-one (x ∷ y ∷ xs) c d one inside inside' = absurd (omega (arith, one))
 
 module _ (m : ℕ) (rows : List Row) (table : List (List ℕ)) (clones : AreClones m rows table) (apart : AreApart m table) where

@@ -1,5 +1,6 @@
 -- What a candidate brings where each of its voters has more hits, compared over the rows.
-use Rattle.std.proofs.Common.{◌≡◌, ℕ, ◌+◌, ◌-◌, ◌*◌, ◌<◌, ◌≤◌, ◌∙◌, true, cond, List, [], ◌∷◌, sym, ap, arith, inl, inr}
+use Rattle.std.proofs.lemmas.Grind.{common_steps}
+use Rattle.std.proofs.Common.{◌≡◌, ℕ, ◌+◌, ◌-◌, ◌*◌, ◌<◌, ◌≤◌, true, List, [], ◌∷◌, ap, arith, inl, inr}
 use Rattle.std.proofs.Math.Nat.{mul-le-mul}
 use Rattle.std.specs.List.{AllByRecursion, list_all}
 use Rattle.std.specs.Prelude.{nat_le}
@@ -64,30 +65,10 @@ module _ (step : Step) (weights set other : List ℕ) (c d : ℕ) where
       × (has_member row.0 c ≡ true → (1 ≤ hits_of step (hits row.0 set)) × (hits_of step (hits row.0 set) + n ≤ hits_of step (hits row.0 other)))
 
   shares-later : IsFalling weights → (row : Row) → IsLaterBy 0 row → share step weights other d row ≤ share step weights set c row
-  shares-later falls row later = elim (cases_Bool (has_member row.0 c)) [
-    | inl approved ↦
-        let some = later.1 approved in
-        omega (
-          arith,
-          ap (λ b. cond b (weight weights (hits_of step (hits row.0 set))) 0) approved,
-          ap (λ b. cond b (weight weights (hits_of step (hits row.0 other))) 0) (sym later.0 ∙ approved),
-          falls-at weights falls (hits_of step (hits row.0 set)) (hits_of step (hits row.0 other)) some.0 (omega (arith, some.1)),
-        )
-    | inr not ↦ omega (arith, ap (λ b. cond b (weight weights (hits_of step (hits row.0 other))) 0) (sym later.0 ∙ not))
-  ]
+  shares-later falls row later = grind (arith, common_steps, cases_Bool, falls-at)
 
   shares-less : IsFalling weights → IsStrict weights → (row : Row) → IsLaterBy 1 row → 0 < share step weights set c row → share step weights other d row < share step weights set c row
-  shares-less falls strict row later positive = elim (cases_Bool (has_member row.0 c)) [
-    | inl approved ↦
-        let some = later.1 approved in
-        let here : share step weights set c row ≡ weight weights (hits_of step (hits row.0 set)) = ap (λ b. cond b (weight weights (hits_of step (hits row.0 set))) 0) approved in
-        omega (
-          arith,
-          ap (λ b. cond b (weight weights (hits_of step (hits row.0 other))) 0) (sym later.0 ∙ approved),
-          strict-at weights falls strict (hits_of step (hits row.0 set)) (hits_of step (hits row.0 other)) some.0 some.1 (omega (arith, positive, here)),
-        )
-    | inr not ↦ absurd (omega (arith, positive, ap (λ b. cond b (weight weights (hits_of step (hits row.0 set))) 0) not))
-  ]
+  shares-less falls strict row later positive = grind (arith, common_steps, cases_Bool, share, strict-at)
 
   later-by_more : (row : Row) → IsLaterBy 1 row → IsLaterBy 0 row
   later-by_more row later = (later.0, λ approved. ((later.1 approved).0, omega (arith, (later.1 approved).1)))
@@ -95,13 +76,7 @@ module _ (step : Step) (weights set other : List ℕ) (c d : ℕ) where
   partials-later : IsFalling weights → (rows : List Row) → AllByRecursion (IsLaterBy 0) rows → partial step weights other d rows ≤ partial step weights set c rows
   partials-later falls [] later = omega arith
   partials-later falls (row ∷ rows) later =
-      let here : row.1 * share step weights other d row ≤ row.1 * share step weights set c row = mul-le-mul {n₁ = row.1} (omega arith) (shares-later falls row later.0) in
-      omega (
-        arith,
-        sum_by-cons (λ (r : Row). r.1 * share step weights set c r) row rows,
-        sum_by-cons (λ (r : Row). r.1 * share step weights other d r) row rows,
-        partials-later falls rows later.1,
-      )
+      grind (arith, common_steps, partials-later falls rows later.1, share, mul-le-mul, shares-later, sum_by-cons)
 
   all-later : (rows : List Row) → AllByRecursion (IsLaterBy 1) rows → AllByRecursion (IsLaterBy 0) rows
   all-later [] later = tt
@@ -138,10 +113,4 @@ module _ (step : Step) (weights set other : List ℕ) (c d : ℕ) where
   worth-later falls rows later = omega (arith, worth-whole step weights rows set c, worth-whole step weights rows other d, partials-later falls rows later)
 
   pub worth-less : IsFalling weights → IsStrict weights → (rows : List Row) → AllByRecursion (IsLaterBy 1) rows → 0 < worth step weights rows set c → worth step weights rows other d < worth step weights rows set c
-  worth-less falls strict rows later positive =
-      omega (
-        arith,
-        worth-whole step weights rows set c,
-        worth-whole step weights rows other d,
-        partials-less falls strict rows later (omega (arith, positive, worth-whole step weights rows set c)),
-      )
+  worth-less falls strict rows later positive = grind (arith, common_steps, worth-whole, partials-less)

@@ -1,4 +1,5 @@
 -- Where choices may be made in any order: exactly those are made that lead no further than to the end.
+use Rattle.std.proofs.lemmas.Grind.{common_steps}
 use Rattle.std.proofs.Common.{◌≡◌, ℕ, not, is_some, ◌+◌, ◌<◌, ◌≤◌, ◌==◌, ◌&&◌, ◌||◌, ◌++◌, ◌^◌, ◌-◌, ◌∙◌, Bool, true, false, cond, List, [], ◌∷◌, Some, None, refl, sym, ap, subst, arith, inl, inr, length, count_by}
 use Rattle.std.specs.Prelude.{fold, nat_le, nat_lt}
 use Rattle.std.specs.List.{range_with_len}
@@ -75,21 +76,10 @@ module _ (step : Step) (weights : List ℕ) (m : ℕ) (rows : List Row) (set las
 
 module _ (step : Step) (weights : List ℕ) (m : ℕ) (rows : List Row) (ballots : AreBallots m rows) (set : List ℕ) (up : IsIncreasing 1 m set) where
   tie-is : (t : ℕ) → has_member (ties step weights m rows set) t ≡ true → is_choice step weights m rows set t ≡ true
-  tie-is t inside =
-      let both = and_parts (is_choice step weights m rows set t && is_first_open step (clones_among m rows t) set t) (has_member (range_with_len 1 m) t)
-      (sym (has_member-filter (λ c. is_choice step weights m rows set c && is_first_open step (clones_among m rows c) set c) (range_with_len 1 m) t) ∙ inside) in
-      (and_parts (is_choice step weights m rows set t) (is_first_open step (clones_among m rows t) set t) both.0).0
+  tie-is t inside = grind (arith, common_steps, and_parts, has_member-filter)
 
   tie-class : (c : ℕ) → is_choice step weights m rows set c ≡ true → (t : ℕ) × (has_member (ties step weights m rows set) t ≡ true) × (are_clones rows c t ≡ true)
-  tie-class c is =
-      let t = first-tied m rows ballots step weights set c up is in
-      let bounds = (choice-parts step weights m rows set t.0 t.1).0 in (
-        t.0,
-        has_member-filter (λ d. is_choice step weights m rows set d && is_first_open step (clones_among m rows d) set d) (range_with_len 1 m) t.0
-            ∙ and_from (is_choice step weights m rows set t.0 && is_first_open step (clones_among m rows t.0) set t.0) (has_member (range_with_len 1 m) t.0)
-            (and_from (is_choice step weights m rows set t.0) (is_first_open step (clones_among m rows t.0) set t.0) t.1 t.2) (has_member-range 1 m t.0 bounds.0 (omega (arith, bounds.1))),
-        t.3,
-      )
+  tie-class c is = grind (arith, common_steps, first-tied, choice-parts, has_member-filter, and_from, has_member-range)
 
   clones-same : (c d : ℕ) → are_clones rows c d ≡ true → worth step weights rows set c ≡ worth step weights rows set d
   clones-same c d cd = worth-same m rows ballots step weights set set c d up up (below-itself m rows ballots set) (below-itself m rows ballots set) cd
@@ -118,9 +108,7 @@ module _ (weights : List ℕ) (m : ℕ) (rows : List Row) (ballots : AreBallots 
 
   at-most : (made : List ℕ) (t c : ℕ) → IsIncreasing 1 m made → IsBelow rows set made → is_choice Grow weights m rows set t ≡ true → has_member (others m made) c ≡ true
       → gain weights rows made c ≤ gain weights rows set t
-  at-most made t c up' below is outside =
-      let d = free-clone made c up' below outside in
-      omega (arith, gain-falls m rows ballots weights set made c falls up up' below, clone-gain c d.0 d.2, best-at t d.0 is d.1)
+  at-most made t c up' below is outside = grind (arith, common_steps, free-clone, gain-falls, clone-gain, best-at)
 
   tied-increasing : IsIncreasing 1 m (ties Grow weights m rows set)
   tied-increasing = ties-increasing Grow weights m rows set
@@ -287,9 +275,7 @@ module _ (weights : List ℕ) (m : ℕ) (rows : List Row) (ballots : AreBallots 
   -- a set to which nobody brings anything gains nothing by anybody later
   nothing-left : (made : List ℕ) (c : ℕ) → IsIncreasing 1 m made → IsBelow rows set made → is_settled Grow weights m rows set ≡ true → has_member (others m made) c ≡ true → gain weights rows made c ≡ 0
   nothing-left made c up' below settled outside =
-      let d = free-clone made c up' below outside in
-      let none : gain weights rows set d.0 ≡ 0 = eqb-true (gain weights rows set d.0) 0 (all-at (λ e. gain weights rows set e == 0) (others m set) d.0 settled d.1) in
-      omega (arith, none, clone-gain c d.0 d.2, gain-falls m rows ballots weights set made c falls up up' below)
+      grind (arith, common_steps, free-clone, eqb-true, all-at, clone-gain, gain-falls)
 
   below-all : (made : List ℕ) → IsIncreasing 1 m made → IsBelow rows made (range_with_len 1 m)
   below-all made up' x = omega (arith, count-others (are_clones rows x) m made up')
@@ -301,9 +287,7 @@ module _ (weights : List ℕ) (m : ℕ) (rows : List Row) (ballots : AreBallots 
     stays = λ made c up' below above fewer is.
         let bounds = (choice-parts Grow weights m rows made c is).0 in
         below-all (with_member made c) (with-increasing m made c up' bounds.0 bounds.1);
-    may = λ made c up' below outside above.
-        choice-from m rows ballots Grow weights made c outside
-        (λ d free. le-leb (gain weights rows made d) (gain weights rows made c) (omega (arith, nothing-left made d up' below settled free)));
+    may = grind (arith, common_steps, choice-from, le-leb, nothing-left);
   }
 
   last-length : length (fold (change Grow) set (ties Grow weights m rows set)) ≡ length set + length (ties Grow weights m rows set)
@@ -327,18 +311,9 @@ module _ (weights : List ℕ) (m : ℕ) (rows : List Row) (ballots : AreBallots 
       by : (s i : Bool) → is_settled Grow weights m rows set ≡ s → is_independent Grow weights m rows set ≡ i
           → cond s (Some (range_with_len 1 m)) (cond i (Some (fold (change Grow) set (ties Grow weights m rows set))) None) ≡ Some last
           → IsSpan Grow weights m rows set last × (length set < m → length set < length last)
-      by true i settled apart e =
-          let at : range_with_len 1 m ≡ last = ap (end_or []) e in (
-            subst (IsSpan Grow weights m rows set) at (settled-span settled),
-            λ few. omega (arith, few, length-range_with_len 1 m, ap length at),
-          )
+      by true i settled apart e = grind (arith, common_steps, settled-span, length-range_with_len)
       by false true unsettled independent e =
-          let at : fold (change Grow) set (ties Grow weights m rows set) ≡ last = ap (end_or []) e in
-          let parts = and_parts (nat_le 2 (length (ties Grow weights m rows set))) (shares_no_voter rows (ties Grow weights m rows set))
-          (and_parts (nat_lt 0 (tied_worth Grow weights m rows set)) (nat_le 2 (length (ties Grow weights m rows set)) && shares_no_voter rows (ties Grow weights m rows set)) independent).1 in (
-            subst (IsSpan Grow weights m rows set) at (independent-span strict unsettled parts.1),
-            λ few. omega (arith, last-length, ap length at, leb-true 2 (length (ties Grow weights m rows set)) parts.0),
-          )
+          grind (arith, common_steps, and_parts, independent-span, last-length, leb-true)
       by false false unsettled dependent e = absurd (let f : false ≡ true = ap is_some e in cc)
 
 -- ---- an independent set that shrinks

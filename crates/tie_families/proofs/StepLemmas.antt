@@ -1,4 +1,5 @@
 -- What one choice does to a family, as the code finds it.
+use Rattle.std.proofs.lemmas.Grind.{common_steps}
 use Rattle.std.proofs.Common.{◌≡◌, ℕ, zero, suc, ◌+◌, ◌-◌, ◌<◌, ◌≤◌, ◌^◌, ◌==◌, ◌&&◌, ◌++◌, ◌∙◌, cond, length, Option, Some, None, is_some, slice_get, subst, Bool, true, false, List, [], ◌∷◌, refl, sym, ap, arith, inl, inr, filter, map, get_or, append_assoc}
 use Rattle.std.specs.Prelude.{fold, nat_le, nat_lt}
 use Rattle.std.specs.List.{list_all, range_with_len}
@@ -42,9 +43,7 @@ worths-are f g same (x ∷ xs) = ap (λ n. n ∷ map f xs) (same x) ∙ ap (λ l
 
 pub best-found : (step : Step) (weights : List ℕ) (m n : ℕ) (rows : List Row) (set : List ℕ) (w : ℕ → ℕ) (best : ℕ) → n ≡ m → ((c : ℕ) → w c ≡ worth step weights rows set c)
     → best ≡ fold (better step) (worst step) (map w (open_candidates step n set)) → best ≡ tied_worth step weights m rows set
-best-found step weights m n rows set w best same are is =
-    is ∙ ap (λ k. fold (better step) (worst step) (map w (open_candidates step k set))) same
-    ∙ ap (fold (better step) (worst step)) (worths-are w (worth step weights rows set) are (open_candidates step m set))
+best-found step weights m n rows set w best same are is = grind (arith, common_steps, map, same, worths-are)
 
 module _ (step : Step) (weights : List ℕ) (m : ℕ) (rows : List Row) (set : List ℕ) (w : ℕ → ℕ) (best : ℕ) where
   choice-is : ((c : ℕ) → w c ≡ worth step weights rows set c) → ((c : ℕ) → w c ≤ 2 ^ 128 - 1) → best ≡ tied_worth step weights m rows set
@@ -98,21 +97,11 @@ end-settled step weights m n rows set same settled = ap (λ k. Some (range_with_
 module _ (step : Step) (weights : List ℕ) (m : ℕ) (rows : List Row) (set tied : List ℕ) (unsettled : is_settled step weights m rows set ≡ false) (are : tied ≡ ties step weights m rows set) where
   pub end-independent : 0 < tied_worth step weights m rows set → 2 ≤ length tied → shares_no_voter rows tied ≡ true → Some (fold (change step) set tied) ≡ end step weights m rows set
   unfolding end
-  end-independent may some apart =
-      let independent : is_independent step weights m rows set ≡ true =
-      and_from (nat_lt 0 (tied_worth step weights m rows set)) (nat_le 2 (length (ties step weights m rows set)) && shares_no_voter rows (ties step weights m rows set)) (some-more-than 0 (tied_worth step weights m rows set) may)
-      (and_from (nat_le 2 (length (ties step weights m rows set))) (shares_no_voter rows (ties step weights m rows set)) (le-leb 2 (length (ties step weights m rows set)) (omega (arith, some, ap length are)))
-      (ap (shares_no_voter rows) (sym are) ∙ apart)) in
-      ap (λ t. Some (fold (change step) set t)) are
-      ∙ sym (ap (λ b. cond b (Some (fold (change step) set (ties step weights m rows set))) None) independent)
-      ∙ sym (ap (λ b. cond b (Some (range_with_len 1 m)) (cond (is_independent step weights m rows set) (Some (fold (change step) set (ties step weights m rows set))) None)) unsettled)
+  end-independent may some apart = grind (arith, common_steps, and_from, some-more-than, le-leb, Some, None)
 
   pub end-none : (nat_lt 0 (tied_worth step weights m rows set) && (nat_le 2 (length tied) && shares_no_voter rows tied)) ≡ false → None ≡ end step weights m rows set
   unfolding end
-  end-none not =
-      let dependent : is_independent step weights m rows set ≡ false = ap (λ t. nat_lt 0 (tied_worth step weights m rows set) && (nat_le 2 (length t) && shares_no_voter rows t)) (sym are) ∙ not in
-      sym (ap (λ b. cond b (Some (fold (change step) set (ties step weights m rows set))) None) dependent)
-      ∙ sym (ap (λ b. cond b (Some (range_with_len 1 m)) (cond (is_independent step weights m rows set) (Some (fold (change step) set (ties step weights m rows set))) None)) unsettled)
+  end-none not = grind (arith, common_steps, Some, None)
 
 pub over-fails : (n most : ℕ) → most < n → nat_le n most ≡ false
 over-fails n most more = grind arith
@@ -124,27 +113,17 @@ row-at (r ∷ rows) zero row found = (omega arith, ap (λ o. of_some o row) foun
     of_some : Option Row → Row → Row
     of_some None d = d
     of_some (Some x) d = x
-row-at (r ∷ rows) (suc i) row found =
-    let rest = row-at rows i row found in
-    (omega (arith, rest.0), rest.1)
+row-at (r ∷ rows) (suc i) row found = grind (arith, common_steps, row-at rows i row found)
 
 -- where there is no end, somebody brings something
 pub none-unsettled : (step : Step) (weights : List ℕ) (m : ℕ) (rows : List Row) (set : List ℕ) → end step weights m rows set ≡ None → is_settled step weights m rows set ≡ false
 unfolding end
-none-unsettled step weights m rows set none = elim (cases_Bool (is_settled step weights m rows set)) [
-  | inl settled ↦
-      let f : true ≡ false =
-      ap is_some (sym (ap (λ b. cond b (Some (range_with_len 1 m)) (cond (is_independent step weights m rows set) (Some (fold (change step) set (ties step weights m rows set))) None)) settled) ∙ none) in
-      absurd cc
-  | inr unsettled ↦ unsettled
-]
+none-unsettled step weights m rows set none = grind (arith, common_steps, cases_Bool, is_some, Some, None)
 
 -- ---- a set that is gone through
 
 pub first-parts : (left rest : List ℕ) (k last : ℕ) → left ≡ k ∷ rest → IsIncreasing 1 last left → ((1 ≤ k) × (k ≤ last)) × IsIncreasing 1 last rest
-first-parts left rest k last parts up =
-    let up' : IsIncreasing 1 last (k ∷ rest) = subst (λ l. IsIncreasing 1 last l) parts up in
-    ((up'.0, up'.1), IsIncreasing-lower 1 (k + 1) last rest (omega arith) up'.2)
+first-parts left rest k last parts up = grind (arith, common_steps, IsIncreasing-lower)
 
 -- ---- what follows a set, as the code finds it
 

@@ -1,5 +1,6 @@
 -- The table of clones, and what it counts.
-use Rattle.std.proofs.Common.{◌≡◌, ℕ, suc, ◌+◌, ◌-◌, ◌<◌, ◌≤◌, ◌&&◌, ◌∙◌, cond, List, [], ◌∷◌, refl, sym, ap, arith, length, get_or, count_by}
+use Rattle.std.proofs.lemmas.Grind.{common_steps}
+use Rattle.std.proofs.Common.{◌≡◌, ℕ, suc, ◌+◌, ◌-◌, ◌<◌, ◌≤◌, ◌∙◌, cond, List, [], ◌∷◌, refl, sym, ap, arith, length, get_or, count_by}
 use Rattle.std.specs.Prelude.{fold}
 use Rattle.std.specs.List.{range_with_len}
 use Rattle.std.proofs.lemmas.Bool.{lt-ltb, le-ltb}
@@ -23,16 +24,7 @@ class-count m rows c set up = length-filter (has_member (clones_among m rows c))
     each : (first : ℕ) (xs : List ℕ) → 1 ≤ first → IsIncreasing first m xs → count_by (has_member (clones_among m rows c)) xs ≡ count_by (are_clones rows c) xs
     each first [] low up' = refl
     each first (x ∷ xs) low up' =
-        let here : has_member (clones_among m rows c) x ≡ are_clones rows c x =
-        has_member-filter (are_clones rows c) (range_with_len 1 m) x
-        ∙ ap (λ b. are_clones rows c x && b) (has_member-range 1 m x (omega (arith, low, up'.0)) (omega (arith, up'.1))) ∙ and-true (are_clones rows c x) in
-        omega (
-          arith,
-          count-cons (has_member (clones_among m rows c)) x xs,
-          count-cons (are_clones rows c) x xs,
-          ap bit here,
-          each (x + 1) xs (omega arith) up'.2,
-        )
+        grind (arith, common_steps, each (x + 1) xs (omega arith) up'.2, has_member-filter, has_member-range, and-true, count-cons, bit)
 
 -- those of a class of a table
 pub own-count : (m : ℕ) (rows : List Row) (table : List (List ℕ)) (k : ℕ) (class set : List ℕ) → AreClones m rows table → 1 ≤ k → k ≤ m → class ≡ get_or table k [] → IsIncreasing 1 m set

@@ -1,5 +1,6 @@
 -- Clones tie: where a candidate may be chosen, so may each clone of it that is as free, also at each other set with as
 -- many of each class of clones.
+use Rattle.std.proofs.lemmas.Grind.{common_steps}
 use Rattle.std.proofs.Common.{◌≡◌, ℕ, zero, suc, ◌-◌, ◌<◌, ◌≤◌, ◌&&◌, ◌∙◌, true, false, not, List, sym, ap, arith, inl, inr, count_by}
 use Rattle.std.specs.List.{list_all, range_with_len}
 use Rattle.std.proofs.lemmas.Bool.{cases_Bool, and_parts, and_from, not-false, not-true, not_from_false}
@@ -62,16 +63,12 @@ module _ (m : ℕ) (rows : List Row) (ballots : AreBallots m rows) where
 
     pub choice-best : (set : List ℕ) (c d : ℕ) → is_choice step weights m rows set c ≡ true → has_member (open_candidates step m set) d ≡ true
         → is_no_better step (worth step weights rows set d) (worth step weights rows set c) ≡ true
-    choice-best set c d is free =
-        all-at (λ e. is_no_better step (worth step weights rows set e) (worth step weights rows set c)) (open_candidates step m set) d
-        (and_parts (has_member (open_candidates step m set) c) (list_all (λ e. is_no_better step (worth step weights rows set e) (worth step weights rows set c)) (open_candidates step m set)) is).1 free
+    choice-best set c d is free = grind (arith, common_steps, all-at, and_parts, is, free)
 
     pub choice-from : (set : List ℕ) (c : ℕ) → has_member (open_candidates step m set) c ≡ true
         → ((d : ℕ) → has_member (open_candidates step m set) d ≡ true → is_no_better step (worth step weights rows set d) (worth step weights rows set c) ≡ true)
         → is_choice step weights m rows set c ≡ true
-    choice-from set c free each =
-        and_from (has_member (open_candidates step m set) c) (list_all (λ e. is_no_better step (worth step weights rows set e) (worth step weights rows set c)) (open_candidates step m set)) free
-        (all-from (λ e. is_no_better step (worth step weights rows set e) (worth step weights rows set c)) (open_candidates step m set) each)
+    choice-from set c free each = grind (arith, common_steps, and_from, free, all-from)
 
     -- a clone of a tied candidate ties, at each set with as many of each class
     pub choice-moves : (set other : List ℕ) (c d : ℕ) → IsIncreasing 1 m set → IsIncreasing 1 m other → IsBelow rows set other → IsBelow rows other set

@@ -1,4 +1,5 @@
 -- The committees of the families of the last level are the winners of a sequential rule.
+use Rattle.std.proofs.lemmas.Grind.{common_steps}
 use Rattle.std.proofs.Common.{◌≡◌, ℕ, zero, suc, ◌+◌, ◌-◌, ◌≤◌, Bool, true, List, ap, arith, inl, inr, get_or, Contains, add-one}
 use Rattle.std.specs.Prelude.{nat_le}
 use Rattle.std.specs.List.{list_any, range_with_len}
@@ -30,16 +31,11 @@ hit-falls SeqCc m j low = rw (ne_eqb (j + 1) 1 (λ e. omega (arith, e, low))) (o
 hit-falls RevSeqPav m j low = quotient-falls (common_multiple m) j low
 
 hits-fall : (rule : SeqRule) (m i : ℕ) → get_or (hit_weights rule m) (i + 1) 0 ≤ get_or (hit_weights rule m) i 0
-hits-fall rule m i = elim (cases_lt (i + 1) m) [
-  | inl low ↦ omega (arith, hit_weights-at rule m (i + 1) low, hit_weights-at rule m i (omega (arith, low)), hit-falls rule m (i + 1) (omega arith))
-  | inr high ↦ omega (arith, get_or_past (hit_weights rule m) (i + 1) 0 (omega (arith, hit_weights-length rule m, high)))
-]
+hits-fall rule m i = grind (arith, common_steps, cases_lt, hit_weights-at, hit-falls, get_or_past, hit_weights-length)
 
 fall-by : (rule : SeqRule) (m a n : ℕ) → get_or (hit_weights rule m) (a + n) 0 ≤ get_or (hit_weights rule m) a 0
 fall-by rule m a zero = let e : a + 0 ≡ a = omega arith in omega (arith, ap (λ i. get_or (hit_weights rule m) i 0) e)
-fall-by rule m a (suc n) =
-    let e : a + suc n ≡ a + n + 1 = omega arith in
-    omega (arith, ap (λ i. get_or (hit_weights rule m) i 0) e, hits-fall rule m (a + n), fall-by rule m a n)
+fall-by rule m a (suc n) = grind (arith, common_steps, fall-by rule m a n, get_or, hits-fall)
 
 pub hit_weights-fall : (rule : SeqRule) (m : ℕ) → IsFalling (hit_weights rule m)
 hit_weights-fall rule m a b h =

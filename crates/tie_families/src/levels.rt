@@ -50,17 +50,16 @@ fn is_first_open(step: Step, clones: CandSet, set: CandSet, c: u8) -> bool
 fn is_settled(step: Step, best: u128) -> bool
     ensures { result ≡ has_settled step best }
 {
-    match step {
-        Step::Grow => best == 0,
-        Step::Shrink => false,
-    }
+    matches!(step, Step::Grow) && best == 0
 }
 
 /// Whether no voter approves two of the candidates.
 fn shares_no_voter<A: Allocator + Copy>(profile: &Profile<A>, candidates: CandSet) -> bool
     ensures { result ≡ shares_no_voter profile.now.rows candidates }
 {
-    profile.ballots().all(|(ballot, _voters)| ballot.common(candidates).len() <= 1)
+    profile
+        .ballots()
+        .all(|(ballot, _voters)| ballot.common(candidates).len() <= 1)
 }
 
 /// The set after all of these choices.

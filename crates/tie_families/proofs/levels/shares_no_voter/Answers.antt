@@ -1,5 +1,4 @@
-use Rattle.std.proofs.Common.{sym, ap, rules, tests}
-use Rattle.std.specs.Prelude.{nat_le}
+use Rattle.std.proofs.Common.{rules, tests}
 use Rattle.std.proofs.lemmas.Iterator.Consumers.{YieldsList-from_first}
 use Rattle.std.proofs.lemmas.Iterator.Search.{all_from_yields_List}
 use Rattle.tie_walk.proofs.RowSums.{length-common}

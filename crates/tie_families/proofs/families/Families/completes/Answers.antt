@@ -6,7 +6,7 @@ use Rattle.std.proofs.lemmas.Slice.Zip.{zip_turn, zip_end}
 use Rattle.tie_families.specs.Families.{Sequential}
 use Rattle.tie_families.specs.Steps.Families.{may_be_in}
 use Rattle.tie_families.proofs.PairLemmas.{pairs-end, pairs-pass, pairs-more}
-use Rattle.tie_families.proofs.ValueLemmas.{never-completes, completes-is, least-of, most-of}
+use Rattle.tie_families.proofs.ValueLemmas.{never-completes, completes-is, least-of}
 use Rattle.tie_families.proofs.families.Families.completes.Goals as goal
 
 pub returns-then-self-len : goal.returns-then-self-len
