@@ -116,11 +116,6 @@ all_sizes-within m (row ∷ rows) all = (omega (arith, length-increasing 1 m row
 pub all_hits-most : (e : Election) (committee : List ℕ) → IsElection e → sum_by (λ (r : Row). r.1 * hits r.0 committee) e.rows ≤ most_voters * most_candidates
 all_hits-most e committee valid = all-most (λ (r : Row). hits r.0 committee) e most_candidates valid (λ r h. hits-most e.m r.0 committee valid.most h)
 
--- a row has no more voters than there are
-pub votes-hits-most : (e : Election) (i : ℕ) (row : Row) (committee : List ℕ) → IsElection e → slice_get e.rows i ≡ Some row → row.1 * hits row.0 committee ≤ most_voters * most_candidates
-votes-hits-most e i row committee valid found =
-    omega (arith, rows-bound (λ (r : Row). hits r.0 committee) (λ (r : Row). hits r.0 committee) (λ r. omega arith) e most_candidates i row valid (λ r h. hits-most e.m r.0 committee valid.most h) found)
-
 -- no part is more than the whole
 pub parts-bound : (n : ℕ) (shares : List ℕ) (x : ℕ) → n ≤ most_candidates → shares ≡ parts (common_multiple n) → get_or shares x 0 < 2 ^ 90
 parts-bound n shares x few is = omega (arith, ap (λ s. get_or s x 0) is, parts-most (common_multiple n) x, common_multiple_small n few)
