@@ -71,15 +71,19 @@ impl<'a, A: Allocator + Copy> Tally for SavTally<'a, A> {
     }
 
     fn bound(&self, c: u8, set: CandSet, left: u8) -> u128 {
-        let (each, m) = (&self.scores, self.profile.m());
-        let amounts = Amounts { each, m };
+        let amounts = Amounts {
+            each: &self.scores,
+            m: self.profile.m(),
+        };
         self.value(set) + amounts.greatest_sum(c, left)
     }
 
     fn reach(&self, c: u8, set: CandSet, left: u8, best: u128) -> Option<u8> {
         let least = best.saturating_sub(self.value(set));
-        let (each, m) = (&self.scores, self.profile.m());
-        let amounts = Amounts { each, m };
+        let amounts = Amounts {
+            each: &self.scores,
+            m: self.profile.m(),
+        };
         amounts.last_reaching(c, left, least)
     }
 }

@@ -135,8 +135,10 @@ impl<'a, A: Allocator + Copy> Tally for ThieleTally<'a, A> {
             return self.sum_of_hits(set);
         }
         let (value, gains) = self.value_and_gains(c, set);
-        let (each, m) = (&gains, self.m);
-        let amounts = Amounts { each, m };
+        let amounts = Amounts {
+            each: &gains,
+            m: self.m,
+        };
         value + amounts.greatest_sum(c, left)
     }
 
@@ -145,8 +147,10 @@ impl<'a, A: Allocator + Copy> Tally for ThieleTally<'a, A> {
             return (self.sum_of_hits(set) >= best).then_some(self.m);
         }
         let (value, gains) = self.value_and_gains(c, set);
-        let (each, m) = (&gains, self.m);
-        let amounts = Amounts { each, m };
+        let amounts = Amounts {
+            each: &gains,
+            m: self.m,
+        };
         amounts.last_reaching(c, left, best.saturating_sub(value))
     }
 }

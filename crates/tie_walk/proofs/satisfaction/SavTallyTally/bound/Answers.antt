@@ -18,8 +18,8 @@ invariant_of-amounts-clause-small g c n =
     let e : Election = c.self.inside.profile.now in
     let t = c.self.inside in
     let shares : t.shares ≡ parts (common_multiple e.m) = c.self.invariant.shares_are in
-    let small : (i : ℕ) → get_or t.shares i 0 ≤ 2 ^ 90 - 1 = λ i. omega (arith, parts-bound e.m t.shares i c.m-m.ensures.valid.most shares) in
-    omega (arith, c.self.invariant.scores_are n, score-most t.shares n small e c.m-m.ensures.valid)
+    let small : (i : ℕ) → get_or t.shares i 0 ≤ 2 ^ 90 - 1 = λ i. omega (arith, parts-bound e.m t.shares i c.m.ensures.valid.most shares) in
+    omega (arith, c.self.invariant.scores_are n, score-most t.shares n small e c.m.ensures.valid)
 
 pub overflow_add-result : goal.overflow_add-result
 overflow_add-result g c =
@@ -27,11 +27,11 @@ overflow_add-result g c =
     let t = c.self.inside in
     let same : e ≡ c.args.self.now = c.self.view_is in
     let shares : t.shares ≡ parts (common_multiple e.m) = c.self.invariant.shares_are in
-    let small : (i : ℕ) → get_or t.shares i 0 ≤ 2 ^ 90 - 1 = λ i. omega (arith, parts-bound e.m t.shares i c.m-m.ensures.valid.most shares) in
-    let each : (n : ℕ) → get_or t.scores n 0 ≤ 2 ^ 122 - 2 ^ 32 = λ n. omega (arith, c.self.invariant.scores_are n, score-most t.shares n small e c.m-m.ensures.valid) in
+    let small : (i : ℕ) → get_or t.shares i 0 ≤ 2 ^ 90 - 1 = λ i. omega (arith, parts-bound e.m t.shares i c.m.ensures.valid.most shares) in
+    let each : (n : ℕ) → get_or t.scores n 0 ≤ 2 ^ 122 - 2 ^ 32 = λ n. omega (arith, c.self.invariant.scores_are n, score-most t.shares n small e c.m.ensures.valid) in
     let size : e.m ≡ c.args.self.now.m = ap (λ (x : Election). x.m) same in
     let fits : c.value.result + c.greatest_sum.result < 2 ^ 128 =
-    satisfaction-fits e t.shares c.args.set c.args.c c.args.left c.value.result c.greatest_sum.result c.m-m.ensures.valid shares c.requires.candidates
+    satisfaction-fits e t.shares c.args.set c.args.c c.args.left c.value.result c.greatest_sum.result c.m.ensures.valid shares c.requires.candidates
     (omega (arith, size, c.requires.within)) (omega (arith, size, c.requires.fits)) (c.value.ensures ∙ ap (λ (x : Election). satisfaction_value x.m x.rows c.args.set) (sym same))
     (c.greatest_sum.ensures.most (2 ^ 122 - 2 ^ 32) each) in
     omega arith
@@ -44,10 +44,10 @@ returns-clause-value g c =
     let shares : t.shares ≡ parts (common_multiple e.m) = c.self.invariant.shares_are in
     let value : c.value.result ≡ satisfaction_value e.m e.rows c.args.set = c.value.ensures ∙ ap (λ (x : Election). satisfaction_value x.m x.rows c.args.set) (sym same) in
     let more : c.greatest_sum.result ≡ greatest_sum (λ n. get_or t.scores n 0) (c.args.c + 1) e.m c.args.left =
-    c.greatest_sum.ensures.value ∙ ap (λ n. greatest_sum (λ x. get_or t.scores x 0) (c.args.c + 1) n c.args.left) c.m-m.ensures.value in
+    c.greatest_sum.ensures.value ∙ ap (λ n. greatest_sum (λ x. get_or t.scores x 0) (c.args.c + 1) n c.args.left) c.m.ensures.value in
     let whole : c.value.result + c.greatest_sum.result ≡ ceiling (satisfaction_value e.m e.rows) e.m c.args.c c.args.set c.args.left =
     ap (λ n. n + c.greatest_sum.result) value ∙ ap (λ n. satisfaction_value e.m e.rows c.args.set + n) more
-    ∙ satisfaction-ceiling e t.shares t.scores c.args.c c.args.left c.args.set c.m-m.ensures.valid c.requires.candidates shares c.self.invariant.scores_are in
+    ∙ satisfaction-ceiling e t.shares t.scores c.args.c c.args.left c.args.set c.m.ensures.valid c.requires.candidates shares c.self.invariant.scores_are in
     whole ∙ ap (λ (x : Election). ceiling (satisfaction_value x.m x.rows) x.m c.args.c c.args.set c.args.left) same
 
 pub returns-clause-law : goal.returns-clause-law

@@ -20,8 +20,8 @@ invariant_of-amounts-clause-small g c n =
     let e : Election = c.self.inside.profile.now in
     let t = c.self.inside in
     let shares : t.shares ≡ parts (common_multiple e.m) = c.self.invariant.shares_are in
-    let small : (i : ℕ) → get_or t.shares i 0 ≤ 2 ^ 90 - 1 = λ i. omega (arith, parts-bound e.m t.shares i c.m-m.ensures.valid.most shares) in
-    omega (arith, c.self.invariant.scores_are n, score-most t.shares n small e c.m-m.ensures.valid)
+    let small : (i : ℕ) → get_or t.shares i 0 ≤ 2 ^ 90 - 1 = λ i. omega (arith, parts-bound e.m t.shares i c.m.ensures.valid.most shares) in
+    omega (arith, c.self.invariant.scores_are n, score-most t.shares n small e c.m.ensures.valid)
 
 pub returns : goal.returns
 returns g c =
@@ -40,9 +40,9 @@ returns g c =
     let law : IsBound value e.m c.args.c set left (ceiling value e.m c.args.c set left) =
     ceiling-bounds value (satisfaction-submodular e.m e.rows) e.m c.args.c set left c.requires.candidates in
     let sums : (n : ℕ) → c.args.c ≤ n → ceiling value e.m n set left ≡ value set + greatest_sum worth (n + 1) e.m left = λ n low.
-    sym (satisfaction-ceiling e t.shares t.scores n left set c.m-m.ensures.valid (higher n low) shares c.self.invariant.scores_are) in
+    sym (satisfaction-ceiling e t.shares t.scores n left set c.m.ensures.valid (higher n low) shares c.self.invariant.scores_are) in
     let found : MatchOption c.last_reaching.result (greatest_sum worth (c.args.c + 1) e.m left < least) (IsReachBySums worth c.args.c e.m left least) =
-    subst (λ n. MatchOption c.last_reaching.result (greatest_sum worth (c.args.c + 1) n left < least) (IsReachBySums worth c.args.c n left least)) c.m-m.ensures.value c.last_reaching.ensures in
+    subst (λ n. MatchOption c.last_reaching.result (greatest_sum worth (c.args.c + 1) n left < least) (IsReachBySums worth c.args.c n left least)) c.m.ensures.value c.last_reaching.ensures in
     let here = reach-sums value (ceiling value e.m) e.m set left c.args.best c.args.c law worth (value set) least c.last_reaching.result
     (omega (arith, c.requires.fits, c.requires.within, size)) sums (c.saturating_sub-least.ensures ∙ ap (λ n. c.args.best - n) base) found in
     subst (λ (x : Election). MatchOption c.last_reaching.result
