@@ -3,6 +3,7 @@ ghost use Rattle.std.specs.Prelude.{◌≡◌};
 ghost use Rattle.tie_walk.specs.Ceilings.{closeness_upto};
 ghost use Rattle.tie_walk.specs.Values.{closeness};
 
+use crate::good::near_committee;
 use crate::near::{NearSearch, Shares};
 use ballot_base::{CandSet, Clones, Profile};
 use std::alloc::{Allocator, Global};
@@ -65,6 +66,14 @@ impl<'a, A: Allocator + Copy> Tally for MinimaxSearch<'a, A> {
     fn bound(&self, c: u8, set: CandSet, left: u8) -> u128 {
         MinimaxTally::new(self.profile).bound(c, set, left)
     }
+
+    fn good_committee(&self, k: u8) -> Option<CandSet> {
+        let committee = CandSet::all(self.m).common(near_committee(self.profile, k));
+        if committee.len() != k {
+            return None;
+        }
+        Some(committee)
+    }
 }
 
 impl<'a, A: Allocator + Copy> Searchable for MinimaxSearch<'a, A> {
@@ -81,7 +90,7 @@ impl<'a, A: Allocator + Copy> Searchable for MinimaxSearch<'a, A> {
         descent::find(&mut search, *node, least)
     }
 
-    // Under this rule committees tie by thousands.
+    // Under this rule committees tie by thousands, and the first of them is not to wait for a list.
     fn tied(&self, _k: u8) -> Option<Tied> {
         None
     }

@@ -11,6 +11,7 @@
 ghost use Rattle.std.specs.Prelude.{◌≡◌, ℕ, ◌+◌, ◌^◌, ◌≤◌, ◌&&◌, length, slice_index, MatchOption, ⊤};
 ghost use Rattle.ballot_base.specs.Clones.{AreClones};
 ghost use Rattle.ballot_base.specs.Limits.{most_candidates};
+ghost use Rattle.ballot_base.specs.Lists.{IsIncreasing};
 ghost use Rattle.ballot_base.specs.Worths.{AreTooLow, AreWanted};
 ghost use Rattle.tie_search.specs.Completions.{IsNode};
 ghost use Rattle.tie_walk.specs.Values.{closeness};
@@ -151,12 +152,11 @@ impl<A: Allocator + Copy> NearSearch<'_, A> {
         if node.free.len() < node.left {
             return None;
         }
-        let k = node.set.len() + node.left;
         let mut choices = node.free;
         let mut rest = node.free;
         let mut tightest = (u8::MAX, 0);
         for (ballot, _voters) in self.profile.ballots() {
-            let needed = still_needed(ballot, node.set, k, most);
+            let needed = still_needed(ballot, node.set, node.left, most);
             if needed == 0 {
                 continue;
             }
@@ -179,7 +179,8 @@ impl<A: Allocator + Copy> NearSearch<'_, A> {
     /// What the ballots still need so that none is farther than `most`, at a node where these choices are tried. If
     /// weighing does not pay, no ballot has a weight.
     fn weighted_needs(&self, node: &Node, choices: CandSet, most: u8) -> WeightedNeeds
-        requires { node.now.left ≤ most_candidates }
+        requires few { node.now.left ≤ most_candidates }
+        requires set { IsIncreasing 1 self.now.profile.now.m node.now.set }
         ensures { AreWeighted self.now.profile.now.rows (length node.now.set + node.now.left) most node.now.set
             node.now.free result.total result.supports }
     {
@@ -188,9 +189,8 @@ impl<A: Allocator + Copy> NearSearch<'_, A> {
         if !is_worth_weighing(node.left, choices) {
             return WeightedNeeds { total, supports };
         }
-        let k = node.set.len() + node.left;
         for (ballot, _voters) in self.profile.ballots() {
-            let needed = still_needed(ballot, node.set, k, most);
+            let needed = still_needed(ballot, node.set, node.left, most);
             if needed > 0 {
                 let approved = ballot.common(node.free);
                 let weight = u128::from(self.shares.weight(needed, approved));

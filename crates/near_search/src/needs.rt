@@ -1,7 +1,8 @@
 //! Hits that ballots need so that none is far from a committee.
-ghost use Rattle.std.specs.Prelude.{◌≡◌, ◌+◌, ◌-◌, ◌^◌, ◌<◌, length};
+ghost use Rattle.std.specs.Prelude.{◌≡◌, ◌+◌, ◌-◌, ◌^◌, ◌<◌, ◌≤◌, length};
 ghost use Rattle.ballot_base.specs.Ballots.{hits};
 ghost use Rattle.ballot_base.specs.Limits.{most_candidates};
+ghost use Rattle.ballot_base.specs.Lists.{IsIncreasing};
 ghost use Rattle.near_search.specs.Needs.{hits_needed};
 
 use ballot_base::CandSet;
@@ -15,11 +16,13 @@ pub fn hits_needed(size: u8, k: u8, most: u8) -> u8
     apart / 2 + apart % 2
 }
 
-/// How many hits the ballot needs beside those that it has.
-pub(crate) fn still_needed(ballot: CandSet, set: CandSet, k: u8, most: u8) -> u8
-    requires { k + most_candidates < 2 ^ 8 }
-    ensures { result ≡ hits_needed (length ballot) k most - hits ballot set }
+/// How many hits the ballot needs beside those that it has, if `left` candidates are still to join the set. A distance
+/// is counted in less time than a size and hits.
+pub(crate) fn still_needed(ballot: CandSet, set: CandSet, left: u8, most: u8) -> u8
+    requires ballot { IsIncreasing 1 most_candidates ballot }
+    requires set { IsIncreasing 1 most_candidates set }
+    requires few { left ≤ most_candidates }
+    ensures { result ≡ hits_needed (length ballot) (length set + left) most - hits ballot set }
 {
-    let needed = hits_needed(ballot.len(), k, most);
-    needed.saturating_sub(ballot.common(set).len())
+    hits_needed(ballot.distance(set), left, most)
 }

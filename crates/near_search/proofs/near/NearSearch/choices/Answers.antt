@@ -1,9 +1,12 @@
 use Rattle.std.proofs.Common.{Some, slice_get, ◌≡◌, ◌-◌, arith, ap, sym, subst, ◌∙◌, length}
 use Rattle.ballot_base.specs.CandSet.{common_members}
 use Rattle.ballot_base.specs.Ballots.{Row}
+use Rattle.ballot_base.specs.Limits.{most_candidates}
+use Rattle.ballot_base.proofs.Increasing.{IsIncreasing-higher}
 use Rattle.tie_walk.specs.Values.{closeness}
 use Rattle.tie_walk.proofs.RowSums.{length-common}
 use Rattle.ballot_base.proofs.Turns.{row_of_turn, all_passed}
+use Rattle.tie_walk.proofs.Distances.{ballot-found}
 use Rattle.tie_search.specs.Steps.Descent.{AreChoices}
 use Rattle.near_search.specs.Steps.Near.{AreEligible}
 use Rattle.near_search.proofs.NeedLemmas.{choice-of_ballot, hopeless, narrowed-to_ballot, too-few}
@@ -25,6 +28,17 @@ loop-ballot-init g c =
       choice = choice-of_all (closeness e.m e.rows) e.m c.args.node.now.set c.args.node.now.free c.args.node.now.left (e.m - c.args.most) c.requires.is_node c.requires.some;
     }
 
+pub still_needed-needed-requires-clause-ballot : goal.still_needed-needed-requires-clause-ballot
+still_needed-needed-requires-clause-ballot g c =
+    let e = c.args.self.now.profile.now in
+    let row : Row = (c.in-Some.ballot, c.in-Some._voters) in
+    let at = row_of_turn e.rows (c.into_iter-ballot-iterator.ensures.into_iter_gives ∙ c.ballots-ballot-items.ensures.rows) c.loop-ballot.yielded c.loop-ballot.yielded_by row c.in-Some.ensures.steps in
+    IsIncreasing-higher 1 e.m most_candidates row.0 c.args.self.now.size (ballot-found e.m e.rows (length c.loop-ballot.yielded) row c.args.self.now.ballots at)
+
+pub still_needed-needed-requires-clause-set : goal.still_needed-needed-requires-clause-set
+still_needed-needed-requires-clause-set g c =
+    IsIncreasing-higher 1 c.args.self.now.profile.now.m most_candidates c.args.node.now.set c.args.self.now.size c.requires.is_node.set_within
+
 -- the row of a turn
 row-at : (g : _) (c : After-still_needed-needed g) → slice_get c.args.self.now.profile.now.rows (length c.loop-ballot.yielded) ≡ Some (c.in-Some.ballot, c.in-Some._voters)
 row-at g c =
@@ -44,7 +58,7 @@ still-eligible g c =
           subst (AreEligible e c.args.most c.args.node.now.set c.args.node.now.free c.args.node.now.left) (sym (w.rest-is ∙ c.common-open.ensures))
           (narrowed-more (closeness e.m e.rows) e.m c.args.node.now.set c.args.node.now.free rest c.args.node.now.left (e.m - c.args.most) inv.narrowed (common_members row.0 rest)
           (narrowed-to_ballot e.m e.rows c.args.most c.args.node.now.set rest c.args.node.now.left c.args.self.now.ballots inv.narrowed.is_node (length c.loop-ballot.yielded) row at
-          (omega (arith, c.still_needed-needed.ensures, c.len-2.ensures.count, w.if-needed-node.true))))
+          (omega (arith, c.still_needed-needed.ensures, w.if-needed-node.true))))
       | else-needed-node w ↦ subst (AreEligible e c.args.most c.args.node.now.set c.args.node.now.free c.args.node.now.left) (sym w.rest-is) inv.narrowed
     ]
 
@@ -59,7 +73,7 @@ returns-then-needed-min g c =
     narrowed-out (closeness e.m e.rows) e.m c.args.node.now.set c.args.node.now.free rest c.args.node.now.left (e.m - c.args.most) c.loop-ballot.invariant.narrowed
     (hopeless e.m e.rows c.args.most c.args.node.now.set rest c.args.node.now.left c.args.self.now.ballots c.loop-ballot.invariant.narrowed.is_node (length c.loop-ballot.yielded) row
     (row-at g (goal.at.returns-then-needed-min g c).After-still_needed-needed)
-    (omega (arith, c.still_needed-needed.ensures, c.len-2.ensures.count, c.if-needed-min.true, c.min.ensures, c.len-in-loop-ballot.ensures.count, ap length c.common-open.ensures, length-common row.0 rest)))
+    (omega (arith, c.still_needed-needed.ensures, c.if-needed-min.true, c.min.ensures, c.len-in-loop-ballot.ensures.count, ap length c.common-open.ensures, length-common row.0 rest)))
 
 pub loop-ballot-preserved-then-is_tighter : goal.loop-ballot-preserved-then-is_tighter
 loop-ballot-preserved-then-is_tighter g c =
@@ -75,7 +89,7 @@ loop-ballot-preserved-then-is_tighter g c =
           (narrowed-choice V e.m c.args.node.now.set c.args.node.now.free rest c.args.node.now.left (e.m - c.args.most) inv.narrowed (common_members row.0 rest)
           (choice-of_ballot e.m e.rows c.args.most c.args.node.now.set rest c.args.node.now.left c.args.self.now.ballots inv.narrowed.is_node (length c.loop-ballot.yielded) row
           (row-at g (goal.at.loop-ballot-preserved-then-is_tighter g c).After-still_needed-needed)
-          (omega (arith, c.still_needed-needed.ensures, c.len-2.ensures.count, c.if-needed-eq0.false))));
+          (omega (arith, c.still_needed-needed.ensures, c.if-needed-eq0.false))));
     }
 
 pub loop-ballot-preserved : goal.loop-ballot-preserved

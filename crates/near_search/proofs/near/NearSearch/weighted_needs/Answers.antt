@@ -4,6 +4,9 @@ use Rattle.std.proofs.lemmas.List.{length_push}
 use Rattle.ballot_base.specs.CandSet.{has_member, common_members}
 use Rattle.ballot_base.specs.Ballots.{Row, hits}
 use Rattle.tie_walk.specs.Sequences.{supporters}
+use Rattle.ballot_base.specs.Limits.{most_candidates}
+use Rattle.ballot_base.proofs.Increasing.{IsIncreasing-higher}
+use Rattle.tie_walk.proofs.Distances.{ballot-found}
 use Rattle.ballot_base.proofs.Turns.{row_of_turn, all_passed}
 use Rattle.near_search.specs.Needs.{hits_needed, weighted_needs, weighted_support}
 use Rattle.near_search.specs.Steps.Near.{need_weight}
@@ -21,6 +24,17 @@ returns-then-not-is_worth_weighing g c =
       total_is = sym (weightless-sum (λ row. hits_needed (length row.0) k c.args.most - hits row.0 c.args.node.now.set) e.rows);
       supports_are = λ n is. c.none-supports.ensures n ∙ sym (weightless-support (supporters e.rows n));
     }
+
+pub still_needed-needed-requires-clause-ballot : goal.still_needed-needed-requires-clause-ballot
+still_needed-needed-requires-clause-ballot g c =
+    let e = c.args.self.now.profile.now in
+    let row : Row = (c.in-Some.ballot, c.in-Some._voters) in
+    let at = row_of_turn e.rows (c.into_iter-ballot-iterator.ensures.into_iter_gives ∙ c.ballots-ballot-items.ensures.rows) c.loop-ballot.yielded c.loop-ballot.yielded_by row c.in-Some.ensures.steps in
+    IsIncreasing-higher 1 e.m most_candidates row.0 c.args.self.now.size (ballot-found e.m e.rows (length c.loop-ballot.yielded) row c.args.self.now.ballots at)
+
+pub still_needed-needed-requires-clause-set : goal.still_needed-needed-requires-clause-set
+still_needed-needed-requires-clause-set g c =
+    IsIncreasing-higher 1 c.args.self.now.profile.now.m most_candidates c.args.node.now.set c.args.self.now.size c.requires.set
 
 pub loop-ballot-init : goal.loop-ballot-init
 loop-ballot-init g c = record {
@@ -63,7 +77,7 @@ loop-ballot-preserved-then-needed-gt0 g c =
     let inv = c.loop-ballot.invariant in
     let W : Row → ℕ = row_weight c.args.self.now.shares.now.of_one k most set free in
     let need = hits_needed (length row.0) k most - hits row.0 set in
-    let needed : c.still_needed-needed.result ≡ need = omega (arith, c.still_needed-needed.ensures, c.len.ensures.count) in
+    let needed : c.still_needed-needed.result ≡ need = omega (arith, c.still_needed-needed.ensures) in
     let weight : c.from-weight.result ≡ W row =
     c.from-weight.ensures ∙ c.weight.ensures.value
     ∙ ap (λ n. need_weight (get_or c.args.self.now.shares.now.of_one (length c.common-approved.result) 0) n) needed
@@ -104,7 +118,7 @@ loop-ballot-preserved g c =
     let inv = c.loop-ballot.invariant in
     let W : Row → ℕ = row_weight c.args.self.now.shares.now.of_one k most set free in
     let need = hits_needed (length row.0) k most - hits row.0 set in
-    let needed : c.still_needed-needed.result ≡ need = omega (arith, c.still_needed-needed.ensures, c.len.ensures.count) in
+    let needed : c.still_needed-needed.result ≡ need = omega (arith, c.still_needed-needed.ensures) in
     let zero_need : need ≡ 0 = omega (arith, needed, c.if-needed-gt0.false) in
     let weight : W row ≡ 0 =
     row_weight-is c.args.self.now.shares.now.of_one k most set free row ∙ ap (λ n. need_weight (get_or c.args.self.now.shares.now.of_one (length (common_members row.0 free)) 0) n) zero_need

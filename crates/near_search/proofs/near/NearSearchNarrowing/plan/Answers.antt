@@ -23,8 +23,8 @@ by-needs e most least set free eligible choices left total supports size ballots
     (λ committee whole reaches. weighted-paid e.m most e.rows set eligible left total supports ballots is_node weighted committee whole (omega (arith, is, reaches)))
     answer given
 
-pub weighted_needs-needs-requires : goal.weighted_needs-needs-requires
-weighted_needs-needs-requires g c =
+pub weighted_needs-needs-requires-clause-few : goal.weighted_needs-needs-requires-clause-few
+weighted_needs-needs-requires-clause-few g c =
     let m = c.args.self.now.profile.now.m in
     omega (arith, c.in_ok-choices.ensures.enough, length-increasing 1 m c.args.node.now.free c.requires.is_node.free_within, c.args.self.now.size)
 

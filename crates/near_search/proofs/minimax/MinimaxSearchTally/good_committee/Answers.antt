@@ -1,0 +1,13 @@
+use Rattle.std.proofs.Common.{◌≡◌, ◌∙◌, ap, subst, arith}
+use Rattle.ballot_base.specs.Ballots.{Election}
+use Rattle.ballot_base.specs.Lists.{IsIncreasing}
+use Rattle.tie_search.proofs.CompletionLemmas.{candidates-among}
+use Rattle.near_search.proofs.minimax.MinimaxSearchTally.good_committee.Goals as goal
+
+pub returns : goal.returns
+returns g c =
+    let size : c.self.inside.m ≡ c.args.self.now.m = c.self.invariant.1 ∙ ap (λ (e : Election). e.m) c.self.view_is in (
+      subst (λ n. IsIncreasing 1 n c.common-committee.result) size
+          (candidates-among c.self.inside.m c.all.result _ c.common-committee.result c.all.ensures c.common-committee.ensures),
+      omega (arith, c.len.ensures.count, c.if-len-k.false),
+    )
