@@ -144,7 +144,9 @@ impl<'a, A: Allocator + Copy> Search<'a, A> {
     fn sees_pairs(&self, left: u8) -> bool
         ensures { IsTrue result → 2 ≤ left }
     {
-        self.counts_pairs && left >= fewest_seats(self.tally.rule()) && self.aids.uses.pairs.are_due()
+        self.counts_pairs
+            && left >= fewest_seats(self.tally.rule())
+            && self.aids.uses.pairs.are_due()
     }
 
     /// The free candidates of a node that can still join, by pairs. Returns `None` if no completion of its set reaches

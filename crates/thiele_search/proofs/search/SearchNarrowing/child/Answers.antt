@@ -1,8 +1,7 @@
-use Rattle.std.proofs.Common.{◌≡◌, ℕ, ◌+◌, ◌-◌, ◌≤◌, true, List, ap, refl, subst, sym, arith, get_or}
+use Rattle.std.proofs.Common.{◌≡◌, ℕ, ◌+◌, ◌-◌, ◌≤◌, true, List, refl, subst, sym, arith, get_or}
 use Rattle.ballot_base.specs.CandSet.{has_member, with_member, without_member}
 use Rattle.ballot_base.specs.Increments.{increments}
 use Rattle.tie_walk.specs.Ceilings.{gain_at}
-use Rattle.tie_walk.specs.Values.{Thiele}
 use Rattle.tie_walk.proofs.Submodular.{thiele_rule-submodular}
 use Rattle.tie_search.specs.Completions.{IsNode, tally_value}
 use Rattle.tie_search.specs.Steps.Narrowed.{IsNarrowed}
