@@ -1,10 +1,10 @@
 -- The definitions of the search for a committee that is near each ballot, worked out by hand.
 use Rattle.std.proofs.Common.{◌≡◌, ◌*◌, ◌^◌, ℕ, zero, suc, List, [], ◌∷◌, refl, length, lit≤, arith}
 use Rattle.ballot_base.specs.Ballots.{IsElection, Row, election, hits, with_votes}
-use Rattle.ballot_base.specs.Clones.{AreClones}
+use Rattle.ballot_base.specs.Clones.{AreClones, clones_among}
 use Rattle.ballot_base.proofs.RowLemmas.{distinct-with_votes}
 use Rattle.tie_walk.specs.Values.{closeness, distance}
-use Rattle.tie_search.specs.Completions.{AreAlike}
+use Rattle.tie_search.specs.Alike.{AreAlike}
 use Rattle.near_search.specs.Needs.{hits_needed, weighted_needs, weighted_support}
 use Rattle.near_search.specs.Steps.Near.{need_weight}
 use Rattle.near_search.proofs.NearClones.{alike}
@@ -85,5 +85,5 @@ are_classes (suc (suc (suc zero))) low high = refl
 are_classes (suc (suc (suc (suc c)))) low high = absurd (omega (arith, high))
 
 -- 1 in the place of 2, or 2 in the place of 1, leaves a committee as close to the voter as it was
-are_alike : AreAlike (closeness 3 approving_two) 3 classes
-are_alike = alike (election 3 ([] ∷ [] ∷ [] ∷ []) approving_two) approving_two-is_election.ballots classes are_classes
+are_alike : AreAlike (closeness 3 approving_two) 3 (clones_among 3 approving_two)
+are_alike = alike (election 3 ([] ∷ [] ∷ [] ∷ []) approving_two) approving_two-is_election.ballots

@@ -1,18 +1,16 @@
 -- A committee with a clone in a member's place is as near.
 use Rattle.std.proofs.Common.{◌≡◌, ℕ, ◌-◌, ◌≤◌, ◌∙◌, true, false, List, [], ◌∷◌, refl, ap, arith, fold, max}
-use Rattle.std.specs.Prelude.{slice_index_or}
 use Rattle.std.specs.List.{AllByRecursion}
 use Rattle.ballot_base.specs.Lists.{IsIncreasing}
 use Rattle.ballot_base.specs.CandSet.{has_member, without_member}
-use Rattle.ballot_base.specs.Ballots.{Election, Row, hits}
+use Rattle.ballot_base.specs.Ballots.{Election, Row}
 use Rattle.near_search.specs.Steps.Near.{AreBallots}
-use Rattle.ballot_base.specs.Clones.{AreClones, are_clones}
+use Rattle.ballot_base.specs.Clones.{are_clones, clones_among}
 use Rattle.ballot_base.proofs.CloneLemmas.{clones-same}
 use Rattle.ballot_base.proofs.Increasing.{IsIncreasing-with_member}
 use Rattle.tie_walk.specs.Values.{closeness, distance}
-use Rattle.tie_walk.proofs.Gains.{bit, hits-with}
-use Rattle.tie_search.specs.Completions.{AreAlike}
-use Rattle.tie_search.proofs.CloneLemmas.{back, class-are, exchanged, exchanged-size, gone, less-out, less-up}
+use Rattle.tie_search.specs.Alike.{AreAlike}
+use Rattle.tie_search.proofs.CloneLemmas.{class-are, exchanged, exchanged-size, hits-exchanged, less-up}
 use Rattle.near_search.proofs.NeedLemmas.{distance-hits}
 
 distances-same : (low : ℕ) (rows : List Row) (xs ys : List ℕ) → AllByRecursion (λ (row : Row). distance row.0 xs ≡ distance row.0 ys) rows
@@ -26,17 +24,12 @@ module _ (m : ℕ) (committee : List ℕ) (c d : ℕ) (up : IsIncreasing 1 m com
   -- of one ballot
   distance-exchanged : (ballot : List ℕ) → IsIncreasing 1 m ballot → has_member ballot c ≡ has_member ballot d → distance ballot (exchanged committee c d) ≡ distance ballot committee
   distance-exchanged ballot rises same =
-      let less = without_member committee d in
-      let first = less-up m committee c d up here out in
       omega (
         arith,
-        distance-hits m ballot (exchanged committee c d) rises (IsIncreasing-with_member 1 m less c low high first),
+        distance-hits m ballot (exchanged committee c d) rises (IsIncreasing-with_member 1 m (without_member committee d) c low high (less-up m committee c d up here out)),
         distance-hits m ballot committee rises up,
         exchanged-size m committee c d up here out low high,
-        hits-with 1 m ballot less c rises (less-out m committee c d up here out),
-        hits-with 1 m ballot less d rises (gone committee d),
-        ap bit same,
-        ap (hits ballot) (back m committee d up here),
+        hits-exchanged m ballot committee c d rises up low high here out same,
       )
 
   pub closeness-exchanged : (rows : List Row) → AllByRecursion (λ (row : Row). IsIncreasing 1 m row.0) rows → are_clones rows c d ≡ true
@@ -49,6 +42,6 @@ module _ (m : ℕ) (committee : List ℕ) (c d : ℕ) (up : IsIncreasing 1 m com
       all (row ∷ rows) up same = (distance-exchanged row.0 up.0 same.0, all rows up.1 same.1)
 
 -- the classes of clones are alike
-pub alike : (e : Election) → AreBallots e.m e.rows → (classes : List (List ℕ)) → AreClones e.m e.rows classes → AreAlike (closeness e.m e.rows) e.m classes
-alike e ballots classes are committee c d up low high class here out =
-    closeness-exchanged e.m committee c d up here out low high e.rows ballots (class-are e.m e.rows c (slice_index_or classes c []) (are c low high) d class)
+pub alike : (e : Election) → AreBallots e.m e.rows → AreAlike (closeness e.m e.rows) e.m (clones_among e.m e.rows)
+alike e ballots committee c d up low high class here out =
+    closeness-exchanged e.m committee c d up here out low high e.rows ballots (class-are e.m e.rows c (clones_among e.m e.rows c) refl d class)

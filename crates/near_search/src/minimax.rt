@@ -1,5 +1,6 @@
 //! Minimax approval voting as values that can be searched.
 ghost use Rattle.std.specs.Prelude.{◌≡◌};
+ghost use Rattle.ballot_base.specs.Clones.{clones_among};
 ghost use Rattle.tie_walk.specs.Ceilings.{closeness_upto};
 ghost use Rattle.tie_walk.specs.Values.{closeness};
 
@@ -77,6 +78,8 @@ impl<'a, A: Allocator + Copy> Tally for MinimaxSearch<'a, A> {
 }
 
 impl<'a, A: Allocator + Copy> Searchable for MinimaxSearch<'a, A> {
+    ghost class_of = { λ tally c. clones_among tally.m tally.rows c };
+
     fn clones(&self) -> &Clones {
         &self.clones
     }

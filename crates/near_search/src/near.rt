@@ -9,7 +9,7 @@
 //! weight. A set is given up if the sum passes what the best free candidates can give, and a candidate leaves without
 //! whom the others fall short (`laws::weighted_needs`; Glover, Surrogate constraints, 1968). Any weights are right.
 ghost use Rattle.std.specs.Prelude.{◌≡◌, ℕ, ◌+◌, ◌^◌, ◌≤◌, ◌&&◌, length, slice_index, MatchOption, ⊤};
-ghost use Rattle.ballot_base.specs.Clones.{AreClones};
+ghost use Rattle.ballot_base.specs.Clones.{AreClones, clones_among};
 ghost use Rattle.ballot_base.specs.Limits.{most_candidates};
 ghost use Rattle.ballot_base.specs.Lists.{IsIncreasing};
 ghost use Rattle.ballot_base.specs.Worths.{AreTooLow, AreWanted};
@@ -88,6 +88,8 @@ impl<A: Allocator + Copy> Narrowing for NearSearch<'_, A> {
     ghost candidates = { λ search. search.profile.now.m };
 
     ghost value_of = { λ search set. closeness search.profile.now.m search.profile.now.rows set };
+
+    ghost class_of = { λ search c. clones_among search.profile.now.m search.profile.now.rows c };
 
     // A whole committee is valued when it is reached.
     ghost is_valued = { λ search set value. ⊤ };

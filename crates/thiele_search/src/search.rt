@@ -231,6 +231,7 @@ impl<'a, A: Allocator + Copy> Search<'a, A> {
 impl<'a, A: Allocator + Copy> Narrowing for Search<'a, A> {
     ghost use Rattle.std.specs.Prelude.{◌≡◌, ℕ, true, slice_index};
     ghost use Rattle.ballot_base.specs.CandSet.{has_member};
+    ghost use Rattle.ballot_base.specs.Clones.{clones_among};
     ghost use Rattle.ballot_base.specs.Increments.{increments};
     ghost use Rattle.tie_walk.specs.Sequences.{gain};
     ghost use Rattle.tie_search.specs.Completions.{tally_value};
@@ -239,6 +240,8 @@ impl<'a, A: Allocator + Copy> Narrowing for Search<'a, A> {
     ghost candidates = { λ tally. tally.election.m };
 
     ghost value_of = { λ tally set. tally_value tally set };
+
+    ghost class_of = { λ tally c. clones_among tally.election.m tally.election.rows c };
 
     ghost is_valued = { λ tally set value. IsValued tally set value };
 

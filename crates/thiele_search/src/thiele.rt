@@ -1,6 +1,7 @@
 //! Thiele's rules as values that can be searched.
 ghost use Rattle.std.specs.Prelude.{◌≡◌, ◌≤◌, IfOk};
-ghost use Rattle.ballot_base.specs.Limits.{most_candidates, most_members};
+ghost use Rattle.ballot_base.specs.Clones.{clones_among};
+ghost use Rattle.ballot_base.specs.Limits.{most_members};
 ghost use Rattle.tie_walk.specs.Values.{thiele_of};
 ghost use Rattle.tie_walk.specs.Winners.{best_value};
 ghost use Rattle.tie_walk.specs.Ceilings.{ceiling};
@@ -19,9 +20,6 @@ use std::alloc::{AllocError, Allocator, Global};
 use std::marker::Model;
 use tie_search::{Node, Searchable, Tied, descent};
 use tie_walk::{Tally, ThieleTally};
-
-/// A candidate has many clones if there are so many with itself.
-const MANY_CLONES: u8 = 4;
 
 /// All memory that a search among the committees of k by a Thiele rule takes, and the columns that lie in it. Contracts
 /// see the election, the rule and k.
@@ -180,6 +178,8 @@ impl<'a, A: Allocator + Copy> Tally for ThieleSearch<'a, A> {
 }
 
 impl<'a, A: Allocator + Copy> Searchable for ThieleSearch<'a, A> {
+    ghost class_of = { λ tally c. clones_among tally.election.m tally.election.rows c };
+
     fn clones(&self) -> &Clones {
         &self.aids.clones
     }
@@ -190,27 +190,14 @@ impl<'a, A: Allocator + Copy> Searchable for ThieleSearch<'a, A> {
     }
 
     fn tied(&self, k: u8) -> Option<Tied> {
-        // Winners come sooner one by one if the good committee is known to be the best, or most candidates are clones.
-        if self.good.is_best || are_mostly_clones(&self.aids.clones, self.m()) {
+        // Winners come sooner one by one if the good committee is known to be the best.
+        if self.good.is_best {
             return None;
         }
         let mut search = self.search(true);
         let all = search.node(CandSet::empty(), CandSet::all(self.m()), k);
         Some(descent::list_tied(&mut search, all, self.good_value(k)))
     }
-}
-
-/// Whether at least half of the candidates have many clones, as on party lists.
-fn are_mostly_clones(clones: &Clones, m: u8) -> bool
-    requires { m ≤ most_candidates }
-{
-    let mut cloned = CandSet::empty();
-    for candidate in 1..m + 1 {
-        if clones.class(candidate).len() >= MANY_CLONES {
-            cloned = cloned.with(candidate);
-        }
-    }
-    2 * cloned.len() >= m
 }
 
 /// A good committee of k: the one that was met when prices were made, or a better one.

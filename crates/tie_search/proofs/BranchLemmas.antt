@@ -10,7 +10,8 @@ use Rattle.ballot_base.proofs.Included.{all-at, all-from}
 use Rattle.ballot_base.proofs.Increasing.{IsIncreasing-either, IsIncreasing-filter, IsIncreasing-higher, IsIncreasing-lower, has_member-above, has_member-below, has_member-either, has_member-filter, has_member-with_member, has_member_head, same_increasing, with_member-above}
 use Rattle.tie_walk.specs.Winners.{best_value}
 use Rattle.tie_walk.proofs.LawLemmas.{no_greater_value}
-use Rattle.tie_search.specs.Completions.{AreAlike, IsCompletion, IsNode, IsOutOfReach}
+use Rattle.tie_search.specs.Alike.{AreAlike}
+use Rattle.tie_search.specs.Completions.{IsCompletion, IsNode, IsOutOfReach}
 use Rattle.tie_search.specs.Tied.{IsBest}
 use Rattle.tie_search.specs.Steps.Branches.{ComesBefore, IsBarren, IsBranch, completes}
 use Rattle.tie_search.specs.declared.branch.Branch.{Branch}
@@ -197,7 +198,7 @@ module _ (m k : ℕ) (branch : Branch) (is : IsBranch m k branch) (next : ℕ) (
 
 -- where no winner completes the branch with the candidate, its clones are in none that completes the branch without
 pub left-out : (value : List ℕ → ℕ) (m k : ℕ) (branch : Branch) (is : IsBranch m k branch) (next : ℕ) (rest : List ℕ) (first : branch.free ≡ next ∷ rest) (classes : List (List ℕ))
-    → length branch.set < k → AreAlike value m classes
+    → length branch.set < k → AreAlike value m (λ c. slice_index_or classes c [])
     → IsBarren value m k (record { set = with_member branch.set next; free = rest })
     → (committee : List ℕ) → IsBest value m k committee → completes branch committee ≡ true
     → completes (record { set = branch.set; free = other_members rest (slice_index_or classes next []) }) committee ≡ true

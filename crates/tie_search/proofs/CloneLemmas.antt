@@ -1,12 +1,15 @@
 -- A candidate who was tried takes the place of a clone.
-use Rattle.std.proofs.Common.{◌≡◌, ℕ, ◌-◌, ◌≤◌, ◌==◌, ◌&&◌, ◌||◌, ◌∙◌, Bool, true, false, not, List, refl, sym, ap, arith, inl, inr, length}
+use Rattle.std.proofs.Common.{◌≡◌, ℕ, ◌+◌, ◌-◌, ◌≤◌, ◌==◌, ◌&&◌, ◌||◌, ◌∙◌, Bool, true, false, not, List, [], refl, sym, ap, subst, arith, inl, inr, length}
+use Rattle.std.specs.Prelude.{slice_index_or}
 use Rattle.std.proofs.lemmas.Bool.{cases_Bool, cases_eq, eq-eqb, ne_eqb, or_right}
 use Rattle.ballot_base.specs.Lists.{IsIncreasing}
 use Rattle.ballot_base.specs.CandSet.{has_member, other_members, with_member, without_member}
-use Rattle.ballot_base.specs.Ballots.{Row}
+use Rattle.ballot_base.specs.Ballots.{Row, hits}
 use Rattle.ballot_base.specs.Clones.{are_clones, clones_among}
 use Rattle.ballot_base.proofs.CloneLemmas.{clones_among-are}
 use Rattle.ballot_base.proofs.Increasing.{IsIncreasing-filter, IsIncreasing-with_member, has_member-filter, has_member-with_member, same_increasing}
+use Rattle.tie_walk.proofs.Gains.{bit, hits-with}
+use Rattle.tie_search.specs.Alike.{AreAlike, HasClasses}
 use Rattle.tie_search.specs.Completions.{IsCompletion, IsNode, IsOutOfReach}
 use Rattle.tie_search.proofs.CompletionLemmas.{completion-with, filter-most, member-high, member-low, member-without, with-longer, without-is}
 use Rattle.tie_search.proofs.SearchLemmas.{AreLeft, struck-out}
@@ -82,6 +85,16 @@ module _ (m : ℕ) (committee : List ℕ) (c d : ℕ) (up : IsIncreasing 1 m com
       stays : (x : ℕ) → has_member committee x ≡ true → (x ≡ d → ⊥) → has_member less x ≡ true
       stays x is other = member-without committee d x ∙ ap (λ b. not b && has_member committee x) (ne_eqb x d other) ∙ is
 
+-- a ballot that has both candidates or neither has as many members of the exchanged committee
+pub hits-exchanged : (m : ℕ) (ballot committee : List ℕ) (c d : ℕ) → IsIncreasing 1 m ballot → IsIncreasing 1 m committee → 1 ≤ c → c ≤ m → has_member committee d ≡ true → has_member committee c ≡ false
+    → has_member ballot c ≡ has_member ballot d → hits ballot (exchanged committee c d) ≡ hits ballot committee
+hits-exchanged m ballot committee c d rises up low high here out same =
+    let less = without_member committee d in
+    hits-with 1 m ballot less c rises (less-out m committee c d up here out)
+    ∙ ap (λ b. hits ballot less + bit b) same
+    ∙ sym (hits-with 1 m ballot less d rises (gone committee d))
+    ∙ ap (hits ballot) (back m committee d up here)
+
 -- ---- the search
 
 pub minus-is : (free clones : List ℕ) (x : ℕ) → has_member (other_members free clones) x ≡ true → has_member free x ≡ true
@@ -138,3 +151,7 @@ clones-left value m set left least free rest clones c some is_node here same lef
     go x false not_in false clone is =
         ap (λ b. has_member set x || b) (has_member-filter (λ y. not (has_member clones y)) (without_member rest c) x ∙ ap (λ b. not b && has_member (without_member rest c) x) clone)
         ∙ now.within x is
+
+-- the table has the classes
+pub alike-table : (value : List ℕ → ℕ) (m : ℕ) (class : ℕ → List ℕ) (table : List (List ℕ)) → HasClasses m class table → AreAlike value m class → AreAlike value m (λ c. slice_index_or table c [])
+alike-table value m class table has alike committee c d up low high member here out = alike committee c d up low high (subst (λ l. has_member l d ≡ true) (has c low high) member) here out

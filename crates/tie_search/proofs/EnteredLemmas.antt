@@ -428,7 +428,7 @@ module _ (value : List ℕ → ℕ) (m k : ℕ) (branches : List Branch) (branch
 
 -- ---- all winners
 
-module _ {S : Type 0} (value : S → List ℕ → ℕ) (candidates : S → ℕ) (after : Option (List ℕ)) (asking : Asking S) (counted : IsCounted value candidates after asking) where
+module _ {S : Type 0} (value : S → List ℕ → ℕ) (class : S → ℕ → List ℕ) (candidates : S → ℕ) (after : Option (List ℕ)) (asking : Asking S) (counted : IsCounted value class candidates after asking) where
   -- no counter wraps
   pub entered-fits : asking.entered + to_enter value asking.best asking.branches.items < 2 ^ 127
   entered-fits =

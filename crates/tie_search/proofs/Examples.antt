@@ -1,10 +1,12 @@
 -- The definitions of the search, worked out by hand. The value of a set is the sum of its numbers; of committees of two
 -- of the candidates 1 to 3 the best has 2 and 3.
-use Rattle.std.proofs.Common.{◌≡◌, ◌+◌, ◌<◌, ℕ, zero, suc, true, false, List, [], ◌∷◌, None, Some, refl, sym, ap, subst, sum, lit≤, lit<, arith}
+use Rattle.std.proofs.Common.{◌≡◌, ◌+◌, ◌<◌, ◌≤◌, ◌∙◌, ℕ, zero, suc, true, false, List, [], ◌∷◌, None, Some, refl, sym, ap, subst, sum, lit≤, lit<, arith}
 use Rattle.std.specs.Prelude.{slice_index_or}
+use Rattle.ballot_base.specs.CandSet.{has_member}
 use Rattle.ballot_base.specs.Lists.{lists_of}
 use Rattle.tie_walk.specs.Values.{closeness}
 use Rattle.tie_walk.specs.Winners.{best_value, winners}
+use Rattle.tie_search.specs.Alike.{AreClasses, Becomes, done, step}
 use Rattle.tie_search.specs.Completions.{IsNode, IsCompletion, IsReaching, IsOutOfReach}
 use Rattle.tie_search.specs.Asked.{Asked, IsNextAsked, beginnings, begins_some}
 use Rattle.tie_search.specs.Steps.Branches.{AreSized, AreStacked, IsBranch, branches_after, completes, first_branches, is_new, new_beginnings, winners_of}
@@ -69,13 +71,17 @@ only_three [] best = absurd (omega (arith, best.size))
 only_three (x ∷ []) best = let value : 0 + x ≡ 3 = best.best in ap (λ n. n ∷ []) (omega (arith, value))
 only_three (x ∷ y ∷ committee) best = absurd (omega (arith, best.size))
 
-three_is_listed : AreBest sum 3 1 (record { committees = (3 ∷ []) ∷ []; len = 1; are_all = true })
+-- no candidate has a clone
+abbrev alone : ℕ → List ℕ
+alone c = c ∷ []
+
+three_is_listed : AreBest sum alone 3 1 (record { committees = (3 ∷ []) ∷ []; len = 1; are_all = true })
 unfolding lists_of
 three_is_listed = record {
   some = lit≤ tt;
   few = lit≤ tt;
   each = λ committee among. listed committee among.0 among.1 among.2;
-  all = λ yes committee best. (0, lit< tt, sym (only_three committee best));
+  all = λ yes committee best. (3 ∷ [], (0, lit< tt, refl), subst (Becomes 3 alone (3 ∷ [])) (sym (only_three committee best)) done);
 }
   where
     listed : (committee : List ℕ) (i : ℕ) → i < 1 → slice_index_or ((3 ∷ []) ∷ []) i [] ≡ committee → IsBest sum 3 1 committee
@@ -83,7 +89,7 @@ three_is_listed = record {
     listed committee (suc i) inside is = absurd (omega (arith, inside))
 
 -- the list has each committee that ties, and none twice
-three_has_no_equal : AreTied sum 3 1 (record { committees = (3 ∷ []) ∷ []; len = 1; are_all = true })
+three_has_no_equal : AreTied sum alone 3 1 (record { committees = (3 ∷ []) ∷ []; len = 1; are_all = true })
 three_has_no_equal = record {
   best = three_is_listed;
   full = λ no. absurd cc;
@@ -96,12 +102,12 @@ three_is_twice : AreDistinct ((3 ∷ []) ∷ (3 ∷ []) ∷ []) 2 → ⊥
 three_is_twice distinct = distinct 0 1 (lit< tt) (lit< tt) refl
 
 -- a list of one that does not say that it has all is not full
-one_is_not_full : AreTied sum 3 1 (record { committees = (3 ∷ []) ∷ []; len = 1; are_all = false }) → ⊥
+one_is_not_full : AreTied sum alone 3 1 (record { committees = (3 ∷ []) ∷ []; len = 1; are_all = false }) → ⊥
 one_is_not_full tied = let full : 1 ≡ 256 = tied.full refl in omega (arith, full)
 
 -- a list with the committee of 3 leaves out none that ties, and has to say so
 none_is_left_out : (committees : List (List ℕ)) (len : ℕ) → IsAmong committees len (3 ∷ [])
-    → AreTied sum 3 1 (record { committees = committees; len = len; are_all = false }) → ⊥
+    → AreTied sum alone 3 1 (record { committees = committees; len = len; are_all = false }) → ⊥
 none_is_left_out committees len among tied =
     let other = tied.more refl in
     other.2 (subst (IsAmong committees len) (sym (only_three other.0 other.1)) among)
@@ -110,14 +116,14 @@ abbrev one_and_two : List (List ℕ)
 one_and_two = (1 ∷ []) ∷ (2 ∷ []) ∷ []
 
 -- where all values are the same, both committees of one tie
-two_tie : AreTied (λ set. 0) 2 1 (record { committees = one_and_two; len = 2; are_all = true })
+two_tie : AreTied (λ set. 0) alone 2 1 (record { committees = one_and_two; len = 2; are_all = true })
 unfolding lists_of
 two_tie = record {
   best = record {
     some = lit≤ tt;
     few = lit≤ tt;
     each = λ committee among. listed committee among.0 among.1 among.2;
-    all = λ yes committee best. is_listed committee best;
+    all = λ yes committee best. (committee, is_listed committee best, done);
   };
   full = λ no. absurd cc;
   more = λ no. absurd cc;
@@ -148,6 +154,52 @@ two_tie = record {
     apart zero (suc zero) before inside same = let heads : 1 ≡ 2 = ap sum same in omega (arith, heads)
     apart (suc i) (suc zero) before inside same = omega (arith, before)
     apart i (suc (suc j)) before inside same = omega (arith, inside)
+
+-- ---- clones
+
+-- 1 and 2 are clones
+abbrev both : ℕ → List ℕ
+both c = 1 ∷ 2 ∷ []
+
+in_both : (c : ℕ) → 1 ≤ c → c ≤ 2 → has_member (both 1) c ≡ true
+in_both zero low high = absurd (omega (arith, low))
+in_both (suc zero) low high = refl
+in_both (suc (suc zero)) low high = refl
+in_both (suc (suc (suc c))) low high = absurd (omega (arith, high))
+
+both_are_classes : AreClasses 2 both
+both_are_classes e c d e_low e_high low high is = in_both c low high ∙ sym is
+
+-- the committee of 2 becomes that of 1
+two_becomes_one : Becomes 2 both (1 ∷ []) (2 ∷ [])
+two_becomes_one = step (2 ∷ []) 1 2 (lit≤ tt, lit≤ tt, tt) (lit≤ tt) (lit≤ tt) refl refl refl done
+
+-- so a list of the committee of 1 alone has all that tie
+one_has_all : AreTied (λ set. 0) both 2 1 (record { committees = (1 ∷ []) ∷ []; len = 1; are_all = true })
+unfolding lists_of
+one_has_all = record {
+  best = record {
+    some = lit≤ tt;
+    few = lit≤ tt;
+    each = λ committee among. listed committee among.0 among.1 among.2;
+    all = λ yes committee best. (1 ∷ [], (0, lit< tt, refl), becomes committee best);
+  };
+  full = λ no. absurd cc;
+  more = λ no. absurd cc;
+  distinct = λ i j before inside same. omega (arith, before, inside);
+}
+  where
+    listed : (committee : List ℕ) (i : ℕ) → i < 1 → slice_index_or ((1 ∷ []) ∷ []) i [] ≡ committee → IsBest (λ set. 0) 2 1 committee
+    listed committee zero inside is = subst (IsBest (λ set. 0) 2 1) is record { candidates = (lit≤ tt, lit≤ tt, tt); size = refl; best = refl }
+    listed committee (suc i) inside is = absurd (omega (arith, inside))
+
+    becomes : (committee : List ℕ) → IsBest (λ set. 0) 2 1 committee → Becomes 2 both (1 ∷ []) committee
+    becomes [] best = absurd (omega (arith, best.size))
+    becomes (zero ∷ []) best = absurd (omega (arith, best.candidates.0))
+    becomes (suc zero ∷ []) best = done
+    becomes (suc (suc zero) ∷ []) best = two_becomes_one
+    becomes (suc (suc (suc x)) ∷ []) best = absurd (omega (arith, best.candidates.1))
+    becomes (x ∷ y ∷ committee) best = absurd (omega (arith, best.size))
 
 -- ---- branches: of two of the candidates 1 to 3, the committee of 2 and 3 wins
 

@@ -1,3 +1,4 @@
+pub mod AlikeLemmas
 pub mod AskingLemmas
 pub mod BranchLemmas
 pub mod CloneLemmas

@@ -20,7 +20,8 @@ use Rattle.tie_walk.specs.Winners.{best_value, winners}
 use Rattle.tie_walk.proofs.LawLemmas.{IsIncreasing-range, no_greater_value, winner-from_is, winner-is, winners-order}
 use Rattle.tie_walk.proofs.StepLemmas.{has_member-range}
 use Rattle.tie_walk.proofs.WinnersLemmas.{same_filter}
-use Rattle.tie_search.specs.Completions.{AreAlike, IsOutOfReach, IsReaching}
+use Rattle.tie_search.specs.Alike.{AreAlike}
+use Rattle.tie_search.specs.Completions.{IsOutOfReach, IsReaching}
 use Rattle.tie_search.specs.Tied.{IsBest}
 use Rattle.tie_search.specs.Steps.Branches.{AreSized, AreStacked, ComesBefore, IsAnswer, IsBarren, IsBranch, IsWinnerOf, completes, completes_some, first_branches, winners_of}
 use Rattle.tie_search.specs.declared.branch.Branch.{Branch}
@@ -329,7 +330,7 @@ module _ (value : List ℕ → ℕ) (m k : ℕ) (branches : List Branch) (branch
       ∙ sym (last-some branches branch committee)))))
 
   -- the candidate leaves with its clones
-  module _ (classes : List (List ℕ)) (short : length branch.set < k) (alike : AreAlike value m classes) (none : IsBarren value m k with') where
+  module _ (classes : List (List ℕ)) (short : length branch.set < k) (alike : AreAlike value m (λ c. slice_index_or classes c [])) (none : IsBarren value m k with') where
     abbrev pub left-over : Branch
     left-over = record { set = branch.set; free = other_members rest (slice_index_or classes next []) }
 

@@ -1,20 +1,13 @@
 -- Committees that complete a set, and whether one of them reaches a value.
-use Rattle.std.specs.Prelude.{◌≡◌, ℕ, ◌+◌, ◌<◌, ◌≤◌, ◌||◌, true, false, List, [], length, slice_index_or}
+use Rattle.std.specs.Prelude.{◌≡◌, ℕ, ◌+◌, ◌<◌, ◌≤◌, ◌||◌, true, false, List, length}
 use Rattle.ballot_base.specs.Lists.{IsIncreasing}
-use Rattle.ballot_base.specs.CandSet.{has_member, with_member, without_member}
+use Rattle.ballot_base.specs.CandSet.{has_member}
 use Rattle.ballot_base.specs.Increments.{increments}
 use Rattle.tie_walk.specs.Values.{Thiele, thiele_value}
 
 -- what a tally of a Thiele rule gives a set
 abbrev pub tally_value : Thiele → List ℕ → ℕ
 tally_value tally set = thiele_value (increments tally.rule tally.k) tally.election.rows set
-
--- at each candidate's number a class: with the candidate in the place of one of its class, a committee of the
--- candidates 1 to m has the same value
-abbrev pub AreAlike : (List ℕ → ℕ) → ℕ → List (List ℕ) → Type 0
-AreAlike value m classes = (committee : List ℕ) (c d : ℕ) → IsIncreasing 1 m committee → 1 ≤ c → c ≤ m
-    → has_member (slice_index_or classes c []) d ≡ true → has_member committee d ≡ true → has_member committee c ≡ false
-    → value (with_member (without_member committee d) c) ≡ value committee
 
 -- a node of a search: a set of the candidates 1 to m, and others of them that are free to join it
 pub record IsNode (m : ℕ) (set free : List ℕ) : Type 0 where

@@ -2,6 +2,7 @@
 use Rattle.std.specs.Prelude.{◌≡◌, ℕ, ◌<◌, ◌≤◌, true, false, List, [], length, slice_index_or}
 use Rattle.ballot_base.specs.Lists.{IsIncreasing}
 use Rattle.tie_walk.specs.Winners.{best_value}
+use Rattle.tie_search.specs.Alike.{Becomes}
 use Rattle.tie_search.specs.declared.found.Tied.{Tied}
 
 -- a committee of k of the candidates 1 to m with the greatest value
@@ -23,17 +24,18 @@ abbrev pub AreDistinct : List (List ℕ) → ℕ → Type 0
 AreDistinct committees len =
     (i j : ℕ) → i < j → j < len → slice_index_or committees i [] ≡ slice_index_or committees j [] → ⊥
 
--- some committees with the greatest value, or if the list says so, all of them
-pub record AreBest (value : List ℕ → ℕ) (m k : ℕ) (tied : Tied) : Type 0 where
+-- some committees with the greatest value, or if the list says so, all of them up to exchanges of clones
+pub record AreBest (value : List ℕ → ℕ) (class : ℕ → List ℕ) (m k : ℕ) (tied : Tied) : Type 0 where
   pub some : 1 ≤ tied.len
   pub few : tied.len ≤ most_tied
   pub each : (committee : List ℕ) → IsAmong tied.committees tied.len committee → IsBest value m k committee
-  pub all : tied.are_all ≡ true
-      → (committee : List ℕ) → IsBest value m k committee → IsAmong tied.committees tied.len committee
+  pub all : tied.are_all ≡ true → (committee : List ℕ) → IsBest value m k committee
+      → (other : List ℕ) × IsAmong tied.committees tied.len other × Becomes m class other committee
 
--- The committees with the greatest value, none of them twice: all, or if there are more, as many as are listed at most.
-pub record AreTied (value : List ℕ → ℕ) (m k : ℕ) (tied : Tied) : Type 0 where
-  pub best : AreBest value m k tied
+-- The committees with the greatest value, none of them twice: all up to exchanges of clones, or if there are more, as
+-- many as are listed at most.
+pub record AreTied (value : List ℕ → ℕ) (class : ℕ → List ℕ) (m k : ℕ) (tied : Tied) : Type 0 where
+  pub best : AreBest value class m k tied
   pub full : tied.are_all ≡ false → tied.len ≡ most_tied
   pub more : tied.are_all ≡ false
       → (committee : List ℕ) × IsBest value m k committee × (IsAmong tied.committees tied.len committee → ⊥)

@@ -35,8 +35,8 @@ pub(crate) struct Asking<S: Searchable> {
 impl<S: Searchable> Asking<S> {
     /// All are still to come.
     pub(crate) fn all(best: Best<S>) -> Asking<S>
-        requires { KnowsBest S.value_of S.candidates best }
-        ensures begun { IsBegun S.value_of S.candidates best None result }
+        requires { KnowsBest S.value_of S.class_of S.candidates best }
+        ensures begun { IsBegun S.value_of S.class_of S.candidates best None result }
     {
         let branches = all_branches(best.m);
         Asking::of(best, branches)
@@ -44,9 +44,9 @@ impl<S: Searchable> Asking<S> {
 
     /// All that are later than the start are still to come.
     pub(crate) fn after(best: Best<S>, start: CandSet) -> Asking<S>
-        requires knows { KnowsBest S.value_of S.candidates best }
+        requires knows { KnowsBest S.value_of S.class_of S.candidates best }
         requires start { IsStart best.m best.k (Some start) }
-        ensures begun { IsBegun S.value_of S.candidates best (Some start) result }
+        ensures begun { IsBegun S.value_of S.class_of S.candidates best (Some start) result }
     {
         let branches = later_branches(start, best.m);
         Asking::of(best, branches)
@@ -54,12 +54,12 @@ impl<S: Searchable> Asking<S> {
 
     /// Those that complete the branches are still to come.
     fn of(best: Best<S>, branches: ArrayVec<Branch, PLACES>) -> Asking<S>
-        requires knows { KnowsBest S.value_of S.candidates best }
+        requires knows { KnowsBest S.value_of S.class_of S.candidates best }
         requires each { AllByRecursion (IsBranch best.m best.k) branches.items }
         requires stacked { AreStacked best.m branches.items }
         requires sized { AreSized 0 branches.items }
         requires few { length branches.items ≤ best.k }
-        ensures asking { IsAsking S.value_of S.candidates result }
+        ensures asking { IsAsking S.value_of S.class_of S.candidates result }
         ensures best { result.best ≡ best }
         ensures branches { result.branches.items ≡ branches.items }
         ensures entered { result.entered ≡ 0 }
@@ -76,9 +76,9 @@ impl<S: Searchable> Asking<S> {
 
     /// The first of those still to come.
     pub(crate) fn next(&mut self) -> Option<CandSet>
-        requires asking { IsAsking S.value_of S.candidates self.old }
+        requires asking { IsAsking S.value_of S.class_of S.candidates self.old }
         requires fits { self.old.entered + to_enter S.value_of self.old.best self.old.branches.items < 2 ^ 127 }
-        ensures asking { IsAsking S.value_of S.candidates self.new }
+        ensures asking { IsAsking S.value_of S.class_of S.candidates self.new }
         ensures best { self.new.best ≡ self.old.best }
         ensures first { left_by S.value_of self.old.best self.old.branches.items
             ≡ option_to_list result ++ left_by S.value_of self.old.best self.new.branches.items }
@@ -98,10 +98,10 @@ impl<S: Searchable> Asking<S> {
 
     /// The first that completes a branch, as the one that was found last does.
     fn first_of(&mut self, branch: Branch) -> CandSet
-        requires way { IsOnTheWay S.value_of S.candidates self.old branch }
+        requires way { IsOnTheWay S.value_of S.class_of S.candidates self.old branch }
         requires fits { self.old.entered
             + to_enter S.value_of self.old.best (self.old.branches.items ++ branch ∷ []) < 2 ^ 127 }
-        ensures asking { IsAsking S.value_of S.candidates self.new }
+        ensures asking { IsAsking S.value_of S.class_of S.candidates self.new }
         ensures best { self.new.best ≡ self.old.best }
         ensures first { left_by S.value_of self.old.best (self.old.branches.items ++ branch ∷ [])
             ≡ result ∷ left_by S.value_of self.old.best self.new.branches.items }
@@ -119,11 +119,11 @@ impl<S: Searchable> Asking<S> {
 
     /// The branch below it with the first that completes it.
     fn below(&mut self, branch: Branch) -> Branch
-        requires way { IsOnTheWay S.value_of S.candidates self.old branch }
+        requires way { IsOnTheWay S.value_of S.class_of S.candidates self.old branch }
         requires short { length branch.set < self.old.best.k }
         requires fits { self.old.entered
             + to_enter S.value_of self.old.best (self.old.branches.items ++ branch ∷ []) < 2 ^ 127 }
-        ensures way { IsOnTheWay S.value_of S.candidates self.new result }
+        ensures way { IsOnTheWay S.value_of S.class_of S.candidates self.new result }
         ensures best { self.new.best ≡ self.old.best }
         ensures left { left_by S.value_of self.old.best (self.new.branches.items ++ result ∷ [])
             ≡ left_by S.value_of self.old.best (self.old.branches.items ++ branch ∷ []) }
@@ -171,7 +171,7 @@ impl<S: Searchable> Asking<S> {
 
     /// Whether a committee with the greatest value completes the branch. If one does, it is the one found last.
     fn reaches(&mut self, branch: &Branch) -> bool
-        requires asking { IsAsking S.value_of S.candidates self.old }
+        requires asking { IsAsking S.value_of S.class_of S.candidates self.old }
         requires branch { IsBranch self.old.best.m self.old.best.k branch.now }
         ensures yes { result ≡ true → IsWinnerOf (S.value_of self.old.best.search) self.old.best.m self.old.best.k
             branch.now self.new.found }
@@ -190,7 +190,7 @@ impl<S: Searchable> Asking<S> {
 
     /// A committee with the greatest value that completes the branch.
     fn winner_of(&mut self, branch: &Branch) -> Option<CandSet>
-        requires asking { IsAsking S.value_of S.candidates self.old }
+        requires asking { IsAsking S.value_of S.class_of S.candidates self.old }
         requires branch { IsBranch self.old.best.m self.old.best.k branch.now }
         ensures answer { IsAnswer (S.value_of self.old.best.search) self.old.best.m self.old.best.k branch.now result }
         ensures found { self.new.found ≡ self.old.found }
@@ -203,13 +203,18 @@ impl<S: Searchable> Asking<S> {
         if branch.is_completed_by(self.found) {
             return Some(self.found);
         }
-        if self.best.tied.are_all {
-            return self.best.listed(branch);
+        let like = if self.best.tied.are_all {
+            self.best.listed(branch)?
+        } else {
+            self.found
+        };
+        if branch.is_completed_by(like) {
+            return Some(like);
         }
         if branch.set.len() == self.best.k {
             return self.best.whole(branch);
         }
-        match self.best.shown(self.found, branch) {
+        match self.best.shown(like, branch) {
             Some(winner) => Some(winner),
             None => self.ask(branch),
         }
@@ -217,7 +222,7 @@ impl<S: Searchable> Asking<S> {
 
     /// A committee with the greatest value that completes the branch, by a search. No other step searches.
     fn ask(&mut self, branch: &Branch) -> Option<CandSet>
-        requires knows { KnowsBest S.value_of S.candidates self.old.best }
+        requires knows { KnowsBest S.value_of S.class_of S.candidates self.old.best }
         requires branch { IsBranch self.old.best.m self.old.best.k branch.now }
         ensures answer { IsAnswer (S.value_of self.old.best.search) self.old.best.m self.old.best.k branch.now result }
         ensures found { self.new.found ≡ self.old.found }

@@ -12,7 +12,8 @@ ghost use Rattle.ballot_base.specs.Limits.{most_candidates};
 ghost use Rattle.ballot_base.specs.Lists.{IsIncreasing};
 ghost use Rattle.tie_walk.specs.Ceilings.{IsBound};
 ghost use Rattle.tie_walk.specs.Winners.{best_value};
-ghost use Rattle.tie_search.specs.Steps.Branches.{IsAnswer, IsBranch, IsListedAnswer, IsWinnerOf, KnowsBest};
+ghost use Rattle.tie_search.specs.Steps.Branches.{IsAnswer, IsBarren, IsBranch, IsWinnerOf, KnowsBest};
+ghost use Rattle.tie_search.specs.Tied.{IsBest};
 ghost use Rattle.tie_search.specs.Steps.Searched.{IsBetter};
 
 use crate::branch::Branch;
@@ -38,7 +39,7 @@ impl<S: Searchable> Best<S> {
     pub(crate) fn of(search: S, k: u8) -> Best<S>
         requires some { 1 ≤ k }
         requires fits { k ≤ S.candidates search }
-        ensures knows { KnowsBest S.value_of S.candidates result }
+        ensures knows { KnowsBest S.value_of S.class_of S.candidates result }
         ensures search { result.search ≡ search }
         ensures k { result.k ≡ k }
     {
@@ -58,7 +59,7 @@ impl<S: Searchable> Best<S> {
 
     /// The set of a branch that is a whole committee, if it has the greatest value.
     pub(crate) fn whole(&self, branch: &Branch) -> Option<CandSet>
-        requires knows { KnowsBest S.value_of S.candidates self.now }
+        requires knows { KnowsBest S.value_of S.class_of S.candidates self.now }
         requires branch { IsBranch self.now.m self.now.k branch.now }
         requires whole { length branch.now.set ≡ self.now.k }
         ensures { IsAnswer (S.value_of self.now.search) self.now.m self.now.k branch.now result }
@@ -69,14 +70,19 @@ impl<S: Searchable> Best<S> {
         Some(branch.set)
     }
 
-    /// A committee with the greatest value that completes the branch, from the list of all of them.
+    /// A committee of the list of all that may become one that completes the branch if clones take the place of members.
+    /// Returns `None` only if no committee with the greatest value completes the branch.
     pub(crate) fn listed(&self, branch: &Branch) -> Option<CandSet>
-        requires { KnowsBest S.value_of S.candidates self.now }
-        ensures { IsListedAnswer self.now.tied branch.now result }
+        requires knows { KnowsBest S.value_of S.class_of S.candidates self.now }
+        requires branch { IsBranch self.now.m self.now.k branch.now }
+        requires all { self.now.tied.are_all ≡ true }
+        ensures { MatchOption result (IsBarren (S.value_of self.now.search) self.now.m self.now.k branch.now)
+            (IsBest (S.value_of self.now.search) self.now.m self.now.k) }
     {
+        let clones = self.search.clones();
         for i in 0..self.tied.len {
             let committee = self.tied.committees[i];
-            if branch.is_completed_by(committee) {
+            if branch.suits(clones, committee) {
                 return Some(committee);
             }
         }
@@ -86,7 +92,7 @@ impl<S: Searchable> Best<S> {
     /// Such a committee, if one is shown without a search: `found` with clones in the place of others, or the set with
     /// its first free candidates.
     pub(crate) fn shown(&self, found: CandSet, branch: &Branch) -> Option<CandSet>
-        requires knows { KnowsBest S.value_of S.candidates self.now }
+        requires knows { KnowsBest S.value_of S.class_of S.candidates self.now }
         requires branch { IsBranch self.now.m self.now.k branch.now }
         ensures { MatchOption result ⊤ (IsWinnerOf (S.value_of self.now.search) self.now.m self.now.k branch.now) }
     {
@@ -100,7 +106,7 @@ impl<S: Searchable> Best<S> {
 
     /// Whether the committee has the greatest value and completes the branch.
     fn wins(&self, committee: CandSet, branch: &Branch) -> bool
-        requires knows { KnowsBest S.value_of S.candidates self.now }
+        requires knows { KnowsBest S.value_of S.class_of S.candidates self.now }
         requires branch { IsBranch self.now.m self.now.k branch.now }
         ensures { result ≡ true
             → IsWinnerOf (S.value_of self.now.search) self.now.m self.now.k branch.now committee }
@@ -113,7 +119,7 @@ impl<S: Searchable> Best<S> {
 
     /// A committee with the greatest value that completes the branch, by a search.
     pub(crate) fn find(&self, branch: &Branch) -> Option<CandSet>
-        requires knows { KnowsBest S.value_of S.candidates self.now }
+        requires knows { KnowsBest S.value_of S.class_of S.candidates self.now }
         requires branch { IsBranch self.now.m self.now.k branch.now }
         ensures { IsAnswer (S.value_of self.now.search) self.now.m self.now.k branch.now result }
     {

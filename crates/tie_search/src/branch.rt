@@ -1,6 +1,8 @@
 //! Branches: sets that committees may begin with, and who may still join them.
-ghost use Rattle.std.specs.Prelude.{◌≡◌};
-ghost use Rattle.tie_search.specs.Steps.Branches.{completes};
+ghost use Rattle.std.specs.Prelude.{◌≡◌, ℕ, ◌≤◌, true, List};
+ghost use Rattle.ballot_base.specs.Lists.{IsIncreasing};
+ghost use Rattle.tie_search.specs.Alike.{AreClasses, Becomes, HasClasses};
+ghost use Rattle.tie_search.specs.Steps.Branches.{IsBranch, completes};
 
 use ballot_base::{CandSet, Clones};
 
@@ -26,6 +28,27 @@ impl Branch {
         ensures { result ≡ completes self.now committee }
     {
         committee.includes(self.set) && self.set.union(self.free).includes(committee)
+    }
+
+    /// Whether the committee may become one that completes the branch if clones take the place of members.
+    pub(crate) fn suits(&self, clones: &Clones, committee: CandSet) -> bool
+        ensures { (m k : ℕ) (class : ℕ → List ℕ) (other : List ℕ) → IsBranch m k self.now
+            → HasClasses m class clones.now → ((c : ℕ) → 1 ≤ c → c ≤ m → IsIncreasing 1 m (class c))
+            → AreClasses m class → IsIncreasing 1 m committee → Becomes m class committee other
+            → completes self.now other ≡ true → result ≡ true }
+    {
+        // Clones have to take the place of who is outside of the branch, and of members whom the committee lacks.
+        let outside = committee.minus(self.set.union(self.free));
+        let missing = self.set.minus(committee);
+        for member in outside.union(missing).members() {
+            let class = clones.class(member);
+            let seats = class.common(committee).len();
+            let taken = class.common(self.set).len();
+            if seats < taken || seats - taken > class.common(self.free).len() {
+                return false;
+            }
+        }
+        true
     }
 
     /// The set and its first free candidates, as many as make a committee of k. Any answer is right.

@@ -19,7 +19,7 @@ pub const MOST_TIED: usize = 256;
 pub struct Tied {
     pub committees: [CandSet; MOST_TIED],
     pub len: usize,
-    /// Whether no other committee has this value.
+    /// Whether each other committee of this value becomes one of these if clones take the place of members.
     pub are_all: bool,
 }
 
@@ -132,24 +132,5 @@ impl Found {
             return None;
         }
         Some(self.committees[0])
-    }
-
-    /// Whether a committee that counts has all members of the set.
-    pub fn holds(&self, set: CandSet) -> bool
-        requires few { self.now.len ≤ most_tied }
-        ensures { result ≡ false → (value_of : List ℕ → ℕ) → AreListed value_of self.now → (committee : List ℕ)
-            → IsListed self.now committee
-            → ((n : ℕ) → has_member set n ≡ true → has_member committee n ≡ true)
-            → value_of committee < self.now.least }
-    {
-        if self.value < self.least {
-            return false;
-        }
-        for i in 0..self.len {
-            if self.committees[i].includes(set) {
-                return true;
-            }
-        }
-        false
     }
 }

@@ -1,6 +1,8 @@
 //! Values whose committees can be searched for.
-ghost use Rattle.std.specs.Prelude.{◌≡◌, ◌≤◌, MatchOption, ⊤};
-ghost use Rattle.tie_search.specs.Completions.{AreAlike, IsNode, IsOutOfReach, IsReaching};
+ghost use Rattle.std.specs.Prelude.{◌≡◌, ℕ, ◌≤◌, List, MatchOption, ⊤};
+ghost use Rattle.ballot_base.specs.Lists.{IsIncreasing};
+ghost use Rattle.tie_search.specs.Alike.{AreAlike, AreClasses, HasClasses};
+ghost use Rattle.tie_search.specs.Completions.{IsNode, IsOutOfReach, IsReaching};
 ghost use Rattle.tie_search.specs.Tied.{AreTied};
 
 use crate::found::Tied;
@@ -10,9 +12,16 @@ use tie_walk::Tally;
 
 /// Values whose committees can be searched for.
 pub trait Searchable: Tally {
+    // The clones of each candidate.
+    ghost class_of: { Self → ℕ → List ℕ };
+
     /// Who are clones: with one in the place of another, a committee has the same value.
     fn clones(&self) -> &Clones
-        ensures { AreAlike (Self.value_of self.now) (Self.candidates self.now) result.now };
+        ensures table { HasClasses (Self.candidates self.now) (Self.class_of self.now) result.now }
+        ensures rise { (c : ℕ) → 1 ≤ c → c ≤ Self.candidates self.now
+            → IsIncreasing 1 (Self.candidates self.now) (Self.class_of self.now c) }
+        ensures classes { AreClasses (Self.candidates self.now) (Self.class_of self.now) }
+        ensures alike { AreAlike (Self.value_of self.now) (Self.candidates self.now) (Self.class_of self.now) };
 
     /// Finds a committee that completes a node and whose value is at least `least`. None if there is no such committee.
     fn find(&self, node: &Node, least: u128) -> Option<CandSet>
@@ -24,10 +33,12 @@ pub trait Searchable: Tally {
             (IsReaching (Self.value_of self.now) (Self.candidates self.now) node.now.set node.now.free node.now.left
             least) };
 
-    /// Lists the committees of k with the greatest value, each once: all of them, or `MOST_TIED` of them if there are
-    /// more. Returns `None` if they are left to `find`, as under a rule by which too many tie in most elections.
+    /// Lists committees of k with the greatest value, each once. Each other one becomes one of them if clones take the
+    /// place of members; or if there are more, `MOST_TIED` of them are listed. Returns `None` if they are left to `find`,
+    /// as under a rule by which too many tie in most elections.
     fn tied(&self, k: u8) -> Option<Tied>
         requires some { 1 ≤ k }
         requires fits { k ≤ Self.candidates self.now }
-        ensures { MatchOption result ⊤ (AreTied (Self.value_of self.now) (Self.candidates self.now) k) };
+        ensures { MatchOption result ⊤
+            (AreTied (Self.value_of self.now) (Self.class_of self.now) (Self.candidates self.now) k) };
 }

@@ -38,7 +38,7 @@ impl<S: Searchable> Model for SearchWinners<S> {
       questions = w.asking.questions;
     } };
 
-    ghost invariant = { λ w. IsCounted S.value_of S.candidates w.after w.asking };
+    ghost invariant = { λ w. IsCounted S.value_of S.class_of S.candidates w.after w.asking };
 }
 
 impl<S: Searchable> SearchWinners<S> {

@@ -243,6 +243,8 @@ impl<'a, S: Searchable> Tally for CountedSearch<'a, S> {
 }
 
 impl<'a, S: Searchable> Searchable for CountedSearch<'a, S> {
+    ghost class_of = { λ counted. S.class_of counted.search.now };
+
     fn clones(&self) -> &Clones {
         self.search.clones()
     }

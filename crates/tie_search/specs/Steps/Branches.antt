@@ -7,12 +7,11 @@ use Rattle.std.specs.Str.{bytes_eq}
 use Rattle.ballot_base.specs.Lists.{IsIncreasing, increasing_lists, later_than}
 use Rattle.tie_walk.specs.Winners.{winners}
 use Rattle.tie_search.specs.Asked.{begins_some}
-use Rattle.tie_search.specs.Tied.{IsAmong, IsBest}
+use Rattle.tie_search.specs.Tied.{IsBest}
 use Rattle.tie_search.specs.Steps.Searched.{IsSearched}
 use Rattle.tie_search.specs.declared.asking.Asking.{Asking}
 use Rattle.tie_search.specs.declared.best.Best.{Best}
 use Rattle.tie_search.specs.declared.branch.Branch.{Branch}
-use Rattle.tie_search.specs.declared.found.Tied.{Tied}
 
 -- whether the committee is the set of the branch and some of its free candidates
 abbrev pub completes : Branch → List ℕ → Bool
@@ -71,21 +70,14 @@ IsBarren value m k branch = (committee : List ℕ) → IsBest value m k committe
 abbrev pub IsAnswer : (List ℕ → ℕ) → ℕ → ℕ → Branch → Option (List ℕ) → Type 0
 IsAnswer value m k branch answer = MatchOption answer (IsBarren value m k branch) (IsWinnerOf value m k branch)
 
--- a committee of the list that completes the branch, or nothing if there is none
-abbrev pub IsListedAnswer : Tied → Branch → Option (List ℕ) → Type 0
-IsListedAnswer tied branch answer =
-    MatchOption answer
-    ((committee : List ℕ) → IsAmong tied.committees tied.len committee → completes branch committee ≡ false)
-    (λ committee. IsAmong tied.committees tied.len committee × (completes branch committee ≡ true))
-
 -- what is known of the committees of k with the greatest value is so
-abbrev pub KnowsBest : {S : Type 0} → (S → List ℕ → ℕ) → (S → ℕ) → Best S → Type 0
-KnowsBest value candidates best =
-    IsSearched (value best.search) (candidates best.search) best.m best.k best.value best.tied
+abbrev pub KnowsBest : {S : Type 0} → (S → List ℕ → ℕ) → (S → ℕ → List ℕ) → (S → ℕ) → Best S → Type 0
+KnowsBest value class candidates best =
+    IsSearched (value best.search) (class best.search) (candidates best.search) best.m best.k best.value best.tied
 
 -- what is true of winners that are asked for
-pub record IsAsking {S : Type 0} (value : S → List ℕ → ℕ) (candidates : S → ℕ) (asking : Asking S) : Type 0 where
-  pub knows : KnowsBest value candidates asking.best
+pub record IsAsking {S : Type 0} (value : S → List ℕ → ℕ) (class : S → ℕ → List ℕ) (candidates : S → ℕ) (asking : Asking S) : Type 0 where
+  pub knows : KnowsBest value class candidates asking.best
   pub found_is : IsBest (value asking.best.search) asking.best.m asking.best.k asking.found
   pub each : AllByRecursion (IsBranch asking.best.m asking.best.k) asking.branches.items
   pub stacked : AreStacked asking.best.m asking.branches.items
@@ -93,9 +85,9 @@ pub record IsAsking {S : Type 0} (value : S → List ℕ → ℕ) (candidates : 
   pub few : length asking.branches.items ≤ asking.best.k
 
 -- what is true on the way down from a branch to the first winner that completes it
-pub record IsOnTheWay {S : Type 0} (value : S → List ℕ → ℕ) (candidates : S → ℕ) (asking : Asking S) (branch : Branch)
+pub record IsOnTheWay {S : Type 0} (value : S → List ℕ → ℕ) (class : S → ℕ → List ℕ) (candidates : S → ℕ) (asking : Asking S) (branch : Branch)
     : Type 0 where
-  pub asking_is : IsAsking value candidates asking
+  pub asking_is : IsAsking value class candidates asking
   pub branch_is : IsBranch asking.best.m asking.best.k branch
   pub stacked : AreStacked asking.best.m (asking.branches.items ++ branch ∷ [])
   pub size_is : length branch.set ≡ length asking.branches.items
@@ -128,9 +120,9 @@ first_branches m None = record { set = []; free = range_with_len 1 m } ∷ []
 first_branches m (Some start) = branches_after m [] start
 
 -- all winners later than the start are still to come, and nothing was asked yet
-pub record IsBegun {S : Type 0} (value : S → List ℕ → ℕ) (candidates : S → ℕ) (best : Best S) (after : Option (List ℕ))
+pub record IsBegun {S : Type 0} (value : S → List ℕ → ℕ) (class : S → ℕ → List ℕ) (candidates : S → ℕ) (best : Best S) (after : Option (List ℕ))
     (asking : Asking S) : Type 0 where
-  pub asking_is : IsAsking value candidates asking
+  pub asking_is : IsAsking value class candidates asking
   pub best_is : asking.best ≡ best
   pub are : asking.branches.items ≡ first_branches best.m after
   pub left : left_by value best asking.branches.items
@@ -149,9 +141,9 @@ kept asking = record { best = asking.best; branches = asking.branches.items; ent
 
 -- what is true of the winners after a start: the sets that were entered and those still to be entered are all those
 -- that begin a later winner, but for the sets that begin the start
-pub record IsCounted {S : Type 0} (value : S → List ℕ → ℕ) (candidates : S → ℕ) (after : Option (List ℕ))
+pub record IsCounted {S : Type 0} (value : S → List ℕ → ℕ) (class : S → ℕ → List ℕ) (candidates : S → ℕ) (after : Option (List ℕ))
     (asking : Asking S) : Type 0 where
-  pub asking_is : IsAsking value candidates asking
+  pub asking_is : IsAsking value class candidates asking
   pub counted : asking.entered + to_enter value asking.best asking.branches.items
       ≡ new_beginnings asking.best.m asking.best.k (sets_of (first_branches asking.best.m after))
       (later_than after (winners (value asking.best.search) asking.best.m asking.best.k))

@@ -1,5 +1,6 @@
 -- Steps of a search that lists committees.
 use Rattle.std.specs.Prelude.{◌≡◌, ℕ, ◌+◌, ◌⊎◌, ◌<◌, ◌≤◌, List}
+use Rattle.tie_search.specs.Alike.{Becomes}
 use Rattle.tie_search.specs.Completions.{IsCompletion}
 use Rattle.tie_search.specs.Tied.{AreDistinct, IsAmong, most_tied}
 use Rattle.tie_search.specs.declared.found.Found.{Found}
@@ -11,6 +12,14 @@ IsListed found = IsAmong found.committees found.len
 -- the committee is worth less than what is still looked for, or it is listed
 abbrev pub IsSettled : (List ℕ → ℕ) → Found → List ℕ → Type 0
 IsSettled value found committee = (value committee < found.least) ⊎ IsListed found committee
+
+-- the committee becomes, by exchanges of clones, one that is settled and has the same value
+pub record IsSettledLike (value : List ℕ → ℕ) (m : ℕ) (class : ℕ → List ℕ) (found : Found) (committee : List ℕ) : Type 0
+  where
+    pub other : List ℕ
+    pub becomes : Becomes m class other committee
+    pub same : value other ≡ value committee
+    pub settled : IsSettled value found other
 
 -- Those listed are distinct and have the same value, and no less is looked for. If this value is not looked for any
 -- more, the list is full.
@@ -54,7 +63,8 @@ AreNew m set free left found =
     (committee : List ℕ) → IsCompletion m set free left committee → IsListed found committee → ⊥
 
 -- all completions of the set were searched
-pub record AreSearched (value : List ℕ → ℕ) (m : ℕ) (set free : List ℕ) (left : ℕ) (before after : Found) : Type 0
-  where
-    pub advances : Advances value (IsCompletion m set free left) before after
-    pub settled : (committee : List ℕ) → IsCompletion m set free left committee → IsSettled value after committee
+pub record AreSearched (value : List ℕ → ℕ) (m : ℕ) (class : ℕ → List ℕ) (set free : List ℕ) (left : ℕ)
+    (before after : Found) : Type 0 where
+  pub advances : Advances value (IsCompletion m set free left) before after
+  pub settled : (committee : List ℕ) → IsCompletion m set free left committee
+      → IsSettledLike value m class after committee

@@ -8,13 +8,13 @@ use Rattle.tie_search.specs.Tied.{AreBest}
 
 -- what is true of each tally by search: it knows how many candidates there are, and committees with the greatest value
 -- are listed
-pub record IsSearched (value : List ℕ → ℕ) (candidates m k best : ℕ) (tied : Tied) : Type 0 where
+pub record IsSearched (value : List ℕ → ℕ) (class : ℕ → List ℕ) (candidates m k best : ℕ) (tied : Tied) : Type 0 where
   pub size : m ≡ candidates
   pub most : candidates ≤ most_candidates
   pub some : 1 ≤ k
   pub fits : k ≤ candidates
   pub best_is : best ≡ best_value value candidates k
-  pub listed : AreBest value candidates k tied
+  pub listed : AreBest value class candidates k tied
 
 -- a committee of k of the candidates 1 to m with a greater value
 pub record IsBetter (value : List ℕ → ℕ) (m k : ℕ) (committee better : List ℕ) : Type 0 where

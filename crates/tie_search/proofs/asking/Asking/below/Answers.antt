@@ -1,14 +1,14 @@
 use Rattle.std.specs.Prelude.{slice_index_or}
 use Rattle.ballot_base.specs.CandSet.{other_members, with_member}
 use Rattle.std.proofs.Common.{◌≡◌, ◌+◌, ◌≤◌, ◌++◌, ◌∷◌, [], List, ap, arith, subst, sym, ◌∙◌, length}
-use Rattle.tie_search.specs.Completions.{AreAlike}
+use Rattle.tie_search.specs.Alike.{AreAlike}
 use Rattle.tie_search.specs.Steps.Branches.{IsBarren, IsWinnerOf, Kept, left_by, new_beginnings, sets_of, to_enter}
 use Rattle.tie_search.specs.declared.best.Best.{Best}
 use Rattle.tie_search.specs.declared.branch.Branch.{Branch}
 use Rattle.tie_search.proofs.AskingLemmas.{way-joined, way-left}
 use Rattle.tie_search.proofs.BranchLemmas.{with-branch}
 use Rattle.tie_search.proofs.StackLemmas.{joined-left, left-left, some-free}
-use Rattle.tie_search.proofs.CloneLemmas.{minus-most}
+use Rattle.tie_search.proofs.CloneLemmas.{alike-table, minus-most}
 use Rattle.tie_search.proofs.EnteredLemmas.{joined-new, sets-last}
 use Rattle.tie_search.proofs.asking.Asking.below.Given.{Over}
 use Rattle.tie_search.proofs.asking.Asking.below.Goals as goal
@@ -45,7 +45,7 @@ returns-then-reaches-clause-way g c =
     let reached : IsWinnerOf v asking.best.m asking.best.k with' c.enter.new.self.found =
     subst (IsWinnerOf v asking.best.m asking.best.k with') (sym c.enter.ensures.found) (c.reaches.ensures.yes c.if-reaches.true) in
     rw c.with.ensures
-    (way-joined g.S.Tally.value_of g.S.Tally.candidates asking c.args.branch c.requires.way c.requires.short parts.0 parts.1 c.in-Some.ensures c.enter.new.self
+    (way-joined g.S.Tally.value_of g.S.Searchable.class_of g.S.Tally.candidates asking c.args.branch c.requires.way c.requires.short parts.0 parts.1 c.in-Some.ensures c.enter.new.self
     (c.enter.ensures.best ∙ ap (λ (k : Kept g.row.S.Denot). k.best) c.reaches.ensures.kept)
     (c.enter.ensures.branches ∙ ap (λ (k : Kept g.row.S.Denot). k.branches ++ record { set = c.args.branch.set; free = parts.1 } ∷ []) c.reaches.ensures.kept)
     (rw c.with.ensures at reached))
@@ -83,12 +83,14 @@ returns-then-reaches-clause-counted g c =
 
 -- the clones of the candidate, and what was left without them
 module _ (g : Over) (c : After-minus g) where
-  alike : AreAlike (g.S.Tally.value_of c.args.self.now.best.search) c.args.self.now.best.m c.clones.result.now
+  alike : AreAlike (g.S.Tally.value_of c.args.self.now.best.search) c.args.self.now.best.m (λ n. slice_index_or c.clones.result.now n [])
   alike =
       let best = c.args.self.now.best in
       let V = g.S.Tally.value_of in
-      subst (λ n. AreAlike (V best.search) n c.clones.result.now) (sym c.requires.way.asking_is.knows.size)
-      (subst (λ (b : Best g.row.S.Denot). AreAlike (V b.search) (g.S.Tally.candidates b.search) c.clones.result.now) (ap (λ (k : Kept g.row.S.Denot). k.best) c.reaches.ensures.kept) c.clones.ensures)
+      let now = c.reaches.new.self.best.search in
+      subst (λ n. AreAlike (V best.search) n (λ x. slice_index_or c.clones.result.now x [])) (sym c.requires.way.asking_is.knows.size)
+      (subst (λ (b : Best g.row.S.Denot). AreAlike (V b.search) (g.S.Tally.candidates b.search) (λ x. slice_index_or c.clones.result.now x [])) (ap (λ (k : Kept g.row.S.Denot). k.best) c.reaches.ensures.kept)
+      (alike-table (V now) (g.S.Tally.candidates now) (g.S.Searchable.class_of now) c.clones.result.now c.clones.ensures.table c.clones.ensures.alike))
 
   over : c.minus.result ≡ other_members c.in-Some.parts.1 (slice_index_or c.clones.result.now c.in-Some.parts.0 [])
   over = c.minus.ensures ∙ ap (other_members c.in-Some.parts.1) c.class-clones.ensures
@@ -101,7 +103,7 @@ returns-clause-way g c =
     let asking = c.args.self.now in
     let parts = c.in-Some.parts in
     rw (over g c)
-    (way-left g.S.Tally.value_of g.S.Tally.candidates asking c.args.branch c.requires.way c.requires.short parts.0 parts.1 c.in-Some.ensures c.clones.result.now (alike g c) (none g c) c.reaches.new.self
+    (way-left g.S.Tally.value_of g.S.Searchable.class_of g.S.Tally.candidates asking c.args.branch c.requires.way c.requires.short parts.0 parts.1 c.in-Some.ensures c.clones.result.now (alike g c) (none g c) c.reaches.new.self
     (ap (λ (k : Kept g.row.S.Denot). k.best) c.reaches.ensures.kept)
     (ap (λ (k : Kept g.row.S.Denot). k.branches) c.reaches.ensures.kept)
     (c.reaches.ensures.found c.if-reaches.false))

@@ -4,7 +4,7 @@ use Rattle.tie_search.proofs.asking.Asking.first_of.Given as goal
 
 abbrev pub invariant-loop-self : goal.invariant-loop-self
 invariant-loop-self g l = record {
-  way : IsOnTheWay g.S.Tally.value_of g.S.Tally.candidates l.self l.branch;
+  way : IsOnTheWay g.S.Tally.value_of g.S.Searchable.class_of g.S.Tally.candidates l.self l.branch;
   best : l.self.best ≡ l.fn.self.best;
   left : left_by g.S.Tally.value_of l.fn.self.best (l.self.branches.items ++ l.branch ∷ [])
       ≡ left_by g.S.Tally.value_of l.fn.self.best (l.fn.self.branches.items ++ l.fn.branch ∷ []);

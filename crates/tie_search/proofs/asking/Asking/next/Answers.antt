@@ -9,7 +9,7 @@ use Rattle.tie_search.proofs.asking.Asking.next.Goals as goal
 
 pub reaches-requires-clause-asking : goal.reaches-requires-clause-asking
 reaches-requires-clause-asking g c =
-    popped-asking g.S.Tally.value_of g.S.Tally.candidates c.loop-branch.self c.loop-branch.invariant.asking c.pop.new.self.items c.in-Some.branch c.in-Some.ensures.items
+    popped-asking g.S.Tally.value_of g.S.Searchable.class_of g.S.Tally.candidates c.loop-branch.self c.loop-branch.invariant.asking c.pop.new.self.items c.in-Some.branch c.in-Some.ensures.items
     (record {
       best = c.loop-branch.self.best;
       found = c.loop-branch.self.found;
@@ -20,11 +20,11 @@ reaches-requires-clause-asking g c =
 
 pub reaches-requires-clause-branch : goal.reaches-requires-clause-branch
 reaches-requires-clause-branch g c =
-    popped-branch g.S.Tally.value_of g.S.Tally.candidates c.loop-branch.self c.loop-branch.invariant.asking c.pop.new.self.items c.in-Some.branch c.in-Some.ensures.items
+    popped-branch g.S.Tally.value_of g.S.Searchable.class_of g.S.Tally.candidates c.loop-branch.self c.loop-branch.invariant.asking c.pop.new.self.items c.in-Some.branch c.in-Some.ensures.items
 
 pub first_of-requires : goal.first_of-requires
 first_of-requires g c = record {
-  way = popped-way g.S.Tally.value_of g.S.Tally.candidates c.loop-branch.self c.loop-branch.invariant.asking c.pop.new.self.items c.in-Some.branch c.in-Some.ensures.items c.reaches.new.self
+  way = popped-way g.S.Tally.value_of g.S.Searchable.class_of g.S.Tally.candidates c.loop-branch.self c.loop-branch.invariant.asking c.pop.new.self.items c.in-Some.branch c.in-Some.ensures.items c.reaches.new.self
       (ap (λ (k : Kept g.row.S.Denot). k.best) c.reaches.ensures.kept) (ap (λ (k : Kept g.row.S.Denot). k.branches) c.reaches.ensures.kept)
       (c.reaches.ensures.yes c.if-reaches.true);
   fits = omega (
@@ -41,7 +41,7 @@ first_of-requires g c = record {
 pub returns-then-reaches-clause-asked : goal.returns-then-reaches-clause-asked
 returns-then-reaches-clause-asked g c =
     let asking = c.loop-branch.self in
-    let is = popped-branch g.S.Tally.value_of g.S.Tally.candidates asking c.loop-branch.invariant.asking c.pop.new.self.items c.in-Some.branch c.in-Some.ensures.items in
+    let is = popped-branch g.S.Tally.value_of g.S.Searchable.class_of g.S.Tally.candidates asking c.loop-branch.invariant.asking c.pop.new.self.items c.in-Some.branch c.in-Some.ensures.items in
     omega (
       arith,
       c.first_of.ensures.asked,
@@ -63,7 +63,7 @@ loop-branch-preserved g c =
     let are = ap (λ (k : Kept g.row.S.Denot). k.branches) c.reaches.ensures.kept in
     let none = c.reaches.ensures.no c.if-reaches.false in
     record {
-      asking = popped-asking V g.S.Tally.candidates asking c.loop-branch.invariant.asking rest c.in-Some.branch c.in-Some.ensures.items c.reaches.new.self same are (c.reaches.ensures.found c.if-reaches.false);
+      asking = popped-asking V g.S.Searchable.class_of g.S.Tally.candidates asking c.loop-branch.invariant.asking rest c.in-Some.branch c.in-Some.ensures.items c.reaches.new.self same are (c.reaches.ensures.found c.if-reaches.false);
       best = same ∙ c.loop-branch.invariant.best;
       left = ap (left_by V first) are
           ∙ (subst (λ (b : Best g.row.S.Denot). left_by V b rest ≡ left_by V b (rest ++ c.in-Some.branch ∷ [])) c.loop-branch.invariant.best
@@ -78,8 +78,8 @@ loop-branch-preserved g c =
         ap (to_enter V first) c.in-Some.ensures.items,
         subst (λ (b : Best g.row.S.Denot). to_enter V b (rest ++ c.in-Some.branch ∷ []) ≡ to_enter V b rest) c.loop-branch.invariant.best
             (ap (λ l. new_beginnings asking.best.m asking.best.k (sets_of (rest ++ c.in-Some.branch ∷ [])) l) (barren-left (V asking.best.search) asking.best.m asking.best.k rest c.in-Some.branch none)
-            ∙ barren-new (V asking.best.search) asking.best.m asking.best.k rest (popped-each V g.S.Tally.candidates asking c.loop-branch.invariant.asking rest c.in-Some.branch c.in-Some.ensures.items) c.in-Some.branch
-            (stacked-pop asking.best.m rest c.in-Some.branch (popped-stacked V g.S.Tally.candidates asking c.loop-branch.invariant.asking rest c.in-Some.branch c.in-Some.ensures.items)).1),
+            ∙ barren-new (V asking.best.search) asking.best.m asking.best.k rest (popped-each V g.S.Searchable.class_of g.S.Tally.candidates asking c.loop-branch.invariant.asking rest c.in-Some.branch c.in-Some.ensures.items) c.in-Some.branch
+            (stacked-pop asking.best.m rest c.in-Some.branch (popped-stacked V g.S.Searchable.class_of g.S.Tally.candidates asking c.loop-branch.invariant.asking rest c.in-Some.branch c.in-Some.ensures.items)).1),
       );
       asked = omega (
         arith,

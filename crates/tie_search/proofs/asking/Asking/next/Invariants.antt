@@ -4,7 +4,7 @@ use Rattle.tie_search.proofs.asking.Asking.next.Given as goal
 
 abbrev pub invariant-loop-branch : goal.invariant-loop-branch
 invariant-loop-branch g l = record {
-  asking : IsAsking g.S.Tally.value_of g.S.Tally.candidates l.self;
+  asking : IsAsking g.S.Tally.value_of g.S.Searchable.class_of g.S.Tally.candidates l.self;
   best : l.self.best ≡ l.fn.self.best;
   left : left_by g.S.Tally.value_of l.fn.self.best l.self.branches.items ≡ left_by g.S.Tally.value_of l.fn.self.best l.fn.self.branches.items;
   entered : l.fn.self.entered ≤ l.self.entered;

@@ -8,9 +8,9 @@ use Rattle.tie_search.specs.declared.branch.Branch.{Branch}
 use Rattle.tie_search.proofs.winners.SearchWinners.new.Goals as goal
 
 -- nothing was entered yet
-begun-counted : {S : Type 0} (value : S → List ℕ → ℕ) (candidates : S → ℕ) (best : Best S) (after : Option (List ℕ)) (asking : Asking S) → IsBegun value candidates best after asking
-    → IsCounted value candidates after asking
-begun-counted {S} value candidates best after asking begun = record {
+begun-counted : {S : Type 0} (value : S → List ℕ → ℕ) (class : S → ℕ → List ℕ) (candidates : S → ℕ) (best : Best S) (after : Option (List ℕ)) (asking : Asking S) → IsBegun value class candidates best after asking
+    → IsCounted value class candidates after asking
+begun-counted {S} value class candidates best after asking begun = record {
   asking_is = begun.asking_is;
   counted = subst (λ (b : Best S). asking.entered + to_enter value b asking.branches.items
       ≡ new_beginnings b.m b.k (sets_of (first_branches b.m after)) (later_than after (winners (value b.search) b.m b.k))) (sym begun.best_is)
@@ -23,7 +23,7 @@ begun-counted {S} value candidates best after asking begun = record {
 }
 
 pub invariant_of-t-7 : goal.invariant_of-t-7
-invariant_of-t-7 g c = begun-counted g.S.Tally.value_of g.S.Tally.candidates c.of-best.result (Some c.in-Some.start) c.after.result c.after.ensures.begun
+invariant_of-t-7 g c = begun-counted g.S.Tally.value_of g.S.Searchable.class_of g.S.Tally.candidates c.of-best.result (Some c.in-Some.start) c.after.result c.after.ensures.begun
 
 pub invariant_of-result : goal.invariant_of-result
-invariant_of-result g c = begun-counted g.S.Tally.value_of g.S.Tally.candidates c.of-best.result None c.all.result c.all.ensures.begun
+invariant_of-result g c = begun-counted g.S.Tally.value_of g.S.Searchable.class_of g.S.Tally.candidates c.of-best.result None c.all.result c.all.ensures.begun

@@ -36,12 +36,12 @@ returns-clause-steps g c =
       same_start = refl;
       entered_rises = c.next.ensures.entered;
       all_entered = λ none start. subst (λ (b : Best g.row.S.Denot). now.entered ≡ beginnings (g.S.Tally.candidates b.search) b.k (winners (V b.search) (g.S.Tally.candidates b.search) b.k)) (sym same)
-          (all-entered V g.S.Tally.candidates c.self.inside.after was c.self.invariant now.entered now.branches.items (c.next.ensures.end none) start c.next.ensures.counted);
+          (all-entered V g.S.Searchable.class_of g.S.Tally.candidates c.self.inside.after was c.self.invariant now.entered now.branches.items (c.next.ensures.end none) start c.next.ensures.counted);
       short_wait = omega (arith, c.next.ensures.asked, c.self.invariant.asking_is.few, c.self.invariant.asking_is.knows.size);
     })
 
 pub next-requires-clause-fits : goal.next-requires-clause-fits
-next-requires-clause-fits g c = entered-fits g.S.Tally.value_of g.S.Tally.candidates c.self.inside.after c.self.inside.asking c.self.invariant
+next-requires-clause-fits g c = entered-fits g.S.Tally.value_of g.S.Searchable.class_of g.S.Tally.candidates c.self.inside.after c.self.inside.asking c.self.invariant
 
 pub invariant_of-self : goal.invariant_of-self
 invariant_of-self g c =
