@@ -240,6 +240,41 @@ fn random_classes(rt: HostRuntime) {
     }
 }
 
+/// Asserts that no winner is searched for if a list has all that tie, up to exchanges of clones. No clause says so.
+fn assert_not_searched<S: Searchable>(rt: &impl Abort, search: &S, k: u8)
+    requires some { 1 ≤ k }
+    requires fits { k ≤ S.candidates search.now }
+{
+    let Some(tied) = search.tied(k) else {
+        return;
+    };
+    let finds = Cell::new(0);
+    let counted = CountedSearch::all(search, &finds);
+    let count = SearchWinners::new(counted, k, None)
+        .take(MOST_COUNTED)
+        .count();
+    let fits = !tied.are_all || finds.get() == 0;
+    assert_of(
+        rt,
+        fits,
+        "searches, winners",
+        finds.get() as u128,
+        count as u128,
+    );
+}
+
+#[test]
+fn listed_winners_are_not_searched_for(rt: HostRuntime) {
+    for sizes in &CLASSES {
+        for seed in 1..6 {
+            let profile = election_of_classes(&rt, rt.alloc(), sizes, seed);
+            let k = fitting(4, profile.m());
+            let search = search_of(&rt, rt.alloc(), &profile, ThieleRule::Geom3, k);
+            assert_not_searched(&rt, &search, k);
+        }
+    }
+}
+
 /// A committee of k of the candidates 1 to m that are next to each other, from candidate 2 on if there are enough.
 fn second_committee(m: u8, k: u8) -> CandSet
     requires most { m ≤ most_candidates }
