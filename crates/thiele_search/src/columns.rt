@@ -273,8 +273,8 @@ impl<A: Allocator> Columns<A> {
         covered
     }
 
-    /// Adds to the gains of the free candidates what the voters of a block give. No voter has more hits than the set has
-    /// members.
+    /// Adds to the gains of the free candidates what the voters of a block give. No voter has more hits than the set
+    /// has members.
     fn add_block(&self, gains: &mut Worths, block: &Block, node: &Node)
         requires { (c : ℕ) → slice_index gains.old c < 2 ^ 106 }
         ensures sum { (ballot_at : ℕ → List ℕ) → IsBlock ballot_at block.now

@@ -56,8 +56,8 @@ impl<A: Allocator + Copy> Search<'_, A> {
         }
     }
 
-    /// Searches the completions of a node, the highest gains first, for one that is worth `least`, until the patience is
-    /// over. It counts no pairs.
+    /// Searches the completions of a node, the highest gains first, for one that is worth `least`, until the patience
+    /// is over. It counts no pairs.
     fn short(&self, patience: &mut u8, node: Node, least: u128) -> Result<Option<CandSet>, GaveUp>
         requires is_node { IsNode self.now.election.m node.set node.free }
         requires most { self.now.election.m ≤ most_candidates }

@@ -210,8 +210,8 @@ impl<'a, A: Allocator + Copy> Search<'a, A> {
         }
     }
 
-    /// The free candidates of a node that can still join, by prices, if they are kept. Returns `None` if no completion of
-    /// its set reaches the value.
+    /// The free candidates of a node that can still join, by prices, if they are kept. Returns `None` if no completion
+    /// of its set reaches the value.
     pub(crate) fn affordable(&self, node: &Node, least: u128) -> Option<CandSet>
         requires is_node { IsNode self.now.election.m node.now.set node.now.free }
         ensures { Narrows (tally_value self.now) self.now.election.m node.now least result }
