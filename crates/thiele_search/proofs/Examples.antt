@@ -1,26 +1,28 @@
 -- The definitions of prices and of pairs, worked out by hand.
-use Rattle.std.proofs.Common.{◌≡◌, zero, suc, [], ◌∷◌, refl, length, lit≤, arith}
+use Rattle.std.proofs.Common.{◌≡◌, ◌/◌, zero, suc, [], ◌∷◌, refl, length, lit≤, arith}
 use Rattle.thiele_search.specs.Pairs.{IsMajorant, all_kept, all_overlap, all_worth, pair_sum, row_sum, worth_beside}
-use Rattle.thiele_search.specs.Prices.{kept, base, price}
+use Rattle.thiele_search.specs.Prices.{IsKept}
 use Rattle.thiele_search.specs.Steps.Columns.{voter_ballot, given, total, voters_of}
 
--- ---- prices: a voter gives 6 for a hit, 3 more for a second and 2 more for a third, and each hit costs 3
+-- ---- prices: under proportional approval voting, in sixths, a voter gives 6 for a hit, 3 more for a second and 2 more
+-- for a third, and each hit costs 4
 
-kept-one : kept (6 ∷ 3 ∷ 2 ∷ []) 1 3 1 ≡ 3
-kept-one = refl
+-- a voter without a hit yet keeps 2, with one hit
+kept-first : IsKept (6 ∷ 3 ∷ 2 ∷ []) 1 1 0 2 2 4
+kept-first zero few = lit≤ tt
+kept-first (suc zero) few = lit≤ tt
+kept-first (suc (suc zero)) few = lit≤ tt
+kept-first (suc (suc (suc h))) few = absurd (omega (arith, few))
 
--- the third hit gives less than it costs
-kept-three : kept (6 ∷ 3 ∷ 2 ∷ []) 1 3 3 ≡ 3
-kept-three = refl
+-- a voter with a hit keeps the 6 of that
+kept-second : IsKept (6 ∷ 3 ∷ 2 ∷ []) 1 1 1 2 6 4
+kept-second zero few = lit≤ tt
+kept-second (suc zero) few = lit≤ tt
+kept-second (suc (suc zero)) few = lit≤ tt
+kept-second (suc (suc (suc h))) few = absurd (omega (arith, few))
 
--- two voters approve 1 and 2, at the multiplier 3, and one voter approves 2, at 6
-base-both : base (6 ∷ 3 ∷ 2 ∷ []) 1 (((1 ∷ 2 ∷ [], 2), 3) ∷ ((2 ∷ [], 1), 6) ∷ []) ≡ 6
-base-both = refl
-
-price-one : price (((1 ∷ 2 ∷ [], 2), 3) ∷ ((2 ∷ [], 1), 6) ∷ []) 1 ≡ 6
-price-one = refl
-
-price-two : price (((1 ∷ 2 ∷ [], 2), 3) ∷ ((2 ∷ [], 1), 6) ∷ []) 2 ≡ 12
+-- the price of 2, if it costs the two voters who approve 1 and 2 3 each, and the one who approves 2 alone 6
+price-two : all_worth (λ row. 6 / length row.0) ((1 ∷ 2 ∷ [], 2) ∷ (2 ∷ [], 1) ∷ []) 2 ≡ 12
 price-two = refl
 
 voters-three : voters_of ((1 ∷ 2 ∷ [], 2) ∷ (3 ∷ [], 1) ∷ []) ≡ (1 ∷ 2 ∷ []) ∷ (1 ∷ 2 ∷ []) ∷ (3 ∷ []) ∷ []

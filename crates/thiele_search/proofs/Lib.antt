@@ -1,4 +1,5 @@
 pub mod AlikeLemmas
+pub mod BesideLemmas
 pub mod ColumnLemmas
 pub mod CoverLemmas
 mod Examples

@@ -4,3 +4,4 @@ pub mod OverlapLemmas
 pub mod PairLemmas
 pub mod PairNodes
 pub mod PairTotals
+pub mod SumLemmas

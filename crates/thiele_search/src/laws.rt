@@ -10,7 +10,7 @@ ghost use Rattle.tie_walk.specs.Ceilings.{gain_at};
 ghost use Rattle.tie_walk.specs.Values.{thiele_value};
 ghost use Rattle.tie_search.specs.Completions.{IsNode, IsCompletion};
 ghost use Rattle.thiele_search.specs.Pairs.{IsMajorant, all_kept, all_overlap, all_worth, pair_sum, row_sum};
-ghost use Rattle.thiele_search.specs.Prices.{AreRounded, Priced, priced_rows, base, price};
+ghost use Rattle.thiele_search.specs.Prices.{IsKept};
 
 use ballot_base::ThieleRule;
 
@@ -50,20 +50,14 @@ pub fn gains()
         + sum_by (gain_at (thiele_value (increments rule k) rows) set) (common_members free committee) }
 {}
 
-/// Prices bound values: whatever multiplier is chosen for each row, no committee is worth more than what all voters
-/// keep and the prices of its members, times the scale. Weights may be rounded up to larger units.
+/// Prices bound the completions of a set: whatever multiplier is chosen for each row, no completion is worth more than
+/// what all voters keep and the prices of those who join, which are the multipliers of those who approve them.
 pub fn prices()
-    ensures committees { (weights : List ℕ) (scale m : ℕ) (priced : List Priced) (committee : List ℕ)
-        → AllByRecursion (λ row. IsIncreasing 1 m row.0) (priced_rows priced) → IsIncreasing 1 m committee
-        → scale * thiele_value weights (priced_rows priced) committee
-        ≤ base weights scale priced + sum_by (price priced) committee }
-    ensures completions { (weights : List ℕ) (scale m : ℕ) (priced : List Priced) (set free : List ℕ) (left : ℕ)
-        (committee : List ℕ) → AllByRecursion (λ row. IsIncreasing 1 m row.0) (priced_rows priced)
+    ensures { (weights : List ℕ) (scale unit m : ℕ) (kept multiplier : Row → ℕ) (rows : List Row)
+        (set free : List ℕ) (left : ℕ) (committee : List ℕ) → AllByRecursion (λ row. IsIncreasing 1 m row.0) rows
         → IsNode m set free → IsCompletion m set free left committee
-        → scale * thiele_value weights (priced_rows priced) committee
-        ≤ base weights scale priced + sum_by (price priced) set
-        + sum_by (price priced) (common_members free committee) }
-    ensures rounded { (weights : List ℕ) (unit : ℕ) (rounded : List ℕ) (rows : List Row) (committee : List ℕ)
-        → AreRounded weights unit rounded
-        → thiele_value weights rows committee ≤ unit * thiele_value rounded rows committee }
+        → AllByRecursion (λ row. IsKept weights scale unit (hits row.0 set) (min left (hits row.0 free))
+        (kept row) (multiplier row)) rows
+        → scale * thiele_value weights rows committee
+        ≤ unit * (all_kept kept rows + sum_by (all_worth multiplier rows) (common_members free committee)) }
 {}

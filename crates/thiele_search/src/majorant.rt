@@ -11,43 +11,105 @@ ghost use Rattle.thiele_search.specs.Steps.Paired.{AreSums, IsMajorantOf};
 use ballot_base::{Increments, PLACES, ThieleRule};
 use std::marker::Model;
 
-/// How many units the first hit gives, about. With so many, rounding matters little.
-const UNITS: u128 = 1 << 20;
+/// How many units the first hit gives, about, in sums for majorants. With so many, rounding matters little.
+pub(crate) const PAIR_UNITS: u128 = 1 << 20;
 
-/// More units than this fit no sum over all voters.
-const MOST_UNITS: u128 = 1 << 26;
+/// All hits of a voter give no more than so many first ones.
+const MOST_FIRST_HITS: u128 = 64;
 
-/// What each number of hits gives in all: times the scale, in units, rounded up.
+/// What each number of hits gives in all: times the scale, in units. What each hit adds is rounded up, and no hit adds
+/// more than the one before it.
 #[derive(Drop)]
 pub(crate) struct HitSums {
     pub(crate) scale: u128,
     pub(crate) unit: u128,
     pub(crate) sums: [u64; PLACES],
+    ghost some: { 1 ≤ unit },
+    ghost small: { (h : ℕ) → slice_index sums h ≤ 2 ^ 46 },
+    ghost rises: { (h : ℕ) → h + 1 ≤ most_candidates → slice_index sums h ≤ slice_index sums (h + 1) },
+    ghost concave: { (h : ℕ) → h + 2 ≤ most_candidates
+        → slice_index sums (h + 2) + slice_index sums h ≤ 2 * slice_index sums (h + 1) },
 }
 
 impl HitSums {
-    /// The sums under a rule. None if they would be too large, which no rule has.
-    pub(crate) fn of(rule: ThieleRule, k: u8) -> Option<HitSums>
+    /// The sums under a rule, where the first hit gives about so many units. None if they would be too large, or if a
+    /// hit added more than the one before it, which no rule has.
+    pub(crate) fn of(rule: ThieleRule, k: u8, units: u128) -> Option<HitSums>
         requires some { 1 ≤ k }
         requires size { k ≤ most_members }
-        ensures { MatchOption result ⊤ (λ given. AreSums (increments rule k) given.scale given.unit given.sums) }
+        requires units { 1 ≤ units }
+        requires few { units ≤ 2 ^ 40 }
+        ensures { MatchOption result ⊤ (λ given. AreSums (increments rule k) given.scale given.unit given.sums
+            × ((h : ℕ) → slice_index given.sums h ≤ 64 * units)) }
     {
         let weights = Increments::of(rule, k).w;
-        let scale = (UNITS / weights[0].max(1)).max(1);
-        let unit = weights[0].div_ceil(UNITS).max(1);
+        let scale = (units / weights[0].max(1)).max(1);
+        let unit = weights[0].div_ceil(units).max(1);
         let mut sums = [0; PLACES];
         let mut given: u128 = 0;
-        for hits in 0..PLACES {
-            let units = (given * scale).div_ceil(unit);
-            if units > MOST_UNITS {
+        let mut last = u128::MAX;
+        for hits in 0..PLACES - 1 {
+            let increment = if hits < weights.len() {
+                (weights[hits] * scale).div_ceil(unit)
+            } else {
+                0
+            };
+            given += increment;
+            if increment > last || given > MOST_FIRST_HITS * units {
                 return None;
             }
-            sums[hits] = units as u64;
-            if hits < weights.len() {
-                given += weights[hits];
-            }
+            sums[hits + 1] = given as u64;
+            last = increment;
         }
         Some(HitSums { scale, unit, sums })
+    }
+
+    /// What the hit after so many gives. A hit past the last possible one gives nothing.
+    pub(crate) fn increment(&self, hits: u8) -> u64
+        ensures small { result ≤ 2 ^ 46 }
+        ensures rise { hits + 1 ≤ most_candidates
+            → slice_index self.now.sums (hits + 1) ≡ slice_index self.now.sums hits + result }
+    {
+        let before = usize::from(hits);
+        if before + 1 < PLACES {
+            self.sums[before + 1] - self.sums[before]
+        } else {
+            0
+        }
+    }
+
+    /// The most that a voter gives for up to `most` hits after the first `before`, with those before, less the
+    /// multiplier for each hit after these. No hit gives more than the one before it, so the first that gives too
+    /// little ends the count.
+    pub(crate) fn kept(&self, before: u8, most: u8, multiplier: u64) -> u64
+        requires fits { before + most ≤ most_candidates }
+        requires multiplier { multiplier ≤ 2 ^ 46 }
+        ensures bounds { (h : ℕ) → h ≤ most
+            → slice_index self.now.sums (before + h) ≤ result + multiplier * h }
+        ensures small { result ≤ 2 ^ 46 }
+    {
+        let mut hits = 0;
+        while hits < most && self.increment(before + hits) > multiplier {
+            hits += 1;
+        }
+        self.sums[usize::from(before + hits)] - multiplier * u64::from(hits)
+    }
+
+    /// The number of hits, up to `most` after the first `before`, nearest to `hits`, at which a voter keeps the most
+    /// beside the multiplier.
+    pub(crate) fn wanted(&self, before: u8, most: u8, multiplier: u64, hits: u8) -> u8
+        requires fits { before + most ≤ most_candidates }
+        ensures { result ≤ most }
+    {
+        let mut least = 0;
+        while least < most && self.increment(before + least) > multiplier {
+            least += 1;
+        }
+        let mut last = least;
+        while last < most && self.increment(before + last) == multiplier {
+            last += 1;
+        }
+        hits.max(least).min(last)
     }
 }
 

@@ -1,253 +1,363 @@
-//! The choice of a multiplier for each row that makes prices low: a subgradient method (Held, Wolfe and Crowder,
-//! Validation of subgradient optimization, 1974; Fisher, The Lagrangian relaxation method for solving integer
-//! programming problems, 1981).
+//! Multipliers that follow the node, and make its prices low: a subgradient method (Held, Wolfe and Crowder, Validation
+//! of subgradient optimization, 1974).
 //!
-//! In up to 100 rounds the multiplier of a ballot goes up if the committee of the highest-priced candidates hits it too
-//! rarely, and down if too often. The best committee met on the way is what the search for the greatest value begins
-//! with. Only the range of the multipliers is proved, since prices bound values whatever the multipliers are.
-ghost use Rattle.std.specs.Prelude.{◌≡◌, ℕ, ◌^◌, ◌<◌, ◌≤◌, length, slice_index, IfOk, MatchOption, ⊤};
-ghost use Rattle.ballot_base.specs.Ballots.{IsElection};
+//! Round by round, the multiplier of a row goes up if the dearest candidates hit its ballot too rarely, and down if too
+//! often. There is one array of multipliers for a whole search. They are changed in place and never restored when the
+//! search goes back: any are right, and the last ones are a good beginning for the next node. Only their range is proved.
+ghost use Rattle.std.specs.Prelude.{◌≡◌, ℕ, List, ◌^◌, ◌≤◌, ◌+◌, [], IfOk, length, slice_index};
 ghost use Rattle.ballot_base.specs.Limits.{most_candidates};
-ghost use Rattle.ballot_base.specs.Lists.{IsIncreasing};
-ghost use Rattle.thiele_search.specs.Steps.Priced.{HasRoom};
+ghost use Rattle.tie_walk.specs.Values.{thiele_value};
+ghost use Rattle.tie_search.specs.Completions.{IsNode};
+ghost use Rattle.tie_search.specs.Steps.Narrowed.{Narrows};
+ghost use Rattle.thiele_search.specs.Steps.Paired.{AreSums};
 
-use crate::prices::{Pricing, SCALE};
-use crate::weights::RoundedWeights;
-use ballot_base::{CandSet, MOST_MEMBERS, Profile, Worths};
+use crate::majorant::HitSums;
+use crate::prices::PriceSearch;
+use ballot_base::{CandSet, Profile};
 use std::alloc::{AllocError, Allocator};
-use tie_walk::{Tally, ThieleTally};
+use std::cell::Cell;
+use tie_search::Node;
 
-/// For how many rows multipliers are chosen at most.
-const MOST_ROWS: usize = 8192;
+/// A step is counted in parts of which so many close the whole gap.
+const WHOLE: u64 = 1024;
 
-/// How often the multipliers are moved at most.
-const ROUNDS: u8 = 100;
+/// A direction is counted in parts of which so many are a hit.
+const HIT: i64 = 64;
 
-/// After so many rounds without a lower bound the steps are halved.
-const PATIENCE: u8 = 8;
+/// Of the gain that is lacking, so much has to be in sight: the last rounds' gain, repeated in those that are left.
+const ROUNDS_BETWEEN: u16 = 3;
 
-/// The length of a step is counted in parts of which so many are the whole gap.
-const WHOLE: u128 = 16;
-
-/// Memory for two multipliers of each row: one that is tried, and the best one so far.
-#[derive(Drop)]
-pub(crate) struct MultiplierMemory<A: Allocator> {
-    pub(crate) tried: Vec<u64, A>,
-    pub(crate) best: Vec<u64, A>,
+/// How long multipliers are moved.
+#[derive(Clone, Copy)]
+pub(crate) struct Effort {
+    /// So many rounds at most.
+    rounds: u16,
+    /// The part of the gap that the first step closes, and that below which no step is made.
+    pace: u64,
+    least_pace: u64,
+    /// After so many rounds without a lower bound the steps are made shorter.
+    patience: u8,
+    /// Whether it ends as soon as the bound falls too slowly.
+    is_hasty: bool,
 }
 
-impl<A: Allocator + Copy + Drop> MultiplierMemory<A> {
-    /// Memory for the rows of a profile. None if there are too many rows.
-    pub(crate) fn of(
-        alloc: A,
-        profile: &Profile<A>,
-    ) -> Result<Option<MultiplierMemory<A>>, AllocError>
-        ensures room { IfOk result (λ memory. MatchOption memory ⊤ (HasRoom profile.now.rows)) }
-        ensures election { IsElection profile.now }
-    {
-        let rows = profile.rows();
-        if rows > MOST_ROWS {
-            return Ok(None);
-        }
-        Ok(Some(MultiplierMemory {
-            tried: zeros(alloc, rows)?,
-            best: zeros(alloc, rows)?,
-        }))
+/// For a whole search, once.
+pub(crate) const ROOT: Effort = Effort {
+    rounds: 600,
+    pace: WHOLE,
+    least_pace: 1,
+    patience: 20,
+    is_hasty: false,
+};
+
+/// For a node.
+pub(crate) const NODE: Effort = Effort {
+    rounds: 15,
+    pace: 410,
+    least_pace: 20,
+    patience: 4,
+    is_hasty: true,
+};
+
+/// For the same node after a candidate was tried and left.
+pub(crate) const AGAIN: Effort = Effort {
+    rounds: 4,
+    pace: 410,
+    least_pace: 20,
+    patience: 4,
+    is_hasty: true,
+};
+
+/// The multiplier of a row, in units.
+#[derive(Clone, Copy)]
+struct Multiplier {
+    now: u64,
+    // That with which the bound was the lowest.
+    lowest: u64,
+    // How many hits too many the dearest candidates had lately, in parts of a hit.
+    direction: i64,
+}
+
+/// A multiplier for each row.
+#[derive(Drop)]
+pub(crate) struct Multipliers<A: Allocator> {
+    rows: Vec<Cell<Multiplier>, A>,
+}
+
+impl<A: Allocator + Copy + Drop> Multipliers<A> {
+    /// Takes memory for this many rows: 24 bytes each.
+    pub(crate) fn of(alloc: A, rows: usize) -> Result<Multipliers<A>, AllocError> {
+        let none = Multiplier {
+            now: 0,
+            lowest: 0,
+            direction: 0,
+        };
+        Ok(Multipliers {
+            rows: vec![in alloc; Cell::new(none); rows]?,
+        })
     }
 }
 
-impl<A: Allocator + Copy + Drop> Pricing<'_, A> {
-    /// Multipliers by which the bound of all committees of k is low, a multiplier for each row, and a good committee
-    /// that was met on the way. They lie in this memory.
-    pub(crate) fn chosen(
-        &self,
-        memory: MultiplierMemory<A>,
-        values: &ThieleTally<A>,
-        k: u8,
-    ) -> (Vec<u64, A>, CandSet)
-        requires { HasRoom self.now.profile.now.rows memory }
-        ensures each { length result.0.items ≡ length self.now.profile.now.rows }
-        ensures small { (i : ℕ) → slice_index result.0.items i ≤ 2 ^ 56 }
+impl<A: Allocator + Copy> Multipliers<A> {
+    /// Begins between the increments at the hits of a good committee.
+    pub(crate) fn begin(&self, profile: &Profile<A>, given: &HitSums, good: CandSet) {
+        for i in 0..profile.rows() {
+            let (ballot, _voters) = profile.row(i);
+            let hits = ballot.common(good).len();
+            let next = given.increment(hits);
+            let last = match hits.checked_sub(1) {
+                Some(before) => given.increment(before),
+                None => next,
+            };
+            self.set_row(i, next / 2 + last / 2);
+        }
+    }
+
+    /// Sets the multiplier of a row.
+    fn set_row(&self, i: usize, multiplier: u64) {
+        if let Some(row) = self.rows.get(i) {
+            row.set(Multiplier {
+                now: multiplier,
+                lowest: multiplier,
+                direction: 0,
+            });
+        }
+    }
+
+    /// The multiplier of a row with so many hits and up to `most` more: between the increments of the first of these and
+    /// of the last.
+    pub(crate) fn within(&self, i: usize, given: &HitSums, before: u8, most: u8) -> u64
+        requires fits { before + most ≤ most_candidates }
+        ensures { result ≤ 2 ^ 46 }
     {
-        let m = values.m();
-        let MultiplierMemory {
-            tried: mut multipliers,
-            mut best,
-        } = memory;
-        set_all(&mut multipliers, SCALE * self.rounded.weights[0] / 2);
-        best.copy_from_slice(&multipliers);
-        let mut progress = Progress::none();
-        for _round in 0..ROUNDS {
-            let worths = self.prices(&multipliers);
-            let dearest = dearest(&worths, m, k);
-            let bound = self
-                .base(&multipliers)
-                .saturating_add(worths.excess(dearest, 0));
-            progress.meet(dearest, values.value(dearest) / self.rounded.unit);
-            if progress.lowers(bound) {
-                best.copy_from_slice(&multipliers);
+        let Some(row) = self.rows.get(i) else {
+            return 0;
+        };
+        let multiplier = row.get();
+        let now = multiplier
+            .now
+            .max(given.increment(before + most))
+            .min(given.increment(before));
+        row.set(Multiplier { now, ..multiplier });
+        now
+    }
+
+    /// Keeps the multipliers, as the bound is the lowest with them.
+    fn keep(&self) {
+        for row in self.rows.iter() {
+            let multiplier = row.get();
+            row.set(Multiplier {
+                lowest: multiplier.now,
+                ..multiplier
+            });
+        }
+    }
+
+    /// Goes back to those with which the bound was the lowest.
+    fn restore(&self) {
+        for row in self.rows.iter() {
+            let multiplier = row.get();
+            row.set(Multiplier {
+                now: multiplier.lowest,
+                direction: 0,
+                ..multiplier
+            });
+        }
+    }
+
+    /// Moves each multiplier by its direction, times `length`, up to `top`.
+    fn step(&self, length: u64, top: u64) {
+        for row in self.rows.iter() {
+            let multiplier = row.get();
+            let way = length.saturating_mul(multiplier.direction.unsigned_abs());
+            let now = if multiplier.direction > 0 {
+                multiplier.now.saturating_sub(way)
+            } else {
+                multiplier.now.saturating_add(way).min(top)
+            };
+            row.set(Multiplier { now, ..multiplier });
+        }
+    }
+}
+
+/// What came of moving multipliers at a node.
+#[derive(Drop)]
+pub(crate) struct Moved {
+    /// The free candidates that can still join. `None` if no completion of the set reaches the value.
+    pub(crate) free: Option<CandSet>,
+    /// Those of the highest prices, where the bound was the lowest.
+    pub(crate) dearest: CandSet,
+    pub(crate) rounds: u32,
+}
+
+impl<A: Allocator + Copy> PriceSearch<'_, A> {
+    /// Moves multipliers until no completion of the set reaches the value, or the bound falls no more.
+    pub(crate) fn narrowed(&self, node: &Node, effort: Effort) -> Moved
+        requires is_node { IsNode self.now.profile.now.m node.now.set node.now.free }
+        ensures { (weights : List ℕ)
+            → AreSums weights self.now.given.now.scale self.now.given.now.unit self.now.given.now.sums
+            → Narrows (thiele_value weights self.now.profile.now.rows) self.now.profile.now.m node.now self.now.least
+            result.free }
+    {
+        let mut progress = Progress::new(effort, self.units());
+        let mut here = *node;
+        let mut lowest = CandSet::empty();
+        for _round in 0..effort.rounds {
+            let prices = self.prices(&here);
+            let Some(free) = self.affordable(&prices, &here) else {
+                return progress.end(None, lowest);
+            };
+            here.free = free;
+            let dearest = prices.dearest(free, node.left);
+            match progress.next(prices.bound(dearest)) {
+                Next::Lower => {
+                    lowest = dearest;
+                    self.multipliers.keep();
+                }
+                Next::Higher => {}
+                Next::Back => self.multipliers.restore(),
+                Next::End => break,
             }
-            if progress.is_over() {
+            let square = self.aim(&here, dearest);
+            if square == 0 {
                 break;
             }
-            match progress.next_gap(bound) {
-                Some(gap) => self.step(&mut multipliers, dearest, gap),
-                None => multipliers.copy_from_slice(&best),
-            }
+            self.multipliers.step(progress.length(square), self.given.increment(0));
         }
-        (best, progress.committee)
+        self.multipliers.restore();
+        progress.end(Some(here.free), lowest)
     }
 
-    /// Moves the multiplier of each row: up where the committee hits it less often than the row asks for at this
-    /// multiplier, and down where more often. The step is the gap over the square of all these differences.
-    fn step(&self, multipliers: &mut [u64], committee: CandSet, gap: u128)
-        requires each { length multipliers.old ≡ length self.now.profile.now.rows }
-        requires before { (i : ℕ) → slice_index multipliers.old i ≤ 2 ^ 56 }
-        ensures kept { length multipliers.new ≡ length multipliers.old }
-        ensures small { (i : ℕ) → slice_index multipliers.new i ≤ 2 ^ 56 }
+    /// Turns each direction to the hits that the dearest candidates have too many. Returns the sum of their squares.
+    fn aim(&self, node: &Node, dearest: CandSet) -> u128
+        requires is_node { IsNode self.now.profile.now.m node.now.set node.now.free }
     {
-        let mut square: u128 = 1;
+        let mut square: u128 = 0;
         for i in 0..self.profile.rows() {
-            let (ballot, count) = self.profile.row(i);
-            let hits = ballot.common(committee).len();
-            let wanted = self.rounded.wanted(multipliers[i], ballot.len(), hits);
-            let apart = u128::from(hits.abs_diff(wanted));
-            let square_apart = apart.saturating_mul(apart);
-            square = square.saturating_add(u128::from(count).saturating_mul(square_apart));
+            let (ballot, voters) = self.profile.row(i);
+            let Some(row) = self.multipliers.rows.get(i) else {
+                continue;
+            };
+            let multiplier = row.get();
+            let before = ballot.common(node.set).len();
+            let most = node.left.min(ballot.common(node.free).len());
+            let hits = ballot.common(dearest).len();
+            let wanted = self.given.wanted(before, most, multiplier.now, hits);
+            let more = i64::from(hits).saturating_sub(i64::from(wanted));
+            let direction = (multiplier.direction / 8)
+                .saturating_mul(5)
+                .saturating_add(HIT.saturating_mul(more));
+            row.set(Multiplier {
+                direction,
+                ..multiplier
+            });
+            let size = u128::from(direction.unsigned_abs());
+            square = square.saturating_add(u128::from(voters).saturating_mul(size.saturating_mul(size)));
         }
-        let top = SCALE * self.rounded.weights[0];
-        let length = (gap / square).min(u128::from(top)) as u64;
-        for i in 0..self.profile.rows() {
-            let (ballot, _count) = self.profile.row(i);
-            let hits = ballot.common(committee).len();
-            let wanted = self.rounded.wanted(multipliers[i], ballot.len(), hits);
-            let up = length.saturating_mul(u64::from(wanted.saturating_sub(hits)));
-            let down = length.saturating_mul(u64::from(hits.saturating_sub(wanted)));
-            multipliers[i] = multipliers[i]
-                .saturating_add(up)
-                .saturating_sub(down)
-                .min(top);
-        }
+        square
     }
 }
 
-impl RoundedWeights {
-    /// The number of hits, nearest to `hits`, at which a ballot of this size gives the most beside the multiplier for
-    /// each.
-    fn wanted(&self, multiplier: u64, size: u8, hits: u8) -> u8 {
-        let mut least = 0;
-        while least < size && self.given(least) > multiplier {
-            least += 1;
-        }
-        let mut most = least;
-        while most < size && self.given(most) == multiplier {
-            most += 1;
-        }
-        hits.max(least).min(most)
-    }
-
-    /// What a voter gives for the hit after so many, times the scale.
-    fn given(&self, hits: u8) -> u64 {
-        if hits >= MOST_MEMBERS {
-            return 0;
-        }
-        SCALE * self.weights[usize::from(hits)]
-    }
+/// What a round is followed by.
+#[derive(Clone, Copy)]
+enum Next {
+    /// The bound is lower than all before.
+    Lower,
+    Higher,
+    /// Steps get shorter, and begin where the bound was the lowest.
+    Back,
+    End,
 }
 
-/// What was met so far, and how long the next step is. Bounds and values are in parts of which a unit has `SCALE`.
+/// How far the bound has come.
 #[derive(Drop)]
 struct Progress {
+    effort: Effort,
+    // The bound that is to be reached.
+    goal: u128,
+    bound: u128,
     lowest: u128,
-    // The committee of the greatest value.
-    committee: CandSet,
-    value: u128,
-    // How many parts of the gap a step closes.
-    pace: u128,
-    // How many rounds were without a lower bound.
+    // The lowest bound some rounds ago.
+    before: u128,
+    pace: u64,
     stalled: u8,
+    rounds: u16,
 }
 
 impl Progress {
-    /// Nothing was met yet.
-    fn none() -> Progress {
+    /// No round was made yet.
+    fn new(effort: Effort, goal: u128) -> Progress {
         Progress {
+            effort,
+            goal,
+            bound: u128::MAX,
             lowest: u128::MAX,
-            committee: CandSet::empty(),
-            value: 0,
-            pace: WHOLE,
+            before: u128::MAX,
+            pace: effort.pace,
             stalled: 0,
+            rounds: 0,
         }
     }
 
-    /// Keeps the committee if it has more units than the best one.
-    fn meet(&mut self, committee: CandSet, units: u128) {
-        let value = units.saturating_mul(u128::from(SCALE));
-        if value > self.value {
-            self.committee = committee;
-            self.value = value;
+    /// Notes the bound of a round.
+    fn next(&mut self, bound: u128) -> Next {
+        self.rounds = self.rounds.saturating_add(1);
+        self.bound = bound;
+        let fall = self.lowest.saturating_sub(bound);
+        self.stalled = if fall > bound.saturating_sub(self.goal) / 8192 {
+            0
+        } else {
+            self.stalled.saturating_add(1)
+        };
+        if fall > 0 {
+            self.lowest = bound;
         }
+        if self.is_hopeless() {
+            return Next::End;
+        }
+        if fall > 0 {
+            return Next::Lower;
+        }
+        if self.stalled < self.effort.patience {
+            return Next::Higher;
+        }
+        self.stalled = 0;
+        self.pace = self.pace / 8 * 5;
+        if self.pace < self.effort.least_pace {
+            return Next::End;
+        }
+        Next::Back
     }
 
-    /// Whether the bound is lower than all before.
-    fn lowers(&mut self, bound: u128) -> bool {
-        self.stalled = self.stalled.saturating_add(1);
-        if bound >= self.lowest {
+    /// Whether the bound falls too slowly.
+    fn is_hopeless(&mut self) -> bool {
+        if !self.effort.is_hasty || self.rounds % ROUNDS_BETWEEN != 0 {
             return false;
         }
-        self.lowest = bound;
-        self.stalled = 0;
-        true
+        let gain = self.before.saturating_sub(self.lowest);
+        let rounds = u128::from(self.effort.rounds.saturating_sub(self.rounds));
+        self.before = self.lowest;
+        gain.saturating_mul(rounds) / 2 < self.lowest.saturating_sub(self.goal)
     }
 
-    /// Whether no committee is better than the best one by a unit.
-    fn is_over(&self) -> bool {
-        self.lowest < self.value.saturating_add(u128::from(SCALE))
+    /// How far multipliers move by their directions.
+    fn length(&self, square: u128) -> u64
+        requires { 1 ≤ square }
+    {
+        let gap = self.bound.saturating_sub(self.goal).saturating_add(1);
+        let part = gap.saturating_mul(u128::from(self.pace)) / u128::from(WHOLE);
+        let length = part.saturating_mul(HIT as u128) / square;
+        length.min(u128::from(u64::MAX)) as u64
     }
 
-    /// The gap that the next step closes. Returns `None` if the bound was not lowered for long: the steps then get
-    /// shorter, and begin with the best multipliers again.
-    fn next_gap(&mut self, bound: u128) -> Option<u128> {
-        if self.stalled < PATIENCE {
-            let gap = bound.saturating_sub(self.value).saturating_mul(self.pace);
-            return Some(gap / WHOLE);
-        }
-        self.pace /= 2;
-        self.stalled = 0;
-        None
-    }
-}
-
-/// Multipliers of 0 for this many rows.
-fn zeros<A: Allocator + Drop>(alloc: A, rows: usize) -> Result<Vec<u64, A>, AllocError>
-    ensures { IfOk result (λ multipliers. length multipliers.items ≡ rows) }
-{
-    vec![in alloc; 0; rows]
-}
-
-/// Sets all multipliers to one.
-fn set_all(multipliers: &mut [u64], multiplier: u64)
-    requires { multiplier ≤ 2 ^ 56 }
-    ensures kept { length multipliers.new ≡ length multipliers.old }
-    ensures small { (i : ℕ) → slice_index multipliers.new i ≤ 2 ^ 56 }
-{
-    for each in multipliers.iter_mut() {
-        *each = multiplier;
-    }
-}
-
-/// The `count` candidates of the greatest worth.
-fn dearest(worths: &Worths, m: u8, count: u8) -> CandSet
-    requires { m ≤ most_candidates }
-    ensures { IsIncreasing 1 m result }
-{
-    let mut rest = CandSet::all(m);
-    let mut dearest = CandSet::empty();
-    for _passed in 0..count {
-        if let Some(next) = worths.best_of(rest) {
-            dearest = dearest.with(next);
-            rest = rest.without(next);
+    /// What came of it.
+    fn end(&self, free: Option<CandSet>, dearest: CandSet) -> Moved
+        ensures { result.free ≡ free }
+    {
+        Moved {
+            free,
+            dearest,
+            rounds: u32::from(self.rounds),
         }
     }
-    dearest
 }

@@ -99,9 +99,7 @@ impl<A: Allocator + Copy> PairSearch<'_, A> {
         ensures { (value : ℕ) → self.now.given.now.scale * self.now.least ≤ self.now.given.now.unit * value
             → result ≤ value }
     {
-        self.least
-            .saturating_mul(self.given.scale)
-            .div_ceil(self.given.unit)
+        self.given.units(self.least)
     }
 
     /// Adds up the majorants of all voters at a node.

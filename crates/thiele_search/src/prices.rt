@@ -1,125 +1,181 @@
-//! Prices of candidates: a bound that needs no gains. A search asks for it first, and counts gains only if it passes.
+//! Prices of candidates: a bound that needs no gains.
 //!
-//! Choose any multiplier for each row. A voter then gives a committee at most what is `kept` (the highest value of some
-//! number of hits less the multiplier for each hit), and the multiplier for each hit. Summed over the voters, no
-//! committee has more value than the `base` and the prices of its members (`specs/Prices.antt`, `laws::prices`). Values
-//! are scaled by 4,096, so that there are multipliers between two increments. Large weights are rounded up to units in
-//! which they are below 2^44. There are no prices for more than 8,192 different ballots.
-ghost use Rattle.std.specs.Prelude.{◌≡◌, ℕ, ◌+◌, ◌^◌, ◌<◌, ◌≤◌, length, slice_index, MatchOption, ⊤};
+//! Choose any multiplier for each row. A voter then gives a completion of a set at most what is kept, and the multiplier
+//! for each hit after those at the set. What is kept is the most, over the numbers of hits that the node allows, that
+//! they give less the multiplier for each hit more. Summed over the voters, no completion of the set is worth more than
+//! what all keep and the prices of those who join (`laws::prices`; Fisher, The Lagrangian relaxation method for solving
+//! integer programming problems, 1981).
+ghost use Rattle.std.specs.Prelude.{◌≡◌, ℕ, ◌*◌, ◌^◌, ◌≤◌, List, [], slice_index, MatchOption, ⊤};
 ghost use Rattle.ballot_base.specs.Limits.{most_candidates, most_members};
-ghost use Rattle.thiele_search.specs.Prices.{kept, base, price};
-ghost use Rattle.thiele_search.specs.Steps.Priced.{ArePrices, HasRoom, scale, most_rows, priced_by};
+ghost use Rattle.tie_walk.specs.Values.{thiele_value};
+ghost use Rattle.tie_search.specs.Completions.{IsNode};
+ghost use Rattle.tie_search.specs.Steps.Narrowed.{Narrows};
+ghost use Rattle.thiele_search.specs.Steps.Paired.{AreSums, AreTotals};
+ghost use Rattle.thiele_search.specs.Steps.Priced.{ArePrices};
 
-use crate::multipliers::MultiplierMemory;
-use crate::weights::{RoundedWeights, rounded_weights};
-use ballot_base::{CandSet, Increments, Profile, Worths};
+use crate::majorant::HitSums;
+use crate::multipliers::{Multipliers, ROOT};
+use ballot_base::{CandSet, Profile, Worths};
 use std::alloc::Allocator;
-use tie_walk::ThieleTally;
+use tie_search::Node;
+use tie_walk::{Tally, ThieleTally};
 
-/// What hits give is multiplied by this, so that there are multipliers between two increments.
-pub(crate) const SCALE: u64 = 4096;
+/// How many units the first hit gives, about: many, so that rounding matters little.
+const UNITS: u128 = 1 << 40;
 
-/// The price of each candidate: times the scale, all voters together give a committee no more units than what they keep
-/// and the prices of its members.
+/// What a search looks for by prices: the ballots, what hits give, a multiplier for each row, and the value that a
+/// committee has to reach.
 #[derive(Drop)]
-pub(crate) struct Prices {
-    // How many of the rule's units are one unit of the weights that the prices are made of.
-    pub(crate) unit: u128,
-    // What all voters keep.
-    pub(crate) base: u128,
-    pub(crate) worths: Worths,
-    // A good committee that was met when the multipliers were chosen.
-    pub(crate) committee: CandSet,
+pub(crate) struct PriceSearch<'a, A: Allocator + Copy> {
+    pub(crate) profile: &'a Profile<A>,
+    pub(crate) given: &'a HitSums,
+    pub(crate) multipliers: &'a Multipliers<A>,
+    pub(crate) least: u128,
+    ghost size: { profile.now.m ≤ most_candidates },
 }
 
-impl Prices {
-    /// The prices by multipliers that make them low, which are chosen in this memory. None if there is no memory for
+/// What all voters keep at a node, and the price of each free candidate, in units.
+#[derive(Drop)]
+pub(crate) struct Prices {
+    pub(crate) kept: u128,
+    pub(crate) worths: Worths,
+}
+
+impl<A: Allocator + Copy> PriceSearch<'_, A> {
+    /// The prices at a node, by the multipliers as they are. Those that lie outside what the node allows are moved to
+    /// its ends first.
+    pub(crate) fn prices(&self, node: &Node) -> Prices
+        requires is_node { IsNode self.now.profile.now.m node.now.set node.now.free }
+        ensures totals { (weights : List ℕ)
+            → AreSums weights self.now.given.now.scale self.now.given.now.unit self.now.given.now.sums
+            → AreTotals weights self.now.given.now.scale self.now.given.now.unit self.now.profile.now.m
+            self.now.profile.now.rows node.now.set node.now.free node.now.left result.kept result.worths [] }
+        ensures kept { result.kept ≤ 2 ^ 78 }
+        ensures worths { (n : ℕ) → slice_index result.worths n ≤ 2 ^ 78 }
+    {
+        let mut kept = 0;
+        let mut worths = Worths::none();
+        for i in 0..self.profile.rows() {
+            let (ballot, voters) = self.profile.row(i);
+            let approved = ballot.common(node.free);
+            let before = ballot.common(node.set).len();
+            let most = node.left.min(approved.len());
+            let multiplier = self.multipliers.within(i, self.given, before, most);
+            let count = u128::from(voters);
+            kept += count * u128::from(self.given.kept(before, most, multiplier));
+            worths.add(approved, count * u128::from(multiplier));
+        }
+        Prices { kept, worths }
+    }
+
+    /// The free candidates of a node that can still join, by its prices. Returns `None` if no completion of its set
+    /// reaches the value.
+    pub(crate) fn affordable(&self, prices: &Prices, node: &Node) -> Option<CandSet>
+        requires is_node { IsNode self.now.profile.now.m node.now.set node.now.free }
+        ensures { (weights : List ℕ)
+            → AreTotals weights self.now.given.now.scale self.now.given.now.unit self.now.profile.now.m
+            self.now.profile.now.rows node.now.set node.now.free node.now.left prices.now.kept prices.now.worths []
+            → Narrows (thiele_value weights self.now.profile.now.rows) self.now.profile.now.m node.now self.now.least
+            result }
+    {
+        let due = self.units().saturating_sub(prices.kept);
+        prices.worths.members_for(node.free, node.left, due)
+    }
+
+    /// The value that a committee has to reach, in units.
+    pub(crate) fn units(&self) -> u128
+        ensures { (value : ℕ) → self.now.given.now.scale * self.now.least ≤ self.now.given.now.unit * value
+            → result ≤ value }
+    {
+        self.given.units(self.least)
+    }
+}
+
+/// The prices of a search among the committees of k: what they are made of, and the lowest ones of the whole election.
+#[derive(Drop)]
+pub(crate) struct Priced<A: Allocator> {
+    pub(crate) k: u8,
+    pub(crate) given: HitSums,
+    pub(crate) multipliers: Multipliers<A>,
+    pub(crate) whole: Prices,
+    // The candidates of the highest prices.
+    pub(crate) dearest: CandSet,
+}
+
+impl<A: Allocator + Copy> Priced<A> {
+    /// Prices for the committees of k, low if one of them is about as good as this one. Returns `None` without memory for
     /// them.
-    pub(crate) fn of<A: Allocator + Copy + Drop>(
-        memory: Option<MultiplierMemory<A>>,
+    pub(crate) fn of(
+        memory: Option<Multipliers<A>>,
         profile: &Profile<A>,
         values: &ThieleTally<A>,
         k: u8,
-    ) -> Option<Prices>
+        good: CandSet,
+    ) -> Option<Priced<A>>
         requires some { 1 ≤ k }
         requires size { k ≤ most_members }
         requires ballots { profile.now ≡ values.now.election }
         requires k_is { k ≡ values.now.k }
-        requires room { MatchOption memory ⊤ (HasRoom profile.now.rows) }
-        ensures { MatchOption result ⊤ (λ prices. ArePrices values.now prices.unit prices.base prices.worths) }
+        ensures { MatchOption result ⊤ (ArePrices values.now) }
     {
-        let memory = memory?;
-        let rounded = rounded_weights(&Increments::of(values.rule(), k).w)?;
-        let pricing = Pricing {
-            profile,
-            rounded: &rounded,
+        let multipliers = memory?;
+        let given = HitSums::of(values.rule(), k, UNITS)?;
+        multipliers.begin(profile, &given, good);
+        let candidates = CandSet::all(profile.m());
+        let all = Node {
+            set: CandSet::empty(),
+            value: 0,
+            free: candidates,
+            left: k,
         };
-        let (multipliers, committee) = pricing.chosen(memory, values, k);
-        Some(Prices {
-            unit: rounded.unit,
-            base: pricing.base(&multipliers),
-            worths: pricing.prices(&multipliers),
-            committee,
+        let search = PriceSearch {
+            profile,
+            given: &given,
+            multipliers: &multipliers,
+            least: values.value(candidates.common(good)).saturating_add(1),
+        };
+        let dearest = search.narrowed(&all, ROOT).dearest;
+        let whole = search.prices(&all);
+        Some(Priced {
+            k,
+            given,
+            multipliers,
+            whole,
+            dearest,
         })
     }
 }
 
-/// What prices are made of beside multipliers: the ballots, and what hits give.
-#[derive(Drop)]
-pub(crate) struct Pricing<'a, A: Allocator + Copy> {
-    pub(crate) profile: &'a Profile<A>,
-    pub(crate) rounded: &'a RoundedWeights,
-    ghost few: { length profile.now.rows ≤ most_rows },
-}
-
-impl<A: Allocator + Copy> Pricing<'_, A> {
-    /// What all voters keep.
-    pub(crate) fn base(&self, multipliers: &[u64]) -> u128
-        requires each { length multipliers.now ≡ length self.now.profile.now.rows }
-        requires small { (i : ℕ) → slice_index multipliers.now i ≤ 2 ^ 56 }
-        ensures { result ≡ base self.now.rounded.now.weights scale
-            (priced_by (slice_index multipliers.now) self.now.profile.now.rows) }
+impl HitSums {
+    /// A value in units. No value that has fewer units is as great.
+    pub(crate) fn units(&self, value: u128) -> u128
+        ensures { (units : ℕ) → self.now.scale * value ≤ self.now.unit * units → result ≤ units }
     {
-        let mut sum = 0;
-        for i in 0..self.profile.rows() {
-            let (ballot, count) = self.profile.row(i);
-            sum += u128::from(count) * u128::from(self.rounded.kept(multipliers[i], ballot.len()));
-        }
-        sum
-    }
-
-    /// The price of each candidate.
-    pub(crate) fn prices(&self, multipliers: &[u64]) -> Worths
-        requires each { length multipliers.now ≡ length self.now.profile.now.rows }
-        requires small { (i : ℕ) → slice_index multipliers.now i ≤ 2 ^ 56 }
-        ensures { (n : ℕ) → n ≤ most_candidates → slice_index result n
-            ≡ price (priced_by (slice_index multipliers.now) self.now.profile.now.rows) n }
-    {
-        let mut worths = Worths::none();
-        for i in 0..self.profile.rows() {
-            let (ballot, count) = self.profile.row(i);
-            worths.add(ballot, u128::from(count) * u128::from(multipliers[i]));
-        }
-        worths
+        value.saturating_mul(self.scale).div_ceil(self.unit)
     }
 }
 
-impl RoundedWeights {
-    /// The most that a voter of a ballot of this size gives, times the scale, beside the multiplier for each hit.
-    fn kept(&self, multiplier: u64, size: u8) -> u64
-        requires multiplier { multiplier ≤ 2 ^ 56 }
-        requires size { size ≤ most_candidates }
-        ensures value { result ≡ kept self.now.weights scale multiplier size }
-        ensures most { result ≤ 2 ^ 62 }
-    {
-        let mut most = 0;
-        let mut given: u64 = 0;
-        for hits in 0..usize::from(size) + 1 {
-            most = given.saturating_sub(hits as u64 * multiplier).max(most);
-            if hits < self.weights.len() {
-                given += SCALE * self.weights[hits];
+impl Prices {
+    /// The `left` free candidates of the highest prices.
+    pub(crate) fn dearest(&self, free: CandSet, left: u8) -> CandSet {
+        let lowest = self.worths.nth_greatest(free, left);
+        let mut dearest = self.worths.at_least(free, lowest);
+        let dearer = self
+            .worths
+            .at_least(free, lowest.saturating_add(1));
+        for candidate in dearest.minus(dearer).members() {
+            if dearest.len() > left {
+                dearest = dearest.without(candidate);
             }
         }
-        most
+        dearest
+    }
+
+    /// What no completion exceeds, if these candidates have the highest prices.
+    pub(crate) fn bound(&self, dearest: CandSet) -> u128
+        requires { (n : ℕ) → slice_index self.now.worths n ≤ 2 ^ 78 }
+    {
+        self.kept
+            .saturating_add(self.worths.excess(dearest, 0))
     }
 }

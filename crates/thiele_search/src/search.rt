@@ -20,8 +20,9 @@ ghost use Rattle.tie_search.specs.Completions.{IsNode, IsOutOfReach, tally_value
 use crate::columns::Columns;
 use crate::majorant::HitSums;
 use crate::pairs::PairSearch;
-use crate::prices::{Prices, SCALE};
-use crate::trials::Uses;
+use crate::multipliers::{AGAIN, Effort, NODE};
+use crate::prices::{PriceSearch, Priced};
+use crate::trials::{Moves, Uses};
 use ballot_base::{CandSet, Clones, Profile, ThieleRule, Worths};
 use std::alloc::Allocator;
 use std::marker::Model;
@@ -35,7 +36,7 @@ use tie_walk::{Tally, ThieleTally};
 pub(crate) struct Aids<A: Allocator> {
     pub(crate) clones: Clones,
     pub(crate) columns: Option<Columns<A>>,
-    pub(crate) prices: Option<Prices>,
+    pub(crate) priced: Option<Priced<A>>,
     pub(crate) sums: Option<HitSums>,
     pub(crate) uses: Uses,
 }
@@ -48,6 +49,8 @@ pub(crate) struct Search<'a, A: Allocator + Copy> {
     pub(crate) aids: &'a Aids<A>,
     // Whether pairs are counted. A search that ends after few sets is quicker without.
     pub(crate) counts_pairs: bool,
+    // Where multipliers are worth their moving.
+    pub(crate) moves: Moves,
 }
 
 impl<'a, A: Allocator + Copy> Model for Search<'a, A> {
@@ -63,6 +66,25 @@ impl<'a, A: Allocator + Copy> Model for Search<'a, A> {
 }
 
 impl<'a, A: Allocator + Copy> Search<'a, A> {
+    /// A search that counts no pairs.
+    pub(crate) fn of(
+        profile: &'a Profile<A>,
+        tally: &'a ThieleTally<'a, A>,
+        aids: &'a Aids<A>,
+    ) -> Search<'a, A>
+        requires ballots { profile.now ≡ tally.now.election }
+        requires aids { IsAided tally.now aids.now }
+        ensures { result ≡ tally.now }
+    {
+        Search {
+            profile,
+            tally,
+            aids,
+            counts_pairs: false,
+            moves: Moves::new(profile.rows()),
+        }
+    }
+
     /// The node of a set, free candidates, and how many of them are to join.
     pub(crate) fn node(&self, set: CandSet, free: CandSet, left: u8) -> Node
         requires candidates { IsIncreasing 1 self.now.election.m set }
@@ -92,16 +114,43 @@ impl<'a, A: Allocator + Copy> Search<'a, A> {
     }
 
     /// The free candidates of a node that can still join. Returns `None` if no completion of its set reaches the value.
-    pub(crate) fn eligible(&self, node: &Node, least: u128) -> Option<CandSet>
-        requires is_node { IsNode self.now.election.m node.now.set node.now.free }
-        ensures { Narrows (tally_value self.now) self.now.election.m node.now
-            least result }
+    fn eligible(&mut self, node: &Node, least: u128, effort: Effort) -> Option<CandSet>
+        requires is_node { IsNode self.old.election.m node.now.set node.now.free }
+        ensures same { self.new ≡ self.old }
+        ensures narrowed { Narrows (tally_value self.old) self.old.election.m node.now least result }
     {
         if !self.covers(node, least) {
             return None;
         }
         let free = self.priced(node, least)?;
-        self.pair_narrowed(&Node { free, ..*node }, least)
+        let free = self.pair_narrowed(&Node { free, ..*node }, least)?;
+        self.moved(&Node { free, ..*node }, least, effort)
+    }
+
+    /// The free candidates of a node that can still join, by prices whose multipliers are moved, if that is worth its
+    /// work. Returns `None` if no completion of its set reaches the value.
+    fn moved(&mut self, node: &Node, least: u128, effort: Effort) -> Option<CandSet>
+        requires is_node { IsNode self.old.election.m node.now.set node.now.free }
+        ensures same { self.new ≡ self.old }
+        ensures narrowed { Narrows (tally_value self.old) self.old.election.m node.now least result }
+    {
+        let Some(priced) = &self.aids.priced else {
+            return Some(node.free);
+        };
+        self.moves.work(0);
+        if !self.moves.are_due(node.left) {
+            return Some(node.free);
+        }
+        let search = PriceSearch {
+            profile: self.profile,
+            given: &priced.given,
+            multipliers: &priced.multipliers,
+            least,
+        };
+        let moved = search.narrowed(node, effort);
+        let after = moved.free.map(|free| free.len());
+        self.moves.note(node.left, node.free.len(), after, moved.rounds);
+        moved.free
     }
 
     /// Whether the free candidates of a node cover enough, if this is worth asking.
@@ -210,20 +259,23 @@ impl<'a, A: Allocator + Copy> Search<'a, A> {
         }
     }
 
-    /// The free candidates of a node that can still join, by prices, if they are kept. Returns `None` if no completion
-    /// of its set reaches the value.
+    /// The free candidates of a node that can still join, by the prices of the whole election, if they are kept. Returns
+    /// `None` if no completion of its set reaches the value.
     pub(crate) fn affordable(&self, node: &Node, least: u128) -> Option<CandSet>
         requires is_node { IsNode self.now.election.m node.now.set node.now.free }
         ensures { Narrows (tally_value self.now) self.now.election.m node.now least result }
     {
-        let Some(prices) = &self.aids.prices else {
+        let Some(priced) = &self.aids.priced else {
             return Some(node.free);
         };
+        if u16::from(node.set.len()) + u16::from(node.left) != u16::from(priced.k) {
+            return Some(node.free);
+        }
+        let prices = &priced.whole;
         let paid = prices
-            .base
+            .kept
             .saturating_add(prices.worths.excess(node.set, 0));
-        let units = least.div_ceil(prices.unit);
-        let due = units.saturating_mul(u128::from(SCALE)).saturating_sub(paid);
+        let due = priced.given.units(least).saturating_sub(paid);
         prices.worths.members_for(node.free, node.left, due)
     }
 }
@@ -257,7 +309,8 @@ impl<'a, A: Allocator + Copy> Narrowing for Search<'a, A> {
     }
 
     fn plan(&mut self, node: &Node, least: u128) -> Option<Plan> {
-        let free = self.eligible(node, least)?;
+        self.moves.enter(node.left);
+        let free = self.eligible(node, least, NODE)?;
         let gains = self.gains_at(&Node { free, ..*node });
         let eligible = self.promising(&gains, &Node { free, ..*node }, least)?;
         Some(Plan {
@@ -270,7 +323,7 @@ impl<'a, A: Allocator + Copy> Narrowing for Search<'a, A> {
     }
 
     fn narrowed(&mut self, plan: &Plan, node: &Node, least: u128) -> Option<CandSet> {
-        let free = self.eligible(node, least)?;
+        let free = self.eligible(node, least, AGAIN)?;
         self.promising(&plan.worths, &Node { free, ..*node }, least)
     }
 

@@ -1,6 +1,7 @@
 //! Thiele's rules as values that can be searched.
 ghost use Rattle.std.specs.Prelude.{◌≡◌, ◌≤◌, IfOk};
 ghost use Rattle.ballot_base.specs.Clones.{clones_among};
+ghost use Rattle.ballot_base.specs.Lists.{IsIncreasing};
 ghost use Rattle.ballot_base.specs.Limits.{most_members};
 ghost use Rattle.tie_walk.specs.Values.{thiele_of};
 ghost use Rattle.tie_walk.specs.Winners.{best_value};
@@ -9,10 +10,9 @@ ghost use Rattle.tie_search.specs.Completions.{tally_value};
 ghost use Rattle.thiele_search.specs.Steps.Aided.{IsAided};
 
 use crate::columns::Columns;
-use crate::good::Good;
-use crate::majorant::HitSums;
-use crate::multipliers::MultiplierMemory;
-use crate::prices::Prices;
+use crate::majorant::{HitSums, PAIR_UNITS};
+use crate::multipliers::Multipliers;
+use crate::prices::Priced;
 use crate::search::{Aids, Search};
 use crate::trials::Uses;
 use ballot_base::{CandSet, Clones, Profile, ThieleRule};
@@ -29,7 +29,7 @@ pub struct SearchMemory<'a, A: Allocator + Copy = Global> {
     values: ThieleTally<'a, A>,
     k: u8,
     columns: Option<Columns<A>>,
-    multipliers: Option<MultiplierMemory<A>>,
+    multipliers: Option<Multipliers<A>>,
 }
 
 impl<'a, A: Allocator + Copy> Model for SearchMemory<'a, A> {
@@ -42,12 +42,11 @@ impl<'a, A: Allocator + Copy> Model for SearchMemory<'a, A> {
     ghost view = { λ t. t.values };
 
     ghost invariant = { λ t. (t.profile.now ≡ t.values.election)
-        × IsMemoryFor t.values t.k t.columns t.multipliers };
+        × IsMemoryFor t.values t.k t.columns };
 }
 
 impl<'a, A: Allocator + Copy + Drop> SearchMemory<'a, A> {
-    /// Takes at most 532,480 bytes, and 131,072 that are given back when the search is prepared. A failed allocation
-    /// leaves nothing.
+    /// Takes at most 729,088 bytes. A failed allocation leaves nothing.
     pub fn new(
         alloc: A,
         profile: &'a Profile<A>,
@@ -64,7 +63,7 @@ impl<'a, A: Allocator + Copy + Drop> SearchMemory<'a, A> {
             values: ThieleTally::new(profile, rule, k),
             k,
             columns: Columns::of(alloc, profile, rule, k)?,
-            multipliers: MultiplierMemory::of(alloc, profile)?,
+            multipliers: multipliers_for(alloc, profile)?,
         })
     }
 }
@@ -77,7 +76,7 @@ pub struct ThieleSearch<'a, A: Allocator + Copy = Global> {
     values: ThieleTally<'a, A>,
     aids: Aids<A>,
     // A committee to begin with.
-    good: Good,
+    good: CandSet,
 }
 
 impl<'a, A: Allocator + Copy> Model for ThieleSearch<'a, A> {
@@ -105,15 +104,19 @@ impl<'a, A: Allocator + Copy + Drop> ThieleSearch<'a, A> {
             columns,
             multipliers,
         } = memory;
-        let rule = values.rule();
-        let aids = Aids {
+        let unpriced = Aids {
             clones: Clones::of(profile),
             columns,
-            prices: Prices::of(multipliers, profile, &values, k),
-            sums: HitSums::of(rule, k),
+            priced: None,
+            sums: HitSums::of(values.rule(), k, PAIR_UNITS),
             uses: Uses::none(),
         };
-        let good = good_committee(profile, &values, &aids, k);
+        let grown = grown_committee(profile, &values, &unpriced, k);
+        let aids = Aids {
+            priced: Priced::of(multipliers, profile, &values, k, grown),
+            ..unpriced
+        };
+        let good = good_committee(profile, &values, &aids, grown);
         ThieleSearch {
             profile,
             values,
@@ -141,10 +144,8 @@ impl<'a, A: Allocator + Copy> ThieleSearch<'a, A> {
         ensures { result ≡ self.now }
     {
         Search {
-            profile: self.profile,
-            tally: &self.values,
-            aids: &self.aids,
             counts_pairs,
+            ..Search::of(self.profile, &self.values, &self.aids)
         }
     }
 }
@@ -169,7 +170,7 @@ impl<'a, A: Allocator + Copy> Tally for ThieleSearch<'a, A> {
     }
 
     fn good_committee(&self, k: u8) -> Option<CandSet> {
-        let committee = CandSet::all(self.values.m()).common(self.good.committee);
+        let committee = CandSet::all(self.values.m()).common(self.good);
         if committee.len() != k {
             return None;
         }
@@ -190,35 +191,57 @@ impl<'a, A: Allocator + Copy> Searchable for ThieleSearch<'a, A> {
     }
 
     fn tied(&self, k: u8) -> Option<Tied> {
-        // Winners come sooner one by one if the good committee is known to be the best.
-        if self.good.is_best {
-            return None;
-        }
         let mut search = self.search(true);
         let all = search.node(CandSet::empty(), CandSet::all(self.m()), k);
         Some(descent::list_tied(&mut search, all, self.good_value(k)))
     }
 }
 
-/// A good committee of k: the one that was met when prices were made, or a better one.
-fn good_committee<A: Allocator + Copy>(
+/// For how many rows multipliers are kept at most.
+const MOST_ROWS: usize = 8192;
+
+/// Multipliers for the rows of a profile. None if there are too many rows.
+fn multipliers_for<A: Allocator + Copy + Drop>(alloc: A, profile: &Profile<A>) -> Result<Option<Multipliers<A>>, AllocError> {
+    let rows = profile.rows();
+    if rows > MOST_ROWS {
+        return Ok(None);
+    }
+    Ok(Some(Multipliers::of(alloc, rows)?))
+}
+
+/// A committee of k that grew by greatest gains, made better by exchanges.
+fn grown_committee<A: Allocator + Copy>(
     profile: &Profile<A>,
     values: &ThieleTally<A>,
     aids: &Aids<A>,
     k: u8,
-) -> Good
+) -> CandSet
     requires ballots { profile.now ≡ values.now.election }
     requires aids { IsAided values.now aids.now }
+    ensures { IsIncreasing 1 values.now.election.m result }
 {
-    let start = match &aids.prices {
-        Some(prices) => prices.committee,
-        None => CandSet::empty(),
+    let search = Search::of(profile, values, aids);
+    search.exchanged(search.greedy(k))
+}
+
+/// This committee, or one that is better, by exchanges from the candidates of the highest prices.
+fn good_committee<A: Allocator + Copy>(
+    profile: &Profile<A>,
+    values: &ThieleTally<A>,
+    aids: &Aids<A>,
+    grown: CandSet,
+) -> CandSet
+    requires ballots { profile.now ≡ values.now.election }
+    requires aids { IsAided values.now aids.now }
+    requires grown { IsIncreasing 1 values.now.election.m grown }
+{
+    let Some(priced) = &aids.priced else {
+        return grown;
     };
-    let search = Search {
-        profile,
-        tally: values,
-        aids,
-        counts_pairs: false,
-    };
-    search.climb(start, k)
+    let other = Search::of(profile, values, aids).exchanged(priced.dearest);
+    if other.len() == priced.k && values.value(other) > values.value(grown) {
+        other
+    } else {
+        grown
+    }
 }

@@ -4,7 +4,7 @@
 //! help depends on the ballots: prices cut an election among neighbours short, and seldom a random one. So a search
 //! counts how often each test gave a set up. Any test may be left out, so nothing is proved of these counts.
 
-use ballot_base::MOST_CANDIDATES;
+use ballot_base::{MOST_CANDIDATES, PLACES};
 use std::cell::Cell;
 
 /// With more seats left than this, the quick tests are always made: whole branches depend on them.
@@ -143,4 +143,182 @@ impl PairTrials {
 /// Adds to a count, up to the greatest number.
 fn add_to(count: &Cell<u32>, more: u32) {
     count.set(count.get().saturating_add(more));
+}
+
+/// What a move achieved is in parts of this: a node that ended is all of them. Means are in such parts of one as well.
+const PARTS: u64 = 1024;
+
+/// The most that a move achieves if candidates only leave: seven tenths.
+const MOST_OF_LEAVING: u64 = PARTS * 7 / 10;
+
+/// Multipliers are first moved after work worth so many rounds over the rows: a shorter search is quicker without.
+const BEGINNING: u64 = 384;
+
+/// So often multipliers are moved at a number of seats left before it is judged whether this pays.
+const TRIALS_OF_MOVES: u64 = 4;
+
+/// At one node of so many nothing is moved, so that the work below it is seen.
+const LEFT_ALONE: u32 = 16;
+
+/// Where moves do not pay, they are made at one node of so many, so that this is judged anew.
+const SAMPLE_OF_MOVES: u32 = 64;
+
+/// A mean is of about so many numbers, the last ones, so that what is no longer true is forgotten.
+const MEMORY: u64 = 50;
+
+/// What moves of multipliers achieve, and what they cost, by the number of seats left. The unit of work is a visit of
+/// a set.
+#[derive(Drop)]
+pub(crate) struct Moves {
+    // The work of a round over the rows.
+    round: u64,
+    // All work so far.
+    done: u64,
+    levels: [Level; PLACES],
+}
+
+impl Moves {
+    /// Nothing was moved yet, in an election of so many rows.
+    pub(crate) fn new(rows: usize) -> Moves {
+        Moves {
+            round: rows.div_ceil(32) as u64,
+            done: 0,
+            levels: [Level::NONE; PLACES],
+        }
+    }
+
+    /// Enters a node with so many seats left. As a search goes depth first, all work since an earlier node with as many
+    /// seats or fewer was below that one.
+    pub(crate) fn enter(&mut self, left: u8) {
+        let done = self.done;
+        for level in self.levels.iter_mut().take(usize::from(left) + 1) {
+            level.close(done);
+        }
+        let has_begun = self.has_begun();
+        if let Some(level) = self.levels.get_mut(usize::from(left)) {
+            level.enter(done, has_begun);
+        }
+    }
+
+    /// Whether the search is long enough for moves.
+    fn has_begun(&self) -> bool {
+        self.done >= self.round.saturating_mul(BEGINNING)
+    }
+
+    /// Counts the work of so many rounds over the rows, or of a visit, if there were none.
+    pub(crate) fn work(&mut self, rounds: u32) {
+        let more = if rounds == 0 {
+            1
+        } else {
+            self.round.saturating_mul(u64::from(rounds))
+        };
+        self.done = self.done.saturating_add(more);
+    }
+
+    /// Whether to move multipliers at the node that was entered last, with so many seats left.
+    pub(crate) fn are_due(&self, left: u8) -> bool {
+        self.has_begun()
+            && match self.levels.get(usize::from(left)) {
+                Some(level) => level.is_due(),
+                None => false,
+            }
+    }
+
+    /// Notes a move at the node that was entered last, and counts its rounds as work: how many candidates were free
+    /// before and after it. After it there is `None` if the node ended.
+    pub(crate) fn note(&mut self, left: u8, before: u8, after: Option<u8>, rounds: u32) {
+        self.work(rounds);
+        let cost = self.round.saturating_mul(u64::from(rounds));
+        if let Some(level) = self.levels.get_mut(usize::from(left)) {
+            level.success.note(achieved(before, after));
+            level.cost.note(cost.saturating_mul(PARTS));
+        }
+    }
+}
+
+/// What is known of the nodes with a number of seats left.
+#[derive(Clone, Copy)]
+struct Level {
+    // How many were entered.
+    nodes: u32,
+    // What moves achieved, and what they cost.
+    success: Mean,
+    cost: Mean,
+    // The work below a node.
+    below: Mean,
+    // All work up to the beginning of the node whose work below is being counted.
+    open: Option<u64>,
+    // Whether nothing is moved at the last node, so that the work below it is seen.
+    is_left_alone: bool,
+}
+
+impl Level {
+    /// No node was entered yet.
+    const NONE: Level = Level {
+        nodes: 0,
+        success: Mean::NONE,
+        cost: Mean::NONE,
+        below: Mean::NONE,
+        open: None,
+        is_left_alone: false,
+    };
+
+    /// The work below the node is all counted.
+    fn close(&mut self, done: u64) {
+        if let Some(before) = self.open.take() {
+            self.below
+                .note(done.saturating_sub(before).saturating_mul(PARTS));
+        }
+    }
+
+    /// Enters a node. The work below it is counted if nothing is moved at it: below other nodes that are searched, there
+    /// is more than below those that moves end.
+    fn enter(&mut self, done: u64, has_begun: bool) {
+        self.nodes = self.nodes.wrapping_add(1);
+        self.is_left_alone = self.nodes % LEFT_ALONE == 0;
+        let is_moved = has_begun && self.is_due();
+        self.open = (!is_moved).then_some(done);
+    }
+
+    /// Whether moves save as much work as they cost, or are to be tried.
+    fn is_due(&self) -> bool {
+        if self.is_left_alone {
+            return false;
+        }
+        self.below.count == 0
+            || self.success.count < TRIALS_OF_MOVES
+            || self.success.value.saturating_mul(self.below.value) / PARTS >= self.cost.value
+            || self.nodes % SAMPLE_OF_MOVES == 0
+    }
+}
+
+/// A running mean.
+#[derive(Clone, Copy)]
+struct Mean {
+    // How many numbers it is of, up to `MEMORY`.
+    count: u64,
+    value: u64,
+}
+
+impl Mean {
+    /// The mean of no numbers.
+    const NONE: Mean = Mean { count: 0, value: 0 };
+
+    /// Notes one more number.
+    fn note(&mut self, number: u64) {
+        self.count = MEMORY.min(self.count.saturating_add(1));
+        let others = self.value.saturating_mul(self.count.saturating_sub(1));
+        self.value = others.saturating_add(number) / self.count;
+    }
+}
+
+/// What a move achieved, in parts, by the candidates that were free before and after it.
+fn achieved(before: u8, after: Option<u8>) -> u64 {
+    match after {
+        Some(after) => {
+            let gone = before.saturating_sub(after);
+            MOST_OF_LEAVING * u64::from(gone) / u64::from(before.max(1))
+        }
+        None => PARTS,
+    }
 }

@@ -1,6 +1,5 @@
 //! What a voter gives for each hit, in words of 64 bits if it fits them.
 ghost use Rattle.std.specs.Prelude.{◌≡◌, ℕ, ◌^◌, ◌<◌, ◌≤◌, slice_index, MatchOption, ⊤};
-ghost use Rattle.thiele_search.specs.Prices.{AreRounded};
 
 use ballot_base::MOST_MEMBERS;
 use std::marker::Model;
@@ -62,34 +61,4 @@ fn small_weights(weights: &[u128; MOST_MEMBERS as usize]) -> Option<Weights>
         small[j] = weights[j] as u64;
     }
     Some(small)
-}
-
-/// Weights in larger units, rounded up.
-#[derive(Drop)]
-pub(crate) struct RoundedWeights {
-    pub(crate) weights: Weights,
-    // How large a unit is: 1 if none of the weights is too large.
-    pub(crate) unit: u128,
-    ghost some: { 1 ≤ unit },
-    ghost small: { (j : ℕ) → slice_index weights j < 2 ^ 44 },
-}
-
-/// The weights in larger units, rounded up. (None only if a later weight were larger than the first, which no rule
-/// has.)
-pub(crate) fn rounded_weights(weights: &[u128; MOST_MEMBERS as usize]) -> Option<RoundedWeights>
-    ensures { MatchOption result ⊤ (λ rounded. AreRounded weights.now rounded.unit rounded.weights) }
-{
-    let unit = weights[0] / (LARGE_WEIGHT - 1) + 1;
-    let mut rounded = [0; MOST_MEMBERS as usize];
-    for j in 0..rounded.len() {
-        let weight = weights[j].div_ceil(unit);
-        if weight >= LARGE_WEIGHT {
-            return None;
-        }
-        rounded[j] = weight as u64;
-    }
-    Some(RoundedWeights {
-        weights: rounded,
-        unit,
-    })
 }

@@ -1,16 +1,17 @@
 -- What a search under a Thiele rule is helped by.
-use Rattle.std.specs.Prelude.{◌≡◌, ℕ, ◌≤◌, List, Option, MatchOption, ⊤}
+use Rattle.std.specs.Prelude.{◌≡◌, ℕ, ◌^◌, ◌≤◌, List, slice_index, Option, MatchOption, ⊤}
 use Rattle.ballot_base.specs.Ballots.{IsElection}
 use Rattle.ballot_base.specs.Clones.{AreClones}
+use Rattle.ballot_base.specs.Increments.{increments}
 use Rattle.ballot_base.specs.Limits.{most_members}
 use Rattle.tie_walk.specs.Values.{Thiele}
 use Rattle.tie_search.specs.Completions.{tally_value}
 use Rattle.thiele_search.specs.declared.columns.Columns.{Columns}
-use Rattle.thiele_search.specs.declared.multipliers.MultiplierMemory.{MultiplierMemory}
+use Rattle.thiele_search.specs.declared.majorant.HitSums.{HitSums}
 use Rattle.thiele_search.specs.declared.search.Aids.{Aids}
 use Rattle.thiele_search.specs.Steps.Columns.{AreColumnsOf}
-use Rattle.thiele_search.specs.Steps.Paired.{HasSums}
-use Rattle.thiele_search.specs.Steps.Priced.{HasRoom, IsPriced}
+use Rattle.thiele_search.specs.Steps.Paired.{AreSums}
+use Rattle.thiele_search.specs.Steps.Priced.{IsPriced}
 
 -- the value is that of the set, in an election and under a rule that can be searched
 pub record IsValued (tally : Thiele) (set : List ℕ) (value : ℕ) : Type 0 where
@@ -24,14 +25,18 @@ KeepsColumns tally columns = MatchOption columns ⊤ (λ kept.
     AreColumnsOf tally kept.blocks.items kept.weights)
 
 -- the memory is for a search among the committees of this size, and the columns in it are those of the election
-pub record IsMemoryFor {A : Type 0} (tally : Thiele) (k : ℕ) (columns : Option (Columns A))
-    (multipliers : Option (MultiplierMemory A)) : Type 0 where
+pub record IsMemoryFor {A : Type 0} (tally : Thiele) (k : ℕ) (columns : Option (Columns A)) : Type 0 where
   pub election : IsElection tally.election
   pub k_is : k ≡ tally.k
   pub some : 1 ≤ tally.k
   pub size : tally.k ≤ most_members
   pub columns_are : KeepsColumns tally columns
-  pub room : MatchOption multipliers ⊤ (HasRoom tally.election.rows)
+
+-- the sums are those of the rule, where they are kept, and small enough for majorants
+abbrev pub HasSums : Thiele → Option HitSums → Type 0
+HasSums tally sums = MatchOption sums ⊤ (λ given.
+    AreSums (increments tally.rule tally.k) given.scale given.unit given.sums
+    × ((h : ℕ) → slice_index given.sums h ≤ 2 ^ 26))
 
 -- the values are those of an election, and what a search is helped by is of it
 pub record IsAided {A : Type 0} (tally : Thiele) (aids : Aids A) : Type 0 where
@@ -39,5 +44,5 @@ pub record IsAided {A : Type 0} (tally : Thiele) (aids : Aids A) : Type 0 where
   pub size : tally.k ≤ most_members
   pub clones : AreClones tally.election.m tally.election.rows aids.clones
   pub columns : KeepsColumns tally aids.columns
-  pub prices : IsPriced tally aids.prices
+  pub priced : IsPriced tally aids.priced
   pub sums : HasSums tally aids.sums

@@ -1,20 +1,17 @@
 -- What a search keeps for pairs of members, and what it adds up over the voters.
-use Rattle.std.specs.Prelude.{ℕ, ◌≡◌, ◌+◌, ◌*◌, ◌/◌, ◌≤◌, ◌^◌, List, max, min, sum, sum_by, take, slice_index, Option, MatchOption, ⊤}
+use Rattle.std.specs.Prelude.{ℕ, ◌≡◌, ◌+◌, ◌*◌, ◌/◌, ◌≤◌, ◌^◌, List, max, min, sum, sum_by, take, slice_index}
 use Rattle.ballot_base.specs.Limits.{most_candidates}
 use Rattle.ballot_base.specs.Ballots.{Row}
 use Rattle.ballot_base.specs.CandSet.{common_members}
-use Rattle.ballot_base.specs.Increments.{increments}
-use Rattle.tie_walk.specs.Values.{Thiele, thiele_value}
+use Rattle.tie_walk.specs.Values.{thiele_value}
 use Rattle.tie_search.specs.Completions.{IsCompletion}
 use Rattle.thiele_search.specs.Pairs.{pair_sum, row_sum}
-use Rattle.thiele_search.specs.declared.majorant.HitSums.{HitSums}
 use Rattle.thiele_search.specs.declared.majorant.Majorant.{Majorant}
 
 -- the sums are what each number of hits gives, times the scale, in units, rounded up or higher
 pub record AreSums (weights : List ℕ) (scale unit : ℕ) (sums : List ℕ) : Type 0 where
   pub some : 1 ≤ unit
   pub up : (h : ℕ) → h ≤ most_candidates → scale * sum (take h weights) ≤ unit * slice_index sums h
-  pub small : (h : ℕ) → slice_index sums h ≤ 2 ^ 26
 
 -- no number of a majorant is too large
 pub record IsSmallMajorant (majorant : Majorant) : Type 0 where
@@ -67,8 +64,3 @@ pub record AreSmall (kept : ℕ) (worths table : List ℕ) : Type 0 where
 abbrev pub IsRowSum : List ℕ → List ℕ → List ℕ → ℕ → ℕ → ℕ → ℕ → Type 0
 IsRowSum worths table free left raise i sum =
     (threshold : ℕ) × (sum ≡ row_sum (slice_index worths) (overlap_at table) free left raise threshold i)
-
--- the sums are those of the rule, where they are kept
-abbrev pub HasSums : Thiele → Option HitSums → Type 0
-HasSums tally sums = MatchOption sums ⊤ (λ given.
-    AreSums (increments tally.rule tally.k) given.scale given.unit given.sums)

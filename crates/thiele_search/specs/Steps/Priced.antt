@@ -1,43 +1,18 @@
--- Rows with the multipliers that were chosen for them, and the prices that a search keeps.
-use Rattle.std.specs.Prelude.{ℕ, suc, ◌≡◌, ◌≤◌, List, [], ◌∷◌, length, slice_index, Option, MatchOption, ⊤}
-use Rattle.ballot_base.specs.Limits.{most_candidates}
-use Rattle.ballot_base.specs.Ballots.{Row}
+-- The prices that a search keeps.
+use Rattle.std.specs.Prelude.{◌≡◌, ℕ, List, [], Option, MatchOption, ⊤}
+use Rattle.std.specs.List.{range_with_len}
 use Rattle.ballot_base.specs.Increments.{increments}
 use Rattle.tie_walk.specs.Values.{Thiele}
-use Rattle.thiele_search.specs.Prices.{AreRounded, Priced, base, price}
-use Rattle.thiele_search.specs.declared.multipliers.MultiplierMemory.{MultiplierMemory}
-use Rattle.thiele_search.specs.declared.prices.Prices.{Prices}
+use Rattle.thiele_search.specs.Steps.Paired.{AreSums, AreTotals}
+use Rattle.thiele_search.specs.declared.prices.Priced.{Priced}
 
--- what hits give is multiplied by this, so that there are multipliers between two increments
-abbrev pub scale : ℕ
-scale = 4096
-
--- for how many rows multipliers are chosen at most
-abbrev pub most_rows : ℕ
-most_rows = 8192
-
--- there is memory for two multipliers of each row, and there are not too many rows
-pub record HasRoom {A : Type 0} (rows : List Row) (memory : MultiplierMemory A) : Type 0 where
-  pub few : length rows ≤ most_rows
-  pub tried : length memory.tried.items ≡ length rows
-  pub best : length memory.best.items ≡ length rows
-
--- the rows, each with the multiplier of its number
-unfoldable pub priced_by : (ℕ → ℕ) → List Row → List Priced
-priced_by multiplier [] = []
-priced_by multiplier (row ∷ rows) = (row, multiplier 0) ∷ priced_by (λ i. multiplier (suc i)) rows
-
--- What all voters keep, and the price of each candidate, by some weights and multipliers. The weights are those of the
--- rule in larger units, rounded up.
-pub record ArePrices (tally : Thiele) (unit all_keep : ℕ) (worths : List ℕ) : Type 0 where
-  pub weights : List ℕ
-  pub multiplier : ℕ → ℕ
-  pub some : 1 ≤ unit
-  pub rounded : AreRounded (increments tally.rule tally.k) unit weights
-  pub keep : all_keep ≡ base weights scale (priced_by multiplier tally.election.rows)
-  pub prices : (n : ℕ) → n ≤ most_candidates
-      → slice_index worths n ≡ price (priced_by multiplier tally.election.rows) n
+-- no committee of k is worth more than what all keep and the prices of its members
+pub record ArePrices {A : Type 0} (tally : Thiele) (priced : Priced A) : Type 0 where
+  pub k_is : priced.k ≡ tally.k
+  pub sums : AreSums (increments tally.rule tally.k) priced.given.scale priced.given.unit priced.given.sums
+  pub totals : AreTotals (increments tally.rule tally.k) priced.given.scale priced.given.unit tally.election.m
+      tally.election.rows [] (range_with_len 1 tally.election.m) tally.k priced.whole.kept priced.whole.worths []
 
 -- the prices are those of the election, where they are kept
-abbrev pub IsPriced : Thiele → Option Prices → Type 0
-IsPriced tally prices = MatchOption prices ⊤ (λ kept. ArePrices tally kept.unit kept.base kept.worths)
+abbrev pub IsPriced : {A : Type 0} → Thiele → Option (Priced A) → Type 0
+IsPriced tally priced = MatchOption priced ⊤ (ArePrices tally)
