@@ -24,16 +24,20 @@ const WHOLE: u64 = 1024;
 /// A direction is counted in parts of which so many are a hit.
 const HIT: i64 = 64;
 
-/// Of the gain that is lacking, so much has to be in sight: the last rounds' gain, repeated in those that are left.
+/// After so many rounds each it is judged whether the bound falls fast enough.
 const ROUNDS_BETWEEN: u16 = 3;
+
+/// A fall of less than this part of the gap is none.
+const LEAST_FALL: u128 = 8192;
 
 /// How long multipliers are moved.
 #[derive(Clone, Copy)]
 pub(crate) struct Effort {
     /// So many rounds at most.
     rounds: u16,
-    /// The part of the gap that the first step closes, and that below which no step is made.
+    /// The part of the gap that the first step closes, of `WHOLE`.
     pace: u64,
+    /// It ends if steps get shorter than this.
     least_pace: u64,
     /// After so many rounds without a lower bound the steps are made shorter.
     patience: u8,
@@ -222,7 +226,8 @@ impl<A: Allocator + Copy> PriceSearch<'_, A> {
             if square == 0 {
                 break;
             }
-            self.multipliers.step(progress.length(square), self.given.increment(0));
+            self.multipliers
+                .step(progress.length(square), self.given.increment(0));
         }
         self.multipliers.restore();
         progress.end(Some(here.free), lowest)
@@ -252,7 +257,9 @@ impl<A: Allocator + Copy> PriceSearch<'_, A> {
                 ..multiplier
             });
             let size = u128::from(direction.unsigned_abs());
-            square = square.saturating_add(u128::from(voters).saturating_mul(size.saturating_mul(size)));
+            square = square.saturating_add(u128::from(voters).saturating_mul(size.saturating_mul(
+                size,
+            )));
         }
         square
     }
@@ -304,7 +311,7 @@ impl Progress {
         self.rounds = self.rounds.saturating_add(1);
         self.bound = bound;
         let fall = self.lowest.saturating_sub(bound);
-        self.stalled = if fall > bound.saturating_sub(self.goal) / 8192 {
+        self.stalled = if fall > bound.saturating_sub(self.goal) / LEAST_FALL {
             0
         } else {
             self.stalled.saturating_add(1)

@@ -160,9 +160,7 @@ impl Prices {
     pub(crate) fn dearest(&self, free: CandSet, left: u8) -> CandSet {
         let lowest = self.worths.nth_greatest(free, left);
         let mut dearest = self.worths.at_least(free, lowest);
-        let dearer = self
-            .worths
-            .at_least(free, lowest.saturating_add(1));
+        let dearer = self.worths.at_least(free, lowest.saturating_add(1));
         for candidate in dearest.minus(dearer).members() {
             if dearest.len() > left {
                 dearest = dearest.without(candidate);
@@ -175,7 +173,6 @@ impl Prices {
     pub(crate) fn bound(&self, dearest: CandSet) -> u128
         requires { (n : ℕ) → slice_index self.now.worths n ≤ 2 ^ 78 }
     {
-        self.kept
-            .saturating_add(self.worths.excess(dearest, 0))
+        self.kept.saturating_add(self.worths.excess(dearest, 0))
     }
 }

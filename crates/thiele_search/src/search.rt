@@ -1,12 +1,14 @@
 //! The bounds of the committees that complete a set, under a Thiele rule, and which of them are worth asking for.
 //!
 //! The value of the set and the gains of those who join bound a committee, since gains only fall as a set grows
-//! (`laws::gains`; Nemhauser and Wolsey, Maximizing submodular set functions, 1981). Prices come before the gains are
-//! counted, and under `cc` the number of voters whom the free candidates cover.
+//! (`laws::gains`; Nemhauser and Wolsey, Maximizing submodular set functions, 1981). The prices of the whole election
+//! come before the gains are counted, and under `cc` the number of voters whom the free candidates cover.
 //!
 //! While enough seats are left, a bound by pairs of candidates comes before the gains as well (module `pairs`). It
-//! counts a voter who approves two members less than twice. A search begins without it, since a short one is quicker
-//! so. If few sets are given up for it, it is left out again (module `trials`).
+//! counts a voter who approves two members less than twice. Then come prices of the node itself, whose multipliers are
+//! moved (module `multipliers`). Ballots that were drawn independently are cut short by pairs, and ballots with
+//! structure by prices. A search begins without both, since a short one is quicker so. Each is left out again where it
+//! does not pay (module `trials`).
 ghost use Rattle.std.specs.Prelude.{◌≡◌, ℕ, ◌≤◌, true, false, IsTrue, slice_index};
 ghost use Rattle.ballot_base.specs.CandSet.{has_member};
 ghost use Rattle.ballot_base.specs.Lists.{IsIncreasing};
@@ -19,8 +21,8 @@ ghost use Rattle.tie_search.specs.Completions.{IsNode, IsOutOfReach, tally_value
 
 use crate::columns::Columns;
 use crate::majorant::HitSums;
-use crate::pairs::PairSearch;
 use crate::multipliers::{AGAIN, Effort, NODE};
+use crate::pairs::PairSearch;
 use crate::prices::{PriceSearch, Priced};
 use crate::trials::{Moves, Uses};
 use ballot_base::{CandSet, Clones, Profile, ThieleRule, Worths};
@@ -138,7 +140,7 @@ impl<'a, A: Allocator + Copy> Search<'a, A> {
             return Some(node.free);
         };
         self.moves.work(0);
-        if !self.moves.are_due(node.left) {
+        if !may_move(self.tally.rule()) || !self.moves.are_due(node.left) {
             return Some(node.free);
         }
         let search = PriceSearch {
@@ -149,7 +151,8 @@ impl<'a, A: Allocator + Copy> Search<'a, A> {
         };
         let moved = search.narrowed(node, effort);
         let after = moved.free.map(|free| free.len());
-        self.moves.note(node.left, node.free.len(), after, moved.rounds);
+        self.moves
+            .note(node.left, node.free.len(), after, moved.rounds);
         moved.free
     }
 
@@ -340,6 +343,11 @@ impl<'a, A: Allocator + Copy> Narrowing for Search<'a, A> {
         };
         Node { free, ..child }
     }
+}
+
+/// Whether multipliers may be moved at a node. Under `cc` a set is passed so quickly that moves cost more than they save.
+fn may_move(rule: ThieleRule) -> bool {
+    rule != ThieleRule::Cc
 }
 
 /// With fewer seats left than this, counting gains is quicker than counting pairs. Under `cc` it always is.

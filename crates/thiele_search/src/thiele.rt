@@ -201,7 +201,10 @@ impl<'a, A: Allocator + Copy> Searchable for ThieleSearch<'a, A> {
 const MOST_ROWS: usize = 8192;
 
 /// Multipliers for the rows of a profile. None if there are too many rows.
-fn multipliers_for<A: Allocator + Copy + Drop>(alloc: A, profile: &Profile<A>) -> Result<Option<Multipliers<A>>, AllocError> {
+fn multipliers_for<A: Allocator + Copy + Drop>(
+    alloc: A,
+    profile: &Profile<A>,
+) -> Result<Option<Multipliers<A>>, AllocError> {
     let rows = profile.rows();
     if rows > MOST_ROWS {
         return Ok(None);

@@ -1,5 +1,5 @@
 -- The prices that a search keeps.
-use Rattle.std.specs.Prelude.{◌≡◌, ℕ, List, [], Option, MatchOption, ⊤}
+use Rattle.std.specs.Prelude.{◌≡◌, [], Option, MatchOption, ⊤}
 use Rattle.std.specs.List.{range_with_len}
 use Rattle.ballot_base.specs.Increments.{increments}
 use Rattle.tie_walk.specs.Values.{Thiele}

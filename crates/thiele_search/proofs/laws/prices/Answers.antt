@@ -1,4 +1,4 @@
-use Rattle.std.proofs.Common.{ℕ, ◌≤◌, List, [], ◌∷◌, arith, min}
+use Rattle.std.proofs.Common.{ℕ, List, [], ◌∷◌, arith, min}
 use Rattle.std.specs.List.{AllByRecursion}
 use Rattle.ballot_base.specs.Ballots.{Row, hits}
 use Rattle.thiele_search.specs.Pairs.{IsMajorant}

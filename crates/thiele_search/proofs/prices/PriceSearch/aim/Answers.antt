@@ -1,4 +1,4 @@
-use Rattle.std.proofs.Common.{◌≡◌, ◌+◌, ◌≤◌, ap, arith, length}
+use Rattle.std.proofs.Common.{ap, arith, length}
 use Rattle.tie_walk.proofs.RowSums.{length-common}
 use Rattle.thiele_search.proofs.PairBounds.PairTotals.{hits-both, row-up}
 use Rattle.thiele_search.proofs.prices.PriceSearch.aim.Goals as goal

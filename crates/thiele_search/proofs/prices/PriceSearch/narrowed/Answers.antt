@@ -53,7 +53,7 @@ next g c weights are =
     let node = c.args.node.now in
     let inv = c.loop-round.invariant in
     further (thiele_value weights e.rows) e.m node.set node.free node.left self.least c.loop-round.here c.in-Some.free inv.set inv.left (inv.narrowed weights are)
-        (c.in-Some.ensures weights (c.prices-prices.ensures.totals weights are))
+    (c.in-Some.ensures weights (c.prices-prices.ensures.totals weights are))
 
 still-node : (g : _) (c : In-Some g) → IsNode c.args.self.now.profile.now.m c.args.node.now.set c.in-Some.free
 still-node g c =
@@ -83,8 +83,8 @@ returns g c weights are =
     let all : IsNarrowed V e.m node.set node.free node.left self.least c.loop-round-test.here.free = elim c.loop-round-test.branch [
       | else-loop-round-test w ↦ rw w.here-is (inv.narrowed weights are)
       | then-loop-round-test+in-Some+in-End w ↦ rw w.here-is (further V e.m node.set node.free node.left self.least c.loop-round.here w.in-Some.free inv.set inv.left (inv.narrowed weights are)
-      (w.in-Some.ensures weights (w.prices-prices.ensures.totals weights are)))
+          (w.in-Some.ensures weights (w.prices-prices.ensures.totals weights are)))
       | then-loop-round-test+in-Some+then-square-eq0 w ↦ rw w.here-is (further V e.m node.set node.free node.left self.least c.loop-round.here w.in-Some.free inv.set inv.left (inv.narrowed weights are)
-      (w.in-Some.ensures weights (w.prices-prices.ensures.totals weights are)))
+          (w.in-Some.ensures weights (w.prices-prices.ensures.totals weights are)))
     ] in
     rw c.end-2.ensures all

@@ -1,12 +1,10 @@
-use Rattle.std.proofs.Common.{◌≡◌, ℕ, ◌+◌, ◌*◌, ◌^◌, ◌<◌, ◌≤◌, ◌∙◌, true, cond, [], refl, sym, ap, subst, arith, get_or, length, min, take}
+use Rattle.std.proofs.Common.{◌≡◌, ℕ, ◌+◌, ◌*◌, ◌^◌, ◌≤◌, ◌∙◌, true, cond, [], refl, sym, ap, subst, arith, get_or, length, min, take}
 use Rattle.std.proofs.Math.Nat.{mul-le-mul_left}
-use Rattle.std.proofs.lemmas.List.Sums.{sum_by-take-le}
 use Rattle.ballot_base.specs.CandSet.{has_member}
-use Rattle.ballot_base.specs.Ballots.{Row, hits, voter_count}
+use Rattle.ballot_base.specs.Ballots.{Row, hits}
 use Rattle.tie_walk.proofs.RowSums.{length-common}
-use Rattle.thiele_search.specs.Steps.Paired.{AreTotals, overlap_at}
-use Rattle.thiele_search.proofs.PairBounds.OverlapLemmas.{portion}
-use Rattle.thiele_search.proofs.PairBounds.PairTotals.{hits-both, portion-most, row-up, totals-more, totals-none, voters-more, voters-room}
+use Rattle.thiele_search.specs.Steps.Paired.{AreTotals}
+use Rattle.thiele_search.proofs.PairBounds.PairTotals.{hits-both, portion-most, row-up, totals-more, totals-none, voters-more}
 use Rattle.tie_search.proofs.HitLemmas.{free-common}
 use Rattle.tie_search.proofs.SearchLemmas.{part-most}
 use Rattle.thiele_search.proofs.prices.PriceSearch.prices.Goals as goal

@@ -1,4 +1,4 @@
-use Rattle.std.proofs.Common.{◌≡◌, ℕ, ◌*◌, ◌^◌, ◌≤◌, List, [], take, get_or}
+use Rattle.std.proofs.Common.{ℕ, ◌*◌, ◌^◌, ◌≤◌, List, [], take, get_or}
 use Rattle.ballot_base.specs.Ballots.{voter_count}
 use Rattle.thiele_search.specs.Steps.Paired.{AreSums, AreTotals}
 use Rattle.thiele_search.proofs.prices.PriceSearch.prices.Given as goal

@@ -1,4 +1,4 @@
-use Rattle.std.proofs.Common.{◌≡◌, ◌∙◌, [], refl, subst, arith}
+use Rattle.std.proofs.Common.{[], refl, subst, arith}
 use Rattle.ballot_base.specs.Increments.{increments}
 use Rattle.ballot_base.specs.Lists.{IsIncreasing}
 use Rattle.tie_walk.proofs.LawLemmas.{IsIncreasing-range}

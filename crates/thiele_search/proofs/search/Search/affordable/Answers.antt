@@ -2,7 +2,7 @@ use Rattle.std.proofs.Common.{◌≡◌, ℕ, ◌+◌, ◌-◌, ◌*◌, ◌≤�
 use Rattle.std.proofs.Math.Nat.{mul-le-mul_left}
 use Rattle.ballot_base.specs.CandSet.{common_members}
 use Rattle.tie_search.specs.Completions.{tally_value}
-use Rattle.tie_search.proofs.NarrowedLemmas.{narrowed-members, narrowed-none}
+use Rattle.tie_search.proofs.NarrowedLemmas.{narrowed-members}
 use Rattle.thiele_search.specs.Steps.Priced.{ArePrices}
 use Rattle.thiele_search.proofs.PairBounds.PairLemmas.{sum-less}
 use Rattle.thiele_search.proofs.PriceBounds.{all-completed, all-members}
