@@ -1,23 +1,16 @@
 -- Values in units, and what the prices of a whole election say of a set.
-use Rattle.std.proofs.Common.{◌≡◌, ℕ, ◌+◌, ◌*◌, ◌<◌, ◌≤◌, not, List, [], refl, ap, arith, inl, inr, length, filter, sum_by, slice_get, Some}
+use Rattle.std.proofs.Common.{◌≡◌, ℕ, ◌+◌, ◌*◌, ◌<◌, ◌≤◌, not, List, [], refl, ap, arith, inl, inr, length, filter, sum_by}
 use Rattle.std.specs.Int.{div_ceil}
 use Rattle.std.specs.List.{range_with_len}
 use Rattle.std.proofs.Math.Nat.{mul-le-mul_right}
 use Rattle.std.proofs.lemmas.Bool.{cases_lt}
 use Rattle.std.proofs.lemmas.Grind.{div_ceil_times}
 use Rattle.std.proofs.lemmas.List.Filters.{sum_by-filter_both}
-use Rattle.ballot_base.specs.Limits.{most_voters}
 use Rattle.ballot_base.specs.CandSet.{common_members, has_member}
-use Rattle.ballot_base.specs.Ballots.{Row, voter_count}
 use Rattle.tie_search.specs.Completions.{IsNode, IsCompletion}
-use Rattle.thiele_search.proofs.ColumnLemmas.{voters-part}
 use Rattle.tie_search.proofs.CompletionLemmas.{completion-inside, completion-outside, member-high, member-low}
 use Rattle.tie_walk.proofs.LawLemmas.{IsIncreasing-range}
 use Rattle.tie_walk.proofs.StepLemmas.{has_member-range}
-
--- no row has more voters than there may be
-pub row-voters : (rows : List Row) (i : ℕ) (row : Row) → voter_count rows ≤ most_voters → slice_get rows i ≡ Some row → row.1 ≤ most_voters
-row-voters rows i row few at = omega (arith, few, voters-part rows i row at)
 
 -- so many units as it takes are enough
 pub ceil-high : (n unit : ℕ) → 1 ≤ unit → n ≤ unit * div_ceil n unit

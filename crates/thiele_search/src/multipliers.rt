@@ -3,7 +3,8 @@
 //!
 //! Round by round, the multiplier of a row goes up if the dearest candidates hit its ballot too rarely, and down if too
 //! often. There is one array of multipliers for a whole search. They are changed in place and never restored when the
-//! search goes back: any are right, and the last ones are a good beginning for the next node. Only their range is proved.
+//! search goes back: any are right, and the last ones are a good beginning for the next node. Only their range is
+//! proved.
 ghost use Rattle.std.specs.Prelude.{◌≡◌, ℕ, List, ◌^◌, ◌≤◌, ◌+◌, [], IfOk, length, slice_index};
 ghost use Rattle.ballot_base.specs.Limits.{most_candidates};
 ghost use Rattle.tie_walk.specs.Values.{thiele_value};
@@ -128,8 +129,8 @@ impl<A: Allocator + Copy> Multipliers<A> {
         }
     }
 
-    /// The multiplier of a row with so many hits and up to `most` more: between the increments of the first of these and
-    /// of the last.
+    /// The multiplier of a row with so many hits and up to `most` more. It is moved between what the first of these gives
+    /// and what the hit after them would.
     pub(crate) fn within(&self, i: usize, given: &HitSums, before: u8, most: u8) -> u64
         requires fits { before + most ≤ most_candidates }
         ensures { result ≤ 2 ^ 46 }

@@ -1,7 +1,7 @@
 //! Prices of candidates: a bound that needs no gains.
 //!
-//! Choose any multiplier for each row. A voter then gives a completion of a set at most what is kept, and the multiplier
-//! for each hit after those at the set. What is kept is the most, over the numbers of hits that the node allows, that
+//! Choose any multiplier for each row. A voter then gives a completion of a set at most what is kept, and the
+//! multiplier for each hit after those at the set. What is kept is the most, over the numbers of hits that the node allows, that
 //! they give less the multiplier for each hit more. Summed over the voters, no completion of the set is worth more than
 //! what all keep and the prices of those who join (`laws::prices`; Fisher, The Lagrangian relaxation method for solving
 //! integer programming problems, 1981).
@@ -100,11 +100,13 @@ pub(crate) struct Priced<A: Allocator> {
     pub(crate) whole: Prices,
     // The candidates of the highest prices.
     pub(crate) dearest: CandSet,
+    // Whether they show that no committee is better than the one that they were made for.
+    pub(crate) show_best: bool,
 }
 
 impl<A: Allocator + Copy> Priced<A> {
-    /// Prices for the committees of k, low if one of them is about as good as this one. Returns `None` without memory for
-    /// them.
+    /// Prices for the committees of k, low if no committee is much better than this one. Returns `None` without memory
+    /// for them.
     pub(crate) fn of(
         memory: Option<Multipliers<A>>,
         profile: &Profile<A>,
@@ -134,14 +136,15 @@ impl<A: Allocator + Copy> Priced<A> {
             multipliers: &multipliers,
             least: values.value(candidates.common(good)).saturating_add(1),
         };
-        let dearest = search.narrowed(&all, ROOT).dearest;
+        let moved = search.narrowed(&all, ROOT);
         let whole = search.prices(&all);
         Some(Priced {
             k,
             given,
             multipliers,
             whole,
-            dearest,
+            dearest: moved.dearest,
+            show_best: moved.free.is_none(),
         })
     }
 }

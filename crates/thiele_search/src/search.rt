@@ -262,8 +262,8 @@ impl<'a, A: Allocator + Copy> Search<'a, A> {
         }
     }
 
-    /// The free candidates of a node that can still join, by the prices of the whole election, if they are kept. Returns
-    /// `None` if no completion of its set reaches the value.
+    /// The free candidates of a node that can still join, by the prices of the whole election, if they are kept.
+    /// Returns `None` if no completion of its set reaches the value.
     pub(crate) fn affordable(&self, node: &Node, least: u128) -> Option<CandSet>
         requires is_node { IsNode self.now.election.m node.now.set node.now.free }
         ensures { Narrows (tally_value self.now) self.now.election.m node.now least result }
@@ -345,7 +345,8 @@ impl<'a, A: Allocator + Copy> Narrowing for Search<'a, A> {
     }
 }
 
-/// Whether multipliers may be moved at a node. Under `cc` a set is passed so quickly that moves cost more than they save.
+/// Whether multipliers may be moved at a node. Under `cc` a set is passed so quickly that moves cost more than they
+/// save.
 fn may_move(rule: ThieleRule) -> bool {
     rule != ThieleRule::Cc
 }

@@ -139,6 +139,18 @@ impl<'a, A: Allocator + Copy> ThieleSearch<'a, A> {
         }
     }
 
+    /// Whether the good committee is known to be the best, and hundreds may tie with it, as is common under `cc`. Then
+    /// winners come sooner one by one.
+    fn is_good_best(&self) -> bool {
+        if self.values.rule() != ThieleRule::Cc {
+            return false;
+        }
+        match &self.aids.priced {
+            Some(priced) => priced.show_best,
+            None => false,
+        }
+    }
+
     /// A search, which may count pairs.
     fn search(&self, counts_pairs: bool) -> Search<'_, A>
         ensures { result ≡ self.now }
@@ -191,6 +203,9 @@ impl<'a, A: Allocator + Copy> Searchable for ThieleSearch<'a, A> {
     }
 
     fn tied(&self, k: u8) -> Option<Tied> {
+        if self.is_good_best() {
+            return None;
+        }
         let mut search = self.search(true);
         let all = search.node(CandSet::empty(), CandSet::all(self.m()), k);
         Some(descent::list_tied(&mut search, all, self.good_value(k)))

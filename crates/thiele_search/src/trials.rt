@@ -271,8 +271,8 @@ impl Level {
         }
     }
 
-    /// Enters a node. The work below it is counted if nothing is moved at it: below other nodes that are searched, there
-    /// is more than below those that moves end.
+    /// Enters a node. The work below it is counted only if nothing is moved at it: a node that moves do not end has more
+    /// work below it than most.
     fn enter(&mut self, done: u64, has_begun: bool) {
         self.nodes = self.nodes.wrapping_add(1);
         self.is_left_alone = self.nodes % LEFT_ALONE == 0;

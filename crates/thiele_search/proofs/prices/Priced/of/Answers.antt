@@ -20,8 +20,8 @@ all-free g c =
     let is_node : IsNode m [] c.all-candidates.result = record { set_within = tt; free_within = up; apart = λ n is. refl } in
     rw c.empty.ensures is_node
 
-pub narrowed-dearest-requires : goal.narrowed-dearest-requires
-narrowed-dearest-requires g c = record { is_node = all-free g (goal.at.narrowed-dearest-requires g c).After-empty }
+pub narrowed-moved-requires : goal.narrowed-moved-requires
+narrowed-moved-requires g c = record { is_node = all-free g (goal.at.narrowed-moved-requires g c).After-empty }
 
 pub prices-whole-requires : goal.prices-whole-requires
 prices-whole-requires g c = record { is_node = all-free g (goal.at.prices-whole-requires g c).After-empty }
