@@ -167,13 +167,13 @@ fn bend(step: u64, rise: u64, run: u64) -> u64
 }
 
 /// A table of majorants has places for fewer hits before than this.
-const PLACES_BEFORE: usize = 16;
+const PLACES_BEFORE: usize = 8;
 
 /// A table of majorants has places for ballots that approve fewer free candidates than this.
 const PLACES_OPEN: usize = 32;
 
 /// How many places a table of majorants has.
-const TABLE_PLACES: usize = 512;
+const TABLE_PLACES: usize = 256;
 
 /// The majorants of ballots if `left` of `free` candidates complete a set. Each is computed when it is first asked for,
 /// and kept. Contracts see the sums and `left`.

@@ -10,7 +10,7 @@ pub record Majorized : Type 0 where
 
 -- how many numbers of hits before, and of free candidates on a ballot, have a place
 abbrev pub places_before : ℕ
-places_before = 16
+places_before = 8
 
 abbrev pub places_open : ℕ
 places_open = 32
