@@ -31,6 +31,11 @@ const ROUNDS_BETWEEN: u16 = 3;
 /// A fall of less than this part of the gap is none.
 const LEAST_FALL: u128 = 8192;
 
+/// After so many rounds for a whole search it goes on only if the gap is less than such a part of the value. Ballots
+/// that were drawn independently leave more, whatever the multipliers, and pairs serve them.
+const ROUNDS_BEFORE_DOUBT: u16 = 100;
+const LARGE_GAP: u128 = 64;
+
 /// How long multipliers are moved.
 #[derive(Clone, Copy)]
 pub(crate) struct Effort {
@@ -129,8 +134,8 @@ impl<A: Allocator + Copy> Multipliers<A> {
         }
     }
 
-    /// The multiplier of a row with so many hits and up to `most` more. It is moved between what the first of these gives
-    /// and what the hit after them would.
+    /// The multiplier of a row with so many hits and up to `most` more. It is moved between what the first of these
+    /// gives and what the hit after them would.
     pub(crate) fn within(&self, i: usize, given: &HitSums, before: u8, most: u8) -> u64
         requires fits { before + most ≤ most_candidates }
         ensures { result ≤ 2 ^ 46 }
@@ -337,15 +342,19 @@ impl Progress {
         Next::Back
     }
 
-    /// Whether the bound falls too slowly.
+    /// Whether the bound falls too slowly, or will not be low.
     fn is_hopeless(&mut self) -> bool {
-        if !self.effort.is_hasty || self.rounds % ROUNDS_BETWEEN != 0 {
+        let gap = self.lowest.saturating_sub(self.goal);
+        if !self.effort.is_hasty {
+            return self.rounds == ROUNDS_BEFORE_DOUBT && gap > self.goal / LARGE_GAP;
+        }
+        if self.rounds % ROUNDS_BETWEEN != 0 {
             return false;
         }
         let gain = self.before.saturating_sub(self.lowest);
         let rounds = u128::from(self.effort.rounds.saturating_sub(self.rounds));
         self.before = self.lowest;
-        gain.saturating_mul(rounds) / 2 < self.lowest.saturating_sub(self.goal)
+        gain.saturating_mul(rounds) / 2 < gap
     }
 
     /// How far multipliers move by their directions.
