@@ -34,6 +34,7 @@ const LEAST_FALL: u128 = 8192;
 /// After so many rounds for a whole search it goes on only if the gap is less than such a part of the value. Ballots
 /// that were drawn independently leave more, whatever the multipliers, and pairs serve them.
 const ROUNDS_BEFORE_DOUBT: u16 = 100;
+
 const LARGE_GAP: u128 = 64;
 
 /// How long multipliers are moved.
