@@ -3,8 +3,8 @@ use Rattle.std.specs.Prelude.{◌≡◌, ℕ, ◌≤◌, true, false, List, [], 
 use Rattle.ballot_base.specs.Lists.{IsIncreasing}
 use Rattle.ballot_base.specs.CandSet.{has_member, with_member, without_member}
 
--- Each candidate of 1 to m has a class. With the candidate in the place of one of its class, a committee of the
--- candidates 1 to m has the same value.
+-- Each candidate from 1 to m has a class. A committee of the candidates 1 to m keeps its value if a candidate takes the
+-- place of a member of its class.
 abbrev pub AreAlike : (List ℕ → ℕ) → ℕ → (ℕ → List ℕ) → Type 0
 AreAlike value m class = (committee : List ℕ) (c d : ℕ) → IsIncreasing 1 m committee → 1 ≤ c → c ≤ m
     → has_member (class c) d ≡ true → has_member committee d ≡ true → has_member committee c ≡ false

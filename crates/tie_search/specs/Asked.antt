@@ -6,11 +6,11 @@ use Rattle.std.specs.Str.{bytes_eq}
 use Rattle.ballot_base.specs.Lists.{increasing_lists}
 use Rattle.tie_walk.specs.Winners.{winners}
 
--- whether some of the committees begins with the list
+-- whether one of the committees begins with the list
 abbrev pub begins_some : List (List ℕ) → List ℕ → Bool
 begins_some committees list = list_any (λ committee. bytes_eq (take (length list) committee) list) committees
 
--- how many lists of 1 to k of the candidates 1 to m begin some of the committees
+-- how many lists of 1 to k of the candidates 1 to m begin one of the committees
 abbrev pub beginnings : ℕ → ℕ → List (List ℕ) → ℕ
 beginnings m k committees =
     sum_by (λ size. length (filter (begins_some committees) (increasing_lists 1 m size))) (range_with_len 1 k)
@@ -25,7 +25,7 @@ pub record Asked (S : Type 0) : Type 0 where
   pub entered : ℕ
   pub questions : ℕ
 
--- What one call for the next winner gives: what was asked before it, the winner, and what was asked then.
+-- One call for the next winner: the state before it, the winner, and the state after it.
 pub record IsNextAsked (S : Type 0) (value : S → List ℕ → ℕ) (candidates : S → ℕ) (from : Asked S)
     (winner : Option (List ℕ)) (to : Asked S) : Type 0 where
   -- the first of the winners left, or None if none is left
@@ -34,7 +34,7 @@ pub record IsNextAsked (S : Type 0) (value : S → List ℕ → ℕ) (candidates
   pub same_k : to.k ≡ from.k
   pub same_start : to.after ≡ from.after
   pub entered_rises : from.entered ≤ to.entered
-  -- at the end, the sets that were entered are those that begin a winner, if there was no start
+  -- at the end, if there was no start, the sets that were entered are those that begin a winner
   pub all_entered : winner ≡ None → to.after ≡ None
       → to.entered ≡ beginnings (candidates to.search) to.k (winners (value to.search) (candidates to.search) to.k)
   -- no more questions than there are candidates and seats

@@ -1,17 +1,17 @@
--- Lists of the committees that tie for the greatest value.
+-- Lists of the committees that tie for the highest value.
 use Rattle.std.specs.Prelude.{◌≡◌, ℕ, ◌<◌, ◌≤◌, true, false, List, [], length, slice_index_or}
 use Rattle.ballot_base.specs.Lists.{IsIncreasing}
 use Rattle.tie_walk.specs.Winners.{best_value}
 use Rattle.tie_search.specs.Alike.{Becomes}
 use Rattle.tie_search.specs.declared.found.Tied.{Tied}
 
--- a committee of k of the candidates 1 to m with the greatest value
+-- a committee of k of the candidates 1 to m with the highest value
 pub record IsBest (value : List ℕ → ℕ) (m k : ℕ) (committee : List ℕ) : Type 0 where
   pub candidates : IsIncreasing 1 m committee
   pub size : length committee ≡ k
   pub best : value committee ≡ best_value value m k
 
--- how many committees are listed at most
+-- the maximum number of listed committees
 abbrev pub most_tied : ℕ
 most_tied = 256
 
@@ -24,7 +24,7 @@ abbrev pub AreDistinct : List (List ℕ) → ℕ → Type 0
 AreDistinct committees len =
     (i j : ℕ) → i < j → j < len → slice_index_or committees i [] ≡ slice_index_or committees j [] → ⊥
 
--- some committees with the greatest value, or if the list says so, all of them up to exchanges of clones
+-- some committees with the highest value; if the list says so, all of them up to exchanges of clones
 pub record AreBest (value : List ℕ → ℕ) (class : ℕ → List ℕ) (m k : ℕ) (tied : Tied) : Type 0 where
   pub some : 1 ≤ tied.len
   pub few : tied.len ≤ most_tied
@@ -32,8 +32,8 @@ pub record AreBest (value : List ℕ → ℕ) (class : ℕ → List ℕ) (m k : 
   pub all : tied.are_all ≡ true → (committee : List ℕ) → IsBest value m k committee
       → (other : List ℕ) × IsAmong tied.committees tied.len other × Becomes m class other committee
 
--- The committees with the greatest value, none of them twice: all up to exchanges of clones, or if there are more, as
--- many as are listed at most.
+-- The committees with the highest value, none of them twice: all up to exchanges of clones, or, if there are more, the
+-- maximum number of them.
 pub record AreTied (value : List ℕ → ℕ) (class : ℕ → List ℕ) (m k : ℕ) (tied : Tied) : Type 0 where
   pub best : AreBest value class m k tied
   pub full : tied.are_all ≡ false → tied.len ≡ most_tied

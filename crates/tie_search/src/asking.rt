@@ -1,11 +1,11 @@
 //! Winners that are found by asking for them.
 //!
-//! The winners still to come complete the branches of a stack, the first of them the last branch. Whether a winner
-//! completes a branch is asked once. If one does, the way goes down to the first: the next free candidate joins if a
-//! winner has it, and otherwise leaves with its clones. At each candidate that joins, the branch without it is left on
-//! the stack.
+//! A stack holds the branches that the winners still to come complete. The first of these winners completes the last
+//! branch, unless no winner does. One question decides that. If there is one, the way goes down to the first: the next
+//! free candidate joins if a winner has it, and otherwise leaves with its clones. When a candidate joins, the branch
+//! without it stays on the stack.
 //!
-//! A clone may leave because it reaches no more: with the candidate in its place, a winner would stay one
+//! The clones can leave as well: in a winner with one of them, the candidate could take its place
 //! (`proofs/BranchLemmas.antt`).
 ghost use Rattle.std.specs.Prelude.{◌≡◌, ◌+◌, ◌^◌, ◌<◌, ◌≤◌, ◌∷◌, ◌++◌, [], None, Some, true, false, length, option_to_list};
 ghost use Rattle.std.specs.List.{AllByRecursion};
@@ -21,11 +21,11 @@ use crate::searchable::Searchable;
 use arrayvec::ArrayVec;
 use ballot_base::{CandSet, PLACES};
 
-/// The committees with the greatest value that are still to come.
+/// The committees with the highest value that are still to come.
 #[derive(Drop)]
 pub(crate) struct Asking<S: Searchable> {
     pub(crate) best: Best<S>,
-    // One of them, the one that was found last.
+    // The committee with the highest value that was found last.
     found: CandSet,
     pub(crate) branches: ArrayVec<Branch, PLACES>,
     pub(crate) entered: u128,
@@ -33,7 +33,7 @@ pub(crate) struct Asking<S: Searchable> {
 }
 
 impl<S: Searchable> Asking<S> {
-    /// All are still to come.
+    /// All winners are still to come.
     pub(crate) fn all(best: Best<S>) -> Asking<S>
         requires { KnowsBest S.value_of S.class_of S.candidates best }
         ensures begun { IsBegun S.value_of S.class_of S.candidates best None result }
@@ -42,7 +42,7 @@ impl<S: Searchable> Asking<S> {
         Asking::of(best, branches)
     }
 
-    /// All that are later than the start are still to come.
+    /// All winners later than the start are still to come.
     pub(crate) fn after(best: Best<S>, start: CandSet) -> Asking<S>
         requires knows { KnowsBest S.value_of S.class_of S.candidates best }
         requires start { IsStart best.m best.k (Some start) }
@@ -52,7 +52,6 @@ impl<S: Searchable> Asking<S> {
         Asking::of(best, branches)
     }
 
-    /// Those that complete the branches are still to come.
     fn of(best: Best<S>, branches: ArrayVec<Branch, PLACES>) -> Asking<S>
         requires knows { KnowsBest S.value_of S.class_of S.candidates best }
         requires each { AllByRecursion (IsBranch best.m best.k) branches.items }
@@ -74,7 +73,7 @@ impl<S: Searchable> Asking<S> {
         }
     }
 
-    /// The first of those still to come.
+    /// The first of the winners still to come.
     pub(crate) fn next(&mut self) -> Option<CandSet>
         requires asking { IsAsking S.value_of S.class_of S.candidates self.old }
         requires fits { self.old.entered + to_enter S.value_of self.old.best self.old.branches.items < 2 ^ 127 }
@@ -96,7 +95,7 @@ impl<S: Searchable> Asking<S> {
         None
     }
 
-    /// The first that completes a branch, as the one that was found last does.
+    /// The first winner that completes a branch. The winner that was found last must complete it.
     fn first_of(&mut self, branch: Branch) -> CandSet
         requires way { IsOnTheWay S.value_of S.class_of S.candidates self.old branch }
         requires fits { self.old.entered
@@ -117,7 +116,7 @@ impl<S: Searchable> Asking<S> {
         branch.set
     }
 
-    /// The branch below it with the first that completes it.
+    /// One step down, to a branch that the same first winner completes.
     fn below(&mut self, branch: Branch) -> Branch
         requires way { IsOnTheWay S.value_of S.class_of S.candidates self.old branch }
         requires short { length branch.set < self.old.best.k }
@@ -146,7 +145,6 @@ impl<S: Searchable> Asking<S> {
             self.enter(Branch { set, free: others });
             return with;
         }
-        // A clone in its place reaches no more.
         let clones = self.best.search.clones().class(next);
         Branch {
             set,
@@ -154,8 +152,7 @@ impl<S: Searchable> Asking<S> {
         }
     }
 
-    /// Leaves a branch on the stack, while the way goes down to a set of one more. No other step goes down, and only
-    /// this one raises the count of sets.
+    /// Leaves the branch without a candidate on the stack, and counts the set with it. No other step counts sets.
     fn enter(&mut self, without: Branch)
         requires room { length self.old.branches.items < most_candidates }
         requires fits { self.old.entered < 2 ^ 127 }
@@ -169,7 +166,7 @@ impl<S: Searchable> Asking<S> {
         self.entered += 1;
     }
 
-    /// Whether a committee with the greatest value completes the branch. If one does, it is the one found last.
+    /// Whether a winner completes the branch. If one does, it becomes `found`.
     fn reaches(&mut self, branch: &Branch) -> bool
         requires asking { IsAsking S.value_of S.class_of S.candidates self.old }
         requires branch { IsBranch self.old.best.m self.old.best.k branch.now }
@@ -188,7 +185,7 @@ impl<S: Searchable> Asking<S> {
         true
     }
 
-    /// A committee with the greatest value that completes the branch.
+    /// A winner that completes the branch. A search looks for it only if nothing cheaper decides.
     fn winner_of(&mut self, branch: &Branch) -> Option<CandSet>
         requires asking { IsAsking S.value_of S.class_of S.candidates self.old }
         requires branch { IsBranch self.old.best.m self.old.best.k branch.now }
@@ -220,7 +217,7 @@ impl<S: Searchable> Asking<S> {
         }
     }
 
-    /// A committee with the greatest value that completes the branch, by a search. No other step searches.
+    /// Searches for a winner that completes the branch. No other step searches.
     fn ask(&mut self, branch: &Branch) -> Option<CandSet>
         requires knows { KnowsBest S.value_of S.class_of S.candidates self.old.best }
         requires branch { IsBranch self.old.best.m self.old.best.k branch.now }
@@ -234,7 +231,6 @@ impl<S: Searchable> Asking<S> {
     }
 }
 
-/// The branch that all committees complete.
 fn all_branches(m: u8) -> ArrayVec<Branch, PLACES>
     requires { m ≤ most_candidates }
     ensures { result.items ≡ first_branches m None }
@@ -247,7 +243,7 @@ fn all_branches(m: u8) -> ArrayVec<Branch, PLACES>
     branches
 }
 
-/// The branches that committees later than the start complete.
+/// The branches that exactly the committees later than the start complete.
 fn later_branches(start: CandSet, m: u8) -> ArrayVec<Branch, PLACES>
     requires most { m ≤ most_candidates }
     requires candidates { IsIncreasing 1 m start }

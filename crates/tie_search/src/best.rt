@@ -1,12 +1,11 @@
-//! The greatest value of a committee, and which branches a committee with it completes.
+//! The highest value of a committee, and which branches a committee with this value completes.
 //!
-//! If what is searched lists all committees with the greatest value, each question is answered from the list. Otherwise
-//! the greatest value is found by searches for more than the best known, until one finds nothing, and questions are
-//! answered by further searches.
+//! A search may list all committees with the highest value; then the list answers each question. Otherwise searches for
+//! more than the best known value are made until one finds nothing, and questions are answered by further searches.
 //!
-//! Before such a search two committees are tried: the one that was found last with clones in the place of others, and
-//! the set with its first free candidates. They are tested by their members and value, so any may be tried. The first
-//! committees are tried since the first winner is looked for: if one of them wins, it serves all the way down.
+//! Two committees are tried before such a search: the one found last, after exchanges of clones, and the set with its
+//! first free candidates. Each is tested by its members and value, so any committee may be tried. The first free
+//! candidates are tried because the first winner is wanted: if they win, their committee serves all the way down.
 ghost use Rattle.std.specs.Prelude.{◌≡◌, ◌+◌, ◌≤◌, [], true, MatchOption, length, ⊤};
 ghost use Rattle.ballot_base.specs.Limits.{most_candidates};
 ghost use Rattle.ballot_base.specs.Lists.{IsIncreasing};
@@ -22,8 +21,7 @@ use crate::node::Node;
 use crate::searchable::Searchable;
 use ballot_base::CandSet;
 
-/// What is searched, and what is known of the committees of k with the greatest value: that value, and some of the
-/// committees.
+/// What is searched, and what is known of the committees of `k` with the highest value: that value and some of them.
 #[derive(Drop)]
 pub(crate) struct Best<S: Searchable> {
     pub(crate) search: S,
@@ -35,7 +33,7 @@ pub(crate) struct Best<S: Searchable> {
 }
 
 impl<S: Searchable> Best<S> {
-    /// The greatest value of a committee of k is found by search. It takes no memory.
+    /// Finds the highest value of a committee of `k` by search. It takes no memory.
     pub(crate) fn of(search: S, k: u8) -> Best<S>
         requires some { 1 ≤ k }
         requires fits { k ≤ S.candidates search }
@@ -57,7 +55,7 @@ impl<S: Searchable> Best<S> {
         }
     }
 
-    /// The set of a branch that is a whole committee, if it has the greatest value.
+    /// The set of a branch that is a whole committee, if it has the highest value.
     pub(crate) fn whole(&self, branch: &Branch) -> Option<CandSet>
         requires knows { KnowsBest S.value_of S.class_of S.candidates self.now }
         requires branch { IsBranch self.now.m self.now.k branch.now }
@@ -70,8 +68,8 @@ impl<S: Searchable> Best<S> {
         Some(branch.set)
     }
 
-    /// A committee of the list of all that may become one that completes the branch if clones take the place of members.
-    /// Returns `None` only if no committee with the greatest value completes the branch.
+    /// A committee of the list, which must have all. It may become one that completes the branch if clones take the
+    /// place of members. Returns `None` only if no committee with the highest value completes the branch.
     pub(crate) fn listed(&self, branch: &Branch) -> Option<CandSet>
         requires knows { KnowsBest S.value_of S.class_of S.candidates self.now }
         requires branch { IsBranch self.now.m self.now.k branch.now }
@@ -89,8 +87,8 @@ impl<S: Searchable> Best<S> {
         None
     }
 
-    /// Such a committee, if one is shown without a search: `found` with clones in the place of others, or the set with
-    /// its first free candidates.
+    /// A committee with the highest value that completes the branch, if one of two tries is such a committee: `found`
+    /// after exchanges of clones, and the set with its first free candidates.
     pub(crate) fn shown(&self, found: CandSet, branch: &Branch) -> Option<CandSet>
         requires knows { KnowsBest S.value_of S.class_of S.candidates self.now }
         requires branch { IsBranch self.now.m self.now.k branch.now }
@@ -104,7 +102,6 @@ impl<S: Searchable> Best<S> {
         self.wins(first, branch).then_some(first)
     }
 
-    /// Whether the committee has the greatest value and completes the branch.
     fn wins(&self, committee: CandSet, branch: &Branch) -> bool
         requires knows { KnowsBest S.value_of S.class_of S.candidates self.now }
         requires branch { IsBranch self.now.m self.now.k branch.now }
@@ -117,7 +114,7 @@ impl<S: Searchable> Best<S> {
         self.search.value(committee) >= self.value
     }
 
-    /// A committee with the greatest value that completes the branch, by a search.
+    /// Searches for a committee with the highest value that completes the branch.
     pub(crate) fn find(&self, branch: &Branch) -> Option<CandSet>
         requires knows { KnowsBest S.value_of S.class_of S.candidates self.now }
         requires branch { IsBranch self.now.m self.now.k branch.now }
@@ -133,7 +130,6 @@ impl<S: Searchable> Best<S> {
     }
 }
 
-/// A committee of size k with the greatest value.
 fn best_committee<S: Searchable>(search: &S, k: u8) -> CandSet
     requires some { 1 ≤ k }
     requires most { k ≤ most_candidates }
@@ -150,7 +146,7 @@ fn best_committee<S: Searchable>(search: &S, k: u8) -> CandSet
     best
 }
 
-/// A committee of size k to begin with: the one that the tally knows, or else the first.
+/// A committee of size `k` to begin with: the one that the tally suggests; failing that, the first.
 fn first_committee<S: Searchable>(search: &S, k: u8) -> CandSet
     requires some { 1 ≤ k }
     requires most { k ≤ most_candidates }
@@ -164,7 +160,7 @@ fn first_committee<S: Searchable>(search: &S, k: u8) -> CandSet
     }
 }
 
-/// A committee of size k with a greater value, if there is one. No committee of this size is worth more than `most`.
+/// A committee of size `k` with a higher value, if there is one. No committee of this size is worth more than `most`.
 fn better_than<S: Searchable>(search: &S, committee: CandSet, k: u8, most: u128) -> Option<CandSet>
     requires candidates { IsIncreasing 1 (S.candidates search.now) committee }
     requires most { IsBound (S.value_of search.now) (S.candidates search.now) 0 [] k most }

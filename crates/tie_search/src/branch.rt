@@ -1,4 +1,4 @@
-//! Branches: sets that committees may begin with, and who may still join them.
+//! Branches: sets that committees may begin with, and the candidates that may still join them.
 ghost use Rattle.std.specs.Prelude.{◌≡◌, ℕ, ◌≤◌, true, List};
 ghost use Rattle.ballot_base.specs.Lists.{IsIncreasing};
 ghost use Rattle.tie_search.specs.Alike.{AreClasses, Becomes, HasClasses};
@@ -6,7 +6,8 @@ ghost use Rattle.tie_search.specs.Steps.Branches.{IsBranch, completes};
 
 use ballot_base::{CandSet, Clones};
 
-/// A set of candidates, and later ones who may join it. A committee of the set and of some of these completes it.
+/// A set of candidates, and later candidates that are free to join it. A committee completes the branch if it consists
+/// of the set and some of the free candidates.
 #[derive(Clone, Copy)]
 pub(crate) struct Branch {
     pub(crate) set: CandSet,
@@ -23,21 +24,21 @@ impl Default for Branch {
 }
 
 impl Branch {
-    /// Whether the committee is the set and some of the free candidates.
     pub(crate) fn is_completed_by(&self, committee: CandSet) -> bool
         ensures { result ≡ completes self.now committee }
     {
         committee.includes(self.set) && self.set.union(self.free).includes(committee)
     }
 
-    /// Whether the committee may become one that completes the branch if clones take the place of members.
+    /// Whether the committee may become one that completes the branch if clones take the place of members. Only `false`
+    /// is certain.
     pub(crate) fn suits(&self, clones: &Clones, committee: CandSet) -> bool
         ensures { (m k : ℕ) (class : ℕ → List ℕ) (other : List ℕ) → IsBranch m k self.now
             → HasClasses m class clones.now → ((c : ℕ) → 1 ≤ c → c ≤ m → IsIncreasing 1 m (class c))
             → AreClasses m class → IsIncreasing 1 m committee → Becomes m class committee other
             → completes self.now other ≡ true → result ≡ true }
     {
-        // Clones have to take the place of who is outside of the branch, and of members whom the committee lacks.
+        // Clones must take the place of members outside the branch, and of members of the set that the committee lacks.
         let outside = committee.minus(self.set.union(self.free));
         let missing = self.set.minus(committee);
         for member in outside.union(missing).members() {
@@ -51,14 +52,14 @@ impl Branch {
         true
     }
 
-    /// The set and its first free candidates, as many as make a committee of k. Any answer is right.
+    /// The set, filled up to `k` members with its first free candidates. The caller tests it, so any set would do.
     pub(crate) fn first(&self, k: u8) -> CandSet {
         self.set
             .union(first_of(self.free, k.saturating_sub(self.set.len())))
     }
 
-    /// The first committee like another one that completes the branch: clones take the place of members. Returns the
-    /// other committee if there are too few of them. Any answer is right.
+    /// The first committee that completes the branch and comes from `committee` by exchanges of clones. Returns
+    /// `committee` itself if there are too few clones. The caller tests it, so any set would do.
     pub(crate) fn exchanged(&self, clones: &Clones, committee: CandSet) -> CandSet {
         let mut made = self.set;
         let mut settled = CandSet::empty();

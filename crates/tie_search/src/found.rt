@@ -1,9 +1,9 @@
 //! What a search has found, and which value it still looks for.
 //!
-//! A search for all tied committees begins with the value of a good one. A committee of a greater value takes the place
-//! of all that were listed, and from then on this value is looked for. If more tie than can be listed, the list stays
-//! full, and only greater values still count. A candidate who was tried with a set is no longer free to join it, so no
-//! committee is met twice.
+//! A search for all tied committees begins with the value of a good one. A committee with a higher value replaces all
+//! that were listed, and from then on its value is looked for. If more tie than can be listed, the list stays full, and
+//! only higher values still count. A candidate that was tried with a set is no longer free to join it, so no committee
+//! is met twice.
 ghost use Rattle.std.specs.Prelude.{◌≡◌, ℕ, ◌^◌, ◌<◌, ◌≤◌, [], List, false, true, slice_index_or, MatchOption};
 ghost use Rattle.ballot_base.specs.CandSet.{has_member};
 ghost use Rattle.tie_search.specs.Steps.Found.{Advances, AreListed, IsListed, IsSettled};
@@ -11,20 +11,20 @@ ghost use Rattle.tie_search.specs.Tied.{IsAmong, most_tied};
 
 use ballot_base::CandSet;
 
-/// How many tied committees are listed at most.
+/// The maximum number of tied committees that are listed.
 pub const MOST_TIED: usize = 256;
 
-/// Committees of the greatest value: the first `len` of the array, at least one.
+/// Committees with the highest value: the first `len` of the array, at least one.
 #[derive(Drop)]
 pub struct Tied {
     pub committees: [CandSet; MOST_TIED],
     pub len: usize,
-    /// Whether each other committee of this value becomes one of these if clones take the place of members.
+    /// Whether every other committee with this value becomes a listed one if clones take the place of members.
     pub are_all: bool,
 }
 
 impl Tied {
-    /// One committee, beside which there may be others.
+    /// Only this committee is listed. There may be others.
     pub fn one(committee: CandSet) -> Tied
         ensures first { slice_index_or result.committees 0 [] ≡ committee }
         ensures one { result.len ≡ 1 }
@@ -46,12 +46,12 @@ impl Tied {
     }
 }
 
-/// What a search wants.
+/// Which committees a search looks for.
 #[derive(Clone, Copy, PartialEq, Eq)]
 pub enum Wanted {
-    /// A committee of at least the value that it begins with.
+    /// One committee with at least the value that the search begins with.
     One,
-    /// All committees of the greatest value.
+    /// All committees with the highest value.
     All,
 }
 
@@ -61,14 +61,14 @@ pub struct Found {
     pub wanted: Wanted,
     // Committees of at least this value are looked for.
     pub least: u128,
-    // The value of those that are listed.
+    // The value of the listed committees.
     pub value: u128,
     pub committees: [CandSet; MOST_TIED],
     pub len: usize,
 }
 
 impl Found {
-    /// Nothing was found, and committees of at least this value are looked for.
+    /// Nothing was found yet. Committees of at least the value `least` are looked for.
     pub fn nothing(wanted: Wanted, least: u128) -> Found
         ensures wanted { result.wanted ≡ wanted }
         ensures least { result.least ≡ least }
@@ -83,7 +83,7 @@ impl Found {
         }
     }
 
-    /// Takes a committee of this value, which is not listed yet, if the value is looked for.
+    /// Takes a committee that is not listed yet, if its value is looked for. The value is at most 2^116.
     pub fn offer(&mut self, committee: CandSet, value: u128)
         requires small { value ≤ 2 ^ 116 }
         requires new { IsListed self.old committee → ⊥ }
@@ -105,7 +105,6 @@ impl Found {
         }
     }
 
-    /// Lists this committee alone.
     fn begin_with(&mut self, committee: CandSet, value: u128)
         ensures wanted { self.new.wanted ≡ self.old.wanted }
         ensures value { self.new.value ≡ value }
@@ -123,7 +122,7 @@ impl Found {
         self.len = 1;
     }
 
-    /// The committee that was listed first.
+    /// The committee that was listed first. Returns `None` if none is listed.
     pub fn first(&self) -> Option<CandSet>
         requires few { self.now.len ≤ most_tied }
         ensures { MatchOption result (self.now.len ≡ 0) (λ committee. IsListed self.now committee) }

@@ -1,13 +1,14 @@
-//! Winners by search, and what searches are made of.
+//! Winners by search, and the parts of a search.
 //!
-//! `Searchable` is what can be searched: values among which a committee of at least a given value can be found, with
-//! certain members and others from certain free candidates. Two crates implement it: `thiele_search` for Thiele's
-//! rules, and `near_search` for minimax approval voting. `SearchWinners` lists the winners: it asks such a search for
-//! each, so it goes only where a winner is. A walk over plain bounds enters prefixes in vain, if their bound reaches
-//! the greatest value and no committee below does.
+//! `Searchable` is what can be searched. Its `find` returns a committee of at least a given value, which consists of a
+//! set and some of the free candidates. Two crates implement it: `thiele_search` for Thiele's rules, and `near_search`
+//! for minimax approval voting.
 //!
-//! The modules `found` and `node` have what searches are made of: what was found so far, and a set with the candidates
-//! that are free to join it.
+//! `SearchWinners` lists the winners. It asks a search for each of them, so it goes only where a winner is. A walk over
+//! plain bounds enters a prefix in vain if its bound reaches the highest value and no committee below it does.
+//!
+//! The modules `found` and `node` have the parts of a search: what was found so far, and a set with the candidates that
+//! are free to join it.
 #![tactic(auto)]
 
 mod asking;

@@ -1,7 +1,7 @@
 //! A node of a search.
 use ballot_base::CandSet;
 
-/// A set that may become a committee, its value, the candidates that are free to join it, and how many of them do.
+/// A set that may become a committee, its value, the candidates that are free to join it, and how many of them join.
 #[derive(Clone, Copy)]
 pub struct Node {
     pub set: CandSet,

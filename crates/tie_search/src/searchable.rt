@@ -1,4 +1,4 @@
-//! Values whose committees can be searched for.
+//! What can be searched.
 ghost use Rattle.std.specs.Prelude.{◌≡◌, ℕ, ◌≤◌, List, MatchOption, ⊤};
 ghost use Rattle.ballot_base.specs.Lists.{IsIncreasing};
 ghost use Rattle.tie_search.specs.Alike.{AreAlike, AreClasses, HasClasses};
@@ -10,12 +10,12 @@ use crate::node::Node;
 use ballot_base::{CandSet, Clones};
 use tie_walk::Tally;
 
-/// Values whose committees can be searched for.
+/// Values of committees. A committee of at least a given value can be searched for.
 pub trait Searchable: Tally {
     // The clones of each candidate.
     ghost class_of: { Self → ℕ → List ℕ };
 
-    /// Who are clones: with one in the place of another, a committee has the same value.
+    /// The clones of each candidate. If one of them takes its place, a committee keeps its value.
     fn clones(&self) -> &Clones
         ensures table { HasClasses (Self.candidates self.now) (Self.class_of self.now) result.now }
         ensures rise { (c : ℕ) → 1 ≤ c → c ≤ Self.candidates self.now
@@ -23,7 +23,7 @@ pub trait Searchable: Tally {
         ensures classes { AreClasses (Self.candidates self.now) (Self.class_of self.now) }
         ensures alike { AreAlike (Self.value_of self.now) (Self.candidates self.now) (Self.class_of self.now) };
 
-    /// Finds a committee that completes a node and whose value is at least `least`. None if there is no such committee.
+    /// Finds a committee that completes a node and whose value is at least `least`. Returns `None` if there is none.
     fn find(&self, node: &Node, least: u128) -> Option<CandSet>
         requires is_node { IsNode (Self.candidates self.now) node.now.set node.now.free }
         requires value { node.now.value ≡ Self.value_of self.now node.now.set }
@@ -33,9 +33,9 @@ pub trait Searchable: Tally {
             (IsReaching (Self.value_of self.now) (Self.candidates self.now) node.now.set node.now.free node.now.left
             least) };
 
-    /// Lists committees of k with the greatest value, each once. Each other one becomes one of them if clones take the
-    /// place of members; or if there are more, `MOST_TIED` of them are listed. Returns `None` if they are left to `find`,
-    /// as under a rule by which too many tie in most elections.
+    /// Lists committees of `k` with the highest value, each once. Every other one becomes a listed one if clones take
+    /// the place of members. If there are more, `MOST_TIED` of them are listed. Returns `None` if they are left to
+    /// `find`, as for a rule under which too many tie in most elections.
     fn tied(&self, k: u8) -> Option<Tied>
         requires some { 1 ≤ k }
         requires fits { k ≤ Self.candidates self.now }

@@ -1,7 +1,7 @@
 //! The winners by search, one by one.
 //!
-//! `new` finds the greatest value (module `best`). Then each winner is asked for (module `asking`), so no walk goes
-//! over committees that do not win. `entered` and `questions` count the steps; only tests read them.
+//! `new` finds the highest value (module `best`). `next` asks for each winner (module `asking`), so no walk goes over
+//! committees that do not win. `entered` and `questions` count the steps; only tests read them.
 ghost use Rattle.std.specs.Prelude.{◌≡◌, ◌≤◌};
 ghost use Rattle.std.specs.Iterator.{item_count};
 ghost use Rattle.ballot_base.specs.Lists.{later_than};
@@ -14,8 +14,8 @@ use crate::searchable::Searchable;
 use ballot_base::CandSet;
 use std::marker::Model;
 
-/// The winning committees of k, in lexicographic order: those whose value no other exceeds, each found by asking the
-/// search for it. Contracts see the search, k, and the list of the winners still to come.
+/// The winning committees of `k` in lexicographic order: those whose value no other exceeds. Each is found by asking
+/// the search for it. Contracts see the search, `k`, and the list of the winners still to come.
 /// (Lackner and Skowron, Multi-Winner Voting with Approval Preferences)
 #[derive(Drop)]
 pub struct SearchWinners<S: Searchable> {
@@ -42,8 +42,9 @@ impl<S: Searchable> Model for SearchWinners<S> {
 }
 
 impl<S: Searchable> SearchWinners<S> {
-    /// The winners among the committees of k that are later than `after`, any committee of k, which need not win; all
-    /// winners if it is None. The greatest value is that of all committees. Neither this nor `next` takes memory.
+    /// The winners later than `after`, or all winners if it is `None`. `after` is a committee of `k`, and need not win.
+    /// A winner has the highest value of all committees of `k`. `k` is at least 1 and at most the number of candidates.
+    /// Neither this nor `next` takes memory.
     pub fn new(search: S, k: u8, after: Option<CandSet>) -> SearchWinners<S>
         requires some { 1 ≤ k }
         requires fits { k ≤ S.candidates search }
@@ -68,15 +69,15 @@ impl<S: Searchable> SearchWinners<S> {
         }
     }
 
-    /// The greatest value that a committee has.
+    /// The highest value of a committee of `k`.
     pub fn best(&self) -> u128
         ensures { result ≡ best_value (S.value_of self.now.search) (S.candidates self.now.search) self.now.k }
     {
         self.asking.best.value
     }
 
-    /// How many sets were entered so far on the ways down to winners: a set counts where a candidate joins it. Each
-    /// begins a winner later than the start. Without a start, all such sets were entered after the last winner.
+    /// The number of sets that were entered so far on the ways down to winners. A set counts when a candidate joins it.
+    /// Each begins a winner later than the start. Without a start, all such sets were entered after the last winner.
     pub fn entered(&self) -> u128
         ensures count { result ≡ self.now.entered }
         ensures most { result ≤ beginnings (S.candidates self.now.search) self.now.k (later_than self.now.after
@@ -85,8 +86,8 @@ impl<S: Searchable> SearchWinners<S> {
         self.asking.entered
     }
 
-    /// How many questions were asked so far for the winners: the calls of `Searchable::find`, but for those that found
-    /// the greatest value.
+    /// The number of questions that were asked so far for the winners: the calls of `Searchable::find`, except those
+    /// that found the highest value.
     pub fn questions(&self) -> u128
         ensures { result ≡ self.now.questions }
     {
@@ -97,7 +98,7 @@ impl<S: Searchable> SearchWinners<S> {
 impl<S: Searchable + Drop> Iterator for SearchWinners<S> {
     type Item = CandSet;
 
-    // The first of the winners left, or None if none is left, and what was asked then.
+    // Gives the first of the winners left, or None if none is left.
     ghost next_gives = { IsNextAsked S S.value_of S.candidates };
 
     ghost remaining = { item_count (λ (a : Asked S). a.left) };

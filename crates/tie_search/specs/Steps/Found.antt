@@ -21,8 +21,8 @@ pub record IsSettledLike (value : List ℕ → ℕ) (m : ℕ) (class : ℕ → L
     pub same : value other ≡ value committee
     pub settled : IsSettled value found other
 
--- Those listed are distinct and have the same value, and no less is looked for. If this value is not looked for any
--- more, the list is full.
+-- The listed committees are distinct and have the same value, and no lower value is looked for. If this value is no
+-- longer looked for, the list is full.
 pub record AreListed (value : List ℕ → ℕ) (found : Found) : Type 0 where
   pub few : found.len ≤ most_tied
   pub same : (committee : List ℕ) → IsListed found committee → value committee ≡ found.value
@@ -31,21 +31,21 @@ pub record AreListed (value : List ℕ → ℕ) (found : Found) : Type 0 where
   pub full : found.wanted ≡ All → 1 ≤ found.len → found.value < found.least → found.len ≡ most_tied
   pub distinct : AreDistinct found.committees found.len
 
--- all committees are wanted, but the value of those that are listed is not looked for any more
+-- all committees are wanted, but the value of the listed ones is no longer looked for
 abbrev pub LeavesOut : Found → Type 0
 LeavesOut found = (found.wanted ≡ All) × (1 ≤ found.len) × (found.value < found.least)
 
--- the committee has the value of those listed, and is not listed
+-- the committee has the value of the listed ones, and is not listed
 abbrev pub IsLeftOut : (List ℕ → ℕ) → Found → List ℕ → Type 0
 IsLeftOut value found committee = (value committee ≡ found.value) × (IsListed found committee → ⊥)
 
--- those left out before still are
+-- the committees that were left out before still are
 abbrev pub StillLeavesOut : (List ℕ → ℕ) → Found → Found → Type 0
 StillLeavesOut value before after =
     LeavesOut before × ((committee : List ℕ) → IsLeftOut value before committee → IsLeftOut value after committee)
 
--- Only such committees were added, or left out, as are named, and of at least the value that was looked for. All that
--- was settled still is.
+-- Every committee that was added or left out is `IsNew`, and an added one has at least the value that was looked for.
+-- All that was settled still is.
 pub record Advances (value : List ℕ → ℕ) (IsNew : List ℕ → Type 0) (before after : Found) : Type 0 where
   pub valid : AreListed value after
   pub wanted : after.wanted ≡ before.wanted

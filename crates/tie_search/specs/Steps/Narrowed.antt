@@ -4,7 +4,7 @@ use Rattle.ballot_base.specs.CandSet.{has_member}
 use Rattle.tie_search.specs.Completions.{IsNode, IsCompletion, IsOutOfReach}
 use Rattle.tie_search.specs.declared.node.Node.{Node}
 
--- free candidates to whom all belong who are added by a committee that completes the set and reaches the value
+-- free candidates: they include all that a committee adds if it completes the set and reaches the value
 pub record IsNarrowed (value : List ℕ → ℕ) (m : ℕ) (set free : List ℕ) (left least : ℕ) (rest : List ℕ) : Type 0
   where
     pub is_node : IsNode m set rest

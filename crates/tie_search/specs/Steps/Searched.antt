@@ -6,7 +6,7 @@ use Rattle.tie_walk.specs.Winners.{best_value}
 use Rattle.tie_search.specs.declared.found.Tied.{Tied}
 use Rattle.tie_search.specs.Tied.{AreBest}
 
--- what is true of each tally by search: it knows how many candidates there are, and committees with the greatest value
+-- what is true of each tally by search: it knows how many candidates there are, and committees with the highest value
 -- are listed
 pub record IsSearched (value : List ℕ → ℕ) (class : ℕ → List ℕ) (candidates m k best : ℕ) (tied : Tied) : Type 0 where
   pub size : m ≡ candidates
@@ -16,7 +16,7 @@ pub record IsSearched (value : List ℕ → ℕ) (class : ℕ → List ℕ) (can
   pub best_is : best ≡ best_value value candidates k
   pub listed : AreBest value class candidates k tied
 
--- a committee of k of the candidates 1 to m with a greater value
+-- a committee of k of the candidates 1 to m with a higher value
 pub record IsBetter (value : List ℕ → ℕ) (m k : ℕ) (committee better : List ℕ) : Type 0 where
   pub candidates : IsIncreasing 1 m better
   pub size : length better ≡ k
