@@ -8,8 +8,8 @@ ghost use Rattle.tie_walk.specs.Values.{greatest_distance};
 ghost use Rattle.tie_search.specs.Completions.{IsNode, IsCompletion};
 ghost use Rattle.near_search.specs.Needs.{hits_needed, weighted_needs, weighted_support};
 
-/// Under minimax approval voting, no ballot is farther than `most` from a committee of k exactly if each ballot has as
-/// many hits as it needs.
+/// Under minimax approval voting, no ballot is farther than `most` from a committee of `k` exactly if each ballot has
+/// at least the hits that it needs.
 pub fn needs()
     ensures { (m k most : ℕ) (rows : List Row) (committee : List ℕ)
         → AllByRecursion (λ row. IsIncreasing 1 m row.0) rows → IsIncreasing 1 m committee → length committee ≡ k
@@ -18,9 +18,9 @@ pub fn needs()
 {}
 
 /// Weighted needs bound the committees that complete a set, under minimax approval voting. Each row may have any
-/// weight. If no ballot is farther than `most` from a committee, the weighted needs are at most `left` times a
-/// threshold, plus what the supports of the free candidates exceed the threshold by. If n is an added member, the bound
-/// is lower by what the support of n is below the threshold.
+/// weight, and the threshold may be any number. If no ballot is farther than `most` from a committee, the weighted
+/// needs are at most `left` times the threshold, plus the excess of the supports of the free candidates over it. If `n`
+/// is an added member, the bound is lower by the amount by which its support is below the threshold.
 pub fn weighted_needs()
     ensures completions { (weight : Row → ℕ) (m k most : ℕ) (rows : List Row) (set free : List ℕ) (left threshold : ℕ)
         (committee : List ℕ) → AllByRecursion (λ row. IsIncreasing 1 m row.0) rows → IsNode m set free

@@ -1,8 +1,8 @@
-//! Minimax approval voting as values that can be searched.
+//! A search for winners under minimax approval voting: the committees with the smallest maximum distance to a ballot.
 //!
-//! `MinimaxSearch` is the search: it finds a committee that is near each ballot, if there is one. `needs` has the hits
-//! that a ballot needs for that, `near` narrows the sets of `tie_search::descent`, and `good` finds a committee to
-//! begin with. `tie_search::SearchWinners` asks for one winner after another.
+//! `MinimaxSearch` finds a committee that is near each ballot, if there is one. `needs` computes the hits that a ballot
+//! needs for that. `near` narrows the sets of `tie_search::descent`, and `good` finds a committee to begin with.
+//! `tie_search::SearchWinners` asks for one winner after another.
 #![tactic(auto)]
 
 mod good;

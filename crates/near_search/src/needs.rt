@@ -7,7 +7,7 @@ ghost use Rattle.near_search.specs.Needs.{hits_needed};
 
 use ballot_base::CandSet;
 
-/// The least number of hits with which a ballot of this size is no farther than `most` from a committee of k.
+/// The minimum number of hits with which a ballot of this size is no farther than `most` from a committee of `k`.
 pub fn hits_needed(size: u8, k: u8, most: u8) -> u8
     requires { size + k < 2 ^ 8 }
     ensures { result ≡ hits_needed size k most }
@@ -16,8 +16,8 @@ pub fn hits_needed(size: u8, k: u8, most: u8) -> u8
     apart / 2 + apart % 2
 }
 
-/// How many hits the ballot needs beside those that it has, if `left` candidates are still to join the set. A distance
-/// is counted in less time than a size and hits.
+/// The number of hits that the ballot still needs, if `left` candidates are still to join the set. Counting a distance
+/// takes less time than counting a size and hits.
 pub(crate) fn still_needed(ballot: CandSet, set: CandSet, left: u8, most: u8) -> u8
     requires ballot { IsIncreasing 1 most_candidates ballot }
     requires set { IsIncreasing 1 most_candidates set }

@@ -17,11 +17,11 @@ use Rattle.near_search.specs.Needs.{weighted_needs, weighted_support}
 abbrev pub IsHopeless : Election → ℕ → List ℕ → List ℕ → ℕ → Type 0
 IsHopeless e most set free left = IsOutOfReach (closeness e.m e.rows) e.m set free left (e.m - most)
 
--- free candidates to whom all belong who are added by a committee that completes the set and is near each ballot
+-- free candidates: they include all that a committee adds if it completes the set and is near each ballot
 abbrev pub AreEligible : Election → ℕ → List ℕ → List ℕ → ℕ → List ℕ → Type 0
 AreEligible e most set free left = IsNarrowed (closeness e.m e.rows) e.m set free left (e.m - most)
 
--- what is known before a set grows: who may be tried, and who can still join
+-- what is known before a set grows: the candidates to try, and the candidates that can still join
 pub record AreBranches (e : Election) (most : ℕ) (set free : List ℕ) (left : ℕ) (choices eligible : List ℕ) : Type 0
   where
     pub enough : left ≤ length free
@@ -36,7 +36,7 @@ pub record AreWeighted (rows : List Row) (k most : ℕ) (set free : List ℕ) (t
     pub total_is : total ≡ weighted_needs weight k most set rows
     pub supports_are : (n : ℕ) → has_member free n ≡ true → slice_index supports n ≡ weighted_support weight rows n
 
--- what a search goes by at a set: weighted needs of the value that its completions are to have
+-- what a search knows at a set: weighted needs for the value that its completions must reach
 pub record IsNearPlan (e : Election) (set : List ℕ) (left : ℕ) (plan : Plan) : Type 0 where
   pub most : ℕ
   pub least_is : plan.least ≡ e.m - most
@@ -54,6 +54,6 @@ AreBallots-prop m (row ∷ rows) = ×_prop (IsIncreasing-prop 1 m row.0) (AreBal
 abbrev pub share_parts : ℕ
 share_parts = 1024
 
--- the weight of a ballot: its need, times the cube of its share, which is the need times that of one candidate
+-- the weight of a ballot: its need, times the cube of its share, which is the need times the share of one candidate
 unfoldable pub need_weight : ℕ → ℕ → ℕ
 need_weight share needed = needed * (needed * share) * (needed * share) * (needed * share)
