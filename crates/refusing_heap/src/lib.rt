@@ -1,4 +1,4 @@
-//! Allocators for tests: one refuses one growth, and one counts the bytes in use.
+//! Allocators for tests: `Refusing` refuses one growth, and `Measured` counts the bytes in use.
 #![tactic(auto)]
 
 pub mod measured;

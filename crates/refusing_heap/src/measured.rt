@@ -4,12 +4,12 @@ ghost use Rattle.std.specs.Prelude.{◌≡◌};
 use std::alloc::{AllocError, Allocator, Global};
 use std::cell::Cell;
 
-/// How many bytes are in use: those that were asked for and not given back. What `heap` refuses counts as well.
+/// The number of bytes in use: those that were asked for and not given back. Bytes that `heap` refused count as well.
 #[derive(Clone, Copy, Debug, PartialEq, Eq)]
 pub struct Usage {
-    /// How many there are now.
+    /// Bytes in use now.
     pub now: usize,
-    /// The most that there were.
+    /// The maximum so far.
     pub most: usize,
 }
 
@@ -23,7 +23,7 @@ pub struct Measured<H: Allocator = Global> {
 }
 
 impl<H: Allocator> Measured<H> {
-    /// No byte is in use yet.
+    /// Passes calls on to `heap`. No byte is in use yet.
     pub fn new(heap: H) -> Measured<H>
         ensures { result.heap ≡ heap }
     {

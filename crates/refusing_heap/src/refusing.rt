@@ -7,15 +7,15 @@ use std::cell::Cell;
 /// An allocator that refuses one growth and passes every other call on. A `&` to it is an allocator too.
 #[derive(Drop)]
 pub struct Refusing<H: Allocator = Global> {
-    /// How many growths there are up to the one that is refused, and 0 once it was. No contract can tell of what a
-    /// `Cell` holds: tests alone hold this count.
+    /// The number of growths up to the one that is refused, and 0 after it. No contract can speak of what a `Cell`
+    /// holds, so only tests check this count.
     pub left: Cell<u64>,
     /// The allocator that the other calls are passed on to.
     pub heap: H,
 }
 
 impl<H: Allocator> Refusing<H> {
-    /// Refuses the growth of this number, counted from 1.
+    /// Refuses the growth with the number `refused`, counted from 1. Other calls go to `heap`.
     pub fn new(heap: H, refused: u64) -> Refusing<H>
         requires { 1 ≤ refused }
         ensures { result.heap ≡ heap }
@@ -27,7 +27,7 @@ impl<H: Allocator> Refusing<H> {
     }
 }
 
-/// Counts a growth, and says whether it is the one to refuse.
+/// Counts a growth. Returns whether it is the one to refuse.
 fn is_due(left: &Cell<u64>) -> bool {
     let n = left.get();
     left.set(n.saturating_sub(1));
