@@ -2,8 +2,8 @@
 use Rattle.std.specs.Prelude.{ℕ, Bool, false, List, []}
 use Rattle.test_devices.specs.declared.devices.Fault.{Fault}
 
--- a reader over bytes: the bytes that it has still to give, whether a call has failed, how many calls there are up to
--- the one that fails (0 if none is to fail), how many bytes it has given, and the most bytes that it gives in a call
+-- a reader over bytes: the bytes that it still has to give, whether a call has failed, the number of calls up to the
+-- one that fails (0 if none does), the number of bytes that it has given, and the maximum per call
 pub record ReaderView : Type 0 where
   pub remaining : List ℕ
   pub has_failed : Bool
@@ -11,8 +11,8 @@ pub record ReaderView : Type 0 where
   pub given : ℕ
   pub piece : ℕ
 
--- a writer that keeps what it takes: the bytes that it took, how often it was flushed, whether a call has failed, the
--- fault that has still to show, and the most bytes that it takes in a call
+-- a writer that keeps what it takes: the bytes that it took, the number of flushes, whether a call has failed, the
+-- fault that is still to show, and the maximum number of bytes per call
 pub record WriterView : Type 0 where
   pub taken : List ℕ
   pub flushes : ℕ

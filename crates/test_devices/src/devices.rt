@@ -13,14 +13,13 @@ use std::io::ErrorKind;
 use std::marker::Model;
 use text_output::{Device, Sink, Source};
 
-/// A reader over bytes. Contracts see the bytes that it has still to give, whether a call has failed, how many calls
-/// there are up to the one that fails (0 if none is to fail), how many bytes it has given, and the most that it gives
-/// in a call.
+/// A reader over bytes. Contracts see the bytes that it still has to give, whether a call has failed, and the number of
+/// calls up to the one that fails (0 if none does). They also see how many bytes it has given, and the maximum per
+/// call.
 #[derive(Drop)]
 pub struct SliceReader<'a> {
     rest: &'a [u8],
     piece: usize,
-    /// How many calls there are up to the one that fails, and 0 if none is to fail.
     calls_left: u64,
     has_failed: bool,
     given: Trace,
@@ -44,7 +43,7 @@ impl<'a> Model for SliceReader<'a> {
 }
 
 impl<'a> SliceReader<'a> {
-    /// Gives at most `piece` bytes a call, and never fails.
+    /// A reader that gives at most `piece` bytes per call, at least 1, and never fails.
     pub fn new(bytes: &'a [u8], piece: usize) -> SliceReader<'a>
         requires some { 1 ≤ piece }
         ensures { result ≡ new_reader bytes.now piece 0 }
@@ -52,8 +51,8 @@ impl<'a> SliceReader<'a> {
         SliceReader::failing(bytes, piece, 0)
     }
 
-    /// Gives at most `piece` bytes a call. The call of the number `fails`, counted from 1, is an error, and those
-    /// after it are not. With 0 no call is.
+    /// A reader that gives at most `piece` bytes per call, at least 1. The call with the number `fails`, counted from
+    /// 1, is an error; later calls are not. With 0 no call is an error.
     pub fn failing(bytes: &'a [u8], piece: usize, fails: u64) -> SliceReader<'a>
         requires some { 1 ≤ piece }
         ensures { result ≡ new_reader bytes.now piece fails }
@@ -106,21 +105,21 @@ impl<'a> Source for SliceReader<'a> {
     }
 }
 
-/// What is wrong with a writer. It shows in one call, and the calls after it are sound.
+/// How a writer fails. The fault shows in one call, and later calls are sound.
 #[derive(Clone, Copy, Debug, PartialEq, Eq)]
 pub enum Fault {
-    /// Nothing.
+    /// It does not fail.
     Sound,
-    /// A write is an error, once so many bytes were taken.
+    /// A write is an error, once this many bytes were taken.
     ErrorAfter(usize),
-    /// A write takes no byte, once so many were taken.
+    /// A write takes no byte, once this many were taken.
     ZeroAfter(usize),
     /// The flush is an error.
     AtFlush,
 }
 
 /// A writer that keeps what it took, and counts its flushes. Contracts see the bytes, the count, whether a call has
-/// failed, the fault that has still to show, and the most bytes that it takes in a call.
+/// failed, the fault that is still to show, and the maximum number of bytes per call.
 #[derive(Drop)]
 pub struct Recorder {
     taken: Vec<u8>,
@@ -146,7 +145,7 @@ impl Model for Recorder {
 }
 
 impl Recorder {
-    /// Took nothing yet, and takes at most `piece` bytes a call. With 0 each write of one or more bytes fails.
+    /// A writer that takes at most `piece` bytes per call. If `piece` is 0, each write of one or more bytes fails.
     pub fn new(alloc: Global, piece: usize, fault: Fault) -> Recorder
         ensures { result ≡ new_writer piece fault }
     {
@@ -166,14 +165,14 @@ impl Recorder {
         self.taken.as_slice()
     }
 
-    /// How often it was flushed. The count stays at its greatest number.
+    /// The number of flushes. The count stays at its maximum.
     pub fn flushes(&self) -> u64
         ensures { result ≡ self.now.flushes }
     {
         self.flushes
     }
 
-    /// How many bytes more it takes before its fault shows.
+    /// The number of bytes that it still takes before its fault shows.
     fn room(&self) -> usize
         ensures { IsDue self.now.fault (length self.now.taken) → result ≡ 0 }
     {
