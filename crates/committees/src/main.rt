@@ -1,4 +1,4 @@
-//! The program `committees`: elects committees over PrefLib ballot files, checks them, and shares out seats.
+//! The program `committees`: elects committees from PrefLib ballot files, checks them, and shares out seats.
 #![tactic(auto)]
 
 use std::fs::File;
@@ -11,7 +11,7 @@ use vote_cli::{
     BallotHashing, LineFault, Request, Status, Storage, Told, read_request, run_with_hashing,
 };
 
-/// The status of words that were refused. No run ends with it.
+/// The exit status for a refused command line. No run ends with it.
 const WORDS_REFUSED: u8 = 2;
 
 fn main(rt: HostRuntime) -> ExitCode {
@@ -26,12 +26,12 @@ fn main(rt: HostRuntime) -> ExitCode {
     }
 }
 
-/// The words of the command line, the program's name first.
+/// The words of the command line, beginning with the program's name.
 fn words(rt: &HostRuntime) -> io::Result<Vec<String>> {
     Ok(env::args(rt)?.collect(rt.alloc())?)
 }
 
-/// Answers what the words ask for.
+/// Answers a command line.
 fn answer(rt: &HostRuntime, words: &[String]) -> ExitCode {
     match read_request(rt.alloc(), words) {
         Ok(request) => answer_request(rt, &request),
@@ -48,7 +48,7 @@ fn answer(rt: &HostRuntime, words: &[String]) -> ExitCode {
     }
 }
 
-/// Ends with the line on words that were refused after `clap` took them.
+/// Ends with the line on a command line that `clap` accepted and `read_request` refused.
 fn refused(rt: &HostRuntime, fault: &LineFault) -> ExitCode {
     if let Some(line) = fault.line() {
         let _ = rt.eprintln(line);
@@ -56,7 +56,7 @@ fn refused(rt: &HostRuntime, fault: &LineFault) -> ExitCode {
     ExitCode::from(WORDS_REFUSED)
 }
 
-/// Answers over the file that the request names, or over standard input.
+/// Answers over the file that the request names; failing that, over standard input.
 fn answer_request(rt: &HostRuntime, request: &Request) -> ExitCode {
     match request.file() {
         None => answer_over(rt, request, rt.stdin()),
@@ -67,7 +67,7 @@ fn answer_request(rt: &HostRuntime, request: &Request) -> ExitCode {
     }
 }
 
-/// Joins a run to a reader, standard output and standard error.
+/// Runs a request over a reader, standard output and standard error.
 fn answer_over<R: Read + Drop>(rt: &HostRuntime, request: &Request, reader: R) -> ExitCode {
     let mut reader = Told::new(reader);
     let mut out = Told::new(rt.stdout());
@@ -80,8 +80,8 @@ fn answer_over<R: Read + Drop>(rt: &HostRuntime, request: &Request, reader: R) -
     ExitCode::from(status.code())
 }
 
-/// What ballots are hashed by: numbers that no one knows who writes a file. Where the system gives no random bytes, the
-/// fixed ones serve.
+/// The parameters for hashing ballots: random, so that nobody can write a file of ballots that collide. If the system
+/// gives no random bytes, they are fixed.
 fn hashing(rt: &HostRuntime) -> BallotHashing {
     match RandomState::new(rt) {
         Ok(keys) => BallotHashing::secret(&keys),
@@ -93,7 +93,6 @@ fn no_memory(rt: &HostRuntime) -> ExitCode {
     end(rt, Status::NoMemory.code(), OUT_OF_MEMORY)
 }
 
-/// Ends with this status, and a line on standard error.
 fn end(rt: &HostRuntime, status: u8, line: &str) -> ExitCode {
     let _ = rt.eprintln(line);
     ExitCode::from(status)
