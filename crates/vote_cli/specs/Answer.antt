@@ -30,20 +30,20 @@ use Rattle.vote_cli.specs.ShareText.{share_text}
 use Rattle.vote_cli.specs.Starts.{has_seats_for, may_start}
 use Rattle.text_output.specs.Text.{line}
 
--- the text, the status, and the error line with its end, or nothing where there is none
+-- the text, the status, and the error line with its end, or nothing if there is none
 pub record Answer : Type 0 where
   pub text : List ℕ
   pub status : Status
   pub error : List ℕ
 
--- an answer that is no refusal, and the report of a property that does not hold
+-- an answer that is not a refusal, and the report of a property that does not hold
 abbrev pub answered : List ℕ → Answer
 answered text = record { text = text; status = Answered; error = [] }
 
 abbrev pub violated : List ℕ → Answer
 violated text = record { text = text; status = Violated; error = [] }
 
--- a refusal: no text, and one line on the errors
+-- a refusal: no text, and one line on standard error
 abbrev pub refused : Status → List ℕ → Answer
 refused status error = record { text = []; status = status; error = line error }
 
@@ -64,7 +64,7 @@ election_answer rule size page with_names election =
 abbrev pub may_be_checked : ℕ → List ℕ → Bool
 may_be_checked m list = nat_le (length list) most_members && is_committee m (length list) list
 
--- whether the committee of a list has a property, or the report that shows that it has not
+-- whether the committee of a list has a property, or the report that shows that it does not
 abbrev pub IsCheckAnswer : Property → List ℕ → Bool → Election → Answer → Type 0
 IsCheckAnswer property list with_names election answer =
     ((may_be_checked election.m list ≡ false) × (answer ≡ request_refused (codes "CommitteeMisfit")))
@@ -72,7 +72,7 @@ IsCheckAnswer property list with_names election answer =
     ⊎ ((may_be_checked election.m list ≡ true) × ((report : Violation) × IsReport property election list report
     × (answer ≡ violated (violation_text (naming with_names election.names) report election))))
 
--- the fair allocations of seats to parties with these votes: a fault of the votes comes before one of the start
+-- the fair allocations of seats to parties with these votes; a fault of the votes takes precedence over the start
 abbrev pub share_answer_by : Option ShareFault → Bool → List ℕ → Answer
 share_answer_by (Some fault) starts text = request_refused (share_fault_name fault)
 share_answer_by None false text = request_refused (codes "AfterMisfit")
@@ -83,7 +83,7 @@ share_answer method seats page names votes =
     share_answer_by (share_fault votes seats None) (may_start (has_seats_for (length votes)) page.after)
     (share_text method seats page names votes)
 
--- the same, where a voter counts for the one party that the ballot approves
+-- like `share_answer`, if a voter counts for the one party that the ballot approves
 abbrev pub ballots_answer : Method → ℕ → Page → Bool → Election → Answer
 ballots_answer method seats page with_names election =
     if has_many_approved election then request_refused (codes "ManyApproved")
@@ -103,8 +103,8 @@ IsAnswerAbout with_names (checking property list) election answer =
 IsAnswerAbout with_names (sharing method seats page) election answer =
     answer ≡ ballots_answer method seats page with_names election
 
--- the answer to a task and the bytes of an input; with votes in the words, the bytes do not matter, and no party
--- has a name
+-- the answer to a task and the bytes of an input; with votes in the command line, the bytes do not matter, and no
+-- party has a name
 abbrev pub IsAnswerTo : Bool → Task → Pick → List ℕ → Answer → Type 0
 IsAnswerTo with_names (of_ballots question) pick bytes answer =
     IsAnswerOver (IsAnswerAbout with_names question) pick bytes answer

@@ -20,8 +20,8 @@ use Rattle.text_output.specs.Text.{line}
 abbrev pub score_text : ℕ → ℕ → List ℕ
 score_text score denominator = codes "score " ++ decimal score ++ 47 ∷ decimal denominator
 
--- what is said of the best value of a committee of this size, of m candidates: its score over the denominator, or
--- its distance
+-- the text of the best value of a committee of this size, of m candidates: its score over the denominator, or its
+-- distance
 abbrev pub best_text : ScoredRule → ℕ → ℕ → ℕ → List ℕ
 best_text (Thiele rule) m size best = score_text best (denominator rule size)
 best_text Satisfaction m size best = score_text best (common_multiple m)
@@ -31,7 +31,7 @@ best_text Minimax m size best = codes "distance " ++ decimal (m - best)
 abbrev pub rule_lines : Rule → ℕ → List ℕ
 rule_lines rule size = line (codes "rule " ++ rule_name rule) ++ line (codes "size " ++ decimal size)
 
--- those lines, and the score or the distance of the winners
+-- the lines of the rule and the size, and the score or the distance of the winners
 abbrev pub scored_header : ScoredRule → ℕ → ℕ → ℕ → List ℕ
 scored_header rule m size best = rule_lines (Scored rule) size ++ line (best_text rule m size best)
 

@@ -8,6 +8,6 @@ abbrev pub place_text : Option ℕ → List ℕ
 place_text None = codes ": "
 place_text (Some number) = codes " line " ++ decimal number ++ codes ": "
 
--- what is said of a fault
+-- the text of a fault
 abbrev pub fault_text : ReadFault → List ℕ
 fault_text fault = codes "committees: input" ++ place_text fault.line ++ fault_name fault.name

@@ -26,14 +26,14 @@ is_listing (of_ballots (checking property list)) = false
 is_listing (of_ballots (sharing method seats page)) = true
 is_listing (of_votes votes method seats page) = true
 
--- a task for others of its answers
+-- a task with another page of its answers
 abbrev pub with_page : Page → Task → Task
 with_page page (of_ballots (electing rule size old)) = of_ballots (electing rule size page)
 with_page page (of_ballots (checking property list)) = of_ballots (checking property list)
 with_page page (of_ballots (sharing method seats old)) = of_ballots (sharing method seats page)
 with_page page (of_votes votes method seats old) = of_votes votes method seats page
 
--- a request for others of its answers
+-- a request for another page of its answers
 abbrev pub asked_for : Page → Request → Request
 asked_for page asked = record asked { task = with_page page asked.task }
 
@@ -99,7 +99,7 @@ pub record IsCut (listed : Listed) (answers : List (List ℕ)) (n : ℕ) (all cu
   pub all_is : all ≡ answered (front listed answers n ++ flat_map listed.line_of (drop n answers) ++ line (codes "end"))
   pub cut_is : cut ≡ answered (front listed answers n ++ line_for (drop n answers))
 
--- the answer with a page of what is listed, where the start fits
+-- the answer with a page of what is listed, if the start fits
 abbrev pub page_of : Listed → Page → Answer
 page_of listed page = if may_start listed.may_follow page.after
     then answered (listing_text listed.line_of listed.header page listed.answers)
@@ -116,7 +116,7 @@ pub record IsPart (listed : Listed) (page : Page) (all part : Answer) : Type 0 w
 abbrev pub later_of : Listed → Page → List (List ℕ)
 later_of listed page = later_than page.after listed.answers
 
--- the page that goes on after the j-th answer of another, which is this one
+-- the page that goes on after the j-th answer of another page; that answer is given
 abbrev pub page_from : Page → ℕ → List ℕ → Page
 page_from page j last = record { after = Some last; limit = option_map (λ n. n - j) page.limit }
 

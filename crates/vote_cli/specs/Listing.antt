@@ -6,15 +6,15 @@ use Rattle.request_words.specs.Request.{Page}
 use Rattle.text_output.specs.Names.{Names, beside, candidates_text, seated_parties}
 use Rattle.text_output.specs.Text.{line, numbers_text}
 
--- the line of a committee: its members, and their names where they are wanted
+-- the line of a committee: its members, and their names if they are wanted
 abbrev pub committee_line : Names → List ℕ → List ℕ
 committee_line names members = line (candidates_text names members)
 
--- the line of an allocation: the seats of the parties, and the names of those with a seat where they are wanted
+-- the line of an allocation: the seats of the parties, and the names of those with a seat if they are wanted
 abbrev pub allocation_line : Names → List ℕ → List ℕ
 allocation_line names seats = line (numbers_text seats ++ beside names (seated_parties seats))
 
--- the first so many answers, or all of them without a limit
+-- the first answers up to the limit, or all of them without a limit
 abbrev pub within_limit : Option ℕ → List (List ℕ) → List (List ℕ)
 within_limit None answers = answers
 within_limit (Some limit) answers = take limit answers
@@ -29,12 +29,12 @@ abbrev pub last_line : Bool → List ℕ
 last_line true = line (codes "more")
 last_line false = line (codes "end")
 
--- the answers as far as the limit allows, one a line, and the last line
+-- the answers up to the limit, each on a line, and the last line
 abbrev pub answers_text : (List ℕ → List ℕ) → Option ℕ → List (List ℕ) → List ℕ
 answers_text line_of limit answers =
     flat_map line_of (within_limit limit answers) ++ last_line (has_more limit answers)
 
--- What is printed of the answers to a request: the lines before them, which are those of all answers, and of the
--- answers later than the start as many as the limit allows.
+-- What is printed of the answers to a request: the lines before them, which do not depend on the page, and then the
+-- answers later than the start, up to the limit.
 abbrev pub listing_text : (List ℕ → List ℕ) → List ℕ → Page → List (List ℕ) → List ℕ
 listing_text line_of header page answers = header ++ answers_text line_of page.limit (later_than page.after answers)

@@ -8,7 +8,7 @@ use Rattle.request_words.specs.declared.request.ScoredRule.TheVariants.{Thiele, 
 use Rattle.tie_walk.specs.Values.{thiele_value, satisfaction_value, closeness}
 
 -- the value by which a rule compares committees of this size: the score times its denominator; for minimax, the
--- number of candidates less the greatest distance
+-- number of candidates less the maximum distance
 abbrev pub value_by : ScoredRule → ℕ → Election → List ℕ → ℕ
 value_by (Thiele rule) size election = thiele_value (increments rule size) election.rows
 value_by Satisfaction size election = satisfaction_value election.m election.rows

@@ -10,18 +10,18 @@ use Rattle.text_output.specs.Text.{line}
 use Rattle.vote_cli.specs.declared.status.Status.{Status}
 use Rattle.vote_cli.specs.declared.status.Status.TheVariants.{NoMemory, DeviceFailed}
 
--- whether the votes stand in the words
+-- whether the votes stand in the command line
 abbrev pub has_votes : Task → Bool
 has_votes (of_ballots question) = false
 has_votes (of_votes votes method seats page) = true
 
--- the bytes that an answer is about, if they are known: none if the votes stand in the words
+-- the bytes that an answer is about, if they are known: none if the votes stand in the command line
 abbrev pub input_for : Task → Option (List ℕ) → Option (List ℕ)
 input_for task remaining = if has_votes task then Some [] else remaining
 
 -- ---- the reader
 
--- more bytes than a run can count, which are a failed read though no call has failed
+-- more bytes than a run can count: a failed read, though no call has failed
 abbrev pub IsTooLong : List ℕ → Type 0
 IsTooLong bytes = word_limit ≤ length bytes
 
@@ -31,17 +31,17 @@ module _ (old new : ReaderState) where
     pub unfailed : new.has_failed ≡ old.has_failed
     pub few : new.given < old.given + word_limit
 
-  -- a call of the reader has failed; or none has in this run, and its reads gave more bytes than a run can count: so
-  -- many there are, if they are known
+  -- a call of the reader has failed; or none has in this run, and its reads gave more bytes than a run can count. If
+  -- the bytes are known, they are more than a run can count.
   abbrev pub FailsToRead : Type 0
   FailsToRead = (new.has_failed ≡ true)
       ⊎ ((new.has_failed ≡ old.has_failed) × (old.given + word_limit ≤ new.given) × IfSome old.remaining IsTooLong)
 
-  -- a reader that told its bytes before has none left
+  -- a reader whose bytes were known has none left
   abbrev pub IsAllRead : Type 0
   IsAllRead = IfSome old.remaining (λ bytes. new.remaining ≡ Some [])
 
-  -- the input was read as a run reads it: to its end, or not at all if the votes stand in the words
+  -- the input was read as a run reads it: to its end, or not at all if the votes stand in the command line
   pub record ReadsInput (task : Task) : Type 0 where
     pub sound : ReadsSoundly
     pub whole : has_votes task ≡ false → IsAllRead
@@ -81,7 +81,7 @@ module _ (asked : Request) (read_old read_new : ReaderState) (out_old out_new er
     pub text : Appends out_old.contents out_new.contents answer.text
     pub error : Reports err_old err_new answer.error
 
-  -- out of memory, with nothing written; never if the votes stand in the words
+  -- out of memory, with nothing written; never if the votes stand in the command line
   pub record EndsWithoutMemory : Type 0 where
     pub over_input : has_votes asked.task ≡ false
     pub read : ReadsSoundly read_old read_new
@@ -89,7 +89,7 @@ module _ (asked : Request) (read_old read_new : ReaderState) (out_old out_new er
     pub text : Appends out_old.contents out_new.contents []
     pub error : Reports err_old err_new memory_line
 
-  -- with a failed read, and nothing written; never if the votes stand in the words
+  -- with a failed read, and nothing written; never if the votes stand in the command line
   pub record EndsUnread : Type 0 where
     pub over_input : has_votes asked.task ≡ false
     pub unread : FailsToRead read_old read_new
@@ -112,10 +112,10 @@ module _ (asked : Request) (read_old read_new : ReaderState) (out_old out_new er
   Ends DeviceFailed = EndsUnread ⊎ EndsUnwritten
   Ends status = EndsAnswered status
 
--- ---- a whole run, where these functions give the states of its reader, its writer and its writer of errors
+-- ---- a whole run, if these functions give the states of its reader, its writer and its writer of errors
 module _ {R W E : Type 0} (read : R → ReaderState) (out : W → WriterState) (err : E → WriterState) where
-  -- The run ends with the answer to the request and the bytes, or with what stopped it: the status says which. With
-  -- votes in the request the reader is left alone.
+  -- The run ends with the answer to the request and the bytes, or with what stopped it, by the status. With votes in
+  -- the request the reader is left as it was.
   pub record LeavesRun (asked : Request) (read_old read_new : R) (out_old out_new : W) (err_old err_new : E)
       (status : Status) : Type 0 where
     pub ends : Ends asked (read read_old) (read read_new) (out out_old) (out out_new) (err err_old) (err err_new) status

@@ -8,6 +8,6 @@ abbrev pub may_start : (List ℕ → Bool) → Option (List ℕ) → Bool
 may_start fits None = true
 may_start fits (Some start) = fits start
 
--- whether a list has a number of seats for each of so many parties, be it an allocation or not
+-- whether a list has a number of seats for each of the parties, be it an allocation or not
 abbrev pub has_seats_for : ℕ → List ℕ → Bool
 has_seats_for parties list = length list == parties && list_all (λ seats. nat_le seats most_seats) list

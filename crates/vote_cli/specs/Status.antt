@@ -4,7 +4,7 @@ use Rattle.vote_cli.specs.declared.status.Status.{Status}
 use Rattle.vote_cli.specs.declared.status.Status.TheVariants.{Answered, Violated, InputRefused}
 use Rattle.vote_cli.specs.declared.status.Status.TheVariants.{RequestRefused, NoMemory, DeviceFailed}
 
--- the exit status; 2, for words that were refused, is the program's alone
+-- the exit status; no run ends with 2, the status for a refused command line
 abbrev pub code_of : Status → ℕ
 code_of Answered = 0
 code_of Violated = 1

@@ -1,4 +1,4 @@
-//! The answers to what a request asks for, about ballots that were read.
+//! The answers to the questions of a request.
 ghost use Rattle.std.specs.Prelude.{◌≡◌, ◌≢◌, [], Err, IfErr, IfOk, false, length, not, true};
 ghost use Rattle.std.specs.Option.{option_copied};
 ghost use Rattle.request_words.specs.Request.{IsInRange, page_of, question_of};
@@ -22,16 +22,16 @@ use seat_share::{Shares, share_fault};
 use std::alloc::Allocator;
 use text_output::{Names, Report, Sink, write_holds};
 
-/// What an answer that was written says.
+/// What was written.
 #[derive(Clone, Copy, Debug, PartialEq, Eq)]
 pub(crate) enum Outcome {
-    /// It is the answer.
+    /// The answer.
     Answered,
-    /// It is the report of a property that does not hold.
+    /// The report of a property that does not hold.
     Violated,
 }
 
-/// The fair allocations later than a start that has a number of seats for each party.
+/// The fair allocations later than a start, which must have one number of seats for each party.
 fn shares_from(
     votes: &[u64],
     sharing: &Sharing,
@@ -46,7 +46,7 @@ fn shares_from(
     Ok(Shares::new(votes, sharing.method, sharing.seats, start)?)
 }
 
-/// The fair allocations that are asked for. A fault of the votes comes before a start that does not fit.
+/// The fair allocations that are asked for. A fault of the votes takes precedence over a start that does not fit.
 fn shares_of(votes: &[u64], sharing: &Sharing) -> Result<Shares, RequestFault>
     ensures ok { let after = (page_of sharing.now.page).after in IfOk result (λ shares.
         IsSharedOut sharing.now.method sharing.now.seats after votes.now shares
@@ -66,7 +66,7 @@ fn shares_of(votes: &[u64], sharing: &Sharing) -> Result<Shares, RequestFault>
     }
 }
 
-/// Writes the fair allocations of seats to parties with these votes, those of them that are asked for.
+/// Writes the fair allocations that are asked for, of seats to parties with these votes.
 pub(crate) fn answer_share<A: Allocator + Copy, W: Sink>(
     out: &mut W,
     votes: &[u64],
@@ -90,7 +90,7 @@ pub(crate) struct Ballots<'a, A: Allocator + Copy> {
 }
 
 impl<A: Allocator + Copy + Drop> Ballots<'_, A> {
-    /// Writes whether the committee of a list has a property, or the report that shows that it has not.
+    /// Writes that the committee of a list has a property, or the report that shows that it does not.
     // Not inlined: its printer takes 32 KB of stack, which would lie beside a search for winners.
     #[inline(never)]
     fn answer_check<W: Sink>(
@@ -134,7 +134,7 @@ impl<A: Allocator + Copy + Drop> Ballots<'_, A> {
         answer_share(out, votes.as_slice(), sharing, &names)
     }
 
-    /// Writes the answer to what is asked about these ballots.
+    /// Writes the answer to a question about these ballots.
     pub(crate) fn answer<W: Sink>(
         &self,
         alloc: A,

@@ -24,7 +24,6 @@ use tie_families::FamilyWinners;
 use tie_search::{SearchWinners, Searchable};
 use tie_walk::{Tally, Winners};
 
-/// Prints a score over its denominator, on a line.
 fn print_score<W: Sink>(
     printer: &mut Printer<'_, W>,
     score: u128,
@@ -60,7 +59,8 @@ pub(crate) struct Listing<'a, A: Allocator + Copy> {
 }
 
 impl<'a, A: Allocator + Copy + Drop> Listing<'a, A> {
-    /// The listing that a request asks for, if committees of the size exist and the start of the page is one of them.
+    /// The listing that a request asks for. Refuses a size above the number of candidates, and a start that is not a
+    /// committee of this size.
     pub(crate) fn new(
         profile: &'a Profile<A>,
         size: u8,
@@ -90,7 +90,6 @@ impl<'a, A: Allocator + Copy + Drop> Listing<'a, A> {
         })
     }
 
-    /// Prints the best value of a committee, on a line.
     fn print_best<W: Sink>(
         &self,
         printer: &mut Printer<'_, W>,
@@ -129,8 +128,8 @@ impl<'a, A: Allocator + Copy + Drop> Listing<'a, A> {
         write_pieces(out, &pieces)
     }
 
-    /// Writes the lines after these of a rule with a value, which the tally computes, and flushes the writer. A walk
-    /// over the tally's bounds finds the winners.
+    /// Writes the lines after the rule and the size, under a rule whose values the tally computes, and flushes the
+    /// writer. A walk over the tally's bounds finds the winners.
     pub(crate) fn write_ranked<W: Sink, T: Tally>(
         &self,
         out: &mut W,
@@ -146,7 +145,7 @@ impl<'a, A: Allocator + Copy + Drop> Listing<'a, A> {
         self.write_best(out, rule, winners.best(), winners)
     }
 
-    /// Writes the same lines of a rule whose winners a search finds, and flushes the writer.
+    /// Like `write_ranked`, but a search finds the winners.
     pub(crate) fn write_searched<W: Sink, S: Searchable + Drop>(
         &self,
         out: &mut W,
@@ -192,7 +191,6 @@ impl<'a, A: Allocator + Copy + Drop> Listing<'a, A> {
         self.page().print(&mut printer, winners)
     }
 
-    /// How its winners are printed.
     fn page(&self) -> AnswerPage<'_, A>
         ensures names { result.names.now ≡ self.now.names }
         ensures limit { result.limit ≡ self.now.limit }

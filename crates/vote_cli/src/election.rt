@@ -1,4 +1,4 @@
-//! The winners of an election: which algorithm finds them by each rule.
+//! The winners of an election: the algorithm that finds them under each rule.
 //!
 //! All memory is taken first. Then the lines of the rule and the size are sent. Only then does a search begin.
 //!
@@ -22,7 +22,7 @@ use thiele_search::{SearchMemory, ThieleSearch};
 use tie_families::{Families, FamilyWinners};
 use tie_walk::{SavTally, SeqRule, ThieleTally};
 
-/// Writes the winners of an election that are listed.
+/// Writes an election and its listed winners.
 pub(crate) fn answer_election<A: Allocator + Copy + Drop, W: Sink>(
     alloc: A,
     out: &mut W,
@@ -37,7 +37,7 @@ pub(crate) fn answer_election<A: Allocator + Copy + Drop, W: Sink>(
     }
 }
 
-/// Writes the winners by a rule with a value.
+/// Writes an election under a rule that gives committees a value.
 fn answer_scored<A: Allocator + Copy + Drop, W: Sink>(
     alloc: A,
     out: &mut W,
@@ -52,7 +52,7 @@ fn answer_scored<A: Allocator + Copy + Drop, W: Sink>(
     Ok(Outcome::Answered)
 }
 
-/// The memory for a search, if the winners by the rule are found by one that takes memory.
+/// The memory for a search, if a search that takes memory finds the winners under the rule.
 #[inline(never)]
 fn search_memory<'a, A: Allocator + Copy + Drop>(
     alloc: A,
@@ -75,7 +75,7 @@ fn search_memory<'a, A: Allocator + Copy + Drop>(
     }
 }
 
-/// Writes the lines after the rule and the size by a rule with a value.
+/// Writes the lines after the rule and the size.
 fn write_winners<A: Allocator + Copy + Drop, W: Sink>(
     out: &mut W,
     rule: ScoredRule,
@@ -96,7 +96,7 @@ fn write_winners<A: Allocator + Copy + Drop, W: Sink>(
     }
 }
 
-/// Writes the winners by a Thiele rule without a search: under approval voting its bounds are exact.
+/// Writes the winners without a search. This is for approval voting, whose bounds are exact.
 #[inline(never)]
 fn by_bounds<A: Allocator + Copy + Drop, W: Sink>(
     out: &mut W,
@@ -110,7 +110,7 @@ fn by_bounds<A: Allocator + Copy + Drop, W: Sink>(
     listing.write_ranked(out, &tally, ScoredRule::Thiele(rule))
 }
 
-/// Writes the winners by a Thiele rule, which a search finds in this memory.
+/// Writes the winners that a search in this memory finds.
 #[inline(never)]
 fn by_search<A: Allocator + Copy + Drop, W: Sink>(
     out: &mut W,
@@ -125,8 +125,7 @@ fn by_search<A: Allocator + Copy + Drop, W: Sink>(
     listing.write_searched(out, prepared(memory), ScoredRule::Thiele(rule))
 }
 
-/// A search in this memory.
-// Not inlined: what it is made from takes as much stack again, which is given back before anything is searched for.
+// Not inlined: what the search is made from takes as much stack again, which is given back before the search begins.
 #[inline(never)]
 fn prepared<A: Allocator + Copy + Drop>(memory: SearchMemory<'_, A>) -> ThieleSearch<'_, A>
     ensures { result ≡ memory.entry }
@@ -134,7 +133,7 @@ fn prepared<A: Allocator + Copy + Drop>(memory: SearchMemory<'_, A>) -> ThieleSe
     ThieleSearch::new(memory)
 }
 
-/// Writes the winners by satisfaction approval voting, whose bounds are exact without a search.
+/// Writes the winners under satisfaction approval voting, whose bounds are exact without a search.
 #[inline(never)]
 fn by_satisfaction<A: Allocator + Copy + Drop, W: Sink>(
     out: &mut W,
@@ -147,7 +146,7 @@ fn by_satisfaction<A: Allocator + Copy + Drop, W: Sink>(
     listing.write_ranked(out, &tally, ScoredRule::Satisfaction)
 }
 
-/// Writes the winners by minimax approval voting, which a search finds.
+/// Writes the winners under minimax approval voting, which a search finds.
 #[inline(never)]
 fn by_distance<A: Allocator + Copy + Drop, W: Sink>(
     out: &mut W,
@@ -160,7 +159,7 @@ fn by_distance<A: Allocator + Copy + Drop, W: Sink>(
     listing.write_searched(out, search, ScoredRule::Minimax)
 }
 
-/// Writes the winners by a sequential rule, which come in families.
+/// Writes an election under a sequential rule, whose winners come in families.
 #[inline(never)]
 fn answer_sequential<A: Allocator + Copy + Drop, W: Sink>(
     alloc: A,

@@ -11,10 +11,10 @@ use preflib_text::{FaultName, LineReader, Pick};
 use std::alloc::Allocator;
 use text_output::Source;
 
-/// How many bytes are read at once.
+/// The maximum number of bytes per read.
 const PIECE: usize = 8192;
 
-/// Feeds a piece. A fault of the input is kept for the end.
+/// Feeds a piece. `lines` keeps a fault of the input for the end.
 fn feed_piece<A: Allocator + Copy + Drop>(
     lines: &mut LineReader<A>,
     piece: &[u8],
@@ -30,8 +30,8 @@ fn feed_piece<A: Allocator + Copy + Drop>(
     }
 }
 
-/// Feeds all that the reader still has, in pieces. After a fault of the input it is still read to its end. More bytes
-/// than a `u64` can count are a failed read.
+/// Feeds all that the reader still has, in pieces. The input is read to its end even after a fault. More bytes than a
+/// `u64` can count are a failed read.
 fn feed_all<A: Allocator + Copy + Drop, R: Source>(
     lines: &mut LineReader<A>,
     reader: &mut R,
@@ -44,7 +44,7 @@ fn feed_all<A: Allocator + Copy + Drop, R: Source>(
     ensures unread { IfErr result IsUnread }
 {
     let mut piece = [0; PIECE];
-    // How many more bytes may be fed.
+    // The number of bytes that may still be fed.
     let mut left = u64::MAX;
     loop {
         let Ok(count) = reader.read(&mut piece) else {

@@ -15,13 +15,13 @@ pub fn one_answer()
         → IsAnswer asked bytes a → IsAnswer asked bytes b → a ≡ b }
 {}
 
-/// It has one, whatever the bytes are.
+/// A request has an answer over every input.
 pub fn some_answer()
     ensures { (asked : Request) (bytes : List ℕ) → (answer : Answer) × IsAnswer asked bytes answer }
 {}
 
-/// A limit cuts the answer off after so many of its answers, and changes nothing before: `more` stands in the place of
-/// what was cut off, and `end` where nothing was. A refusal stays as it is.
+/// A limit of `n` cuts the list of answers off after the n-th, and changes nothing before. The last line is `more` if
+/// answers were cut off, and otherwise `end`. A refusal stays as it is.
 pub fn limited()
     ensures { (asked : Request) (bytes : List ℕ) (after : Option (List ℕ)) (n : ℕ) (all cut : Answer)
         → is_listing asked.task ≡ true
@@ -31,17 +31,17 @@ pub fn limited()
         × IsCut listed (later_than after listed.answers) n all cut) }
 {}
 
-/// A start that fits leaves out the answers up to it, and changes nothing before: the score is that of all. One that
-/// does not fit is refused, and no other is.
+/// A start that fits leaves out the answers up to it, and changes nothing before: the score is that of all answers. A
+/// start is refused exactly if it does not fit.
 pub fn paged()
     ensures { (asked : Request) (bytes : List ℕ) (page : Page) (all part : Answer) → is_listing asked.task ≡ true
         → IsAnswer (asked_for whole asked) bytes all → IsAnswer (asked_for page asked) bytes part
         → IsSameRefusal all part ⊎ ((listed : Listed) × IsListed asked bytes listed × IsPart listed page all part) }
 {}
 
-/// What follows the j-th answer is fetched by the same request with that answer as its start, and with j taken from its
-/// limit: it has the same lines before its answers, the answers that were left, and the same last line. So an answer
-/// whose output was cut off after the line of its j-th answer is made whole by a second run.
+/// What follows the j-th answer is fetched by the same request with that answer as its start, and its limit reduced by
+/// j. The output has the same lines before its answers, then the answers that were left, and the same last line. So a
+/// second run completes an output that was cut off after the line of its j-th answer.
 pub fn rest()
     ensures { (asked : Request) (bytes : List ℕ) (listed : Listed) (page : Page) (j : ℕ) (last : List ℕ)
         (all rest : Answer) → is_listing asked.task ≡ true → InRange asked.task → IsListed asked bytes listed
@@ -50,7 +50,7 @@ pub fn rest()
         → IsAnswer (asked_for (page_from page j last) asked) bytes rest → IsRest listed page j all rest }
 {}
 
-/// Allocations come in the same order as committees: `seat_share`, which stands on no other crate, has its own
+/// Allocations come in the same order as committees. `seat_share` stands on no other crate, so it has its own
 /// definition of what is later than a start.
 pub fn orders()
     ensures later { (list other : List ℕ) → IsLaterAllocation list other ↔ IsLater list other }

@@ -1,8 +1,8 @@
 //! The library behind the program `committees`: from a request and an input to an answer, a status and an error line.
 //!
-//! `run_request` has the whole run: `input` reads the ballots, `answers` has a function for each question, `election`
-//! chooses the algorithm of a rule, and `refusal` names what stops a run. `listing` prints the answers of an election
-//! or of seats. What prints them, the report of a check, and the devices are in `text_output`.
+//! `run_request` has the whole run. `input` reads the ballots, `answers` has a function for each question, and
+//! `election` chooses the algorithm of a rule. `listing` prints the answers of an election or of seats, and `refusal`
+//! names what stops a run. The printer, the report of a check, and the devices are in `text_output`.
 #![tactic(auto)]
 
 mod answers;

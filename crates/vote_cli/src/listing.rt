@@ -1,5 +1,5 @@
-//! The list of the answers to a request: one loop prints them. `Winners`, `SearchWinners`, `FamilyWinners` and `Shares`
-//! hand out their answers through one trait.
+//! The list of the answers to a request. One loop prints the answers of `Winners`, `SearchWinners`, `FamilyWinners` and
+//! `Shares`, which hand them out through one trait.
 ghost use Rattle.std.specs.Prelude.{◌≡◌, ◌≢◌, ◌-◌, ℕ, List, Some, [], is_ok, option_map, false, true};
 ghost use Rattle.std.specs.Iterator.{YieldsFirstBy};
 ghost use Rattle.text_output.specs.Names.{Names};
@@ -66,10 +66,10 @@ impl Answer for Allocation {
     }
 }
 
-/// How many answers are sent one by one, each before the next one is looked for.
+/// The number of first answers that are sent one by one, each before the next one is looked for.
 const SENT_ALONE: u64 = 100;
 
-/// How many later answers are sent together, if they do not fill the printer before.
+/// The number of later answers that are sent together, if they do not fill the printer before.
 const SENT_TOGETHER: u64 = 256;
 
 /// Whether what waits is sent after the answer of this number, counted from 1.
@@ -77,7 +77,7 @@ fn is_sent_after(number: u64) -> bool {
     number <= SENT_ALONE || number % SENT_TOGETHER == 0
 }
 
-/// What hands out the answers to a request one by one.
+/// Hands out the answers to a request one by one.
 pub(crate) trait Answers {
     type Answer: Answer;
 
@@ -129,7 +129,7 @@ impl Answers for Shares {
     }
 }
 
-/// Prints the last line after as many answers as the limit allows: one look tells whether there is another.
+/// Prints the last line once the limit is reached. It looks for one more answer to decide which line that is.
 fn print_last<W: Sink, A: Answers + Drop>(
     printer: &mut Printer<'_, W>,
     answers: A,
@@ -144,7 +144,6 @@ fn print_last<W: Sink, A: Answers + Drop>(
     }
 }
 
-/// Whether one more answer may be printed.
 fn has_room(room: Option<u32>) -> bool
     ensures some { result ≡ true → room ≢ Some 0 }
     ensures none { result ≡ false → room ≡ Some 0 }
@@ -152,7 +151,6 @@ fn has_room(room: Option<u32>) -> bool
     !matches!(room, Some(0))
 }
 
-/// The room that is left after one answer.
 fn one_less(room: Option<u32>) -> Option<u32>
     ensures { result ≡ option_map (λ n. n - 1) room }
 {
@@ -162,7 +160,7 @@ fn one_less(room: Option<u32>) -> Option<u32>
     }
 }
 
-/// The names beside which answers are printed, and how many answers at most.
+/// The names that are printed beside answers, and the maximum number of answers.
 #[derive(Drop)]
 pub(crate) struct AnswerPage<'a, N: Allocator + Copy> {
     pub(crate) names: &'a Names<'a, N>,
@@ -170,11 +168,10 @@ pub(crate) struct AnswerPage<'a, N: Allocator + Copy> {
 }
 
 impl<N: Allocator + Copy> AnswerPage<'_, N> {
-    /// Prints the answers, as many as the limit allows, and the last line after the lines that were printed before, and
-    /// flushes the writer.
+    /// Prints the answers up to the limit and the last line, and flushes the writer.
     ///
-    /// Those lines are sent before the first answer is looked for, and that answer before the second one is. Later
-    /// answers may wait for each other (`is_sent_after`).
+    /// What was printed before is sent before the first answer is looked for, and the first answer before the second
+    /// one is. Later answers may wait for each other (`is_sent_after`).
     pub(crate) fn print<W: Sink, A: Answers + Drop>(
         &self,
         printer: &mut Printer<'_, W>,
@@ -189,7 +186,6 @@ impl<N: Allocator + Copy> AnswerPage<'_, N> {
         printer.finish()
     }
 
-    /// Prints the answers as far as the limit allows, and the last line.
     fn print_all<W: Sink, A: Answers + Drop>(
         &self,
         printer: &mut Printer<'_, W>,
@@ -212,7 +208,7 @@ impl<N: Allocator + Copy> AnswerPage<'_, N> {
         print_last(printer, answers)
     }
 
-    /// Prints the line of the answer of this number, counted from 1. It is sent at once, or waits for more of them.
+    /// Prints the line of the answer with this number, counted from 1. It is sent at once, or waits for later answers.
     fn print_one<W: Sink, A: Answers>(
         &self,
         printer: &mut Printer<'_, W>,

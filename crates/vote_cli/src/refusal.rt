@@ -18,11 +18,11 @@ use text_output::{Sink, WriteFailed, write_pieces};
 pub(crate) enum RequestFault {
     /// There are fewer candidates than seats.
     SizeTooLarge,
-    /// The start is no committee of so many candidates, or has no number of seats for each party.
+    /// The start is not a committee of this size, or does not have one number of seats for each party.
     AfterMisfit,
-    /// The list of a committee does not rise strictly, has a number that is no candidate's, or has too many.
+    /// The list to check is not strictly increasing, is too long, or has a number that is not a candidate's.
     CommitteeMisfit,
-    /// Some ballot approves two candidates or more, so that it has no one party.
+    /// A ballot approves two candidates or more, so it is not for one party.
     ManyApproved,
     /// Seats cannot be shared out.
     Share(ShareFault),
@@ -42,7 +42,7 @@ impl RequestFault {
     }
 }
 
-/// A start of another length is a misfit, as one that is no allocation.
+/// A start with another number of parties is a misfit of the request.
 impl From<ShareFault> for RequestFault {
     ghost use Rattle.vote_cli.specs.Steps.RequestFaults.{misfit_of};
     ghost use Rattle.std.specs.Prelude.{◌≡◌};
@@ -57,7 +57,7 @@ impl From<ShareFault> for RequestFault {
     }
 }
 
-/// Why a run ends with no answer, or with a part of one.
+/// Why a run ends without an answer, or with only a beginning of one.
 #[derive(Clone, Copy, Debug, PartialEq, Eq)]
 pub(crate) enum Refusal {
     /// The input has a fault.
@@ -84,7 +84,7 @@ impl Refusal {
         }
     }
 
-    /// Writes the line on the errors.
+    /// Writes the line of the refusal.
     pub(crate) fn write<E: Sink>(self, err: &mut E) -> Result<(), WriteFailed>
         ensures { Sends E.contents E.has_failed err.old err.new (is_ok result) (error_of self) }
     {
@@ -98,7 +98,6 @@ impl Refusal {
     }
 }
 
-/// Writes a line on a fault of the input.
 fn write_input_fault<E: Sink>(err: &mut E, fault: ReadFault) -> Result<(), WriteFailed>
     ensures { Sends E.contents E.has_failed err.old err.new (is_ok result) (line (fault_text fault)) }
 {
@@ -117,7 +116,6 @@ fn write_input_fault<E: Sink>(err: &mut E, fault: ReadFault) -> Result<(), Write
     write_pieces(err, &pieces)
 }
 
-/// Writes a line on a request that does not fit.
 fn write_request_fault<E: Sink>(err: &mut E, fault: RequestFault) -> Result<(), WriteFailed>
     ensures { Sends E.contents E.has_failed err.old err.new (is_ok result)
         (line (codes "committees: request: " ++ request_fault_word fault)) }

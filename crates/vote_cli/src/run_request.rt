@@ -1,7 +1,7 @@
 //! A whole run, from the bytes of the input to the bytes of the answer.
 //!
-//! Each function of `answers` says by `Writes` what it wrote. This module joins that to what was read, and
-//! `LeavesRun` (`specs/Runs.antt`) says what a run leaves on its devices.
+//! Each function of `answers` states what it wrote by `Writes`. This module joins that to what was read. `LeavesRun`
+//! (`specs/Runs.antt`) defines what a run leaves on its devices.
 ghost use Rattle.std.specs.Prelude.{◌≡◌, ◌≢◌, Err, IfSome, true};
 ghost use Rattle.preflib_text.specs.Approvals.{HasNumber};
 ghost use Rattle.text_output.specs.Device.{reader_state, writer_state};
@@ -20,7 +20,6 @@ use request_words::{Request, Task};
 use std::alloc::Allocator;
 use text_output::{Names, Sink, Source};
 
-/// The ballots of what was fed, or why there are none.
 fn ballots_of<A: Allocator + Copy + Drop>(lines: LineReader<A>) -> Result<Profile<A>, Refusal>
     ensures ballots { ReadsBallots lines.pick lines.fed result }
     ensures unread { result ≢ Err Refusal.ReadFailed }
@@ -29,7 +28,6 @@ fn ballots_of<A: Allocator + Copy + Drop>(lines: LineReader<A>) -> Result<Profil
     Ok(lines.finish()?)
 }
 
-/// Reads the ballots of the whole input.
 // Not inlined: the piece that is read takes 8 KB of stack, which would lie beside a search for winners.
 #[inline(never)]
 fn read_ballots<A: Allocator + Copy + Drop, R: Source>(
@@ -77,7 +75,6 @@ fn answer<A: Allocator + Copy + Drop, R: Source, W: Sink>(
     }
 }
 
-/// Ends a run that was refused, with a line on the errors.
 fn refuse<E: Sink>(err: &mut E, refusal: Refusal) -> Status
     ensures status { result ≡ status_of refusal }
     ensures error { Reports (writer_state E.contents E.has_failed err.old)
@@ -87,11 +84,12 @@ fn refuse<E: Sink>(err: &mut E, refusal: Refusal) -> Status
     refusal.status()
 }
 
-/// Answers a request over the bytes of a reader: writes the answer to `out`, or a line to `err`.
+/// Answers a request over the bytes of a reader: writes the answer to `out`, or a line to `err`. The status is how the
+/// run ended. If a write fails, `out` has taken a beginning of the answer.
 ///
-/// The input is read to its end, whatever stands in it. Only then is the request tested, and only then something
-/// written. No memory is taken after the first write. Where the votes stand in the request, nothing is read, and no
-/// memory is taken. Ballots are hashed by the fixed numbers.
+/// The input is read to its end, whatever it holds. Only then is the request tested, and only then is anything written.
+/// No memory is taken after the first write. If the votes stand in the request, nothing is read and no memory is taken.
+/// Ballots are hashed with fixed parameters; use `run_with_hashing` for untrusted input.
 pub fn run<A: Allocator + Copy + Drop, R: Source, W: Sink, E: Sink>(
     alloc: A,
     request: &Request,
@@ -110,8 +108,7 @@ pub fn run<A: Allocator + Copy + Drop, R: Source, W: Sink, E: Sink>(
     run_with_hashing(storage, request, reader, out, err)
 }
 
-/// Answers a request like `run`, but keeps ballots by the hashing of `storage`. It changes the time that ballots take,
-/// and nothing else.
+/// Like `run`, but ballots are hashed with the parameters of `storage`. These only change the time that ballots take.
 pub fn run_with_hashing<A: Allocator + Copy + Drop, R: Source, W: Sink, E: Sink>(
     storage: Storage<A>,
     request: &Request,

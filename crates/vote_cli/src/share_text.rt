@@ -11,7 +11,6 @@ use seat_share::{Method, Shares};
 use std::alloc::Allocator;
 use text_output::{Names, Printer, Sink, WriteFailed};
 
-/// Prints the lines of the method and the seats.
 fn print_header<W: Sink>(
     printer: &mut Printer<'_, W>,
     method: Method,
@@ -30,7 +29,7 @@ fn print_header<W: Sink>(
     printer.print_all(&pieces)
 }
 
-/// Writes the answer to what is asked for, with these allocations after the start, and flushes the writer.
+/// Writes the method, the seats and these allocations up to the limit, and flushes the writer.
 pub(crate) fn write_shares<W: Sink, N: Allocator + Copy>(
     out: &mut W,
     shares: Shares,

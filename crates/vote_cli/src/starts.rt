@@ -13,8 +13,8 @@ use ballot_base::{CandSet, MOST_MEMBERS};
 use request_words::Page;
 use seat_share::{MOST_PARTIES, MOST_SEATS};
 
-/// The committee of these numbers, in increasing order, of the candidates 1 to m. There is none where the list is not
-/// increasing, has another number, or has more than `MOST_MEMBERS`.
+/// The committee with the numbers of a list, of the candidates 1 to `m`. Returns `None` if the list is not strictly
+/// increasing, has a number outside 1 to `m`, or has more than `MOST_MEMBERS`.
 pub(crate) fn committee_of(list: &[u64], m: u8) -> Option<CandSet>
     requires { m ≤ most_candidates }
     ensures some { IfSome result (λ committee. committee ≡ list.now) }
@@ -36,8 +36,8 @@ pub(crate) fn committee_of(list: &[u64], m: u8) -> Option<CandSet>
     Some(committee)
 }
 
-/// The committee of k of the candidates 1 to m after which winners are asked for, if there is a start. It need not win.
-/// A list that is no such committee is a misfit.
+/// The committee of `k` of the candidates 1 to `m` after which winners are asked for, if the page has a start. It need
+/// not win. Any other list is a misfit.
 pub(crate) fn committee_start(page: &Page, m: u8, k: u8) -> Result<Option<CandSet>, RequestFault>
     requires candidates { m ≤ most_candidates }
     requires size { k ≤ most_members }
@@ -58,8 +58,8 @@ pub(crate) fn committee_start(page: &Page, m: u8, k: u8) -> Result<Option<CandSe
     Ok(Some(committee))
 }
 
-/// The seats in a list, which need not be an allocation. There are none where a number is above `MOST_SEATS`, or where
-/// there are more than `MOST_PARTIES`. It takes no memory.
+/// The seats in a list, which need not be an allocation. Returns `None` if a number is above `MOST_SEATS`, or there are
+/// more than `MOST_PARTIES`. It takes no memory.
 pub(crate) fn seats_start(list: &[u64]) -> Option<ArrayVec<u16, MOST_PARTIES>>
     ensures some { IfSome result (λ start.
         (start.items ≡ list.now) × (has_seats_for (length list.now) list.now ≡ true)) }

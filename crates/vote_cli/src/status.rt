@@ -15,9 +15,9 @@ pub enum Status {
     Answered,
     /// A property is violated, and the report was written.
     Violated,
-    /// The input was refused.
+    /// The input has a fault.
     InputRefused,
-    /// The request was refused against the input.
+    /// The request does not fit the input, or its own votes.
     RequestRefused,
     /// An allocation failed.
     NoMemory,
@@ -26,7 +26,7 @@ pub enum Status {
 }
 
 impl Status {
-    /// The exit status of the program. 2, for words that were refused, is the program's alone.
+    /// The exit status of the program. No run ends with 2, the status for a refused command line.
     pub fn code(&self) -> u8
         ensures { result ≡ code_of self.now }
     {

@@ -2,10 +2,10 @@
 
 use ballot_base::BallotHashing;
 
-/// Where ballots are kept: the memory that they take, and the parameters of the hash by which equal ballots are found.
+/// Where ballots are kept: the memory that they take, and the parameters of the hash that finds equal ballots.
 #[derive(Clone, Copy)]
 pub struct Storage<A> {
-    /// What gives memory.
+    /// The allocator.
     pub alloc: A,
     /// The parameters of the hash.
     pub hashing: BallotHashing,

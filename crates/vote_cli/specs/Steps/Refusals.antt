@@ -1,4 +1,4 @@
--- Why a run ends with no answer, or with a part of one, and what is true then.
+-- Why a run ends without an answer, or with only a beginning of one, and what is true then.
 use Rattle.std.specs.Prelude.{◌≡◌, ◌≢◌, ◌++◌, ℕ, Bool, true, false, List, [], Option, Result, Ok, Err, codes}
 use Rattle.std.specs.Io.KnownBytes.{Appends}
 use Rattle.ballot_base.specs.Ballots.{Election}
@@ -29,7 +29,7 @@ status_of Memory = status.NoMemory
 status_of ReadFailed = status.DeviceFailed
 status_of WriteFailed = status.DeviceFailed
 
--- the line on the errors
+-- the line on standard error
 abbrev pub error_of : Refusal → List ℕ
 error_of (Input fault) = line (fault_text fault)
 error_of (Request fault) = line (codes "committees: request: " ++ request_fault_word fault)
@@ -51,14 +51,14 @@ ReadsBallots pick bytes (Err Memory) = Unit {0}
 ReadsBallots pick bytes (Err ReadFailed) = Unit {0}
 ReadsBallots pick bytes (Err refusal) = ⊥
 
--- how an input was read, by what came of it: it could not be read exactly if that is the refusal; it was read to its
--- end unless memory ran out
+-- how an input was read, by the result: the refusal is `ReadFailed` exactly if reading failed; otherwise the input was
+-- read to its end, unless memory ran out
 abbrev pub ReadsOn : {T : Type 0} → ReaderState → ReaderState → Result T Refusal → Type 0
 ReadsOn old new (Err ReadFailed) = FailsToRead old new
 ReadsOn old new (Err Memory) = ReadsSoundly old new
 ReadsOn old new result = ReadsSoundly old new × IsAllRead old new
 
--- the same of a run, which leaves its reader alone if the votes stand in the words
+-- like `ReadsOn`, but for a run, which leaves its reader alone if the votes stand in the command line
 abbrev pub TellsOfReads : {T : Type 0} → Task → ReaderState → ReaderState → Result T Refusal → Type 0
 TellsOfReads task old new (Err ReadFailed) = (has_votes task ≡ false) × FailsToRead old new
 TellsOfReads task old new (Err Memory) = (has_votes task ≡ false) × ReadsSoundly old new
@@ -70,13 +70,13 @@ IsUnread Memory = Unit {0}
 IsUnread ReadFailed = Unit {0}
 IsUnread refusal = ⊥
 
--- a call of the writer has failed exactly where that is the refusal
+-- a call of the writer has failed exactly if the refusal is `WriteFailed`
 abbrev pub TellsOfWrites : {T : Type 0} → Bool → Bool → Result T Refusal → Type 0
 TellsOfWrites old new (Err WriteFailed) = new ≡ true
 TellsOfWrites old new result = new ≡ old
 
--- What was written, and what it ends with, where this says which answers are right: one of them whole, a beginning of
--- one where a write failed, and else nothing. A refusal for the input or the request is then a right answer.
+-- What was written, by the result, if `IsRight` holds of the right answers: one of them whole, a beginning of one if a
+-- write failed, and otherwise nothing. A refusal for the input or the request is then a right answer.
 abbrev pub WritesRight : (Answer → Type 0) → Option (List ℕ) → Option (List ℕ) → Result Outcome Refusal → Type 0
 WritesRight IsRight old new (Ok outcome.Answered) = (text : List ℕ) × IsRight (answered text) × Appends old new text
 WritesRight IsRight old new (Ok outcome.Violated) = (text : List ℕ) × IsRight (violated text) × Appends old new text
@@ -96,6 +96,6 @@ module _ {W : Type 0} (contents : W → Option (List ℕ)) (has_failed : W → B
     pub writes : TellsOfWrites (has_failed old) (has_failed new) result
     pub unread : result ≢ Err ReadFailed
 
-  -- the same of the one right answer, which has this text
+  -- like `Writes`, if the right answer is the one with this text
   abbrev pub WritesText : W → W → Result Outcome Refusal → List ℕ → Type 0
   WritesText old new result text = Writes old new result (λ answer. answer ≡ answered text)

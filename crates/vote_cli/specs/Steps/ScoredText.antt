@@ -10,8 +10,8 @@ use Rattle.vote_cli.specs.Listing.{answers_text, committee_line}
 use Rattle.text_output.specs.Names.{Names}
 use Rattle.text_output.specs.Text.{line}
 
--- what is printed of an election after the lines of the rule and the size, by a rule by which committees have these
--- values
+-- what is printed of an election after the lines of the rule and the size, if committees have these values under the
+-- rule
 abbrev pub ranked_text : ScoredRule → (List ℕ → ℕ) → ℕ → Page → Names → Election → List ℕ
 ranked_text rule value size page names e = line (best_text rule e.m size (best_value value e.m size))
     ++ answers_text (committee_line names) page.limit (later_than page.after (winners value e.m size))

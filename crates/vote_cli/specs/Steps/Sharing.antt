@@ -11,7 +11,7 @@ abbrev pub IsSharedOut : Method → ℕ → Option (List ℕ) → List ℕ → L
 IsSharedOut method seats start votes shares =
     (share_fault votes seats None ≡ None) × (shares ≡ later_than start (allocations method votes seats))
 
--- seats are not shared out, and this is the word for it: by the votes, or where they may not start so
+-- seats are not shared out, and this is the word for it: a fault of the votes, or a start that does not fit
 abbrev pub IsShareRefusal : ℕ → Bool → List ℕ → List ℕ → Type 0
 IsShareRefusal seats starts votes word =
     (text : List ℕ) → share_answer_by (share_fault votes seats None) starts text ≡ request_refused word
