@@ -1,5 +1,5 @@
 -- Pairs of members. What a voter gives for h hits is at most a concave quadratic function of h, and h * h counts the
--- ordered pairs of members whom the voter approves. So the voters together give at most a quadratic function of the
+-- ordered pairs of members that the voter approves. So the voters together give at most a quadratic function of the
 -- members, and row sums bound that by a linear one (Gallo, Hammer and Simeone, Quadratic knapsack problems).
 use Rattle.std.specs.Prelude.{ℕ, ◌+◌, ◌-◌, ◌*◌, ◌≤◌, List, sum, sum_by, take}
 use Rattle.ballot_base.specs.Ballots.{Row}

@@ -1,6 +1,6 @@
--- Prices of candidates: what a completion of a set gives each voter is at most what is kept for the voter and the
--- multiplier for each hit more, so that no completion is worth more than what all keep and the prices of those who join
--- (Fisher, The Lagrangian relaxation method for solving integer programming problems).
+-- Prices of candidates. A voter gives a completion of a set at most what is kept for the voter, and the multiplier for
+-- each further hit. So no completion is worth more than what all keep and the prices of the members that join (Fisher,
+-- The Lagrangian relaxation method for solving integer programming problems).
 use Rattle.std.specs.Prelude.{ℕ, ◌+◌, ◌*◌, ◌≤◌, List, sum, take}
 
 -- what is kept is at least what h hits after the first `before` give in all, less the multiplier for each of the h, for

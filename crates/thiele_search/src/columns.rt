@@ -1,12 +1,12 @@
-//! The ballots candidate by candidate, a bit a voter, so that gains are counted for 64 voters at once.
+//! The ballots candidate by candidate, one bit per voter, so that gains are counted for 64 voters at once.
 //!
-//! Words that hold the voters with each number of hits are made member by member: those who approve the member move on
-//! by one hit. The gain of a candidate is the sum, over numbers of hits, of the weight times the bits that word and
-//! column share. Only the candidates that are asked for are counted.
+//! One word holds the voters with each number of hits. The words are made member by member: voters who approve the
+//! member move on by one hit. The gain of a candidate is the sum, over numbers of hits, of the weight times the bits
+//! that word and column share. Only the candidates that are asked for are counted.
 //!
-//! There are no columns for more than 65,536 voters or more than two voters a row; then gains come from one pass over
-//! the rows. Sums are made in words of 64 bits if all weights are below 2^44, and in words of 128 bits otherwise. The
-//! columns lie in memory that is taken once, when they are made.
+//! There are no columns for more than 65,536 voters or more than two voters per row; then gains come from one pass over
+//! the rows. Sums are made in words of 64 bits if all weights are below 2^44, and otherwise in words of 128 bits. The
+//! columns take 520 bytes for 64 voters, once, when they are made.
 ghost use Rattle.std.specs.Prelude.{◌≡◌, ℕ, ◌+◌, ◌-◌, ◌*◌, ◌^◌, ◌<◌, ◌≤◌, ◌==◌, ◌&&◌, true, List, [], ◌∷◌, ◌++◌, length, replicate, slice_index, IfOk, MatchOption, ⊤, if◌then◌else◌};
 ghost use Rattle.std.specs.Int.{bit_at};
 ghost use Rattle.ballot_base.specs.Limits.{most_candidates, most_members};
@@ -20,19 +20,19 @@ use ballot_base::{CandSet, Increments, MOST_MEMBERS, PLACES, Profile, ThieleRule
 use std::alloc::{AllocError, Allocator};
 use tie_search::Node;
 
-/// How many voters share a word.
+/// The number of voters who share a word.
 const BLOCK_VOTERS: usize = 64;
 
-/// How many blocks of so many voters there may be: 65,536 voters.
+/// The maximum number of blocks: 65,536 voters.
 const MOST_BLOCKS: usize = 1024;
 
-/// With more voters a row than this, a pass over the rows is quicker than one over the blocks.
+/// With more voters per row than this, a pass over the rows takes less time than one over the blocks.
 const ROW_VOTERS: usize = 2;
 
-/// Who of 64 voters approve each candidate, at the candidate's number.
+/// For each candidate, at its number, which of 64 voters approve it.
 type Block = [u64; PLACES];
 
-/// Moves those who approve a further member on by one hit.
+/// Moves the voters who approve a further member on by one hit.
 fn add_hit(words: &mut Block, approving: u64, levels: usize)
     requires { levels ≤ most_members }
     ensures { (h i : ℕ) → h < levels → i < block_voters → bit_at (slice_index words.new h) i
@@ -46,7 +46,6 @@ fn add_hit(words: &mut Block, approving: u64, levels: usize)
     }
 }
 
-/// All voters of a block have no hit.
 fn no_hits() -> Block
     ensures long { length result ≡ most_candidates + 1 }
     ensures none { slice_index result 0 ≡ 2 ^ 64 - 1 }
@@ -57,7 +56,7 @@ fn no_hits() -> Block
     words
 }
 
-/// Who of a block has each number of hits, at the number, for the first `levels` numbers.
+/// For each of the first `levels` numbers of hits, at the number, which voters of a block have it.
 fn by_hits(block: &Block, set: CandSet, levels: usize) -> Block
     requires { levels ≤ most_members }
     ensures { (ballot_at : ℕ → List ℕ) → IsBlock ballot_at block.now → AreByHits ballot_at set levels result }
@@ -69,7 +68,7 @@ fn by_hits(block: &Block, set: CandSet, levels: usize) -> Block
     words
 }
 
-/// Who of a block approve a member of the set.
+/// Which voters of a block approve a member of the set.
 fn covered_by(block: &Block, set: CandSet) -> u64
     ensures { (ballot_at : ℕ → List ℕ) → IsBlock ballot_at block.now → (i : ℕ) → i < block_voters
         → bit_at result i ≡ (if hits (ballot_at i) set == 0 then 0 else 1) }
@@ -95,7 +94,6 @@ fn given_by(words: &Block, column: u64, weights: &HitWeights, levels: usize) -> 
     }
 }
 
-/// What those voters of a column give who are among the uncovered ones.
 fn given_first(column: u64, uncovered: u64, weight: u128) -> u128
     requires { weight ≤ 2 ^ 84 }
     ensures sum { result ≡ weight * shared column uncovered }
@@ -104,7 +102,6 @@ fn given_first(column: u64, uncovered: u64, weight: u128) -> u128
     weight * u128::from((column & uncovered).count_ones())
 }
 
-/// What the voters of a column give, by small weights.
 fn given_by_small(words: &Block, column: u64, weights: &Weights, levels: usize) -> u64
     requires few { levels ≤ most_members }
     requires small { (h : ℕ) → slice_index weights.now h < 2 ^ 44 }
@@ -119,7 +116,6 @@ fn given_by_small(words: &Block, column: u64, weights: &Weights, levels: usize) 
     sum
 }
 
-/// What the voters of a column give, by weights of any size.
 fn given_by_large(
     words: &Block,
     column: u64,
@@ -139,7 +135,7 @@ fn given_by_large(
     sum
 }
 
-/// Puts a voter at a place of a block: the bit of the place is set for each candidate whom the ballot approves.
+/// Puts a voter at a place of a block: the bit of the place is set for each candidate on the ballot.
 fn add_voter(block: &mut Block, place: u32, ballot: CandSet)
     requires { place < block_voters }
     ensures { (c i : ℕ) → i < block_voters → bit_at (slice_index block.new c) i
@@ -150,7 +146,7 @@ fn add_voter(block: &mut Block, place: u32, ballot: CandSet)
     }
 }
 
-/// Puts the voters of a row after so many others.
+/// Puts `count` voters with one ballot after the first `voters` voters.
 fn add_row(blocks: &mut [Block], voters: usize, ballot: CandSet, count: usize)
     requires { voters + count ≤ length blocks.old * block_voters }
     ensures kept { length blocks.new ≡ length blocks.old }
@@ -164,7 +160,7 @@ fn add_row(blocks: &mut [Block], voters: usize, ballot: CandSet, count: usize)
     }
 }
 
-/// Blocks in which no voter approves anyone, as many as so many voters need.
+/// Enough empty blocks for this many voters.
 fn no_voters<A: Allocator + Drop>(alloc: A, voters: usize) -> Result<Vec<Block, A>, AllocError>
     requires { voters ≤ most_blocks * block_voters }
     ensures few { IfOk result (λ blocks. length blocks.items ≤ most_blocks) }
@@ -174,7 +170,7 @@ fn no_voters<A: Allocator + Drop>(alloc: A, voters: usize) -> Result<Vec<Block, 
     vec![in alloc; [0; PLACES]; voters.div_ceil(BLOCK_VOTERS)]
 }
 
-/// The voters of a profile, in as many blocks as they need.
+/// The voters of a profile in blocks.
 fn blocks_of<A: Allocator + Copy + Drop>(
     alloc: A,
     profile: &Profile<A>,
@@ -194,7 +190,7 @@ fn blocks_of<A: Allocator + Copy + Drop>(
     Ok(blocks)
 }
 
-/// Up to which hit something is given.
+/// The number of the last hit that gives something.
 fn last_level(weights: &[u128; MOST_MEMBERS as usize]) -> usize
     ensures most { result ≤ most_members }
     ensures end { (j : ℕ) → result ≤ j → slice_index weights.now j ≡ 0 }
@@ -208,7 +204,7 @@ fn last_level(weights: &[u128; MOST_MEMBERS as usize]) -> usize
     levels
 }
 
-/// The ballots of a profile, candidate by candidate, and what is given for each hit.
+/// The ballots of a profile, candidate by candidate, and what a voter gives for each hit.
 #[derive(Drop)]
 pub(crate) struct Columns<A: Allocator> {
     pub(crate) blocks: Vec<Block, A>,
@@ -219,8 +215,7 @@ pub(crate) struct Columns<A: Allocator> {
 }
 
 impl<A: Allocator + Copy + Drop> Columns<A> {
-    /// The ballots of a profile, if there are not too many voters. If many voters cast the same ballots, a pass over
-    /// the rows is quicker.
+    /// The columns of a profile. Returns `None` if there are too many voters, or too many voters per row.
     pub(crate) fn of(
         alloc: A,
         profile: &Profile<A>,
@@ -260,7 +255,7 @@ impl<A: Allocator> Columns<A> {
         gains
     }
 
-    /// How many voters approve a member of the set.
+    /// The number of voters who approve a member of the set.
     pub(crate) fn covered(&self, set: CandSet) -> usize
         ensures { (ballots : List (List ℕ)) → AreColumns ballots self.now.blocks.items → AreRising ballots
             → result ≡ total (λ v. approves_some set (voter_ballot ballots v))
@@ -295,7 +290,8 @@ impl<A: Allocator> Columns<A> {
         }
     }
 
-    /// The same if only a voter's first hit counts: those who approve no member of the set give for a candidate.
+    /// Like `add_block`, if only a voter's first hit counts. One word, for the voters without a hit, is enough; with a
+    /// word for each number of hits, random elections took a quarter more time.
     fn add_first_hits(&self, gains: &mut Worths, block: &Block, node: &Node)
         requires first { self.now.levels ≡ 1 }
         requires fits { (c : ℕ) → slice_index gains.old c < 2 ^ 106 }

@@ -1,6 +1,6 @@
-//! A good committee to begin with: one that grows by greatest gains, and exchanges of members that make it better.
+//! A good committee to begin with. It grows by the highest gains, and exchanges of members make it better.
 //!
-//! Any committee is right, so nothing is proved of these but that candidates of the election are in them.
+//! Any committee is right, so it is only proved that its members are candidates of the election.
 ghost use Rattle.std.specs.Prelude.{◌≤◌};
 ghost use Rattle.ballot_base.specs.Limits.{most_candidates};
 ghost use Rattle.ballot_base.specs.Lists.{IsIncreasing};
@@ -10,11 +10,11 @@ use ballot_base::CandSet;
 use std::alloc::Allocator;
 use tie_walk::Tally;
 
-/// How often all members of a committee may be tried for exchanges. Any limit is right, and few passes are needed.
+/// The maximum number of passes over the members of a committee. Any limit is right, and few passes are needed.
 const MOST_PASSES: u8 = 64;
 
 impl<A: Allocator + Copy> Search<'_, A> {
-    /// A committee of k that grew by one candidate of the greatest gain after another.
+    /// A committee of `k` that grows by one candidate with the highest gain after another.
     pub(crate) fn greedy(&self, k: u8) -> CandSet {
         let all = CandSet::all(self.tally.m());
         let mut committee = CandSet::empty();
@@ -29,7 +29,7 @@ impl<A: Allocator + Copy> Search<'_, A> {
         committee
     }
 
-    /// A committee that is no worse: members are exchanged until no exchange makes it better.
+    /// Exchanges members of a committee until no exchange makes it better.
     pub(crate) fn exchanged(&self, committee: CandSet) -> CandSet
         ensures { IsIncreasing 1 self.now.election.m result }
     {
@@ -44,7 +44,7 @@ impl<A: Allocator + Copy> Search<'_, A> {
         best
     }
 
-    /// Each member in turn is exchanged, if this makes the committee better.
+    /// Exchanges each member in turn, if this makes the committee better.
     fn exchanged_once(&self, committee: CandSet) -> CandSet
         requires { IsIncreasing 1 self.now.election.m committee }
         ensures { IsIncreasing 1 self.now.election.m result }
@@ -56,7 +56,7 @@ impl<A: Allocator + Copy> Search<'_, A> {
         best
     }
 
-    /// The committee with the candidate of the greatest gain in a member's place, if it is worth more then.
+    /// The committee with the candidate of the highest gain in a member's place, if that raises its value.
     fn replaced(&self, committee: CandSet, member: u8) -> CandSet
         requires candidates { IsIncreasing 1 self.now.election.m committee }
         requires member { member ≤ most_candidates }

@@ -15,8 +15,8 @@ ghost use Rattle.thiele_search.specs.Prices.{IsKept};
 use ballot_base::ThieleRule;
 
 /// A majorant for each row bounds what its voters give, by the hits among the added members. Summed over the rows, no
-/// committee is worth more than what all voters keep and the worths of the added members, less their overlaps: that of
-/// each ordered pair of them, and of each with itself. Any numbers that make majorants are right.
+/// committee is worth more than what all voters keep and the worths of the added members, less the overlaps of all
+/// ordered pairs of them, also of each with itself. Any numbers that make majorants are right.
 pub fn pairs()
     ensures { (weights : List ℕ) (scale unit m : ℕ) (kept worth overlap : Row → ℕ) (rows : List Row)
         (set free : List ℕ) (left : ℕ) (committee : List ℕ) → AllByRecursion (λ row. IsIncreasing 1 m row.0) rows
@@ -30,7 +30,7 @@ pub fn pairs()
 
 /// Row sums bound worths less overlaps. The row of a member has its own worth and that of each other member beside it,
 /// which is raised so that it is not below 0. Any threshold bounds a row: each of the others brings the threshold, and
-/// what its worth beside the member exceeds it by.
+/// the excess of its worth beside the member over the threshold.
 pub fn row_sums()
     ensures { (worth : ℕ → ℕ) (overlap : ℕ → ℕ → ℕ) (m left raise : ℕ) (threshold : ℕ → ℕ) (free members : List ℕ)
         → 2 ≤ left → IsIncreasing 1 m free → IsIncreasing 1 m members → length members ≡ left
@@ -42,7 +42,7 @@ pub fn row_sums()
         + sum_by (λ i. row_sum worth overlap free left raise (threshold i) i) members }
 {}
 
-/// Each member that is added to a set brings its gain at the set at most, since gains only fall as a set grows.
+/// Each member that is added to a set brings at most its gain at the set, since gains only fall as a set grows.
 pub fn gains()
     ensures { (rule : ThieleRule) (k : ℕ) (rows : List Row) (m : ℕ) (set free : List ℕ) (left : ℕ)
         (committee : List ℕ) → k ≤ most_members → IsNode m set free → IsCompletion m set free left committee
@@ -50,8 +50,9 @@ pub fn gains()
         + sum_by (gain_at (thiele_value (increments rule k) rows) set) (common_members free committee) }
 {}
 
-/// Prices bound the completions of a set: whatever multiplier is chosen for each row, no completion is worth more than
-/// what all voters keep and the prices of those who join, which are the multipliers of those who approve them.
+/// Prices bound the completions of a set, whatever multiplier is chosen for each row. The price of a candidate is the
+/// sum of the multipliers of the voters who approve it. No completion is worth more than what all voters keep and the
+/// prices of the added members.
 pub fn prices()
     ensures { (weights : List ℕ) (scale unit m : ℕ) (kept multiplier : Row → ℕ) (rows : List Row)
         (set free : List ℕ) (left : ℕ) (committee : List ℕ) → AllByRecursion (λ row. IsIncreasing 1 m row.0) rows

@@ -1,7 +1,7 @@
 //! Concave quadratic majorants of what a voter gives.
 //!
 //! For h hits after the first ones, a voter gives at most `kept + worth * h - overlap * h * h`. Since h * h is the
-//! number of ordered pairs of members whom the voter approves, majorants see where members overlap. Any `worth` and
+//! number of ordered pairs of members that the voter approves, majorants see where members overlap. Any `worth` and
 //! `overlap` are right, as `kept` is made as high as it must be.
 ghost use Rattle.std.specs.Prelude.{◌≡◌, ℕ, ◌+◌, ◌*◌, ◌^◌, ◌≤◌, min, slice_index, MatchOption, ⊤};
 ghost use Rattle.ballot_base.specs.Limits.{most_candidates, most_members};
@@ -11,10 +11,10 @@ ghost use Rattle.thiele_search.specs.Steps.Paired.{AreSums, IsMajorantOf};
 use ballot_base::{Increments, PLACES, ThieleRule};
 use std::marker::Model;
 
-/// How many units the first hit gives, about, in sums for majorants. With so many, rounding matters little.
+/// The first hit gives about this many units in sums for majorants: enough that rounding matters little.
 pub(crate) const PAIR_UNITS: u128 = 1 << 20;
 
-/// All hits of a voter give no more than so many first ones.
+/// All hits of a voter together give at most this many times the first one.
 const MOST_FIRST_HITS: u128 = 64;
 
 /// What each number of hits gives in all: times the scale, in units. What each hit adds is rounded up, and no hit adds
@@ -32,8 +32,8 @@ pub(crate) struct HitSums {
 }
 
 impl HitSums {
-    /// The sums under a rule, where the first hit gives about so many units. None if they would be too large, or if a
-    /// hit added more than the one before it, which no rule has.
+    /// The sums under a rule, with about `units` units for the first hit. Returns `None` if they would be too large, or
+    /// if a hit added more than the one before it, as under no rule.
     pub(crate) fn of(rule: ThieleRule, k: u8, units: u128) -> Option<HitSums>
         requires some { 1 ≤ k }
         requires size { k ≤ most_members }
@@ -64,7 +64,7 @@ impl HitSums {
         Some(HitSums { scale, unit, sums })
     }
 
-    /// What the hit after so many gives. A hit past the last possible one gives nothing.
+    /// What the hit after the first `hits` gives. A hit past the last possible one gives nothing.
     pub(crate) fn increment(&self, hits: u8) -> u64
         ensures small { result ≤ 2 ^ 46 }
         ensures rise { hits + 1 ≤ most_candidates
@@ -78,9 +78,9 @@ impl HitSums {
         }
     }
 
-    /// The most that a voter gives for up to `most` hits after the first `before`, with those before, less the
-    /// multiplier for each hit after these. No hit gives more than the one before it, so the first that gives too
-    /// little ends the count.
+    /// The maximum that a voter gives for the first `before` hits and up to `most` further ones, less the multiplier
+    /// for each further hit. No hit gives more than the one before it, so the first that gives too little ends the
+    /// count.
     pub(crate) fn kept(&self, before: u8, most: u8, multiplier: u64) -> u64
         requires fits { before + most ≤ most_candidates }
         requires multiplier { multiplier ≤ 2 ^ 46 }
@@ -95,8 +95,8 @@ impl HitSums {
         self.sums[usize::from(before + hits)] - multiplier * u64::from(hits)
     }
 
-    /// The number of hits, up to `most` after the first `before`, nearest to `hits`, at which a voter keeps the most
-    /// beside the multiplier.
+    /// The number of further hits after the first `before`, up to `most`, with which a voter keeps the maximum. Of
+    /// several such numbers it is the nearest to `hits`.
     pub(crate) fn wanted(&self, before: u8, most: u8, multiplier: u64, hits: u8) -> u8
         requires fits { before + most ≤ most_candidates }
         ensures { result ≤ most }
@@ -113,7 +113,7 @@ impl HitSums {
     }
 }
 
-/// What a voter gives at most for h hits more: `kept + worth * h - overlap * h * h`.
+/// An upper bound on what a voter gives for h further hits: `kept + worth * h - overlap * h * h`.
 #[derive(Clone, Copy)]
 pub(crate) struct Majorant {
     pub(crate) kept: u64,
@@ -122,8 +122,8 @@ pub(crate) struct Majorant {
 }
 
 impl Majorant {
-    /// A majorant for up to `most` hits after the first `before`. It is exact at `touch` hits more, and at one more
-    /// than these, as far as that can be.
+    /// A majorant for up to `most` hits after the first `before`. It is exact at `touch` further hits and at one more,
+    /// as far as that can be.
     pub(crate) fn at(sums: &[u64; PLACES], before: u8, most: u8, touch: u8) -> Majorant
         requires small { (n : ℕ) → slice_index sums.now n ≤ 2 ^ 26 }
         requires fits { before + most ≤ most_candidates }
@@ -172,7 +172,7 @@ const PLACES_BEFORE: usize = 8;
 /// A table of majorants has places for ballots that approve fewer free candidates than this.
 const PLACES_OPEN: usize = 32;
 
-/// How many places a table of majorants has.
+/// The number of places in a table of majorants.
 const TABLE_PLACES: usize = 256;
 
 /// The majorants of ballots if `left` of `free` candidates complete a set. Each is computed when it is first asked for,
@@ -198,7 +198,6 @@ impl<'a> Model for Majorants<'a> {
 }
 
 impl<'a> Majorants<'a> {
-    /// A table without majorants.
     pub(crate) fn new(sums: &'a [u64; PLACES], left: u8, free: u8) -> Majorants<'a>
         requires some { 1 ≤ free }
         requires small { (n : ℕ) → slice_index sums.now n ≤ 2 ^ 26 }
@@ -243,8 +242,8 @@ impl<'a> Majorants<'a> {
     }
 }
 
-/// Where a majorant is exact: at the mean number of hits among `left` of the free candidates, of which a ballot has
-/// `approved`; at most at `most`.
+/// The number of hits at which a majorant is exact, up to `most`: the mean if `left` of the free candidates are drawn
+/// at random. The quadratic with the lowest mean bound entered as many sets.
 fn touch_point(approved: u8, most: u8, left: u8, free: u8) -> u8
     requires some { 1 ≤ free }
     ensures { result ≤ most }

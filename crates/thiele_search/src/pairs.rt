@@ -3,7 +3,7 @@
 //! Majorants (module `majorant`) are summed over the ballots. No completion of a set is worth more than what all voters
 //! keep and the worths of the added members, less the overlaps of all pairs of them (`laws::pairs`). Row sums bound
 //! this in turn by a sum over the members (`laws::row_sums`; Gallo, Hammer and Simeone, Quadratic knapsack problems,
-//! 1980). A candidate leaves if the others fall short with it.
+//! 1980). A candidate leaves if every completion with it falls short.
 ghost use Rattle.std.specs.Prelude.{◌≡◌, ℕ, ◌+◌, ◌-◌, ◌*◌, ◌^◌, ◌<◌, ◌≤◌, ◌==◌, true, List, length, max, min, slice_index, if◌then◌else◌};
 ghost use Rattle.ballot_base.specs.CandSet.{has_member};
 ghost use Rattle.ballot_base.specs.Limits.{most_candidates, worth_limit};
@@ -19,11 +19,11 @@ use ballot_base::{CandSet, MOST_CANDIDATES, Profile, Worths};
 use std::alloc::Allocator;
 use tie_search::Node;
 
-/// How many places a table of pairs has: 65 * 66 / 2.
+/// The number of places in a table of pairs: 65 * 66 / 2.
 const TABLE_PLACES: usize = 2145;
 
-/// A number for each unordered pair of candidates, also of a candidate with itself. The row of a candidate has the
-/// pairs with those up to it, and comes after the rows of all those before it.
+/// A number for each unordered pair of candidates, also of a candidate with itself. The row of a candidate has its
+/// pairs with the candidates up to it, and comes after the rows of all candidates before it.
 type Table = [u64; TABLE_PLACES];
 
 /// What a search looks for by pairs: the ballots, what hits give, and the value that a committee has to reach.
@@ -48,7 +48,8 @@ pub(crate) struct Totals {
 }
 
 impl<A: Allocator + Copy> PairSearch<'_, A> {
-    /// The free candidates of a node that can still join. Returns `None` if no completion of its set reaches the value.
+    /// The free candidates of a node that can still join. Returns `None` only if no completion of its set reaches the
+    /// value. Counts are not kept for later nodes: without that, long lists of ties take a fifth fewer instructions.
     pub(crate) fn narrowed(&self, node: &Node) -> Option<CandSet>
         requires is_node { IsNode self.now.profile.now.m node.now.set node.now.free }
         requires several { 2 ≤ node.now.left }
@@ -125,7 +126,6 @@ impl<A: Allocator + Copy> PairSearch<'_, A> {
 }
 
 impl Totals {
-    /// The totals of no ballot.
     fn nothing() -> Totals
         ensures { AreNothing result.kept result.worths result.overlaps }
     {
@@ -157,7 +157,7 @@ impl Totals {
         }
     }
 
-    /// The greatest overlap of two candidates. It is that of some candidate with itself.
+    /// The highest overlap of two candidates. It is that of some candidate with itself.
     fn greatest_overlap(&self) -> u64
         requires small { AreSmall self.now.kept self.now.worths self.now.overlaps }
         ensures most { (i j : ℕ) → i ≤ most_candidates → j ≤ most_candidates
@@ -172,18 +172,17 @@ impl Totals {
     }
 }
 
-/// What row sums are made of. Worths beside a candidate are raised, so that none is below 0.
+/// The parts of row sums. Worths beside a candidate are raised, so that none is below 0.
 #[derive(Drop)]
 struct Rows<'a> {
     totals: &'a Totals,
     free: CandSet,
-    // How many of the free candidates complete the set.
+    // The number of free candidates that complete the set.
     left: u8,
     raise: u128,
 }
 
 impl Rows<'_> {
-    /// The row sum of each free candidate.
     fn sums(&self) -> Worths
         requires { AreRows self.now }
         ensures { (i : ℕ) → has_member self.now.free i ≡ true
@@ -197,7 +196,6 @@ impl Rows<'_> {
         sums
     }
 
-    /// The row sum of a free candidate.
     fn sum_of(&self, i: u8) -> u128
         requires rows { AreRows self.now }
         requires candidates { IsIncreasing 1 most_candidates self.now.free }
@@ -215,7 +213,7 @@ impl Rows<'_> {
             + beside.excess(others, threshold)
     }
 
-    /// The worth of each free candidate beside the candidate i.
+    /// The worth of each free candidate beside the candidate `i`.
     fn beside(&self, i: u8) -> Worths
         requires rows { AreRows self.now }
         requires within { i ≤ most_candidates }
@@ -257,7 +255,7 @@ fn add_pairs(table: &mut Table, members: CandSet, amount: u64)
     }
 }
 
-/// Adds to the numbers of some candidates up to the row's in one row.
+/// Adds to the numbers of some candidates in one row.
 fn add_to_row(table: &mut Table, row: u8, columns: CandSet, amount: u64)
     requires within { row ≤ most_candidates }
     requires columns { (n : ℕ) → has_member columns n ≡ true → n ≤ row }

@@ -1,10 +1,10 @@
 //! Prices of candidates: a bound that needs no gains.
 //!
 //! Choose any multiplier for each row. A voter then gives a completion of a set at most what is kept, and the
-//! multiplier for each hit after those at the set. What is kept is the most, over the numbers of hits that the node allows, that
-//! they give less the multiplier for each hit more. Summed over the voters, no completion of the set is worth more than
-//! what all keep and the prices of those who join (`laws::prices`; Fisher, The Lagrangian relaxation method for solving
-//! integer programming problems, 1981).
+//! multiplier for each hit after those at the set. What is kept is a maximum over the numbers of hits that the node
+//! allows: what the hits give, less the multiplier for each further hit. Summed over the voters, no completion of the
+//! set is worth more than what all keep and the prices of the candidates that join (`laws::prices`; Fisher, The
+//! Lagrangian relaxation method for solving integer programming problems, 1981).
 ghost use Rattle.std.specs.Prelude.{◌≡◌, ℕ, ◌*◌, ◌^◌, ◌≤◌, List, [], slice_index, MatchOption, ⊤};
 ghost use Rattle.ballot_base.specs.Limits.{most_candidates, most_members};
 ghost use Rattle.tie_walk.specs.Values.{thiele_value};
@@ -20,7 +20,7 @@ use std::alloc::Allocator;
 use tie_search::Node;
 use tie_walk::{Tally, ThieleTally};
 
-/// How many units the first hit gives, about: many, so that rounding matters little.
+/// The first hit gives about this many units: enough that rounding matters little.
 const UNITS: u128 = 1 << 40;
 
 /// What a search looks for by prices: the ballots, what hits give, a multiplier for each row, and the value that a
@@ -42,8 +42,8 @@ pub(crate) struct Prices {
 }
 
 impl<A: Allocator + Copy> PriceSearch<'_, A> {
-    /// The prices at a node, by the multipliers as they are. Those that lie outside what the node allows are moved to
-    /// its ends first.
+    /// The prices at a node, by the present multipliers. A multiplier outside the range that the node allows is first
+    /// moved to an end of the range.
     pub(crate) fn prices(&self, node: &Node) -> Prices
         requires is_node { IsNode self.now.profile.now.m node.now.set node.now.free }
         ensures totals { (weights : List ℕ)
@@ -68,8 +68,8 @@ impl<A: Allocator + Copy> PriceSearch<'_, A> {
         Prices { kept, worths }
     }
 
-    /// The free candidates of a node that can still join, by its prices. Returns `None` if no completion of its set
-    /// reaches the value.
+    /// The free candidates of a node that can still join, by its prices. Returns `None` only if no completion of its
+    /// set reaches the value.
     pub(crate) fn affordable(&self, prices: &Prices, node: &Node) -> Option<CandSet>
         requires is_node { IsNode self.now.profile.now.m node.now.set node.now.free }
         ensures { (weights : List ℕ)
@@ -91,7 +91,7 @@ impl<A: Allocator + Copy> PriceSearch<'_, A> {
     }
 }
 
-/// The prices of a search among the committees of k: what they are made of, and the lowest ones of the whole election.
+/// The prices of a search among the committees of `k`: their parts, and the lowest prices of the whole election.
 #[derive(Drop)]
 pub(crate) struct Priced<A: Allocator> {
     pub(crate) k: u8,
@@ -100,13 +100,13 @@ pub(crate) struct Priced<A: Allocator> {
     pub(crate) whole: Prices,
     // The candidates of the highest prices.
     pub(crate) dearest: CandSet,
-    // Whether they show that no committee is better than the one that they were made for.
+    // Whether the prices show that no committee is better than the one that they were made for.
     pub(crate) show_best: bool,
 }
 
 impl<A: Allocator + Copy> Priced<A> {
-    /// Prices for the committees of k, low if no committee is much better than this one. Returns `None` without memory
-    /// for them.
+    /// Prices for the committees of `k`. They are low if no committee is much better than `good`. Returns `None` if
+    /// there is no memory for them.
     pub(crate) fn of(
         memory: Option<Multipliers<A>>,
         profile: &Profile<A>,
@@ -150,7 +150,7 @@ impl<A: Allocator + Copy> Priced<A> {
 }
 
 impl HitSums {
-    /// A value in units. No value that has fewer units is as great.
+    /// A value in units. Every value with fewer units is lower.
     pub(crate) fn units(&self, value: u128) -> u128
         ensures { (units : ℕ) → self.now.scale * value ≤ self.now.unit * units → result ≤ units }
     {
@@ -159,7 +159,7 @@ impl HitSums {
 }
 
 impl Prices {
-    /// The `left` free candidates of the highest prices.
+    /// The `left` free candidates with the highest prices.
     pub(crate) fn dearest(&self, free: CandSet, left: u8) -> CandSet {
         let lowest = self.worths.nth_greatest(free, left);
         let mut dearest = self.worths.at_least(free, lowest);
@@ -172,7 +172,7 @@ impl Prices {
         dearest
     }
 
-    /// What no completion exceeds, if these candidates have the highest prices.
+    /// A bound that no completion exceeds, if these candidates have the highest prices.
     pub(crate) fn bound(&self, dearest: CandSet) -> u128
         requires { (n : ℕ) → slice_index self.now.worths n ≤ 2 ^ 78 }
     {

@@ -21,8 +21,8 @@ use std::marker::Model;
 use tie_search::{Node, Searchable, Tied, descent};
 use tie_walk::{Tally, ThieleTally};
 
-/// All memory that a search among the committees of k by a Thiele rule takes, and the columns that lie in it. Contracts
-/// see the election, the rule and k.
+/// All memory for a search among the committees of `k` under a Thiele rule, and the columns in it. Contracts see the
+/// election, the rule and `k`.
 #[derive(Drop)]
 pub struct SearchMemory<'a, A: Allocator + Copy = Global> {
     profile: &'a Profile<A>,
@@ -46,7 +46,8 @@ impl<'a, A: Allocator + Copy> Model for SearchMemory<'a, A> {
 }
 
 impl<'a, A: Allocator + Copy + Drop> SearchMemory<'a, A> {
-    /// Takes at most 729,088 bytes. A failed allocation leaves nothing.
+    /// Takes at most 729,088 bytes. `k` is at least 1, and at most 40 and the number of candidates. A failed allocation
+    /// leaves nothing.
     pub fn new(
         alloc: A,
         profile: &'a Profile<A>,
@@ -68,8 +69,8 @@ impl<'a, A: Allocator + Copy + Drop> SearchMemory<'a, A> {
     }
 }
 
-/// The values under a Thiele rule, times the common denominator of its increments, and what a search among them is
-/// helped by. Contracts see the election, the rule and k.
+/// A search among the committees of `k` under a Thiele rule. A value is the score times the common denominator of the
+/// rule's increments. Contracts see the election, the rule and `k`.
 #[derive(Drop)]
 pub struct ThieleSearch<'a, A: Allocator + Copy = Global> {
     profile: &'a Profile<A>,
@@ -92,8 +93,8 @@ impl<'a, A: Allocator + Copy> Model for ThieleSearch<'a, A> {
 }
 
 impl<'a, A: Allocator + Copy + Drop> ThieleSearch<'a, A> {
-    /// Prepares a search in this memory: makes prices, and looks for a good committee. It takes no more memory, nor
-    /// does a search.
+    /// Prepares a search in this memory: makes prices, and looks for a good committee. Neither this nor a search takes
+    /// more memory.
     pub fn new(memory: SearchMemory<'a, A>) -> ThieleSearch<'a, A>
         ensures { result ≡ memory.entry }
     {
@@ -127,7 +128,7 @@ impl<'a, A: Allocator + Copy + Drop> ThieleSearch<'a, A> {
 }
 
 impl<'a, A: Allocator + Copy> ThieleSearch<'a, A> {
-    /// The value of a good committee of k, 0 if none is known.
+    /// The value of a good committee of `k`, 0 if none is known.
     fn good_value(&self, k: u8) -> u128
         requires some { 1 ≤ k }
         requires fits { k ≤ self.now.election.m }
@@ -139,8 +140,8 @@ impl<'a, A: Allocator + Copy> ThieleSearch<'a, A> {
         }
     }
 
-    /// Whether the good committee is known to be the best, and hundreds may tie with it, as is common under `cc`. Then
-    /// winners come sooner one by one.
+    /// Whether prices show under `cc` that the good committee is the best. Hundreds may tie with it, and then winners
+    /// come sooner one by one: with 64 popular candidates and 20 seats, the first came after 0.01 s and not up to 5 s.
     fn is_good_best(&self) -> bool {
         if self.values.rule() != ThieleRule::Cc {
             return false;
@@ -198,7 +199,8 @@ impl<'a, A: Allocator + Copy> Searchable for ThieleSearch<'a, A> {
     }
 
     fn find(&self, node: &Node, least: u128) -> Option<CandSet> {
-        // One winner after another is asked for, and most of these searches end after a few sets.
+        // One winner after another is asked for, and most of these searches end after a few sets. With pairs, some
+        // party lists took six times as long.
         descent::find(&mut self.search(false), *node, least)
     }
 
@@ -206,16 +208,17 @@ impl<'a, A: Allocator + Copy> Searchable for ThieleSearch<'a, A> {
         if self.is_good_best() {
             return None;
         }
+        // All winners took two to three times as long when each was searched for.
         let mut search = self.search(true);
         let all = search.node(CandSet::empty(), CandSet::all(self.m()), k);
         Some(descent::list_tied(&mut search, all, self.good_value(k)))
     }
 }
 
-/// For how many rows multipliers are kept at most.
+/// The maximum number of rows with multipliers.
 const MOST_ROWS: usize = 8192;
 
-/// Multipliers for the rows of a profile. None if there are too many rows.
+/// Multipliers for the rows of a profile. Returns `None` if there are too many rows.
 fn multipliers_for<A: Allocator + Copy + Drop>(
     alloc: A,
     profile: &Profile<A>,
@@ -227,7 +230,7 @@ fn multipliers_for<A: Allocator + Copy + Drop>(
     Ok(Some(Multipliers::of(alloc, rows)?))
 }
 
-/// A committee of k that grew by greatest gains, made better by exchanges.
+/// A committee of `k` that grows by the highest gains and is made better by exchanges.
 fn grown_committee<A: Allocator + Copy>(
     profile: &Profile<A>,
     values: &ThieleTally<A>,
@@ -242,7 +245,7 @@ fn grown_committee<A: Allocator + Copy>(
     search.exchanged(search.greedy(k))
 }
 
-/// This committee, or one that is better, by exchanges from the candidates of the highest prices.
+/// `grown`, or a better committee, by exchanges from the candidates with the highest prices.
 fn good_committee<A: Allocator + Copy>(
     profile: &Profile<A>,
     values: &ThieleTally<A>,

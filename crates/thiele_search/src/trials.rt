@@ -1,40 +1,45 @@
-//! Which tests of a set are worth their making.
+//! Which tests of a set are worth making.
 //!
-//! A set may be given up since its free candidates cover too few voters, by prices, or by pairs. Which of these tests
-//! help depends on the ballots: prices cut an election among neighbours short, and seldom a random one. So a search
-//! counts how often each test gave a set up. Any test may be left out, so nothing is proved of these counts.
+//! Three tests may give up a set: how many voters its free candidates cover, prices, and pairs. Which of them help
+//! depends on the ballots: prices shorten an election among neighbours, and seldom a random one. So a search counts how
+//! often each test gave up a set. Any test may be left out, so nothing is proved of these counts.
 
 use ballot_base::{MOST_CANDIDATES, PLACES};
 use std::cell::Cell;
 
-/// With more seats left than this, the quick tests are always made: whole branches depend on them.
+/// With more seats left than this, the quick tests are always made: whole branches depend on them. Without prices,
+/// elections among neighbours took up to 180 times as long.
 const FEW_SEATS: u8 = 5;
 
-/// So often a quick test is made before its use is judged.
+/// The number of times that a quick test is made before its use is judged.
 const TRIALS: u32 = 256;
 
-/// A quick test is worth its making if one set of so many is given up for it.
+/// A quick test is worth making if it gives up one of this many sets. With 64, `cc` took a tenth more time among 64
+/// random candidates.
 const LEAST_HELP: u32 = 4;
 
-/// Questions for one winner after another are many and mostly short, so prices have to help more often there.
+/// Questions for one winner after another are many and mostly short, so prices must help more often there. Otherwise
+/// some party lists under `geom4` took half as long again.
 const LEAST_HELP_IN_QUESTIONS: u32 = 2;
 
-/// One set of so many has a quick test that is not worth its making, so that its use is judged anew.
+/// A quick test that is not worth making is made for one of this many sets, so that its use is judged anew.
 const SAMPLE: u32 = 16;
 
-/// A search begins without pairs, and counts them after so many sets.
+/// The number of sets after which a search begins to count pairs.
 const SETS_BEFORE_PAIRS: u32 = 3072;
 
-/// So often pairs are counted before they have to help.
+/// The number of times that pairs are counted before they have to help.
 const TRIALS_OF_PAIRS: u32 = 48;
 
-/// So often more pairs are counted for each set that was given up for them.
+/// How many more times pairs are counted for each set that they gave up. Random ballots give up one set in three, and
+/// voters who approve who is near one in fourteen.
 const TRIALS_FOR_HELP: u32 = 4;
 
-/// At most so often pairs are counted without help.
+/// The maximum number of times that pairs are counted without help.
 const MOST_TRIALS: u32 = 256;
 
-/// Where pairs do not help, they are counted for one set of so many, so that their use is judged anew.
+/// If pairs do not help, they are counted for one of this many sets, so that their use is judged anew. Left out for
+/// good, elections of 64 random candidates under `geom3` and `geom4` took two to four times as long.
 const SAMPLE_OF_PAIRS: u32 = 256;
 
 /// What is known of the use of each test.
@@ -47,7 +52,6 @@ pub(crate) struct Uses {
 }
 
 impl Uses {
-    /// No test was made yet.
     pub(crate) fn none() -> Uses {
         Uses {
             cover: Trials::none(FEW_SEATS, LEAST_HELP),
@@ -58,12 +62,12 @@ impl Uses {
     }
 }
 
-/// How often a quick test was asked for and made, and how often a set was given up for it.
+/// How often a quick test was asked for and made, and how often it gave up a set.
 #[derive(Drop)]
 pub(crate) struct Trials {
     // With more seats left than this, the test is always made.
     few_seats: u8,
-    // It is worth its making if one set of so many is given up for it.
+    // The test is worth making if it gives up one of this many sets.
     least_help: u32,
     asked: Cell<u32>,
     made: Cell<u32>,
@@ -71,7 +75,6 @@ pub(crate) struct Trials {
 }
 
 impl Trials {
-    /// The test was not made yet.
     fn none(few_seats: u8, least_help: u32) -> Trials {
         Trials {
             few_seats,
@@ -82,7 +85,7 @@ impl Trials {
         }
     }
 
-    /// Whether the test is to be made for a set with so many seats left.
+    /// Whether the test is to be made for a set with `left` seats left.
     pub(crate) fn are_due(&self, left: u8) -> bool {
         let asked = self.asked.get();
         self.asked.set(asked.wrapping_add(1));
@@ -93,7 +96,7 @@ impl Trials {
             || asked % SAMPLE == 0
     }
 
-    /// Notes that the test was made, and whether the set was given up for it.
+    /// Notes that the test was made, and whether it gave up the set.
     pub(crate) fn note(&self, given_up: bool) {
         add_to(&self.made, 1);
         add_to(&self.given_up, u32::from(given_up));
@@ -109,7 +112,6 @@ pub(crate) struct PairTrials {
 }
 
 impl PairTrials {
-    /// Pairs were not counted yet.
     fn none() -> PairTrials {
         PairTrials {
             sets: Cell::new(0),
@@ -122,7 +124,7 @@ impl PairTrials {
         add_to(&self.sets, 1);
     }
 
-    /// Notes that pairs were counted, and whether the set was given up for them.
+    /// Notes that pairs were counted, and whether they gave up the set.
     pub(crate) fn note(&self, given_up: bool) {
         add_to(&self.sets, 1);
         let trials = self.trials.get();
@@ -140,34 +142,36 @@ impl PairTrials {
     }
 }
 
-/// Adds to a count, up to the greatest number.
+/// Adds to a count, up to its maximum.
 fn add_to(count: &Cell<u32>, more: u32) {
     count.set(count.get().saturating_add(more));
 }
 
-/// What a move achieved is in parts of this: a node that ended is all of them. Means are in such parts of one as well.
+/// What a move achieved is counted in parts of this number; a node that ended is all of them. Means are in such parts
+/// of one as well.
 const PARTS: u64 = 1024;
 
-/// The most that a move achieves if candidates only leave: seven tenths.
+/// The maximum that a move achieves if candidates only leave: seven tenths.
 const MOST_OF_LEAVING: u64 = PARTS * 7 / 10;
 
-/// Multipliers are first moved after work worth so many rounds over the rows: a shorter search is quicker without.
+/// Multipliers are first moved after the work of this many rounds over the rows. Shorter searches end sooner without.
 const BEGINNING: u64 = 384;
 
-/// So often multipliers are moved at a number of seats left before it is judged whether this pays.
+/// The number of moves, for a number of seats left, before it is judged whether they pay.
 const TRIALS_OF_MOVES: u64 = 4;
 
-/// At one node of so many nothing is moved, so that the work below it is seen.
+/// At one of this many nodes nothing is moved, so that the work below it is seen. Seen at nodes that moves had not
+/// ended, it was too high, and 40 random candidates took fifteen times as long under `cc`.
 const LEFT_ALONE: u32 = 16;
 
-/// Where moves do not pay, they are made at one node of so many, so that this is judged anew.
+/// If moves do not pay, they are made at one of this many nodes, so that this is judged anew.
 const SAMPLE_OF_MOVES: u32 = 64;
 
-/// A mean is of about so many numbers, the last ones, so that what is no longer true is forgotten.
+/// A mean is of about this many numbers, the last ones, so that old ones are forgotten.
 const MEMORY: u64 = 50;
 
-/// What moves of multipliers achieve, and what they cost, by the number of seats left. The unit of work is a visit of
-/// a set.
+/// What moves of multipliers achieve, and what they cost, by the number of seats left. The unit of work is a visit to a
+/// set.
 #[derive(Drop)]
 pub(crate) struct Moves {
     // The work of a round over the rows.
@@ -178,7 +182,7 @@ pub(crate) struct Moves {
 }
 
 impl Moves {
-    /// Nothing was moved yet, in an election of so many rows.
+    /// Nothing was moved yet, in an election with this many rows.
     pub(crate) fn new(rows: usize) -> Moves {
         Moves {
             round: rows.div_ceil(32) as u64,
@@ -187,8 +191,8 @@ impl Moves {
         }
     }
 
-    /// Enters a node with so many seats left. As a search goes depth first, all work since an earlier node with as many
-    /// seats or fewer was below that one.
+    /// Enters a node with `left` seats left. As a search goes depth first, all work since an earlier node with as many
+    /// seats left or fewer was below the earlier node.
     pub(crate) fn enter(&mut self, left: u8) {
         let done = self.done;
         for level in self.levels.iter_mut().take(usize::from(left) + 1) {
@@ -205,7 +209,7 @@ impl Moves {
         self.done >= self.round.saturating_mul(BEGINNING)
     }
 
-    /// Counts the work of so many rounds over the rows, or of a visit, if there were none.
+    /// Counts the work of rounds over the rows, or of a visit if there were none.
     pub(crate) fn work(&mut self, rounds: u32) {
         let more = if rounds == 0 {
             1
@@ -215,7 +219,7 @@ impl Moves {
         self.done = self.done.saturating_add(more);
     }
 
-    /// Whether to move multipliers at the node that was entered last, with so many seats left.
+    /// Whether to move multipliers at the node that was entered last, with `left` seats left.
     pub(crate) fn are_due(&self, left: u8) -> bool {
         self.has_begun()
             && match self.levels.get(usize::from(left)) {
@@ -224,8 +228,8 @@ impl Moves {
             }
     }
 
-    /// Notes a move at the node that was entered last, and counts its rounds as work: how many candidates were free
-    /// before and after it. After it there is `None` if the node ended.
+    /// Notes a move at the node that was entered last, and counts its rounds as work. `before` and `after` are the
+    /// numbers of free candidates; `after` is `None` if the node ended.
     pub(crate) fn note(&mut self, left: u8, before: u8, after: Option<u8>, rounds: u32) {
         self.work(rounds);
         let cost = self.round.saturating_mul(u64::from(rounds));
@@ -239,7 +243,6 @@ impl Moves {
 /// What is known of the nodes with a number of seats left.
 #[derive(Clone, Copy)]
 struct Level {
-    // How many were entered.
     nodes: u32,
     // What moves achieved, and what they cost.
     success: Mean,
@@ -253,7 +256,6 @@ struct Level {
 }
 
 impl Level {
-    /// No node was entered yet.
     const NONE: Level = Level {
         nodes: 0,
         success: Mean::NONE,
@@ -263,7 +265,7 @@ impl Level {
         is_left_alone: false,
     };
 
-    /// The work below the node is all counted.
+    /// Ends the count of the work below a node.
     fn close(&mut self, done: u64) {
         if let Some(before) = self.open.take() {
             self.below
@@ -271,8 +273,8 @@ impl Level {
         }
     }
 
-    /// Enters a node. The work below it is counted only if nothing is moved at it: a node that moves do not end has more
-    /// work below it than most.
+    /// Enters a node. The work below it is counted only if nothing is moved there: a node that moves do not end has
+    /// more work below it than most.
     fn enter(&mut self, done: u64, has_begun: bool) {
         self.nodes = self.nodes.wrapping_add(1);
         self.is_left_alone = self.nodes % LEFT_ALONE == 0;
@@ -295,16 +297,14 @@ impl Level {
 /// A running mean.
 #[derive(Clone, Copy)]
 struct Mean {
-    // How many numbers it is of, up to `MEMORY`.
+    // The count of its numbers, up to `MEMORY`.
     count: u64,
     value: u64,
 }
 
 impl Mean {
-    /// The mean of no numbers.
     const NONE: Mean = Mean { count: 0, value: 0 };
 
-    /// Notes one more number.
     fn note(&mut self, number: u64) {
         self.count = MEMORY.min(self.count.saturating_add(1));
         let others = self.value.saturating_mul(self.count.saturating_sub(1));

@@ -4,14 +4,14 @@ ghost use Rattle.std.specs.Prelude.{◌≡◌, ℕ, ◌^◌, ◌<◌, ◌≤◌,
 use ballot_base::MOST_MEMBERS;
 use std::marker::Model;
 
-/// A weight that is too large: the gains of all blocks of voters may not fit a word of 64 bits.
+/// From this weight on, the gains of all blocks of voters may not fit a word of 64 bits.
 const LARGE_WEIGHT: u128 = 1 << 44;
 
 /// What a voter gives for each hit, the first at 0.
 pub(crate) type Weights = [u64; MOST_MEMBERS as usize];
 
-/// What a voter gives for each hit, the first at 0: also in words of 64 bits, if the gains of all blocks of voters fit
-/// them. Contracts see the list of the weights.
+/// What a voter gives for each hit, the first at 0. The weights are also kept in words of 64 bits, if the gains of all
+/// blocks of voters fit them. Contracts see the list of the weights.
 #[derive(Drop)]
 pub(crate) struct HitWeights {
     pub(crate) all: [u128; MOST_MEMBERS as usize],
@@ -30,7 +30,6 @@ impl Model for HitWeights {
 }
 
 impl HitWeights {
-    /// The weights, with their smaller words if these are enough.
     pub(crate) fn of(weights: &[u128; MOST_MEMBERS as usize]) -> HitWeights
         ensures { result ≡ weights.now }
     {
@@ -40,7 +39,6 @@ impl HitWeights {
         }
     }
 
-    /// What a voter gives for the first hit.
     pub(crate) fn first(&self) -> u128
         ensures { result ≡ slice_index self.now 0 }
     {
@@ -48,7 +46,7 @@ impl HitWeights {
     }
 }
 
-/// The same weights in smaller words, if none is too large to be added up there.
+/// The weights in words of 64 bits, if no weight is too large to be added up there.
 fn small_weights(weights: &[u128; MOST_MEMBERS as usize]) -> Option<Weights>
     ensures { MatchOption result ⊤ (λ small. (j : ℕ) → (slice_index small j ≡ slice_index weights.now j)
         × (slice_index small j < 2 ^ 44)) }

@@ -1,4 +1,4 @@
--- What a search under a Thiele rule is helped by.
+-- The aids of a search under a Thiele rule.
 use Rattle.std.specs.Prelude.{◌≡◌, ℕ, ◌^◌, ◌≤◌, List, slice_index, Option, MatchOption, ⊤}
 use Rattle.ballot_base.specs.Ballots.{IsElection}
 use Rattle.ballot_base.specs.Clones.{AreClones}
@@ -19,7 +19,7 @@ pub record IsValued (tally : Thiele) (set : List ℕ) (value : ℕ) : Type 0 whe
   pub size : tally.k ≤ most_members
   pub value_is : value ≡ tally_value tally set
 
--- the columns are those of the election, where they are kept
+-- the columns are those of the election, if they are kept
 abbrev pub KeepsColumns : {A : Type 0} → Thiele → Option (Columns A) → Type 0
 KeepsColumns tally columns = MatchOption columns ⊤ (λ kept.
     AreColumnsOf tally kept.blocks.items kept.weights)
@@ -32,13 +32,13 @@ pub record IsMemoryFor {A : Type 0} (tally : Thiele) (k : ℕ) (columns : Option
   pub size : tally.k ≤ most_members
   pub columns_are : KeepsColumns tally columns
 
--- the sums are those of the rule, where they are kept, and small enough for majorants
+-- the sums, if they are kept, are those of the rule, and small enough for majorants
 abbrev pub HasSums : Thiele → Option HitSums → Type 0
 HasSums tally sums = MatchOption sums ⊤ (λ given.
     AreSums (increments tally.rule tally.k) given.scale given.unit given.sums
     × ((h : ℕ) → slice_index given.sums h ≤ 2 ^ 26))
 
--- the values are those of an election, and what a search is helped by is of it
+-- the values are those of an election, and the aids are made from this election
 pub record IsAided {A : Type 0} (tally : Thiele) (aids : Aids A) : Type 0 where
   pub election : IsElection tally.election
   pub size : tally.k ≤ most_members

@@ -8,7 +8,7 @@ use Rattle.ballot_base.specs.Ballots.{Row, hits}
 use Rattle.ballot_base.specs.Increments.{increments}
 use Rattle.tie_walk.specs.Values.{Thiele}
 
--- how many voters share a word, and how many blocks of so many there may be
+-- the number of voters who share a word, and the maximum number of blocks
 abbrev pub block_voters : ℕ
 block_voters = 64
 
@@ -43,19 +43,19 @@ given weights set c ballot = if has_member ballot c then slice_index weights (hi
 abbrev pub approves_some : List ℕ → List ℕ → ℕ
 approves_some set ballot = min (hits ballot set) 1
 
--- a block holds who approves each candidate, of so many voters with these ballots
+-- for each candidate, a block holds which of its voters, who have these ballots, approve the candidate
 pub record IsBlock (ballot_at : ℕ → List ℕ) (block : List ℕ) : Type 0 where
   pub rises : (i : ℕ) → IsIncreasing 1 most_candidates (ballot_at i)
   pub approves : (c i : ℕ) → i < block_voters
       → bit_at (slice_index block c) i ≡ (if has_member (ballot_at i) c then 1 else 0)
 
--- the blocks hold who approves each candidate, of all voters
+-- for each candidate, the blocks hold which of all voters approve the candidate
 abbrev pub AreColumns : List (List ℕ) → List (List ℕ) → Type 0
 AreColumns ballots blocks = (b c i : ℕ) → i < block_voters
     → bit_at (slice_index (get_or blocks b []) c) i
     ≡ (if has_member (voter_ballot ballots (b * block_voters + i)) c then 1 else 0)
 
--- the words hold who of a block has each number of hits, of the first `levels`
+-- for each of the first `levels` numbers of hits, the words hold which voters of a block have it
 abbrev pub AreByHits : (ℕ → List ℕ) → List ℕ → ℕ → List ℕ → Type 0
 AreByHits ballot_at set levels words = (h i : ℕ) → h < levels → i < block_voters
     → bit_at (slice_index words h) i ≡ (if hits (ballot_at i) set == h then 1 else 0)

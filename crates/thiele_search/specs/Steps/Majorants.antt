@@ -15,7 +15,7 @@ places_before = 8
 abbrev pub places_open : ℕ
 places_open = 32
 
--- those that were made are majorants, each at its place
+-- what was made are majorants, each at its place
 abbrev pub AreMajorants : List ℕ → ℕ → List (Option Majorant) → Type 0
 AreMajorants sums left table = (before approved : ℕ) → before < places_before → approved < places_open
     → MatchOption (get_or table (places_open * before + approved) None) ⊤ (IsMajorantOf sums before (min left approved))

@@ -38,8 +38,8 @@ pair_place i j = triangle (max i j) + min i j
 abbrev pub overlap_at : List ℕ → ℕ → ℕ → ℕ
 overlap_at table i j = slice_index table (pair_place i j)
 
--- no committee that completes the set is worth more than what is kept and the worths of those who join, less their
--- overlaps
+-- no committee that completes the set is worth more than what is kept and the worths of the members that join, less
+-- their overlaps
 abbrev pub AreTotals : List ℕ → ℕ → ℕ → ℕ → List Row → List ℕ → List ℕ → ℕ → ℕ → List ℕ → List ℕ → Type 0
 AreTotals weights scale unit m rows set free left kept worths table =
     (committee : List ℕ) → IsCompletion m set free left committee

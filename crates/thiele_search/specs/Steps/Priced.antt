@@ -13,6 +13,6 @@ pub record ArePrices {A : Type 0} (tally : Thiele) (priced : Priced A) : Type 0 
   pub totals : AreTotals (increments tally.rule tally.k) priced.given.scale priced.given.unit tally.election.m
       tally.election.rows [] (range_with_len 1 tally.election.m) tally.k priced.whole.kept priced.whole.worths []
 
--- the prices are those of the election, where they are kept
+-- the prices are those of the election, if they are kept
 abbrev pub IsPriced : {A : Type 0} → Thiele → Option (Priced A) → Type 0
 IsPriced tally priced = MatchOption priced ⊤ (ArePrices tally)

@@ -1,4 +1,4 @@
--- What row sums are made of.
+-- The parts of row sums.
 use Rattle.std.specs.Prelude.{ℕ, ◌≡◌, ◌-◌, ◌*◌, ◌^◌, ◌<◌, ◌≤◌, true, List, slice_index}
 use Rattle.ballot_base.specs.Limits.{most_candidates}
 use Rattle.ballot_base.specs.CandSet.{has_member}
