@@ -7,8 +7,8 @@ use ballot_base::Profile;
 use seat_share::MOST_PARTIES;
 use std::alloc::Allocator;
 
-/// The votes of the candidates as parties, in their order. A voter counts for the candidate that the ballot approves; an
-/// empty ballot counts for none. Returns `None` if a ballot approves two or more. It takes no memory.
+/// The votes of the candidates as parties, in their order. A voter counts for the candidate that the ballot approves,
+/// and an empty ballot counts for none. Returns `None` if a ballot approves two or more. It takes no memory.
 pub(crate) fn votes_of<A: Allocator + Copy>(
     profile: &Profile<A>,
 ) -> Option<ArrayVec<u64, MOST_PARTIES>>
