@@ -31,7 +31,7 @@ abbrev pub name_of : Election → ℕ → Option (List ℕ)
 name_of e zero = None
 name_of e (suc i) = some_name (unwrap_or (slice_get e.names i) [])
 
--- how many candidates stand on the ballot and in the committee
+-- how many candidates of the ballot are in the committee
 -- (Lackner and Skowron, Multi-Winner Voting with Approval Preferences)
 abbrev pub hits : List ℕ → List ℕ → ℕ
 hits ballot committee = count_by (has_member committee) ballot
@@ -48,14 +48,13 @@ ballots_of rows = map (λ row. row.0) rows
 abbrev pub has_ballot : List Row → List ℕ → Bool
 has_ballot rows ballot = list_any (λ row. bytes_eq ballot row.0) rows
 
--- The rows with `count` voters more who cast this ballot: a ballot that is there keeps its place, and a new one
--- comes last.
+-- The rows after `count` more voters cast this ballot: a known ballot keeps its place, and a new one comes last.
 abbrev pub with_votes : List Row → List ℕ → ℕ → List Row
 with_votes [] ballot count = (ballot, count) ∷ []
 with_votes (row ∷ rows) ballot count =
     if bytes_eq ballot row.0 then (row.0, row.1 + count) ∷ rows else row ∷ with_votes rows ballot count
 
--- What is true of every profile, and of every one that is being built. No ballot stands in two rows.
+-- What is true of every profile, and of each one under construction. No ballot is in two rows.
 pub record IsElection (e : Election) : Type 0 where
   pub least : 1 ≤ e.m
   pub most : e.m ≤ most_candidates

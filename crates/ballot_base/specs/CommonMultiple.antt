@@ -7,7 +7,7 @@ use Rattle.std.specs.List.{range_with_len}
 abbrev pub least_multiple : ℕ → ℕ → ℕ
 least_multiple a b = a * unwrap_or (find (λ times. a * times % b == 0) (range_with_len 1 b)) b
 
--- the least positive number that all of 1 to n divide, from the one of 1 to n - 1
+-- the least common multiple of 1 to n, from that of 1 to n - 1
 unfoldable pub common_multiple : ℕ → ℕ
 common_multiple zero = 1
 common_multiple (suc n) = least_multiple (common_multiple n) (suc n)

@@ -25,7 +25,7 @@ hashing_of keys = record {
   term = keyed_word keys 2 + keyed_word keys 3 * 2 ^ 64;
 }
 
--- the word of bytes after a word, the first of them highest, modulo 2^64
+-- the bytes appended to a big-endian word, modulo 2^64
 unfoldable pub word_of_bytes : ℕ → List ℕ → ℕ
 word_of_bytes word [] = word
 word_of_bytes word (byte ∷ bytes) = word_of_bytes ((word * 256 % 2 ^ 64 + byte) % 2 ^ 64) bytes

@@ -7,9 +7,9 @@ use Rattle.ballot_base.specs.CommonMultiple.{common_multiple}
 use Rattle.ballot_base.specs.declared.increments.ThieleRule.{ThieleRule}
 use Rattle.ballot_base.specs.declared.increments.ThieleRule.TheVariants.{Av, Pav, Cc, Geom2, Geom3, Geom4}
 
--- what the j-th of a voter's members adds, times the denominator, for committees of k: 1 under approval voting,
--- 1/j under proportional approval voting, 1 for the first alone under Chamberlin-Courant, 1/p^(j-1) under a
--- geometric rule
+-- What the j-th approved member adds for a voter, times the denominator, for committees of size k. Without that factor
+-- it is 1 under approval voting, 1/j under proportional approval voting, and 1/p^(j-1) under a geometric rule. Under
+-- Chamberlin-Courant it is 1 for the first member and 0 for the others.
 abbrev pub increment : ThieleRule → ℕ → ℕ → ℕ
 increment Av k j = 1
 increment Pav k j = common_multiple k / j
@@ -27,6 +27,6 @@ denominator Geom2 k = 2 ^ (k - 1)
 denominator Geom3 k = 3 ^ (k - 1)
 denominator Geom4 k = 4 ^ (k - 1)
 
--- the increments of the members 1 to `most_members`, of which those past k add nothing
+-- the increments of the members 1 to `most_members`; the members past k add nothing
 unfoldable pub increments : ThieleRule → ℕ → List ℕ
 increments rule k = map (λ j. if nat_le j k then increment rule k j else 0) (range_with_len 1 most_members)

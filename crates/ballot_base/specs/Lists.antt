@@ -23,11 +23,11 @@ lists_of (suc count) first (suc size) =
 abbrev pub increasing_lists : ℕ → ℕ → ℕ → List (List ℕ)
 increasing_lists first last size = lists_of (last + 1 - first) first size
 
--- whether the list is one of the committees of k of the candidates 1 to m
+-- whether the list is a committee of k of the candidates 1 to m
 abbrev pub is_committee : ℕ → ℕ → List ℕ → Bool
 is_committee m k list = list_any (bytes_eq list) (increasing_lists 1 m k)
 
--- whether x is later than y: as long as y, and greater at the first place where they differ
+-- whether x is later than y: of the same length, and greater at the first place where they differ
 abbrev pub is_later : List ℕ → List ℕ → Bool
 is_later x y = (length x == length y) && is_gt (slice_cmp nat_cmp x y)
 
@@ -38,7 +38,7 @@ IsLater x y = IsTrue (is_later x y)
 abbrev pub AreInOrder : List (List ℕ) → Type 0
 AreInOrder lists = AllPairs (λ x y. IsLater y x) lists
 
--- those of the lists that are later than the start; all of them where there is no start
+-- the lists that are later than the start; all of them if there is no start
 abbrev pub later_than : Option (List ℕ) → List (List ℕ) → List (List ℕ)
 later_than None lists = lists
 later_than (Some start) lists = filter (λ list. is_later list start) lists

@@ -10,23 +10,23 @@ pub record AreChosen (candidates : List ℕ) (size : ℕ) (chosen : List ℕ) : 
   pub among : (n : ℕ) → has_member chosen n ≡ true → has_member candidates n ≡ true
   pub few : length chosen ≡ size
 
--- no `size` of the candidates are worth so much together
+-- any `size` of the candidates are worth less than `due` together
 abbrev pub AreTooLow : (ℕ → ℕ) → List ℕ → ℕ → ℕ → Type 0
 AreTooLow worth candidates size due =
     (chosen : List ℕ) → AreChosen candidates size chosen → sum_by worth chosen < due
 
--- candidates to whom all belong who are among some `size` of them that are worth so much together
+-- a list that includes each candidate who belongs to some `size` of the candidates worth at least `due` together
 pub record AreWanted (worth : ℕ → ℕ) (candidates : List ℕ) (size due : ℕ) (wanted : List ℕ) : Type 0 where
   pub rises : (m : ℕ) → IsIncreasing 1 m candidates → IsIncreasing 1 m wanted
   pub among : (n : ℕ) → has_member wanted n ≡ true → has_member candidates n ≡ true
   pub all : (chosen : List ℕ) → AreChosen candidates size chosen → due ≤ sum_by worth chosen
       → (n : ℕ) → has_member chosen n ≡ true → has_member wanted n ≡ true
 
--- how many of the candidates are worth so much at least
+-- how many of the candidates are worth at least `least`
 abbrev pub reaching : (ℕ → ℕ) → ℕ → List ℕ → ℕ
 reaching worth least candidates = length (filter (λ n. nat_le least (worth n)) candidates)
 
--- at least `left` of the candidates are worth as much as the threshold, and no more than `left` are worth more
+-- at least `left` of the candidates are worth the threshold or more, and at most `left` are worth more
 abbrev pub IsThreshold : (ℕ → ℕ) → List ℕ → ℕ → ℕ → Type 0
 IsThreshold worth candidates left threshold =
     (reaching worth (threshold + 1) candidates ≤ left) × (left ≤ reaching worth threshold candidates)

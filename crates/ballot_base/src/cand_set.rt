@@ -1,4 +1,4 @@
-//! A set of candidates, in one word.
+//! Sets of candidates, each stored in one word.
 ghost use Rattle.std.specs.Prelude.{◌≡◌, ℕ, ◌+◌, ◌-◌, ◌^◌, ◌<◌, ◌≤◌, ◌↔◌, List, [], ◌∷◌, not, length, count_by, IsTrue, MatchOption, SomeIff};
 ghost use Rattle.std.specs.Int.{bit_at};
 ghost use Rattle.std.specs.List.{range_with_len};
@@ -115,7 +115,7 @@ impl fmt::Debug for CandSet {
 }
 
 impl CandSet {
-    /// The set with no member.
+    /// The empty set.
     pub fn empty() -> CandSet
         ensures { result ≡ [] }
     {
@@ -143,8 +143,8 @@ impl CandSet {
         }
     }
 
-    /// The set of these numbers. There is none where the list is not increasing, or has a number outside 1 to
-    /// `MOST_CANDIDATES`. Only tests call it.
+    /// The set of these numbers. Returns `None` unless the numbers increase and lie between 1 and `MOST_CANDIDATES`.
+    /// Only tests call it.
     pub fn of_list(numbers: &[u8]) -> Option<CandSet>
         ensures { SomeIff result (IsIncreasing 1 most_candidates numbers.now) numbers.now }
     {
@@ -167,14 +167,14 @@ impl CandSet {
         let _bits = self.bits;
     }
 
-    /// Whether the candidate is a member. Any number may be asked for.
+    /// Whether the candidate is a member. Any number may be given.
     pub fn has(self, n: u8) -> bool
         ensures { result ≡ has_member self n }
     {
         n != 0 && n <= MOST_CANDIDATES && self.bits >> (n - 1) & 1 == 1
     }
 
-    /// The set with this candidate.
+    /// The set with this candidate added.
     pub fn with(self, n: u8) -> CandSet
         requires low { 1 ≤ n }
         requires high { n ≤ most_candidates }
@@ -185,7 +185,7 @@ impl CandSet {
         }
     }
 
-    /// The set without this candidate, who need not be a member.
+    /// The set without this candidate, who need not be a member. Any number may be given.
     pub fn without(self, n: u8) -> CandSet
         ensures { result ≡ without_member self n }
     {
@@ -224,7 +224,7 @@ impl CandSet {
         }
     }
 
-    /// How many candidates are members of exactly one of the two sets (the Hamming distance).
+    /// The number of candidates that are members of exactly one of the two sets: the Hamming distance.
     pub fn distance(self, other: CandSet) -> u8
         ensures { result
             ≡ count_by (λ n. not (has_member other n)) self + count_by (λ n. not (has_member self n)) other }
@@ -249,7 +249,7 @@ impl CandSet {
         other.bits & self.bits == other.bits
     }
 
-    /// How many members there are.
+    /// The number of members.
     pub fn len(self) -> u8
         ensures count { result ≡ length self }
         ensures most { result ≤ most_candidates }
@@ -273,7 +273,7 @@ impl CandSet {
         Members { bits: self.bits }
     }
 
-    /// The least member and the set of the others, or nothing of the empty set.
+    /// The lowest member and the set of the others, or `None` for the empty set.
     pub fn split_first(self) -> Option<(u8, CandSet)>
         ensures { MatchOption result (self ≡ []) (λ parts. self ≡ parts.0 ∷ parts.1) }
     {
@@ -284,7 +284,7 @@ impl CandSet {
         Some((first, self.without(first)))
     }
 
-    /// The lexicographic order of the lists of members. A proper beginning of a list comes before it.
+    /// Compares the increasing lists of members lexicographically. A proper prefix of a list comes before the list.
     pub fn cmp_lex(self, other: CandSet) -> Ordering
         ensures { result ≡ slice_cmp nat_cmp self other }
     {
@@ -292,7 +292,7 @@ impl CandSet {
         if differ == 0 {
             return Ordering::Equal;
         }
-        // The members below the first that only one set has are the same.
+        // Below the first member that only one of the sets has, both sets agree.
         let first = differ.trailing_zeros();
         if self.bits >> first & 1 == 1 {
             if other.bits >> first == 0 {
@@ -307,7 +307,7 @@ impl CandSet {
         }
     }
 
-    /// The set right after this one, in lexicographic order, of the sets of its size of the candidates 1 to m.
+    /// The next set of the same size of the candidates 1 to m, in lexicographic order. Returns `None` after the last.
     pub(crate) fn next_of_size(self, m: u8) -> Option<CandSet>
         requires most { m ≤ most_candidates }
         requires candidates { IsIncreasing 1 m self }
@@ -317,7 +317,7 @@ impl CandSet {
         if absent == 0 {
             return None;
         }
-        // Above the greatest number that is no member all are members, and the next member below it grows.
+        // All numbers above the highest non-member are members, and the next member below it grows.
         let free = greatest(absent);
         let below = self.bits & numbers_to(free - 1);
         if below == 0 {
@@ -331,7 +331,7 @@ impl CandSet {
     }
 }
 
-/// The members of a set, in increasing order. Contracts see the list of those still to come.
+/// Iterates over the members of a set, in increasing order. Contracts see the list of those still to come.
 #[derive(Drop)]
 pub struct Members {
     bits: u64,
@@ -366,7 +366,6 @@ impl Iterator for Members {
     }
 }
 
-/// The word of the numbers 1 to n.
 fn numbers_to(n: u8) -> u64
     requires { n ≤ most_candidates }
     ensures { result ≡ 2 ^ n - 1 }
@@ -377,7 +376,6 @@ fn numbers_to(n: u8) -> u64
     u64::MAX >> (u64::BITS - u32::from(n))
 }
 
-/// The greatest number of a word.
 fn greatest(bits: u64) -> u8
     requires some { 0 < bits }
     requires most { bits < 2 ^ most_candidates }

@@ -1,7 +1,7 @@
 //! Clones: candidates approved by the same voters. `Clones::of` finds the class of each candidate of a profile.
 //!
-//! In any committee one clone may stand in the place of another: each voter has as many members as before. So searches
-//! and checks try one candidate of a class and then leave out the others.
+//! Clones are interchangeable: with one in the place of another, each voter has as many approved members as before. So
+//! searches and checks try one candidate of a class and then leave out the others.
 ghost use Rattle.std.specs.Prelude.{◌≡◌, ◌≤◌, [], slice_index_or};
 ghost use Rattle.ballot_base.specs.Clones.{AreClones, clones_among};
 ghost use Rattle.ballot_base.specs.Limits.{most_candidates};
@@ -27,7 +27,7 @@ impl Model for Clones {
 }
 
 impl Clones {
-    /// Finds the clones of every candidate of a profile. It takes no memory.
+    /// Finds the class of each candidate of a profile. Allocates nothing.
     pub fn of<A: Allocator + Copy>(profile: &Profile<A>) -> Clones
         ensures { AreClones profile.now.m profile.now.rows result }
     {
@@ -38,7 +38,7 @@ impl Clones {
         Clones { classes }
     }
 
-    /// The clones of a candidate, itself among them.
+    /// The clones of a candidate from 1 to m, including the candidate itself.
     pub fn class(&self, candidate: u8) -> CandSet
         requires { candidate ≤ most_candidates }
         ensures { result ≡ slice_index_or self.now candidate [] }
@@ -47,7 +47,7 @@ impl Clones {
     }
 }
 
-/// The candidates whom exactly the voters of this one approve.
+/// The candidates that have exactly the same supporters as `c`.
 fn class_of<A: Allocator + Copy>(profile: &Profile<A>, c: u8) -> CandSet
     ensures { result ≡ clones_among profile.now.m profile.now.rows c }
 {

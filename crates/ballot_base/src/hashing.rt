@@ -1,28 +1,28 @@
-//! How ballots are hashed: by fixed parameters, or by secret ones.
+//! How ballots are hashed: with fixed parameters, or with secret ones.
 ghost use Rattle.std.specs.Prelude.{◌≡◌, ◌+◌, ◌*◌, ◌^◌};
 ghost use Rattle.ballot_base.specs.Hashing.{fixed_hashing, hashing_of, word_of_bytes, begun, with_word, upper_half};
 
 use std::hash::{BuildHasher, Hasher, RandomState};
 
-/// The first number above those of 64 bits.
 const ABOVE_WORDS: u128 = 1 << 64;
 
-/// What ballots are hashed by: the hash of a ballot, as a word of 64 bits, is the upper half of `factor * word + term`,
-/// which is taken modulo 2^128.
+/// Parameters for hashing ballots. The hash of a ballot, taken as a 64-bit word, is the upper half of `factor * word +
+/// term` modulo 2^128.
 ///
-/// Where both numbers are drawn at random, two ballots that were chosen without knowing them have hashes that agree in
-/// given bits as rarely as random numbers do. This is not proved here: it is the theorem of Dietzfelbinger, Universal
-/// hashing and k-wise independent random variables via integer arithmetic without primes, 1996.
+/// If both parameters are drawn at random, and two ballots are chosen without knowledge of them, the hashes of the
+/// ballots agree in given bits as rarely as random numbers do. This is not proved here: it is the theorem of
+/// Dietzfelbinger, Universal hashing and k-wise independent random variables via integer arithmetic without primes,
+/// 1996.
 #[derive(Clone, Copy)]
 pub struct BallotHashing {
-    /// What a ballot is multiplied by.
+    /// What the ballot is multiplied by.
     pub factor: u128,
-    /// What is added then.
+    /// What is added to the product.
     pub term: u128,
 }
 
 impl BallotHashing {
-    /// Numbers that are the same in each run. Whoever writes ballots can make them collide.
+    /// Fixed parameters, the same in each run. Anyone who writes ballots can make them collide.
     pub fn fixed() -> BallotHashing
         ensures { result ≡ fixed_hashing }
     {
@@ -32,7 +32,7 @@ impl BallotHashing {
         }
     }
 
-    /// Numbers that nobody knows who does not know the keys.
+    /// Parameters derived from secret keys.
     pub fn secret(keys: &RandomState) -> BallotHashing
         ensures { result ≡ hashing_of keys.now }
     {
@@ -43,7 +43,6 @@ impl BallotHashing {
     }
 }
 
-/// The number of these halves.
 fn joined(low: u64, high: u64) -> u128
     ensures { result ≡ low + high * 2 ^ 64 }
 {
@@ -63,7 +62,7 @@ impl BuildHasher for BallotHashing {
     }
 }
 
-/// A hash of one ballot. Of more bytes than a word has, the last eight count.
+/// The hash of one ballot. If more than eight bytes are written at once, only the last eight count.
 #[derive(Clone, Copy)]
 pub struct BallotHasher {
     factor: u128,
@@ -85,7 +84,7 @@ impl Hasher for BallotHasher {
     }
 }
 
-/// The word that these bytes are, the first of them highest.
+/// The bytes as a big-endian word, modulo 2^64.
 #[tactic(auto, unfolding(crate::specs::Hashing::word_of_bytes))]
 fn word_of_bytes(bytes: &[u8]) -> u64
     ensures { result ≡ word_of_bytes 0 bytes.now }

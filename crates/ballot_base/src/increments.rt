@@ -6,7 +6,7 @@ ghost use Rattle.ballot_base.specs.Increments.{increment, denominator, increment
 use crate::limits::MOST_MEMBERS;
 use crate::multiples::common_multiple;
 
-/// A rule that gives a committee, for each voter, an increment for each member whom the voter approves
+/// A Thiele method: each voter adds an increment to a committee's score for each member whom the voter approves
 /// (Lackner and Skowron, Multi-Winner Voting with Approval Preferences, Thiele methods). The j-th such member adds:
 #[derive(Clone, Copy, Debug, PartialEq, Eq)]
 pub enum ThieleRule {
@@ -35,7 +35,7 @@ impl ThieleRule {
         ThieleRule::Geom4,
     ];
 
-    /// The common denominator of the increments for committees of k, 1 to `MOST_MEMBERS`. It is not reduced.
+    /// The common denominator of the increments for committees of size k, 1 to `MOST_MEMBERS`. It is not reduced.
     pub fn denominator(self, k: u8) -> u128
         requires some { 1 ≤ k }
         requires most { k ≤ most_members }
@@ -51,17 +51,17 @@ impl ThieleRule {
     }
 }
 
-/// The increments of a rule as whole numbers over one denominator, which is not reduced.
+/// The increments of a rule as whole numbers over one common denominator, which is not reduced.
 #[derive(Clone, Copy, Debug, PartialEq, Eq)]
 pub struct Increments {
-    /// What the j-th member adds times the denominator, at j - 1; 0 past the size of a committee.
+    /// At place j - 1, what the j-th member adds, times the denominator; 0 for j above the size of the committee.
     pub w: [u128; MOST_MEMBERS as usize],
     /// The common denominator, at least 1.
     pub denom: u128,
 }
 
 impl Increments {
-    /// The increments for committees of k, 1 to `MOST_MEMBERS`. It takes no memory.
+    /// The increments for committees of size k, 1 to `MOST_MEMBERS`. Allocates nothing.
     pub fn of(rule: ThieleRule, k: u8) -> Increments
         requires some { 1 ≤ k }
         requires most { k ≤ most_members }

@@ -8,8 +8,7 @@ ghost use Rattle.ballot_base.specs.Increments.{increment, denominator, increment
 
 use crate::increments::ThieleRule;
 
-/// Which lists `increasing_lists` has: exactly the increasing ones of this length. They are those that pass the test
-/// for a committee.
+/// `increasing_lists` has exactly the increasing lists of the given length. `is_committee` accepts exactly those.
 pub fn committees()
     ensures members { (first last size : ℕ) (set : List ℕ) → Contains (increasing_lists first last size) set
         ↔ (IsIncreasing first last set × (length set ≡ size)) }
@@ -18,14 +17,14 @@ pub fn committees()
     ensures sizes { (first last size : ℕ) → All (λ set. length set ≡ size) (increasing_lists first last size) }
 {}
 
-/// Their order: each comes later than all before it, so that each comes once.
+/// `increasing_lists` is in order: each list is later than all lists before it, so that none occurs twice.
 pub fn committee_order()
     ensures later { (first last size : ℕ) → AreInOrder (increasing_lists first last size) }
     ensures once { (first last size : ℕ) → AllPairs (λ set other. set ≢ other) (increasing_lists first last size) }
 {}
 
-/// Of lists in order, those later than a start are the last ones. Where the start is one of the lists, they are those
-/// after it.
+/// If lists are in order, those later than a start are the last of them. If the start is one of the lists, they are
+/// exactly the lists after it.
 pub fn later()
     ensures end { (start : List ℕ) (lists : List (List ℕ)) → AreInOrder lists
         → (before : List (List ℕ)) × (lists ≡ before ++ later_than (Some start) lists) }
@@ -33,7 +32,7 @@ pub fn later()
         → later_than (Some start) (before ++ start ∷ after) ≡ after }
 {}
 
-/// `common_multiple n` is the least positive number that all of 1 to n divide, and it divides each other such number.
+/// `common_multiple n` is the least positive number that all of 1 to n divide. It divides every other such number.
 pub fn multiples()
     ensures positive { (n : ℕ) → 0 < common_multiple n }
     ensures divided { (n : ℕ) → AllDivide n (common_multiple n) }
@@ -47,7 +46,8 @@ pub fn falling()
         → slice_index (increments rule k) (i + 1) ≤ slice_index (increments rule k) i }
 {}
 
-/// Nothing is rounded: the increment of the j-th member times what it is the reciprocal of is the denominator.
+/// Nothing is rounded: the increment of the j-th member, times j or times the base to the power j - 1, is the
+/// denominator.
 pub fn exact()
     ensures pav { (k j : ℕ) → 1 ≤ j → j ≤ k → increment ThieleRule.Pav k j * j ≡ denominator ThieleRule.Pav k }
     ensures geom2 { (k j : ℕ) → 1 ≤ j → j ≤ k
@@ -58,7 +58,7 @@ pub fn exact()
         → increment ThieleRule.Geom4 k j * 4 ^ (j - 1) ≡ denominator ThieleRule.Geom4 k }
 {}
 
-/// How large multiples and denominators are, so that sums over all voters fit 128 bits.
+/// Bounds on multiples, denominators and increments. With them, sums over all voters fit 128 bits.
 pub fn small()
     ensures multiples { (n : ℕ) → n ≤ most_candidates → common_multiple n < 2 ^ 90 }
     ensures denominators { (rule : ThieleRule) (k : ℕ) → k ≤ most_members → denominator rule k ≤ 2 ^ 78 }

@@ -13,7 +13,7 @@ use crate::rows::{Ballots, Rows};
 use std::alloc::{AllocError, Allocator, Global};
 use std::marker::Model;
 
-/// The name of each candidate, empty where there is none.
+/// The name of each candidate; an empty name means that there is none.
 type Names<A> = Vec<Vec<u8, A>, A>;
 
 /// Why a ballot or a name was not added.
@@ -32,7 +32,7 @@ pub enum FinishFault {
     NoVoters,
 }
 
-/// A profile that ballots are added to.
+/// A profile under construction. Contracts see the election so far.
 #[derive(Drop)]
 pub struct ProfileBuilder<A: Allocator + Copy = Global> {
     m: u8,
@@ -53,7 +53,8 @@ impl<A: Allocator + Copy> Model for ProfileBuilder<A> {
 }
 
 impl<A: Allocator + Copy + Drop> ProfileBuilder<A> {
-    /// No ballot yet, for m candidates without names. Ballots are hashed by the fixed numbers.
+    /// A builder for m candidates, 1 to `MOST_CANDIDATES`, without names or ballots. Ballots are hashed with the fixed
+    /// parameters.
     pub fn new(alloc: A, m: u8) -> Result<ProfileBuilder<A>, AllocError>
         requires some { 1 ≤ m }
         requires most { m ≤ most_candidates }
@@ -62,8 +63,7 @@ impl<A: Allocator + Copy + Drop> ProfileBuilder<A> {
         ProfileBuilder::with_hashing(alloc, m, BallotHashing::fixed())
     }
 
-    /// The same with ballots that are hashed by these numbers. They change the time that ballots take, and nothing
-    /// else.
+    /// Like `new`, with these hash parameters; they affect only speed.
     pub fn with_hashing(
         alloc: A,
         m: u8,
@@ -81,8 +81,8 @@ impl<A: Allocator + Copy + Drop> ProfileBuilder<A> {
         })
     }
 
-    /// Gives a candidate a name, in place of the one before. An empty name takes the one before away, and needs no
-    /// memory. After a refusal, which is `Memory`, the builder is as it was.
+    /// Sets the name of a candidate, 1 to m, in place of the one before. An empty name removes the one before and needs
+    /// no memory. The only refusal is `Memory`, which leaves the builder unchanged.
     pub fn set_name(&mut self, n: u8, name: &[u8]) -> Result<(), AddFault>
         requires low { 1 ≤ n }
         requires high { n ≤ self.old.m }
@@ -99,7 +99,7 @@ impl<A: Allocator + Copy + Drop> ProfileBuilder<A> {
         Ok(())
     }
 
-    /// Leaves the candidates 1 to m alone. It takes no memory.
+    /// Keeps only the candidates 1 to m. Allocates nothing. No ballot may have been added before.
     pub fn narrow(&mut self, m: u8)
         requires some { 1 ≤ m }
         requires most { m ≤ self.old.m }
@@ -111,8 +111,9 @@ impl<A: Allocator + Copy + Drop> ProfileBuilder<A> {
         self.m = m;
     }
 
-    /// Adds `count` voters who approve exactly these candidates. A ballot that is there keeps its place and takes no
-    /// memory; a new one comes last. After a refusal the builder is as it was.
+    /// Adds `count` voters, at least 1, who approve exactly these candidates. A known ballot keeps its place and takes
+    /// no memory; a new one comes last. `TooManyVoters` is returned exactly if there would be more than `MOST_VOTERS`
+    /// voters. A refusal leaves the builder unchanged.
     pub fn add(&mut self, set: CandSet, count: u64) -> Result<(), AddFault>
         requires ballot { IsIncreasing 1 self.old.m set }
         requires voters { 1 ≤ count }
@@ -134,7 +135,8 @@ impl<A: Allocator + Copy + Drop> ProfileBuilder<A> {
         }
     }
 
-    /// The profile of the ballots that were added. Without any the builder comes back as it was. It takes no memory.
+    /// Makes a profile of the ballots that were added. Allocates nothing. If no ballot was added, returns `NoVoters`
+    /// and the unchanged builder.
     pub fn finish(self) -> Result<Profile<A>, (FinishFault, ProfileBuilder<A>)>
         ensures ok { IfOk result (λ profile. profile ≡ self) }
         ensures err { IfErr result (λ back. (back.0 ≡ FinishFault.NoVoters) × (back.1 ≡ self)) }
@@ -158,7 +160,7 @@ impl<A: Allocator + Copy + Drop> ProfileBuilder<A> {
     }
 }
 
-/// These bytes in a vector of their own. Without any it takes no memory.
+/// A copy of the bytes. An empty copy takes no memory.
 fn copy_of<A: Allocator + Copy + Drop>(alloc: A, bytes: &[u8]) -> Result<Vec<u8, A>, AllocError>
     ensures ok { IfOk result (λ copy. copy.items ≡ bytes.now) }
     ensures memory { OnErr result (bytes.now ≢ []) }
@@ -169,7 +171,6 @@ fn copy_of<A: Allocator + Copy + Drop>(alloc: A, bytes: &[u8]) -> Result<Vec<u8,
     Vec::from_slice(alloc, bytes)
 }
 
-/// m empty names.
 fn no_names<A: Allocator + Copy + Drop>(alloc: A, m: u8) -> Result<Names<A>, AllocError>
     ensures { IfOk result (λ names. texts names.items ≡ replicate m []) }
 {
@@ -180,7 +181,7 @@ fn no_names<A: Allocator + Copy + Drop>(alloc: A, m: u8) -> Result<Names<A>, All
     Ok(names)
 }
 
-/// A profile of approval ballots: at least one voter, and at most `MOST_VOTERS`, over the candidates 1 to m.
+/// A profile of approval ballots over the candidates 1 to m, with 1 to `MOST_VOTERS` voters.
 #[derive(Drop)]
 pub struct Profile<A: Allocator + Copy = Global> {
     m: u8,
@@ -211,8 +212,8 @@ impl<A: Allocator + Copy> Profile<A> {
         self.m
     }
 
-    /// The name of a candidate, if it has one: bytes that need not be text. Any number may be asked for; 0 and the
-    /// numbers above m have no name.
+    /// The name of a candidate, if it has one: bytes that need not be text. Any number may be given; 0 and numbers
+    /// above m have no name.
     pub fn name(&self, n: u8) -> Option<&[u8]>
         ensures value { option_map (λ name. name.now) result ≡ name_of self.now n }
         ensures valid { IsElection self.now }
@@ -233,7 +234,7 @@ impl<A: Allocator + Copy> Profile<A> {
         self.rows.len()
     }
 
-    /// The ballot at a place in the order of first appearance, counted from 0, and how many voters cast it.
+    /// The ballot at place i, counted from 0, in the order of first appearance, and the number of voters who cast it.
     pub fn row(&self, i: usize) -> (CandSet, u64)
         requires { i < length self.now.rows }
         ensures { slice_get self.now.rows i ≡ Some result }
@@ -241,7 +242,7 @@ impl<A: Allocator + Copy> Profile<A> {
         self.rows.row(i)
     }
 
-    /// The rows in the order of first appearance.
+    /// The different ballots, in the order of first appearance, each with the number of voters who cast it.
     pub fn ballots(&self) -> Ballots<'_>
         ensures rows { result ≡ self.now.rows }
         ensures valid { IsElection self.now }

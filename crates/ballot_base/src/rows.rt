@@ -27,7 +27,7 @@ impl<A: Allocator + Copy> Model for Rows<A> {
 }
 
 impl<A: Allocator + Copy + Drop> Rows<A> {
-    /// No row yet. Ballots are hashed by these numbers.
+    /// An empty table, whose ballots are hashed with these parameters.
     pub(crate) fn new(alloc: A, hashing: BallotHashing) -> Rows<A>
         ensures { result ≡ [] }
     {
@@ -55,21 +55,19 @@ impl<A: Allocator + Copy + Drop> Rows<A> {
 }
 
 impl<A: Allocator + Copy> Rows<A> {
-    /// Whether there is no row.
     pub(crate) fn is_empty(&self) -> bool
         ensures { IsTrue result ↔ (self.now ≡ []) }
     {
         self.map.is_empty()
     }
 
-    /// The number of rows.
     pub(crate) fn len(&self) -> usize
         ensures { result ≡ length self.now }
     {
         self.map.len()
     }
 
-    /// The row at a place, counted from 0.
+    /// The row at place i, counted from 0.
     pub(crate) fn row(&self, i: usize) -> (CandSet, u64)
         requires { i < length self.now }
         ensures { slice_get self.now i ≡ Some result }
@@ -80,7 +78,6 @@ impl<A: Allocator + Copy> Rows<A> {
         }
     }
 
-    /// All rows in order.
     pub(crate) fn ballots(&self) -> Ballots<'_>
         ensures { result ≡ self.now }
     {
@@ -90,8 +87,8 @@ impl<A: Allocator + Copy> Rows<A> {
     }
 }
 
-/// The different ballots of a profile in the order of their first appearance, each with the number of voters who cast
-/// it. Contracts see the list of those still to come.
+/// Iterates over the different ballots of a profile, in the order of their first appearance. Each comes with the number
+/// of voters who cast it. Contracts see the list of rows still to come.
 #[derive(Drop)]
 pub struct Ballots<'a> {
     rows: Iter<'a, CandSet, u64>,

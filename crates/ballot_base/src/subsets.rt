@@ -1,5 +1,5 @@
-//! All committees of one size, in lexicographic order: the plain form, which only tests run. They try every committee
-//! or group, and compare what they find with the answers of the crates above.
+//! All committees of one size, in lexicographic order. Only tests use them: they try every committee or group, and
+//! compare the outcome with the results of the crates above.
 ghost use Rattle.std.specs.Prelude.{◌≡◌, ℕ, ◌≤◌, List, Some, length};
 ghost use Rattle.std.specs.Iterator.{YieldsFirst, item_count};
 ghost use Rattle.ballot_base.specs.Limits.{most_candidates};
@@ -8,7 +8,8 @@ ghost use Rattle.ballot_base.specs.Lists.{IsIncreasing, increasing_lists, later_
 use crate::cand_set::CandSet;
 use std::marker::Model;
 
-/// All sets of k of the candidates 1 to m, in lexicographic order. Contracts see the list of those still to come.
+/// Iterates over the sets of k of the candidates 1 to m, in lexicographic order. Contracts see the list of those still
+/// to come.
 #[derive(Drop)]
 pub struct KSets {
     m: u8,
@@ -27,7 +28,7 @@ impl Model for KSets {
 }
 
 impl KSets {
-    /// The sets of k of the candidates 1 to m, from the first.
+    /// All sets of k of the candidates 1 to m.
     pub fn new(m: u8, k: u8) -> KSets
         requires fits { k ≤ m }
         requires most { m ≤ most_candidates }
@@ -39,7 +40,7 @@ impl KSets {
         }
     }
 
-    /// The sets of k of the candidates 1 to m that are later than this one.
+    /// Only the sets that come after `set`, which has k members.
     pub fn after(m: u8, k: u8, set: CandSet) -> KSets
         requires most { m ≤ most_candidates }
         requires candidates { IsIncreasing 1 m set }

@@ -1,4 +1,4 @@
--- A set of candidates as a word: bit n - 1 is 1 where n is a member. The word is found back from the members.
+-- A set of candidates as a word: bit n - 1 is 1 exactly if n is a member. The members determine the word.
 use Rattle.std.proofs.Common.{◌≡◌, ℕ, zero, suc, ◌+◌, ◌-◌, ◌*◌, ◌/◌, ◌%◌, ◌^◌, ◌<◌, ◌==◌, Bool, true, false, cond, List, ◌∷◌, filter, sum_by, sym, ap, ◌∙◌, subst, arith, add-one}
 use Rattle.std.specs.List.{range_with_len}
 use Rattle.std.specs.Int.{bit_at}
@@ -8,7 +8,7 @@ use Rattle.std.proofs.lemmas.List.Sums.{sum_by-cons}
 use Rattle.std.proofs.lemmas.Nat.{mod_below, mod-pow-add, shr-shr, pow-add}
 use Rattle.ballot_base.specs.Limits.{most_candidates}
 
--- those of the `count` numbers from `first` on that a word has
+-- the members of a word among the `count` numbers from `first` on
 unfoldable pub members_among : ℕ → ℕ → ℕ → List ℕ
 members_among first count bits = filter (λ n. bit_at bits (n - 1) == 1) (range_with_len first count)
 
@@ -20,7 +20,7 @@ members bits = members_among 1 most_candidates bits
 abbrev pub bits_of : List ℕ → ℕ
 bits_of set = sum_by (λ n. 2 ^ (n - 1)) set
 
--- the sum over what a filter keeps, an element at a time
+-- the sum over a filtered list, one element at a time
 sum_by-filter-cons : (f : ℕ → ℕ) (p : ℕ → Bool) (x : ℕ) (xs : List ℕ)
     → sum_by f (filter p (x ∷ xs)) ≡ cond (p x) (f x) 0 + sum_by f (filter p xs)
 sum_by-filter-cons f p x xs =
@@ -59,6 +59,6 @@ pub bits_of_members : (bits : ℕ) → bits < 2 ^ most_candidates → bits_of (m
 unfolding members
 bits_of_members bits h = bits_of_members_among bits most_candidates 0 ∙ omega (arith, h)
 
--- equal sets have one word
+-- equal sets have the same word
 pub bits_of_same : (set other : List ℕ) → bytes_eq set other ≡ true → bits_of set ≡ bits_of other
 bits_of_same set other same = ap bits_of ((bytes_decides set other).0 same)

@@ -6,7 +6,7 @@ use Rattle.ballot_base.specs.Ballots.{Election, IsElection, voter_count}
 abbrev pub texts : {A : Type 0} → List (Vec ℕ A) → List (List ℕ)
 texts names = map (λ name. name.items) names
 
--- an election with so many voters
+-- an election with this number of voters
 pub record IsCounted (e : Election) (voters : ℕ) : Type 0 where
   pub valid : IsElection e
   pub total : voters ≡ voter_count e.rows

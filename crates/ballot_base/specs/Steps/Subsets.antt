@@ -4,7 +4,7 @@ use Rattle.std.specs.List.{range_with_len}
 use Rattle.ballot_base.specs.Limits.{most_candidates}
 use Rattle.ballot_base.specs.Lists.{IsIncreasing, lists_of}
 
--- `set` and the lists after it, of the lists of its length of the `count` numbers from `first` on
+-- `set` and the lists after it, among the lists of its length over the `count` numbers from `first` on
 unfoldable pub lists_from : ℕ → ℕ → List ℕ → List (List ℕ)
 lists_from count first [] = [] ∷ []
 lists_from zero first (x ∷ rest) = []
@@ -24,7 +24,7 @@ abbrev pub MayComeNext : ℕ → Option (List ℕ) → Type 0
 MayComeNext m None = m ≤ most_candidates
 MayComeNext m (Some set) = (m ≤ most_candidates) × IsIncreasing 1 m set
 
--- the set is the last of its size: it has the greatest of the numbers 1 to m
+-- the set is the last of its size: it has the highest of the numbers 1 to m
 abbrev pub IsLastSet : ℕ → List ℕ → Type 0
 IsLastSet m set = set ≡ range_with_len (m + 1 - length set) (length set)
 
