@@ -6,8 +6,8 @@ use std::hash::{BuildHasher, Hasher, RandomState};
 
 const ABOVE_WORDS: u128 = 1 << 64;
 
-/// Parameters for hashing ballots. The hash of a ballot, taken as a 64-bit word, is the upper half of `factor * word +
-/// term` modulo 2^128.
+/// Parameters for hashing ballots. A ballot is hashed as a 64-bit word: its hash is the upper half of
+/// `factor * word + term`, modulo 2^128.
 ///
 /// If both parameters are drawn at random, and two ballots are chosen without knowledge of them, the hashes of the
 /// ballots agree in given bits as rarely as random numbers do. This is not proved here: it is the theorem of

@@ -18,14 +18,14 @@ HasNumber Usual = ⊤
 abbrev pub set_of : List ℕ → List ℕ
 set_of numbers = fold with_member [] numbers
 
--- the numbers of the fewest first classes that have n numbers together, or of all
+-- the numbers of the top classes, as many as it takes to reach n numbers, or of all classes
 abbrev pub first_numbers : ℕ → List (List ℕ) → List ℕ
 first_numbers n [] = []
 first_numbers n (class ∷ classes) =
     if nat_le n (length class) then class else class ++ first_numbers (n - length class) classes
 
--- the numbers that are taken in the usual way: those of the first category, and those of the first class of a ranking
--- that has a number
+-- the numbers that the usual way takes: those of the first category, or those of the first class of a ranking that has
+-- a number
 abbrev pub usual_numbers : Kind → List (List ℕ) → List ℕ
 usual_numbers Cat classes = unwrap_or (slice_get classes 0) []
 usual_numbers kind classes = first_numbers 1 classes

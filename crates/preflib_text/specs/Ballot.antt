@@ -5,11 +5,11 @@ use Rattle.std.specs.Str.{all_ascii_digits}
 use Rattle.std.specs.Str.Parse.{digits_value}
 use Rattle.preflib_text.specs.Lines.{is_blank}
 
--- blanks alone, or nothing
+-- only blanks, or nothing
 abbrev pub IsBlanks : List ℕ → Type 0
 IsBlanks bytes = list_all is_blank bytes ≡ true
 
--- digits that stand for this number, one or more; the first may be zeros
+-- one or more digits that stand for this number; zeros may come first
 abbrev pub IsDigits : List ℕ → ℕ → Type 0
 IsDigits bytes n = (0 < length bytes) × (all_ascii_digits bytes ≡ true) × (n ≡ digits_value 10 bytes)
 
@@ -22,7 +22,7 @@ IsPadded IsText bytes = (before text after : List ℕ) × (bytes ≡ before ++ t
 abbrev pub IsNumber : List ℕ → ℕ → Type 0
 IsNumber bytes n = IsPadded (λ text. IsDigits text n) bytes
 
--- one item or more, with a comma between each two
+-- one or more items, with a comma between each two
 abbrev pub IsJoined : {X : Type 0} → (List ℕ → X → Type 0) → List ℕ → List X → Type 0
 IsJoined IsItem bytes [] = ⊥
 IsJoined IsItem bytes (x ∷ []) = IsItem bytes x

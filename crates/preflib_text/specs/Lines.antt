@@ -7,7 +7,7 @@ abbrev pub onto_first : ℕ → List (List ℕ) → List (List ℕ)
 onto_first b [] = (b ∷ []) ∷ []
 onto_first b (piece ∷ pieces) = (b ∷ piece) ∷ pieces
 
--- the pieces between bytes LF; nothing follows a last LF
+-- the pieces between LF bytes; nothing follows a last LF
 unfoldable pub pieces_of : List ℕ → List (List ℕ)
 pieces_of [] = []
 pieces_of (b ∷ bytes) = if b == 10 then [] ∷ pieces_of bytes else onto_first b (pieces_of bytes)
@@ -30,15 +30,15 @@ lines_of bytes = map without_return (pieces_of (without_mark bytes))
 abbrev pub is_blank : ℕ → Bool
 is_blank b = (b == 32) || (b == 9)
 
--- the bytes from the first that is no blank
+-- the bytes from the first that is not a blank
 unfoldable pub trim_start : List ℕ → List ℕ
 trim_start [] = []
 trim_start (b ∷ bytes) = if is_blank b then trim_start bytes else b ∷ bytes
 
--- whether the first byte that is no blank is `#`
+-- whether the first byte that is not a blank is `#`
 abbrev pub is_metadata_line : List ℕ → Bool
 is_metadata_line line = starts_with nat_eq (trim_start line) (35 ∷ [])
 
--- every other line that has more than blanks is a ballot's
+-- every other line that does not consist only of blanks is a ballot line
 abbrev pub is_ballot_line : List ℕ → Bool
 is_ballot_line line = not (list_all is_blank line) && not (is_metadata_line line)

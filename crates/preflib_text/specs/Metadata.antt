@@ -26,7 +26,7 @@ pub record Entry : Type 0 where
   pub key : List (List ℕ)
   pub value : List ℕ
 
--- the entry of a metadata line, what stands after its `#` cut at the first colon; none without a colon
+-- the entry of a metadata line: the text after its `#`, cut at the first colon; none without a colon
 abbrev pub key_and_value : List ℕ → Option Entry
 key_and_value line =
     let text = drop 1 (trim_start line) in
@@ -37,19 +37,19 @@ key_and_value line =
     })
     else None
 
--- whether the words are alike but for the case of their letters
+-- whether the words are equal except for the case of their letters
 abbrev pub same_words : List (List ℕ) → List (List ℕ) → Bool
 same_words [] [] = true
 same_words (a ∷ as') (b ∷ bs) = str_eq_ignore_ascii_case a b && same_words as' bs
 same_words [] (b ∷ bs) = false
 same_words (a ∷ as') [] = false
 
--- the number that digits stand for, one or more
+-- the number that one or more digits stand for
 abbrev pub written_number : List ℕ → Option ℕ
 written_number bytes =
     if nat_lt 0 (length bytes) && all_ascii_digits bytes then Some (digits_value 10 bytes) else None
 
--- what a metadata line tells
+-- the fact that a metadata line states
 pub data Fact : Type 0 where
   TypeIs : List ℕ → Fact
   AlternativesAre : List ℕ → Fact
@@ -57,7 +57,7 @@ pub data Fact : Type 0 where
   NameIs : ℕ → List ℕ → Fact
   Nothing : Fact
 
--- the name of a candidate, where the last word of its key is a number
+-- the name of a candidate, if the last word of its key is a number
 abbrev pub name_told : List (List ℕ) → List ℕ → Fact
 name_told (a ∷ b ∷ n ∷ []) value =
     if same_words (a ∷ b ∷ []) (codes "ALTERNATIVE" ∷ codes "NAME" ∷ []) then told_name (written_number n) value
@@ -74,7 +74,7 @@ told_by e = if same_words e.key (codes "DATA" ∷ codes "TYPE" ∷ []) then Type
     else (if same_words e.key (codes "NUMBER" ∷ codes "CATEGORIES" ∷ []) then CategoriesAre e.value
     else name_told e.key e.value))
 
--- what a line tells
+-- the fact that a line states
 abbrev pub told_in : Option Entry → Fact
 told_in None = Nothing
 told_in (Some e) = told_by e

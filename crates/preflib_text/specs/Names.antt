@@ -24,7 +24,7 @@ kind_name Toi = codes "toi"
 abbrev pub kinds : List Kind
 kinds = Cat ∷ Soc ∷ Soi ∷ Toc ∷ Toi ∷ []
 
--- the type of a name, in letters of any case
+-- the type with a name, in letters of any case
 abbrev pub kind_named : List ℕ → Option Kind
 kind_named text = find (λ kind. str_eq_ignore_ascii_case text (kind_name kind)) kinds
 
@@ -56,11 +56,11 @@ faults =
     BadKind ∷ BadBallot ∷ BadCount ∷ NoSuchCandidate ∷ RepeatedCandidate ∷ NotStrict ∷
     Incomplete ∷ TooManyClasses ∷ NoVoters ∷ TooManyVoters ∷ PickMisfit ∷ Memory ∷ []
 
--- the fault of a name
+-- the fault with a name
 abbrev pub fault_named : List ℕ → Option FaultName
 fault_named name = find (λ fault. bytes_eq name (fault_name fault)) faults
 
--- where a fault is
+-- the line of a fault, as a text
 abbrev pub line_text : Option ℕ → List ℕ
 line_text None = []
 line_text (Some number) = codes "line " ++ decimal number ++ codes ": "

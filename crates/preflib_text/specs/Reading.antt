@@ -34,13 +34,13 @@ abbrev pub or_else : {X : Type 0} → Option X → Option X → Option X
 or_else None other = other
 or_else (Some fault) other = Some fault
 
--- a fault where a test holds
+-- a fault if a test holds
 abbrev pub fault_if : Bool → FaultName → Option FaultName
 fault_if test name = if test then Some name else None
 
 -- ---- metadata
 
--- what the lines before the first ballot tell
+-- the facts of the lines before the first ballot
 abbrev pub told_before : List (List ℕ) → List Fact
 told_before lines = map told_of (take_while (λ line. not (is_ballot_line line)) lines)
 
@@ -68,31 +68,31 @@ is_empty (x ∷ xs) = false
 abbrev pub last_of : List (List ℕ) → Option (List ℕ)
 last_of values = slice_get (reverse values) 0
 
--- the number of alternatives, and of categories, as the lines tell it first
+-- the number of alternatives, and of categories, that the lines give first
 abbrev pub alternatives_in : List (List ℕ) → Option ℕ
 alternatives_in lines = option_and_then written_number (slice_get (filter_map alternatives_value (told_before lines)) 0)
 
 abbrev pub categories_in : List (List ℕ) → Option ℕ
 categories_in lines = option_and_then written_number (slice_get (filter_map categories_value (told_before lines)) 0)
 
--- whether a candidate may have this number: one up to the number of alternatives, or up to the most that there may be
--- if that number is not known
+-- whether a candidate may have this number: at least 1, and at most the number of alternatives, or the maximum number
+-- of candidates if the number of alternatives is not known
 abbrev pub may_be_candidate : Option ℕ → ℕ → Bool
 may_be_candidate alternatives n = nat_le 1 n && nat_le n (unwrap_or alternatives most_candidates)
 
--- whether a name to keep is told, after these lines: one that has bytes, of a number that a candidate may have
+-- whether a fact is a name to keep, after these lines: it has bytes, and its number is one that a candidate may have
 abbrev pub is_name : List (List ℕ) → Fact → Bool
 is_name before (NameIs n value) = may_be_candidate (alternatives_in before) n && not (is_empty value)
 is_name before _ = false
 
--- the type and the name of a candidate, as the lines tell them last; a name may be empty, and is none then
+-- the type and the name of a candidate that the lines give last; an empty name means none
 abbrev pub type_in : List (List ℕ) → Option (List ℕ)
 type_in lines = last_of (filter_map type_value (told_before lines))
 
 abbrev pub name_in : List (List ℕ) → ℕ → List ℕ
 name_in lines n = unwrap_or (last_of (filter_map (name_value n) (told_before lines))) []
 
--- what is wrong with a number of the metadata, which is at most so large, beside the number that was told before
+-- what is wrong with a number of the metadata, which is at most `most`, after the number that was given before
 abbrev pub number_fault : Option FaultName → ℕ → Option ℕ → Option ℕ → Option FaultName
 number_fault too_large most before None = Some BadNumber
 number_fault too_large most before (Some n) = or_else (fault_if (n == 0) BadNumber)
@@ -108,12 +108,13 @@ told_fault before _ = None
 
 -- ---- ballots
 
--- the type, or a fault where there is none
+-- the type, or a fault if there is none
 abbrev pub kind_or : FaultName → Option Kind → Result Kind FaultName
 kind_or name (Some kind) = Ok kind
 kind_or name None = Err name
 
--- the type of the file: the one that the reader was told, else that of the metadata, else that of the file's name
+-- The type of the file: the one that the reader was given; failing that, that of the metadata; failing that, that of
+-- the file's name.
 abbrev pub kind_by : Option Kind → Option (List ℕ) → Option Kind → Result Kind FaultName
 kind_by (Some kind) told ending = Ok kind
 kind_by None (Some text) ending = kind_or BadKind (kind_named text)
@@ -122,7 +123,7 @@ kind_by None None ending = kind_or NoKind ending
 abbrev pub kind_in : Pick → List (List ℕ) → Result Kind FaultName
 kind_in pick lines = kind_by pick.kind (type_in lines) pick.ending
 
--- the type, where there is one
+-- the type, or `Cat` if there is none
 abbrev pub kind_or_usual : Result Kind FaultName → Kind
 kind_or_usual (Ok kind) = kind
 kind_or_usual (Err name) = Cat
@@ -199,7 +200,7 @@ pub record FaultyLine : Type 0 where
 abbrev pub faulty_line : ℕ → FaultName → FaultyLine
 faulty_line number name = record { number = number; name = name }
 
--- its fault
+-- the fault of that line
 abbrev pub fault_of_line : FaultyLine → ReadFault
 fault_of_line line = at_line line.number line.name
 
@@ -213,7 +214,7 @@ module _ (pick : Pick) (read : List ℕ → Option Cast) where
   abbrev pub casts_in : List (List ℕ) → List Cast
   casts_in lines = filter_map read (filter is_ballot_line lines)
 
-  -- how many voters cast them
+  -- how many voters cast these ballots
   abbrev pub votes_in : List (List ℕ) → ℕ
   votes_in lines = sum_by (λ cast. cast.count) (casts_in lines)
 
@@ -239,14 +240,14 @@ module _ (pick : Pick) (read : List ℕ → Option Cast) where
       (if is_ballot_line line then ballot_line_fault before line (alternatives_in before)
       else (if list_any is_ballot_line before then None else told_fault before (told_of line)))
 
-  -- the first line with a fault among lines that stand after others, if one has a fault
+  -- the first line with a fault, if there is one, among lines that come after others
   abbrev pub first_faulty_line : List (List ℕ) → List (List ℕ) → Option FaultyLine
   first_faulty_line before [] = None
   first_faulty_line before (line ∷ lines) =
       or_else (option_map (faulty_line (length before + 1)) (line_fault before line))
       (first_faulty_line (before ++ line ∷ []) lines)
 
-  -- the first fault: that of the first line with one, else that of the end
+  -- the first fault: that of the first line with one; failing that, that of the end
   abbrev pub first_fault : List (List ℕ) → Option ReadFault
   first_fault lines =
       or_else (option_map fault_of_line (first_faulty_line [] lines)) (option_map at_end (end_fault lines))
@@ -267,13 +268,13 @@ module _ (pick : Pick) (read : List ℕ → Option Cast) where
   abbrev pub outcome_in : List (List ℕ) → Result Election ReadFault
   outcome_in lines = outcome_by (election_in lines) (first_fault lines)
 
-  -- whether a line makes the profile grow, after these lines: a name to keep before the first ballot, and a ballot that
-  -- makes a new row
+  -- whether a line makes the profile grow, after these lines: with a name to keep before the first ballot, or with a
+  -- ballot that makes a new row
   abbrev pub is_growth : List (List ℕ) → List ℕ → Bool
   is_growth before line = (not (list_any is_ballot_line before) && is_name before (told_of line))
       || nat_lt (length (rows_in before)) (length (rows_in (before ++ line ∷ [])))
 
-  -- whether a line takes memory: the first, where the room of names and rows is taken, and one that makes them grow
+  -- whether a line takes memory: the first line, which takes the room of names and rows, and each that makes them grow
   abbrev pub takes_memory : List (List ℕ) → List ℕ → Bool
   takes_memory before line = (length before == 0) || is_growth before line
 

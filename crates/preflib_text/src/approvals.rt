@@ -12,11 +12,11 @@ use ballot_base::{CandSet, MOST_VOTERS};
 /// Which candidates count as approved: `Way` with the default resolved.
 #[derive(Clone, Copy)]
 pub(crate) enum Taking {
-    /// Those of this class, counted from 1.
+    /// The numbers of this class, counted from 1.
     Category(u32),
-    /// Those of the top classes, as many as it takes to reach this many numbers, or of all.
+    /// The numbers of the top classes, as many as it takes to reach this many numbers, or of all classes.
     SetSize(u32),
-    /// Those of this many top classes.
+    /// The numbers of this many top classes.
     Classes(u32),
 }
 
@@ -35,7 +35,7 @@ impl Taking {
     }
 }
 
-/// What the numbers of a ballot are read by: the number of candidates, and which numbers are taken.
+/// What the numbers of a ballot are read with: the number of candidates, and which numbers are taken.
 #[derive(Clone, Copy)]
 pub(crate) struct Terms {
     pub(crate) m: u8,
@@ -43,7 +43,7 @@ pub(crate) struct Terms {
     ghost few: { m ≤ most_candidates },
 }
 
-/// What the metadata says of the ballots.
+/// What the metadata say about the ballots.
 #[derive(Clone, Copy)]
 pub(crate) struct Header {
     pub(crate) kind: Kind,
@@ -59,15 +59,15 @@ pub(crate) struct Marks {
     pub(crate) wrong: Option<FaultName>,
     /// The numbers up to the first wrong one.
     pub(crate) seen: CandSet,
-    /// Those of them that are taken.
+    /// The seen numbers that are taken.
     pub(crate) approved: CandSet,
-    /// Whether each class that ended has one number.
+    /// Whether each finished class has exactly one number.
     pub(crate) strict: bool,
-    /// How many classes ended.
+    /// The number of finished classes.
     pub(crate) classes: u64,
-    /// How many numbers they have.
+    /// How many numbers the finished classes have.
     pub(crate) before: u64,
-    /// How many numbers the class that did not end has so far.
+    /// How many numbers the current class has so far.
     pub(crate) numbers: u64,
 }
 
@@ -87,7 +87,7 @@ impl Marks {
         }
     }
 
-    /// Whether the numbers of the class that comes are taken.
+    /// Whether the numbers of the current class are taken.
     pub(crate) fn takes(&self, taking: Taking) -> bool
         requires { self.now.classes + 1 < word_limit }
         ensures { result ≡ takes taking self.now.classes self.now.before }
@@ -99,7 +99,7 @@ impl Marks {
         }
     }
 
-    /// Whether no class that comes is taken.
+    /// Whether neither the current class nor a later one is taken.
     pub(crate) fn is_past(&self, taking: Taking) -> bool
         ensures { result ≡ is_past taking self.now.classes self.now.before }
     {
@@ -126,7 +126,7 @@ impl Marks {
         None
     }
 
-    /// Adds a number with which nothing is wrong to the class that comes, whose numbers are taken or not.
+    /// Adds a number with which nothing is wrong to the current class; `taken` says whether it is approved.
     pub(crate) fn add_new(&mut self, n: u64, taken: bool)
         requires low { 1 ≤ n }
         requires high { n ≤ most_candidates }
@@ -140,7 +140,7 @@ impl Marks {
         }
     }
 
-    /// Adds a number to the class that comes.
+    /// Adds a number to the current class.
     pub(crate) fn add_number(&mut self, terms: Terms, n: u64)
         requires classes { self.old.classes + 1 < word_limit }
         requires numbers { self.old.numbers + 1 < word_limit }
@@ -154,7 +154,6 @@ impl Marks {
         }
     }
 
-    /// Ends the class.
     pub(crate) fn end_class(&mut self)
         requires classes { self.old.classes + 1 < word_limit }
         requires numbers { self.old.before + self.old.numbers < word_limit }
@@ -166,7 +165,7 @@ impl Marks {
         self.numbers = 0;
     }
 
-    /// What is wrong with the ballot of this count.
+    /// What is wrong with the ballot, if it has this count.
     pub(crate) fn fault(&self, header: Header, count: u64) -> Option<FaultName>
         ensures { result ≡ fault_of header.kind header.m header.categories count self.now }
     {

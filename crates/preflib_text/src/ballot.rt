@@ -1,8 +1,9 @@
-//! Reading one line of a ballot, token by token: a count, a colon and an order. Each token has to fit its place in the
-//! order (`OrderPlace`).
+//! Reads one ballot line, token by token: a count, a colon and an order. Each token has to fit its place in the order
+//! (`OrderPlace`).
 //!
 //! Most numbers of a ballot have one or two digits, and a comma or a brace right beside them. `OrderPlace::read_on` and
-//! `listed_number` read them together; `IsReadOn` says that the outcome is that of the single tokens.
+//! `listed_number` read such a number and its neighbour together. `IsReadOn` says that the outcome is that of the
+//! single tokens.
 ghost use Rattle.std.specs.Prelude.{◌≡◌, ℕ, ◌+◌, ◌-◌, ◌*◌, ◌^◌, ◌<◌, ◌≤◌, true, length, List, [], ◌∷◌};
 ghost use Rattle.std.specs.Prelude.{Some, None, MatchOption, IfOk, IfErr, IfSome, if◌then◌else◌};
 ghost use Rattle.std.specs.Char.{is_ascii_digit};
@@ -23,7 +24,7 @@ use crate::lines::trim_start;
 use crate::pick::Way;
 use ballot_base::CandSet;
 
-/// A part of a ballot line.
+/// A token of a ballot line.
 #[derive(Clone, Copy)]
 enum Token {
     Number(u64),
@@ -51,7 +52,7 @@ enum OrderPlace {
     Listed,
 }
 
-/// How far an order was read: the place that was reached, and what is left of the text.
+/// How far an order was read: the place reached, and the rest of the text.
 #[derive(Clone, Copy)]
 struct Position<'a> {
     place: OrderPlace,
@@ -59,7 +60,7 @@ struct Position<'a> {
 }
 
 impl OrderPlace {
-    /// The place after a token, if it may come here. Its number, or the end of its class, goes into the marks.
+    /// The place after a token, if the token may come here. Notes its number, or the end of its class, in the marks.
     fn after(self, token: Token, marks: &mut Marks, terms: Terms) -> Option<OrderPlace>
         requires { HasRoom marks.old 0 }
         ensures place { result ≡ next_place self token }
@@ -83,7 +84,7 @@ impl OrderPlace {
         }
     }
 
-    /// The place after a number, if it may come here.
+    /// Like `after`, for a number.
     #[inline(always)]
     fn after_number(self, n: u64, marks: &mut Marks, terms: Terms) -> Option<OrderPlace>
         requires { HasRoom marks.old 0 }
@@ -104,8 +105,7 @@ impl OrderPlace {
         }
     }
 
-    /// The place after a number and a comma, if they may come here. The number, or the end of its class, goes into the
-    /// marks.
+    /// Like `after`, for a number and a comma.
     fn after_listed(self, n: u64, marks: &mut Marks, terms: Terms) -> Option<OrderPlace>
         requires { HasRoom marks.old 0 }
         ensures place { result ≡ option_and_then (λ place. next_place place Token.Comma)
@@ -115,7 +115,6 @@ impl OrderPlace {
         self.after_number(n, marks, terms)?.after_comma()
     }
 
-    /// The place after a comma, if it may come here.
     fn after_comma(self) -> Option<OrderPlace>
         ensures { result ≡ next_place self Token.Comma }
     {
@@ -126,7 +125,7 @@ impl OrderPlace {
         }
     }
 
-    /// Reads the common numbers that come at this place. Returns the position after them.
+    /// Reads the numbers of a common form that come at this place. Returns the position after them.
     fn read_on<'a>(self, text: &'a [u8], marks: &mut Marks, terms: Terms) -> Position<'a>
         requires { HasRoom marks.old (length text.now) }
         ensures { IsReadOn terms.m terms.taking self text.now marks.old result.place result.rest.now marks.new }
@@ -144,7 +143,7 @@ impl OrderPlace {
         }
     }
 
-    /// Reads on between braces like `read_members`, on marks of its own, which the compiler keeps in registers.
+    /// Like `read_members`, but on its own copy of the marks, which the compiler keeps in registers.
     #[inline(never)]
     fn read_braces<'a>(self, text: &'a [u8], marks: &mut Marks, terms: Terms) -> Position<'a>
         requires room { HasRoom marks.old (length text.now) }
@@ -158,8 +157,8 @@ impl OrderPlace {
         end
     }
 
-    /// Reads numbers between braces, taken or not, that have a comma or the closing brace right after each, as long as
-    /// nothing is wrong with them. A comma right after the closing brace is read, too. Returns the position after them.
+    /// Reads numbers between braces, taken or not, each with a comma or the closing brace right after it, until
+    /// something is wrong. A comma right after the closing brace is read, too. Returns the position after them.
     #[inline(always)]
     fn read_members<'a>(self, text: &'a [u8], marks: &mut Marks, m: u8, taken: bool) -> Position<'a>
         requires candidates { m ≤ most_candidates }
@@ -190,7 +189,6 @@ impl OrderPlace {
         Position { place, rest }
     }
 
-    /// Whether an order may end here.
     fn is_end(self) -> bool
         ensures { result ≡ is_end self }
     {
@@ -198,15 +196,15 @@ impl OrderPlace {
     }
 }
 
-/// How many voters cast a ballot, and the candidates that it approves.
+/// A ballot: the number of voters who cast it, and the candidates that it approves.
 #[derive(Clone, Copy)]
 pub(crate) struct Ballot {
     pub(crate) count: u64,
     pub(crate) approved: CandSet,
 }
 
-/// The number that begins with this digit and goes on with those at the front of the text, and the text after them.
-/// Of a number above `MOST_VOTERS` it is `ABOVE`.
+/// The number that begins with digit `first` and goes on with the digits at the front of the text, and the rest of the
+/// text. A number above `MOST_VOTERS` becomes `ABOVE`.
 #[tactic(auto, unfolding(crate::specs::Steps::Tokens::tokens_after))]
 fn digits(first: u64, text: &[u8]) -> (u64, &[u8])
     requires { first ≤ 9 }
@@ -236,7 +234,7 @@ fn mark(byte: u8) -> Token
     }
 }
 
-/// The first token, and the text after it. A number is read as `digits` says.
+/// The first token, and the text after it. A number above `MOST_VOTERS` becomes `ABOVE`.
 #[tactic(auto, unfolding(crate::specs::Steps::Tokens::tokens_after))]
 fn next_token(text: &[u8]) -> Option<(Token, &[u8])>
     ensures { MatchOption result (tokens_of text.now ≡ []) (λ x. IsFirstToken text.now x.0 x.1.now) }
@@ -255,7 +253,6 @@ fn next_token(text: &[u8]) -> Option<(Token, &[u8])>
     None
 }
 
-/// The number of two digits.
 fn two_digits(tens: u8, ones: u8) -> u64
     requires tens { is_ascii_digit tens ≡ true }
     requires ones { is_ascii_digit ones ≡ true }
@@ -280,8 +277,8 @@ fn short_number(text: &[u8]) -> Option<(u64, &[u8])>
     }
 }
 
-/// The number at the front of a text that has one or two digits and a comma right after them, and the text after the
-/// comma. Most numbers of a ballot are such.
+/// The number of one or two digits at the front of a text with a comma right after it, and the text after the comma.
+/// Most numbers of a ballot have this form.
 #[tactic(auto, unfolding(crate::specs::Steps::Tokens::tokens_after))]
 fn listed_number(text: &[u8]) -> Option<(u64, &[u8])>
     ensures tokens { IfSome result (λ x. tokens_of text.now ≡ tokens_after (Some x.0) (44 ∷ x.1.now)) }
@@ -297,7 +294,6 @@ fn listed_number(text: &[u8]) -> Option<(u64, &[u8])>
     }
 }
 
-/// The text after this byte at its front.
 fn after_byte(text: &[u8], byte: u8) -> Option<&[u8]>
     ensures { IfSome result (λ rest. text.now ≡ byte ∷ rest.now) }
 {
@@ -307,7 +303,7 @@ fn after_byte(text: &[u8], byte: u8) -> Option<&[u8]>
     }
 }
 
-/// Whether the comma or closing brace at the front of a text is a brace, and the text after it.
+/// Whether the delimiter at the front of a text is a closing brace and not a comma, and the text after it.
 fn past_delimiter(text: &[u8]) -> Option<(bool, &[u8])>
     ensures { IfSome result (λ x. text.now ≡ (if x.0 then 125 else 44) ∷ x.1.now) }
 {
@@ -318,7 +314,7 @@ fn past_delimiter(text: &[u8]) -> Option<(bool, &[u8])>
     }
 }
 
-/// The place after a class, or after the comma right behind it, and the text from there on.
+/// The position after a class, or after a comma that follows the class at once.
 fn after_class(text: &[u8]) -> Position<'_>
     ensures order { order_at result.place (tokens_of result.rest.now)
         ≡ order_at OrderPlace.Between (tokens_of text.now) }
@@ -336,8 +332,8 @@ fn after_class(text: &[u8]) -> Position<'_>
     }
 }
 
-/// Reads classes of one number that have a comma right after each, as long as nothing is wrong with them, once no class
-/// is taken any more. What is left of the text comes after a comma between classes, too.
+/// Reads classes of one number, each with a comma right after it, until something is wrong. No class is taken any more.
+/// The rest of the text comes after a comma between classes, too.
 #[inline(always)]
 fn read_singles<'a>(text: &'a [u8], marks: &mut Marks, terms: Terms) -> &'a [u8]
     requires room { HasRoom marks.old (length text.now) }
@@ -385,7 +381,7 @@ fn read_classes<'a>(text: &'a [u8], marks: &mut Marks, terms: Terms) -> Position
     Position { place, rest }
 }
 
-/// The marks of the classes of an order.
+/// Reads an order, and returns the marks of its classes.
 fn read_order(text: &[u8], terms: Terms) -> Option<Marks>
     ensures { result ≡ option_map (with_classes terms.m terms.taking no_marks)
         (order_at OrderPlace.Order (tokens_of text.now)) }
@@ -420,7 +416,7 @@ fn read_line(line: &[u8], terms: Terms) -> Option<(u64, Marks)>
     Some((count, read_order(order, terms)?))
 }
 
-/// Reads the line of a ballot, without its end. A line of another shape has the fault `BadBallot`.
+/// Reads a ballot line, given without its end. A line of another shape has the fault `BadBallot`.
 pub(crate) fn read_ballot(line: &[u8], header: Header, way: Way) -> Result<Ballot, FaultName>
     requires { HasNumber way }
     ensures ok { IfOk result (λ ballot. IsGoodBallot line.now header.kind header.m header.categories way
@@ -443,7 +439,7 @@ pub(crate) fn read_ballot(line: &[u8], header: Header, way: Way) -> Result<Ballo
     }
 }
 
-/// A ballot line has one count and one list of classes.
+/// A line has at most one reading as a count and a list of classes.
 pub fn one_ballot_line()
     ensures { (line : List ℕ) (c d : ℕ) (cs ds : List (List ℕ)) → IsBallotLine line c cs → IsBallotLine line d ds
         → (c ≡ d) × (cs ≡ ds) }

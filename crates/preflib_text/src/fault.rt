@@ -18,40 +18,40 @@ pub enum FaultName {
     BadNumber,
     /// There are more than [`MOST_CANDIDATES`](ballot_base::MOST_CANDIDATES) alternatives.
     TooManyCandidates,
-    /// The number of alternatives or of categories is given a second time, as another.
+    /// The number of alternatives or of categories is given again, with another value.
     ConflictingKey,
-    /// The first ballot or the end comes, and the number of alternatives was not given.
+    /// The first ballot or the end comes before the number of alternatives.
     NoAlternatives,
-    /// The first ballot comes, and the type of the file is not known.
+    /// The first ballot comes before the type of the file is known.
     NoKind,
-    /// The type of the file that its metadata gives is none of the five.
+    /// The metadata give a type that is not one of the five.
     BadKind,
-    /// A line of a ballot has another shape than a count, a colon and an order.
+    /// A ballot line does not consist of a count, a colon and an order.
     BadBallot,
     /// A count is 0 or above [`MOST_VOTERS`](ballot_base::MOST_VOTERS).
     BadCount,
     /// A number in a ballot is 0 or above the number of alternatives.
     NoSuchCandidate,
-    /// A number stands in a ballot twice.
+    /// A number occurs twice in a ballot.
     RepeatedCandidate,
-    /// A class of a strict ranking has not exactly one number.
+    /// A class of a strict ranking does not have exactly one number.
     NotStrict,
-    /// A candidate does not stand in a complete ranking.
+    /// A complete ranking leaves out a candidate.
     Incomplete,
     /// A ballot has more classes than there are categories.
     TooManyClasses,
-    /// The end comes, and there was no ballot.
+    /// The input ends without a ballot.
     NoVoters,
-    /// There are more than [`MOST_VOTERS`](ballot_base::MOST_VOTERS) voters with this line.
+    /// With this line there are more than [`MOST_VOTERS`](ballot_base::MOST_VOTERS) voters.
     TooManyVoters,
-    /// The way of approval does not fit the type of the file, or there are fewer categories than the one to take.
+    /// The way of approval does not fit the type of the file, or its category is above the number of categories.
     PickMisfit,
     /// An allocation failed.
     Memory,
 }
 
 impl FaultName {
-    /// The names of all faults, in their order.
+    /// The names of all faults, in the order of the variants.
     pub const NAMES: [&'static str; 18] = [
         "LongLine",
         "BadNumber",
@@ -73,7 +73,7 @@ impl FaultName {
         "Memory",
     ];
 
-    /// The name, as it is written in the line that refuses a file.
+    /// The name, as it is printed in the line that refuses a file.
     pub const fn name(self) -> &'static str
         ensures { result.now ≡ fault_name self }
     {

@@ -10,15 +10,15 @@ ghost use Rattle.preflib_text.specs.Names.{kind_name, kind_named, kinds, fault_n
 use crate::fault::{FaultName, ReadFault};
 use crate::pick::{Kind, Pick};
 
-/// `Kind::ALL` has each type. No two types share a name, and no two faults.
+/// `Kind::ALL` has each type. No two types share a name, and no two faults do.
 pub fn names()
     ensures kinds { Kind.ALL ≡ kinds }
     ensures kind { (kind : Kind) → kind_named (kind_name kind) ≡ Some kind }
     ensures fault { (fault : FaultName) → fault_named (fault_name fault) ≡ Some fault }
 {}
 
-/// The lines of an input are those that have ended and, if bytes come after the last LF, the one that they make. A line
-/// that is not too long so far comes within the limit if it ends there.
+/// The lines of an input are those that have ended and, if bytes follow the last LF, the line that they make. A line
+/// that is not too long so far is within the limit if it ends there.
 pub fn unfinished_lines()
     ensures all { (bytes : List ℕ) → lines_of bytes
         ≡ ended_lines bytes ++ map without_return (pieces_of (unfinished_line bytes)) }
@@ -29,8 +29,8 @@ pub fn unfinished_lines()
         → length (without_return (unfinished_line bytes)) ≤ most_line_bytes }
 {}
 
-/// The bytes so far show one thing under one pick: a fault, or none yet. The fault is that of every input that begins
-/// with these bytes. If a reader in pieces can run out of memory at a line, so can a reader of the whole.
+/// Under a pick, the bytes so far show exactly one thing: a fault, or none yet. The fault is that of every input that
+/// begins with these bytes. If a reader in pieces can run out of memory at a line, so can a reader of the whole.
 pub fn pieces()
     ensures some { (bytes : List ℕ) (pick : Pick) → (fault : Option ReadFault) × Tells bytes pick fault }
     ensures one { (bytes : List ℕ) (pick : Pick) (a b : Option ReadFault) → Tells bytes pick a → Tells bytes pick b

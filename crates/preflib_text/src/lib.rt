@@ -1,7 +1,8 @@
-//! Reads ballot files of PrefLib: complete, incomplete, strict and weak rankings, and categories.
+//! Reads PrefLib ballot files: complete, incomplete, strict and weak rankings, and categories.
 //!
-//! `lines` cuts an input into lines. `metadata` and `ballot`, with `approvals`, read one of them, and `notes` finds its
-//! fault or what it does to the profile. `reader` does so for a whole input, `pieces` for an input in pieces.
+//! `lines` cuts an input into lines. `metadata` and `ballot`, with `approvals`, read one of them. `notes` finds the
+//! fault of a line, or what the line does to the profile. `reader` does so for a whole input, `pieces` for an input in
+//! pieces.
 #![tactic(auto)]
 
 mod approvals;

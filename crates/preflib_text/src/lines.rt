@@ -13,7 +13,7 @@ pub(crate) struct Cut<'a> {
     pub(crate) rest: &'a [u8],
 }
 
-/// What kind of line a line is.
+/// The kind of a line.
 #[derive(Clone, Copy)]
 pub(crate) enum Sort {
     Blank,
@@ -31,7 +31,7 @@ pub(crate) fn without_mark(bytes: &[u8]) -> &[u8]
     }
 }
 
-/// The first line.
+/// Cuts off the first line, which ends at an LF or with the text.
 pub(crate) fn first_line(text: &[u8]) -> Cut<'_>
     requires { 0 < length text.now }
     ensures line { (piece : List ℕ) × (pieces_of text.now ≡ piece ∷ pieces_of result.rest.now)
@@ -50,7 +50,6 @@ pub(crate) fn first_line(text: &[u8]) -> Cut<'_>
     }
 }
 
-/// The line without a CR at its end.
 pub(crate) fn without_return(line: &[u8]) -> &[u8]
     ensures { result.now ≡ without_return line.now }
 {
@@ -60,7 +59,7 @@ pub(crate) fn without_return(line: &[u8]) -> &[u8]
     }
 }
 
-/// The bytes from the first that is no blank.
+/// The bytes without blanks (spaces and tabs) at the start.
 #[tactic(auto, unfolding(crate::specs::Lines::trim_start))]
 pub(crate) fn trim_start(bytes: &[u8]) -> &[u8]
     ensures { result.now ≡ trim_start bytes.now }
@@ -83,7 +82,6 @@ pub(crate) fn trim(bytes: &[u8]) -> &[u8]
     rest
 }
 
-/// What kind of line this is.
 pub(crate) fn sort_of(line: &[u8]) -> Sort
     ensures { IsSort line.now result }
 {

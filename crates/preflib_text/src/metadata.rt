@@ -1,4 +1,4 @@
-//! Reading a metadata line: its key, its value, and the fact that they state.
+//! Reads a metadata line: its key, its value, and the fact that they state.
 ghost use Rattle.std.specs.Prelude.{◌≡◌, ◌==◌, true, false, [], ◌∷◌, option_map, MatchOption};
 ghost use Rattle.std.specs.List.{list_any, before_first, after_first};
 ghost use Rattle.preflib_text.specs.Metadata.{words_of, written_number, told_by, told_of};
@@ -33,7 +33,7 @@ struct Word<'a> {
     rest: &'a [u8],
 }
 
-/// The number that goes on with these digits.
+/// Continues a number with these digits. Returns `None` if the text has another byte.
 #[tactic(auto, unfolding(crate::specs::Steps::Tells::digits_after))]
 fn digits_after(first: u64, text: &[u8]) -> Option<u64>
     requires { first ≡ capped first }
@@ -51,7 +51,7 @@ fn digits_after(first: u64, text: &[u8]) -> Option<u64>
     Some(value)
 }
 
-/// The number that digits stand for. Of a number above `MOST_VOTERS` it is `ABOVE`.
+/// The number that a text of digits stands for. A number above `MOST_VOTERS` becomes `ABOVE`.
 pub(crate) fn written_number(text: &[u8]) -> Option<u64>
     ensures { result ≡ option_map capped (written_number text.now) }
 {
@@ -61,7 +61,7 @@ pub(crate) fn written_number(text: &[u8]) -> Option<u64>
     digits_after(0, text)
 }
 
-/// The first word, and the bytes after it. If there is none, the word is empty.
+/// The first word, and the bytes after it. Without a word, both are empty.
 fn first_word(text: &[u8]) -> Word<'_>
     ensures word { words_of text.now ≡ words_with result.word.now (words_of result.rest.now) }
     ensures end { result.word.now ≡ [] → result.rest.now ≡ [] }
@@ -79,7 +79,7 @@ fn first_word(text: &[u8]) -> Word<'_>
     }
 }
 
-/// A text before and after its first colon.
+/// Cuts a text at its first colon.
 fn cut_at_colon(text: &[u8]) -> Option<Entry<'_>>
     ensures { MatchOption result (list_any (λ b. b == 58) text.now ≡ false)
         (λ e. (list_any (λ b. b == 58) text.now ≡ true) × (e.key.now ≡ before_first (λ b. b == 58) text.now)
@@ -123,7 +123,6 @@ fn told_by_three<'a>(first: &[u8], second: &[u8], third: &[u8], value: &'a [u8])
     }
 }
 
-/// The fact that a key states.
 fn told_by<'a>(key: &[u8], value: &'a [u8]) -> Fact<'a>
     ensures { meant result ≡ capped_told (told_by (record { key = words_of key.now; value = value.now })) }
 {

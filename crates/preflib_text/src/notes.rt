@@ -28,7 +28,7 @@ pub(crate) struct Notes {
     pub(crate) alternatives: Option<u64>,
     pub(crate) categories: Option<u64>,
     pub(crate) kind: Result<Kind, FaultName>,
-    /// Whether one of the lines was a ballot's.
+    /// Whether a ballot line was read.
     pub(crate) has_ballot: bool,
 }
 
@@ -42,14 +42,14 @@ pub(crate) enum Effect<'a> {
     Ballot(Vote),
 }
 
-/// A ballot, and the number of candidates if it is the first.
+/// A ballot. The first one comes with the number of candidates.
 #[derive(Clone, Copy)]
 pub(crate) struct Vote {
     pub(crate) first: Option<u8>,
     pub(crate) ballot: Ballot,
 }
 
-/// Notes a number of the metadata, from 1 to `most`, beside the one that was noted before.
+/// Notes a metadata number, 1 to `most`. If the number was noted before, the two have to be equal.
 fn note_number<'a>(
     noted: &mut Option<u64>,
     most: u64,
@@ -73,7 +73,6 @@ fn note_number<'a>(
     }
 }
 
-/// Whether the way fits the type and the categories.
 fn is_fitting(kind: Kind, categories: Option<u64>, way: Way) -> bool
     ensures { result ≡ is_fitting kind categories way }
 {
@@ -86,7 +85,7 @@ fn is_fitting(kind: Kind, categories: Option<u64>, way: Way) -> bool
 }
 
 impl Notes {
-    /// What is known before the first line.
+    /// The notes before the first line.
     pub(crate) fn new(pick: &Pick) -> Notes
         ensures { result ≡ fresh_notes pick.now }
     {
@@ -98,7 +97,7 @@ impl Notes {
         }
     }
 
-    /// What a name does. That of a number which no candidate can have does nothing.
+    /// What the name of a candidate does. A name for a number that no candidate can have does nothing.
     fn name_effect<'a>(&self, number: u64, name: &'a [u8]) -> Effect<'a>
         requires { IsSound self.now }
         ensures { effect_of result ≡ told_effect self.now (NameIs number name.now) }
@@ -146,7 +145,7 @@ impl Notes {
         }
     }
 
-    /// Reads the line of a ballot.
+    /// Reads a ballot line.
     fn take_ballot<'a>(&mut self, pick: &Pick, line: &[u8]) -> Result<Effect<'a>, FaultName>
         requires notes { IsSound self.old }
         requires way { HasNumber pick.now.way }

@@ -21,17 +21,17 @@ impl Kind {
     /// All types.
     pub const ALL: [Kind; 5] = [Kind::Cat, Kind::Soc, Kind::Soi, Kind::Toc, Kind::Toi];
 
-    /// Their names, in the same order.
+    /// The names of the types, in the order of `ALL`.
     pub const NAMES: [&'static str; 5] = ["cat", "soc", "soi", "toc", "toi"];
 
-    /// The name, as PrefLib writes it at the end of a file's name and in its metadata.
+    /// The name of the type, as in the extensions of PrefLib's files and in their metadata.
     pub const fn name(self) -> &'static str
         ensures { result.now ≡ kind_name self }
     {
         Kind::NAMES[self as usize]
     }
 
-    /// The type that has this name, in letters of any case, if one has.
+    /// The type with this name, in letters of any case, or `None`.
     pub fn named(text: &[u8]) -> Option<Kind>
         ensures { result ≡ kind_named text.now }
     {
@@ -42,26 +42,26 @@ impl Kind {
     }
 }
 
-/// Which candidates of a ballot are approved. The numbers are at least 1.
+/// Which candidates of a ballot count as approved. The numbers are at least 1.
 #[derive(Clone, Copy, Debug, PartialEq, Eq)]
 pub enum Way {
-    /// The first category of a `cat` file, and the first class of a ranking that has a candidate.
+    /// In a `cat` file, the first category; in a ranking, the first class that has a candidate.
     Usual,
-    /// This category of a `cat` file, counted from 1.
+    /// In a `cat` file, this category, counted from 1.
     Category(u32),
-    /// The top classes of a ranking, as many as it takes to reach this many candidates, or all.
+    /// In a ranking, the top classes, as many as it takes to reach this many candidates, or all.
     SetSize(u32),
-    /// This many top classes of a ranking, or all.
+    /// In a ranking, this many top classes, or all.
     Classes(u32),
 }
 
 /// How a file is read.
 #[derive(Clone, Copy, Debug, PartialEq, Eq)]
 pub struct Pick {
-    /// The type of the file, if it is given.
+    /// The type of the file, if it is given. It overrides the metadata.
     pub kind: Option<Kind>,
-    /// The type that the file's name ends in, used if nothing else gives the type.
+    /// The type by the extension of the file's name, used only if nothing else gives the type.
     pub ending: Option<Kind>,
-    /// Which candidates are approved.
+    /// Which candidates count as approved.
     pub way: Way,
 }

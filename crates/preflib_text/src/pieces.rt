@@ -1,5 +1,5 @@
-//! Reading a ballot file in pieces. Of the text only the bytes since the last LF are kept; contracts see all that were
-//! fed.
+//! Reads a ballot file in pieces. Of the text, only the bytes since the last LF are kept. Contracts see all bytes that
+//! were fed.
 ghost use Rattle.std.specs.Prelude.{◌≡◌, ◌⊎◌, ℕ, ◌^◌, ◌<◌, ◌≤◌, ◌+◌, true, false, List, [], ◌∷◌, ◌++◌, length, Some};
 ghost use Rattle.std.specs.Prelude.{None, Result, Ok, Err, MatchResult, IfSome, IfOk, IfErr, OnOk};
 ghost use Rattle.std.specs.Vec.{vec_capacity};
@@ -25,7 +25,7 @@ use bstr::ByteSlice;
 use std::alloc::{Allocator, Global};
 use std::marker::Model;
 
-/// The room for a line: the longest, a CR at its end and a mark before it.
+/// The room for a line: the longest, with a CR at its end and a byte order mark before it.
 const LINE_ROOM: usize = MOST_LINE_BYTES + 4;
 
 /// What is known from the lines that have ended.
@@ -33,7 +33,7 @@ const LINE_ROOM: usize = MOST_LINE_BYTES + 4;
 struct EndedLines<A: Allocator + Copy> {
     builder: ProfileBuilder<A>,
     notes: Notes,
-    /// How many lines have ended.
+    /// The number of lines that have ended.
     number: u64,
 }
 
@@ -48,7 +48,7 @@ struct Progress<A: Allocator + Copy> {
     ghost room: { line_room ≤ vec_capacity held },
 }
 
-/// The bytes of a line after so many others, without a mark before the first.
+/// The bytes of a line after `number` others, without the byte order mark if it is the first line.
 fn unmarked(number: u64, bytes: &[u8]) -> &[u8]
     ensures { result.now ≡ unmarked number bytes.now }
 {
@@ -60,7 +60,7 @@ fn unmarked(number: u64, bytes: &[u8]) -> &[u8]
 }
 
 impl<A: Allocator + Copy + Drop> EndedLines<A> {
-    /// Reads the next line, which has these bytes before its LF or before the end.
+    /// Reads the next line, given the bytes before its LF or before the end of the input.
     fn take(&mut self, pick: &Pick, bytes: &[u8]) -> Result<(), ReadFault>
         requires way { HasNumber pick.now.way }
         requires ready { IsReady self.old.notes self.old.builder }
@@ -79,7 +79,7 @@ impl<A: Allocator + Copy + Drop> EndedLines<A> {
         }
     }
 
-    /// Reads the last line, if it has no end.
+    /// Reads the last line, if it has no LF.
     fn end_input(&mut self, held: &[u8], pick: &Pick, _fed: &Trace) -> Result<(), ReadFault>
         requires way { HasNumber pick.now.way }
         requires fed { IsFed pick.now _fed.now.bytes self.old.notes self.old.builder self.old.number held.now }
@@ -122,7 +122,7 @@ impl<A: Allocator + Copy + Drop> Progress<A> {
         Ok(())
     }
 
-    /// Reads the line that ends after these bytes. A line that lies whole in a piece is read where it lies.
+    /// Reads the line that ends after these bytes. A line within one piece is read in place.
     fn end_line(&mut self, pick: &Pick, bytes: &[u8]) -> Result<(), ReadFault>
         requires way { HasNumber pick.now.way }
         requires ready { IsReady self.old.ended.notes self.old.ended.builder }
@@ -147,7 +147,7 @@ impl<A: Allocator + Copy + Drop> Progress<A> {
         taken
     }
 
-    /// Reads the lines that end in a piece, and keeps what comes of the next one.
+    /// Reads the lines that end in a piece, and keeps the bytes after them.
     fn feed_lines(&mut self, pick: &Pick, _fed: &Trace, bytes: &[u8]) -> Result<(), ReadFault>
         requires way { HasNumber pick.now.way }
         requires fed { IsFed pick.now _fed.now.bytes self.old.ended.notes self.old.ended.builder self.old.ended.number
@@ -219,9 +219,9 @@ fn finish_lines<A: Allocator + Copy + Drop>(
     finish(ended.builder, &ended.notes)
 }
 
-/// Reads a ballot file in pieces, however it is cut: it returns the outcome of all bytes together.
+/// Reads a ballot file in pieces. However it is cut, the outcome is that of all bytes together.
 ///
-/// Contracts see how the file is read, all bytes that were fed and the fault that was returned. Kept are the
+/// Contracts see the pick, all bytes that were fed, and the fault that was returned. The reader keeps only the
 /// unfinished line, the names and the different ballots.
 #[derive(Drop)]
 pub struct LineReader<A: Allocator + Copy = Global> {
@@ -247,8 +247,8 @@ impl<A: Allocator + Copy> Model for LineReader<A> {
 }
 
 impl<A: Allocator + Copy + Drop> LineReader<A> {
-    /// A reader to which nothing was fed. The room for a line is taken here. Out of memory has no line. Ballots are
-    /// hashed by the fixed numbers.
+    /// A reader to which nothing was fed. The room for a line is allocated here. If an allocation fails, returns
+    /// `Memory` without a line. Ballots are hashed with the fixed parameters. The number of `pick.way` is at least 1.
     pub fn new(alloc: A, pick: Pick) -> Result<LineReader<A>, ReadFault>
         requires { HasNumber pick.way }
         ensures ok { IfOk result (λ reader. reader ≡ feeding pick [] None) }
@@ -257,7 +257,7 @@ impl<A: Allocator + Copy + Drop> LineReader<A> {
         LineReader::with_hashing(alloc, pick, BallotHashing::fixed())
     }
 
-    /// Like `new`, but ballots are hashed by these numbers. They change only the time that ballots take.
+    /// Like `new`, with these hash parameters; they affect only speed.
     pub fn with_hashing(
         alloc: A,
         pick: Pick,
@@ -291,9 +291,10 @@ impl<A: Allocator + Copy + Drop> LineReader<A> {
         })
     }
 
-    /// Reads the next bytes. The first fault of a line is returned as soon as its line has ended, and `LongLine` as
-    /// soon as the line can no longer come within the limit. It is the first fault of every input that begins with the
-    /// bytes so far, and each later call returns it again. Memory is taken only for names and new ballots.
+    /// Reads the next bytes; in all, fewer than 2^64 may be fed. The first fault of a line is returned as soon as the
+    /// line has ended. `LongLine` is returned as soon as the line can no longer come within the limit. The fault is the
+    /// first one of every input that begins with the bytes so far, and each later call returns it again. Memory is
+    /// taken only for names and new ballots.
     pub fn feed(&mut self, bytes: &[u8]) -> Result<(), ReadFault>
         requires { length self.old.fed + length bytes.now < word_limit }
         ensures fed { self.new ≡ feeding self.old.pick (self.old.fed ++ bytes.now) self.new.fault }
@@ -310,8 +311,8 @@ impl<A: Allocator + Copy + Drop> LineReader<A> {
         answer
     }
 
-    /// How many bytes are kept of the line that has not ended, at most `MOST_LINE_BYTES` and a CR. A CR that may belong
-    /// to the end of the line counts, a mark at the start of the input does not. After a fault the result is 0.
+    /// The number of bytes kept of the unfinished line, at most `MOST_LINE_BYTES` and a CR. A CR that may belong to the
+    /// end of the line counts; a byte order mark at the start of the input does not. After a fault the result is 0.
     pub fn held(&self) -> usize
         ensures held { self.now.fault ≡ None → result ≡ length (unfinished_line self.now.fed) }
         ensures after { IfSome self.now.fault (λ _. result ≡ 0) }
@@ -323,8 +324,8 @@ impl<A: Allocator + Copy + Drop> LineReader<A> {
         unmarked(self.progress.ended.number, &self.progress.held).len()
     }
 
-    /// The profile of all bytes, or their first fault. Memory is taken if the last line has no end, for a name or a new
-    /// ballot. A fault that was returned before is returned again.
+    /// Ends the input. Returns the profile of all bytes, or their first fault. A fault that was returned before is
+    /// returned again. Memory is taken only if the last line has no LF, for a name or a new ballot.
     pub fn finish(self) -> Result<Profile<A>, ReadFault>
         ensures ok { IfOk result (λ profile. Reads self.fed self.pick (Ok profile)) }
         ensures err { IfErr result (λ fault. Reads self.fed self.pick (Err fault)

@@ -1,4 +1,4 @@
-//! Reading a whole ballot file: cuts its lines, applies each to the profile, and ends the profile.
+//! Reads a whole ballot file: cuts it into lines, applies each line to the profile, and finishes the profile.
 ghost use Rattle.std.specs.Prelude.{◌≡◌, ◌⊎◌, ℕ, ◌^◌, ◌<◌, List, [], ◌∷◌, map, Some, None, unwrap_or};
 ghost use Rattle.std.specs.Prelude.{Result, Ok, Err, MatchResult, IfOk, IfErr, OnOk};
 ghost use Rattle.ballot_base.specs.Ballots.{Election};
@@ -17,7 +17,7 @@ use crate::pick::Pick;
 use ballot_base::{MOST_CANDIDATES, Profile, ProfileBuilder};
 use std::alloc::Allocator;
 
-/// Adds a ballot. The first one settles the number of candidates.
+/// Adds a ballot. The first one fixes the number of candidates.
 fn add_vote<A: Allocator + Copy + Drop>(
     builder: &mut ProfileBuilder<A>,
     vote: Vote,
@@ -34,7 +34,7 @@ fn add_vote<A: Allocator + Copy + Drop>(
     Ok(())
 }
 
-/// Does to the profile what a line does.
+/// Applies the effect of a line to the profile.
 fn apply<A: Allocator + Copy + Drop>(
     builder: &mut ProfileBuilder<A>,
     effect: &Effect<'_>,
@@ -49,14 +49,13 @@ fn apply<A: Allocator + Copy + Drop>(
     }
 }
 
-/// The fault of the end.
 pub(crate) fn at_end(name: FaultName) -> ReadFault
     ensures { result ≡ at_end name }
 {
     ReadFault { name, line: None }
 }
 
-/// The profile of the lines, or the fault of the end.
+/// The profile of all lines, or the fault at the end of the input.
 pub(crate) fn finish<A: Allocator + Copy + Drop>(
     builder: ProfileBuilder<A>,
     notes: &Notes,
@@ -74,7 +73,7 @@ pub(crate) fn finish<A: Allocator + Copy + Drop>(
     Ok(profile)
 }
 
-/// Reads a line, and does to the profile what it does.
+/// Reads a line, and applies its effect to the profile.
 pub(crate) fn take_line<A: Allocator + Copy + Drop>(
     builder: &mut ProfileBuilder<A>,
     notes: &mut Notes,
@@ -92,7 +91,7 @@ pub(crate) fn take_line<A: Allocator + Copy + Drop>(
     }
 }
 
-/// The fault of a line. A missing number of alternatives has no line.
+/// A fault at a line. `NoAlternatives` has no line.
 pub(crate) fn fault_of_line(number: u64, name: FaultName) -> ReadFault
     ensures { result ≡ at_line number name }
 {
@@ -103,7 +102,8 @@ pub(crate) fn fault_of_line(number: u64, name: FaultName) -> ReadFault
     ReadFault { name, line }
 }
 
-/// The fault if there was no memory for any profile: that of the first line or, without a line, of the end.
+/// The fault if no profile could be allocated. It is the first line's own fault, or `Memory` at line 1. Without lines
+/// it is the fault of the end.
 fn fault_without_memory(pick: &Pick, text: &[u8]) -> ReadFault
     requires { HasNumber pick.now.way }
     ensures none { text.now ≡ [] → result ≡ at_end FaultName.NoAlternatives }
@@ -120,12 +120,13 @@ fn fault_without_memory(pick: &Pick, text: &[u8]) -> ReadFault
     fault_of_line(1, name)
 }
 
-/// Reads a ballot file: the whole profile of its ballots, or its first fault.
+/// Reads a ballot file. Returns the profile of its ballots, or the first fault. The number of `pick.way` is at least 1.
 ///
-/// Numbers in the file may have any count of digits. A candidate without a name has none in the profile. `Memory` is
-/// returned with the number of the line at which memory ran out, and then no line up to it has a fault. Memory is taken
-/// with the first line, for the names of candidates, and for ballots that no earlier line has.
-/// Format: PrefLib, <https://preflib.github.io/PrefLib-Jekyll/format>.
+/// Numbers in the file may have any number of digits. A candidate without a name has none in the profile. `Memory`
+/// comes with the number of the line at which memory ran out; then no line up to it has a fault. Memory is taken at the
+/// first line, for names of candidates, and for ballots that no earlier line has.
+///
+/// The format is that of PrefLib: <https://preflib.github.io/PrefLib-Jekyll/format>.
 pub fn read_profile<A: Allocator + Copy + Drop>(
     alloc: A,
     bytes: &[u8],
@@ -152,12 +153,12 @@ pub fn read_profile<A: Allocator + Copy + Drop>(
     finish(builder, &notes)
 }
 
-/// An input has an outcome under a pick: a profile, or a fault.
+/// Each input has an outcome under each pick: a profile or a fault.
 pub fn some_outcome()
     ensures { (bytes : List ℕ) (pick : Pick) → (outcome : Result Election ReadFault) × Reads bytes pick outcome }
 {}
 
-/// An input has one outcome under one pick.
+/// An input has only one outcome under a pick.
 pub fn one_outcome()
     ensures { (bytes : List ℕ) (pick : Pick) (a b : Result Election ReadFault) → Reads bytes pick a → Reads bytes pick b
         → a ≡ b }

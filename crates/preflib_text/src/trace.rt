@@ -4,7 +4,7 @@ ghost use Rattle.std.specs.Borrow.{ftrue};
 
 use std::marker::{Model, PhantomData};
 
-/// All bytes that have passed through a reader. Only contracts see them: it takes no memory, and its methods do
+/// All bytes that have passed through a reader. Only contracts see them: a trace takes no memory, and its methods do
 /// nothing at run time.
 #[derive(Drop)]
 pub struct Trace {
@@ -17,7 +17,7 @@ impl Model for Trace {
 }
 
 impl Trace {
-    /// No byte yet.
+    /// An empty trace.
     pub fn new() -> Trace
         ensures { result.bytes ≡ [] }
     {
@@ -26,7 +26,7 @@ impl Trace {
         }
     }
 
-    /// Adds a piece at the end.
+    /// Appends a piece.
     pub fn add(&mut self, _piece: &[u8])
         ensures { self.new.bytes ≡ self.old.bytes ++ _piece.now }
     {}

@@ -16,11 +16,11 @@ use Rattle.preflib_text.specs.Reading.{last_of, kind_by, kind_or_usual, casts_in
 use Rattle.preflib_text.specs.Steps.Tokens.{ballot_of}
 use Rattle.preflib_text.specs.Steps.Notes.{IsSound}
 
--- the number that is told first
+-- the number that is given first
 abbrev pub first_number : (Fact → Option (List ℕ)) → List Fact → Option ℕ
 first_number h tolds = option_and_then written_number (slice_get (filter_map h tolds) 0)
 
--- the notes hold what was told
+-- the notes hold these facts
 pub record IsTold (pick : Pick) (tolds : List Fact) (notes : Notes) : Type 0 where
   pub alternatives : notes.alternatives ≡ first_number alternatives_value tolds
   pub categories : notes.categories ≡ first_number categories_value tolds
@@ -29,7 +29,7 @@ pub record IsTold (pick : Pick) (tolds : List Fact) (notes : Notes) : Type 0 whe
   pub no_categories : notes.categories ≡ None → filter_map categories_value tolds ≡ []
   pub sound : IsSound notes
 
--- the name that is told last, or none
+-- the name that is given last, or none
 abbrev pub last_name : List Fact → ℕ → List ℕ
 last_name tolds n = unwrap_or (last_of (filter_map (name_value n) tolds)) []
 
@@ -50,7 +50,7 @@ HoldsNames tolds notes e =
     let most = unwrap_or notes.alternatives most_candidates in
     (e.m ≡ most_candidates) × (e.rows ≡ []) × (take most e.names ≡ last_names tolds most)
 
--- the profile where a ballot was read
+-- the profile once a ballot was read
 abbrev pub HoldsBallots : Pick → List (List ℕ) → Notes → Election → Type 0
 HoldsBallots pick before notes e = (m : ℕ) × (notes.alternatives ≡ Some m)
     × (e ≡ election m (last_names (told_before before) m)

@@ -1,4 +1,4 @@
--- What the reading of one ballot line answers.
+-- The result of reading one ballot line.
 use Rattle.std.specs.Prelude.{◌≡◌, ◌⊎◌, ℕ, List, Option, Some, None}
 use Rattle.preflib_text.specs.declared.pick.Kind.{Kind}
 use Rattle.preflib_text.specs.declared.pick.Way.{Way}

@@ -1,4 +1,4 @@
--- What kind of line a line is.
+-- The kind of a line.
 use Rattle.std.specs.Prelude.{◌≡◌, ℕ, true, false, List}
 use Rattle.preflib_text.specs.declared.lines.Sort.{Sort}
 use Rattle.preflib_text.specs.declared.lines.Sort.TheVariants.{Blank, Metadata, Ballot}

@@ -25,7 +25,7 @@ use Rattle.preflib_text.specs.Reading.{or_else, fault_if, is_strict, is_complete
 abbrev pub no_marks : Marks
 no_marks = record { wrong = None; seen = []; approved = []; strict = true; classes = 0; before = 0; numbers = 0 }
 
--- the usual way in a file of this type, and any way, spelled out
+-- what the usual way takes in a file of this type, and what any way takes
 abbrev pub usual_taking : Kind → Taking
 usual_taking Cat = Category 1
 usual_taking kind = SetSize 1
@@ -36,13 +36,13 @@ taking_of kind (given.Category n) = Category n
 taking_of kind (given.SetSize n) = SetSize n
 taking_of kind (given.Classes n) = Classes n
 
--- whether the numbers of a class are taken, after so many classes with so many numbers
+-- whether the numbers of a class are taken, after `classes` classes with `numbers` numbers
 abbrev pub takes : Taking → ℕ → ℕ → Bool
 takes (Category n) classes numbers = classes + 1 == n
 takes (SetSize n) classes numbers = nat_lt numbers n
 takes (Classes n) classes numbers = nat_lt classes n
 
--- whether no class that comes is taken, after so many classes with so many numbers
+-- whether no further class is taken, after `classes` classes with `numbers` numbers
 abbrev pub is_past : Taking → ℕ → ℕ → Bool
 is_past (Category n) classes numbers = nat_le n classes
 is_past (SetSize n) classes numbers = nat_le n numbers
@@ -53,7 +53,7 @@ abbrev pub wrong_with : ℕ → Marks → ℕ → Option FaultName
 wrong_with m marks n = or_else marks.wrong
     (or_else (fault_if ((n == 0) || nat_lt m n) NoSuchCandidate) (fault_if (has_member marks.seen n) RepeatedCandidate))
 
--- the marks with a number more in the class that comes, with which nothing is wrong
+-- the marks with one more number in the current class, with which nothing is wrong
 abbrev pub with_new : Marks → Bool → ℕ → Marks
 with_new marks taken n = record marks {
   numbers = marks.numbers + 1;
@@ -61,7 +61,7 @@ with_new marks taken n = record marks {
   approved = if taken then with_member marks.approved n else marks.approved;
 }
 
--- the marks with a number more in the class that comes
+-- the marks with one more number in the current class
 abbrev pub with_number : ℕ → Taking → Marks → ℕ → Marks
 with_number m taking marks n = by (wrong_with m marks n)
   where
@@ -99,8 +99,8 @@ with_read m taking place token marks = marks
 abbrev pub marks_at : ℕ → Taking → OrderPlace → List ℕ → Marks → Option Marks
 marks_at m taking place text marks = option_map (with_classes m taking marks) (order_at place (tokens_of text))
 
--- the text at a place was read up to this rest of it at the next: the order keeps its marks, and each class and each
--- number that was read had a byte at least
+-- The text at a place was read up to `rest` at the next place. The order keeps its marks, and each class and each
+-- number that was read had at least one byte.
 pub record IsReadOn (m : ℕ) (taking : Taking) (place : OrderPlace) (text : List ℕ) (marks : Marks)
     (next : OrderPlace) (rest : List ℕ) (after : Marks) : Type 0 where
   pub same : marks_at m taking next rest after ≡ marks_at m taking place text marks
@@ -108,7 +108,7 @@ pub record IsReadOn (m : ℕ) (taking : Taking) (place : OrderPlace) (text : Lis
   pub classes : after.classes + length rest ≤ marks.classes + length text
   pub numbers : after.before + after.numbers + length rest ≤ marks.before + marks.numbers + length text
 
--- the counts stay words, with so many bytes to come and a class or number more
+-- the counts stay words, with `bytes` bytes to come and one more class or number
 abbrev pub HasRoom : Marks → ℕ → Type 0
 HasRoom marks bytes =
     (marks.classes + bytes + 1 < word_limit) × (marks.before + marks.numbers + bytes + 1 < word_limit)

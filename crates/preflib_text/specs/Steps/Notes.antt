@@ -38,7 +38,7 @@ fresh_notes pick = record {
   has_ballot = false;
 }
 
--- the type after a line tells it, beside the one that the reader was told
+-- the type after a metadata line gives one; a type that the reader was given stays
 abbrev pub kind_with : Option Kind → Result Kind FaultName → List ℕ → Result Kind FaultName
 kind_with (Some kind) noted text = noted
 kind_with None noted text = kind_or BadKind (kind_named text)
@@ -115,7 +115,7 @@ line_effect pick notes line =
     if is_ballot_line line then cast_effect pick notes (ballot_of line)
     else (if notes.has_ballot then NoEffect else told_effect notes (told_of line))
 
--- the number of alternatives that is noted is one of a profile
+-- the number of alternatives that is noted is one that a profile can have
 abbrev pub IsSound : Notes → Type 0
 IsSound notes = IfSome notes.alternatives (λ m. (1 ≤ m) × (m ≤ most_candidates))
 
@@ -154,7 +154,7 @@ effect_takes e NoEffect = false
 effect_takes e (Names n name) = not (is_empty name)
 effect_takes e (Casts first set count) = not (has_ballot e.rows set)
 
--- a refusal is of this fault, or is out of memory where there is none and memory is taken
+-- a refusal has this fault; or it is for lack of memory, if there is no fault and memory is taken
 abbrev pub Refuses : Option FaultName → Bool → FaultName → Type 0
 Refuses error takes name = (error ≡ Some name) ⊎ ((name ≡ Memory) × (error ≡ None) × (takes ≡ true))
 

@@ -15,11 +15,11 @@ use Rattle.preflib_text.specs.Steps.Notes.{line_error, line_notes, line_effect, 
 use Rattle.preflib_text.specs.Steps.Notes.{Refuses, IsSound}
 use Rattle.preflib_text.specs.Steps.After.{IsAfter, IsFine}
 
--- the room for a line: the longest, a CR at its end and a mark before it
+-- the room for a line: the longest, with a CR at its end and a byte order mark before it
 abbrev pub line_room : ℕ
 line_room = most_line_bytes + 4
 
--- the bytes of a line after so many others: the first may have a mark before it
+-- the bytes of a line after `number` others, without the byte order mark if it is the first line
 abbrev pub unmarked : ℕ → List ℕ → List ℕ
 unmarked number bytes = if number == 0 then without_mark bytes else bytes
 

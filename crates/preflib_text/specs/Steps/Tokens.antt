@@ -22,7 +22,7 @@ abbrev pub number_before : Option ℕ → List Token → List Token
 number_before None tokens = tokens
 number_before (Some n) tokens = Number n ∷ tokens
 
--- the number with this first part and one digit more
+-- the number with one more digit
 abbrev pub with_digit : Option ℕ → ℕ → ℕ
 with_digit None b = b - 48
 with_digit (Some n) b = 10 * n + (b - 48)
@@ -37,7 +37,7 @@ tokens_after first (b ∷ bytes) = if is_ascii_digit b then tokens_after (Some (
 abbrev pub tokens_of : List ℕ → List Token
 tokens_of bytes = tokens_after None bytes
 
--- the number, or `most_voters` + 1 for any that is larger
+-- the number, or `most_voters` + 1 for a larger one
 abbrev pub capped : ℕ → ℕ
 capped n = min n (most_voters + 1)
 
@@ -46,20 +46,20 @@ abbrev pub capped_token : Token → Token
 capped_token (Number n) = Number (capped n)
 capped_token token = token
 
--- the text's first token was read, with its number capped, and the rest of the text has the others
+-- the text's first token was read, with its number capped, and the rest of the text has the other tokens
 abbrev pub IsFirstToken : List ℕ → Token → List ℕ → Type 0
 IsFirstToken text read rest = (token : Token) × (read ≡ capped_token token)
     × (tokens_of text ≡ token ∷ tokens_of rest) × (length rest < length text)
 
--- the text's first tokens are this number and a comma, and the rest of the text has the others
+-- the text's first tokens are this number and a comma, and the rest of the text has the other tokens
 abbrev pub IsListedNumber : List ℕ → ℕ → List ℕ → Type 0
 IsListedNumber text n rest = IsFirstToken text (Number n) (44 ∷ rest) × IsFirstToken (44 ∷ rest) Comma rest
 
--- the same with a closing brace in place of the comma
+-- like `IsListedNumber`, with a closing brace in the place of the comma
 abbrev pub IsLastNumber : List ℕ → ℕ → List ℕ → Type 0
 IsLastNumber text n rest = IsFirstToken text (Number n) (125 ∷ rest) × IsFirstToken (125 ∷ rest) Close rest
 
--- where a token leads, if it may come
+-- the place after a token, if the token may come here
 abbrev pub next_place : OrderPlace → Token → Option OrderPlace
 next_place Order (Number n) = Some Between
 next_place Order Open = Some Opened
@@ -79,7 +79,7 @@ is_end Order = true
 is_end Between = true
 is_end place = false
 
--- the classes with what a token adds to them; inside braces the first is the rest of a class
+-- the classes with what a token adds to them; inside braces the first class is the rest of a class
 abbrev pub with_token : OrderPlace → Token → List (List ℕ) → List (List ℕ)
 with_token Order (Number n) classes = (n ∷ []) ∷ classes
 with_token Class (Number n) classes = (n ∷ []) ∷ classes
