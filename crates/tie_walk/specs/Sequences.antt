@@ -11,8 +11,8 @@ use Rattle.ballot_base.specs.CommonMultiple.{common_multiple}
 use Rattle.tie_walk.specs.declared.sequential.SeqRule.{SeqRule}
 use Rattle.tie_walk.specs.declared.sequential.SeqRule.TheVariants.{SeqPav, SeqCc, RevSeqPav}
 
--- what the j-th of a voter's hits adds, of m candidates: under proportional approval voting 1/j, here times the least
--- common multiple of 1 to m, and under Chamberlin-Courant 1 for the first alone
+-- What the j-th of a voter's hits adds, for m candidates. Under proportional approval voting it is 1/j, here times the
+-- least common multiple of 1 to m. Under Chamberlin-Courant it is 1 for the first hit and 0 for the others.
 abbrev pub hit_weight : SeqRule → ℕ → ℕ → ℕ
 hit_weight SeqPav m j = common_multiple m / j
 hit_weight SeqCc m j = if j == 1 then 1 else 0
@@ -31,12 +31,12 @@ weight weights (suc j) = slice_index weights j
 abbrev pub supporters : List Row → ℕ → List Row
 supporters rows c = filter (λ (row : Row). has_member row.0 c) rows
 
--- what the set gains by the candidate, who is no member: each supporter has a hit more
+-- what the set gains by a candidate outside it: each supporter has one more hit
 abbrev pub gain : List ℕ → List Row → List ℕ → ℕ → ℕ
 gain weights rows set c =
     sum_by (λ (row : Row). row.1 * weight weights (hits row.0 set + 1)) (supporters rows c)
 
--- what the set loses with the candidate, who is a member: each supporter's last hit
+-- what the set loses without a member: each supporter's last hit
 abbrev pub loss : List ℕ → List Row → List ℕ → ℕ → ℕ
 loss weights rows set c = sum_by (λ (row : Row). row.1 * weight weights (hits row.0 set)) (supporters rows c)
 
@@ -44,24 +44,24 @@ loss weights rows set c = sum_by (λ (row : Row). row.1 * weight weights (hits r
 abbrev pub others : ℕ → List ℕ → List ℕ
 others m set = filter (λ c. not (has_member set c)) (range_with_len 1 m)
 
--- whether the candidate is outside the set, and no other one outside it has a greater gain at it
+-- whether the candidate is outside the set, and no other candidate outside it has a higher gain at it
 abbrev pub has_greatest_gain : List ℕ → ℕ → List Row → List ℕ → ℕ → Bool
 has_greatest_gain weights m rows set c =
     has_member (others m set) c
     && list_all (λ d. nat_le (gain weights rows set d) (gain weights rows set c)) (others m set)
 
--- whether the candidate is in the set, and no other member has a smaller loss from it
+-- whether the candidate is in the set, and no other member has a lower loss
 abbrev pub has_least_loss : List ℕ → List Row → List ℕ → ℕ → Bool
 has_least_loss weights rows set c =
     has_member set c && list_all (λ d. nat_le (loss weights rows set c) (loss weights rows set d)) set
 
--- whether each member of the list has a greatest gain at the set of the members before it
+-- whether each member of the list has a highest gain at the set of the members before it
 abbrev pub is_grown : List ℕ → ℕ → List Row → List ℕ → List ℕ → Bool
 is_grown weights m rows before [] = true
 is_grown weights m rows before (c ∷ list) =
     has_greatest_gain weights m rows before c && is_grown weights m rows (with_member before c) list
 
--- whether each member of the list has a least loss from those whom the members before it leave
+-- whether each member of the list has a lowest loss from the candidates that the members before it leave
 abbrev pub is_shrunk : List ℕ → List Row → List ℕ → List ℕ → Bool
 is_shrunk weights rows left [] = true
 is_shrunk weights rows left (c ∷ list) =
@@ -78,12 +78,12 @@ abbrev pub sequences : ℕ → ℕ → List (List ℕ)
 sequences m zero = [] ∷ []
 sequences m (suc size) = flat_map (λ c. map (λ list. c ∷ list) (sequences m size)) (range_with_len 1 m)
 
--- the set of the members of some grown list of k
+-- whether the set has exactly the members of some grown list of k
 abbrev pub is_grown_set : List ℕ → ℕ → List Row → ℕ → List ℕ → Bool
 is_grown_set weights m rows k set =
     list_any (λ list. is_grown weights m rows [] list && bytes_eq (fold with_member [] list) set) (sequences m k)
 
--- the set of those whom some shrunk list of m - k leaves
+-- whether the set is what some shrunk list of m - k leaves
 abbrev pub is_left_set : List ℕ → ℕ → List Row → ℕ → List ℕ → Bool
 is_left_set weights m rows k set =
     let all = range_with_len 1 m in

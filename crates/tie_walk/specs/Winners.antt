@@ -5,12 +5,12 @@ use Rattle.std.specs.List.{list_all}
 use Rattle.ballot_base.specs.Lists.{IsIncreasing, increasing_lists}
 use Rattle.tie_walk.specs.Ceilings.{IsExactAtBest, live_count}
 
--- the greatest value of a committee of k of the candidates 1 to m
+-- the highest value of a committee of k of the candidates 1 to m
 -- (Lackner and Skowron, Multi-Winner Voting with Approval Preferences)
 abbrev pub best_value : (List ℕ → ℕ) → ℕ → ℕ → ℕ
 best_value value m k = fold max 0 (map value (increasing_lists 1 m k))
 
--- whether none of the committees has a greater value
+-- whether none of the committees has a higher value
 abbrev pub is_unbeaten : (List ℕ → ℕ) → List (List ℕ) → List ℕ → Bool
 is_unbeaten value committees committee = list_all (λ other. nat_le (value other) (value committee)) committees
 
@@ -25,7 +25,7 @@ IsStart m k None = ⊤
 IsStart m k (Some set) = IsIncreasing 1 m set × (length set ≡ k)
 
 -- what contracts see of a walk over the winners: the tally, the number of candidates, the size of a committee, the
--- start, the greatest value of a committee, the winners still to come, and how many prefixes were entered and bounds
+-- start, the highest value of a committee, the winners still to come, and how many prefixes were entered and bounds
 -- asked for so far
 pub record Winning (T : Type 0) : Type 0 where
   pub tally : T
@@ -50,11 +50,11 @@ pub record IsNextWinner (T : Type 0) (value : T → List ℕ → ℕ) (bound : T
   pub same_start : to.after ≡ from.after
   -- at the end every live prefix was entered
   pub all_entered : winner ≡ None → live_count (bound to.tally) to.m to.k to.best to.after ≤ to.entered
-  -- without a start no others were
+  -- without a start, no other prefix was entered
   pub none_else : winner ≡ None → to.after ≡ None
       → to.entered ≡ live_count (bound to.tally) to.m to.k to.best to.after
   pub entered_rises : from.entered ≤ to.entered
   pub ceilings_rise : from.ceilings ≤ to.ceilings
-  -- if bounds are exact at the greatest value, four of them for each candidate are enough
+  -- if bounds are exact at the highest value, four of them for each candidate are enough
   pub short_wait : IsExactAtBest (value to.tally) (bound to.tally) to.m to.k to.best
       → to.ceilings ≤ from.ceilings + 4 * to.m

@@ -1,7 +1,7 @@
-//! The greatest value of a committee, by the same walk that lists the winners.
+//! The highest value of a committee, by the same walk that lists the winners.
 //!
-//! It begins with the value of a good committee (module `good`), and goes on to a committee with a value above the
-//! greatest so far, until there is none, or no bound leaves room for one. Each time the walk forgets what it knew of
+//! The search begins with the value of a good committee (module `good`). It goes on to a committee with a value above
+//! the highest so far, until there is none, or no bound leaves room for one. Each time the walk forgets what it knew of
 //! bounds.
 ghost use Rattle.std.specs.Prelude.{◌≡◌, ◌+◌, ◌^◌, ◌<◌, ◌≤◌, [], MatchOption};
 ghost use Rattle.tie_walk.specs.Steps.Walks.{committees_from, those_reaching, IsPlace, IsFound};
@@ -13,8 +13,7 @@ use crate::tally::Tally;
 use crate::walk::Walk;
 use ballot_base::CandSet;
 
-/// The greatest value of a committee of k: that of the good committee, then that of each better one that the walk comes
-/// to, until it ends or no committee can be better.
+/// The highest value of a committee of size k.
 pub(crate) fn greatest_value<T: Tally>(tally: &T, k: u8) -> u128
     requires some { 1 ≤ k }
     requires fits { k ≤ T.candidates tally.now }
@@ -33,7 +32,7 @@ pub(crate) fn greatest_value<T: Tally>(tally: &T, k: u8) -> u128
     best
 }
 
-/// The next committee with a value above the floor, and where the walk goes on.
+/// The next committee with a value above the floor, and the place at which the walk goes on.
 fn next_above<T: Tally>(
     tally: &T,
     k: u8,

@@ -1,11 +1,11 @@
-//! A good committee to begin with: candidates added one by one, then each member exchanged for a better one.
+//! A good committee to begin with: candidates are added one by one, then each member is exchanged for a better one.
 ghost use Rattle.std.specs.Prelude.{◌≡◌, ◌+◌, ◌<◌, ◌≤◌, length};
 ghost use Rattle.ballot_base.specs.Lists.{IsIncreasing};
 
 use crate::tally::Tally;
 use ballot_base::CandSet;
 
-/// The tally's good committee of k, or one that is made here if the tally knows none.
+/// The tally's good committee of size k, or one that is made here if the tally knows none.
 pub(crate) fn good_committee<T: Tally>(tally: &T, k: u8) -> CandSet
     requires some { 1 ≤ k }
     requires fits { k ≤ T.candidates tally.now }
@@ -17,7 +17,7 @@ pub(crate) fn good_committee<T: Tally>(tally: &T, k: u8) -> CandSet
         .unwrap_or_else(|| improved(tally, grown_committee(tally, k)))
 }
 
-/// A committee of k: the candidates who raise the value most, added one after another.
+/// A committee of size k: the candidates who raise the value most, added one after another.
 fn grown_committee<T: Tally>(tally: &T, k: u8) -> CandSet
     requires fits { k ≤ T.candidates tally.now }
     ensures candidates { IsIncreasing 1 (T.candidates tally.now) result }
@@ -30,7 +30,7 @@ fn grown_committee<T: Tally>(tally: &T, k: u8) -> CandSet
     set
 }
 
-/// The committee, with each member exchanged for the best candidate in the same seat, where that raises the value.
+/// The committee, with each member exchanged for the best candidate in the same seat, if that raises the value.
 fn improved<T: Tally>(tally: &T, committee: CandSet) -> CandSet
     requires members { IsIncreasing 1 (T.candidates tally.now) committee }
     ensures candidates { IsIncreasing 1 (T.candidates tally.now) result }
@@ -48,7 +48,7 @@ fn improved<T: Tally>(tally: &T, committee: CandSet) -> CandSet
     set
 }
 
-/// The set with one candidate more, the one who raises its value most.
+/// The set with one more candidate, the one who raises its value most.
 fn with_best<T: Tally>(tally: &T, set: CandSet) -> CandSet
     requires members { IsIncreasing 1 (T.candidates tally.now) set }
     requires room { length set < T.candidates tally.now }

@@ -1,9 +1,9 @@
-//! Committees that win: what gives a committee its value, all committees with the greatest value, and the plain form of
+//! Winning committees: what gives a committee its value, all committees with the highest value, and the plain form of
 //! the sequential rules.
 //!
-//! `tally` has the trait for values and bounds; `thiele`, `satisfaction` and `minimax` implement it for a profile.
-//! `winners` lists the winning committees of any tally, by the walk in `walk`, once `best` has found the greatest
-//! value. `sequential` stands apart.
+//! `tally` has the trait for values and bounds; `thiele`, `satisfaction` and `minimax` implement it for a profile. Once
+//! `best` has found the highest value, `winners` lists the winning committees of any tally by the walk in `walk`.
+//! `sequential` stands apart.
 #![tactic(auto)]
 
 mod best;

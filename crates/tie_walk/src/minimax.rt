@@ -1,4 +1,4 @@
-//! Minimax approval voting in its plain form: `near_search` uses its `value` and `bound`, and only tests walk over it.
+//! Minimax approval voting in its plain form. `near_search` uses its `value` and `bound`; only tests walk over it.
 //!
 //! The bound of a prefix comes from the distances on the candidates decided so far, which only grow.
 ghost use Rattle.std.specs.Prelude.{◌≡◌, ◌≤◌};
@@ -11,8 +11,8 @@ use ballot_base::{CandSet, Profile};
 use std::alloc::{Allocator, Global};
 use std::marker::Model;
 
-/// The values under minimax approval voting: how far the greatest distance from a voter's ballot is below the number
-/// of candidates. Contracts see the election.
+/// The values under minimax approval voting: the number of candidates minus the maximum distance from a voter's ballot.
+/// Contracts see the election.
 #[derive(Drop)]
 pub struct MinimaxTally<'a, A: Allocator + Copy = Global> {
     profile: &'a Profile<A>,
@@ -27,7 +27,7 @@ impl<'a, A: Allocator + Copy> Model for MinimaxTally<'a, A> {
 }
 
 impl<'a, A: Allocator + Copy> MinimaxTally<'a, A> {
-    /// The values of sets of the profile's candidates. It takes no memory.
+    /// The values of sets of the profile's candidates. Allocates nothing.
     pub fn new(profile: &'a Profile<A>) -> MinimaxTally<'a, A>
         ensures { result ≡ profile.now }
     {
@@ -55,7 +55,7 @@ impl<'a, A: Allocator + Copy> Tally for MinimaxTally<'a, A> {
     }
 }
 
-/// The greatest distance of a ballot from the set, as far as the candidates 1 to c tell.
+/// The maximum distance of a ballot from the set, on the candidates 1 to c.
 fn farthest_upto<A: Allocator + Copy>(profile: &Profile<A>, c: u8, set: CandSet) -> u8
     requires within { c ≤ profile.now.m }
     requires candidates { IsIncreasing 1 c set }

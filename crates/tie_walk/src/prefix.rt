@@ -14,7 +14,7 @@ pub(crate) struct Prefix {
 }
 
 impl Prefix {
-    /// No decision.
+    /// The prefix without decisions.
     pub(crate) fn root() -> Prefix
         ensures c { result.c ≡ 0 }
         ensures set { result.set ≡ [] }
@@ -25,7 +25,7 @@ impl Prefix {
         }
     }
 
-    /// One candidate more, who is a member.
+    /// The prefix with the next candidate as a member.
     pub(crate) fn grown(self) -> Prefix
         requires high { self.c < most_candidates }
         requires candidates { IsIncreasing 1 self.c self.set }
@@ -38,7 +38,7 @@ impl Prefix {
         }
     }
 
-    /// What comes after all committees below this prefix: the last member is none any more. Nothing comes where there
+    /// What comes after all committees below this prefix: the last member becomes a non-member. Returns `None` if there
     /// is no member.
     pub(crate) fn past(self) -> Option<Prefix>
         requires high { self.c ≤ most_candidates }

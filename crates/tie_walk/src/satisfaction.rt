@@ -12,14 +12,14 @@ use ballot_base::{CandSet, PLACES, Profile, Worths, common_multiple};
 use std::alloc::{Allocator, Global};
 use std::marker::Model;
 
-/// The values under satisfaction approval voting, times the least common multiple of the numbers of candidates, 1 to
-/// m. Contracts see the election.
+/// The values under satisfaction approval voting, times the least common multiple of 1 to m. Contracts see the
+/// election.
 #[derive(Drop)]
 pub struct SavTally<'a, A: Allocator + Copy = Global> {
     profile: &'a Profile<A>,
-    // What a hit on a ballot of n candidates gives, at n; 0 at 0.
+    // What a hit on a ballot of n candidates adds, at n; 0 at 0.
     shares: [u128; PLACES],
-    // What each candidate gives a committee.
+    // What each candidate adds to a committee.
     scores: Worths,
 }
 
@@ -35,7 +35,8 @@ impl<'a, A: Allocator + Copy> Model for SavTally<'a, A> {
 }
 
 impl<'a, A: Allocator + Copy> SavTally<'a, A> {
-    /// The values of sets of the profile's candidates. No bound is too high. It takes no memory.
+    /// The values of sets of the profile's candidates. No bound is too high: each is the value of some committee.
+    /// Allocates nothing.
     pub fn new(profile: &'a Profile<A>) -> SavTally<'a, A>
         ensures tally { result ≡ profile.now }
         ensures tight { let tallies = ⟦<SavTally<'a, A> as Tally>⟧ in (k : ℕ)
@@ -88,7 +89,7 @@ impl<'a, A: Allocator + Copy> Tally for SavTally<'a, A> {
     }
 }
 
-/// The n-th part of a whole, at n; 0 at 0.
+/// `whole / n` at n; 0 at 0.
 fn parts(whole: u128) -> [u128; PLACES]
     ensures { result ≡ parts whole }
 {
@@ -99,7 +100,7 @@ fn parts(whole: u128) -> [u128; PLACES]
     parts
 }
 
-/// What each candidate gives a committee: the shares of the voters who approve the candidate.
+/// What each candidate adds to a committee: the shares of the voters who approve the candidate.
 fn scores<A: Allocator + Copy>(profile: &Profile<A>, shares: &[u128; PLACES]) -> Worths
     requires { (n : ℕ) → slice_index shares.now n < 2 ^ 90 }
     ensures { (c : ℕ) → slice_index result c ≡ score shares.now profile.now.rows c }
@@ -112,7 +113,7 @@ fn scores<A: Allocator + Copy>(profile: &Profile<A>, shares: &[u128; PLACES]) ->
     totals
 }
 
-/// For each number of candidates on a ballot, the hits of all voters with such a ballot together.
+/// For each size of a ballot, the hits of all voters whose ballots have this size.
 fn hits_by_size<A: Allocator + Copy>(profile: &Profile<A>, set: CandSet) -> [u64; PLACES]
     ensures { (n : ℕ) → slice_index result n
         ≡ sum_by (λ row. row.1 * hits row.0 set) (filter (λ row. length row.0 == n) profile.now.rows) }

@@ -1,8 +1,8 @@
 //! The trait `Tally`: what gives a committee its value, and bounds what its completions can have.
 //!
 //! A walk knows of its tally only what the trait says: the value of a set, the law of the bound, and what `reach`
-//! answers about bounds. So one walk serves rules with plain bounds and families of committees. A sum of the greatest
-//! gains is found from the least of them.
+//! returns about bounds. So one walk serves rules with plain bounds and families of committees. `Amounts` finds the
+//! highest sum of gains from the lowest of these gains.
 ghost use Rattle.std.specs.Prelude.{◌≡◌, ℕ, ◌+◌, ◌-◌, ◌*◌, ◌^◌, ◌<◌, ◌≤◌, List, [], MatchOption, ⊤, filter, length, nat_le, slice_index, sum_by, true};
 ghost use Rattle.ballot_base.specs.CandSet.{has_member};
 ghost use Rattle.ballot_base.specs.Limits.{most_candidates, worth_limit};
@@ -44,8 +44,8 @@ pub trait Tally {
         ensures value { result ≡ bound_of self.now c set left }
         ensures law { IsBound (value_of self.now) (candidates self.now) c set left result };
 
-    /// A place up to which the bounds of the set reach `best`, from c on; None if the bound at c does not. A tally may
-    /// look further than c if that takes less work than one bound after another.
+    /// The end of a range `c..=end` in which every bound of the set reaches `best`; `None` if the bound at c does not.
+    /// A tally may look further than c if that takes less work than one bound after another.
     fn reach(&self, c: u8, set: CandSet, left: u8, best: u128) -> Option<u8>
         requires within { c ≤ candidates self.now }
         requires candidates { IsIncreasing 1 c set }
@@ -57,9 +57,9 @@ pub trait Tally {
         (self.bound(c, set, left) >= best).then_some(c)
     }
 
-    /// A committee of k to begin with, where the tally knows a good one: the search for the greatest value passes over
-    /// all that is no better. Any committee is right; the better it is, the less is searched. Where the tally knows
-    /// none, the search makes one of its own.
+    /// A good committee of size k to begin with, if the tally knows one. The search for the highest value passes over
+    /// all that is no better. Any committee is right; the better it is, the less is searched. If the tally knows none,
+    /// the search makes its own.
     fn good_committee(&self, k: u8) -> Option<CandSet>
         requires some { 1 ≤ k }
         requires fits { k ≤ candidates self.now }
@@ -69,7 +69,7 @@ pub trait Tally {
     }
 }
 
-/// The sum over the numbers 0 to `most` of how many there are at each, times the worth of one of them.
+/// The sum over the numbers 0 to `most` of the count at each, times the worth of one of them.
 pub(crate) fn sum_of_worths(counts: &[u64; PLACES], worths: &[u128; PLACES], most: u8) -> u128
     requires most { most ≤ most_candidates }
     requires fits { sum_of_worths counts.now worths.now most < 2 ^ 128 }
@@ -92,7 +92,7 @@ pub(crate) struct Amounts<'a> {
 }
 
 impl Amounts<'_> {
-    /// The greatest sum that `left` of the candidates after c add.
+    /// The highest sum that `left` of the candidates after c add.
     pub(crate) fn greatest_sum(&self, c: u8, left: u8) -> u128
         requires within { c ≤ self.now.m }
         requires fits { left ≤ self.now.m - c }
@@ -104,8 +104,8 @@ impl Amounts<'_> {
         u128::from(left) * threshold + self.each.excess(candidates, threshold)
     }
 
-    /// A place from c on up to which the greatest sums of `left` candidates after it are as great as that after c.
-    /// Returns `None` if that one is less than `least`.
+    /// The end of a range `c..=end` in which the highest sum of `left` candidates after each place is at least `least`.
+    /// Returns `None` if that after c is less.
     pub(crate) fn last_reaching(&self, c: u8, left: u8, least: u128) -> Option<u8>
         requires within { c ≤ self.now.m }
         requires fits { left ≤ self.now.m - c }
@@ -118,8 +118,8 @@ impl Amounts<'_> {
         Some(self.last_with(c, left))
     }
 
-    /// The last place, from c on, that no candidate above the threshold is passed on the way to, and after which `left`
-    /// still reach it.
+    /// The last place from c on that is reached without passing a candidate above the threshold, and after which `left`
+    /// candidates still reach the threshold.
     fn last_with(&self, c: u8, left: u8) -> u8
         requires within { c ≤ self.now.m }
         requires fits { left ≤ self.now.m - c }

@@ -1,5 +1,5 @@
 //! The values of Thiele's rules: one pass over the rows, with a table that is made once. The bound of a prefix is the
-//! value of its set and the greatest gains at it, since gains only fall as a committee grows.
+//! value of its set plus the highest gains at it, since gains only fall as a committee grows.
 ghost use Rattle.std.specs.Prelude.{◌≡◌, ℕ, ◌+◌, ◌*◌, ◌^◌, ◌<◌, ◌≤◌, ◌==◌, true, List, filter, sum, slice_index, if◌then◌else◌};
 ghost use Rattle.ballot_base.specs.Limits.{most_candidates, most_members};
 ghost use Rattle.ballot_base.specs.Lists.{IsIncreasing};
@@ -19,7 +19,7 @@ use ballot_base::{
 use std::alloc::{Allocator, Global};
 use std::marker::Model;
 
-/// What all voters give for a candidate fits in 64 bits where each gives less than this.
+/// If each voter adds less than this for a candidate, what all voters add fits in 64 bits.
 const SMALL: u128 = 1 << 31;
 
 /// The values under a Thiele rule, times the common denominator of its increments. Contracts see the election, the
@@ -27,7 +27,6 @@ const SMALL: u128 = 1 << 31;
 #[derive(Drop)]
 pub struct ThieleTally<'a, A: Allocator + Copy = Global> {
     profile: &'a Profile<A>,
-    // The number of candidates.
     m: u8,
     rule: ThieleRule,
     k: u8,
@@ -49,8 +48,8 @@ impl<'a, A: Allocator + Copy> Model for ThieleTally<'a, A> {
 }
 
 impl<'a, A: Allocator + Copy> ThieleTally<'a, A> {
-    /// The values for committees of k, 1 to `MOST_MEMBERS`. A larger set has a value too: the members past the k-th
-    /// whom a voter approves add nothing. Under approval voting no bound is too high. It takes no memory.
+    /// The values for committees of size k, 1 to `MOST_MEMBERS`. A larger set has a value too: the members past the
+    /// k-th whom a voter approves add nothing. Under approval voting no bound is too high. Allocates nothing.
     pub fn new(profile: &'a Profile<A>, rule: ThieleRule, k: u8) -> ThieleTally<'a, A>
         requires some { 1 ≤ k }
         requires size { k ≤ most_members }
@@ -70,14 +69,14 @@ impl<'a, A: Allocator + Copy> ThieleTally<'a, A> {
         }
     }
 
-    /// The rule.
+    /// The rule of this tally.
     pub fn rule(&self) -> ThieleRule
         ensures { result ≡ self.now.rule }
     {
         self.rule
     }
 
-    /// What a set gains by each of the others.
+    /// What `set` gains by each candidate of `others`, at the candidate's number.
     pub fn gains(&self, set: CandSet, others: CandSet) -> Worths
         ensures gains { (n : ℕ) → has_member others n ≡ true → slice_index result n
             ≡ gain (increments self.now.rule self.now.k) self.now.election.rows set n }
@@ -89,15 +88,14 @@ impl<'a, A: Allocator + Copy> ThieleTally<'a, A> {
         hits_and_gains(self.profile, &self.weights, set, others).1
     }
 
-    /// The sum over the voters of what they give for their hits.
     fn sum_of_hits(&self, set: CandSet) -> u128
         ensures { result ≡ thiele_value (increments self.now.rule self.now.k) self.now.election.rows set }
     {
         sum_of_worths(&voters_by_hits(self.profile, set), &self.sums, self.m)
     }
 
-    /// The value of a set of the candidates 1 to c, and what it gains by each candidate after c, in one pass where the
-    /// sums are small.
+    /// The value of a set of the candidates 1 to c, and what it gains by each candidate after c. If the sums are small,
+    /// one pass finds both.
     fn value_and_gains(&self, c: u8, set: CandSet) -> (u128, Worths)
         requires within { c ≤ self.now.election.m }
         ensures value { result.0 ≡ thiele_value (increments self.now.rule self.now.k) self.now.election.rows set }
@@ -155,7 +153,7 @@ impl<'a, A: Allocator + Copy> Tally for ThieleTally<'a, A> {
     }
 }
 
-/// What the first x of these add up to, at x.
+/// The sum of the first x of these numbers, at x.
 fn prefix_sums(w: [u128; MOST_MEMBERS as usize]) -> [u128; PLACES]
     requires { sum w < 2 ^ 128 }
     ensures { result ≡ prefix_sums w }
@@ -168,7 +166,7 @@ fn prefix_sums(w: [u128; MOST_MEMBERS as usize]) -> [u128; PLACES]
     sums
 }
 
-/// How many voters have each number of hits.
+/// The number of voters with each number of hits.
 fn voters_by_hits<A: Allocator + Copy>(profile: &Profile<A>, set: CandSet) -> [u64; PLACES]
     ensures { (j : ℕ) → slice_index result j
         ≡ voter_count (filter (λ row. hits row.0 set == j) profile.now.rows) }
@@ -180,7 +178,7 @@ fn voters_by_hits<A: Allocator + Copy>(profile: &Profile<A>, set: CandSet) -> [u
     counts
 }
 
-/// How many voters have each number of hits, and what the set gains by each of the others; 0 by all else.
+/// The number of voters with each number of hits, and what the set gains by each of the others; 0 for other candidates.
 fn hits_and_gains<A: Allocator + Copy>(
     profile: &Profile<A>,
     weights: &[u128],

@@ -1,11 +1,11 @@
-//! The walk over the committees whose value reaches the best: depth first from prefix to prefix, entering only prefixes
-//! whose bound reaches it; and the counts of its steps.
+//! The walk over the committees whose value reaches the best, and the counts of its steps. It goes depth first from
+//! prefix to prefix, and enters only prefixes whose bound reaches the best.
 //!
-//! Below one set candidates are removed one after another, so the walk asks `Tally::reach` once how far the bounds of
-//! the set reach, and keeps the answer for each number of members.
+//! Below one set candidates are removed one after another. So the walk asks `Tally::reach` once how far the bounds of
+//! the set reach, and keeps the result for each number of members.
 //!
-//! `proofs/WalkLemmas.antt` shows that what the walk leaves out has no winner, `LiveLemmas.antt` and `OpenLemmas.antt`
-//! that each prefix it enters is live.
+//! `proofs/WalkLemmas.antt` shows that what the walk leaves out has no winner. `LiveLemmas.antt` and `OpenLemmas.antt`
+//! show that each prefix it enters is live.
 ghost use Rattle.std.specs.Prelude.{◌≡◌, ℕ, ◌+◌, ◌-◌, ◌*◌, ◌^◌, ◌<◌, ◌≤◌, true, false, [], ◌∷◌, ◌++◌, List, None, Some, length, if◌then◌else◌};
 ghost use Rattle.ballot_base.specs.Limits.{most_candidates};
 ghost use Rattle.tie_walk.specs.Ceilings.{IsShort, IsExactAtBest, is_open};
@@ -32,12 +32,12 @@ pub(crate) struct Known {
     last: u8,
 }
 
-/// For each number of members, what is known of the set of so many that was asked last: the walk strikes out one
+/// For each number of members, what is known of the set of this size that was asked for last. The walk removes one
 /// candidate after another below the same sets.
 type Levels = [Option<Known>; PLACES];
 
-/// A walk over the committees of k of the tally's m candidates whose value reaches the best: where it goes on, what it
-/// has counted, and what it knows of bounds.
+/// A walk over the committees of size k of the tally's m candidates whose value reaches the best: its place, its
+/// counts, and what it knows of bounds.
 #[derive(Drop)]
 pub(crate) struct Walk<'a, T: Tally> {
     tally: &'a T,
@@ -50,7 +50,7 @@ pub(crate) struct Walk<'a, T: Tally> {
 }
 
 impl<'a, T: Tally> Walk<'a, T> {
-    /// A walk from a place on that has counted nothing.
+    /// A walk from this place on, with all counts 0.
     pub(crate) fn new(tally: &'a T, k: u8, best: u128, place: Option<Prefix>) -> Walk<'a, T>
         requires some { 1 ≤ k }
         requires fits { k ≤ T.candidates tally.now }
@@ -72,8 +72,8 @@ impl<'a, T: Tally> Walk<'a, T> {
         }
     }
 
-    /// Whether the bound of a prefix reaches the best value. This counts as one bound, even if what is known answers
-    /// it, or a tally's own `reach` does. No other step of the walk asks for a bound.
+    /// Whether the bound of a prefix reaches the best value. This counts as one bound, even if what is known or a
+    /// tally's own `reach` decides it. No other step of the walk asks for a bound.
     fn reaches(&mut self, prefix: Prefix) -> bool
         requires walk { IsWalk T.candidates T.bound_of self.old }
         requires place { IsPlace self.old.m self.old.k (Some prefix) }
@@ -103,8 +103,8 @@ impl<'a, T: Tally> Walk<'a, T> {
         true
     }
 
-    /// Whether the walk enters a prefix: it does if the prefix can become a committee, and its bound reaches the best
-    /// value. Only this step of the walk goes down, and only it raises the count of prefixes.
+    /// Whether the walk enters a prefix: the prefix can become a committee, and its bound reaches the best value. Only
+    /// this step of the walk goes down, and only this step raises the count of prefixes.
     fn enter(&mut self, prefix: Prefix) -> bool
         requires walk { IsWalk T.candidates T.bound_of self.old }
         requires place { IsPlace self.old.m self.old.k (Some prefix) }
@@ -131,7 +131,7 @@ impl<'a, T: Tally> Walk<'a, T> {
         true
     }
 
-    /// What the walk finds at a prefix, a winner or nothing. Then it goes on after the prefix, or below it.
+    /// The winner at a prefix, if there is one. Then the walk goes on after the prefix, or below it.
     fn visit(&mut self, prefix: Prefix) -> Option<CandSet>
         requires walk { IsWalk T.candidates T.bound_of self.old }
         requires place { IsPlace self.old.m self.old.k (Some prefix) }
@@ -163,7 +163,7 @@ impl<'a, T: Tally> Walk<'a, T> {
         (tally.value(set) >= best).then_some(set)
     }
 
-    /// The next winner from where the walk stands.
+    /// The next winner from the walk's place on.
     pub(crate) fn next(&mut self) -> Option<CandSet>
         requires walk { IsWalk T.candidates T.bound_of self.old }
         requires asked { self.old.counts.entered ≤ self.old.counts.ceilings }
@@ -199,8 +199,8 @@ impl<'a, T: Tally> Walk<'a, T> {
         walk
     }
 
-    /// A walk from right after the start: down to it as far as its beginnings are open, which does not enter the last,
-    /// and past what is below.
+    /// A walk from right after the start. It goes down to the start as far as the beginnings of the start are open,
+    /// without entering the last one, and then past what is below.
     pub(crate) fn begin_after(tally: &'a T, k: u8, best: u128, start: CandSet) -> Walk<'a, T>
         requires some { 1 ≤ k }
         requires fits { k ≤ T.candidates tally.now }
@@ -234,7 +234,7 @@ fn is_known(levels: &Levels, prefix: Prefix) -> bool
     matches!(kept, Some(known) if known.set == set && known.first <= c && c <= known.last)
 }
 
-/// Keeps what is known of the bounds of a set, in place of what was known of another one with as many members.
+/// Keeps what is known of the bounds of a set, in place of what was known of another set of the same size.
 fn keep(levels: &mut Levels, known: Known)
     ensures { (bound : ℕ → List ℕ → ℕ → ℕ) (m k best : ℕ) → AreKnown bound m k best levels.old
         → IsKnown bound m k best (Some known) → AreKnown bound m k best levels.new }
@@ -243,7 +243,7 @@ fn keep(levels: &mut Levels, known: Known)
     levels[usize::from(len)] = Some(known);
 }
 
-/// The first prefix below one that is no whole committee: with the next candidate, where there is room for one.
+/// The first prefix below one that is not a whole committee: with the next candidate, if there is room for one.
 fn first_below(prefix: Prefix, m: u8, k: u8) -> Prefix
     requires most { m ≤ most_candidates }
     requires place { IsPlace m k (Some prefix) }

@@ -1,13 +1,14 @@
 //! The winning committees of a tally, one by one.
 //!
-//! `new` finds the greatest value first (module `best`). Then a walk of its own hands out each committee that has it,
-//! beginning right after the start if there is one. `entered` and `ceilings` count the steps of this second walk; only
+//! `new` first finds the highest value (module `best`). Then a second walk yields each committee that has this value,
+//! beginning right after the start if there is one. `entered` and `ceilings` count the steps of the second walk; only
 //! tests read them. The prefixes that it enters are the live ones of `specs/Ceilings.antt`, and at most m more on the
 //! way to a start.
 //!
-//! If bounds are exact at the greatest value (`IsExactAtBest`), one `next` asks for at most four bounds a candidate: at
-//! most two on the way down to a committee, and one on the way up (`proofs/WaitLemmas.antt`). A tally whose bounds are
-//! each the value of some committee (`IsTight`) is exact whatever is best (`laws::tight_bounds`).
+//! If bounds are exact at the highest value (`IsExactAtBest`), one `next` asks for at most four bounds for each
+//! candidate. These are at most two on the way down to a committee, and one on the way up (`proofs/WaitLemmas.antt`). A
+//! tally whose bounds are each the value of some committee (`IsTight`) is exact, whatever is best
+//! (`laws::tight_bounds`).
 ghost use Rattle.std.specs.Prelude.{◌≡◌, ◌+◌, ◌≤◌};
 ghost use Rattle.ballot_base.specs.Lists.{later_than};
 ghost use Rattle.tie_walk.specs.Ceilings.{live_count};
@@ -20,9 +21,9 @@ use crate::walk::Walk;
 use ballot_base::CandSet;
 use std::marker::Model;
 
-/// The winning committees of k of the candidates 1 to m, in lexicographic order: those whose value no other exceeds.
-/// Contracts see the tally, m and k, the greatest value, and the list of the winners still to come.
-/// (Lackner and Skowron, Multi-Winner Voting with Approval Preferences)
+/// Iterates over the winning committees of size k of the candidates 1 to m, in lexicographic order. A committee wins if
+/// no other has a higher value (Lackner and Skowron, Multi-Winner Voting with Approval Preferences). Contracts see the
+/// tally, m and k, the highest value, and the list of the winners still to come.
 #[derive(Drop)]
 pub struct Winners<'a, T: Tally> {
     walk: Walk<'a, T>,
@@ -50,9 +51,9 @@ impl<'a, T: Tally> Model for Winners<'a, T> {
 }
 
 impl<'a, T: Tally> Winners<'a, T> {
-    /// The winners among the committees of k of the tally's m candidates that are later than `after`, any committee of
-    /// k of them, which need not win; all winners where it is None. The greatest value is that of all committees, found
-    /// by a walk over them; the walk to the winners goes straight to the start. It takes no memory.
+    /// Lists the winners that are later than `after`, or all winners if `after` is `None`. `after` is any committee of
+    /// size k of the tally's m candidates; it need not win. The highest value is that of all committees, found by a
+    /// walk over them. The walk to the winners goes straight to the start. Allocates nothing.
     pub fn new(tally: &'a T, m: u8, k: u8, after: Option<CandSet>) -> Winners<'a, T>
         requires candidates { m ≡ T.candidates tally.now }
         requires some { 1 ≤ k }
@@ -73,16 +74,17 @@ impl<'a, T: Tally> Winners<'a, T> {
         Winners { walk, after }
     }
 
-    /// The greatest value that a committee has.
+    /// The highest value of a committee.
     pub fn best(&self) -> u128
         ensures { result ≡ self.now.best }
     {
         self.walk.best
     }
 
-    /// How many prefixes were entered so far by the walk that hands out the winners: decisions on the first candidates,
-    /// the empty one included. A prefix counts where the walk goes down to it; the walk that found the greatest value
-    /// and ways back up do not count. Few more than the live ones are entered: those on the way down to a start.
+    /// The number of prefixes that the walk to the winners has entered so far. A prefix is a decision on the first
+    /// candidates; the empty one is included. It counts if the walk goes down to it. Ways back up and the walk that
+    /// found the highest value do not count. At most m more than the live ones are entered: those on the way down to a
+    /// start.
     pub fn entered(&self) -> u128
         ensures count { result ≡ self.now.entered }
         ensures most { result ≤ live_count (T.bound_of self.now.tally) self.now.m self.now.k self.now.best
@@ -91,10 +93,10 @@ impl<'a, T: Tally> Winners<'a, T> {
         self.walk.counts.entered
     }
 
-    /// How many bounds were asked for so far by the walk that hands out the winners: one for each prefix at which it
-    /// had to know whether the bound reaches the greatest value. These are its calls of `Tally::bound`, unless the
-    /// tally has a `reach` of its own: what that answers for many prefixes at once counts for each of them. The walk
-    /// that found the greatest value does not count. No prefix is entered without a bound.
+    /// The number of bounds that the walk to the winners has asked for so far: one for each prefix at which it had to
+    /// know whether the bound reaches the highest value. These are its calls of `Tally::bound`, unless the tally has a
+    /// `reach` of its own. What such a `reach` returns for many prefixes at once counts for each of them. The walk that
+    /// found the highest value does not count. No prefix is entered without a bound.
     pub fn ceilings(&self) -> u128
         ensures count { result ≡ self.now.ceilings }
         ensures entered { self.now.entered ≤ result }
@@ -106,7 +108,7 @@ impl<'a, T: Tally> Winners<'a, T> {
 impl<'a, T: Tally> Iterator for Winners<'a, T> {
     type Item = CandSet;
 
-    // The first of the winners left, or None if none is left, and what the counts are then.
+    // The first of the winners left, or `None` if none is left, and what the counts are then.
     ghost next_gives = { IsNextWinner T T.value_of T.bound_of };
 
     ghost remaining = { item_count (λ (w : Winning T). w.left) };

@@ -13,16 +13,16 @@ use Rattle.tie_walk.specs.Sequences.{supporters}
 unfoldable pub prefix_sums : List ℕ → List ℕ
 prefix_sums weights = map (λ x. sum (take x weights)) (range_with_len 0 (most_candidates + 1))
 
--- 0, and the parts of a whole by 1 to `most_candidates`
+-- 0, and a whole divided by 1 to `most_candidates`
 unfoldable pub parts : ℕ → List ℕ
 parts whole = 0 ∷ map (λ n. whole / n) (range_with_len 1 most_candidates)
 
--- for each of 0 to most, how many there are times what one of them is worth
+-- the sum over 0 to `most` of how many there are at each, times what one of them is worth
 abbrev pub sum_of_worths : List ℕ → List ℕ → ℕ → ℕ
 sum_of_worths counts worths most =
     sum (map (λ j. slice_index counts j * slice_index worths j) (range_with_len 0 (most + 1)))
 
--- a candidate, from c on, up to whom the greatest sum of `left` of what the candidates after each have is so great
+-- from c up to `last`, the highest sum of `left` of the candidates after each place is at least `least`
 pub record IsReachBySums (worth : ℕ → ℕ) (c m left least last : ℕ) : Type 0 where
   pub low : c ≤ last
   pub high : last + left ≤ m

@@ -10,7 +10,7 @@ use Rattle.tie_walk.specs.declared.walk.Counts.{Counts}
 use Rattle.tie_walk.specs.declared.walk.Known.{Known}
 use Rattle.tie_walk.specs.declared.walk.Walk.{Walk}
 
--- the committees of k of the candidates 1 to m whose members up to c are exactly the set, of no more than k
+-- the committees of k of the candidates 1 to m whose members up to c are exactly the set, which has at most k
 abbrev pub committees_below : ℕ → ℕ → ℕ → List ℕ → List (List ℕ)
 committees_below m k c set = map (λ added. set ++ added) (increasing_lists (c + 1) m (k - length set))
 
@@ -24,22 +24,22 @@ abbrev pub committees_from : ℕ → ℕ → Option Prefix → List (List ℕ)
 committees_from m k None = []
 committees_from m k (Some prefix) = committees_below m k prefix.c prefix.set ++ committees_after m k [] prefix.set
 
--- a place is a prefix of no more than k of the candidates 1 to m, or the end
+-- a place is a prefix of at most k of the candidates 1 to m, or the end
 abbrev pub IsPlace : ℕ → ℕ → Option Prefix → Type 0
 IsPlace m k None = ⊤
 IsPlace m k (Some prefix) = (prefix.c ≤ m) × IsIncreasing 1 prefix.c prefix.set × (length prefix.set ≤ k)
 
--- what comes after all committees below the prefix: the last member is none any more
+-- what comes after all committees below the prefix: the last member becomes a non-member
 abbrev pub IsPast : Prefix → Option Prefix → Type 0
 IsPast prefix next = MatchOption next (prefix.set ≡ [])
     (λ place. (prefix.set ≡ place.set ++ place.c ∷ []) × (place.c ≤ prefix.c) × IsIncreasing 1 place.c place.set)
 
--- no fewer than the prefixes that are still to come
+-- at least the number of prefixes that are still to come
 abbrev pub work_left : ℕ → Option Prefix → ℕ
 work_left m None = 0
 work_left m (Some prefix) = 3 ^ (m - prefix.c) + sum_by (λ n. 3 ^ (m - n)) prefix.set
 
--- those of the committees whose value reaches the best
+-- the committees whose value reaches the best
 abbrev pub those_reaching : (List ℕ → ℕ) → ℕ → List (List ℕ) → List (List ℕ)
 those_reaching value best committees = filter (λ set. nat_le best (value set)) committees
 
@@ -53,8 +53,7 @@ pub record IsFound (value : List ℕ → ℕ) (m k floor : ℕ) (from : Option P
   pub place : IsPlace m k rest
 
 module _ (bound : ℕ → List ℕ → ℕ → ℕ) (m k best : ℕ) where
-  -- how many prefixes begin with c and the set, where `rest` candidates come after c and each beginning from c on is
-  -- open
+  -- how many prefixes begin with c and the set, if `rest` candidates come after c and each beginning from c on is open
   abbrev pub open_below : ℕ → ℕ → List ℕ → ℕ
   open_below zero c set = if is_open bound m k best c set then 1 else 0
   open_below (suc rest) c set =
@@ -106,34 +105,34 @@ module _ (value : List ℕ → ℕ) (m k best : ℕ) where
   abbrev pub is_alive : ℕ → List ℕ → Bool
   is_alive c set = list_any (λ list. nat_le best (value list)) (committees_below m k c set)
 
-  -- No more bounds than these are asked for from a prefix on until a winner is found, where they are exact at the best
-  -- and `past` are asked for after the prefix: one where nothing is below it, else two for each candidate after c.
+  -- An upper bound on the number of bounds asked for from a prefix on until a winner is found, if bounds are exact at
+  -- the best value. After the prefix, `past` bounds are asked for.
   abbrev pub waits_at : ℕ → ℕ → List ℕ → ℕ
   waits_at past c set = if is_alive c set then 2 * (m - c) + 1 else 1 + past
 
-  -- how many after those with all of `front` and `list`, where `past` are asked for after those with all of `front`
+  -- the same after those with all of `front` and `list`, if `past` are asked for after those with all of `front`
   abbrev pub waits_after : ℕ → List ℕ → List ℕ → ℕ
   waits_after past front [] = past
   waits_after past front (n ∷ list) = waits_after (waits_at past n front) (front ++ n ∷ []) list
 
-  -- how many from a place on
+  -- the same from a place on
   abbrev pub waits_from : Option Prefix → ℕ
   waits_from None = 0
   waits_from (Some prefix) = waits_at (waits_after 0 [] prefix.set) prefix.c prefix.set
 
-  -- how many bounds a part of the walk asks for at most, if it finds a winner or not
+  -- how many bounds a part of the walk asks for at most, whether it finds a winner or not
   abbrev pub IsWait : Option Prefix → Counts → Option (List ℕ) → Progress → Type 0
   IsWait from before None rest = rest.counts.ceilings + waits_from rest.place ≤ before.ceilings + waits_from from
   IsWait from before (Some set) rest = rest.counts.ceilings ≤ before.ceilings + waits_from from
 
--- what that part adds to the counts: each prefix with a bound, and no more bounds than the prefixes that it passes
+-- what that part adds to the counts: each prefix has a bound, and there are at most as many bounds as passed prefixes
 pub record IsRaised (m : ℕ) (from : Option Prefix) (before : Counts) (rest : Progress) : Type 0 where
   pub entered : before.entered ≤ rest.counts.entered
   pub asked : rest.counts.entered + before.ceilings ≤ before.entered + rest.counts.ceilings
   pub work : rest.counts.ceilings + work_left m rest.place ≤ before.ceilings + work_left m from
 
--- What a walk has counted: the prefixes that it has entered and those still to be entered are all that are live, and m
--- others at most, which lie on the way to a start.
+-- What a walk has counted: the prefixes entered and those still to be entered are all live ones, and at most m others,
+-- which lie on the way to a start.
 pub record IsCounted (bound : ℕ → List ℕ → ℕ → ℕ) (m k best : ℕ) (after : Option (List ℕ)) (progress : Progress)
     : Type 0 where
   pub all : live_count bound m k best after ≤ progress.counts.entered + open_from bound m k best progress.place
