@@ -10,18 +10,18 @@ use Rattle.seat_share.specs.Quotients.{quotient, is_at_least}
 abbrev pub Party : Type 0
 Party = ℕ × ℕ
 
--- whether a statement holds of each two parties
+-- whether a test holds of each two parties
 abbrev pub all_pairs : (Party → Party → Bool) → List Party → Bool
 all_pairs test parties = list_all (λ one. list_all (test one) parties) parties
 
--- A divisor method: the quotient of the last seat of the first is at least that of the next seat of the second. This
--- is asked of parties with votes, where the first has a seat.
+-- A divisor method: the quotient of the last seat of the first is at least that of the next seat of the second. This is
+-- required of parties with votes, if the first has a seat.
 abbrev pub keeps_its_seat : Method → Party → Party → Bool
 keeps_its_seat method one other =
     one.0 == 0 || other.0 == 0 || one.1 == 0
     || is_at_least (quotient method one.0 (one.1 - 1)) (quotient method other.0 other.1)
 
--- what the quota gives to a party, rounded down, and what remains: of all these votes, and so many seats
+-- what the quota gives a party, rounded down, and what remains, for `total` votes and `seats` seats
 abbrev pub quota_seats : ℕ → ℕ → ℕ → ℕ
 quota_seats total seats votes = votes * seats / total
 
@@ -33,13 +33,13 @@ abbrev pub is_near_quota : ℕ → ℕ → Party → Bool
 is_near_quota total seats party =
     party.1 == quota_seats total seats party.0 || party.1 == quota_seats total seats party.0 + 1
 
--- .. and a party with one more has at least the remainder of each that has no more
+-- .. and a party that was rounded up has at least the remainder of each that was rounded down
 abbrev pub has_the_remainder : ℕ → ℕ → Party → Party → Bool
 has_the_remainder total seats one other =
     not (one.1 == quota_seats total seats one.0 + 1) || not (other.1 == quota_seats total seats other.0)
     || nat_le (remainder total seats other.0) (remainder total seats one.0)
 
--- whether the parties have their seats by the method: of all these votes, and so many seats
+-- whether the parties have their seats by the method, for `total` votes and `seats` seats
 abbrev pub is_right : Method → ℕ → ℕ → List Party → Bool
 is_right Hamilton total seats parties =
     list_all (is_near_quota total seats) parties && all_pairs (has_the_remainder total seats) parties

@@ -6,7 +6,7 @@ use Rattle.seat_share.specs.declared.method.ShareFault.TheVariants.{NoParties, T
 use Rattle.seat_share.specs.declared.method.ShareFault.TheVariants.{TooManyVotes, BadSeats, AfterLength}
 use Rattle.seat_share.specs.Limits.{most_parties, most_seats, most_votes}
 
--- whether there is a start that has another length
+-- whether there is a start of another length
 abbrev pub has_other_length : ℕ → Option (List ℕ) → Bool
 has_other_length count None = false
 has_other_length count (Some start) = not (length start == count)

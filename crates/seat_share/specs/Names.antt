@@ -20,7 +20,7 @@ method_name Dean = codes "dean"
 abbrev pub methods : List Method
 methods = Hamilton ∷ Dhondt ∷ SainteLague ∷ Huntington ∷ Adams ∷ Dean ∷ []
 
--- the method that has this name, if one has
+-- the method with this name, if there is one
 abbrev pub method_named : List ℕ → Option Method
 method_named name = find (λ method. bytes_eq name (method_name method)) methods
 

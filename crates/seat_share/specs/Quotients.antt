@@ -3,13 +3,13 @@ use Rattle.std.specs.Prelude.{ℕ, ◌+◌, ◌*◌, ◌==◌, Bool, true, false
 use Rattle.seat_share.specs.declared.method.Method.{Method}
 use Rattle.seat_share.specs.declared.method.Method.TheVariants.{Hamilton, Dhondt, SainteLague, Huntington, Adams, Dean}
 
--- a quotient: what is divided, and what it is divided by, which may be 0
+-- a quotient: a dividend and a divisor, which may be 0
 abbrev pub Quotient : Type 0
 Quotient = ℕ × ℕ
 
 -- The quotient for the next seat of a party that has these votes and these seats (Balinski and Young, Fair
--- Representation). Those of Huntington and Hill are squares, since their divisor is a square root. Hamilton's method
--- is no divisor method: nothing compares its line.
+-- Representation). Those of Huntington and Hill are squares, since their divisor is a square root. Hamilton's method is
+-- not a divisor method: its line is never compared.
 abbrev pub quotient : Method → ℕ → ℕ → Quotient
 quotient Hamilton votes seats = (votes, 1)
 quotient Dhondt votes seats = (votes, seats + 1)
@@ -18,8 +18,8 @@ quotient Huntington votes seats = (votes * votes, seats * (seats + 1))
 quotient Adams votes seats = (votes, seats)
 quotient Dean votes seats = (votes * (2 * seats + 1), 2 * seats * (seats + 1))
 
--- Whether the first is at least the second. A quotient over 0 is above every other, and two of them compare by what is
--- divided.
+-- Whether the first is at least the second. A quotient with divisor 0 is above every other quotient. Two such quotients
+-- are compared by dividend.
 abbrev pub is_at_least : Quotient → Quotient → Bool
 is_at_least x y =
     if x.1 == 0

@@ -1,10 +1,10 @@
-//! Seats given one after another, each to a party with the greatest claim to one more, and the ties for the last of
-//! them.
+//! Gives seats one after another, each to a party with the highest claim to one more, and finds the ties for the last
+//! of them.
 //!
 //! The last claim that was met is a threshold. Seats that a party claims above it are certain; parties that claim a
-//! seat exactly there are tied. `proofs/Threshold.antt` has the theorem behind this: if all seats are given, no party
-//! has a claim to another's seat exactly if each has its certain seats and some tied ones have one more.
-//! `proofs/QuotaLemmas.antt` says the same of Hamilton's remainders.
+//! seat exactly there are tied. `proofs/Threshold.antt` has the theorem behind this, for allocations of all seats. In
+//! such an allocation, no party has a claim to another's seat exactly if each party has its certain seats and some tied
+//! ones have one more. `proofs/QuotaLemmas.antt` has the same theorem for Hamilton's remainders.
 ghost use Rattle.std.specs.Prelude.{◌≡◌, ◌+◌, ◌≤◌, ◌<◌, ◌++◌, ◌∷◌, ℕ, List, [], length, sum, cond, true, false, Some};
 ghost use Rattle.std.specs.List.{AllByRecursion};
 ghost use Rattle.seat_share.specs.Limits.{most_parties, most_votes};
@@ -23,7 +23,7 @@ struct Claimant {
     quotient: Quotient,
 }
 
-/// A party whose claim to one more seat is greatest, where a party has votes.
+/// A party with the highest claim to one more seat; `None` if no party has votes.
 fn first_claimant(contest: Contest, parties: &[Party]) -> Option<Claimant>
     requires { AreWithin contest.seats parties.now }
     ensures greatest { IsGreatest (claim contest.method contest.votes contest.seats) parties.now result }
@@ -39,7 +39,7 @@ fn first_claimant(contest: Contest, parties: &[Party]) -> Option<Claimant>
     best
 }
 
-/// The one with the greater claim: the best so far, or else the later one.
+/// The one with the higher claim; on equality the best so far.
 fn greater(best: Option<Claimant>, later: Claimant) -> Claimant
     ensures { (claims : ℕ → ℕ → Quotient) (before : List Party) (c : Party) →
         length before ≡ later.place → 0 < c.votes → later.quotient ≡ claims c.votes c.seats →
@@ -51,8 +51,8 @@ fn greater(best: Option<Claimant>, later: Claimant) -> Claimant
     }
 }
 
-/// Gives all seats, one after the other, each to a party with a greatest claim to one more. Answers the last claim that
-/// was met.
+/// Gives all seats, one after the other, each to a party with the highest claim to one more. Returns the last claim
+/// that was met.
 pub(crate) fn award(contest: Contest, parties: &mut [Party]) -> Quotient
     requires votes { AllByRecursion (λ c. c.votes ≤ most_votes) parties.old }
     requires fresh { AllByRecursion (λ c. c.seats ≡ 0) parties.old }
@@ -77,8 +77,8 @@ pub(crate) fn award(contest: Contest, parties: &mut [Party]) -> Quotient
     low
 }
 
-/// Takes back the seats that were met at the threshold itself, and marks the parties that are tied there. Answers how
-/// many seats were taken back.
+/// Takes back the seats that were met exactly at the threshold, and marks the parties that are tied there. Returns the
+/// number of seats that were taken back.
 pub(crate) fn settle(contest: Contest, low: Quotient, parties: &mut [Party]) -> usize
     requires few { length parties.old ≤ most_parties }
     requires within { AreWithin contest.seats parties.old }
@@ -97,8 +97,8 @@ pub(crate) fn settle(contest: Contest, low: Quotient, parties: &mut [Party]) -> 
     settle(contest, low, rest) + settle_party(contest, low, first)
 }
 
-/// Takes back the party's last seat if it was met at the threshold itself, and marks the party if it is tied there.
-/// Returns how many seats were taken back.
+/// Takes back the party's last seat if it was met exactly at the threshold, and marks the party if it is tied there.
+/// Returns the number of seats that were taken back.
 fn settle_party(contest: Contest, low: Quotient, party: &mut Party) -> usize
     requires within { (party.old.votes ≤ most_votes) × (party.old.seats ≤ contest.seats) }
     requires some { 0 < contest.votes }

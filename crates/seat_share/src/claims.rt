@@ -1,4 +1,4 @@
-//! The claims of parties to their next seat: a quotient of a divisor method, or what is left of a party's votes by
+//! The claim of a party to its next seat: a quotient for a divisor method, or what is left of the party's votes for
 //! Hamilton's.
 ghost use Rattle.std.specs.Prelude.{◌≡◌, ◌≤◌};
 ghost use Rattle.seat_share.specs.Limits.{most_seats, most_votes};
@@ -9,7 +9,7 @@ use crate::limits::MOST_VOTES;
 use crate::method::Method;
 use std::marker::Model;
 
-/// What is divided, and what it is divided by, which may be 0.
+/// A dividend and a divisor, which may be 0.
 #[derive(Clone, Copy)]
 pub(crate) struct Quotient {
     dividend: u128,
@@ -44,7 +44,6 @@ impl Quotient {
         }
     }
 
-    /// Whether it is at least the other.
     pub(crate) fn is_at_least(self, other: Quotient) -> bool
         ensures { result ≡ is_at_least self other }
     {
@@ -55,7 +54,7 @@ impl Quotient {
     }
 }
 
-/// A method, all votes, and the seats that are shared out.
+/// A method, the number of all votes, and the number of seats to share out.
 #[derive(Clone, Copy)]
 pub(crate) struct Contest {
     pub(crate) method: Method,
@@ -66,7 +65,7 @@ pub(crate) struct Contest {
 }
 
 impl Contest {
-    /// The claim of a party with these votes and these seats to its next one.
+    /// The claim of a party with these votes and seats to its next seat.
     pub(crate) fn claim(self, votes: u64, seats: u16) -> Quotient
         requires votes { votes ≤ most_votes }
         requires seats { seats ≤ self.seats }

@@ -7,16 +7,16 @@ ghost use Rattle.seat_share.specs.Steps.Claims.{IsWithinLimits, claim};
 
 use crate::method::Method;
 
-/// Hamilton's method keeps the quota: the seats of a party differ from its votes times the seats over all votes by less
-/// than one (Balinski and Young, Fair Representation).
+/// Hamilton's method keeps the quota (Balinski and Young, Fair Representation). A party's quota is its votes times the
+/// seats, divided by all votes. Its seats differ from this by less than one.
 pub fn hamilton_keeps_the_quota()
     ensures { (votes allocation : List ℕ) (seats : ℕ) → 0 < sum votes → IsFair Method.Hamilton votes seats allocation →
         AllByRecursion (λ party. (party.0 * seats < (party.1 + 1) * sum votes)
         × (party.1 * sum votes < party.0 * seats + sum votes)) (zip votes allocation) }
 {}
 
-/// Each divisor method is house-monotone: with one seat more, some fair allocation takes no seat from a party
-/// (Balinski and Young, Fair Representation).
+/// Each divisor method is house-monotone (Balinski and Young, Fair Representation). With one more seat, some fair
+/// allocation takes no seat from a party.
 pub fn divisor_methods_are_house_monotone()
     ensures { (method : Method) (votes allocation : List ℕ) (seats : ℕ) →
         method ≢ Method.Hamilton → 0 < sum votes → IsFair method votes seats allocation →
@@ -24,21 +24,21 @@ pub fn divisor_methods_are_house_monotone()
         × AllByRecursion (λ seats. seats.0 ≤ seats.1) (zip allocation more) }
 {}
 
-/// Within the limits no product that compares two claims wraps: each is below 2^92. The greatest ones are the squared
-/// votes of the one party times `s(s + 1)` of the other, by the method of Huntington and Hill.
+/// Within the limits no product that compares two claims wraps: each is below 2^92. The largest ones are the squared
+/// votes of one party times `s(s + 1)` of the other, by the method of Huntington and Hill.
 pub fn products_fit()
     ensures { (method : Method) (total most votes seats other_votes other_seats : ℕ) →
         IsWithinLimits total most votes seats → IsWithinLimits total most other_votes other_seats →
         (claim method total most votes seats).0 * (claim method total most other_votes other_seats).1 < 2 ^ 92 }
 {}
 
-/// Which lists are allocations: exactly the fair ones.
+/// `allocations` has exactly the fair allocations.
 pub fn all_fair_allocations()
     ensures { (method : Method) (votes : List ℕ) (seats : ℕ) (allocation : List ℕ) →
         Contains (allocations method votes seats) allocation ↔ IsFair method votes seats allocation }
 {}
 
-/// Their order: each comes later than all before it, so that each comes once.
+/// Allocations are in order: each is later than all before it, so that none occurs twice.
 pub fn allocation_order()
     ensures later { (method : Method) (votes : List ℕ) (seats : ℕ) →
         AllPairs (λ x y. IsLater y x) (allocations method votes seats) }

@@ -1,10 +1,10 @@
-//! The limits of what is shared out, and among how many.
+//! The limits of an apportionment.
 
-/// The most parties.
+/// The maximum number of parties.
 pub const MOST_PARTIES: usize = 64;
 
-/// The most seats.
+/// The maximum number of seats.
 pub const MOST_SEATS: u16 = 10_000;
 
-/// The most votes, of all parties together: 2^32.
+/// The maximum number of votes, of all parties together: 2^32.
 pub const MOST_VOTES: u64 = 4_294_967_296;

@@ -3,18 +3,18 @@ ghost use Rattle.std.specs.Prelude.{◌≡◌};
 ghost use Rattle.seat_share.specs.Names.{method_name, method_named, share_fault_name};
 
 /// How seats are shared out in proportion to votes (Balinski and Young, Fair Representation; Pukelsheim, Proportional
-/// Representation). All but Hamilton's are divisor methods: they compare quotients of a party's votes by a divisor that
-/// grows with the seats that the party has.
+/// Representation). All but Hamilton's are divisor methods. They compare quotients of a party's votes and a divisor
+/// that grows with the party's seats.
 #[derive(Clone, Copy, Debug, PartialEq, Eq)]
 pub enum Method {
-    /// Largest remainders over the quota of Hare: a party gets its votes times the seats over all votes, rounded down,
-    /// and the seats that are left go to the greatest remainders.
+    /// Largest remainders with the Hare quota. A party gets its votes times the seats over all votes, rounded down. The
+    /// seats that are left go to the largest remainders.
     Hamilton,
-    /// Divisors 1, 2, 3, .. (Jefferson).
+    /// D'Hondt (Jefferson): divisors 1, 2, 3, ..
     Dhondt,
-    /// Divisors 1, 3, 5, .. (Webster).
+    /// Sainte-Laguë (Webster): divisors 1, 3, 5, ..
     SainteLague,
-    /// Divisors that are the geometric means of s and s + 1.
+    /// Huntington and Hill: divisors that are the geometric means of s and s + 1.
     Huntington,
     /// Divisors 0, 1, 2, ..: each party with votes comes first once.
     Adams,
@@ -33,7 +33,7 @@ impl Method {
         Method::Dean,
     ];
 
-    /// Their names, in the same order.
+    /// The names of the methods, in the order of `ALL`.
     pub const NAMES: [&'static str; 6] = [
         "hamilton",
         "dhondt",
@@ -50,7 +50,7 @@ impl Method {
         Method::NAMES[self as usize]
     }
 
-    /// The method that has this name, if one has; upper and lower case differ.
+    /// The method with this name, or `None`. Upper and lower case differ.
     pub fn named(name: &str) -> Option<Method>
         ensures { result ≡ method_named name.now }
     {
@@ -61,7 +61,7 @@ impl Method {
     }
 }
 
-/// Why no seats are shared out; the first that holds, in this order.
+/// Why no seats are shared out. If several reasons hold, the first in this order is returned.
 #[derive(Clone, Copy, Debug, PartialEq, Eq)]
 pub enum ShareFault {
     /// There is no party.
@@ -70,16 +70,16 @@ pub enum ShareFault {
     TooManyParties,
     /// No party has a vote.
     NoVotes,
-    /// There are more than [`MOST_VOTES`](crate::MOST_VOTES), of all parties together.
+    /// There are more than [`MOST_VOTES`](crate::MOST_VOTES) votes, of all parties together.
     TooManyVotes,
-    /// The seats are none, or more than [`MOST_SEATS`](crate::MOST_SEATS).
+    /// The number of seats is 0, or above [`MOST_SEATS`](crate::MOST_SEATS).
     BadSeats,
-    /// The start does not have a number for each party.
+    /// The start does not have exactly one number for each party.
     AfterLength,
 }
 
 impl ShareFault {
-    /// The name, as it is written in the line that refuses a request.
+    /// The name, as it is printed in the line that refuses a request.
     pub const fn name(self) -> &'static str
         ensures { result.now ≡ share_fault_name self }
     {

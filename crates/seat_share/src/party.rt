@@ -1,4 +1,4 @@
-//! The parties while seats are shared out, and the choices between those that are tied.
+//! The parties while seats are shared out, and the choices among the tied ones.
 ghost use Rattle.std.specs.Prelude.{◌≡◌, ◌+◌, ◌-◌, ◌≤◌, ◌∷◌, [], Some, cond, false, length, true};
 ghost use Rattle.seat_share.specs.Allocations.{later_than};
 ghost use Rattle.seat_share.specs.Limits.{most_seats};
@@ -6,8 +6,8 @@ ghost use Rattle.seat_share.specs.Steps.Choices.{choices};
 ghost use Rattle.seat_share.specs.Steps.Standings.{standings, tied_count, more_count, allocation, choices_from};
 ghost use Rattle.seat_share.specs.Steps.Standings.{MoreAreTied, allocations_left};
 
-/// A party: its votes, its seats, and, where some seats are tied, whether it is tied for one more, and whether it has
-/// that one in the allocation that comes next.
+/// A party: its votes and its certain seats, whether it is tied for one more, and whether it has that seat in the
+/// allocation that comes next.
 #[derive(Clone, Copy, Default)]
 pub(crate) struct Party {
     pub(crate) votes: u64,
@@ -17,7 +17,6 @@ pub(crate) struct Party {
 }
 
 impl Party {
-    /// A party with these votes, and no seat yet.
     pub(crate) fn new(votes: u64) -> Party
         ensures votes { result.votes ≡ votes }
         ensures seats { result.seats ≡ 0 }
@@ -43,7 +42,8 @@ impl Party {
     }
 }
 
-/// Gives one more seat to so many of the last tied parties, and to no others. Answers how many find no party.
+/// Gives one more seat to the last `more` tied parties, and to no others. Returns the number of seats that find no
+/// party.
 pub(crate) fn place_last(parties: &mut [Party], more: usize) -> usize
     ensures left { result ≡ more - tied_count parties.old }
     ensures same { standings parties.new ≡ standings parties.old }
@@ -64,15 +64,14 @@ pub(crate) fn place_last(parties: &mut [Party], more: usize) -> usize
     }
 }
 
-/// How many parties are tied.
 pub(crate) fn count_tied(parties: &[Party]) -> usize
     ensures { result ≡ tied_count parties.now }
 {
     parties.iter().filter(|party| party.is_tied).count()
 }
 
-/// Gives one more seat to `more` of the tied parties, which are `tied` in all, for the first choice that is later than
-/// the start, which has a number for each party. Answers whether there is one.
+/// Gives one more seat to `more` of the `tied` tied parties, for the first choice that is later than the start. The
+/// start has a number for each party. Returns whether there is such a choice.
 pub(crate) fn place_after(parties: &mut [Party], tied: usize, more: usize, start: &[u16]) -> bool
     requires long { length start.now ≡ length parties.old }
     requires count { tied ≡ tied_count parties.old }
@@ -116,14 +115,13 @@ pub(crate) fn place_after(parties: &mut [Party], tied: usize, more: usize, start
     true
 }
 
-/// How many parties have one more seat in the allocation that comes next.
 fn count_more(parties: &[Party]) -> usize
     ensures { result ≡ more_count parties.now }
 {
     parties.iter().filter(|party| party.has_more).count()
 }
 
-/// Goes on to the next allocation. Answers whether there is one.
+/// Goes on to the next allocation. Returns whether there is one.
 pub(crate) fn advance(parties: &mut [Party]) -> bool
     requires tied { MoreAreTied parties.old }
     ensures same { standings parties.new ≡ standings parties.old }

@@ -31,7 +31,7 @@ impl Model for Allocation {
 }
 
 impl Allocation {
-    /// The seats of each party.
+    /// The number of seats of each party, in the order in which the votes were given.
     pub fn seats(&self) -> &[u16]
         ensures { result.now ≡ self.now }
     {
@@ -39,7 +39,8 @@ impl Allocation {
     }
 }
 
-/// All fair allocations of seats by a method, in ascending order. Contracts see the list of those still to come.
+/// Iterates over the fair allocations of seats by a method, in ascending order. Contracts see the list of those still
+/// to come.
 #[derive(Drop)]
 pub struct Shares {
     parties: ArrayVec<Party, MOST_PARTIES>,
@@ -58,11 +59,12 @@ impl Model for Shares {
 }
 
 impl Shares {
-    /// Shares out the seats, from 1 to [`MOST_SEATS`], among at most [`MOST_PARTIES`] parties with these votes, at most
-    /// [`MOST_VOTES`] in all. A party without votes gets no seat.
+    /// Shares out the seats, from 1 to [`MOST_SEATS`], among the parties with these votes. There are at most
+    /// [`MOST_PARTIES`] parties, and at most [`MOST_VOTES`] votes in all. A party without votes gets no seat. A refusal
+    /// is the fault of [`share_fault`].
     ///
-    /// The allocations are those later than `after`, a list with a number for each party that need not be an allocation
-    /// itself; without it they are all. Neither takes memory, and a start costs no walk over what comes before it.
+    /// The allocations are those later than `after`, or all if `after` is `None`. `after` has a number for each party
+    /// and need not be an allocation itself. Nothing is allocated, and a start costs no walk over what comes before it.
     pub fn new(
         votes: &[u64],
         method: Method,
@@ -105,8 +107,8 @@ impl Iterator for Shares {
     }
 }
 
-/// The first reason, in the order of [`ShareFault`], why [`Shares::new`] refuses the votes of the parties, the number of
-/// seats or the start. `None` if it refuses none of them. No seats are shared out to find it.
+/// The first reason, in the order of [`ShareFault`], why [`Shares::new`] refuses the votes of the parties, the number
+/// of seats or the start. Returns `None` if it refuses none of them. No seats are shared out to find the reason.
 pub fn share_fault(votes: &[u64], seats: u16, after: Option<&[u16]>) -> Option<ShareFault>
     ensures { result ≡ share_fault votes.now seats (option_copied after.entry) }
 {
@@ -132,7 +134,7 @@ pub fn share_fault(votes: &[u64], seats: u16, after: Option<&[u16]>) -> Option<S
     None
 }
 
-/// All votes.
+/// The sum of the votes.
 fn total(votes: &[u64]) -> u128
     requires { length votes.now ≤ most_parties }
     ensures { result ≡ sum votes.now }
@@ -144,7 +146,7 @@ fn total(votes: &[u64]) -> u128
     total
 }
 
-/// The parties, before a seat is given.
+/// The parties without seats.
 fn parties_with(votes: &[u64]) -> ArrayVec<Party, MOST_PARTIES>
     requires { length votes.now ≤ most_parties }
     ensures votes { votes_of result.items ≡ votes.now }
@@ -158,7 +160,7 @@ fn parties_with(votes: &[u64]) -> ArrayVec<Party, MOST_PARTIES>
 }
 
 /// Gives the parties their certain seats, and places the seats of a tie for the first allocation, or for the first that
-/// is later than the start. Answers whether there is one.
+/// is later than the start. Returns whether there is one.
 fn choose(contest: Contest, parties: &mut [Party], after: Option<&[u16]>) -> bool
     requires few { length parties.old ≤ most_parties }
     requires votes { AllByRecursion (λ c. c.votes ≤ most_votes) parties.old }
@@ -179,7 +181,6 @@ fn choose(contest: Contest, parties: &mut [Party], after: Option<&[u16]>) -> boo
     }
 }
 
-/// The allocation that comes next.
 fn allocation_of(parties: &[Party]) -> Allocation
     requires few { length parties.now ≤ most_parties }
     requires valid { IsChoosing parties.now }

@@ -8,8 +8,9 @@ use Rattle.seat_share.specs.Limits.{most_seats, most_votes}
 use Rattle.seat_share.specs.Quotients.{Quotient, is_at_least}
 use Rattle.seat_share.specs.Steps.Choices.{Standing, choices}
 
--- A party at a threshold: each of its certain seats was claimed above it, it claims none of more seats above it, and it
--- is tied where its next claim is exactly there. A party without votes has no seat and is not tied.
+-- A party at a threshold: each of its certain seats was claimed above it, and the party claims no further seat above
+-- it. The party is tied exactly if its next claim is at the threshold. A party without votes has no seat and is not
+-- tied.
 pub record Stands (claim : ℕ → ℕ → Quotient) (most : ℕ) (low : Quotient) (votes sure : ℕ) (tied : Bool) : Type 0 where
   pub above : 0 < votes → 0 < sure → is_at_least low (claim votes (sure - 1)) ≡ false
   pub below : 0 < votes → is_at_least low (claim votes sure) ≡ true
@@ -20,8 +21,8 @@ pub record Stands (claim : ℕ → ℕ → Quotient) (most : ℕ) (low : Quotien
 abbrev pub AllStand : (ℕ → ℕ → Quotient) → ℕ → Quotient → List Party → Type 0
 AllStand claim most low cs = AllByRecursion (λ c. Stands claim most low c.votes c.seats c.is_tied) cs
 
--- While seats are given, one after the other: each seat that was given was claimed at the threshold or above it, and no
--- party claims more above it. A party without votes has no seat.
+-- While seats are given, one after the other: each given seat was claimed at the threshold or above it, and no party
+-- claims another one above it. A party without votes has no seat.
 pub record Keeps (claim : ℕ → ℕ → Quotient) (most : ℕ) (low : Quotient) (votes seats : ℕ) : Type 0 where
   pub given : 0 < votes → 0 < seats → is_at_least (claim votes (seats - 1)) low ≡ true
   pub next : 0 < votes → is_at_least low (claim votes seats) ≡ true
@@ -48,7 +49,7 @@ more_count cs = count_by (λ c. c.has_more) cs
 abbrev pub allocation : List Party → List ℕ
 allocation cs = map (λ c. c.seats + cond c.has_more 1 0) cs
 
--- the choices with one seat less
+-- the choices with one seat fewer
 abbrev pub choices_less : List Standing → ℕ → List (List ℕ)
 choices_less ss zero = []
 choices_less ss (suc more) = choices ss more
@@ -66,8 +67,8 @@ choices_from (c ∷ rest) =
 abbrev pub MoreAreTied : List Party → Type 0
 MoreAreTied cs = AllByRecursion (λ c. c.has_more ≡ true → c.is_tied ≡ true) cs
 
--- A party with votes, by its place, and a claim that is its own and at least that of each party with votes; none where
--- no party has votes.
+-- A party with votes, by its place, and its claim, which is at least that of each party with votes; `None` if no party
+-- has votes.
 abbrev pub IsGreatest : (ℕ → ℕ → Quotient) → List Party → Option Claimant → Type 0
 IsGreatest claim cs None = AllByRecursion (λ c. c.votes ≡ 0) cs
 IsGreatest claim cs (Some first) =
@@ -75,7 +76,7 @@ IsGreatest claim cs (Some first) =
     × (length before ≡ first.place) × (0 < c.votes) × (first.quotient ≡ claim c.votes c.seats)
     × AllByRecursion (λ d. 0 < d.votes → is_at_least first.quotient (claim d.votes d.seats) ≡ true) cs
 
--- each party has at most so many votes and seats
+-- each party is within the limit of votes, and has at most `most` seats
 abbrev pub AreWithin : ℕ → List Party → Type 0
 AreWithin most cs = AllByRecursion (λ c. (c.votes ≤ most_votes) × (c.seats ≤ most)) cs
 
@@ -90,7 +91,7 @@ abbrev pub allocations_left : Bool → List Party → List (List ℕ)
 allocations_left false cs = []
 allocations_left true cs = choices_from cs
 
--- what is true of parties whose ties are chosen
+-- what is true of the parties while tied seats are chosen
 pub record IsChoosing (cs : List Party) : Type 0 where
   pub more : MoreAreTied cs
   pub seats : AllByRecursion (λ c. c.seats ≤ most_seats) cs
