@@ -7,8 +7,8 @@ use Rattle.ballot_base.specs.Ballots.{Row, Election, hits, voter_count}
 use Rattle.group_check.specs.declared.property.Property.{Property}
 use Rattle.group_check.specs.declared.property.Property.TheVariants.{Jr, Pjr, Ejr, EjrPlus}
 
--- a group of voters, as a number for each row: how many of the row's voters belong to it, any part of them.
--- Its size is the sum of these numbers.
+-- A group of voters, as a number for each row: how many of the row's voters belong to it, from none to all. Its size is
+-- the sum of these numbers.
 abbrev pub IsGroup : List Row → List ℕ → Type 0
 IsGroup [] [] = ⊤
 IsGroup [] (n ∷ group) = ⊥
@@ -34,7 +34,7 @@ represented ballots committee = filter (λ c. list_any (λ ballot. has_member ba
 abbrev pub is_large_enough : Election → ℕ → ℕ → List ℕ → Bool
 is_large_enough e k level group = nat_le (level * voter_count e.rows) (sum group * k)
 
--- whether a candidate is no member of the committee
+-- whether a candidate is not a member of the committee
 abbrev pub is_outside : List ℕ → ℕ → Bool
 is_outside committee c = not (has_member committee c)
 
@@ -53,9 +53,8 @@ all_below bound committee ballots = list_all (λ ballot. nat_lt (hits ballot com
 -- - for justified representation, l is 1 and no member approves a member of the committee
 -- - for proportional justified representation, fewer than l members of the committee are approved by some member
 -- - for extended justified representation, each member approves fewer than l members of the committee
--- For EJR+ the group need not be l-cohesive: it breaks the property where it has at least l · n / k of the n voters,
--- its members approve a candidate outside the committee in common, and each approves fewer than l members of the
--- committee.
+-- For EJR+ the group need not be l-cohesive. It breaks the property if it has at least l · n / k of the n voters, its
+-- members share a candidate outside the committee, and each approves fewer than l members of the committee.
 -- (Brill and Peters, Robust and Verifiable Proportionality Axioms for Multiwinner Voting)
 abbrev pub breaks : Property → Election → List ℕ → ℕ → List ℕ → Bool
 breaks Jr e committee level group =

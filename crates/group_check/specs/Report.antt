@@ -30,7 +30,7 @@ group_of test rows = map (λ row. if test row.0 then row.1 else 0) rows
 abbrev pub pair_group : Property → Election → List ℕ → ℕ → List ℕ × List ℕ → List ℕ
 pair_group property e committee level pair = group_of (fits_pair property committee level pair) e.rows
 
--- the lists U that stand beside each T: for PJR those of l - 1 members of the committee, else the empty list alone
+-- the lists U that come with each T: for PJR those of l - 1 members of the committee, otherwise only the empty list
 abbrev pub lists_within : Property → ℕ → List ℕ → ℕ → List (List ℕ)
 lists_within Jr m committee level = [] ∷ []
 lists_within Pjr m committee level = filter (includes committee) (increasing_lists 1 m (level - 1))
@@ -77,7 +77,7 @@ abbrev pub is_in_group : Violation → List ℕ → Bool
 is_in_group violation ballot =
     fits_pair violation.property violation.committee violation.level (violation.shared, violation.within) ballot
 
--- The report of a committee that lacks the property: its group breaks the property, at the least level at which some
+-- The report of a committee that lacks the property: its group breaks the property, at the lowest level at which some
 -- group does, and it is the first violation at that level.
 pub record IsReport (property : Property) (e : Election) (committee : List ℕ) (report : Violation) : Type 0 where
   pub low : 1 ≤ report.level

@@ -74,7 +74,6 @@ struct Search<'a, A: Allocator + Copy> {
 }
 
 impl<A: Allocator + Copy> Search<'_, A> {
-    /// The first violation at the level.
     fn first(&self) -> Option<Violation>
         ensures { result ≡ first_violation self.now.property self.now.profile.now self.now.committee self.now.level }
     {
@@ -86,7 +85,7 @@ impl<A: Allocator + Copy> Search<'_, A> {
         self.first_beyond(CandSet::empty(), pool, size)
     }
 
-    /// How many candidates a group has to share.
+    /// The number of candidates that a group has to share.
     fn shared_size(&self) -> u8
         ensures { result ≡ shared_size self.now.property self.now.level }
     {
@@ -128,7 +127,7 @@ impl<A: Allocator + Copy> Search<'_, A> {
     }
 
     /// Whether the property is PJR and no list U has enough voters, whichever candidates they share. If there are many
-    /// lists U, none is tried and the answer is `false`.
+    /// lists U, none is tried and the result is `false`.
     fn is_refuted(&self) -> bool
         ensures { IsTrue result
             → first_violation self.now.property self.now.profile.now self.now.committee self.now.level ≡ None }
@@ -241,7 +240,7 @@ impl<A: Allocator + Copy> Search<'_, A> {
         voters * u64::from(self.committee.len()) >= due
     }
 
-    /// How many voters approve this candidate, all of `shared`, and fewer members than the level.
+    /// The number of voters who approve this candidate, all of `shared`, and fewer members than the level.
     fn voters_below(&self, shared: CandSet, candidate: u8) -> u64
         ensures group { result
             ≡ sum (voters_below self.now.profile.now self.now.committee self.now.level (candidate ∷ shared)) }
@@ -255,8 +254,8 @@ impl<A: Allocator + Copy> Search<'_, A> {
         })
     }
 
-    /// How many voters approve all of `shared`, and no members but those of `within` and as many of the pool as a list
-    /// U that begins with `within` can have.
+    /// The number of voters who approve all of `shared`, and only members that a list U which begins with `within` can
+    /// have. These are the members of `within` and as many of the pool as fit into the list.
     fn voters_around(&self, shared: CandSet, within: CandSet, pool: CandSet) -> u64
         requires { length within < self.now.level }
         ensures group { let left = self.now.level - 1 - length within in
@@ -274,8 +273,8 @@ impl<A: Allocator + Copy> Search<'_, A> {
     }
 }
 
-/// Whether there are at most `FEW_LISTS` lists of `size` members of a committee of k. Either answer would be correct:
-/// it only decides whether one more test is worth its time.
+/// Whether there are at most `FEW_LISTS` lists of `size` members of a committee of size k. Either result would be
+/// correct: it only decides whether one more test is worth its time.
 fn has_few_lists(k: u8, size: u8) -> bool
     requires most { k ≤ most_candidates }
     requires fits { size ≤ k }
@@ -290,7 +289,7 @@ fn has_few_lists(k: u8, size: u8) -> bool
     lists <= FEW_LISTS
 }
 
-/// How many voters belong to the group of a violation.
+/// The number of voters in the group of a violation.
 fn supporting_voters<A: Allocator + Copy>(profile: &Profile<A>, violation: &Violation) -> u64
     ensures group { result ≡ sum (group_of (is_in_group violation.now) profile.now.rows) }
     ensures most { result ≤ most_voters }
@@ -298,7 +297,7 @@ fn supporting_voters<A: Allocator + Copy>(profile: &Profile<A>, violation: &Viol
     voters_with(profile, |ballot| violation.contains(ballot))
 }
 
-/// How many voters have a ballot that passes the test.
+/// The number of voters whose ballots pass the test.
 fn voters_with<A: Allocator + Copy, F: Fn(CandSet) -> bool>(profile: &Profile<A>, passes: F) -> u64
     requires { F.IsAlwaysCallable passes }
     ensures group { (test : List ℕ → Bool) → Computes (F.post passes) test

@@ -5,21 +5,21 @@ ghost use Rattle.group_check.specs.Report.{is_in_group};
 
 use ballot_base::CandSet;
 
-/// A property of committees: each large group of voters who agree on enough candidates is represented. Each is
-/// stronger than the one before it.
+/// A property of committees: each large group of voters who agree on enough candidates is represented. Each property
+/// implies the one before it. The profile has n voters, the committee has k members, and l goes from 1 to k.
 #[derive(Clone, Copy, Debug, PartialEq, Eq)]
 pub enum Property {
-    /// Justified representation: a group of n/k voters with a candidate in common has a member who approves a member
-    /// of the committee (Aziz, Brill, Conitzer, Elkind, Freeman and Walsh).
+    /// Justified representation: in every group of at least n/k voters who share a candidate, some voter approves a
+    /// committee member (Aziz, Brill, Conitzer, Elkind, Freeman and Walsh).
     Jr,
-    /// Proportional justified representation: a group of l · n/k voters with l candidates in common approves,
-    /// together, l members of the committee (Sanchez-Fernandez and others).
+    /// Proportional justified representation: every group of at least l · n/k voters who share l candidates approves,
+    /// together, at least l committee members (Sanchez-Fernandez and others).
     Pjr,
-    /// Extended justified representation: a group of l · n/k voters with l candidates in common has a member who
-    /// approves l members of the committee (Aziz, Brill, Conitzer, Elkind, Freeman and Walsh).
+    /// Extended justified representation: in every group of at least l · n/k voters who share l candidates, some voter
+    /// approves at least l committee members (Aziz, Brill, Conitzer, Elkind, Freeman and Walsh).
     Ejr,
-    /// EJR+: a group of l · n/k voters who approve a candidate outside the committee in common has a member who
-    /// approves l members of the committee (Brill and Peters).
+    /// EJR+: in every group of at least l · n/k voters who share a candidate outside the committee, some voter approves
+    /// at least l committee members (Brill and Peters).
     EjrPlus,
 }
 
@@ -32,7 +32,7 @@ impl Property {
         Property::EjrPlus,
     ];
 
-    /// Their names, in the same order.
+    /// The names of the properties, in the order of `ALL`.
     pub const NAMES: [&'static str; 4] = ["jr", "pjr", "ejr", "ejrplus"];
 
     /// The name, as it is written on the command line and in answers.
@@ -42,7 +42,7 @@ impl Property {
         Property::NAMES[self as usize]
     }
 
-    /// The property that has this name, if one has; upper and lower case differ.
+    /// The property with this name, or `None`. Upper and lower case differ.
     pub fn named(name: &str) -> Option<Property>
         ensures { result ≡ property_named name.now }
     {
@@ -67,7 +67,7 @@ pub struct Violation {
     /// For `Pjr`, l - 1 members of the committee, among them all members that the group's voters approve. Empty for the
     /// other properties.
     pub within: CandSet,
-    /// How many voters the group has.
+    /// The number of voters in the group.
     pub voters: u64,
 }
 

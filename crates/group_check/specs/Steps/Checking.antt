@@ -10,7 +10,7 @@ use Rattle.group_check.specs.declared.property.Violation.{Violation}
 use Rattle.group_check.specs.Groups.{is_outside}
 use Rattle.group_check.specs.Report.{group_of, pair_group, lists_within, pair_breaks, violation_of}
 
--- the greatest level at which a group can break the property
+-- the highest level at which a group can break the property
 abbrev pub greatest_level : Property → List ℕ → ℕ
 greatest_level Jr committee = 1
 greatest_level Pjr committee = length committee
@@ -28,7 +28,7 @@ shared_size Pjr level = level
 shared_size Ejr level = level
 shared_size EjrPlus level = 1
 
--- whether a candidate can stand in T: for EJR+ it is no member of the committee
+-- whether a candidate can be in T: for EJR+ the candidate is not a member of the committee
 abbrev pub may_share : Property → List ℕ → ℕ → Bool
 may_share Jr committee c = true
 may_share Pjr committee c = true
@@ -86,17 +86,17 @@ is_below committee level shared ballot =
 abbrev pub voters_below : Election → List ℕ → ℕ → List ℕ → List ℕ
 voters_below e committee level shared = group_of (is_below committee level shared) e.rows
 
--- whether a candidate can stand in T: it may, and enough of the voters who approve it are below the level
+-- whether a candidate can be in T: it may be shared, and enough of the voters who approve it are below the level
 abbrev pub is_possible : Property → Election → List ℕ → ℕ → ℕ → Bool
 is_possible property e committee level c =
     may_share property committee c && is_large e committee level (sum (voters_below e committee level (c ∷ [])))
 
--- the candidates who can stand in T
+-- the candidates who can be in T
 abbrev pub possible_candidates : Property → Election → List ℕ → ℕ → List ℕ
 possible_candidates property e committee level =
     filter (is_possible property e committee level) (range_with_len 1 e.m)
 
--- whether a ballot approves all of T, and no member but those within and at most `left` of the pool
+-- whether a ballot approves all of T, and no members except those within and at most `left` of the pool
 abbrev pub is_around : List ℕ → List ℕ → List ℕ → List ℕ → ℕ → List ℕ → Bool
 is_around committee shared within pool left ballot =
     let approved = common_members ballot committee in
@@ -112,6 +112,6 @@ abbrev pub is_enough_within : Election → List ℕ → ℕ → List ℕ → Lis
 is_enough_within e committee level shared within =
     is_large e committee level (sum (pair_group Pjr e committee level (shared, within)))
 
--- each answer about a ballot is the test's
+-- each result for a ballot is that of the test
 abbrev pub Computes : (List ℕ → Bool → Type 0) → (List ℕ → Bool) → Type 0
 Computes answers test = (ballot : List ℕ) (answer : Bool) → answers ballot answer → answer ≡ test ballot
