@@ -19,6 +19,6 @@ sequential_of election rule k = record { election = election; rule = rule; k = k
 abbrev pub is_winner : Sequential → List ℕ → Bool
 is_winner s set = is_sequential_winner s.rule s.election s.k set
 
--- whether it makes some committee of the set and of `left` of the candidates after c
+-- whether some sequence of choices makes a committee of the set and of `left` of the candidates after c
 abbrev pub some_winner : Sequential → ℕ → List ℕ → ℕ → Bool
 some_winner s c set left = list_any (λ added. is_winner s (set ++ added)) (increasing_lists (c + 1) s.election.m left)

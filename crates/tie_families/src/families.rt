@@ -1,9 +1,10 @@
 //! The families of the winners of a sequential rule, and a tally over them.
 //!
-//! The bound answers whether some family has a committee of the set and of `left` candidates after c. Candidates that
-//! the set lacks of the least set are added one after another, and have to fit; those for which the most set has room
-//! have to fill the committee (`proofs/CompletionLemmas.antt`). This is exact (`laws::exact_bounds`): `Winners` over it
-//! enters only prefixes with a winner below, and lists the union of the families in order, each committee once.
+//! The bound says whether some family has a committee that consists of the set and of `left` candidates after c.
+//! Candidates that the set lacks of the least set are added one after another, and have to fit. Those for which the
+//! most set has room have to fill the committee (`proofs/CompletionLemmas.antt`). This is exact (`laws::exact_bounds`):
+//! `Winners` over the families enters only prefixes with a winner below. It lists the union of the families in order,
+//! each committee once.
 ghost use Rattle.std.specs.Prelude.{◌≡◌, ◌≤◌, ◌-◌, ◌==◌, ⊤, IfOk, MatchOption, length, if◌then◌else◌};
 ghost use Rattle.std.specs.List.{list_all};
 ghost use Rattle.ballot_base.specs.Lists.{IsIncreasing};
@@ -181,7 +182,6 @@ impl<'a, A: Allocator + Copy> Tally for Families<'a, A> {
     }
 }
 
-/// Whether each of the sets has k members.
 fn all_have(sets: &[CandSet], k: u8) -> bool
     ensures { result ≡ list_all (λ set. length set == k) sets.now }
 {

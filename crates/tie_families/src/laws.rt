@@ -3,8 +3,8 @@ ghost use Rattle.std.specs.Prelude.{ℕ, ◌≤◌, if◌then◌else◌};
 ghost use Rattle.tie_walk.specs.Ceilings.{IsExactAtBest};
 ghost use Rattle.tie_families.specs.Families.{Sequential, is_winner, some_winner};
 
-/// The bounds of families reach the value of a winner only where some winner completes the set: a walk over the
-/// winners enters only prefixes with a winner below.
+/// The bounds of families reach the value of a winner only if some winner completes the set. So a walk over the winners
+/// enters only prefixes with a winner below.
 pub fn exact_bounds()
     ensures { (s : Sequential) (best : ℕ) → 1 ≤ best → IsExactAtBest (λ set. if is_winner s set then 1 else 0)
         (λ c set left. if some_winner s c set left then 1 else 0) s.election.m s.k best }

@@ -73,7 +73,7 @@ fn after_all(step: Step, set: CandSet, choices: CandSet) -> CandSet
     after
 }
 
-/// How many choices lead to a set.
+/// The number of choices that lead to a set.
 fn chosen(step: Step, m: u8, set: CandSet) -> u8
     requires { length set ≤ m }
     ensures { result ≡ chosen step m set }

@@ -12,16 +12,15 @@ use std::marker::Model;
 use tie_walk::Winners;
 use tie_walk::sequential::first_later;
 
-/// The committees of k that some sequence of choices makes, whichever of those who tie is chosen each time, in
-/// lexicographic order. Contracts see the list of those still to come.
-/// (Lackner and Skowron, Multi-Winner Voting with Approval Preferences, sequential and reverse sequential Thiele
-/// methods)
+/// Iterates over the committees of size k that some sequence of choices makes, in lexicographic order. If candidates
+/// tie, any of them may be chosen (Lackner and Skowron, Multi-Winner Voting with Approval Preferences, sequential and
+/// reverse sequential Thiele methods). Contracts see the list of those still to come.
 #[derive(Drop)]
 pub struct FamilyWinners<'a, A: Allocator + Copy = Global> {
-    // The winners, where they lie in order, and the place of the next one.
+    // The winners, if they are stored in order, and the place of the next one.
     sorted: &'a [CandSet],
     place: usize,
-    // Where they do not, a walk over the families.
+    // Otherwise a walk over the families.
     walk: Option<Winners<'a, Families<'a, A>>>,
 }
 
@@ -35,8 +34,8 @@ impl<'a, A: Allocator + Copy> Model for FamilyWinners<'a, A> {
 }
 
 impl<'a, A: Allocator + Copy> FamilyWinners<'a, A> {
-    /// The winners among the committees of these families that are later than `after`, any committee of k, which need
-    /// not win; all winners where it is None. Neither this nor `next` takes memory.
+    /// The winners of these families that are later than `after`, or all winners if `after` is `None`. `after` is any
+    /// committee of size k; it need not win. Neither this nor `next` takes memory.
     pub fn new(families: &'a Families<'a, A>, after: Option<CandSet>) -> FamilyWinners<'a, A>
         requires { IsStart families.now.election.m families.now.k after }
         ensures { result ≡ later_than after
@@ -58,7 +57,7 @@ impl<'a, A: Allocator + Copy> FamilyWinners<'a, A> {
     }
 }
 
-/// The place of the first that is later than a start, of sets of its size in lexicographic order.
+/// The place of the first set that is later than the start, among sets of its size in lexicographic order.
 fn place_after(sets: &[CandSet], after: Option<CandSet>) -> usize
     requires order { AreInOrder sets.now }
     requires sizes { MatchOption after ⊤ (λ start. All (λ set. length set ≡ length start) sets.now) }

@@ -9,8 +9,8 @@ use Rattle.tie_families.specs.Clones.{is_between}
 use Rattle.ballot_base.specs.Clones.{AreClones}
 use Rattle.tie_families.specs.Steps.Tables.{completed}
 
--- whether the family has a committee of the set and of `left` of the candidates after c: no more of them are needed for
--- as many of each class as its least, and no fewer are left for as many as its most
+-- Whether the family has a committee of the set and of `left` of the candidates after c. At most `left` of them are
+-- needed for as many of each class as its least set has, and at least `left` are there for as many as its most set has.
 abbrev pub may_be_in : ℕ → List Row → ℕ → List ℕ → ℕ → List ℕ × List ℕ → Bool
 may_be_in m rows c set left family =
     let all = completed c m rows set family.0 in
@@ -31,7 +31,7 @@ pub record KeepsFamilies (e : Election) (rule : SeqRule) (m k : ℕ) (clones lea
 abbrev pub AreApart : ℕ → List (List ℕ) → Type 0
 AreApart m table = (c : ℕ) → 1 ≤ c → c ≤ m → length (slice_index_or table c []) ≡ 1
 
--- the winners still to come: those that lie in order, or those of the walk
+-- the winners still to come: those that are stored in order, or those of the walk
 abbrev pub still_to_come : {T : Type 0} → List (List ℕ) → Option (Winning T) → List (List ℕ)
 still_to_come sorted None = sorted
 still_to_come sorted (Some walk) = walk.left

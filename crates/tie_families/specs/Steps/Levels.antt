@@ -15,22 +15,22 @@ use Rattle.tie_walk.specs.declared.sequential.Step.TheVariants.{Grow, Shrink}
 use Rattle.ballot_base.specs.Clones.{clones_among}
 use Rattle.tie_families.specs.Clones.{clone_count, has_as_many, is_between}
 
--- whether none of the candidates below c may be chosen whom the set of clones has
+-- whether no candidate below c who is in the set of clones may be chosen
 abbrev pub is_first_open : Step → List ℕ → List ℕ → ℕ → Bool
 is_first_open step clones set c =
     list_all (λ d. not (has_member clones d && may_choose step set d)) (range_with_len 1 (c - 1))
 
--- whether the set grows, and gains nothing by anybody
+-- whether the set grows, and no candidate adds anything to it
 abbrev pub is_settled : Step → List ℕ → ℕ → List Row → List ℕ → Bool
 is_settled Grow weights m rows set = list_all (λ c. gain weights rows set c == 0) (others m set)
 is_settled Shrink weights m rows set = false
 
--- the same, where this is the best worth
+-- like `is_settled`, given the best worth
 abbrev pub has_settled : Step → ℕ → Bool
 has_settled Grow best = best == 0
 has_settled Shrink best = false
 
--- those who are chosen next: of clones who tie, the first one
+-- the candidates who are chosen next: of clones who tie, only the first
 abbrev pub ties : Step → List ℕ → ℕ → List Row → List ℕ → List ℕ
 ties step weights m rows set =
     filter (λ c. is_choice step weights m rows set c && is_first_open step (clones_among m rows c) set c)
@@ -40,18 +40,18 @@ ties step weights m rows set =
 abbrev pub shares_no_voter : List Row → List ℕ → Bool
 shares_no_voter rows candidates = list_all (λ (row : Row). nat_le (hits row.0 candidates) 1) rows
 
--- what those bring who are chosen next, or take away
+-- what the candidates who are chosen next bring, or take away
 abbrev pub tied_worth : Step → List ℕ → ℕ → List Row → List ℕ → ℕ
 tied_worth step weights m rows set =
     fold (better step) (worst step) (map (worth step weights rows set) (open_candidates step m set))
 
--- whether two or more tie who bring something, and no voter approves two of them
+-- whether two or more candidates tie who bring something, and no voter approves two of them
 abbrev pub is_independent : Step → List ℕ → ℕ → List Row → List ℕ → Bool
 is_independent step weights m rows set =
     nat_lt 0 (tied_worth step weights m rows set)
     && (nat_le 2 (length (ties step weights m rows set)) && shares_no_voter rows (ties step weights m rows set))
 
--- where the choices from the set may be made in any order, the set that all of them lead to
+-- if the choices from the set may be made in any order, the set that all of them lead to
 unfoldable pub end : Step → List ℕ → ℕ → List Row → List ℕ → Option (List ℕ)
 end step weights m rows set =
     if is_settled step weights m rows set
@@ -65,23 +65,23 @@ abbrev pub chosen : Step → ℕ → List ℕ → ℕ
 chosen Grow m set = length set
 chosen Shrink m set = m - length set
 
--- what the level after so many choices has of a set: the set itself, or its end once it is reached, or the sets that
--- one choice makes
+-- what the level after level `size` has of a set: the set itself, or its end once it is reached, or the sets that one
+-- choice makes
 abbrev pub followed : Step → ℕ → ℕ → List ℕ → List ℕ → Option (List ℕ) → List (List ℕ)
 followed step m size set tied None = map (change step set) tied
 followed step m size set tied (Some last) = (if nat_le (chosen step m last) (size + 1) then last else set) ∷ []
 
--- what follows a set where so many choices were made
+-- what follows a set of level `size`
 unfoldable pub family_changes : Step → List ℕ → ℕ → List Row → ℕ → List ℕ → List (List ℕ)
 family_changes step weights m rows size set =
     followed step m size set (ties step weights m rows set) (end step weights m rows set)
 
--- the end, or the set itself where there is none
+-- the end, or the set itself if there is none
 abbrev pub end_or : List ℕ → Option (List ℕ) → List ℕ
 end_or set None = set
 end_or set (Some last) = last
 
--- where a family of the committees of k ends on the other side: at its set, where that has k members
+-- the other end of a family of the committees of k: its set if that has k members, and otherwise its end
 abbrev pub other_end : Step → List ℕ → ℕ → List Row → ℕ → List ℕ → List ℕ
 other_end step weights m rows k set = if length set == k then set else end_or set (end step weights m rows set)
 
@@ -99,7 +99,7 @@ abbrev pub IsAhead : Step → List Row → List ℕ → List ℕ → Type 0
 IsAhead Grow rows set other = IsBelow rows set other
 IsAhead Shrink rows set other = IsBelow rows other set
 
--- what later hits bring is no more
+-- later hits bring no more than earlier ones
 abbrev pub IsFalling : List ℕ → Type 0
 IsFalling weights = (a b : ℕ) → a ≤ b → weight weights (b + 1) ≤ weight weights (a + 1)
 
@@ -107,7 +107,7 @@ IsFalling weights = (a b : ℕ) → a ≤ b → weight weights (b + 1) ≤ weigh
 abbrev pub IsStrict : List ℕ → Type 0
 IsStrict weights = (j : ℕ) → 0 < weight weights (j + 1) → weight weights (j + 1 + 1) < weight weights (j + 1)
 
--- as many members as so many choices leave
+-- as many members as `size` choices leave
 abbrev pub IsOfSize : Step → ℕ → ℕ → List ℕ → Type 0
 IsOfSize Grow m size set = length set ≡ size
 IsOfSize Shrink m size set = length set + size ≡ m
@@ -117,11 +117,11 @@ module _ (step : Step) (weights : List ℕ) (m : ℕ) (rows : List Row) where
   abbrev pub IsReachedBy : ℕ → List ℕ → Type 0
   IsReachedBy size set = IsReached (is_choice step weights m rows) (change step) (start step m) size set
 
-  -- the set has an end that more than so many choices lead to
+  -- the set has an end that more than `size` choices lead to
   abbrev pub IsLasting : ℕ → List ℕ → Type 0
   IsLasting size set = (last : List ℕ) × (end step weights m rows set ≡ Some last) × (size < chosen step m last)
 
-  -- a family of a level has as many members as so many choices leave, or fewer choices led to it, and it lasts
+  -- a family of a level has as many members as `size` choices leave; or fewer choices led to it, and it lasts
   abbrev pub IsPlaced : ℕ → List ℕ → Type 0
   IsPlaced size set = IsOfSize step m size set ⊎ ((chosen step m set < size) × IsLasting size set)
 
@@ -130,7 +130,7 @@ module _ (step : Step) (weights : List ℕ) (m : ℕ) (rows : List Row) where
     pub ahead : IsAhead step rows set made
     pub until : (last : List ℕ) → end step weights m rows set ≡ Some last → IsAhead step rows made last
 
-  -- the sets that so many choices make are those of their size between some family and its end
+  -- the sets that `size` choices make are those of their size between some family and its end
   pub record IsFamilyLevel (size : ℕ) (sets : List (List ℕ)) : Type 0 where
     pub order : IsStrictlySortedBy (slice_cmp nat_cmp) sets
     pub candidates : (set : List ℕ) → Contains sets set → IsIncreasing 1 m set
@@ -139,8 +139,8 @@ module _ (step : Step) (weights : List ℕ) (m : ℕ) (rows : List Row) where
     pub made : (made set : List ℕ) → IsIncreasing 1 m made → IsOfSize step m size made → Contains sets set
         → IsOf set made → IsReachedBy size made
 
--- Families, each as the least and the most that its committees have of each class: those of k are the committees that
--- some sequence of choices makes. Where each has a least set of k members, these lie in order.
+-- Families, each as the least and the most members that its committees have of each class. Those of k are the
+-- committees that some sequence of choices makes. If each has a least set of k members, these are in order.
 pub record AreFamilies (rule : SeqRule) (e : Election) (k : ℕ) (leasts mosts : List (List ℕ)) : Type 0 where
   pub paired : length mosts ≡ length leasts
   pub least_sets : AllByRecursion (λ set. IsIncreasing 1 e.m set) leasts
