@@ -4,11 +4,11 @@ use Rattle.std.specs.Option.{option_or}
 use Rattle.preflib_text.specs.declared.pick.Kind.{Kind}
 use Rattle.preflib_text.specs.Names.{kind_named}
 
--- what stands after the last of these bytes; nothing where there is none
+-- what follows the last of these bytes; nothing if there is none
 unfoldable pub after_last : ℕ → List ℕ → Option (List ℕ)
 after_last b [] = None
 after_last b (c ∷ cs) = option_or (after_last b cs) (if c == b then Some cs else None)
 
--- the type that stands after the last `.` of what stands after the last `/`, in letters of any case
+-- the type that follows the last `.` of what follows the last `/`, in letters of any case
 abbrev pub kind_in_path : List ℕ → Option Kind
 kind_in_path path = option_and_then kind_named (after_last 46 (unwrap_or (after_last 47 path) path))

@@ -1,10 +1,10 @@
 -- The range of what a request may ask for.
 use Rattle.std.specs.Prelude.{ℕ}
 
--- how many answers a request may ask for at most
+-- the maximum number of answers that a request may ask for
 abbrev pub most_limit : ℕ
 most_limit = 4294967295
 
--- the greatest number of a way
+-- the maximum number of a way
 abbrev pub most_way_number : ℕ
 most_way_number = 1000000

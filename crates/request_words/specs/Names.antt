@@ -30,7 +30,7 @@ rules = Scored (Thiele Av) ∷ Scored (Thiele Pav) ∷ Scored (Thiele Cc) ∷ Sc
     ∷ Scored (Thiele Geom4) ∷ Scored Satisfaction ∷ Scored Minimax ∷ Sequential SeqPav ∷ Sequential SeqCc
     ∷ Sequential RevSeqPav ∷ []
 
--- the rule that has this name, if one has
+-- the rule with this name, if there is one
 abbrev pub rule_named : List ℕ → Option Rule
 rule_named name = find (λ rule. bytes_eq name (rule_name rule)) rules
 

@@ -14,7 +14,7 @@ use Rattle.request_words.specs.declared.request.Rule.{Rule}
 use Rattle.request_words.specs.declared.request.Task.{Task as CodeTask}
 use Rattle.request_words.specs.declared.request.Task.TheVariants.{OfBallots, OfVotes}
 
--- which of the answers are asked for: those later than a list, and the first so many of them
+-- which of the answers are wanted: those later than a list, and at most `limit` of them
 pub record Page : Type 0 where
   pub after : Option (List ℕ)
   pub limit : Option ℕ
@@ -38,12 +38,12 @@ pub data Task : Type 0 where
   of_ballots : Question → Task
   of_votes : List ℕ → Method → ℕ → Page → Task
 
--- a sharing of seats by a method, by votes that are given, or else by those of ballots
+-- a sharing of seats by a method, by the votes that are given; failing that, by those of ballots
 abbrev pub sharing_by : Option (List ℕ) → Method → ℕ → Page → Task
 sharing_by None method seats page = of_ballots (sharing method seats page)
 sharing_by (Some votes) method seats page = of_votes votes method seats page
 
--- which answers are asked for, with a list in the place of a vector
+-- which answers are wanted, with a list in the place of a vector
 abbrev pub page_of : CodePage → Page
 page_of page = record { after = option_map vec_items page.after; limit = page.limit }
 
@@ -57,13 +57,13 @@ abbrev pub task_of : CodeTask → Task
 task_of (OfBallots question) = of_ballots (question_of question)
 task_of (OfVotes votes asked) = of_votes (vec_items votes) asked.method asked.seats (page_of asked.page)
 
--- a start has a number, and a limit lies from 1 to `most_limit`
+-- a start has at least one number, and a limit is from 1 to `most_limit`
 pub record IsPage (page : Page) : Type 0 where
   pub after : IfSome page.after (λ list. list ≢ [])
   pub least : IfSome page.limit (λ n. 1 ≤ n)
   pub most : IfSome page.limit (λ n. n ≤ most_limit)
 
--- the numbers lie in their ranges, a size and seats from 1 on; and each list has a number
+-- the numbers are in their ranges, a size and seats from 1 on; and each list has at least one number
 abbrev pub IsInRange : Question → Type 0
 IsInRange (electing rule size page) = (1 ≤ size) × (size ≤ most_members) × IsPage page
 IsInRange (checking property committee) = committee ≢ []
@@ -73,7 +73,7 @@ abbrev pub InRange : Task → Type 0
 InRange (of_ballots question) = IsInRange question
 InRange (of_votes votes method seats page) = (1 ≤ seats) × (seats ≤ most_seats) × (votes ≢ []) × IsPage page
 
--- what is asked for, how the file is read, the bytes of the file's path where a file is named, and whether the names of
+-- what is asked for, how the file is read, the bytes of the file's path if a file is named, and whether the names of
 -- candidates are wanted
 pub record Request : Type 0 where
   pub task : Task

@@ -53,7 +53,7 @@ name_option name names = record (text_option name) { parser = Some (parser.Names
 abbrev pub number_option : Text → ℕ → Argument
 number_option name most = record (text_option name) { parser = Some (parser.Signed (pos 1) (pos most)) }
 
--- the option, where it must be given
+-- the option, which must be given
 abbrev pub required : Argument → Argument
 required option = record option { required = true }
 
@@ -71,7 +71,7 @@ input_arguments kinds = name_option (codes "kind") kinds ∷ number_option (code
     ∷ number_option (codes "setsize") most_way_number ∷ number_option (codes "classes") most_way_number
     ∷ flag_option (codes "names") ∷ file_word ∷ []
 
--- what the commands take that print lists of answers: which of them
+-- what the commands take that print lists of answers: which of the answers are wanted
 abbrev pub page_arguments : List Argument
 page_arguments = text_option (codes "after") ∷ number_option (codes "limit") most_limit ∷ []
 
@@ -89,7 +89,7 @@ check_over properties kinds = record (new_shape (codes "check")) {
       ∷ input_arguments kinds;
 }
 
--- `share --method METHOD --seats SEATS`, with 1 to `most_seats` seats, and perhaps `--votes LIST`
+-- `share --method METHOD --seats SEATS`, with 1 to `most_seats` seats, and optionally `--votes LIST`
 abbrev pub share_over : Names → Names → Shape
 share_over methods kinds = record (new_shape (codes "share")) {
   rules = required (name_option (codes "method") methods) ∷ required (number_option (codes "seats") most_seats)
@@ -119,11 +119,11 @@ program = program_over (elect_over (shown_names rule_names) (shown_names kind_na
 
 -- ---- the request
 
--- the value of a number's digits, of which the first may be zeros, and before which a `+` may stand
+-- the value of a number's digits, which may begin with zeros and may follow a `+`
 abbrev pub number_of : Text → ℕ
 number_of digits = digits_value 10 (without_leading_plus digits)
 
--- the way of the numbers that are given: none where there are two or more
+-- the way of the numbers that are given; none if there are two or more
 abbrev pub way_by : Option ℕ → Option ℕ → Option ℕ → Option Way
 way_by None None None = Some Usual
 way_by None None (Some n) = Some (Classes n)
@@ -133,11 +133,11 @@ way_by (Some n) None None = Some (Category n)
 way_by (Some n) None (Some k) = None
 way_by (Some n) (Some k) classes = None
 
--- the number of an option, where it is given
+-- the number of an option, if it is given
 abbrev pub number_at : Text → List Row → Option ℕ
 number_at name rows = option_map number_of (one_of name rows)
 
--- the way in what clap found for a command: none where two or more are given
+-- the way in what clap found for a command; none if two or more are given
 abbrev pub way_in : List Row → Option Way
 way_in rows =
     way_by (number_at (codes "category") rows) (number_at (codes "setsize") rows) (number_at (codes "classes") rows)
@@ -155,7 +155,7 @@ abbrev pub result_and_then : {A B : Type 0} → (A → Result B LineFault) → R
 result_and_then f (Ok x) = f x
 result_and_then f (Err e) = Err e
 
--- the list that an option has for its text
+-- the list that the text of an option stands for
 abbrev pub listed : ListOption → Text → Result (List ℕ) LineFault
 listed option text = ok_or (list_of text) (BadList option)
 
@@ -181,7 +181,7 @@ asking rows task = ok_or (option_map (λ way. record {
   names = wants_names rows;
 }) (way_in rows)) TwoPicks
 
--- an election by a rule, of so many seats
+-- an election by a rule, of `size` seats
 abbrev pub elect_over_page : List Row → Rule → ℕ → Page → Result Request LineFault
 elect_over_page rows rule size page = asking rows (of_ballots (electing rule size page))
 
@@ -204,15 +204,15 @@ is_given rows name = is_some (all_of name rows)
 abbrev pub way_names : List Text
 way_names = codes "category" ∷ codes "setsize" ∷ codes "classes" ∷ []
 
--- whether anything is said of an input: where it is, or how it is read
+-- whether an argument about the input is given: where it is, or how it is read
 abbrev pub has_input : List Row → Bool
 has_input rows = list_any (is_given rows) (codes "file" ∷ codes "kind" ∷ way_names)
 
--- the request, unless votes are given beside an input
+-- the request, unless votes are given together with an input
 abbrev pub without_both : List Row → Request → Result Request LineFault
 without_both rows asked = if is_given rows (codes "votes") && has_input rows then Err VotesAndInput else Ok asked
 
--- a sharing by a method, of so many seats, over these votes, or those of ballots
+-- a sharing of `seats` seats by a method, by these votes or by those of ballots
 abbrev pub share_over_page : List Row → Method → ℕ → Option (List ℕ) → Page → Result Request LineFault
 share_over_page rows method seats votes page = asking rows (sharing_by votes method seats page)
 
@@ -225,34 +225,34 @@ share_in rows = option_map (λ p. result_and_then (without_both rows)
     (result_and_then (share_over_votes rows p.0 (number_of p.1)) (list_in Votes (codes "votes") rows)))
     (option_zip (option_and_then method_named (first_of (codes "method") rows)) (one_of (codes "seats") rows))
 
--- what a command asks for in what clap found, or the first fault that clap does not know of: nothing where a required
--- value is missing, and then clap does not take the words
+-- What a command asks for in what clap found, or the first fault that clap does not know of. There is neither if a
+-- required value is missing; then clap does not take the words.
 abbrev pub asked_in : Text → List Row → Option (Result Request LineFault)
 asked_in command rows = if bytes_eq command (codes "check") then check_in rows
     else (if bytes_eq command (codes "share") then share_in rows else elect_in rows)
 
--- the same of the words, of which the first names the program: nothing where clap refuses them
+-- the same for the words, of which the first names the program; nothing if clap refuses them
 abbrev pub outcome_of : List Text → Option (Result Request LineFault)
 outcome_of words = if takes program words
     then option_and_then (λ found. asked_in found.0 found.1) (subcommand_of program words) else None
 
--- the request of the words: none where they are refused, by clap or after it
+-- the request of the words; none if they are refused, by clap or after it
 abbrev pub request_of : List Text → Option Request
 request_of words = option_and_then result_ok (outcome_of words)
 
 -- ---- refusals
 
--- clap refuses the words, and help is its answer
+-- clap refuses the words and returns its help
 abbrev pub AsksForHelp : List Text → Type 0
 AsksForHelp words =
     (takes program words ≡ false) × IsAmong kind.DisplayHelp (fault_of program words)
 
--- clap refuses the words, and its answer is another than help
+-- clap refuses the words and returns something other than help
 abbrev pub IsMisused : List Text → Type 0
 IsMisused words = (takes program words ≡ false) × ((k : ErrorKind)
     × IsAmong k (fault_of program words) × (k ≢ kind.DisplayHelp) × (k ≢ kind.OutOfMemory))
 
--- the fault is clap's answer to the words, or the first that they have after clap took them, or out of memory
+-- the fault is clap's, or the first that the words have after clap took them, or out of memory
 abbrev pub RefusesWords : List Text → LineFault → Type 0
 RefusesWords words (Help text) = AsksForHelp words
 RefusesWords words (Usage text) = IsMisused words
@@ -261,7 +261,7 @@ RefusesWords words TwoPicks = outcome_of words ≡ Some (Err TwoPicks)
 RefusesWords words VotesAndInput = outcome_of words ≡ Some (Err VotesAndInput)
 RefusesWords words Memory = ⊤
 
--- the fault is none of clap's
+-- the fault is not one of clap's
 abbrev pub IsAfterClap : LineFault → Type 0
 IsAfterClap (Help text) = ⊥
 IsAfterClap (Usage text) = ⊥
@@ -273,7 +273,7 @@ option_word Committee = codes "--committee"
 option_word Votes = codes "--votes"
 option_word After = codes "--after"
 
--- the line on standard error on words that are refused: none where clap has a text, or memory ran out
+-- the line on standard error for words that are refused; none if clap has a text, or memory ran out
 abbrev pub line_of : LineFault → Option Text
 line_of (BadList option) = Some (codes "committees: words: BadList " ++ option_word option)
 line_of TwoPicks = Some (codes "committees: words: TwoPicks")

@@ -12,10 +12,10 @@ use preflib_text::Kind;
 use seat_share::{MOST_SEATS, Method};
 use std::alloc::{AllocError, Global};
 
-// The help of `--size` spells out the limit.
+// The help of `--size` states the limit.
 const _: () = prove!(MOST_MEMBERS == 40);
 
-// The help of `--seats` spells out the limit.
+// The help of `--seats` states the limit.
 const _: () = prove!(MOST_SEATS == 10000);
 
 /// The arguments of `elect`, without those that all commands have.
@@ -76,7 +76,7 @@ const SHARE: [ArgumentRow<'static>; 5] = [
     LIMIT,
 ];
 
-/// The option for the answer after which the others start.
+/// The option for the answer after which the printed ones begin.
 const AFTER: ArgumentRow<'static> = ArgumentRow {
     name: "after",
     takes: Takes::List,
@@ -84,7 +84,7 @@ const AFTER: ArgumentRow<'static> = ArgumentRow {
     help: "Print only the answers that come after this one,\nas 2,3,5",
 };
 
-/// The option for how many answers are printed at most.
+/// The option for the maximum number of printed answers.
 const LIMIT: ArgumentRow<'static> = ArgumentRow {
     name: "limit",
     takes: Takes::Number("N", MOST_LIMIT),
@@ -172,7 +172,6 @@ pub(crate) fn program<'a>(alloc: Global) -> Result<Command<'a>, AllocError>
         .subcommands(commands)
 }
 
-/// The commands of these rows.
 fn commands<'a>(alloc: Global, rows: &[CommandRow<'a>]) -> Result<Vec<Command<'a>>, AllocError>
     ensures { IfOk result (λ commands. AreCommandsOf rows.now commands.items) }
 {

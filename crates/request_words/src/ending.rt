@@ -4,7 +4,7 @@ ghost use Rattle.request_words.specs.Endings.{after_last, kind_in_path};
 
 use preflib_text::Kind;
 
-/// What stands after the last of these bytes.
+/// The bytes after the last one that equals `byte`.
 #[tactic(auto, unfolding(crate::specs::Endings::after_last))]
 fn after_last(text: &[u8], byte: u8) -> Option<&[u8]>
     ensures { option_map (λ s. s.now) result ≡ after_last byte text.now }
@@ -20,7 +20,7 @@ fn after_last(text: &[u8], byte: u8) -> Option<&[u8]>
     found
 }
 
-/// The type that the file's name ends in, in letters of any case.
+/// The type by the extension of the file's name, in letters of any case.
 pub(crate) fn kind_in_path(path: &str) -> Option<Kind>
     ensures { result ≡ kind_in_path path.now }
 {

@@ -7,7 +7,7 @@ ghost use Rattle.request_words.specs.Words.{outcome_of, program};
 
 use crate::request::Rule;
 
-/// Words that clap takes have an outcome: a request, or a fault that clap does not know of.
+/// Arguments that clap accepts have an outcome: a request, or a fault that clap does not know of.
 pub fn taken_words()
     ensures { (words : List Text) → takes program words ≡ true → IsSome (outcome_of words) }
 {}

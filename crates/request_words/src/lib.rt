@@ -1,4 +1,4 @@
-//! The command line: its words, and the request that they make.
+//! The command line: its arguments, and the request that they make.
 #![tactic(auto)]
 
 mod commands;

@@ -5,7 +5,7 @@ ghost use Rattle.request_words.specs.NumberList.{entry_of, list_of};
 
 use std::alloc::{AllocError, Global};
 
-/// The number of these digits, where there is nothing else and it is below 2^64.
+/// The number of these digits. Returns `None` if there is anything else, or the number is not below 2^64.
 fn entry_of(text: &str) -> Option<u64>
     ensures { result ≡ entry_of text.now }
 {
@@ -15,7 +15,7 @@ fn entry_of(text: &str) -> Option<u64>
     text.parse().ok()
 }
 
-/// The numbers between commas, where the text is a list of numbers and nothing else.
+/// The numbers between commas, or `None` if the text is not a list of numbers.
 pub(crate) fn list_of(alloc: Global, text: &str) -> Result<Option<Vec<u64>>, AllocError>
     ensures { IfOk result (λ list. option_map vec_items list ≡ list_of text.now) }
 {

@@ -6,7 +6,7 @@ use clap::builder::ValueParser;
 use clap::{Arg, ArgAction};
 use std::alloc::{AllocError, Global};
 
-/// What an argument takes. Help calls the value by the first word.
+/// What an argument takes. Help uses the first text as the name of the value.
 #[derive(Clone, Copy)]
 pub(crate) enum Takes<'a> {
     /// An option with one of these names.
@@ -17,7 +17,7 @@ pub(crate) enum Takes<'a> {
     List,
     /// An option without a value.
     Nothing,
-    /// The word `FILE`.
+    /// The positional argument `FILE`.
     File,
 }
 
@@ -30,7 +30,7 @@ pub(crate) struct ArgumentRow<'a> {
     pub(crate) takes: Takes<'a>,
     /// Whether it must be given.
     pub(crate) required: bool,
-    /// What help says of it, within the columns.
+    /// Its help text, within the columns.
     pub(crate) help: &'a str,
 }
 
@@ -57,7 +57,7 @@ fn argument<'a>(alloc: Global, row: ArgumentRow<'a>) -> Arg<'a>
     }
 }
 
-/// These arguments, and after them those of the rows.
+/// These arguments, followed by those of the rows.
 pub(crate) fn with_rows<'a>(
     alloc: Global,
     mut arguments: Vec<Arg<'a>>,

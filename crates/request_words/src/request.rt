@@ -15,9 +15,9 @@ use tie_walk::SeqRule;
 /// Preferences).
 #[derive(Clone, Copy, Debug, PartialEq, Eq)]
 pub enum Rule {
-    /// The committees of the greatest value win.
+    /// The committees with the highest value win.
     Scored(ScoredRule),
-    /// A committee is made one candidate at a time, over every tie.
+    /// A committee is made one choice at a time, and every tie is followed.
     Sequential(SeqRule),
 }
 
@@ -37,7 +37,7 @@ impl Rule {
         Rule::Sequential(SeqRule::RevSeqPav),
     ];
 
-    /// Their names, in the same order.
+    /// The names of the rules, in the order of `ALL`.
     pub const NAMES: [&'static str; 11] = [
         "av",
         "pav",
@@ -65,7 +65,7 @@ impl Rule {
         Rule::NAMES[place]
     }
 
-    /// The rule that has this name, if one has; upper and lower case differ.
+    /// The rule with this name, or `None`. Upper and lower case differ.
     pub fn named(name: &str) -> Option<Rule>
         ensures { result ≡ rule_named name.now }
     {
@@ -73,39 +73,38 @@ impl Rule {
     }
 }
 
-/// A rule by which each committee has a value.
+/// A rule that gives each committee a value.
 #[derive(Clone, Copy, Debug, PartialEq, Eq)]
 pub enum ScoredRule {
-    /// A rule of Thiele: a voter gives a committee the first increments of the rule, as many as
-    /// the voter approves of its members. The greatest sum over the voters wins.
+    /// A Thiele method. A voter who approves x members of a committee adds the first x increments of the rule. The
+    /// highest sum over the voters wins.
     Thiele(ThieleRule),
-    /// Satisfaction approval voting: a voter gives a committee the part of the approved candidates
-    /// that are its members. The greatest sum over the voters wins.
+    /// Satisfaction approval voting. A voter adds the share of the approved candidates that are members of the
+    /// committee. The highest sum over the voters wins.
     Satisfaction,
-    /// Minimax approval voting: the distance of a voter and a committee is the number of candidates
-    /// that stand in exactly one of the voter's approvals and the committee. The least greatest
-    /// distance wins, however many voters have it.
+    /// Minimax approval voting. The distance of a voter from a committee is the number of candidates in exactly one of
+    /// the voter's approvals and the committee. The smallest maximum distance wins, however many voters have it.
     Minimax,
 }
 
-/// How many answers a request may ask for at most.
+/// The maximum number of answers that a request may ask for.
 pub const MOST_LIMIT: u32 = 4_294_967_295;
 
-/// The greatest number of `--category`, `--setsize` and `--classes`.
+/// The maximum number of `--category`, `--setsize` and `--classes`.
 pub const MOST_WAY_NUMBER: u32 = 1_000_000;
 
-/// Which of the answers are asked for.
+/// Which of the answers are wanted.
 #[derive(Debug, Drop)]
 pub struct Page {
-    /// The start: the answers that are later than this list, whether or not it is an answer itself. It has at least one
-    /// number.
+    /// The start: only answers later than this list are wanted. The list need not be an answer itself. It has at least
+    /// one number.
     pub after: Option<Vec<u64>>,
-    /// The first so many of these, from 1 to `MOST_LIMIT`.
+    /// The maximum number of answers that are wanted, from 1 to `MOST_LIMIT`.
     pub limit: Option<u32>,
 }
 
-/// Which seats are asked for: by which method they are shared out among parties, how many there are, and which of the
-/// fair allocations are wanted.
+/// Which seats are asked for: the method by which they are shared out among parties, how many there are, and which of
+/// the fair allocations are wanted.
 #[derive(Debug, Drop)]
 pub struct Sharing {
     /// The method by which the seats are shared out.
@@ -120,26 +119,25 @@ pub struct Sharing {
 /// What is asked about the ballots of an input. Each list has at least one number.
 #[derive(Debug, Drop)]
 pub enum Question {
-    /// To elect committees by a rule, with this number of seats, from 1 to `MOST_MEMBERS`.
+    /// Elect committees by a rule, with this number of seats, from 1 to `MOST_MEMBERS`.
     Elect(Rule, u8, Page),
-    /// To check whether a committee has a property. The members are as they were given: any numbers,
-    /// in any order.
+    /// Check whether a committee has a property. The members are as they were given: any numbers, in any order.
     Check(Property, Vec<u64>),
-    /// To share out seats. Each voter counts for the one party that the ballot approves.
+    /// Share out seats. Each voter counts for the one party that the ballot approves.
     Share(Sharing),
 }
 
 /// What a request asks for.
 #[derive(Debug, Drop)]
 pub enum Task {
-    /// Something about the ballots of an input.
+    /// A question about the ballots of an input.
     OfBallots(Question),
-    /// To share out seats among parties with these votes. There is at least one party.
+    /// Share out seats among parties with these votes. There is at least one party.
     OfVotes(Vec<u64>, Sharing),
 }
 
-/// A request: its task, how the file is read, the file to read, where one is named, and whether answers have names.
-/// Each one comes from `read_request`.
+/// A request: its task, how the file is read, the file to read if one is named, and whether answers have names. Each
+/// one comes from `read_request`.
 #[derive(Debug, Drop)]
 pub struct Request {
     task: Task,
@@ -184,7 +182,7 @@ impl Request {
         }
     }
 
-    /// What it asks for.
+    /// What the request asks for.
     pub fn task(&self) -> &Task
         ensures value { task_of result.now ≡ self.now.task }
         ensures range { InRange (task_of result.now) }
@@ -200,14 +198,14 @@ impl Request {
         self.pick
     }
 
-    /// The path of the file to read. Without one the input is standard input.
+    /// The path of the file to read. If it is `None`, the input is standard input.
     pub fn file(&self) -> Option<&str>
         ensures { option_map (λ s. s.now) result ≡ self.now.file }
     {
         self.file.as_deref()
     }
 
-    /// Whether the names of the candidates stand beside their numbers in the answers.
+    /// Whether answers show the names of the candidates beside their numbers.
     pub fn names(&self) -> bool
         ensures { result ≡ self.now.names }
     {

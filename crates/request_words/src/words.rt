@@ -1,4 +1,4 @@
-//! The command line, read by `clap`.
+//! Reads the command line with `clap`.
 ghost use Rattle.std.specs.Prelude.{◌≡◌, ◌≢◌, ◌≤◌, IfErr, IfOk, IfSome, Some, [], codes, map, option_and_then, option_map, string_bytes, true};
 ghost use Rattle.std.specs.List.{list_any};
 ghost use Rattle.std.specs.Vec.{vec_items};
@@ -44,27 +44,27 @@ pub enum ListOption {
     After,
 }
 
-/// Why the words give no request. Of several faults it is the first, in this order; out of memory may come in the
-/// place of any.
+/// Why a command line gives no request. If several faults hold, the first in this order is returned; `Memory` may come
+/// in the place of any.
 #[derive(Debug, Drop)]
 pub enum LineFault {
     /// Help was asked for. Its text goes to standard output, with status 0.
     Help(String),
-    /// The words were refused. The text on them goes to standard error, with status 2.
+    /// The arguments were refused. The text about them goes to standard error, with status 2.
     Usage(String),
-    /// The value of this option is no list of numbers: status 2.
+    /// The value of this option is not a list of numbers: status 2.
     BadList(ListOption),
     /// More than one of `--category`, `--setsize` and `--classes` is given: status 2.
     TwoPicks,
-    /// `--votes` is given, and a file or a way to read one: status 2.
+    /// `--votes` is given together with a file, or with an option on how a file is read: status 2.
     VotesAndInput,
     /// An allocation failed: status 5.
     Memory,
 }
 
 impl LineFault {
-    /// The line on standard error that tells of it, without its end. `Help` and `Usage` have a text of their own, and
-    /// `Memory` may come anywhere.
+    /// The line on standard error that reports the fault, without its end. `Help` and `Usage` have a text of their own,
+    /// and `Memory` may come anywhere: for these the result is `None`.
     pub fn line(&self) -> Option<&'static str>
         ensures { option_map (λ s. s.now) result ≡ line_of self.now }
     {
@@ -92,7 +92,8 @@ impl From<AllocError> for LineFault {
     }
 }
 
-/// The request of the words, of which the first is the program's name.
+/// Reads the request from the arguments, of which the first is the program's name. An error is clap's, or the first
+/// fault that the arguments have after clap accepted them, or `Memory`.
 pub fn read_request(alloc: Global, words: &[String]) -> Result<Request, LineFault>
     ensures request { IfOk result (λ r. request_of (map string_bytes words.now) ≡ Some r) }
     ensures taken { takes program (map string_bytes words.now) ≡ true → IfErr result IsAfterClap }
@@ -131,7 +132,6 @@ fn elect_asked(alloc: Global, elect: &ArgMatches<'_>) -> Result<Request, LineFau
     request(alloc, elect, Task::OfBallots(question))
 }
 
-/// The rule and the number of seats.
 fn rule_and_size(elect: &ArgMatches<'_>) -> (Rule, u8)
     requires { HasElectValues (rows_of (found_of elect.now)) }
     ensures asked { let rows = rows_of (found_of elect.now) in
@@ -176,7 +176,7 @@ fn share_asked(alloc: Global, share: &ArgMatches<'_>) -> Result<Request, LineFau
     Ok(request)
 }
 
-/// A sharing of seats by votes that are given, or else by those of ballots.
+/// A task to share out seats by the given votes or, without them, by those of ballots.
 fn share_task(votes: Option<Vec<u64>>, asked: Sharing) -> Task
     ensures { task_of result ≡ sharing_by (option_map vec_items votes) asked.method asked.seats (page_of asked.page) }
 {
@@ -186,7 +186,6 @@ fn share_task(votes: Option<Vec<u64>>, asked: Sharing) -> Task
     }
 }
 
-/// The method and the number of seats.
 fn method_and_seats(share: &ArgMatches<'_>) -> (Method, u16)
     requires { HasShareValues (rows_of (found_of share.now)) }
     ensures asked { let rows = rows_of (found_of share.now) in
@@ -200,7 +199,7 @@ fn method_and_seats(share: &ArgMatches<'_>) -> (Method, u16)
     (method, seats)
 }
 
-/// Which of the answers are asked for.
+/// Which of the answers are wanted.
 fn page(alloc: Global, command: &ArgMatches<'_>) -> Result<Page, LineFault>
     requires { HasLimit (rows_of (found_of command.now)) }
     ensures given { Gives page_of (page_in (rows_of (found_of command.now))) result }
@@ -235,28 +234,26 @@ fn numbers(alloc: Global, option: ListOption, text: &str) -> Result<Vec<u64>, Li
     list_of(alloc, text)?.ok_or(LineFault::BadList(option))
 }
 
-/// Whether anything is said of an input: a file, or how one is read.
+/// Whether an argument about the input is given: a file, or how one is read.
 fn has_input(command: &ArgMatches<'_>) -> bool
     ensures { result ≡ has_input (rows_of (found_of command.now)) }
 {
     is_given(command, "file") || is_given(command, "kind") || has_way(command)
 }
 
-/// Whether a way is given.
 fn has_way(command: &ArgMatches<'_>) -> bool
     ensures { result ≡ list_any (is_given (rows_of (found_of command.now))) way_names }
 {
     is_given(command, "category") || is_given(command, "setsize") || is_given(command, "classes")
 }
 
-/// Whether an argument is given.
 fn is_given(command: &ArgMatches<'_>, name: &str) -> bool
     ensures { result ≡ is_given (rows_of (found_of command.now)) name.now }
 {
     command.contains_id(name)
 }
 
-/// The request to do this over the input that clap found for a command.
+/// The request for this task over the input that clap found for a command.
 fn request(alloc: Global, command: &ArgMatches<'_>, task: Task) -> Result<Request, LineFault>
     requires counts { HasCounts (rows_of (found_of command.now)) }
     requires range { InRange (task_of task) }
@@ -270,7 +267,6 @@ fn request(alloc: Global, command: &ArgMatches<'_>, task: Task) -> Result<Reques
     Ok(Request::new(task, pick, file, wants_names(command)))
 }
 
-/// Whether names are asked for.
 fn wants_names(command: &ArgMatches<'_>) -> bool
     requires { IsFlag (one_of (codes "names") (rows_of (found_of command.now))) }
     ensures { result ≡ wants_names (rows_of (found_of command.now)) }
@@ -297,7 +293,7 @@ fn pick_of(kind: Option<&str>, path: Option<&str>, way: Way) -> Pick
     Pick { kind, ending, way }
 }
 
-/// The way in what clap found for a command, where there are not two.
+/// The way of approval in what clap found for a command, or `None` if more than one is given.
 fn way_asked(command: &ArgMatches<'_>) -> Option<Way>
     requires { HasCounts (rows_of (found_of command.now)) }
     ensures value { result ≡ way_in (rows_of (found_of command.now)) }
@@ -309,7 +305,7 @@ fn way_asked(command: &ArgMatches<'_>) -> Option<Way>
     one_way(category, set_size, classes)
 }
 
-/// The number of an option, where it is given.
+/// The number of an option, if it is given.
 fn number(command: &ArgMatches<'_>, name: &str) -> Option<u32>
     requires { IsCount (one_of name.now (rows_of (found_of command.now))) }
     ensures value { result ≡ number_at name.now (rows_of (found_of command.now)) }
@@ -319,7 +315,7 @@ fn number(command: &ArgMatches<'_>, name: &str) -> Option<u32>
     command.get_one::<u32>(name)
 }
 
-/// The way of the numbers that are given, where there are not two.
+/// The way of approval with its number, or `None` if more than one is given.
 fn one_way(category: Option<u32>, set_size: Option<u32>, classes: Option<u32>) -> Option<Way>
     requires category { IfSome category (λ n. 1 ≤ n) }
     requires set_size { IfSome set_size (λ n. 1 ≤ n) }
@@ -336,7 +332,7 @@ fn one_way(category: Option<u32>, set_size: Option<u32>, classes: Option<u32>) -
     }
 }
 
-/// A text of its own, where there is one.
+/// A copy of the text, if there is one.
 fn owned(alloc: Global, text: Option<&str>) -> Result<Option<String>, AllocError>
     ensures { IfOk result (λ r. option_map string_bytes r ≡ option_map (λ s. s.now) text.entry) }
 {
@@ -346,7 +342,7 @@ fn owned(alloc: Global, text: Option<&str>) -> Result<Option<String>, AllocError
     }
 }
 
-/// Clap's answer to words that it does not take.
+/// The fault for an error of clap.
 fn fault(alloc: Global, error: &Error) -> LineFault
     ensures { IsFaultOf (error_kind_of error.now) result }
 {

@@ -73,10 +73,10 @@ abbrev pub HasValues : Text → List Row → Type 0
 HasValues command rows = ((command ≡ codes "elect") × HasElectValues rows)
     ⊎ ((command ≡ codes "check") × HasCheckValues rows) ⊎ ((command ≡ codes "share") × HasShareValues rows)
 
--- the code's value is what is said, or its fault, or memory ran out
+-- the result is what is said, a value or a fault, or memory ran out
 abbrev pub Gives : {A B : Type 0} → (B → A) → Result A LineFault → Result B LineFault → Type 0
 Gives view said result = MatchResult result (λ x. said ≡ Ok (view x)) (λ e. (e ≡ Memory) ⊎ (said ≡ Err e))
 
--- the same of what is asked for
+-- the same for what a command asks for
 abbrev pub GivesAsked : Option (Result Request LineFault) → Result Request LineFault → Type 0
 GivesAsked said result = MatchResult result (λ x. said ≡ Some (Ok x)) (λ e. (e ≡ Memory) ⊎ (said ≡ Some (Err e)))
