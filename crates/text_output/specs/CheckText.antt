@@ -13,12 +13,12 @@ use Rattle.text_output.specs.Text.{line}
 abbrev pub holds_text : List ℕ
 holds_text = line (codes "holds")
 
--- a set of candidates, or a dash alone where there is none
+-- a set of candidates, or only a dash if it is empty
 abbrev pub set_or_dash : Names → List ℕ → List ℕ
 set_or_dash names [] = codes "-"
 set_or_dash names (n ∷ rest) = candidates_text names (n ∷ rest)
 
--- the line of the members of the committee that the group may approve, which a report under pjr alone has
+-- the line with the members of the committee that the group may approve, which only a report under pjr has
 abbrev pub within_text : Names → Property → List ℕ → List ℕ
 within_text names Jr within = []
 within_text names Pjr within = line (codes "within " ++ set_or_dash names within)
@@ -37,18 +37,18 @@ group_text names violation rows = flat_map (row_text names) (filter (λ row. is_
 abbrev pub level_text : Property → ℕ → List ℕ
 level_text property level = line (codes "violated " ++ property_name property) ++ line (codes "level " ++ decimal level)
 
--- the lines before the voters: what the group breaks, and the candidates by which it is told from other groups
+-- the lines before the voters: what the group breaks, and the candidates that distinguish it from other groups
 abbrev pub claim_text : Names → Violation → List ℕ
 claim_text names violation =
     level_text violation.property violation.level
     ++ line (codes "candidates " ++ candidates_text names violation.shared)
     ++ within_text names violation.property violation.within
 
--- the line of the size of a group, beside the number of all voters
+-- the line with the size of a group and the number of all voters
 abbrev pub voters_text : ℕ → ℕ → List ℕ
 voters_text voters total = line (codes "voters " ++ decimal voters ++ codes " of " ++ decimal total)
 
--- the report of a violation, with the names of candidates beside each list of them where they are wanted
+-- the report of a violation, with the names of candidates beside each list of them, if names are wanted
 abbrev pub violation_text : Names → Violation → Election → List ℕ
 violation_text names violation election =
     claim_text names violation

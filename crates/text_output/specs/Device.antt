@@ -12,19 +12,19 @@ abbrev pub bytes_given : {E : Type 0} → Result ℕ E → ℕ
 bytes_given (Ok n) = n
 bytes_given (Err e) = 0
 
--- what is told of a reader: the bytes that it has still to give, if they are known, whether a call has failed, and how
+-- what is known of a reader: the bytes that it has still to give, if they are known, whether a call has failed, and how
 -- many bytes its reads have given so far
 pub record ReaderState : Type 0 where
   pub remaining : Option (List ℕ)
   pub has_failed : Bool
   pub given : ℕ
 
--- what is told of a writer: the bytes that it took, if they are known, and whether a call has failed
+-- what is known of a writer: the bytes that it took, if they are known, and whether a call has failed
 pub record WriterState : Type 0 where
   pub contents : Option (List ℕ)
   pub has_failed : Bool
 
--- the same of a device, by what its trait tells of it
+-- the state of a device, by what its trait reports
 abbrev pub reader_state : {R : Type 0} → (R → Option (List ℕ)) → (R → Bool) → (R → ℕ) → R → ReaderState
 reader_state remaining has_failed given reader =
     record { remaining = remaining reader; has_failed = has_failed reader; given = given reader }

@@ -4,12 +4,12 @@ use Rattle.std.specs.Prelude.{codes, decimal, nat_lt, slice_get, slice_index, un
 use Rattle.std.specs.List.{range_with_len}
 use Rattle.text_output.specs.Text.{numbers_text}
 
--- the names that stand beside numbers: none where they are not wanted; else the name of each candidate from the first
--- on, [] for one without a name
+-- the names that stand beside numbers: none if they are not wanted, and otherwise the name of each candidate from the
+-- first on, [] for one without a name
 abbrev pub Names : Type 0
 Names = Option (List (List ℕ))
 
--- the names of candidates, where they are wanted
+-- the names of candidates, if they are wanted
 abbrev pub naming : Bool → List (List ℕ) → Names
 naming wanted names = if wanted then Some names else None
 
@@ -18,7 +18,7 @@ abbrev pub name_or_number : List ℕ → ℕ → List ℕ
 name_or_number [] n = decimal n
 name_or_number (b ∷ bytes) n = b ∷ bytes
 
--- what a candidate is called; one who stands not in the list is without a name
+-- what a candidate is called; one who is not in the list has no name
 abbrev pub called : List (List ℕ) → ℕ → List ℕ
 called names zero = decimal 0
 called names (suc i) = name_or_number (unwrap_or (slice_get names i) []) (suc i)
@@ -33,7 +33,7 @@ joined separator (piece ∷ next ∷ pieces) = piece ++ separator ++ joined sepa
 abbrev pub names_text : List (List ℕ) → List ℕ → List ℕ
 names_text names numbers = joined (codes "; ") (map (called names) numbers)
 
--- what stands beside numbers where names are wanted: a tab and the names of these candidates
+-- what stands beside numbers if names are wanted: a tab and the names of these candidates
 abbrev pub beside : Names → List ℕ → List ℕ
 beside None candidates = []
 beside (Some names) candidates = 9 ∷ names_text names candidates

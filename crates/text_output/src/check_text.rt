@@ -31,7 +31,7 @@ pub struct Report<'a, A: Allocator + Copy> {
     pub violation: &'a Violation,
     /// The ballots that were checked.
     pub profile: &'a Profile<A>,
-    /// What stands beside the numbers of candidates.
+    /// The names beside the numbers of candidates.
     pub names: Names<'a, A>,
 }
 
@@ -90,7 +90,7 @@ impl<A: Allocator + Copy> Report<'_, A> {
         self.print_within(printer)
     }
 
-    /// Prints the line of the voters of the group, and of all voters.
+    /// Prints the line with the number of voters in the group, and of all voters.
     fn print_voters<W: Sink>(&self, printer: &mut Printer<'_, W>) -> Result<(), WriteFailed>
         ensures { Prints W.contents W.has_failed printer.old printer.new (is_ok result)
             (voters_text self.now.violation.now.voters (voter_count self.now.profile.now.rows)) }

@@ -13,7 +13,7 @@ use std::marker::Model;
 pub trait Device {
     ghost has_failed: { Self → Bool };
 
-    /// Whether a call on it has failed so far.
+    /// Whether a call on the device has failed so far.
     fn failed(&self) -> bool
         ensures { result ≡ has_failed self.now };
 }
@@ -26,8 +26,8 @@ pub trait Source: Device {
     // How many bytes reads have given so far.
     ghost given: { Self → ℕ };
 
-    /// Reads into the front of `buf`, and returns how many bytes it read. A count of 0 for a `buf` with room says that
-    /// nothing is left. An error of any kind is a failed call.
+    /// Reads into the front of `buf`, and returns the number of bytes that it read. A count of 0 for a `buf` with room
+    /// means that nothing is left. An error of any kind is a failed call.
     fn read(&mut self, buf: &mut [u8]) -> io::Result<usize>
         ensures bound { ReadsAtMost result buf.new }
         ensures bytes { ReadConsumes (remaining self.old) (remaining self.new) result buf.new }
@@ -40,8 +40,8 @@ pub trait Sink: Device {
     // The bytes that were taken, if they are known.
     ghost contents: { Self → Option (List ℕ) };
 
-    /// Takes bytes from the front of `buf`, and returns how many. An error of any kind is a failed call, and so is
-    /// a count of 0 for one or more bytes.
+    /// Takes bytes from the front of `buf`, and returns their number. An error of any kind is a failed call. So is a
+    /// count of 0 for one or more bytes.
     fn write(&mut self, buf: &[u8]) -> io::Result<usize>
         ensures bound { WritesAtMost result buf.now }
         ensures bytes { WriteAppends (contents self.old) (contents self.new) result buf.now }
@@ -72,7 +72,7 @@ impl<T> Model for Told<T> {
 }
 
 impl<T> Told<T> {
-    /// The device over this reader or writer, of which no call has failed yet.
+    /// A device over this reader or writer. No call on it has failed yet.
     pub fn new(inner: T) -> Told<T>
         ensures { result ≡ (inner, false, 0) }
     {

@@ -1,8 +1,8 @@
 //! Text on its way to a device.
 //!
-//! `device` has what is read and written. `printing` has the `Printer`, which keeps text in a buffer of fixed size
-//! until there is enough of it for a write. Through a printer, `numbers` and `names` print lists of candidates and of
-//! seats, and `check_text` prints the report of a check.
+//! `device` has the traits of what is read and written. `printing` has the `Printer`, which keeps text in a buffer of
+//! fixed size until there is enough of it for a write. Through a printer, `numbers` and `names` print lists of
+//! candidates and of seats, and `check_text` prints the report of a check.
 #![tactic(auto)]
 
 pub mod check_text;

@@ -22,8 +22,8 @@ enum NameSource<'a, A: Allocator + Copy> {
     Of(&'a Profile<A>),
 }
 
-/// The names that stand beside numbers. Contracts see the list of them from candidate 1 on, with `[]` for one without a
-/// name; or `None` if names are not wanted.
+/// The names that stand beside numbers. Contracts see the list of them from candidate 1 on, with `[]` for a candidate
+/// without a name. They see `None` if names are not wanted.
 #[derive(Drop)]
 pub struct Names<'a, A: Allocator + Copy> {
     source: NameSource<'a, A>,
@@ -51,7 +51,7 @@ impl<'a, A: Allocator + Copy> Names<'a, A> {
         Names { source }
     }
 
-    /// No candidate has a name, so that, if names are wanted, numbers stand in their place.
+    /// Names for candidates who have none: if names are wanted, numbers stand in their place.
     pub fn numbers(are_wanted: bool) -> Names<'a, A>
         ensures { result ≡ naming are_wanted [] }
     {
@@ -63,14 +63,13 @@ impl<'a, A: Allocator + Copy> Names<'a, A> {
         Names { source }
     }
 
-    /// Whether names are wanted.
     fn are_wanted(&self) -> bool
         ensures { result ≡ is_some self.now }
     {
         !matches!(self.source, NameSource::Unwanted)
     }
 
-    /// The name of a candidate, where there is such a candidate and it has one.
+    /// The name of a candidate, if there is such a candidate and it has a name.
     fn name(&self, n: usize) -> Option<&[u8]>
         ensures { IsName (names_in self.now) n result }
     {
@@ -82,7 +81,7 @@ impl<'a, A: Allocator + Copy> Names<'a, A> {
     }
 }
 
-/// Prints the name of a candidate, or the number where it has none.
+/// Prints the name of a candidate, or the number if the candidate has no name.
 fn print_name<W: Sink, A: Allocator + Copy>(
     printer: &mut Printer<'_, W>,
     names: &Names<'_, A>,
@@ -97,7 +96,7 @@ fn print_name<W: Sink, A: Allocator + Copy>(
     }
 }
 
-/// Prints a name in a row of names: all but the first come after `; `.
+/// Prints a name in a list of names: all but the first come after `; `.
 fn print_listed_name<W: Sink, A: Allocator + Copy>(
     printer: &mut Printer<'_, W>,
     names: &Names<'_, A>,
@@ -168,7 +167,7 @@ pub fn print_beside_seats<W: Sink, A: Allocator + Copy>(
     print_seated_names(printer, names, seats)
 }
 
-/// Prints the numbers of the members, and a tab and their names after them if names are wanted.
+/// Prints the numbers of the members and, if names are wanted, a tab and their names.
 pub fn print_candidates<W: Sink, A: Allocator + Copy>(
     printer: &mut Printer<'_, W>,
     names: &Names<'_, A>,

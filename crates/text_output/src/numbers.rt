@@ -9,7 +9,6 @@ use crate::printing::{Printer, WriteFailed};
 use ballot_base::CandSet;
 use itoa::{Buffer, Integer};
 
-/// Prints a number.
 pub(crate) fn print_number<W: Sink, N: Integer>(
     printer: &mut Printer<'_, W>,
     n: N,

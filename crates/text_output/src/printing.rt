@@ -1,21 +1,21 @@
-//! Text on its way to a writer, through a buffer of fixed size. What went out and what waits are together always the
-//! text so far: so a failed write leaves a beginning of the text, and no byte is written twice.
+//! Text on its way to a writer, through a buffer of fixed size. What was sent and what waits are together always the
+//! text so far. So a failed write leaves a beginning of the text, and no byte is written twice.
 ghost use Rattle.std.specs.Prelude.{◌≡◌, ◌+◌, ◌<◌, ◌≤◌, ◌++◌, [], flat_map, length, is_ok, true};
 ghost use Rattle.text_output.specs.Steps.Printing.{Prints, Sends};
 
 use crate::device::Sink;
 use arrayvec::ArrayVec;
 
-/// The most bytes that wait in a printer.
+/// The maximum number of bytes that wait in a printer.
 pub const MOST_PENDING: usize = 32768;
 
-/// A call of the writer failed: a write or a flush was an error, or a write took none of one or more bytes. What the
-/// writer took by then is a beginning of the text.
+/// A call of the writer failed: a write or a flush returned an error, or a write took none of one or more bytes. What
+/// the writer took by then is a beginning of the text.
 #[derive(Clone, Copy, Debug, PartialEq, Eq)]
 pub struct WriteFailed;
 
 /// A writer, and the bytes that wait until there are enough of them for a write. What still waits when a printer is
-/// dropped is lost, so that a text ends with `send` or `finish`.
+/// dropped is lost, so a text has to end with `send` or `finish`.
 #[derive(Drop)]
 pub struct Printer<'a, W> {
     /// The writer, which took what was sent.
@@ -25,7 +25,7 @@ pub struct Printer<'a, W> {
 }
 
 impl<'a, W: Sink> Printer<'a, W> {
-    /// A printer over the writer, with no byte yet.
+    /// A printer over the writer, with no bytes yet.
     pub fn new(out: &'a mut W) -> Printer<'a, W>
         ensures same_writer { result.out.ghost_name ≡ out.entry.ghost_name }
         ensures writer { result.out.now ≡ out.entry.now }
@@ -47,7 +47,7 @@ impl<'a, W: Sink> Printer<'a, W> {
         Ok(())
     }
 
-    /// Sends what waits where `count` bytes more do not fit after it.
+    /// Sends what waits if `count` more bytes do not fit after it.
     fn make_room(&mut self, count: usize) -> Result<(), WriteFailed>
         ensures printed { Prints W.contents W.has_failed self.old self.new (is_ok result) [] }
         ensures room { is_ok result ≡ true → count ≤ MOST_PENDING
@@ -110,7 +110,7 @@ fn write_whole<W: Sink>(out: &mut W, bytes: &[u8]) -> Result<(), WriteFailed>
     Ok(())
 }
 
-/// Writes the pieces, one after the other, and takes no memory for them. The writer is not flushed.
+/// Writes the pieces, one after the other. Allocates nothing, and does not flush the writer.
 pub fn write_pieces<W: Sink>(out: &mut W, pieces: &[&[u8]]) -> Result<(), WriteFailed>
     ensures { Sends W.contents W.has_failed out.old out.new (is_ok result) (flat_map (λ piece. piece.now) pieces.now) }
 {

@@ -9,8 +9,8 @@ pub record Outlet : Type 0 where
   pub waiting : List ℕ
   pub has_failed : Bool
 
--- The text was printed: what was sent and what is left are together what waited and the text after it. Where it is
--- ok, what is left waits and no call failed; else a call has failed.
+-- The text was printed: what was sent and what is left are together what waited and the text after it. If `ok`, what is
+-- left waits and no call failed; otherwise a call failed.
 pub record Passes (before after : Outlet) (ok : Bool) (text : List ℕ) : Type 0 where
   pub sent : List ℕ
   pub rest : List ℕ
@@ -20,7 +20,7 @@ pub record Passes (before after : Outlet) (ok : Bool) (text : List ℕ) : Type 0
   pub broken : ok ≡ false → after.has_failed ≡ true
 
 module _ {W : Type 0} (contents : W → Option (List ℕ)) (has_failed : W → Bool) where
-  -- a writer of which these bytes wait
+  -- a writer for which these bytes wait
   abbrev pub outlet : W → List ℕ → Outlet
   outlet out waiting = record { taken = contents out; waiting = waiting; has_failed = has_failed out }
 
