@@ -9,10 +9,10 @@ const ABOVE_WORDS: u128 = 1 << 64;
 /// Parameters for hashing ballots. A ballot is hashed as a 64-bit word: its hash is the upper half of
 /// `factor * word + term`, modulo 2^128.
 ///
-/// If both parameters are drawn at random, and two ballots are chosen without knowledge of them, the hashes of the
-/// ballots agree in given bits as rarely as random numbers do. This is not proved here: it is the theorem of
-/// Dietzfelbinger, Universal hashing and k-wise independent random variables via integer arithmetic without primes,
-/// 1996.
+/// Suppose that both parameters are drawn at random, and that two ballots are chosen without knowledge of them. Then
+/// the hashes of the ballots agree in given bits as rarely as random numbers do. This is not proved here: it is the
+/// theorem of Dietzfelbinger, Universal hashing and k-wise independent random variables via integer arithmetic without
+/// primes, 1996.
 #[derive(Clone, Copy)]
 pub struct BallotHashing {
     /// What the ballot is multiplied by.

@@ -67,7 +67,6 @@ impl<A: Allocator + Copy> Rows<A> {
         self.map.len()
     }
 
-    /// The row at place i, counted from 0.
     pub(crate) fn row(&self, i: usize) -> (CandSet, u64)
         requires { i < length self.now }
         ensures { slice_get self.now i ≡ Some result }

@@ -53,8 +53,8 @@ all_below bound committee ballots = list_all (λ ballot. nat_lt (hits ballot com
 -- - for justified representation, l is 1 and no member approves a member of the committee
 -- - for proportional justified representation, fewer than l members of the committee are approved by some member
 -- - for extended justified representation, each member approves fewer than l members of the committee
--- For EJR+ the group need not be l-cohesive. It breaks the property if it has at least l · n / k of the n voters, its
--- members share a candidate outside the committee, and each approves fewer than l members of the committee.
+-- For EJR+ the group need not be l-cohesive. It has at least l · n / k of the n voters, and its members share a
+-- candidate outside the committee. Each member approves fewer than l members of the committee.
 -- (Brill and Peters, Robust and Verifiable Proportionality Axioms for Multiwinner Voting)
 abbrev pub breaks : Property → Election → List ℕ → ℕ → List ℕ → Bool
 breaks Jr e committee level group =

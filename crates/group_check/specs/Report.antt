@@ -1,7 +1,7 @@
--- The report of a violation. Among the groups that break a property it names one by a list T of l candidates (for EJR+
--- one candidate outside the committee) and, for
--- PJR, a list U of l - 1 members of the committee: all the voters who approve all of T and are represented by too few
--- members, for PJR by none outside U. (This project's choice.)
+-- The report of a violation. It names one of the groups that break a property by a list T and, for PJR, a list U. T has
+-- l candidates or, for EJR+, one candidate outside the committee. U has l - 1 members of the committee. The group is
+-- all the voters who approve all of T and are represented by too few members, for PJR by none outside U. (This
+-- project's choice.)
 use Rattle.std.specs.Prelude.{◌≡◌, ℕ, ◌-◌, ◌<◌, ◌≤◌, ◌&&◌, Bool, List, [], ◌∷◌, length, map, filter, find, flat_map, sum, nat_lt, Option, Some, option_map, if◌then◌else◌}
 use Rattle.std.specs.List.{list_all}
 use Rattle.ballot_base.specs.Lists.{increasing_lists}
@@ -77,8 +77,8 @@ abbrev pub is_in_group : Violation → List ℕ → Bool
 is_in_group violation ballot =
     fits_pair violation.property violation.committee violation.level (violation.shared, violation.within) ballot
 
--- The report of a committee that lacks the property: its group breaks the property, at the lowest level at which some
--- group does, and it is the first violation at that level.
+-- The report of a committee that lacks the property. Its group breaks the property, at the lowest level at which some
+-- group does. It is the first violation at that level.
 pub record IsReport (property : Property) (e : Election) (committee : List ℕ) (report : Violation) : Type 0 where
   pub low : 1 ≤ report.level
   pub high : report.level ≤ length committee

@@ -85,7 +85,6 @@ impl<A: Allocator + Copy> Search<'_, A> {
         self.first_beyond(CandSet::empty(), pool, size)
     }
 
-    /// The number of candidates that a group has to share.
     fn shared_size(&self) -> u8
         ensures { result ≡ shared_size self.now.property self.now.level }
     {
@@ -181,8 +180,8 @@ impl<A: Allocator + Copy> Search<'_, A> {
         self.counted(shared, within)
     }
 
-    /// The first list U that consists of these members and of members of the pool, all of which come after them, and
-    /// that has enough voters who approve all of `shared`.
+    /// The first list U of these members and of members of the pool that has enough voters who approve all of `shared`.
+    /// All members of the pool come after these members.
     fn first_within(&self, shared: CandSet, within: CandSet, pool: CandSet) -> Option<CandSet>
         requires members { IsTrue (includes self.now.committee pool) }
         requires order { IsIncreasing 1 self.now.profile.now.m (within ++ pool) }
@@ -230,8 +229,8 @@ impl<A: Allocator + Copy> Search<'_, A> {
         self.is_enough(violation.voters).then_some(violation)
     }
 
-    /// Whether a group of this many voters is large enough for the level l: it makes up at least l/k of all voters, if
-    /// the committee has k members.
+    /// Whether a group of this many voters is large enough for the level l. If the committee has k members, the group
+    /// has to make up at least l/k of all voters.
     fn is_enough(&self, voters: u64) -> bool
         requires { voters ≤ most_voters }
         ensures { result ≡ is_large self.now.profile.now self.now.committee self.now.level voters }
@@ -289,7 +288,6 @@ fn has_few_lists(k: u8, size: u8) -> bool
     lists <= FEW_LISTS
 }
 
-/// The number of voters in the group of a violation.
 fn supporting_voters<A: Allocator + Copy>(profile: &Profile<A>, violation: &Violation) -> u64
     ensures group { result ≡ sum (group_of (is_in_group violation.now) profile.now.rows) }
     ensures most { result ≤ most_voters }

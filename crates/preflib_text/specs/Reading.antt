@@ -75,8 +75,8 @@ alternatives_in lines = option_and_then written_number (slice_get (filter_map al
 abbrev pub categories_in : List (List ℕ) → Option ℕ
 categories_in lines = option_and_then written_number (slice_get (filter_map categories_value (told_before lines)) 0)
 
--- whether a candidate may have this number: at least 1, and at most the number of alternatives, or the maximum number
--- of candidates if the number of alternatives is not known
+-- whether a candidate may have this number: one from 1 to the number of alternatives, or to the maximum number of
+-- candidates if the number of alternatives is not known
 abbrev pub may_be_candidate : Option ℕ → ℕ → Bool
 may_be_candidate alternatives n = nat_le 1 n && nat_le n (unwrap_or alternatives most_candidates)
 
@@ -142,7 +142,7 @@ number_in_ballot_fault m seen [] = None
 number_in_ballot_fault m seen (n ∷ numbers) = or_else (fault_if ((n == 0) || nat_lt m n) NoSuchCandidate)
     (or_else (fault_if (has_member seen n) RepeatedCandidate) (number_in_ballot_fault m (n ∷ seen) numbers))
 
--- whether rankings of this type have one number in each class, and whether all candidates stand in them
+-- whether rankings of this type have one number in each class, and whether they have all candidates
 abbrev pub is_strict : Kind → Bool
 is_strict Soc = true
 is_strict Soi = true

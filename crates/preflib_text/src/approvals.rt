@@ -72,7 +72,6 @@ pub(crate) struct Marks {
 }
 
 impl Marks {
-    /// The marks before the first class.
     pub(crate) fn new() -> Marks
         ensures { result ≡ no_marks }
     {

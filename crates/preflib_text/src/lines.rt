@@ -71,7 +71,6 @@ pub(crate) fn trim_start(bytes: &[u8]) -> &[u8]
     rest
 }
 
-/// The bytes without blanks at either end.
 pub(crate) fn trim(bytes: &[u8]) -> &[u8]
     ensures { result.now ≡ trimmed bytes.now }
 {

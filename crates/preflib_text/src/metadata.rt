@@ -79,7 +79,6 @@ fn first_word(text: &[u8]) -> Word<'_>
     }
 }
 
-/// Cuts a text at its first colon.
 fn cut_at_colon(text: &[u8]) -> Option<Entry<'_>>
     ensures { MatchOption result (list_any (λ b. b == 58) text.now ≡ false)
         (λ e. (list_any (λ b. b == 58) text.now ≡ true) × (e.key.now ≡ before_first (λ b. b == 58) text.now)

@@ -85,7 +85,6 @@ fn is_fitting(kind: Kind, categories: Option<u64>, way: Way) -> bool
 }
 
 impl Notes {
-    /// The notes before the first line.
     pub(crate) fn new(pick: &Pick) -> Notes
         ensures { result ≡ fresh_notes pick.now }
     {
@@ -145,7 +144,6 @@ impl Notes {
         }
     }
 
-    /// Reads a ballot line.
     fn take_ballot<'a>(&mut self, pick: &Pick, line: &[u8]) -> Result<Effect<'a>, FaultName>
         requires notes { IsSound self.old }
         requires way { HasNumber pick.now.way }

@@ -34,7 +34,6 @@ fn add_vote<A: Allocator + Copy + Drop>(
     Ok(())
 }
 
-/// Applies the effect of a line to the profile.
 fn apply<A: Allocator + Copy + Drop>(
     builder: &mut ProfileBuilder<A>,
     effect: &Effect<'_>,

@@ -1,4 +1,4 @@
--- The type that the name of a file tells.
+-- The type that the name of a file gives.
 use Rattle.std.specs.Prelude.{ℕ, ◌==◌, List, [], ◌∷◌, Option, Some, None, option_and_then, unwrap_or, if◌then◌else◌}
 use Rattle.std.specs.Option.{option_or}
 use Rattle.preflib_text.specs.declared.pick.Kind.{Kind}

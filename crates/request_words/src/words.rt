@@ -121,7 +121,6 @@ fn asked(alloc: Global, name: &str, command: &ArgMatches<'_>) -> Result<Request,
     }
 }
 
-/// The request in what clap found for `elect`.
 fn elect_asked(alloc: Global, elect: &ArgMatches<'_>) -> Result<Request, LineFault>
     requires { HasElectValues (rows_of (found_of elect.now)) }
     ensures { GivesAsked (elect_in (rows_of (found_of elect.now))) result }
@@ -144,7 +143,6 @@ fn rule_and_size(elect: &ArgMatches<'_>) -> (Rule, u8)
     (rule, size)
 }
 
-/// The request in what clap found for `check`.
 fn check_asked(alloc: Global, check: &ArgMatches<'_>) -> Result<Request, LineFault>
     requires { HasCheckValues (rows_of (found_of check.now)) }
     ensures { GivesAsked (check_in (rows_of (found_of check.now))) result }
@@ -156,7 +154,6 @@ fn check_asked(alloc: Global, check: &ArgMatches<'_>) -> Result<Request, LineFau
     request(alloc, check, Task::OfBallots(question))
 }
 
-/// The request in what clap found for `share`.
 fn share_asked(alloc: Global, share: &ArgMatches<'_>) -> Result<Request, LineFault>
     requires { HasShareValues (rows_of (found_of share.now)) }
     ensures { GivesAsked (share_in (rows_of (found_of share.now))) result }
@@ -199,7 +196,6 @@ fn method_and_seats(share: &ArgMatches<'_>) -> (Method, u16)
     (method, seats)
 }
 
-/// Which of the answers are wanted.
 fn page(alloc: Global, command: &ArgMatches<'_>) -> Result<Page, LineFault>
     requires { HasLimit (rows_of (found_of command.now)) }
     ensures given { Gives page_of (page_in (rows_of (found_of command.now))) result }
@@ -226,7 +222,6 @@ fn list_given(
     }
 }
 
-/// The numbers in the list of an option.
 fn numbers(alloc: Global, option: ListOption, text: &str) -> Result<Vec<u64>, LineFault>
     ensures given { Gives vec_items (listed option text.now) result }
     ensures some { IfOk result (λ v. vec_items v ≢ []) }
@@ -305,7 +300,6 @@ fn way_asked(command: &ArgMatches<'_>) -> Option<Way>
     one_way(category, set_size, classes)
 }
 
-/// The number of an option, if it is given.
 fn number(command: &ArgMatches<'_>, name: &str) -> Option<u32>
     requires { IsCount (one_of name.now (rows_of (found_of command.now))) }
     ensures value { result ≡ number_at name.now (rows_of (found_of command.now)) }
@@ -332,7 +326,6 @@ fn one_way(category: Option<u32>, set_size: Option<u32>, classes: Option<u32>) -
     }
 }
 
-/// A copy of the text, if there is one.
 fn owned(alloc: Global, text: Option<&str>) -> Result<Option<String>, AllocError>
     ensures { IfOk result (λ r. option_map string_bytes r ≡ option_map (λ s. s.now) text.entry) }
 {

@@ -49,8 +49,9 @@ is_right method total seats parties = all_pairs (keeps_its_seat method) parties
 abbrev pub has_votes_for_seats : Party → Bool
 has_votes_for_seats party = not (party.0 == 0) || party.1 == 0
 
--- A fair allocation of the seats to parties with these votes: it shares out all of them, gives none to a party without
--- votes, and is right by the method (Balinski and Young, Fair Representation; Pukelsheim, Proportional Representation).
+-- A fair allocation of the seats to parties with these votes (Balinski and Young, Fair Representation; Pukelsheim,
+-- Proportional Representation). It shares out all of them, gives none to a party without votes, and is right by the
+-- method.
 abbrev pub is_fair : Method → List ℕ → ℕ → List ℕ → Bool
 is_fair method votes seats allocation =
     length allocation == length votes && sum allocation == seats

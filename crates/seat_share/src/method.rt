@@ -16,7 +16,7 @@ pub enum Method {
     SainteLague,
     /// Huntington and Hill: divisors that are the geometric means of s and s + 1.
     Huntington,
-    /// Divisors 0, 1, 2, ..: each party with votes comes first once.
+    /// Divisors 0, 1, 2, ..: first seats come before all others.
     Adams,
     /// Divisors that are the harmonic means of s and s + 1.
     Dean,

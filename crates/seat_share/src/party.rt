@@ -29,7 +29,6 @@ impl Party {
         }
     }
 
-    /// The seats in the allocation that comes next.
     pub(crate) fn next_seats(self) -> u16
         requires { self.seats ≤ most_seats }
         ensures { result ≡ self.seats + cond self.has_more 1 0 }

@@ -134,7 +134,6 @@ pub fn share_fault(votes: &[u64], seats: u16, after: Option<&[u16]>) -> Option<S
     None
 }
 
-/// The sum of the votes.
 fn total(votes: &[u64]) -> u128
     requires { length votes.now ≤ most_parties }
     ensures { result ≡ sum votes.now }
@@ -146,7 +145,6 @@ fn total(votes: &[u64]) -> u128
     total
 }
 
-/// The parties without seats.
 fn parties_with(votes: &[u64]) -> ArrayVec<Party, MOST_PARTIES>
     requires { length votes.now ≤ most_parties }
     ensures votes { votes_of result.items ≡ votes.now }

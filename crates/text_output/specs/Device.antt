@@ -12,8 +12,8 @@ abbrev pub bytes_given : {E : Type 0} → Result ℕ E → ℕ
 bytes_given (Ok n) = n
 bytes_given (Err e) = 0
 
--- what is known of a reader: the bytes that it has still to give, if they are known, whether a call has failed, and how
--- many bytes its reads have given so far
+-- what is known of a reader: whether a call has failed, how many bytes its reads have given so far, and, if they are
+-- known, the bytes that it has still to give
 pub record ReaderState : Type 0 where
   pub remaining : Option (List ℕ)
   pub has_failed : Bool

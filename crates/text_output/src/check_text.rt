@@ -51,7 +51,6 @@ impl<A: Allocator + Copy> Report<'_, A> {
         printer.print(b"\n")
     }
 
-    /// Prints the lines of the property and the level.
     fn print_level<W: Sink>(&self, printer: &mut Printer<'_, W>) -> Result<(), WriteFailed>
         ensures { Prints W.contents W.has_failed printer.old printer.new (is_ok result)
             (level_text self.now.violation.now.property self.now.violation.now.level) }
@@ -122,7 +121,6 @@ impl<A: Allocator + Copy> Report<'_, A> {
         self.print_set(printer, b": ", ballot)
     }
 
-    /// Prints the ballots of the group.
     fn print_group<W: Sink>(&self, printer: &mut Printer<'_, W>) -> Result<(), WriteFailed>
         ensures { Prints W.contents W.has_failed printer.old printer.new (is_ok result)
             (group_text self.now.names self.now.violation.now self.now.profile.now.rows) }

@@ -113,7 +113,6 @@ fn print_listed_name<W: Sink, A: Allocator + Copy>(
     print_name(printer, names, n)
 }
 
-/// Prints the names of the members.
 fn print_member_names<W: Sink, A: Allocator + Copy>(
     printer: &mut Printer<'_, W>,
     names: &Names<'_, A>,
@@ -130,7 +129,6 @@ fn print_member_names<W: Sink, A: Allocator + Copy>(
     Ok(())
 }
 
-/// Prints the names of the parties with a seat.
 fn print_seated_names<W: Sink, A: Allocator + Copy>(
     printer: &mut Printer<'_, W>,
     names: &Names<'_, A>,

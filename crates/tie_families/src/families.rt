@@ -87,7 +87,6 @@ impl<'a, A: Allocator + Copy> Families<'a, A> {
         Some(&self.leasts)
     }
 
-    /// The number of candidates, and the size of a committee.
     pub(crate) fn sizes(&self) -> (u8, u8)
         ensures m { result.0 ≡ self.now.election.m }
         ensures k { result.1 ≡ self.now.k }
@@ -116,8 +115,8 @@ impl<'a, A: Allocator + Copy> Families<'a, A> {
     }
 
     /// Whether a family has a committee that consists of `set` and of candidates after `c`. Two conditions must hold.
-    /// The candidates that `set` needs to have as many of each class as the least set fit in, and the candidates for
-    /// whom the most set has room fill the committee.
+    /// The candidates that `set` needs to have as many of each class as the least set have to fit in. The candidates
+    /// for which the most set has room have to fill the committee.
     fn may_be_in(&self, family: (CandSet, CandSet), c: u8, set: CandSet) -> bool
         requires least_set { IsIncreasing 1 self.now.election.m family.0 }
         requires most_set { IsIncreasing 1 self.now.election.m family.1 }

@@ -53,7 +53,6 @@ fn is_settled(step: Step, best: u128) -> bool
     matches!(step, Step::Grow) && best == 0
 }
 
-/// Whether no voter approves two of the candidates.
 fn shares_no_voter<A: Allocator + Copy>(profile: &Profile<A>, candidates: CandSet) -> bool
     ensures { result ≡ shares_no_voter profile.now.rows candidates }
 {
@@ -208,7 +207,6 @@ impl<A: Allocator + Copy> Levels<'_, A> {
 }
 
 impl<A: Allocator + Copy + Drop> Levels<'_, A> {
-    /// The level after level `size`.
     fn next_level(
         &self,
         alloc: A,

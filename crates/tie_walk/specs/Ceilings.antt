@@ -56,8 +56,8 @@ IsExactAtBest value bound m k best = (c : ℕ) (set : List ℕ) (left : ℕ) →
     → length set + left ≡ k → left ≤ m - c → best ≤ bound c set left
     → (added : List ℕ) × IsAdded m c left added × (best ≤ value (set ++ added))
 
--- the bound of the set is below the best value at c, so that no committee of the set and `left` of the candidates after
--- c has that value
+-- The bound of the set is below the best value at c. So no committee of the set and `left` of the candidates after c
+-- has that value.
 abbrev pub IsShort : (List ℕ → ℕ) → (ℕ → List ℕ → ℕ → ℕ) → ℕ → List ℕ → ℕ → ℕ → ℕ → Type 0
 IsShort value bound m set left best c = (bound c set left < best) × IsBound value m c set left (bound c set left)
 
@@ -72,7 +72,7 @@ pub record Prefix : Type 0 where
   pub set : List ℕ
 
 module _ (bound : ℕ → List ℕ → ℕ → ℕ) (m k best : ℕ) where
-  -- whether the set is not too large, the candidates after c can fill it up, and the bound reaches the greatest value
+  -- whether the set is not too large, the candidates after c can fill it up, and the bound reaches the best value
   abbrev pub is_open : ℕ → List ℕ → Bool
   is_open c set =
       nat_le (length set) k && nat_le k (length set + (m - c)) && nat_le best (bound c set (k - length set))

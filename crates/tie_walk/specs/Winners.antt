@@ -24,9 +24,9 @@ abbrev pub IsStart : ℕ → ℕ → Option (List ℕ) → Type 0
 IsStart m k None = ⊤
 IsStart m k (Some set) = IsIncreasing 1 m set × (length set ≡ k)
 
--- what contracts see of a walk over the winners: the tally, the number of candidates, the size of a committee, the
--- start, the highest value of a committee, the winners still to come, and how many prefixes were entered and bounds
--- asked for so far
+-- What contracts see of a walk over the winners: the tally, the number of candidates, the size of a committee, the
+-- start, and the highest value of a committee. Then the winners still to come, and how many prefixes were entered and
+-- bounds asked for so far.
 pub record Winning (T : Type 0) : Type 0 where
   pub tally : T
   pub m : ℕ

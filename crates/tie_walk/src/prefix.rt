@@ -14,7 +14,6 @@ pub(crate) struct Prefix {
 }
 
 impl Prefix {
-    /// The prefix without decisions.
     pub(crate) fn root() -> Prefix
         ensures c { result.c ≡ 0 }
         ensures set { result.set ≡ [] }

@@ -14,9 +14,9 @@ use ballot_base::{CandSet, PLACES, Worths};
 
 /// What gives a committee its value.
 ///
-/// `bound` is a function of the tally and its arguments, whatever was asked before. A type whose bounds also depend on
-/// what contracts do not see, such as the contents of a `Cell`, cannot meet the clause `value` of `bound`, however well
-/// it keeps the law.
+/// `bound` is a function of the tally and its arguments, whatever was asked before. Some types have bounds that also
+/// depend on what contracts do not see, such as the contents of a `Cell`. Such a type cannot meet the clause `value` of
+/// `bound`, however well it keeps the law.
 pub trait Tally {
     ghost candidates: { Self → ℕ };
 
@@ -35,8 +35,8 @@ pub trait Tally {
         requires { IsIncreasing 1 (candidates self.now) set }
         ensures { result ≡ value_of self.now set };
 
-    /// An upper bound on the value of any committee that consists of `set` (candidates up to `c`) and `left` candidates
-    /// after `c`.
+    /// An upper bound on the value of any committee of `set` and `left` candidates after `c`. No member of `set` is
+    /// above `c`.
     fn bound(&self, c: u8, set: CandSet, left: u8) -> u128
         requires within { c ≤ candidates self.now }
         requires candidates { IsIncreasing 1 c set }

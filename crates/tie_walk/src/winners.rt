@@ -93,10 +93,10 @@ impl<'a, T: Tally> Winners<'a, T> {
         self.walk.counts.entered
     }
 
-    /// The number of bounds that the walk to the winners has asked for so far: one for each prefix at which it had to
-    /// know whether the bound reaches the highest value. These are its calls of `Tally::bound`, unless the tally has a
-    /// `reach` of its own. What such a `reach` returns for many prefixes at once counts for each of them. The walk that
-    /// found the highest value does not count. No prefix is entered without a bound.
+    /// The number of bounds that the walk to the winners has asked for so far. It asks for one at each prefix at which
+    /// it has to know whether the bound reaches the highest value. These are its calls of `Tally::bound`, unless the
+    /// tally has a `reach` of its own. What such a `reach` returns for many prefixes at once counts for each of them.
+    /// The walk that found the highest value does not count. No prefix is entered without a bound.
     pub fn ceilings(&self) -> u128
         ensures count { result ≡ self.now.ceilings }
         ensures entered { self.now.entered ≤ result }

@@ -131,7 +131,7 @@ pub record IsRaised (m : ℕ) (from : Option Prefix) (before : Counts) (rest : P
   pub asked : rest.counts.entered + before.ceilings ≤ before.entered + rest.counts.ceilings
   pub work : rest.counts.ceilings + work_left m rest.place ≤ before.ceilings + work_left m from
 
--- What a walk has counted: the prefixes entered and those still to be entered are all live ones, and at most m others,
+-- What a walk has counted. The prefixes entered and those still to be entered are all live ones, and at most m others,
 -- which lie on the way to a start.
 pub record IsCounted (bound : ℕ → List ℕ → ℕ → ℕ) (m k best : ℕ) (after : Option (List ℕ)) (progress : Progress)
     : Type 0 where
