@@ -8,7 +8,7 @@ ghost use Rattle.seat_share.specs.Steps.Claims.{IsWithinLimits, claim};
 use crate::method::Method;
 
 /// Hamilton's method keeps the quota (Balinski and Young, Fair Representation). A party's quota is its votes times the
-/// seats, divided by all votes. Its seats differ from this by less than one.
+/// seats, divided by all votes. The party's seats differ from the quota by less than one.
 pub fn hamilton_keeps_the_quota()
     ensures { (votes allocation : List ℕ) (seats : ℕ) → 0 < sum votes → IsFair Method.Hamilton votes seats allocation →
         AllByRecursion (λ party. (party.0 * seats < (party.1 + 1) * sum votes)
