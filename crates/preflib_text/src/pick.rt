@@ -43,9 +43,10 @@ impl Kind {
 }
 
 /// Which candidates of a ballot count as approved. The numbers are at least 1.
-#[derive(Clone, Copy, Debug, PartialEq, Eq)]
+#[derive(Clone, Copy, Debug, Default, PartialEq, Eq)]
 pub enum Way {
     /// In a `cat` file, the first category; in a ranking, the first class that has a candidate.
+    #[default]
     Usual,
     /// In a `cat` file, this category, counted from 1.
     Category(u32),
@@ -55,8 +56,8 @@ pub enum Way {
     Classes(u32),
 }
 
-/// How a file is read.
-#[derive(Clone, Copy, Debug, PartialEq, Eq)]
+/// How a file is read. By default its type comes from the metadata, and the usual way applies.
+#[derive(Clone, Copy, Debug, Default, PartialEq, Eq)]
 pub struct Pick {
     /// The type of the file, if it is given. It overrides the metadata.
     pub kind: Option<Kind>,
