@@ -7,7 +7,7 @@ use crate::device::Sink;
 use arrayvec::ArrayVec;
 
 /// The maximum number of bytes that wait in a printer.
-pub const MOST_PENDING: usize = 32768;
+pub const MOST_PENDING: usize = 8192;
 
 /// A call of the writer failed: a write or a flush returned an error, or a write took none of one or more bytes. What
 /// the writer took by then is a beginning of the text.

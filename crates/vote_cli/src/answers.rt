@@ -91,7 +91,7 @@ pub(crate) struct Ballots<'a, A: Allocator + Copy> {
 
 impl<A: Allocator + Copy + Drop> Ballots<'_, A> {
     /// Writes that the committee of a list has a property, or the report that shows that it does not.
-    // Not inlined: its printer takes 32 KB of stack, which would lie beside a search for winners.
+    // Not inlined: its printer takes 8 KB of stack, which would lie beside a search for winners.
     #[inline(never)]
     fn answer_check<W: Sink>(
         &self,

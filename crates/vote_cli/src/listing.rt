@@ -99,7 +99,7 @@ impl<'a, T: Tally> Answers for Winners<'a, T> {
     }
 }
 
-impl<S: Searchable + Drop> Answers for SearchWinners<S> {
+impl<'a, S: Searchable> Answers for SearchWinners<'a, S> {
     type Answer = CandSet;
 
     ghost left = { λ winners. winners.left };
