@@ -8,18 +8,18 @@ use refusing_heap::Refusing;
 use std::alloc::{Allocator, Global};
 use std::process::Abort;
 
-/// A step of a builder for as many candidates as there may be.
+/// A step of a builder for the maximum number of candidates.
 #[derive(Clone, Copy)]
 enum Step {
     /// A candidate's name.
     Name(u8, &'static [u8]),
-    /// A ballot of at least one voter. A list that is no set is the empty ballot.
+    /// A ballot of at least one voter. A list that is not a set is the empty ballot.
     Ballot(&'static [u8], u64),
-    /// A ballot of more voters than there may be with those before.
+    /// A ballot whose voters, with those before, exceed the maximum.
     TooMany(&'static [u8], u64),
 }
 
-/// Steps with ballots of one set, of no candidates, and of as many voters as there may be.
+/// Steps with ballots of one set, of no candidates, and of the maximum number of voters.
 static BALLOTS: [Step; 6] = [
     Step::Ballot(&[1, 2], 2),
     Step::Ballot(&[3], 1),
@@ -52,7 +52,7 @@ fn add<A: Allocator + Copy + Drop>(
     builder.add(ballot, voters.max(1))
 }
 
-/// Takes a step, and says whether it is done, or not done for too many voters where these are.
+/// Takes a step. Returns whether it is done, or, for a step with too many voters, refused for them.
 fn take<A: Allocator + Copy + Drop>(builder: &mut ProfileBuilder<A>, step: Step) -> bool
     requires { builder.old.m ≡ most_candidates }
     ensures { builder.new.m ≡ most_candidates }
@@ -64,7 +64,7 @@ fn take<A: Allocator + Copy + Drop>(builder: &mut ProfileBuilder<A>, step: Step)
     }
 }
 
-/// A builder that gave no profile, for want of voters.
+/// A builder that gave no profile, because there are no voters.
 fn begun<'a>(rt: &impl Abort, heap: &'a Refusing) -> ProfileBuilder<&'a Refusing>
     ensures { result.m ≡ most_candidates }
 {
@@ -74,7 +74,7 @@ fn begun<'a>(rt: &impl Abort, heap: &'a Refusing) -> ProfileBuilder<&'a Refusing
     builder
 }
 
-/// Takes the step of this number, once more where a growth was refused.
+/// Takes the step with this number, a second time if a growth was refused.
 fn assert_done(
     rt: &impl Abort,
     heap: &Refusing,
@@ -112,7 +112,7 @@ fn agrees_with_ballots(profile: &Profile<&Refusing>) -> bool {
     rows == profile.rows() && voters == profile.voters()
 }
 
-/// Asserts which profile comes of these steps where the growth of this number is refused, and says whether it was.
+/// Asserts the profile of these steps if the growth with this number is refused. Returns whether it was.
 fn assert_built(rt: &impl Abort, alloc: Global, refused: u64, steps: &[Step], wanted: &str) -> bool
     requires { 1 ≤ refused }
 {

@@ -8,7 +8,7 @@ use refusing_heap::Refusing;
 use std::alloc::Global;
 use std::process::Abort;
 
-/// A file of each type, with names, and the lines that take memory: the first, where the builder is made, those of
+/// A file of each type, with names, and the lines that take memory: the first, at which the builder is made, those of
 /// names, and those of new ballots.
 static GROWING: [(&str, &[u64]); 6] = [
     (
@@ -45,7 +45,7 @@ static GROWING: [(&str, &[u64]); 6] = [
     ),
 ];
 
-/// The fault of a reading where the growth of this number is refused, if it has one, and whether the growth was.
+/// The fault of a reading, if it has one, and whether the growth with this number was refused in it.
 fn fault_at(alloc: Global, pick: Pick, file: &[u8], refused: u64) -> (Option<ReadFault>, bool)
     requires way { HasNumber pick.way }
     requires growth { 1 ≤ refused }
@@ -63,8 +63,8 @@ fn line_of(fault: Option<ReadFault>, last: u64) -> (u64, bool) {
     }
 }
 
-/// How many growths of a reading are refused, where each is refused at one of these lines, the later ones at no earlier
-/// line, and the file is read where none is; or the number of another growth, and its fault.
+/// The number of growths of a reading. Each is refused at one of these lines, later growths at no earlier line, and the
+/// file is read if none is. For a growth of which this is false, its number and its fault.
 fn count_growths(
     alloc: Global,
     pick: Pick,

@@ -60,12 +60,12 @@ fn three_pieces(rt: HostRuntime) {
     }
 }
 
-/// Adds what is told of a piece.
+/// Adds what is reported of a piece.
 fn push_told(rt: &impl Abort, text: &mut String, told: &impl fmt::Display) {
     write!(text, "{told}; ").expect(rt, "memory");
 }
 
-/// Feeds a piece, and tells how many bytes are held of an unfinished line then, or the fault.
+/// Feeds a piece. Adds how many bytes of an unfinished line are held then, or the fault.
 fn feed(rt: &impl Abort, text: &mut String, reader: &mut LineReader<&Refusing>, piece: &[u8])
     requires { length reader.old.fed + length piece.now < word_limit }
     ensures { reader.new.fed ≡ reader.old.fed ++ piece.now }
@@ -106,8 +106,8 @@ fn told_of(
     text
 }
 
-/// A front, so many bytes `#`, and a back; how many bytes of it come after the first and after the second cut; the
-/// number of the growth that is refused; and what comes of it.
+/// A front, a number of bytes `#`, and a back; how many bytes of the file come after the first and after the second
+/// cut; the number of the growth that is refused; and the outcome.
 type Cut<'a> = (&'a str, usize, &'a str, usize, usize, u64, &'a str);
 
 static CUTS: [Cut<'static>; 7] = [
@@ -168,7 +168,7 @@ static CUTS: [Cut<'static>; 7] = [
         MANY,
         "line 3: LongLine; line 3: LongLine; line 3: LongLine; line 3: LongLine",
     ),
-    // A reader whose memory ran out answers so from each later call. It begins with two growths, for the names and for
+    // A reader whose memory ran out reports that at each later call. It begins with two growths, for the names and for
     // a line; the third is that of the first ballot.
     (
         "# NUMBER ALTERNATIVES: 3\n1: 1\n1: x\n",
@@ -181,7 +181,7 @@ static CUTS: [Cut<'static>; 7] = [
     ),
 ];
 
-/// A file of a front, so many bytes `#`, and a back.
+/// A file of a front, a number of bytes `#`, and a back.
 fn marked_file(rt: &impl Abort, alloc: Global, front: &str, marks: usize, back: &str) -> String {
     let marks = "#".repeat(alloc, marks).expect(rt, front);
     format!(in alloc; "{front}{marks}{back}").expect(rt, front)
@@ -208,7 +208,7 @@ fn what_is_held_after_each_piece(rt: HostRuntime) {
     }
 }
 
-/// Files whose bytes are no text, two bytes of a mark and names, and what they hold.
+/// Files with bytes that are not text, in a mark and in names, and what they hold.
 static NO_TEXTS: [(&[u8], &str); 2] = [
     (
         b"\xEF\xBB# NUMBER ALTERNATIVES: 3\n1: 1\n",
@@ -272,8 +272,8 @@ fn assert_without_memory(rt: &impl Abort, alloc: Global, pick: Pick, file: &[u8]
     assert!(rt; told.as_str() == "1; 1; 2; NoAlternatives", "{told}");
 }
 
-/// Lines that tell nothing take no memory, however many they are: of a reader's growths, all but those of `new` are
-/// still to come.
+/// Lines without content take no memory, however many they are: of a reader's growths, all but those of `new` are still
+/// to come.
 #[test]
 fn many_lines_without_memory(rt: HostRuntime) {
     let pick = reading_as(&rt, rt.alloc(), "");

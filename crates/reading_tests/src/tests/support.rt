@@ -63,7 +63,7 @@ impl fmt::Display for Members {
     }
 }
 
-/// A name, or the list of its bytes where they are no text.
+/// A name, or the list of its bytes if they are not text.
 #[derive(Clone, Copy)]
 struct NameText<'a>(&'a [u8]);
 
@@ -126,7 +126,7 @@ pub(super) fn outcome<A: Allocator + Copy + Drop>(
     }
 }
 
-/// Asserts what comes of reading a file, or of other steps. The number tells it from what else comes of the file.
+/// Asserts the outcome of reading a file, or of other steps. The number distinguishes the outcomes of one file.
 pub(super) fn assert_outcome<A: Allocator + Copy + Drop>(
     rt: &impl Abort,
     alloc: Global,
@@ -139,7 +139,7 @@ pub(super) fn assert_outcome<A: Allocator + Copy + Drop>(
     assert!(rt; text.as_str() == wanted, "{number}, {file:?}: {text}");
 }
 
-/// What a file holds that is fed in pieces of so many bytes: the first, the second, and each later one.
+/// What a file holds that is fed in pieces of these sizes: the first, the second, and each later one.
 pub(super) fn in_pieces(
     alloc: Global,
     pick: Pick,
@@ -165,8 +165,8 @@ pub(super) fn in_pieces(
     reader.finish()
 }
 
-/// Asserts what a file holds as a whole, in single bytes, and cut in two at each place. The readings are told apart by
-/// that place, by 0 for the whole, and by the length of the file for single bytes.
+/// Asserts what a file holds as a whole, in single bytes, and cut in two at each place. The number of a reading is that
+/// place, 0 for the whole, and the length of the file for single bytes.
 pub(super) fn assert_holds(rt: &impl Abort, alloc: Global, pick: Pick, file: &[u8], wanted: &str)
     requires { HasNumber pick.way }
 {

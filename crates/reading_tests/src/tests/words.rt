@@ -4,7 +4,7 @@ use request_words::{LineFault, read_request};
 use std::alloc::Global;
 use std::process::Abort;
 
-/// Words after the program's name, and parts of what is told of them: the request or the fault, and the line on it.
+/// Words after the program's name, and parts of the report on them: the request or the fault, and the line on it.
 /// `·` in a word is a blank, and `''` is a word of no bytes.
 static LINES: &str = "\
 // Elections.
@@ -299,7 +299,7 @@ check --property jr --committee=99999999999999999999999999 | 'committees: words:
 share --method dean --seats=7 --votes=99999999999999999999999999 | 'committees: words: BadList --votes'
 elect --rule av --size=2 --after=99999999999999999999999999 | 'committees: words: BadList --after'";
 
-/// What is told of these words: the request or the fault, and the line on it where it has one.
+/// The report on these words: the request or the fault, and the line on it if there is one.
 fn told_of(rt: &impl Abort, alloc: Global, words: &str) -> String {
     let read = read_line(rt, alloc, words);
     let line = match &read {
@@ -309,7 +309,7 @@ fn told_of(rt: &impl Abort, alloc: Global, words: &str) -> String {
     format!(in alloc; "{read:?} '{}'", line.unwrap_or("")).expect(rt, words)
 }
 
-/// Asserts that each part of a row stands in what is told of its words.
+/// Asserts that each part of a row stands in the report on its words.
 fn assert_row(rt: &impl Abort, alloc: Global, row: &str) {
     let (words, parts) = row.split_once(" | ").expect(rt, row);
     let told = told_of(rt, alloc, words);
