@@ -16,7 +16,7 @@ use std::process::Abort;
 use tie_search::{SearchWinners, Searchable};
 use tie_walk::Tally;
 
-/// The next winner. The call has to search exactly as often as `questions` says, and at most `most` times.
+/// The next winner. The call has to search exactly as often as `questions` counts, and at most `most` times.
 fn next_counted<S: Searchable>(
     rt: &impl Abort,
     winners: &mut SearchWinners<'_, CountedSearch<'_, S>>,

@@ -18,7 +18,7 @@ use tie_search::{SearchWinners, Searchable};
 /// More winners than any of these elections has.
 const MOST_COUNTED: usize = 100_000;
 
-/// Parties of candidates whom the same voters approve, and the seats to fill.
+/// Parties of candidates with the same supporters, and the seats to fill.
 #[derive(Clone, Copy)]
 struct Lists<'a> {
     /// The candidates of each party.
@@ -180,7 +180,7 @@ fn parties_as_by_dhondt(rt: HostRuntime) {
     }
 }
 
-/// A ballot over classes of clones, where the word has a bit for each class.
+/// A ballot over classes of clones. The word has a bit for each class.
 fn spread(sizes: &[u8], word: u64) -> u64 {
     let mut ballot = 0;
     let mut place: u32 = 0;

@@ -43,7 +43,7 @@ fn the_same_winners(rt: HostRuntime) {
     }
 }
 
-// All committees of a size tie where nobody is approved.
+// All committees of a size tie if nobody is approved.
 #[test]
 fn one_ballot_of_few_candidates(rt: HostRuntime) {
     for m in 1..8 {

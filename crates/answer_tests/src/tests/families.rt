@@ -55,7 +55,7 @@ fn assert_all(rt: &impl Abort, alloc: Global, profile: &Profile) {
     }
 }
 
-/// The word with the bit of a kind at each candidate of that kind, where the kinds come in turn: candidates of one kind
+/// The word with the bit of a kind at each candidate of that kind. The kinds come in turn, and candidates of one kind
 /// are clones.
 fn spread(kinds: u8, word: u64) -> u64
     requires some { 1 ≤ kinds }
@@ -68,7 +68,7 @@ fn spread(kinds: u8, word: u64) -> u64
     approved
 }
 
-/// Three ballots that the seed decides, over candidates of so many kinds.
+/// Three ballots that the seed decides, over candidates of this many kinds.
 fn ballots_of_kinds(kinds: u8, seed: u64) -> [(u64, u64); 3]
     requires some { 1 ≤ kinds }
     requires few { kinds ≤ 64 }
@@ -190,7 +190,7 @@ fn a_voter_each(rt: &impl Abort, alloc: Global, m: u8) -> Profile
     election_of(rt, alloc, m, &ballots)
 }
 
-/// Asserts that the first winners of each rule are so many of the first committees.
+/// Asserts that the first winners of each rule are the first committees.
 fn assert_first(rt: &impl Abort, alloc: Global, profile: &Profile, k: u8, count: usize)
     requires some { 1 ≤ k }
     requires fits { k ≤ profile.now.m }
@@ -211,7 +211,7 @@ fn assert_first_of_each(rt: &impl Abort, alloc: Global) {
     assert_first(rt, alloc, &each, 20, 1000);
 }
 
-/// All committees win where one voter approves the first of 64 candidates, and where each of 40 has a voter.
+/// All committees win if one voter approves the first of 64 candidates, and if each of 40 has a voter.
 #[test]
 fn first_of_many_winners(rt: HostRuntime) {
     let alloc = rt.alloc();

@@ -4,7 +4,7 @@ use group_check::{Property, Violation, find_violation};
 use std::alloc::Global;
 use std::process::Abort;
 
-/// The committees and ballots of the small elections have these candidates alone.
+/// The committees and ballots of the small elections have only these candidates.
 const FEW: u8 = 5;
 
 /// The candidates whose bit is set, of the first `FEW`.
@@ -18,7 +18,7 @@ fn chosen(bits: u64) -> CandSet {
     set
 }
 
-/// Small elections of so many ballots, with 1 to `most` voters each.
+/// Small elections of a number of ballots, with 1 to `most` voters each.
 #[derive(Clone, Copy)]
 struct Kind {
     seeds: u64,
@@ -62,7 +62,7 @@ fn with_clones(set: CandSet, firsts: &[u8; 5]) -> CandSet {
     all
 }
 
-/// An election of these ballots and their voters, of whom each ballot has one at least.
+/// An election of these ballots and their voters, at least one for each ballot.
 fn election_of(rt: &impl Abort, alloc: Global, ballots: &[(CandSet, u64)]) -> Profile {
     let mut builder = ProfileBuilder::new(alloc, MOST_CANDIDATES).expect(rt, "memory");
     for (ballot, voters) in ballots {
@@ -89,15 +89,15 @@ fn small_election(rt: &impl Abort, alloc: Global, seed: u64, kind: &Kind) -> Pro
     election_of(rt, alloc, &ballots)
 }
 
-/// A group of voters, which may have any part of those of a row.
+/// A group of voters, which may have any number of the voters of a row.
 #[derive(Clone, Copy, Drop)]
 struct Group {
     voters: u64,
-    /// The candidates, of the first `FEW`, whom all its members approve.
+    /// The candidates, of the first `FEW`, that all its members approve.
     common: CandSet,
-    /// The members of the committee whom none of them approves.
+    /// The members of the committee that none of them approves.
     missed: CandSet,
-    /// The most members of the committee that one of them approves.
+    /// The maximum number of members of the committee that one of them approves.
     most_hits: u8,
 }
 
@@ -132,11 +132,11 @@ impl Group {
 enum Members<'a> {
     /// All voters of the ballots that a report names.
     Reported(&'a Violation),
-    /// As many voters of each row as a digit of this number says, in the base of one more than the row has.
+    /// The number of voters of each row is a digit of this number, in the base of one more than the row has.
     Numbered(u64),
 }
 
-/// How many of the voters of a ballot are members; a number tells it by its digit at this place value.
+/// How many of the voters of a ballot are members; in a number it is the digit at this place value.
 fn voters_of(members: Members<'_>, ballot: CandSet, count: u64, divisor: u64) -> u64 {
     match members {
         Members::Reported(report) => if report.contains(ballot) { count } else { 0 },
@@ -166,8 +166,8 @@ fn group_of(profile: &Profile, committee: CandSet, members: Members<'_>) -> Grou
 /// How many voters there are in the elections whose groups are all tried.
 const FEW_VOTERS: u64 = 5;
 
-/// The least level at which some group breaks the property, found by trying every group: there are 2 to the power of
-/// the voters at most.
+/// The lowest level at which some group breaks the property, found by trying every group: there are at most 2 to the
+/// power of the voters.
 fn least_level(profile: &Profile, committee: CandSet, property: Property) -> Option<u8> {
     for level in 1..=committee.len() {
         for number in 0..1 << FEW_VOTERS {
@@ -244,8 +244,8 @@ fn shows_itself(profile: &Profile, violation: &Violation) -> bool {
         )
 }
 
-/// Whether this is the first violation of all, and its own ballots show it. Where there are few voters, its level is
-/// the least at which some group breaks the property.
+/// Whether this is the first violation of all, and its own ballots show it. If there are few voters, its level is the
+/// lowest at which some group breaks the property.
 fn is_right(
     profile: &Profile,
     committee: CandSet,
@@ -301,7 +301,7 @@ fn count_violated(rt: &impl Abort, profile: &Profile, election: u64) -> u64 {
     violated
 }
 
-/// Asserts what is found of all committees of the elections of a kind, of whom many lack a property.
+/// Asserts what is found of all committees of the elections of a kind. Many of them lack a property.
 fn assert_kind(rt: &impl Abort, alloc: Global, kind: &Kind) {
     let mut violated = 0u64;
     for seed in 0..kind.seeds {
@@ -325,7 +325,7 @@ fn small_elections(rt: HostRuntime) {
     }
 }
 
-/// So many voters who approve a candidate of their own each, and these candidates.
+/// Voters who each approve a candidate of their own, and these candidates.
 fn large_election(rt: &impl Abort, alloc: Global, voters: u8, alike: CandSet) -> Profile {
     let mut ballots = Vec::new(alloc);
     for candidate in 1..=voters.min(MOST_CANDIDATES) {
@@ -346,7 +346,7 @@ fn assert_lacks(rt: &impl Abort, alloc: Global, voters: u8, alike: CandSet, is_v
     }
 }
 
-/// Elections with so many lists that no search that tries all ends: twenty voters who share twenty candidates and
+/// Elections with too many lists for a search that tries all: twenty voters who share twenty candidates and
 /// approve one member each, and forty who approve one candidate each.
 #[test]
 fn many_lists(rt: HostRuntime) {
@@ -365,7 +365,7 @@ fn spanned(spans: &[(u8, u8)]) -> CandSet {
     all
 }
 
-/// So many voters who approve so many members of their own each, from 1 on, and candidates from 41 on whom all approve.
+/// Voters who each approve some members of their own, from 1 on, and candidates from 41 on that all approve.
 fn blocks(rt: &impl Abort, alloc: Global, voters: u8, size: u8, alike: u8) -> Profile {
     let mut ballots = Vec::new(alloc);
     for voter in 1..=voters {
@@ -377,7 +377,7 @@ fn blocks(rt: &impl Abort, alloc: Global, voters: u8, size: u8, alike: u8) -> Pr
     election_of(rt, alloc, &ballots)
 }
 
-/// Committees of the first 40 candidates beside clones whom all voters approve: groups of some voters share as many
+/// Committees of the first 40 candidates beside clones that all voters approve: groups of some voters share as many
 /// clones as the level wants, and their own members, alike too, decide whether the committee has PJR. Each line has the
 /// voters, the members of each, the clones, and the level and the voters of the first violation (0 if there is none).
 type Block = (u8, u8, u8, u8, u64);
@@ -392,7 +392,7 @@ static BLOCKS: [Block; 7] = [
     (9, 4, 14, 13, 3),
 ];
 
-/// The violation of PJR at a level by so many voters who share clones, or none at level 0.
+/// The violation of PJR at a level by a number of voters who share clones, or none at level 0.
 fn shared_by(level: u8, voters: u64) -> Option<Violation> {
     (level > 0).then_some(Violation {
         property: Property::Pjr,
@@ -436,8 +436,8 @@ fn assert_lacks_only(rt: &impl Abort, profile: &Profile, committee: CandSet) {
     }
 }
 
-/// Three voters who share classes of clones two by two. Each approves 25 members of a committee of 39, so any two lack
-/// one where they share a candidate outside it at level 26, and only EJR+ asks no more of them.
+/// Three voters who share classes of clones two by two. Each approves 25 members of a committee of 39. So at level 26
+/// any two lack a member if they share a candidate outside it, and only EJR+ asks no more of them.
 #[test]
 fn clones_of_pairs(rt: HostRuntime) {
     let ballots = [

@@ -1,4 +1,4 @@
-//! Greatest values, and how many committees have them, among 40 and 64 candidates: each was found by a plain walk with
+//! Highest values, and how many committees have them, among 40 and 64 candidates: each was found by a plain walk with
 //! ceilings too.
 ghost use Rattle.std.specs.Prelude.{◌≤◌};
 
@@ -12,14 +12,14 @@ use tie_search::{SearchWinners, Searchable};
 /// The size of the committees.
 const SIZE: u8 = 6;
 
-/// So many winners are counted at most.
+/// The maximum number of winners that are counted.
 const MOST_COUNTED: usize = 1000;
 
 /// How many voters there are.
 const VOTERS: usize = 60;
 
-/// How ballots are drawn: each candidate with the same chance, ballots that differ little from one, candidates of whom
-/// some are popular, and those near a place in a square.
+/// How ballots are drawn: each candidate with the same chance, ballots that differ little from one, candidates some of
+/// which are popular, and candidates near a place in a square.
 #[derive(Clone, Copy)]
 enum Draw {
     Independent,
@@ -37,7 +37,7 @@ fn random_word(state: &mut u64) -> u64 {
     word ^ word >> 31
 }
 
-/// Those of 64 candidates, eight in a row, who are at most two steps away from a place.
+/// Those of 64 candidates, eight in a row, that are at most two steps away from a place.
 fn those_near(place: u64) -> u64 {
     let mut near = 0;
     for n in 0..64u64 {
@@ -50,7 +50,7 @@ fn those_near(place: u64) -> u64 {
     near
 }
 
-/// Whom a voter approves, as the bits of a word, by three random words and one that is the same for all voters.
+/// The candidates of a ballot, as the bits of a word, by three random words and one that is the same for all voters.
 fn approved(draw: Draw, all: u64, a: u64, b: u64, c: u64) -> u64 {
     match draw {
         Draw::Independent => a & b,
@@ -76,7 +76,7 @@ fn drawn_election(rt: &impl Abort, alloc: Global, draw: Draw, m: u8) -> Profile
     election_of(rt, alloc, m.clamp(SIZE, MOST_CANDIDATES), &ballots)
 }
 
-/// Asserts the greatest value, and how many committees have it.
+/// Asserts the highest value, and how many committees have it.
 fn assert_search<S: Searchable>(rt: &impl Abort, search: &S, best: u128, winners: usize)
     requires { SIZE ≤ S.candidates search.now }
 {
@@ -95,7 +95,7 @@ const RULES: [ThieleRule; 5] = [
     ThieleRule::Geom4,
 ];
 
-/// Asserts the greatest value times its denominator, and the number of winners, under a rule.
+/// Asserts the highest value times its denominator, and the number of winners, under a rule.
 fn assert_rule(
     rt: &impl Abort,
     alloc: Global,
@@ -118,7 +118,7 @@ fn assert_thiele(rt: &impl Abort, alloc: Global, profile: &Profile, known: &[(u1
     }
 }
 
-/// A draw, the candidates, and the greatest values and numbers of winners under the rules.
+/// A draw, the candidates, and the highest values and numbers of winners under the rules.
 static KNOWN: [(Draw, u8, &[(u128, usize); 5]); 8] = [
     (
         Draw::Independent,
@@ -170,7 +170,7 @@ fn thiele_rules(rt: HostRuntime) {
     }
 }
 
-/// Asserts the least greatest distance, and how many committees have it.
+/// Asserts the smallest maximum distance, and how many committees have it.
 fn assert_minimax(rt: &impl Abort, profile: &Profile, distance: u8, winners: usize)
     requires { SIZE ≤ profile.now.m }
 {
@@ -178,7 +178,7 @@ fn assert_minimax(rt: &impl Abort, profile: &Profile, distance: u8, winners: usi
     assert_search(rt, &MinimaxSearch::new(profile), best, winners);
 }
 
-/// A draw, the candidates, the least greatest distance, and how many committees have it.
+/// A draw, the candidates, the smallest maximum distance, and how many committees have it.
 static DISTANCES: [(Draw, u8, u8, usize); 8] = [
     (Draw::Independent, 40, 16, 2),
     (Draw::Independent, 64, 23, 1),

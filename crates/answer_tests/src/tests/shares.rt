@@ -64,7 +64,7 @@ static FIRST_ALLOCATIONS: [Case; 6] = [
         ],
         true,
     ),
-    // Some 10^18 allocations come before the start, which is none itself; no walk over them would end.
+    // Some 10^18 allocations come before the start, which is not one itself; no walk over them would end.
     (
         &[1; 64],
         Method::Adams,

@@ -69,7 +69,7 @@ pub(super) enum Draw {
     Alike,
 }
 
-/// Whom a voter approves, as the bits of a word, of a random word.
+/// The candidates of a ballot, as the bits of a word, by a random word.
 fn approved(draw: Draw, word: u64) -> u64 {
     match draw {
         Draw::Few => word >> 20 & word >> 40,
@@ -85,10 +85,10 @@ pub(super) fn next_word(word: u64) -> u64 {
         .wrapping_add(1_442_695_040_888_963_407)
 }
 
-/// How many ballots are drawn at most.
+/// The maximum number of ballots that are drawn.
 const MOST_DRAWN: usize = 150;
 
-/// So many ballots that the seed decides, 150 at most, each of up to three times so many voters.
+/// `count` ballots that the seed decides, at most 150, each of `times` to three times `times` voters.
 pub(super) fn random_ballots(
     draw: Draw,
     seed: u64,
@@ -140,7 +140,7 @@ pub(super) fn search_of<'a>(
     ThieleSearch::new(memory)
 }
 
-/// The greatest value, by a pass over all committees.
+/// The highest value, by a pass over all committees.
 pub(super) fn plain_best<T: Tally>(tally: &T, m: u8, k: u8) -> u128
     requires candidates { m ≡ T.candidates tally.now }
     requires most { m ≤ most_candidates }

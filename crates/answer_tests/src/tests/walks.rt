@@ -33,8 +33,8 @@ fn assert_left<T: Tally>(rt: &impl Abort, winners: &mut Winners<T>, lists: &[&[u
     assert!(rt; winners.next().is_none(), "after the winners");
 }
 
-/// Asserts that only these pairs come after the start under Chamberlin-Courant, where each of four voters approves a
-/// member of a winner.
+/// Asserts that only these pairs come after the start under Chamberlin-Courant. Each of four voters approves a member
+/// of a winner.
 fn assert_after<T: Tally>(rt: &impl Abort, tally: &T, start: &[u8], lists: &[&[u8]])
     requires { T.candidates tally.now ≡ most_candidates }
 {

@@ -11,7 +11,7 @@ use ballot_base::{CandSet, KSets, MOST_CANDIDATES, Profile, ThieleRule};
 use std::process::Abort;
 use tie_walk::{MinimaxTally, SavTally, Tally, ThieleTally, Winners};
 
-/// Asserts that the first 20 of 40 candidates alone win, by a walk over 41 prefixes, and at most 10,000 calls in all.
+/// Asserts that only the first 20 of 40 candidates win, by a walk over 41 prefixes, and at most 10,000 calls in all.
 fn assert_few_calls<T: Tally>(rt: &impl Abort, tally: &T)
     requires { T.candidates tally.now ≡ 40 }
 {
@@ -39,8 +39,8 @@ fn call_once<T: Tally>(rt: &impl Abort, winners: &mut Winners<T>, most: u128) {
     let _winner = winners.next();
 }
 
-/// How many prefixes a walk for two seats enters in four calls, where it enters at least one before them, and never
-/// more than these.
+/// How many prefixes a walk for two seats enters in four calls. It enters at least one before them, and never more than
+/// these.
 fn entered_in_four<T: Tally>(rt: &impl Abort, tally: &T, start: Option<CandSet>, most: u128) -> u128
     requires candidates { T.candidates tally.now ≡ 3 }
     requires start { IsStart 3 2 start }

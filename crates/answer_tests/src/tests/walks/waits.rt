@@ -23,7 +23,7 @@ fn assert_bounds<T: Tally>(rt: &impl Abort, tally: &T, counts: &[u128])
 }
 
 /// Two voters approve 1 and 2, and one voter 3, for one seat: one bound before the first winner, three on the way down
-/// to each of 1 and 2, and one that tells that 3 is no winner. Twelve would be few.
+/// to each of 1 and 2, and one that shows that 3 is not a winner. Twelve would be few.
 #[test]
 fn bounds_for_one_seat(rt: HostRuntime) {
     let profile = election_of(&rt, rt.alloc(), 3, &[(0b011, 2), (0b100, 1)]);
@@ -31,7 +31,7 @@ fn bounds_for_one_seat(rt: HostRuntime) {
     assert_bounds(&rt, &tally, &[1, 4, 7, 8, 8]);
 }
 
-/// How many bounds a call for a winner asks for if no bound of the tally is too high: few, by the contracts alone.
+/// How many bounds a call for a winner asks for if no bound of the tally is too high: few, by the contracts.
 fn bounds_to_the_next<T: Tally>(winners: &mut Winners<T>) -> u128
     requires { IsTight (T.value_of winners.old.tally) (T.bound_of winners.old.tally) winners.old.m winners.old.k }
     ensures { result ≤ 4 * winners.old.m }
@@ -93,7 +93,7 @@ fn gives_winner<T: Tally>(
     is_found
 }
 
-/// How many winners come in so many calls, whose bounds are counted by a tally that answers nothing else.
+/// How many winners come in a number of calls, whose bounds are counted by a tally that answers nothing else.
 fn count_with_waits<T: Tally>(
     rt: &impl Abort,
     tally: &T,
