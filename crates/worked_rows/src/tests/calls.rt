@@ -68,7 +68,7 @@ impl<'a> Read for FailingFirst<'a> {
 }
 
 /// Runs an election over `THREE`, and asserts that it ends with this status. Its output has failed exactly if the
-/// status says so.
+/// status is that of a failed device.
 fn assert_writes(rt: &impl Abort, alloc: Global, writer: &mut Counting, wanted: Status) {
     let request = request(rt, alloc, "elect --rule av --size 1");
     let mut reader = Told::new(THREE);

@@ -106,7 +106,7 @@ fn stable_committees(rt: HostRuntime) {
     }
 }
 
-/// A file of ballots on which each candidate stands where so many of the first bits of the next state are 0.
+/// A file of ballots. A candidate stands on a ballot if the first `bits` bits of the next state are 0.
 fn by_chance(rt: &impl Abort, alloc: Global, m: u8, ballots: u32, bits: u32, seed: u64) -> String {
     let mut text = approvals_of(rt, alloc, m);
     let mut state = seed;

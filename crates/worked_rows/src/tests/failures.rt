@@ -13,7 +13,7 @@ const READ_FAILED: &[u8] = b"committees: read failed\n";
 
 const WRITE_FAILED: &[u8] = b"committees: write failed\n";
 
-/// Words, an input, and what a run leaves of them where no device fails.
+/// Words, an input, and what a run leaves of them if no device fails.
 type Case<'a> = (&'a str, &'a [u8], &'a [u8]);
 
 /// An input with a fault, and lines after it.
@@ -65,7 +65,7 @@ static CASES: [Case<'static>; 10] = [
     ),
 ];
 
-/// Asserts that a run ends so whose read of this number is to fail, and that its flush comes once if it answers. The
+/// Asserts how a run ends whose read with this number is to fail, and that its flush comes once if it answers. The
 /// bytes come in pieces of 16.
 fn assert_read(rt: &impl Abort, alloc: Global, request: &Request, case: Case<'_>, call: usize) {
     let (words, bytes, left) = case;
@@ -80,7 +80,7 @@ fn assert_read(rt: &impl Abort, alloc: Global, request: &Request, case: Case<'_>
     );
 }
 
-/// Asserts that a run ends with a failed read exactly where one of its reads fails. A last read finds the end.
+/// Asserts that a run ends with a failed read exactly if one of its reads fails. A last read finds the end.
 fn assert_reads(rt: &impl Abort, alloc: Global, case: Case<'_>) {
     let (words, bytes, text) = case;
     let request = request(rt, alloc, words);
@@ -130,7 +130,7 @@ fn assert_beginning(
     }
 }
 
-/// Asserts the same from the first byte on, by steps of so many bytes.
+/// Like `assert_beginning`, from the first byte on, by steps of `step` bytes.
 fn assert_beginnings(rt: &impl Abort, alloc: Global, case: Case<'_>, step: usize)
     requires { 1 ≤ step }
 {
@@ -169,7 +169,7 @@ fn a_long_report_is_not_taken(rt: HostRuntime) {
 /// A writer of the errors: how many bytes it takes at once, its fault, and how many it takes in all.
 type Writer = (usize, Fault, usize);
 
-/// Asserts that the status and the output stay, and that a beginning of the line is taken, where this writer fails.
+/// Asserts that the status and the output stay, and that a beginning of the line is taken, if this writer fails.
 fn assert_error(
     rt: &impl Abort,
     alloc: Global,
@@ -186,7 +186,7 @@ fn assert_error(
     assert_ended(rt, words, taken, &ended, wanted);
 }
 
-/// Asserts the same wherever a write of the errors fails.
+/// Like `assert_error`, wherever a write of the errors fails.
 fn assert_errors(rt: &impl Abort, alloc: Global, case: Case<'_>) {
     let (words, _bytes, line) = case;
     let request = request(rt, alloc, words);

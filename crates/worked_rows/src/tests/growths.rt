@@ -30,8 +30,8 @@ struct Case<'a> {
     text: &'a [u8],
 }
 
-/// Asserts that a run ends out of memory if the growth of this number is refused, and otherwise as the case says.
-/// Answers whether it was.
+/// Asserts that a run ends out of memory if the growth with this number is refused, and otherwise as in the case.
+/// Returns whether it was refused.
 fn is_refused(rt: &impl Abort, alloc: Global, case: Case<'_>, growth: u64) -> bool
     requires { 1 ≤ growth }
 {
@@ -43,7 +43,7 @@ fn is_refused(rt: &impl Abort, alloc: Global, case: Case<'_>, growth: u64) -> bo
     is_refused
 }
 
-/// Asserts that a run ends so exactly where no growth is refused, and answers how many growths it asks for.
+/// Asserts that a run leaves this text exactly if no growth is refused. Returns how many growths it asks for.
 fn growths_of_run(rt: &impl Abort, alloc: Global, words: &str, bytes: &[u8], text: &[u8]) -> u64 {
     let request = &request(rt, alloc, words);
     let case = Case {
@@ -127,7 +127,7 @@ static RUNS: [Run<'static>; 11] = [
     ),
 ];
 
-/// Asserts that a run asks for as many growths as it has to at least, and for none if that is 0.
+/// Asserts that a run asks for at least the growths that it needs, and for none if that is 0.
 fn assert_growths(rt: &impl Abort, alloc: Global, run: Run<'_>) {
     let (words, bytes, text, least) = run;
     let growths = growths_of_run(rt, alloc, words, bytes, text);
@@ -149,7 +149,7 @@ fn growths_before(alloc: Global, request: &Request, bytes: &[u8], call: u64) -> 
     MANY.saturating_sub(heap.left.get())
 }
 
-/// Asserts that a run ends so in which the growth of one number is refused and the read of another number fails.
+/// Asserts how a run ends in which the growth with one number is refused and the read with another number fails.
 fn assert_first(rt: &impl Abort, alloc: Global, case: Case<'_>, growth: u64, call: u64)
     requires { 1 ≤ growth }
 {

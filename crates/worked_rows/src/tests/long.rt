@@ -4,7 +4,7 @@ use std::alloc::Global;
 use std::fmt::Write;
 use std::process::Abort;
 
-/// A file of two candidates and 349,525 categories with a long line: its front, so many times a part, and its end.
+/// A file of two candidates and 349,525 categories with a long line: its front, a number of times a part, and its end.
 static FILES: [(&str, &str, u32, &str); 20] = [
     // Lines of 1,048,576 bytes, which are the longest.
     ("1: 1", ",{}", 349_524, "\n"),
@@ -70,7 +70,7 @@ fn long_lines_and_many(rt: HostRuntime) {
     }
 }
 
-/// All 41,664 committees of three of 64 candidates, of whom nobody is approved: many times what is put together before
+/// All 41,664 committees of three of 64 candidates, none of which is approved: many times what is put together before
 /// it is written.
 #[test]
 fn a_long_answer(rt: HostRuntime) {
@@ -128,7 +128,7 @@ fn a_long_report(rt: HostRuntime) {
     assert_leaves(&rt, alloc, words, file.as_bytes(), report.as_bytes());
 }
 
-/// A name of a thousand bytes, one of bytes that are no text, and one that was taken away.
+/// A name of a thousand bytes, one of bytes that are not text, and one that was taken away.
 #[test]
 fn names_of_any_bytes(rt: HostRuntime) {
     let alloc = rt.alloc();

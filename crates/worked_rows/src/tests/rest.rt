@@ -68,8 +68,8 @@ const HEADER: &str = "rule pav\nsize 2\nscore 6/2\n";
 /// These lines and the three winners, in 42 bytes.
 const TIES: &str = "rule pav\nsize 2\nscore 6/2\n1,2\n1,3\n2,3\nend\n";
 
-/// How many bytes of the ties are taken at least and at most, where the second run starts, and what it prints after the
-/// lines before the answers.
+/// The minimum and maximum of bytes of the ties that are taken, where the second run starts, and what it prints after
+/// the lines before the answers.
 static CUTS: [(usize, usize, &str, &str); 4] = [
     (0, 29, "", "1,2\n1,3\n2,3\nend\n"),
     (30, 33, " --after 1,2", "1,3\n2,3\nend\n"),
@@ -77,7 +77,7 @@ static CUTS: [(usize, usize, &str, &str); 4] = [
     (38, 41, " --after 2,3", "end\n"),
 ];
 
-/// The start of the second run, and what it prints after the lines before the answers, if so many bytes are taken.
+/// The start of the second run, and what it prints after the lines before the answers, if `taken` bytes are taken.
 fn rest_of(rt: &impl Abort, taken: usize) -> (&'static str, &'static str) {
     for (first, last, start, rest) in &CUTS {
         if *first <= taken && taken <= *last {
@@ -95,7 +95,7 @@ fn assert_rest(rt: &impl Abort, alloc: Global, words: &str, taken: usize) {
     assert_leaves(rt, alloc, words.as_str(), THREE, text.as_bytes());
 }
 
-/// Asserts that the text is cut off where the output fails after each of its bytes, and that the rest is fetched.
+/// Asserts that the text is cut off if the output fails after any of its bytes, and that the rest is fetched.
 fn assert_each_cut(rt: &impl Abort, alloc: Global, words: &str, text: &str) {
     for (taken, _byte) in text.char_indices() {
         let fault = Fault::ErrorAfter(taken);

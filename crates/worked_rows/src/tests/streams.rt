@@ -13,7 +13,7 @@ struct Streams {
     err: Told<Vec<u8>>,
 }
 
-/// The status of a run over these streams, with these numbers of the hash where there are some.
+/// The status of a run over these streams, with these parameters of the hash if there are some.
 fn status_of(
     alloc: Global,
     request: &Request,
@@ -27,7 +27,7 @@ fn status_of(
     }
 }
 
-/// Asserts that a run over `THREE` answers, with these numbers of the hash where there are some.
+/// Asserts that a run over `THREE` answers, with these parameters of the hash if there are some.
 fn assert_answers(
     rt: &impl Abort,
     alloc: Global,

@@ -63,8 +63,8 @@ pub(super) fn ending(text: &[u8]) -> Wanted<'_> {
     Wanted { status, out, err }
 }
 
-/// Asserts that the run left this, and that a device failed exactly where its status says so. The number tells cases of
-/// one name apart.
+/// Asserts that the run left this, and that a device failed exactly if its status is 6. The number distinguishes cases
+/// of one name.
 pub(super) fn assert_ended(
     rt: &impl Abort,
     case: &str,

@@ -1,4 +1,4 @@
-//! Whom the voters approve, by the type of the file and the way in the words.
+//! The candidates that count as approved, by the type of the file and the way in the words.
 
 /// One ballot each, and who wins one seat by it.
 static APPROVALS: &str = "\

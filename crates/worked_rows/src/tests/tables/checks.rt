@@ -1,7 +1,7 @@
-//! Checks of committees. The reports are worked by hand from the properties: a group is large enough for a level where
-//! its voters times the seats are no fewer than all voters times the level.
+//! Checks of committees. The reports are worked by hand from the properties: a group is large enough for a level if its
+//! voters times the seats are no fewer than all voters times the level.
 
-/// Committees that have a property, reports of violations, and lists that are no committee.
+/// Committees that have a property, reports of violations, and lists that are not committees.
 static CHECKS: &str = "\
 // Two groups of voters with nothing in common.
 < # DATA TYPE: cat¶# NUMBER ALTERNATIVES: 4¶3: {1,2}¶1: {3,4}¶

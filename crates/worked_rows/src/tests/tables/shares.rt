@@ -1,6 +1,6 @@
 //! Seats shared out among parties, by remainders for `hamilton`, and by the quotients of the votes for the others.
 
-/// Allocations, and votes that there are none of.
+/// Allocations, and votes that have none.
 static SHARES: &str = "\
 // With votes in the words the input is not looked at: it has no shape of a file.
 < x
@@ -176,7 +176,7 @@ static CENSUS: &str = "\
 share --method dhondt --seats 105 --votes 236841,55540,70835,68705,278514,475327,141822,179570,331589,353523,432879,68446,206236,85533,630560 | method dhondt¶seats 105¶7,1,2,2,8,14,4,5,10,10,13,2,6,2,19¶end
 share --method hamilton --seats 120 --votes 236841,55540,70835,68705,278514,475327,141822,179570,331589,353523,432879,68446,206236,85533,630560 | method hamilton¶seats 120¶8,2,2,2,9,16,5,6,11,12,14,2,7,3,21¶end";
 
-/// The Alabama paradox: one seat more, and the third party has one fewer
+/// The Alabama paradox: with one more seat, the third party has one fewer
 /// (<https://en.wikipedia.org/wiki/Apportionment_paradox>).
 static PARADOX: &str = "\
 share --method hamilton --seats 10 --votes 6,6,2 | method hamilton¶seats 10¶4,4,2¶end
