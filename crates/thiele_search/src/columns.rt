@@ -160,7 +160,6 @@ fn add_row(blocks: &mut [Block], voters: usize, ballot: CandSet, count: usize)
     }
 }
 
-/// Enough empty blocks for this many voters.
 fn no_voters<A: Allocator + Drop>(alloc: A, voters: usize) -> Result<Vec<Block, A>, AllocError>
     requires { voters ≤ most_blocks * block_voters }
     ensures few { IfOk result (λ blocks. length blocks.items ≤ most_blocks) }
@@ -170,7 +169,6 @@ fn no_voters<A: Allocator + Drop>(alloc: A, voters: usize) -> Result<Vec<Block, 
     vec![in alloc; [0; PLACES]; voters.div_ceil(BLOCK_VOTERS)]
 }
 
-/// The voters of a profile in blocks.
 fn blocks_of<A: Allocator + Copy + Drop>(
     alloc: A,
     profile: &Profile<A>,

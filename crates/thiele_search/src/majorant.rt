@@ -231,7 +231,6 @@ impl<'a> Majorants<'a> {
         majorant
     }
 
-    /// Computes what `of_ballot` returns.
     fn made(&self, before: u8, approved: u8) -> Majorant
         requires { before + approved ≤ most_candidates }
         ensures { IsMajorantOf self.now.sums before (min self.now.left approved) result }

@@ -95,7 +95,6 @@ impl<A: Allocator + Copy> PairSearch<'_, A> {
             .members_for(free, left, due.saturating_sub(factor * totals.kept))
     }
 
-    /// The value that a committee has to reach, in units.
     fn units(&self) -> u128
         ensures { (value : ℕ) → self.now.given.now.scale * self.now.least ≤ self.now.given.now.unit * value
             → result ≤ value }
@@ -229,7 +228,6 @@ impl Rows<'_> {
     }
 }
 
-/// Where the row of a candidate begins in a table of pairs.
 fn row_start(candidate: u8) -> usize
     ensures { result ≡ triangle candidate }
 {

@@ -152,7 +152,6 @@ impl<'a, A: Allocator + Copy> ThieleSearch<'a, A> {
         }
     }
 
-    /// A search, which may count pairs.
     fn search(&self, counts_pairs: bool) -> Search<'_, A>
         ensures { result ≡ self.now }
     {
@@ -218,7 +217,6 @@ impl<'a, A: Allocator + Copy> Searchable for ThieleSearch<'a, A> {
 /// The maximum number of rows with multipliers.
 const MOST_ROWS: usize = 8192;
 
-/// Multipliers for the rows of a profile. Returns `None` if there are too many rows.
 fn multipliers_for<A: Allocator + Copy + Drop>(
     alloc: A,
     profile: &Profile<A>,

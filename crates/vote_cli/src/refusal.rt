@@ -60,15 +60,10 @@ impl From<ShareFault> for RequestFault {
 /// Why a run ends without an answer, or with only a beginning of one.
 #[derive(Clone, Copy, Debug, PartialEq, Eq)]
 pub(crate) enum Refusal {
-    /// The input has a fault.
     Input(ReadFault),
-    /// The request does not fit.
     Request(RequestFault),
-    /// An allocation failed.
     Memory,
-    /// A read failed.
     ReadFailed,
-    /// A write failed.
     WriteFailed,
 }
 
