@@ -253,7 +253,6 @@ impl<A: Allocator> Columns<A> {
         gains
     }
 
-    /// The number of voters who approve a member of the set.
     pub(crate) fn covered(&self, set: CandSet) -> usize
         ensures { (ballots : List (List ℕ)) → AreColumns ballots self.now.blocks.items → AreRising ballots
             → result ≡ total (λ v. approves_some set (voter_ballot ballots v))

@@ -44,7 +44,6 @@ impl<A: Allocator + Copy> Search<'_, A> {
         best
     }
 
-    /// Exchanges each member in turn, if this makes the committee better.
     fn exchanged_once(&self, committee: CandSet) -> CandSet
         requires { IsIncreasing 1 self.now.election.m committee }
         ensures { IsIncreasing 1 self.now.election.m result }

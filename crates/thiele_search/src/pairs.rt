@@ -49,7 +49,7 @@ pub(crate) struct Totals {
 
 impl<A: Allocator + Copy> PairSearch<'_, A> {
     /// The free candidates of a node that can still join. Returns `None` only if no completion of its set reaches the
-    /// value. Counts are not kept for later nodes: without that, long lists of ties take a fifth fewer instructions.
+    /// value. Counts are not kept for later nodes: when they were, long lists of ties took a quarter more instructions.
     pub(crate) fn narrowed(&self, node: &Node) -> Option<CandSet>
         requires is_node { IsNode self.now.profile.now.m node.now.set node.now.free }
         requires several { 2 ≤ node.now.left }
@@ -66,7 +66,6 @@ impl<A: Allocator + Copy> PairSearch<'_, A> {
         self.narrowed_with(&totals, node)
     }
 
-    /// Narrows a node by totals that bound the completions of its set.
     fn narrowed_with(&self, totals: &Totals, node: &Node) -> Option<CandSet>
         requires is_node { IsNode self.now.profile.now.m node.now.set node.now.free }
         requires several { 2 ≤ node.now.left }
@@ -102,7 +101,6 @@ impl<A: Allocator + Copy> PairSearch<'_, A> {
         self.given.units(self.least)
     }
 
-    /// Adds up the majorants of all voters at a node.
     fn add_ballots(&self, totals: &mut Totals, node: &Node)
         requires is_node { IsNode self.now.profile.now.m node.now.set node.now.free }
         requires some { 1 ≤ length node.now.free }
@@ -235,14 +233,12 @@ fn row_start(candidate: u8) -> usize
     candidate * (candidate + 1) / 2
 }
 
-/// The place of two candidates in a table of pairs.
 fn place(i: u8, j: u8) -> usize
     ensures { result ≡ pair_place i j }
 {
     row_start(i.max(j)) + usize::from(i.min(j))
 }
 
-/// Adds to the number of each pair of members, also of a member with itself.
 fn add_pairs(table: &mut Table, members: CandSet, amount: u64)
     requires fits { (i j : ℕ) → j ≤ most_candidates → overlap_at table.old i j + amount < 2 ^ 64 }
     ensures { (i j : ℕ) → j ≤ most_candidates → overlap_at table.new i j ≡ overlap_at table.old i j
@@ -253,7 +249,6 @@ fn add_pairs(table: &mut Table, members: CandSet, amount: u64)
     }
 }
 
-/// Adds to the numbers of some candidates in one row.
 fn add_to_row(table: &mut Table, row: u8, columns: CandSet, amount: u64)
     requires within { row ≤ most_candidates }
     requires columns { (n : ℕ) → has_member columns n ≡ true → n ≤ row }

@@ -222,7 +222,6 @@ impl<'a, A: Allocator + Copy> Search<'a, A> {
         narrowed
     }
 
-    /// What the set of a node gains by each of the free candidates.
     pub(crate) fn gains_at(&self, node: &Node) -> Worths
         ensures { (n : ℕ) → has_member node.now.free n ≡ true → slice_index result n
             ≡ gain (increments self.now.rule self.now.k) self.now.election.rows node.now.set n }

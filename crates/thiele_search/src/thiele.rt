@@ -128,7 +128,6 @@ impl<'a, A: Allocator + Copy + Drop> ThieleSearch<'a, A> {
 }
 
 impl<'a, A: Allocator + Copy> ThieleSearch<'a, A> {
-    /// The value of a good committee of `k`, 0 if none is known.
     fn good_value(&self, k: u8) -> u128
         requires some { 1 ≤ k }
         requires fits { k ≤ self.now.election.m }

@@ -85,7 +85,6 @@ impl Trials {
         }
     }
 
-    /// Whether the test is to be made for a set with `left` seats left.
     pub(crate) fn are_due(&self, left: u8) -> bool {
         let asked = self.asked.get();
         self.asked.set(asked.wrapping_add(1));
@@ -96,7 +95,6 @@ impl Trials {
             || asked % SAMPLE == 0
     }
 
-    /// Notes that the test was made, and whether it gave up the set.
     pub(crate) fn note(&self, given_up: bool) {
         add_to(&self.made, 1);
         add_to(&self.given_up, u32::from(given_up));
@@ -124,7 +122,6 @@ impl PairTrials {
         add_to(&self.sets, 1);
     }
 
-    /// Notes that pairs were counted, and whether they gave up the set.
     pub(crate) fn note(&self, given_up: bool) {
         add_to(&self.sets, 1);
         let trials = self.trials.get();
@@ -142,7 +139,6 @@ impl PairTrials {
     }
 }
 
-/// Adds to a count, up to its maximum.
 fn add_to(count: &Cell<u32>, more: u32) {
     count.set(count.get().saturating_add(more));
 }
@@ -204,7 +200,6 @@ impl Moves {
         }
     }
 
-    /// Whether the search is long enough for moves.
     fn has_begun(&self) -> bool {
         self.done >= self.round.saturating_mul(BEGINNING)
     }

@@ -134,7 +134,6 @@ impl<A: Allocator + Copy + Drop> Ballots<'_, A> {
         answer_share(out, votes.as_slice(), sharing, &names)
     }
 
-    /// Writes the answer to a question about these ballots.
     pub(crate) fn answer<W: Sink>(
         &self,
         alloc: A,

@@ -37,7 +37,6 @@ pub(crate) fn answer_election<A: Allocator + Copy + Drop, W: Sink>(
     }
 }
 
-/// Writes an election under a rule that gives committees a value.
 fn answer_scored<A: Allocator + Copy + Drop, W: Sink>(
     alloc: A,
     out: &mut W,
@@ -75,7 +74,6 @@ fn search_memory<'a, A: Allocator + Copy + Drop>(
     }
 }
 
-/// Writes the lines after the rule and the size.
 fn write_winners<A: Allocator + Copy + Drop, W: Sink>(
     out: &mut W,
     rule: ScoredRule,

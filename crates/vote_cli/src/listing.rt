@@ -24,7 +24,6 @@ pub(crate) trait Answer: Drop {
     // the line of the answer with these numbers
     ghost line_of: { Names → List ℕ → List ℕ };
 
-    /// Prints its line.
     fn print_line<W: Sink, N: Allocator + Copy>(
         &self,
         printer: &mut Printer<'_, W>,

@@ -79,7 +79,6 @@ impl Refusal {
         }
     }
 
-    /// Writes the line of the refusal.
     pub(crate) fn write<E: Sink>(self, err: &mut E) -> Result<(), WriteFailed>
         ensures { Sends E.contents E.has_failed err.old err.new (is_ok result) (error_of self) }
     {
