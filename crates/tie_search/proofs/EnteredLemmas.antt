@@ -442,7 +442,7 @@ module _ {S : Type 0} (value : S → List ℕ → ℕ) (class : S → ℕ → Li
       omega (
         arith,
         counted.counted,
-        new-most best.m best.k (sets_of (first_branches best.m after)) (later_than after (winners (value best.search.now) best.m best.k)),
+        new-most best.m best.k (sets_of (first_branches best.m after)) (later_than after (winners (value best.search) best.m best.k)),
         product,
         small,
       )
@@ -450,17 +450,17 @@ module _ {S : Type 0} (value : S → List ℕ → ℕ) (class : S → ℕ → Li
   -- after the last of them
   pub all-entered : (entered : ℕ) (branches : List Branch) → branches ≡ [] → after ≡ None
       → entered + to_enter value asking.best branches ≡ asking.entered + to_enter value asking.best asking.branches.items
-      → entered ≡ beginnings (candidates asking.best.search.now) asking.best.k (winners (value asking.best.search.now) (candidates asking.best.search.now) asking.best.k)
+      → entered ≡ beginnings (candidates asking.best.search) asking.best.k (winners (value asking.best.search) (candidates asking.best.search) asking.best.k)
   all-entered entered branches none start same =
       let best = asking.best in
-      let won = winners (value best.search.now) best.m best.k in
-      subst (λ n. entered ≡ beginnings n best.k (winners (value best.search.now) n best.k)) counted.asking_is.knows.size
+      let won = winners (value best.search) best.m best.k in
+      subst (λ n. entered ≡ beginnings n best.k (winners (value best.search) n best.k)) counted.asking_is.knows.size
       (omega (
         arith,
         same,
         counted.counted,
         ap (to_enter value best) none,
-        ap (λ l. new_beginnings best.m best.k [] l) (none-left (value best.search.now) best.m best.k),
+        ap (λ l. new_beginnings best.m best.k [] l) (none-left (value best.search) best.m best.k),
         new-none best.m best.k [],
         ap (λ (s : Option (List ℕ)). new_beginnings best.m best.k (sets_of (first_branches best.m s)) (later_than s won)) start,
         new-all best.m best.k won,

@@ -23,8 +23,8 @@ use ballot_base::{CandSet, PLACES};
 
 /// The committees with the highest value that are still to come.
 #[derive(Drop)]
-pub(crate) struct Asking<'a, S: Searchable> {
-    pub(crate) best: Best<'a, S>,
+pub(crate) struct Asking<S: Searchable> {
+    pub(crate) best: Best<S>,
     // The committee with the highest value that was found last.
     found: CandSet,
     pub(crate) branches: ArrayVec<Branch, PLACES>,
@@ -32,9 +32,9 @@ pub(crate) struct Asking<'a, S: Searchable> {
     pub(crate) questions: u128,
 }
 
-impl<'a, S: Searchable> Asking<'a, S> {
+impl<S: Searchable> Asking<S> {
     /// All winners are still to come.
-    pub(crate) fn all(best: Best<'a, S>) -> Asking<'a, S>
+    pub(crate) fn all(best: Best<S>) -> Asking<S>
         requires { KnowsBest S.value_of S.class_of S.candidates best }
         ensures begun { IsBegun S.value_of S.class_of S.candidates best None result }
     {
@@ -43,7 +43,7 @@ impl<'a, S: Searchable> Asking<'a, S> {
     }
 
     /// All winners later than the start are still to come.
-    pub(crate) fn after(best: Best<'a, S>, start: CandSet) -> Asking<'a, S>
+    pub(crate) fn after(best: Best<S>, start: CandSet) -> Asking<S>
         requires knows { KnowsBest S.value_of S.class_of S.candidates best }
         requires start { IsStart best.m best.k (Some start) }
         ensures begun { IsBegun S.value_of S.class_of S.candidates best (Some start) result }
@@ -52,7 +52,7 @@ impl<'a, S: Searchable> Asking<'a, S> {
         Asking::of(best, branches)
     }
 
-    fn of(best: Best<'a, S>, branches: ArrayVec<Branch, PLACES>) -> Asking<'a, S>
+    fn of(best: Best<S>, branches: ArrayVec<Branch, PLACES>) -> Asking<S>
         requires knows { KnowsBest S.value_of S.class_of S.candidates best }
         requires each { AllByRecursion (IsBranch best.m best.k) branches.items }
         requires stacked { AreStacked best.m branches.items }
@@ -170,10 +170,10 @@ impl<'a, S: Searchable> Asking<'a, S> {
     fn reaches(&mut self, branch: &Branch) -> bool
         requires asking { IsAsking S.value_of S.class_of S.candidates self.old }
         requires branch { IsBranch self.old.best.m self.old.best.k branch.now }
-        ensures yes { result ≡ true → IsWinnerOf (S.value_of self.old.best.search.now) self.old.best.m self.old.best.k
+        ensures yes { result ≡ true → IsWinnerOf (S.value_of self.old.best.search) self.old.best.m self.old.best.k
             branch.now self.new.found }
         ensures no { result ≡ false
-            → IsBarren (S.value_of self.old.best.search.now) self.old.best.m self.old.best.k branch.now }
+            → IsBarren (S.value_of self.old.best.search) self.old.best.m self.old.best.k branch.now }
         ensures found { result ≡ false → self.new.found ≡ self.old.found }
         ensures kept { kept self.new ≡ kept self.old }
         ensures asked { self.new.questions ≤ self.old.questions + 1 }
@@ -189,7 +189,7 @@ impl<'a, S: Searchable> Asking<'a, S> {
     fn winner_of(&mut self, branch: &Branch) -> Option<CandSet>
         requires asking { IsAsking S.value_of S.class_of S.candidates self.old }
         requires branch { IsBranch self.old.best.m self.old.best.k branch.now }
-        ensures answer { IsAnswer (S.value_of self.old.best.search.now) self.old.best.m self.old.best.k branch.now result }
+        ensures answer { IsAnswer (S.value_of self.old.best.search) self.old.best.m self.old.best.k branch.now result }
         ensures found { self.new.found ≡ self.old.found }
         ensures kept { kept self.new ≡ kept self.old }
         ensures asked { self.new.questions ≤ self.old.questions + 1 }
@@ -221,7 +221,7 @@ impl<'a, S: Searchable> Asking<'a, S> {
     fn ask(&mut self, branch: &Branch) -> Option<CandSet>
         requires knows { KnowsBest S.value_of S.class_of S.candidates self.old.best }
         requires branch { IsBranch self.old.best.m self.old.best.k branch.now }
-        ensures answer { IsAnswer (S.value_of self.old.best.search.now) self.old.best.m self.old.best.k branch.now result }
+        ensures answer { IsAnswer (S.value_of self.old.best.search) self.old.best.m self.old.best.k branch.now result }
         ensures found { self.new.found ≡ self.old.found }
         ensures kept { kept self.new ≡ kept self.old }
         ensures asked { self.new.questions ≤ self.old.questions + 1 }

@@ -23,8 +23,8 @@ use ballot_base::CandSet;
 
 /// What is searched, and what is known of the committees of `k` with the highest value: that value and some of them.
 #[derive(Drop)]
-pub(crate) struct Best<'a, S: Searchable> {
-    pub(crate) search: &'a S,
+pub(crate) struct Best<S: Searchable> {
+    pub(crate) search: S,
     // The number of candidates.
     pub(crate) m: u8,
     pub(crate) k: u8,
@@ -32,19 +32,19 @@ pub(crate) struct Best<'a, S: Searchable> {
     pub(crate) tied: Tied,
 }
 
-impl<'a, S: Searchable> Best<'a, S> {
+impl<S: Searchable> Best<S> {
     /// Finds the highest value of a committee of `k` by search. It takes no memory.
-    pub(crate) fn of(search: &'a S, k: u8) -> Best<'a, S>
+    pub(crate) fn of(search: S, k: u8) -> Best<S>
         requires some { 1 ≤ k }
-        requires fits { k ≤ S.candidates search.now }
+        requires fits { k ≤ S.candidates search }
         ensures knows { KnowsBest S.value_of S.class_of S.candidates result }
-        ensures search { result.search.now ≡ search.now }
+        ensures search { result.search ≡ search }
         ensures k { result.k ≡ k }
     {
         let m = search.m();
         let tied = match search.tied(k) {
             Some(tied) => tied,
-            None => Tied::one(best_committee(search, k)),
+            None => Tied::one(best_committee(&search, k)),
         };
         Best {
             value: search.value(tied.first()),
@@ -60,7 +60,7 @@ impl<'a, S: Searchable> Best<'a, S> {
         requires knows { KnowsBest S.value_of S.class_of S.candidates self.now }
         requires branch { IsBranch self.now.m self.now.k branch.now }
         requires whole { length branch.now.set ≡ self.now.k }
-        ensures { IsAnswer (S.value_of self.now.search.now) self.now.m self.now.k branch.now result }
+        ensures { IsAnswer (S.value_of self.now.search) self.now.m self.now.k branch.now result }
     {
         if self.search.value(branch.set) < self.value {
             return None;
@@ -74,8 +74,8 @@ impl<'a, S: Searchable> Best<'a, S> {
         requires knows { KnowsBest S.value_of S.class_of S.candidates self.now }
         requires branch { IsBranch self.now.m self.now.k branch.now }
         requires all { self.now.tied.are_all ≡ true }
-        ensures { MatchOption result (IsBarren (S.value_of self.now.search.now) self.now.m self.now.k branch.now)
-            (IsBest (S.value_of self.now.search.now) self.now.m self.now.k) }
+        ensures { MatchOption result (IsBarren (S.value_of self.now.search) self.now.m self.now.k branch.now)
+            (IsBest (S.value_of self.now.search) self.now.m self.now.k) }
     {
         let clones = self.search.clones();
         for i in 0..self.tied.len {
@@ -92,7 +92,7 @@ impl<'a, S: Searchable> Best<'a, S> {
     pub(crate) fn shown(&self, found: CandSet, branch: &Branch) -> Option<CandSet>
         requires knows { KnowsBest S.value_of S.class_of S.candidates self.now }
         requires branch { IsBranch self.now.m self.now.k branch.now }
-        ensures { MatchOption result ⊤ (IsWinnerOf (S.value_of self.now.search.now) self.now.m self.now.k branch.now) }
+        ensures { MatchOption result ⊤ (IsWinnerOf (S.value_of self.now.search) self.now.m self.now.k branch.now) }
     {
         let alike = branch.exchanged(self.search.clones(), found);
         if self.wins(alike, branch) {
@@ -106,7 +106,7 @@ impl<'a, S: Searchable> Best<'a, S> {
         requires knows { KnowsBest S.value_of S.class_of S.candidates self.now }
         requires branch { IsBranch self.now.m self.now.k branch.now }
         ensures { result ≡ true
-            → IsWinnerOf (S.value_of self.now.search.now) self.now.m self.now.k branch.now committee }
+            → IsWinnerOf (S.value_of self.now.search) self.now.m self.now.k branch.now committee }
     {
         if committee.len() != self.k || !branch.is_completed_by(committee) {
             return false;
@@ -118,7 +118,7 @@ impl<'a, S: Searchable> Best<'a, S> {
     pub(crate) fn find(&self, branch: &Branch) -> Option<CandSet>
         requires knows { KnowsBest S.value_of S.class_of S.candidates self.now }
         requires branch { IsBranch self.now.m self.now.k branch.now }
-        ensures { IsAnswer (S.value_of self.now.search.now) self.now.m self.now.k branch.now result }
+        ensures { IsAnswer (S.value_of self.now.search) self.now.m self.now.k branch.now result }
     {
         let node = Node {
             set: branch.set,

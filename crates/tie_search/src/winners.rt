@@ -18,19 +18,19 @@ use std::marker::Model;
 /// the search for it. Contracts see the search, `k`, and the list of the winners still to come.
 /// (Lackner and Skowron, Multi-Winner Voting with Approval Preferences)
 #[derive(Drop)]
-pub struct SearchWinners<'a, S: Searchable> {
-    asking: Asking<'a, S>,
+pub struct SearchWinners<S: Searchable> {
+    asking: Asking<S>,
     after: Option<CandSet>,
 }
 
-impl<'a, S: Searchable> Model for SearchWinners<'a, S> {
+impl<S: Searchable> Model for SearchWinners<S> {
     ghost use Rattle.tie_search.specs.Asked.{Asked};
     ghost use Rattle.tie_search.specs.Steps.Branches.{IsCounted, left_by};
 
     ghost Value = { Asked S };
 
     ghost view = { λ w. record {
-      search = w.asking.best.search.now;
+      search = w.asking.best.search;
       k = w.asking.best.k;
       after = w.after;
       left = left_by S.value_of w.asking.best w.asking.branches.items;
@@ -41,18 +41,18 @@ impl<'a, S: Searchable> Model for SearchWinners<'a, S> {
     ghost invariant = { λ w. IsCounted S.value_of S.class_of S.candidates w.after w.asking };
 }
 
-impl<'a, S: Searchable> SearchWinners<'a, S> {
+impl<S: Searchable> SearchWinners<S> {
     /// The winners later than `after`, or all winners if it is `None`. `after` is a committee of `k`, and need not win.
     /// A winner has the highest value of all committees of `k`. `k` is at least 1 and at most the number of candidates.
     /// Neither this nor `next` takes memory.
-    pub fn new(search: &'a S, k: u8, after: Option<CandSet>) -> SearchWinners<'a, S>
+    pub fn new(search: S, k: u8, after: Option<CandSet>) -> SearchWinners<S>
         requires some { 1 ≤ k }
-        requires fits { k ≤ S.candidates search.now }
-        requires start { IsStart (S.candidates search.now) k after }
-        ensures search { result.search ≡ search.now }
+        requires fits { k ≤ S.candidates search }
+        requires start { IsStart (S.candidates search) k after }
+        ensures search { result.search ≡ search }
         ensures k { result.k ≡ k }
         ensures after { result.after ≡ after }
-        ensures left { result.left ≡ later_than after (winners (S.value_of search.now) (S.candidates search.now) k) }
+        ensures left { result.left ≡ later_than after (winners (S.value_of search) (S.candidates search) k) }
         ensures entered { result.entered ≡ 0 }
         ensures questions { result.questions ≡ 0 }
     {
@@ -95,7 +95,7 @@ impl<'a, S: Searchable> SearchWinners<'a, S> {
     }
 }
 
-impl<'a, S: Searchable> Iterator for SearchWinners<'a, S> {
+impl<S: Searchable + Drop> Iterator for SearchWinners<S> {
     type Item = CandSet;
 
     // Gives the first of the winners left, or None if none is left.

@@ -146,15 +146,15 @@ impl<'a, A: Allocator + Copy + Drop> Listing<'a, A> {
     }
 
     /// Like `write_ranked`, but a search finds the winners.
-    pub(crate) fn write_searched<W: Sink, S: Searchable>(
+    pub(crate) fn write_searched<W: Sink, S: Searchable + Drop>(
         &self,
         out: &mut W,
-        search: &S,
+        search: S,
         rule: ScoredRule,
     ) -> Result<(), WriteFailed>
-        requires { S.candidates search.now ≡ self.now.profile.now.m }
+        requires { S.candidates search ≡ self.now.profile.now.m }
         ensures { Sends W.contents W.has_failed out.old out.new (is_ok result)
-            (ranked_text rule (S.value_of search.now) self.now.size
+            (ranked_text rule (S.value_of search) self.now.size
             (record { after = self.now.after; limit = self.now.limit }) self.now.names self.now.profile.now) }
     {
         let winners = SearchWinners::new(search, self.size, self.after);

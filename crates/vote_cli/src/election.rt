@@ -120,8 +120,7 @@ fn by_search<A: Allocator + Copy + Drop, W: Sink>(
     ensures { Sends W.contents W.has_failed out.old out.new (is_ok result)
         (winners_text listing.now (ScoredRule.Thiele rule)) }
 {
-    let search = prepared(memory);
-    listing.write_searched(out, &search, ScoredRule::Thiele(rule))
+    listing.write_searched(out, prepared(memory), ScoredRule::Thiele(rule))
 }
 
 // Not inlined: what the search is made from takes as much stack again, which is given back before the search begins.
@@ -155,7 +154,7 @@ fn by_distance<A: Allocator + Copy + Drop, W: Sink>(
         (winners_text listing.now ScoredRule.Minimax) }
 {
     let search = MinimaxSearch::new(listing.profile);
-    listing.write_searched(out, &search, ScoredRule::Minimax)
+    listing.write_searched(out, search, ScoredRule::Minimax)
 }
 
 /// Writes an election under a sequential rule, whose winners come in families.

@@ -98,7 +98,7 @@ impl<'a, T: Tally> Answers for Winners<'a, T> {
     }
 }
 
-impl<'a, S: Searchable> Answers for SearchWinners<'a, S> {
+impl<S: Searchable + Drop> Answers for SearchWinners<S> {
     type Answer = CandSet;
 
     ghost left = { λ winners. winners.left };

@@ -19,7 +19,7 @@ use tie_walk::Tally;
 /// The next winner. The call has to search exactly as often as `questions` counts, and at most `most` times.
 fn next_counted<S: Searchable>(
     rt: &impl Abort,
-    winners: &mut SearchWinners<'_, CountedSearch<'_, S>>,
+    winners: &mut SearchWinners<CountedSearch<'_, S>>,
     finds: &Cell<u64>,
     most: u8,
 ) -> Option<CandSet> {
@@ -64,8 +64,7 @@ fn assert_listed<S: Searchable>(rt: &impl Abort, search: &S, k: u8, start: Optio
     let m = search.m();
     let best = plain_best(search, m, k);
     let finds = Cell::new(0);
-    let counted = CountedSearch::all(search, &finds);
-    let mut winners = SearchWinners::new(&counted, k, start);
+    let mut winners = SearchWinners::new(CountedSearch::all(search, &finds), k, start);
     assert_after(rt, winners.best() == best, k, m, &start);
     let mut before = start;
     let mut beginnings: u128 = 0;
@@ -185,7 +184,7 @@ fn assert_thousand<S: Searchable>(rt: &impl Abort, search: &S, k: u8, lists_ties
     let most = search.m() + k;
     let finds = Cell::new(0);
     let counted = CountedSearch::new(search, &finds, lists_ties);
-    let mut winners = SearchWinners::new(&counted, k, None);
+    let mut winners = SearchWinners::new(counted, k, None);
     for call in 0..1000_u16 {
         let winner = next_counted(rt, &mut winners, &finds, most);
         assert_of(

@@ -102,6 +102,20 @@ fn fitting(seats: u8, m: u8) -> u8
     seats.clamp(1, 40).min(m)
 }
 
+/// The winners of a search after a start, or all of them. The search is lent, and can be asked for others afterwards.
+fn winners_of<'a, S: Searchable>(
+    search: &'a S,
+    finds: &'a Cell<u64>,
+    k: u8,
+    start: Option<CandSet>,
+) -> SearchWinners<CountedSearch<'a, S>>
+    requires some { 1 ≤ k }
+    requires fits { k ≤ S.candidates search.now }
+    requires start { IsStart (S.candidates search.now) k start }
+{
+    SearchWinners::new(CountedSearch::all(search, finds), k, start)
+}
+
 /// Asserts that all committees that give the parties these seats win, and answers how many they are.
 fn assert_all_win<S: Searchable>(
     rt: &impl Abort,
@@ -113,8 +127,9 @@ fn assert_all_win<S: Searchable>(
     requires some { 1 ≤ k }
     requires fits { k ≤ S.candidates search.now }
 {
+    let finds = Cell::new(0);
     let mut found: u64 = 0;
-    for committee in SearchWinners::new(search, k, None) {
+    for committee in winners_of(search, &finds, k, None) {
         found = found.wrapping_add(u64::from(lists.gives(committee, seats)));
     }
     let wanted = lists.committees(seats);
@@ -127,7 +142,8 @@ fn count_winners<S: Searchable>(search: &S, k: u8) -> u64
     requires some { 1 ≤ k }
     requires fits { k ≤ S.candidates search.now }
 {
-    SearchWinners::new(search, k, None)
+    let finds = Cell::new(0);
+    winners_of(search, &finds, k, None)
         .take(MOST_COUNTED)
         .count() as u64
 }
@@ -234,7 +250,7 @@ fn assert_not_searched<S: Searchable>(rt: &impl Abort, search: &S, k: u8)
     };
     let finds = Cell::new(0);
     let counted = CountedSearch::all(search, &finds);
-    let count = SearchWinners::new(&counted, k, None)
+    let count = SearchWinners::new(counted, k, None)
         .take(MOST_COUNTED)
         .count();
     let fits = !tied.are_all || finds.get() == 0;
@@ -277,7 +293,7 @@ fn second_committee(m: u8, k: u8) -> CandSet
 }
 
 /// Asserts that 1,000 winners come.
-fn assert_thousand<S: Searchable>(rt: &impl Abort, winners: SearchWinners<'_, S>, k: u8) {
+fn assert_thousand<S: Searchable + Drop>(rt: &impl Abort, winners: SearchWinners<S>, k: u8) {
     let found = winners.take(1000).count();
     assert_of(
         rt,
@@ -294,8 +310,9 @@ fn assert_thousands<S: Searchable>(rt: &impl Abort, search: &S, k: u8, start: Ca
     requires fits { k ≤ S.candidates search.now }
     requires start { IsStart (S.candidates search.now) k (Some start) }
 {
-    assert_thousand(rt, SearchWinners::new(search, k, None), k);
-    assert_thousand(rt, SearchWinners::new(search, k, Some(start)), k);
+    let finds = Cell::new(0);
+    assert_thousand(rt, winners_of(search, &finds, k, None), k);
+    assert_thousand(rt, winners_of(search, &finds, k, Some(start)), k);
 }
 
 /// Asserts that the first 1,000 winners of an election come, and 1,000 after a start.
@@ -342,7 +359,7 @@ fn assert_few<S: Searchable>(rt: &impl Abort, search: &S, k: u8)
 {
     let finds = Cell::new(0);
     let counted = CountedSearch::new(search, &finds, false);
-    assert_thousand(rt, SearchWinners::new(&counted, k, None), k);
+    assert_thousand(rt, SearchWinners::new(counted, k, None), k);
     let count = finds.get();
     assert!(rt; count < MANY_SEARCHES, "{count} searches");
 }

@@ -77,8 +77,8 @@ fn drawn_election(rt: &impl Abort, alloc: Global, draw: Draw, m: u8) -> Profile
 }
 
 /// Asserts the highest value, and how many committees have it.
-fn assert_search<S: Searchable>(rt: &impl Abort, search: &S, best: u128, winners: usize)
-    requires { SIZE ≤ S.candidates search.now }
+fn assert_search<S: Searchable + Drop>(rt: &impl Abort, search: S, best: u128, winners: usize)
+    requires { SIZE ≤ S.candidates search }
 {
     let found = SearchWinners::new(search, SIZE, None);
     let greatest = found.best();
@@ -106,7 +106,7 @@ fn assert_rule(
     requires { SIZE ≤ profile.now.m }
 {
     let search = search_of(rt, alloc, profile, rule, SIZE);
-    assert_search(rt, &search, known.0, known.1);
+    assert_search(rt, search, known.0, known.1);
 }
 
 /// Asserts the same under each of the rules.
@@ -175,7 +175,7 @@ fn assert_minimax(rt: &impl Abort, profile: &Profile, distance: u8, winners: usi
     requires { SIZE ≤ profile.now.m }
 {
     let best = u128::from(profile.m().saturating_sub(distance));
-    assert_search(rt, &MinimaxSearch::new(profile), best, winners);
+    assert_search(rt, MinimaxSearch::new(profile), best, winners);
 }
 
 /// A draw, the candidates, the smallest maximum distance, and how many committees have it.

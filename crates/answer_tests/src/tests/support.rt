@@ -167,8 +167,9 @@ pub(super) fn assert_same_winners<P: Tally, S: Searchable>(
     requires start { IsStart (P.candidates plain.now) k start }
 {
     let m = plain.m();
+    let finds = Cell::new(0);
     let wanted = Winners::new(plain, m, k, start);
-    let found = SearchWinners::new(search, k, start);
+    let found = SearchWinners::new(CountedSearch::all(search, &finds), k, start);
     let is_best = found.best() == wanted.best();
     assert_after(rt, is_best && found.eq(wanted), k, m, &start);
 }

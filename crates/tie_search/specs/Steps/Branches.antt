@@ -72,13 +72,13 @@ IsAnswer value m k branch answer = MatchOption answer (IsBarren value m k branch
 -- what is known of the committees of k with the highest value is true
 abbrev pub KnowsBest : {S : Type 0} → (S → List ℕ → ℕ) → (S → ℕ → List ℕ) → (S → ℕ) → Best S → Type 0
 KnowsBest value class candidates best =
-    IsSearched (value best.search.now) (class best.search.now) (candidates best.search.now) best.m best.k best.value best.tied
+    IsSearched (value best.search) (class best.search) (candidates best.search) best.m best.k best.value best.tied
 
 -- what is true of winners that are asked for
 pub record IsAsking {S : Type 0} (value : S → List ℕ → ℕ) (class : S → ℕ → List ℕ) (candidates : S → ℕ)
     (asking : Asking S) : Type 0 where
   pub knows : KnowsBest value class candidates asking.best
-  pub found_is : IsBest (value asking.best.search.now) asking.best.m asking.best.k asking.found
+  pub found_is : IsBest (value asking.best.search) asking.best.m asking.best.k asking.found
   pub each : AllByRecursion (IsBranch asking.best.m asking.best.k) asking.branches.items
   pub stacked : AreStacked asking.best.m asking.branches.items
   pub sized : AreSized 0 asking.branches.items
@@ -91,11 +91,11 @@ pub record IsOnTheWay {S : Type 0} (value : S → List ℕ → ℕ) (class : S �
   pub branch_is : IsBranch asking.best.m asking.best.k branch
   pub stacked : AreStacked asking.best.m (asking.branches.items ++ branch ∷ [])
   pub size_is : length branch.set ≡ length asking.branches.items
-  pub reached : IsWinnerOf (value asking.best.search.now) asking.best.m asking.best.k branch asking.found
+  pub reached : IsWinnerOf (value asking.best.search) asking.best.m asking.best.k branch asking.found
 
 -- the winners still to come if these branches are left
 abbrev pub left_by : {S : Type 0} → (S → List ℕ → ℕ) → Best S → List Branch → List (List ℕ)
-left_by value best branches = winners_of (value best.search.now) best.m best.k branches
+left_by value best branches = winners_of (value best.search) best.m best.k branches
 
 -- the sets of the branches
 abbrev pub sets_of : List Branch → List (List ℕ)
@@ -126,7 +126,7 @@ pub record IsBegun {S : Type 0} (value : S → List ℕ → ℕ) (class : S → 
   pub best_is : asking.best ≡ best
   pub are : asking.branches.items ≡ first_branches best.m after
   pub left : left_by value best asking.branches.items
-      ≡ later_than after (winners (value best.search.now) best.m best.k)
+      ≡ later_than after (winners (value best.search) best.m best.k)
   pub entered : asking.entered ≡ 0
   pub questions : asking.questions ≡ 0
 
@@ -146,4 +146,4 @@ pub record IsCounted {S : Type 0} (value : S → List ℕ → ℕ) (class : S �
   pub asking_is : IsAsking value class candidates asking
   pub counted : asking.entered + to_enter value asking.best asking.branches.items
       ≡ new_beginnings asking.best.m asking.best.k (sets_of (first_branches asking.best.m after))
-      (later_than after (winners (value asking.best.search.now) asking.best.m asking.best.k))
+      (later_than after (winners (value asking.best.search) asking.best.m asking.best.k))

@@ -31,7 +31,7 @@ returns g c =
         best_is = c.of.ensures.best;
         are = c.of.ensures.branches ∙ c.later_branches-branches.ensures;
         left = ap (left_by g.S.Tally.value_of best) (c.of.ensures.branches ∙ c.later_branches-branches.ensures)
-            ∙ after-left best.m (g.S.Tally.value_of best.search.now) best.k c.args.start c.requires.start.0 c.requires.start.1;
+            ∙ after-left best.m (g.S.Tally.value_of best.search) best.k c.args.start c.requires.start.0 c.requires.start.1;
         entered = c.of.ensures.entered;
         questions = c.of.ensures.questions;
       };

@@ -18,7 +18,7 @@ returns g c =
         asking_is = c.of.ensures.asking;
         best_is = c.of.ensures.best;
         are = are;
-        left = ap (left_by g.S.Tally.value_of best) are ∙ all-left (g.S.Tally.value_of best.search.now) best.m best.k;
+        left = ap (left_by g.S.Tally.value_of best) are ∙ all-left (g.S.Tally.value_of best.search) best.m best.k;
         entered = c.of.ensures.entered;
         questions = c.of.ensures.questions;
       };

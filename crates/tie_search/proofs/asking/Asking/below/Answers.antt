@@ -18,7 +18,7 @@ pub returns-in_default-clause-fewer : goal.returns-in_default-clause-fewer
 returns-in_default-clause-fewer g c =
     let asking = c.args.self.now in
     let way = c.requires.way in
-    absurd (some-free (g.S.Tally.value_of asking.best.search.now) asking.best.m asking.best.k c.args.branch asking.found way.branch_is c.requires.short way.reached c.in_default.ensures)
+    absurd (some-free (g.S.Tally.value_of asking.best.search) asking.best.m asking.best.k c.args.branch asking.found way.branch_is c.requires.short way.reached c.in_default.ensures)
 
 pub reaches-requires-clause-branch : goal.reaches-requires-clause-branch
 reaches-requires-clause-branch g c =
@@ -40,7 +40,7 @@ pub returns-then-reaches-clause-way : goal.returns-then-reaches-clause-way
 returns-then-reaches-clause-way g c =
     let asking = c.args.self.now in
     let parts = c.in-Some.parts in
-    let v = g.S.Tally.value_of asking.best.search.now in
+    let v = g.S.Tally.value_of asking.best.search in
     let with' : Branch = record { set = c.with.result; free = parts.1 } in
     let reached : IsWinnerOf v asking.best.m asking.best.k with' c.enter.new.self.found =
     subst (IsWinnerOf v asking.best.m asking.best.k with') (sym c.enter.ensures.found) (c.reaches.ensures.yes c.if-reaches.true) in
@@ -59,7 +59,7 @@ returns-then-reaches-clause-left g c =
     rw c.with.ensures
     (ap (λ (bs : List Branch). left_by g.S.Tally.value_of best (bs ++ with' ∷ []))
     (c.enter.ensures.branches ∙ ap (λ (k : Kept g.row.S.Denot). k.branches ++ record { set = c.args.branch.set; free = parts.1 } ∷ []) c.reaches.ensures.kept)
-    ∙ joined-left (g.S.Tally.value_of best.search.now) best.m best.k asking.branches.items c.args.branch c.requires.way.branch_is c.requires.way.stacked parts.0 parts.1 c.in-Some.ensures)
+    ∙ joined-left (g.S.Tally.value_of best.search) best.m best.k asking.branches.items c.args.branch c.requires.way.branch_is c.requires.way.stacked parts.0 parts.1 c.in-Some.ensures)
 
 pub returns-then-reaches-clause-counted : goal.returns-then-reaches-clause-counted
 returns-then-reaches-clause-counted g c =
@@ -68,8 +68,8 @@ returns-then-reaches-clause-counted g c =
     let way = c.requires.way in
     let parts = c.in-Some.parts in
     let with' : Branch = record { set = with_member c.args.branch.set parts.0; free = parts.1 } in
-    let wins : IsWinnerOf (g.S.Tally.value_of best.search.now) best.m best.k with' c.reaches.new.self.found = rw c.with.ensures at (c.reaches.ensures.yes c.if-reaches.true) in
-    let one = joined-new (g.S.Tally.value_of best.search.now) best.m best.k asking.branches.items c.args.branch way.branch_is way.stacked parts.0 parts.1 c.in-Some.ensures c.requires.short
+    let wins : IsWinnerOf (g.S.Tally.value_of best.search) best.m best.k with' c.reaches.new.self.found = rw c.with.ensures at (c.reaches.ensures.yes c.if-reaches.true) in
+    let one = joined-new (g.S.Tally.value_of best.search) best.m best.k asking.branches.items c.args.branch way.branch_is way.stacked parts.0 parts.1 c.in-Some.ensures c.requires.short
     way.asking_is.sized way.size_is c.reaches.new.self.found wins in
     rw c.with.ensures
     (omega (
@@ -83,19 +83,19 @@ returns-then-reaches-clause-counted g c =
 
 -- the clones of the candidate, and what was left without them
 module _ (g : Over) (c : After-minus g) where
-  alike : AreAlike (g.S.Tally.value_of c.args.self.now.best.search.now) c.args.self.now.best.m (λ n. slice_index_or c.clones.result.now n [])
+  alike : AreAlike (g.S.Tally.value_of c.args.self.now.best.search) c.args.self.now.best.m (λ n. slice_index_or c.clones.result.now n [])
   alike =
       let best = c.args.self.now.best in
       let V = g.S.Tally.value_of in
-      let now = c.reaches.new.self.best.search.now in
-      subst (λ n. AreAlike (V best.search.now) n (λ x. slice_index_or c.clones.result.now x [])) (sym c.requires.way.asking_is.knows.size)
-      (subst (λ (b : Best g.row.S.Denot). AreAlike (V b.search.now) (g.S.Tally.candidates b.search.now) (λ x. slice_index_or c.clones.result.now x [])) (ap (λ (k : Kept g.row.S.Denot). k.best) c.reaches.ensures.kept)
+      let now = c.reaches.new.self.best.search in
+      subst (λ n. AreAlike (V best.search) n (λ x. slice_index_or c.clones.result.now x [])) (sym c.requires.way.asking_is.knows.size)
+      (subst (λ (b : Best g.row.S.Denot). AreAlike (V b.search) (g.S.Tally.candidates b.search) (λ x. slice_index_or c.clones.result.now x [])) (ap (λ (k : Kept g.row.S.Denot). k.best) c.reaches.ensures.kept)
       (alike-table (V now) (g.S.Tally.candidates now) (g.S.Searchable.class_of now) c.clones.result.now c.clones.ensures.table c.clones.ensures.alike))
 
   over : c.minus.result ≡ other_members c.in-Some.parts.1 (slice_index_or c.clones.result.now c.in-Some.parts.0 [])
   over = c.minus.ensures ∙ ap (other_members c.in-Some.parts.1) c.class-clones.ensures
 
-  none : IsBarren (g.S.Tally.value_of c.args.self.now.best.search.now) c.args.self.now.best.m c.args.self.now.best.k (record { set = with_member c.args.branch.set c.in-Some.parts.0; free = c.in-Some.parts.1 })
+  none : IsBarren (g.S.Tally.value_of c.args.self.now.best.search) c.args.self.now.best.m c.args.self.now.best.k (record { set = with_member c.args.branch.set c.in-Some.parts.0; free = c.in-Some.parts.1 })
   none = rw c.with.ensures at (c.reaches.ensures.no c.if-reaches.false)
 
 pub returns-clause-way : goal.returns-clause-way
@@ -115,7 +115,7 @@ returns-clause-left g c =
     let parts = c.in-Some.parts in
     rw (over g c)
     (ap (λ (k : Kept g.row.S.Denot). left_by g.S.Tally.value_of best (k.branches ++ record { set = c.args.branch.set; free = other_members parts.1 (slice_index_or c.clones.result.now parts.0 []) } ∷ [])) c.reaches.ensures.kept
-    ∙ left-left (g.S.Tally.value_of best.search.now) best.m best.k asking.branches.items c.args.branch c.requires.way.branch_is c.requires.way.stacked parts.0 parts.1 c.in-Some.ensures c.clones.result.now c.requires.short (alike g c) (none g c))
+    ∙ left-left (g.S.Tally.value_of best.search) best.m best.k asking.branches.items c.args.branch c.requires.way.branch_is c.requires.way.stacked parts.0 parts.1 c.in-Some.ensures c.clones.result.now c.requires.short (alike g c) (none g c))
 
 pub returns-clause-counted : goal.returns-clause-counted
 returns-clause-counted g c =
@@ -129,7 +129,7 @@ returns-clause-counted g c =
       ap (λ (k : Kept g.row.S.Denot). k.entered) c.reaches.ensures.kept,
       ap (λ (k : Kept g.row.S.Denot). to_enter g.S.Tally.value_of best (k.branches ++ left ∷ [])) c.reaches.ensures.kept,
       ap (λ l. new_beginnings best.m best.k (sets_of (asking.branches.items ++ left ∷ [])) l)
-          (left-left (g.S.Tally.value_of best.search.now) best.m best.k asking.branches.items c.args.branch c.requires.way.branch_is c.requires.way.stacked parts.0 parts.1 c.in-Some.ensures c.clones.result.now
+          (left-left (g.S.Tally.value_of best.search) best.m best.k asking.branches.items c.args.branch c.requires.way.branch_is c.requires.way.stacked parts.0 parts.1 c.in-Some.ensures c.clones.result.now
           c.requires.short (alike g c) (none g c)),
       ap (λ sets. new_beginnings best.m best.k sets (left_by g.S.Tally.value_of best (asking.branches.items ++ c.args.branch ∷ []))) (sets-last asking.branches.items left c.args.branch (λ i. c.args.branch.set)),
     ))

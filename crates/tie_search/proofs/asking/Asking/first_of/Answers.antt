@@ -26,7 +26,7 @@ first g c =
     let way = c.loop-self.invariant.way in
     let best = asking.best in
     subst (λ (b : Best g.row.S.Denot). left_by V b (asking.branches.items ++ branch ∷ []) ≡ branch.set ∷ left_by V b asking.branches.items) c.loop-self.invariant.best
-    (first-left (V best.search.now) best.m best.k asking.branches.items branch asking.found way.asking_is.each way.branch_is way.stacked
+    (first-left (V best.search) best.m best.k asking.branches.items branch asking.found way.asking_is.each way.branch_is way.stacked
     (omega (arith, c.loop-self-test.false, c.len.ensures.count, way.branch_is.size)) way.reached)
 
 pub returns-clause-first : goal.returns-clause-first
@@ -45,7 +45,7 @@ returns-clause-counted g c =
     let long : length branch.set ≡ best.k = omega (arith, c.loop-self-test.false, c.len.ensures.count, way.branch_is.size) in
     let same = subst (λ (b : Best g.row.S.Denot). new_beginnings b.m b.k (sets_of (asking.branches.items ++ branch ∷ [])) (branch.set ∷ left_by V b asking.branches.items) ≡ to_enter V b asking.branches.items)
     c.loop-self.invariant.best
-    (finished-new (V best.search.now) best.m best.k asking.branches.items way.asking_is.each branch way.asking_is.sized (stacked-pop best.m asking.branches.items branch way.stacked).1 long
+    (finished-new (V best.search) best.m best.k asking.branches.items way.asking_is.each branch way.asking_is.sized (stacked-pop best.m asking.branches.items branch way.stacked).1 long
     (omega (arith, way.size_is, c.loop-self-test.false, c.len.ensures.count, way.branch_is.size))) in
     omega (
       arith,

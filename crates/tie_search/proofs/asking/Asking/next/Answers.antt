@@ -67,7 +67,7 @@ loop-branch-preserved g c =
       best = same ∙ c.loop-branch.invariant.best;
       left = ap (left_by V first) are
           ∙ (subst (λ (b : Best g.row.S.Denot). left_by V b rest ≡ left_by V b (rest ++ c.in-Some.branch ∷ [])) c.loop-branch.invariant.best
-          (sym (barren-left (V asking.best.search.now) asking.best.m asking.best.k rest c.in-Some.branch none))
+          (sym (barren-left (V asking.best.search) asking.best.m asking.best.k rest c.in-Some.branch none))
           ∙ (ap (left_by V first) (sym c.in-Some.ensures.items) ∙ c.loop-branch.invariant.left));
       entered = omega (arith, c.loop-branch.invariant.entered, ap (λ (k : Kept g.row.S.Denot). k.entered) c.reaches.ensures.kept);
       counted = omega (
@@ -77,8 +77,8 @@ loop-branch-preserved g c =
         ap (to_enter V first) are,
         ap (to_enter V first) c.in-Some.ensures.items,
         subst (λ (b : Best g.row.S.Denot). to_enter V b (rest ++ c.in-Some.branch ∷ []) ≡ to_enter V b rest) c.loop-branch.invariant.best
-            (ap (λ l. new_beginnings asking.best.m asking.best.k (sets_of (rest ++ c.in-Some.branch ∷ [])) l) (barren-left (V asking.best.search.now) asking.best.m asking.best.k rest c.in-Some.branch none)
-            ∙ barren-new (V asking.best.search.now) asking.best.m asking.best.k rest (popped-each V g.S.Searchable.class_of g.S.Tally.candidates asking c.loop-branch.invariant.asking rest c.in-Some.branch c.in-Some.ensures.items) c.in-Some.branch
+            (ap (λ l. new_beginnings asking.best.m asking.best.k (sets_of (rest ++ c.in-Some.branch ∷ [])) l) (barren-left (V asking.best.search) asking.best.m asking.best.k rest c.in-Some.branch none)
+            ∙ barren-new (V asking.best.search) asking.best.m asking.best.k rest (popped-each V g.S.Searchable.class_of g.S.Tally.candidates asking c.loop-branch.invariant.asking rest c.in-Some.branch c.in-Some.ensures.items) c.in-Some.branch
             (stacked-pop asking.best.m rest c.in-Some.branch (popped-stacked V g.S.Searchable.class_of g.S.Tally.candidates asking c.loop-branch.invariant.asking rest c.in-Some.branch c.in-Some.ensures.items)).1),
       );
       asked = omega (

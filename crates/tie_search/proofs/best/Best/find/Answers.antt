@@ -22,8 +22,8 @@ pub returns : goal.returns
 returns g c =
     let best = c.args.self.now in
     let branch = c.args.branch.now in
-    let value = g.S.Tally.value_of best.search.now in
-    let m = g.S.Tally.candidates best.search.now in
+    let value = g.S.Tally.value_of best.search in
+    let m = g.S.Tally.candidates best.search in
     subst (λ n. IsAnswer value n best.k branch c.find.result) (sym c.requires.knows.size)
     (found-answer value m best.k branch (subst (λ n. IsBranch n best.k branch) c.requires.knows.size c.requires.branch) c.find.result
     (rw (c.requires.knows.best_is, c.len.ensures.count) at c.find.ensures))

@@ -12,15 +12,15 @@ loop-i-preserved g c = record {
   none = λ j low other becomes whole. elim (cases_eq j c.loop-i.i) [
     | inl same ↦
         let best = c.args.self.now in
-        let m = g.S.Tally.candidates best.search.now in
+        let m = g.S.Tally.candidates best.search in
         let committee : List ℕ = get_or best.tied.committees c.loop-i.i c.index-self-i.result in
         let long : length best.tied.committees ≡ 256 = search rules in
         let at : get_or best.tied.committees c.loop-i.i [] ≡ committee =
         get_or_default best.tied.committees c.loop-i.i [] c.index-self-i.result (omega (arith, c.loop-i-test.true, c.requires.knows.listed.few, long)) in
         let branch : IsBranch m best.k c.args.branch.now = subst (λ n. IsBranch n best.k c.args.branch.now) c.requires.knows.size c.requires.branch in
         let rises : IsIncreasing 1 m committee = (c.requires.knows.listed.each committee (c.loop-i.i, c.loop-i-test.true, at)).candidates in
-        let here : Becomes m (g.S.Searchable.class_of best.search.now) committee other = subst (λ l. Becomes m (g.S.Searchable.class_of best.search.now) l other) (ap (λ n. get_or best.tied.committees n []) same ∙ at) becomes in
-        let suits : c.suits.result ≡ true = c.suits.ensures m best.k (g.S.Searchable.class_of best.search.now) other branch c.clones-clones.ensures.table c.clones-clones.ensures.rise c.clones-clones.ensures.classes rises here whole in
+        let here : Becomes m (g.S.Searchable.class_of best.search) committee other = subst (λ l. Becomes m (g.S.Searchable.class_of best.search) l other) (ap (λ n. get_or best.tied.committees n []) same ∙ at) becomes in
+        let suits : c.suits.result ≡ true = c.suits.ensures m best.k (g.S.Searchable.class_of best.search) other branch c.clones-clones.ensures.table c.clones-clones.ensures.rise c.clones-clones.ensures.classes rises here whole in
         absurd (let e : true ≡ false = sym suits ∙ c.if-suits.false in cc)
     | inr other' ↦ c.loop-i.invariant.none j (omega (arith, low, other')) other becomes whole
   ];
@@ -30,9 +30,9 @@ pub returns : goal.returns
 returns g c committee best = elim (cases_Bool (completes c.args.branch.now committee)) [
   | inl whole ↦
       let self = c.args.self.now in
-      let is : IsBest (g.S.Tally.value_of self.search.now) (g.S.Tally.candidates self.search.now) self.k committee = subst (λ n. IsBest (g.S.Tally.value_of self.search.now) n self.k committee) c.requires.knows.size best in
+      let is : IsBest (g.S.Tally.value_of self.search) (g.S.Tally.candidates self.search) self.k committee = subst (λ n. IsBest (g.S.Tally.value_of self.search) n self.k committee) c.requires.knows.size best in
       let like = c.requires.knows.listed.all c.requires.all committee is in
-      let becomes = subst (λ l. Becomes (g.S.Tally.candidates self.search.now) (g.S.Searchable.class_of self.search.now) l committee) (sym like.1.2) like.2 in
+      let becomes = subst (λ l. Becomes (g.S.Tally.candidates self.search) (g.S.Searchable.class_of self.search) l committee) (sym like.1.2) like.2 in
       absurd (c.loop-i.invariant.none like.1.0 (omega (arith, like.1.1, c.loop-i-test.false)) committee becomes whole)
   | inr out ↦ out
 ]

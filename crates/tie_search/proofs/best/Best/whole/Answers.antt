@@ -15,8 +15,8 @@ pub returns-then-value-self : goal.returns-then-value-self
 returns-then-value-self g c =
     let best = c.args.self.now in
     let branch = c.args.branch.now in
-    let value = g.S.Tally.value_of best.search.now in
-    let m = g.S.Tally.candidates best.search.now in
+    let value = g.S.Tally.value_of best.search in
+    let m = g.S.Tally.candidates best.search in
     subst (λ n. IsBarren value n best.k branch) (sym c.requires.knows.size)
     (whole-barren value m best.k branch (subst (λ n. IsBranch n best.k branch) c.requires.knows.size c.requires.branch) c.requires.whole
     (omega (arith, c.if-value-self.true, c.value.ensures, c.requires.knows.best_is)))
@@ -25,8 +25,8 @@ pub returns : goal.returns
 returns g c =
     let best = c.args.self.now in
     let branch = c.args.branch.now in
-    let value = g.S.Tally.value_of best.search.now in
-    let m = g.S.Tally.candidates best.search.now in
+    let value = g.S.Tally.value_of best.search in
+    let m = g.S.Tally.candidates best.search in
     subst (λ n. IsWinnerOf value n best.k branch branch.set) (sym c.requires.knows.size)
     (whole-winner value m best.k branch (subst (λ n. IsBranch n best.k branch) c.requires.knows.size c.requires.branch) c.requires.whole
     (omega (arith, c.if-value-self.false, c.value.ensures, c.requires.knows.best_is)))

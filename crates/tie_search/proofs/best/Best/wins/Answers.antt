@@ -18,8 +18,8 @@ pub returns : goal.returns
 returns g c reaches =
     let best = c.args.self.now in
     let branch = c.args.branch.now in
-    let value = g.S.Tally.value_of best.search.now in
-    let m = g.S.Tally.candidates best.search.now in
+    let value = g.S.Tally.value_of best.search in
+    let m = g.S.Tally.candidates best.search in
     let least = leb-true best.value c.value.result reaches in
     subst (λ n. IsWinnerOf value n best.k branch c.args.committee) (sym c.requires.knows.size)
     (winner-from value m best.k branch c.args.committee most_candidates (subst (λ n. IsBranch n best.k branch) c.requires.knows.size c.requires.branch) c.len.ensures.valid

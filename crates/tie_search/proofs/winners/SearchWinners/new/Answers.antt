@@ -13,7 +13,7 @@ begun-counted : {S : Type 0} (value : S → List ℕ → ℕ) (class : S → ℕ
 begun-counted {S} value class candidates best after asking begun = record {
   asking_is = begun.asking_is;
   counted = subst (λ (b : Best S). asking.entered + to_enter value b asking.branches.items
-      ≡ new_beginnings b.m b.k (sets_of (first_branches b.m after)) (later_than after (winners (value b.search.now) b.m b.k))) (sym begun.best_is)
+      ≡ new_beginnings b.m b.k (sets_of (first_branches b.m after)) (later_than after (winners (value b.search) b.m b.k))) (sym begun.best_is)
       (omega (
         arith,
         begun.entered,

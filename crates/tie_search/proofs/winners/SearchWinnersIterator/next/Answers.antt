@@ -23,19 +23,19 @@ returns-clause-steps g c =
     let same = c.next.ensures.best in
     let left : left_by V now.best now.branches.items ≡ left_by V was.best now.branches.items = ap (λ (b : Best g.row.S.Denot). left_by V b now.branches.items) same in
     subst (λ from. IsNextAsked g.row.S.Denot V g.S.Tally.candidates from c.next.result
-    (record { search = now.best.search.now; k = now.best.k; after = c.self.inside.after; left = left_by V now.best now.branches.items; entered = now.entered; questions = now.questions })) c.self.view_is
+    (record { search = now.best.search; k = now.best.k; after = c.self.inside.after; left = left_by V now.best now.branches.items; entered = now.entered; questions = now.questions })) c.self.view_is
     (record {
       first = first-of
-          (record { search = was.best.search.now; k = was.best.k; after = c.self.inside.after; left = left_by V was.best was.branches.items; entered = was.entered; questions = was.questions })
+          (record { search = was.best.search; k = was.best.k; after = c.self.inside.after; left = left_by V was.best was.branches.items; entered = was.entered; questions = was.questions })
           c.next.result
-          (record { search = now.best.search.now; k = now.best.k; after = c.self.inside.after; left = left_by V now.best now.branches.items; entered = now.entered; questions = now.questions })
+          (record { search = now.best.search; k = now.best.k; after = c.self.inside.after; left = left_by V now.best now.branches.items; entered = now.entered; questions = now.questions })
           (c.next.ensures.first ∙ ap (λ l. option_to_list c.next.result ++ l) (sym left))
-          (λ none. ap (left_by V now.best) (c.next.ensures.end none) ∙ none-left (V now.best.search.now) now.best.m now.best.k);
-      same_search = ap (λ (b : Best g.row.S.Denot). b.search.now) same;
+          (λ none. ap (left_by V now.best) (c.next.ensures.end none) ∙ none-left (V now.best.search) now.best.m now.best.k);
+      same_search = ap (λ (b : Best g.row.S.Denot). b.search) same;
       same_k = ap (λ (b : Best g.row.S.Denot). b.k) same;
       same_start = refl;
       entered_rises = c.next.ensures.entered;
-      all_entered = λ none start. subst (λ (b : Best g.row.S.Denot). now.entered ≡ beginnings (g.S.Tally.candidates b.search.now) b.k (winners (V b.search.now) (g.S.Tally.candidates b.search.now) b.k)) (sym same)
+      all_entered = λ none start. subst (λ (b : Best g.row.S.Denot). now.entered ≡ beginnings (g.S.Tally.candidates b.search) b.k (winners (V b.search) (g.S.Tally.candidates b.search) b.k)) (sym same)
           (all-entered V g.S.Searchable.class_of g.S.Tally.candidates c.self.inside.after was c.self.invariant now.entered now.branches.items (c.next.ensures.end none) start c.next.ensures.counted);
       short_wait = omega (arith, c.next.ensures.asked, c.self.invariant.asking_is.few, c.self.invariant.asking_is.knows.size);
     })
@@ -52,6 +52,6 @@ invariant_of-self g c =
     record {
       asking_is = c.next.ensures.asking;
       counted = subst (λ (b : Best g.row.S.Denot). now.entered + to_enter V b now.branches.items
-          ≡ new_beginnings b.m b.k (sets_of (first_branches b.m after)) (later_than after (winners (V b.search.now) b.m b.k))) (sym c.next.ensures.best)
+          ≡ new_beginnings b.m b.k (sets_of (first_branches b.m after)) (later_than after (winners (V b.search) b.m b.k))) (sym c.next.ensures.best)
           (c.next.ensures.counted ∙ c.self.invariant.counted);
     }

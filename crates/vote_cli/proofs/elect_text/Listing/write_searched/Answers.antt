@@ -7,6 +7,6 @@ use Rattle.vote_cli.proofs.elect_text.Listing.write_searched.Goals as goal
 pub returns : goal.returns
 returns g c =
     let s = c.args.self.now in
-    let parts = searched_parts s.names g.S.Tally.value_of g.S.Tally.candidates c.args.rule s.profile.now.m c.args.search.now s.size s.after s.limit c.new-winners.result.search c.new-winners.result.k c.best.result
+    let parts = searched_parts s.names g.S.Tally.value_of g.S.Tally.candidates c.args.rule s.profile.now.m c.args.search s.size s.after s.limit c.new-winners.result.search c.new-winners.result.k c.best.result
     c.new-winners.result.left c.requires c.new-winners.ensures.search c.new-winners.ensures.k c.best.ensures c.new-winners.ensures.left in
     subst (Sends g.W.Sink.contents g.W.Device.has_failed c.args.out.now c.write_best.new.out (is_ok c.write_best.result)) (sym parts) c.write_best.ensures
