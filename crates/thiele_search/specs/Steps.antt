@@ -4,3 +4,4 @@ pub mod Majorants
 pub mod Paired
 pub mod Priced
 pub mod Rows
+pub mod Units

@@ -7,6 +7,7 @@ ghost use Rattle.std.specs.Prelude.{◌≡◌, ℕ, ◌+◌, ◌*◌, ◌^◌, �
 ghost use Rattle.ballot_base.specs.Limits.{most_candidates, most_members};
 ghost use Rattle.ballot_base.specs.Increments.{increments};
 ghost use Rattle.thiele_search.specs.Steps.Paired.{AreSums, IsMajorantOf};
+ghost use Rattle.thiele_search.specs.Steps.Units.{most_given, most_given_to_pairs, most_units};
 
 use ballot_base::{Increments, PLACES, ThieleRule};
 use std::marker::Model;
@@ -25,7 +26,7 @@ pub(crate) struct HitSums {
     pub(crate) unit: u128,
     pub(crate) sums: [u64; PLACES],
     ghost some: { 1 ≤ unit },
-    ghost small: { (h : ℕ) → slice_index sums h ≤ 2 ^ 46 },
+    ghost small: { (h : ℕ) → slice_index sums h ≤ most_given },
     ghost rises: { (h : ℕ) → h + 1 ≤ most_candidates → slice_index sums h ≤ slice_index sums (h + 1) },
     ghost concave: { (h : ℕ) → h + 2 ≤ most_candidates
         → slice_index sums (h + 2) + slice_index sums h ≤ 2 * slice_index sums (h + 1) },
@@ -38,7 +39,7 @@ impl HitSums {
         requires some { 1 ≤ k }
         requires size { k ≤ most_members }
         requires units { 1 ≤ units }
-        requires few { units ≤ 2 ^ 40 }
+        requires few { units ≤ most_units }
         ensures { MatchOption result ⊤ (λ given. AreSums (increments rule k) given.scale given.unit given.sums
             × ((h : ℕ) → slice_index given.sums h ≤ 64 * units)) }
     {
@@ -66,7 +67,7 @@ impl HitSums {
 
     /// What the hit after the first `hits` gives. A hit past the last possible one gives nothing.
     pub(crate) fn increment(&self, hits: u8) -> u64
-        ensures small { result ≤ 2 ^ 46 }
+        ensures small { result ≤ most_given }
         ensures rise { hits + 1 ≤ most_candidates
             → slice_index self.now.sums (hits + 1) ≡ slice_index self.now.sums hits + result }
     {
@@ -83,10 +84,10 @@ impl HitSums {
     /// count.
     pub(crate) fn kept(&self, before: u8, most: u8, multiplier: u64) -> u64
         requires fits { before + most ≤ most_candidates }
-        requires multiplier { multiplier ≤ 2 ^ 46 }
+        requires multiplier { multiplier ≤ most_given }
         ensures bounds { (h : ℕ) → h ≤ most
             → slice_index self.now.sums (before + h) ≤ result + multiplier * h }
-        ensures small { result ≤ 2 ^ 46 }
+        ensures small { result ≤ most_given }
     {
         let mut hits = 0;
         while hits < most && self.increment(before + hits) > multiplier {
@@ -125,7 +126,7 @@ impl Majorant {
     /// A majorant for up to `most` hits after the first `before`. It is exact at `touch` further hits and at one more,
     /// as far as that can be.
     pub(crate) fn at(sums: &[u64; PLACES], before: u8, most: u8, touch: u8) -> Majorant
-        requires small { (n : ℕ) → slice_index sums.now n ≤ 2 ^ 26 }
+        requires small { (n : ℕ) → slice_index sums.now n ≤ most_given_to_pairs }
         requires fits { before + most ≤ most_candidates }
         requires touch { touch ≤ most }
         ensures { IsMajorantOf sums.now before most result }
@@ -155,7 +156,7 @@ impl Majorant {
 
 /// How much an increment falls by, in half a step, if the first is `step` and all `run` of them rise by `rise`.
 fn bend(step: u64, rise: u64, run: u64) -> u64
-    requires small { step ≤ 2 ^ 26 }
+    requires small { step ≤ most_given_to_pairs }
     requires run { run ≤ most_candidates }
     ensures { result ≤ step }
 {
@@ -186,21 +187,22 @@ pub(crate) struct Majorants<'a> {
 }
 
 impl<'a> Model for Majorants<'a> {
-    ghost use Rattle.std.specs.Prelude.{ℕ, ◌^◌, ◌≤◌, slice_index};
+    ghost use Rattle.std.specs.Prelude.{ℕ, ◌≤◌, slice_index};
     ghost use Rattle.thiele_search.specs.Steps.Majorants.{AreMajorants, Majorized};
+    ghost use Rattle.thiele_search.specs.Steps.Units.{most_given_to_pairs};
 
     ghost Value = { Majorized };
 
     ghost view = { λ t. record { sums = t.sums.now; left = t.left } };
 
-    ghost invariant = { λ t. (1 ≤ t.free) × ((n : ℕ) → slice_index t.sums.now n ≤ 2 ^ 26)
+    ghost invariant = { λ t. (1 ≤ t.free) × ((n : ℕ) → slice_index t.sums.now n ≤ most_given_to_pairs)
         × AreMajorants t.sums.now t.left t.table };
 }
 
 impl<'a> Majorants<'a> {
     pub(crate) fn new(sums: &'a [u64; PLACES], left: u8, free: u8) -> Majorants<'a>
         requires some { 1 ≤ free }
-        requires small { (n : ℕ) → slice_index sums.now n ≤ 2 ^ 26 }
+        requires small { (n : ℕ) → slice_index sums.now n ≤ most_given_to_pairs }
         ensures sums { result.sums ≡ sums.now }
         ensures left { result.left ≡ left }
     {

@@ -14,6 +14,7 @@ ghost use Rattle.tie_walk.specs.Values.{thiele_value};
 ghost use Rattle.tie_search.specs.Completions.{IsNode};
 ghost use Rattle.tie_search.specs.Steps.Narrowed.{Narrows};
 ghost use Rattle.thiele_search.specs.Steps.Paired.{AreSums};
+ghost use Rattle.thiele_search.specs.Steps.Units.{most_given};
 
 use crate::majorant::HitSums;
 use crate::prices::PriceSearch;
@@ -141,7 +142,7 @@ impl<A: Allocator + Copy> Multipliers<A> {
     /// the first further hit gives and what the hit after the last would give.
     pub(crate) fn within(&self, i: usize, given: &HitSums, before: u8, most: u8) -> u64
         requires fits { before + most ≤ most_candidates }
-        ensures { result ≤ 2 ^ 46 }
+        ensures { result ≤ most_given }
     {
         let Some(row) = self.rows.get(i) else {
             return 0;

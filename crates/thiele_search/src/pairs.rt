@@ -6,13 +6,14 @@
 //! 1980). A candidate leaves if every completion with it falls short.
 ghost use Rattle.std.specs.Prelude.{◌≡◌, ℕ, ◌+◌, ◌-◌, ◌*◌, ◌^◌, ◌<◌, ◌≤◌, ◌==◌, true, List, length, max, min, slice_index, if◌then◌else◌};
 ghost use Rattle.ballot_base.specs.CandSet.{has_member};
-ghost use Rattle.ballot_base.specs.Limits.{most_candidates, worth_limit};
+ghost use Rattle.ballot_base.specs.Limits.{most_candidates, most_voters, worth_limit};
 ghost use Rattle.ballot_base.specs.Lists.{IsIncreasing};
 ghost use Rattle.tie_walk.specs.Values.{thiele_value};
 ghost use Rattle.tie_search.specs.Completions.{IsNode};
 ghost use Rattle.tie_search.specs.Steps.Narrowed.{Narrows};
 ghost use Rattle.thiele_search.specs.Steps.Paired.{AreNothing, AreSmall, AreSums, AreTotals, IsRowSum, IsSmallMajorant, overlap_at, pair_place, triangle};
 ghost use Rattle.thiele_search.specs.Steps.Rows.{AreBeside, AreRows};
+ghost use Rattle.thiele_search.specs.Steps.Units.{most_given_to_pairs};
 
 use crate::majorant::{HitSums, Majorant, Majorants};
 use ballot_base::{CandSet, MOST_CANDIDATES, Profile, Worths};
@@ -34,7 +35,7 @@ pub(crate) struct PairSearch<'a, A: Allocator + Copy> {
     pub(crate) least: u128,
     ghost size: { profile.now.m ≤ most_candidates },
     ghost unit: { 1 ≤ given.now.unit },
-    ghost small: { (n : ℕ) → slice_index given.now.sums n ≤ 2 ^ 26 },
+    ghost small: { (n : ℕ) → slice_index given.now.sums n ≤ most_given_to_pairs },
 }
 
 /// The majorants of all voters, added up.
@@ -135,7 +136,7 @@ impl Totals {
 
     /// Adds the majorant of a ballot that approves these free candidates, once for each of its voters.
     fn add(&mut self, majorant: Majorant, approved: CandSet, voters: u64)
-        requires voters { voters ≤ 2 ^ 32 }
+        requires voters { voters ≤ most_voters }
         requires majorant { IsSmallMajorant majorant }
         requires small { AreSmall self.old.kept self.old.worths self.old.overlaps }
         ensures kept { self.new.kept ≡ self.old.kept + voters * majorant.kept }

@@ -11,6 +11,7 @@ ghost use Rattle.tie_walk.specs.Values.{thiele_value};
 ghost use Rattle.tie_search.specs.Completions.{IsNode};
 ghost use Rattle.tie_search.specs.Steps.Narrowed.{Narrows};
 ghost use Rattle.thiele_search.specs.Steps.Paired.{AreSums, AreTotals};
+ghost use Rattle.thiele_search.specs.Steps.Units.{most_priced};
 ghost use Rattle.thiele_search.specs.Steps.Priced.{ArePrices};
 
 use crate::majorant::HitSums;
@@ -50,8 +51,8 @@ impl<A: Allocator + Copy> PriceSearch<'_, A> {
             → AreSums weights self.now.given.now.scale self.now.given.now.unit self.now.given.now.sums
             → AreTotals weights self.now.given.now.scale self.now.given.now.unit self.now.profile.now.m
             self.now.profile.now.rows node.now.set node.now.free node.now.left result.kept result.worths [] }
-        ensures kept { result.kept ≤ 2 ^ 78 }
-        ensures worths { (n : ℕ) → slice_index result.worths n ≤ 2 ^ 78 }
+        ensures kept { result.kept ≤ most_priced }
+        ensures worths { (n : ℕ) → slice_index result.worths n ≤ most_priced }
     {
         let mut kept = 0;
         let mut worths = Worths::none();
@@ -174,7 +175,7 @@ impl Prices {
 
     /// A bound that no completion exceeds, if these candidates have the highest prices.
     pub(crate) fn bound(&self, dearest: CandSet) -> u128
-        requires { (n : ℕ) → slice_index self.now.worths n ≤ 2 ^ 78 }
+        requires { (n : ℕ) → slice_index self.now.worths n ≤ most_priced }
     {
         self.kept.saturating_add(self.worths.excess(dearest, 0))
     }

@@ -125,6 +125,9 @@ impl<'a, A: Allocator + Copy> Search<'a, A> {
             return None;
         }
         let free = self.priced(node, least)?;
+        // Counting pairs takes about as long as a round over the rows.
+        let rounds = u32::from(self.sees_pairs(node.left));
+        self.moves.work(rounds);
         let free = self.pair_narrowed(&Node { free, ..*node }, least)?;
         self.moved(&Node { free, ..*node }, least, effort)
     }
@@ -138,7 +141,6 @@ impl<'a, A: Allocator + Copy> Search<'a, A> {
         let Some(priced) = &self.aids.priced else {
             return Some(node.free);
         };
-        self.moves.work(0);
         if !may_move(self.tally.rule()) || !self.moves.are_due(node.left) {
             return Some(node.free);
         }
@@ -200,6 +202,8 @@ impl<'a, A: Allocator + Copy> Search<'a, A> {
     }
 
     /// Like `eligible`, but by pairs, if they are worth counting.
+    // Not inlined: its tables take 28 KB of stack, which would lie beside the moving of multipliers.
+    #[inline(never)]
     fn pair_narrowed(&self, node: &Node, least: u128) -> Option<CandSet>
         requires is_node { IsNode self.now.election.m node.now.set node.now.free }
         ensures { Narrows (tally_value self.now) self.now.election.m node.now

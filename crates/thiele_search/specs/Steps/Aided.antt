@@ -9,6 +9,7 @@ use Rattle.tie_search.specs.Completions.{tally_value}
 use Rattle.thiele_search.specs.declared.columns.Columns.{Columns}
 use Rattle.thiele_search.specs.declared.majorant.HitSums.{HitSums}
 use Rattle.thiele_search.specs.declared.search.Aids.{Aids}
+use Rattle.thiele_search.specs.Steps.Units.{most_given_to_pairs}
 use Rattle.thiele_search.specs.Steps.Columns.{AreColumnsOf}
 use Rattle.thiele_search.specs.Steps.Paired.{AreSums}
 use Rattle.thiele_search.specs.Steps.Priced.{IsPriced}
@@ -36,7 +37,7 @@ pub record IsMemoryFor {A : Type 0} (tally : Thiele) (k : ℕ) (columns : Option
 abbrev pub HasSums : Thiele → Option HitSums → Type 0
 HasSums tally sums = MatchOption sums ⊤ (λ given.
     AreSums (increments tally.rule tally.k) given.scale given.unit given.sums
-    × ((h : ℕ) → slice_index given.sums h ≤ 2 ^ 26))
+    × ((h : ℕ) → slice_index given.sums h ≤ most_given_to_pairs))
 
 -- the values are those of an election, and the aids are made from this election
 pub record IsAided {A : Type 0} (tally : Thiele) (aids : Aids A) : Type 0 where

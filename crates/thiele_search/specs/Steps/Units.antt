@@ -1,0 +1,18 @@
+-- Limits of the units in which prices and majorants count.
+use Rattle.std.specs.Prelude.{ℕ, ◌^◌}
+
+-- the first hit of a voter gives at most about this many units
+abbrev pub most_units : ℕ
+most_units = 2 ^ 40
+
+-- all hits of a voter give at most this many units, as much as 64 first hits
+abbrev pub most_given : ℕ
+most_given = 2 ^ 46
+
+-- in sums for pairs, all hits of a voter give at most this many units
+abbrev pub most_given_to_pairs : ℕ
+most_given_to_pairs = 2 ^ 26
+
+-- all voters together keep and give at most this many units
+abbrev pub most_priced : ℕ
+most_priced = 2 ^ 78
