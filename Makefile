@@ -1,0 +1,47 @@
+# Builds a program by a rule for each crate that it stands on, made out of crates.txt: `make` that of this checkout, as
+# `./committees` does. To prove, link and run another one, in FOLDER with src/main.rt, over all crates or those named:
+#   make program DIR=FOLDER [USES='CRATE ..'] [ARGS='WORD ..']
+# Both have `make build` run by tools/build.sh on a copy of the sources. A crate NAME is built if there is its mark,
+# crates/NAME/out/rlib/SUM, whose name is the checksum of what its proof reads and of the kit's version. So times of
+# files do not count, and prerequisites are for the order only.
+.PHONY: all program build
+copy := $(dir $(lastword $(MAKEFILE_LIST)))
+sh := . $(copy)tools/build.sh;
+
+ifneq ($(MAKECMDGOALS),build)
+all:
+	@./committees --help >/dev/null
+program:
+	@set -eu; here=$$PWD; $(sh) build_program "$(DIR)" "$(ARGS)" "$(USES)"
+else
+# What take longest in a first build, with what they stand on, begin as soon as they can, and are proved by two jobs.
+long := ballot_base tie_walk tie_search thiele_search near_search
+all := $(shell $(sh) names_for $(copy) $(TOP))
+crates := $(filter $(all),$(long)) $(filter-out $(long),$(all))
+below = $(filter-out $1,$(shell $(sh) names_for $(copy) $1))
+sum = $(shell $(sh) { echo "$$VERSION"; checksum $(copy) $1; } | digest)
+$(foreach c,$(crates),$(eval below_$c := $(call below,$c))$(eval mark_$c := crates/$c/out/rlib/$(call sum,$c)))
+mark_$(TOP) := $(copy)rooms/$(TOP)/crates/$(TOP)/out/$(TOP)
+marks_of = $(foreach c,$1,$(mark_$c))
+
+# A library serves only over those that it was proved over, so those above a crate without its mark are dropped.
+there := $(wildcard $(call marks_of,$(crates)))
+waiting := $(foreach c,$(crates),$(if $(filter-out $(there),$(call marks_of,$c $(below_$c))),$c))
+export MARKS := $(call marks_of,$(waiting))
+$(shell rm -f $(MARKS))
+
+build: $(call marks_of,$(crates))
+$(foreach c,$(crates),$(eval $(mark_$c): private crate = $c)$(eval $(mark_$c): | $(call marks_of,$(below_$c))))
+beside = $(foreach c,$(filter-out $(crate) $(below_$(crate)),$(waiting)),$(if $(filter $(crate),$(below_$c)),,$c))
+jobs = --jobs $(if $(beside),$(if $(filter $(crate),$(long)),2,1),$$JOBS)
+room = $(copy)rooms/$(crate)
+
+$(filter-out $(mark_$(TOP)),$(call marks_of,$(crates))):
+	@$(sh) report $(crate) begins; run_in_room $(crate) rt lib $(jobs)
+	@mkdir -p $(@D); rm -rf $(@D); mv $(room)/crates/$(crate)/out/rlib $(@D)
+	@touch $@; rm -rf $(room); $(sh) report $(crate) "is done"
+
+$(mark_$(TOP)):
+	@$(sh) report $(crate) begins; run_in_room $(crate) sh -c 'rt run $(jobs) -- $$ARGS || [ -x out/$(crate) ]'
+	@$(sh) report $(crate) "is done"
+endif

@@ -1,0 +1,112 @@
+# shellcheck shell=sh
+# Which files the program is built from, their checksum, and its build by make: read by `committees`, Makefile,
+# `install` and `test`. The folder of this checkout is $here; failing that, the one that they run in.
+here=${here-.}
+copy=crates/committees/out/build # a copy of the sources, which a build reads
+say() { echo "committees: $*" >&2; }
+fail() { say "$*"; exit 125; }
+digest() { sha256sum | sed 's/ .*//'; }
+copy_tree() { cp -Rl "$1" "$2" 2>/dev/null || cp -R "$1" "$2"; }
+
+# Prints folder $1's lines of crates.txt on all crates below crate $2, and its own last.
+lines_for() {
+    awk -v top="$2" '{ sub(/ *#.*/, ""); name = $1; sub(/:.*/, "", name); line[name] = $0 }
+        function visit(name,    part, n) {
+            if (!(name in line) || seen[name]++) return
+            for (n = split(line[name], part, " "); n > 1; n--) visit(part[n])
+            print line[name]
+        }
+        END { visit(top) }' "$1/crates.txt"
+}
+names_for() { lines_for "$1" "$2" | sed 's/[ :].*//'; }
+
+# The checksum of what the proofs of crate $2 and of those below it read in folder $1: their lines of crates.txt, their
+# code, their definitions and their proofs. Times and places do not count, so a copy of a built checkout is built.
+checksum() (
+    cd -- "$1" || exit
+    {
+        lines_for . "$2"
+        for crate in $(names_for . "$2"); do
+            find "crates/$crate" \( -name out -o -name must-fail \) -prune -o \
+                -type f \( -name '*.rt' -o -name '*.antt' \) -print0
+        done | LC_ALL=C sort -z | xargs -0 sha256sum
+    } | digest
+)
+
+# Waits for another build here, and copies what this one reads, so that files may change meanwhile. If a command is not
+# there, $1 and $2 stand around the words that say so.
+begin_build() {
+    for tool in rt make flock setsid; do
+        command -v "$tool" >/dev/null 2>&1 || fail "$1, and the command $tool, which builds it, is not on the PATH$2"
+    done
+    exec 9<"$here"
+    flock -n 9 || { say "waiting for another build here" && flock 9; } || true
+    make=''
+    trap 'end_build; exit 125' EXIT
+    trap 'exit 125' HUP INT TERM
+    rm -rf "${here:?}/$copy" && mkdir -p "$here/$copy"
+    tar -C "$here" --exclude=out --exclude=must-fail -cf - Makefile crates.txt crates tools/build.sh |
+        tar -C "$here/$copy" -xf -
+}
+
+end_build() {
+    trap - EXIT HUP INT TERM
+    [ -z "$make" ] || kill -- "-$make" 2>/dev/null || true
+    wait
+    rm -rf "${here:?}/$copy"
+}
+
+# Has make build the program of crate $1, as the file $built, and run it with the words $2. There is a job for each
+# processor for which there is memory: 2 GB.
+build() {
+    export here BEGAN VERSION JOBS TOP="$1" ARGS="$2"
+    BEGAN=$(date +%s) VERSION=$(rt version) built=$here/$copy/rooms/$1/crates/$1/out/$1
+    JOBS=$(awk -v n="$(nproc)" '/^MemAvailable/ { m = int($2 / 2e6); print(m < 1 ? 1 : m < n ? m : n) }' /proc/meminfo)
+    logic=$(grep -o 'logic [0-9a-f]\{16\}' "$here/README.md")
+    case $VERSION in *"$logic") ;; *) say "rt version prints $VERSION, and README.md asks for $logic" ;; esac
+    takes=$(sed -n 's/.*builds the program first: \([0-9]* [a-z]*\).*/\1/p' "$here/README.md")
+    say "proving and building with make -j $JOBS; a first build takes about $takes on four processors"
+    MAKEFLAGS='' setsid make -s -C "$here" -f "$copy/Makefile" -j "$JOBS" build 3>&2 >"$here/$copy/log" 2>&1 &
+    make=$!
+    wait "$make" 2>/dev/null || { [ -e "$here/$copy/failed" ] || cat "$here/$copy/log" >&2; exit 125; }
+}
+
+# Builds the program in folder $1 and runs it with the words $2, over the crates $3: by default all that this one needs.
+build_program() {
+    folder=$(cd -- "${1:?DIR is missing}" && pwd) && name=${folder##*/}
+    begin_build "$folder is not built" ""
+    cp -R "$folder" "$here/$copy/crates/$name" && rm -rf "$here/$copy/crates/$name/out"
+    echo "$name: ${3:-$(names_for . vote_cli | tr '\n' ' ')}" >>"$here/$copy/crates.txt"
+    build "$name" "$2"
+    mkdir -p "$folder/out" && mv "$built" "$folder/out/$name"
+    end_build
+    say "built $folder/out/$name"
+}
+
+# ---- called by Makefile; what is to be seen goes to file 3, and the rest is kept
+
+# Says that crate $1 begins or has ended, with the time since the build began and the number of crates without a mark.
+report() {
+    left=0 time=$(date -u -d "@$(($(date +%s) - BEGAN))" +%H:%M:%S)
+    for mark in $MARKS; do [ -e "$mark" ] || left=$((left + 1)); done
+    say "${time#00:}  $1 $2; crates left: $left" 2>&3
+}
+
+# Runs the words after $1, a crate, in copies of it and of those below, since only one rt at a time works in a folder.
+# If they fail, this shows the end of what they printed, and ends make, which would wait for other crates.
+run_in_room() {
+    crate=$1 room=$copy/rooms/$1
+    shift
+    mkdir -p "$room/crates"
+    lines_for "$copy" "$crate" >"$room/crates.txt"
+    for lower in $(names_for "$copy" "$crate"); do
+        copy_tree "$copy/crates/$lower" "$room/crates"
+        mkdir -p "$room/crates/$lower/out"
+        [ "$lower" = "$crate" ] || copy_tree "crates/$lower/out/rlib" "$room/crates/$lower/out"
+    done
+    (cd "$room/crates/$crate" && exec "$@") </dev/null >"$room/log" 2>&1 && return
+    log=$(mktemp "${TMPDIR:-/tmp}/committees-log.XXXXXX") && cp "$room/log" "$log"
+    tail -n 40 "$log" >&3
+    say "$crate was not proved and built; the whole output is in $log" 2>&3
+    touch "$copy/failed"; kill "$PPID"; exit 1
+}
