@@ -1,6 +1,6 @@
 #!/bin/sh
-# Writes a ballot file to standard output: `many_ballots.sh LINES COMMENT`, with so many lines (1,000,000 where no number
-# is given) and a comment of so many bytes (none) after each ballot. Most of its ballots stand in it many times.
+# Writes a ballot file to standard output: `many_ballots.sh LINES COMMENT`, with so many lines (1,000,000 where no
+# number is given) and a comment of so many bytes (none) after each ballot. Most of its ballots stand in it many times.
 set -eu
 awk -v lines="${1:-1000000}" -v length_of_comment="${2:-0}" 'BEGIN {
     print "# FILE NAME: many_ballots.toi"
