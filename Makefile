@@ -6,13 +6,13 @@
 # files do not count, and prerequisites are for the order only.
 .PHONY: all program build
 copy := $(dir $(lastword $(MAKEFILE_LIST)))
-sh := . $(copy)tools/build.sh;
+sh := set -eu; . $(copy)tools/build.sh;
 
 ifneq ($(MAKECMDGOALS),build)
 all:
 	@./committees --help >/dev/null
 program:
-	@set -eu; here=$$PWD; $(sh) build_program "$(DIR)" "$(ARGS)" "$(USES)"
+	@here=$$PWD; $(sh) build_program "$(DIR)" "$(ARGS)" "$(USES)"
 else
 # What take longest in a first build, with what they stand on, begin as soon as they can, and are proved by two jobs.
 long := ballot_base tie_walk tie_search thiele_search near_search

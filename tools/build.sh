@@ -61,8 +61,8 @@ end_build() {
 build() {
     export here BEGAN VERSION JOBS TOP="$1" ARGS="$2"
     BEGAN=$(date +%s) VERSION=$(rt version) built=$here/$copy/rooms/$1/crates/$1/out/$1
-    JOBS=$(awk -v n="$(nproc)" '/^MemAvailable/ { m = int($2 / 2e6); print(m < 1 ? 1 : m < n ? m : n) }' /proc/meminfo)
-    logic=$(grep -o 'logic [0-9a-f]\{16\}' "$here/README.md")
+    JOBS=$(awk -v n="$(nproc)" '/^MemAv/ { m = int($2 / 2e6) } END { print(m < 1 ? 1 : m < n ? m : n) }' /proc/meminfo)
+    logic=$(grep -o 'logic [0-9a-f]\{16\}' "$here/README.md" || true)
     case $VERSION in *"$logic") ;; *) say "rt version prints $VERSION, and README.md asks for $logic" ;; esac
     takes=$(sed -n 's/.*builds the program first: \([0-9]* [a-z]*\).*/\1/p' "$here/README.md")
     say "proving and building with make -j $JOBS; a first build takes about $takes on four processors"
@@ -75,6 +75,7 @@ build() {
 build_program() {
     folder=$(cd -- "${1:?DIR is missing}" && pwd) && name=${folder##*/}
     begin_build "$folder is not built" ""
+    [ ! -e "$here/$copy/crates/$name" ] || fail "a crate here has the name of $folder"
     cp -R "$folder" "$here/$copy/crates/$name" && rm -rf "$here/$copy/crates/$name/out"
     echo "$name: ${3:-$(names_for . vote_cli | tr '\n' ' ')}" >>"$here/$copy/crates.txt"
     build "$name" "$2"
