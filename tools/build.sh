@@ -68,7 +68,7 @@ build() {
     say "proving and building with make -j $JOBS; a first build takes about $takes on four processors"
     MAKEFLAGS='' setsid make -s -C "$here" -f "$copy/Makefile" -j "$JOBS" build 3>&2 >"$here/$copy/log" 2>&1 &
     make=$!
-    wait "$make" 2>/dev/null || { [ -e "$here/$copy/failed" ] || cat "$here/$copy/log" >&2; exit 125; }
+    wait "$make" 2>/dev/null || { [ -e "$here/$copy/failed" ] || fail "make: $(cat "$here/$copy/log")"; exit 125; }
 }
 
 # Builds the program in folder $1 and runs it with the words $2, over the crates $3: by default all that this one needs.
