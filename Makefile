@@ -38,8 +38,8 @@ room = $(copy)rooms/$(crate)
 
 $(filter-out $(mark_$(TOP)),$(call marks_of,$(crates))):
 	@$(sh) report $(crate) begins; run_in_room $(crate) rt lib $(jobs)
-	@mkdir -p $(@D); rm -rf $(@D); mv $(room)/crates/$(crate)/out/rlib $(@D)
-	@touch $@; rm -rf $(room); $(sh) report $(crate) "is done"
+	@mkdir -p $(@D) && rm -rf $(@D) && mv $(room)/crates/$(crate)/out/rlib $(@D)
+	@touch $@ && rm -rf $(room); $(sh) report $(crate) "is done"
 
 $(mark_$(TOP)):
 	@$(sh) report $(crate) begins; run_in_room $(crate) sh -c 'rt run $(jobs) -- $$ARGS || [ -x out/$(crate) ]'
