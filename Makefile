@@ -14,8 +14,8 @@ all:
 program:
 	@here=$$PWD; $(sh) build_program "$(DIR)" "$(ARGS)" "$(USES)"
 else
-# What take longest in a first build, with what they stand on, begin as soon as they can, and are proved by two jobs.
-long := ballot_base tie_walk tie_search thiele_search near_search
+# The chain of crates that takes longest: each begins as soon as it can, with two jobs if there are four or more.
+long := ballot_base tie_walk tie_search thiele_search
 all := $(shell $(sh) names_for $(copy) $(TOP))
 crates := $(filter $(all),$(long)) $(filter-out $(long),$(all))
 below = $(filter-out $1,$(shell $(sh) names_for $(copy) $1))
@@ -33,7 +33,7 @@ $(shell rm -f $(MARKS))
 build: $(call marks_of,$(crates))
 $(foreach c,$(crates),$(eval $(mark_$c): private crate = $c)$(eval $(mark_$c): | $(call marks_of,$(below_$c))))
 beside = $(foreach c,$(filter-out $(crate) $(below_$(crate)),$(waiting)),$(if $(filter $(crate),$(below_$c)),,$c))
-jobs = --jobs $(if $(beside),$(if $(filter $(crate),$(long)),2,1),$$JOBS)
+jobs = --jobs $(if $(strip $(beside)),$(if $(filter $(crate),$(long)),$$((JOBS < 4 ? 1 : 2)),1),$$JOBS)
 room = $(copy)rooms/$(crate)
 
 $(filter-out $(mark_$(TOP)),$(call marks_of,$(crates))):
