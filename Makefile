@@ -14,7 +14,7 @@ all:
 program:
 	@here=$$PWD; $(sh) build_program "$(DIR)" "$(ARGS)" "$(USES)"
 else
-# The chain of crates that takes longest: each begins as soon as it can, with two jobs if there are four or more.
+# The chain of crates that takes longest. Each begins as soon as it can, and if there are four jobs, with at least two.
 long := ballot_base tie_walk tie_search thiele_search
 all := $(shell $(sh) names_for $(copy) $(TOP))
 crates := $(filter $(all),$(long)) $(filter-out $(long),$(all))
@@ -25,21 +25,21 @@ mark_$(TOP) := $(copy)rooms/$(TOP)/crates/$(TOP)/out/$(TOP)
 marks_of = $(foreach c,$1,$(mark_$c))
 
 # A library serves only over those that it was proved over, so those above a crate without its mark are dropped.
-there := $(wildcard $(call marks_of,$(crates)))
-waiting := $(foreach c,$(crates),$(if $(filter-out $(there),$(call marks_of,$c $(below_$c))),$c))
+waiting := $(foreach c,$(crates),$(if $(filter-out $(wildcard crates/*/out/rlib/*),$(call marks_of,$c $(below_$c))),$c))
 export MARKS := $(call marks_of,$(waiting))
 $(shell rm -f $(MARKS))
 
 build: $(call marks_of,$(crates))
 $(foreach c,$(crates),$(eval $(mark_$c): private crate = $c)$(eval $(mark_$c): | $(call marks_of,$(below_$c))))
 beside = $(foreach c,$(filter-out $(crate) $(below_$(crate)),$(waiting)),$(if $(filter $(crate),$(below_$c)),,$c))
-jobs = --jobs $(if $(strip $(beside)),$(if $(filter $(crate),$(long)),$$((JOBS < 4 ? 1 : 2)),1),$$JOBS)
-room = $(copy)rooms/$(crate)
+left = JOBS - $(words $(beside))
+least = $(if $(filter $(crate),$(long)),(JOBS < 4 ? 1 : 2),1)
+jobs = --jobs $$(($(left) > $(least) ? $(left) : $(least)))
 
 $(filter-out $(mark_$(TOP)),$(call marks_of,$(crates))):
 	@$(sh) report $(crate) begins; run_in_room $(crate) rt lib $(jobs)
-	@mkdir -p $(@D) && rm -rf $(@D) && mv $(room)/crates/$(crate)/out/rlib $(@D)
-	@touch $@ && rm -rf $(room); $(sh) report $(crate) "is done"
+	@mkdir -p $(@D) && rm -rf $(@D) && mv $(copy)rooms/$(crate)/crates/$(crate)/out/rlib $(@D)
+	@touch $@ && rm -rf $(copy)rooms/$(crate); $(sh) report $(crate) "is done"
 
 $(mark_$(TOP)):
 	@$(sh) report $(crate) begins; run_in_room $(crate) sh -c 'rt run $(jobs) -- $$ARGS || [ -x out/$(crate) ]'
