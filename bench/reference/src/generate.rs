@@ -178,7 +178,7 @@ fn noise(candidates: u64, voters: u64, random: &mut Random) -> Ballots {
 
 /// Mallows, Non-null ranking models, 1957: each voter draws one of four groups, each with a central ranking. The chance
 /// of the voter's ranking is proportional to phi = 19/20 to the power of the number of pairs that it orders otherwise
-/// (repeated insertion). The voter approves the first fifth of the ranking.
+/// (repeated insertion). The voter approves the first 3 to 12 of the ranking.
 fn mallows(candidates: u64, voters: u64, random: &mut Random) -> Ballots {
     let centres: Vec<Vec<u64>> = (0..4).map(|_| random.shuffled(candidates)).collect();
     let ballot = |_| {
@@ -188,7 +188,9 @@ fn mallows(candidates: u64, voters: u64, random: &mut Random) -> Ballots {
             let back = iter::repeat_with(|| random.below(20)).take_while(|&draw| draw > 0).count();
             ranking.insert(ranking.len() - back % (ranking.len() + 1), n);
         }
-        first_fifth(ranking)
+        ranking.truncate(3 + random.below(10) as usize);
+        ranking.sort();
+        ranking
     };
     (0..voters).map(ballot).collect()
 }
