@@ -1,8 +1,8 @@
 //! The ballots candidate by candidate, one bit per voter, so that gains are counted for 64 voters at once.
 //!
-//! One word holds the voters with each number of hits. The words are made member by member: voters who approve the
-//! member move on by one hit. The gain of a candidate is the sum, over numbers of hits, of the weight times the bits
-//! that word and column share. Only the candidates that are asked for are counted.
+//! For each number of hits, one word holds the voters who have it. The words are made member by member: voters who
+//! approve the member move on by one hit. The gain of a candidate is the sum, over numbers of hits, of the weight times
+//! the bits that word and column share. Only the candidates that are asked for are counted.
 //!
 //! There are no columns for more than 65,536 voters or more than two voters per row; then gains come from one pass over
 //! the rows. Sums are made in words of 64 bits if all weights are below 2^44, and otherwise in words of 128 bits. The

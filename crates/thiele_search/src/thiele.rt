@@ -213,7 +213,8 @@ impl<'a, A: Allocator + Copy> Searchable for ThieleSearch<'a, A> {
     }
 }
 
-/// The maximum number of rows with multipliers.
+/// The maximum number of rows with multipliers. With more different ballots there are no prices, and a search uses only
+/// gains and pairs. (With 10,000 of them, prices brought nothing within a minute.)
 const MOST_ROWS: usize = 8192;
 
 fn multipliers_for<A: Allocator + Copy + Drop>(

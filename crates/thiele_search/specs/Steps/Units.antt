@@ -13,6 +13,6 @@ most_given = 2 ^ 46
 abbrev pub most_given_to_pairs : ℕ
 most_given_to_pairs = 2 ^ 26
 
--- all voters together keep and give at most this many units
+-- all voters together keep at most this many units, and no price is above it
 abbrev pub most_priced : ℕ
 most_priced = 2 ^ 78
