@@ -1,9 +1,8 @@
-# Builds a program by a rule for each crate that it stands on, made out of crates.txt: `make` that of this checkout, as
-# `./committees` does. To prove, link and run another one, in FOLDER with src/main.rt, over all crates or those named:
-#   make program DIR=FOLDER [USES='CRATE ..'] [ARGS='WORD ..']
-# Both have `make build` run by tools/build.sh on a copy of the sources. A crate NAME is built if there is its mark,
-# crates/NAME/out/rlib/SUM, whose name is the checksum of what its proof reads and of the kit's version. So times of
-# files do not count, and prerequisites are for the order only.
+# A rule for each crate, made from crates.txt. `make` builds the program of this checkout, as `./committees` does, and
+#   make program DIR=FOLDER [USES='CRATE ..'] [ARGS='WORD ..' for a first run]
+# proves and links another one, with src/main.rt, over all crates here, or over those named (also of the kit). Both have
+# `make build` run by tools/build.sh on a copy of the sources. The mark of a built crate, crates/NAME/out/rlib/SUM, has
+# as its name the checksum of what its proof reads and of the kit's version. Times of files do not count.
 .PHONY: all program build
 copy := $(dir $(lastword $(MAKEFILE_LIST)))
 sh := set -eu; . $(copy)tools/build.sh;

@@ -1,11 +1,11 @@
 # shellcheck shell=sh
-# Which files the program is built from, their checksum, and its build by make: read by `committees`, Makefile,
-# `install` and `test`. The folder of this checkout is $here; failing that, the one that they run in.
+# What the program is built from, its checksum, and the build by make: read by `committees`, Makefile, `install` and
+# `test`. $here is the folder of this checkout, or the one that they run in.
 here=${here-.}
 copy=crates/committees/out/build # a copy of the sources, which a build reads
 say() { echo "committees: $*" >&2; }
 fail() { say "$*"; exit 125; }
-digest() { sha256sum | sed 's/ .*//'; }
+digest() { sha256sum | cut -d ' ' -f 1; }
 copy_tree() { cp -Rl "$1" "$2" 2>/dev/null || cp -R "$1" "$2"; }
 
 # Prints folder $1's lines of crates.txt on all crates below crate $2, and its own last.
@@ -24,17 +24,15 @@ names_for() { lines_for "$1" "$2" | sed 's/[ :].*//'; }
 # code, their definitions and their proofs. Times and places do not count, so a copy of a built checkout is built.
 checksum() (
     cd -- "$1" || exit
-    {
-        lines_for . "$2"
-        for crate in $(names_for . "$2"); do
-            find "crates/$crate" \( -name out -o -name must-fail \) -prune -o \
-                -type f \( -name '*.rt' -o -name '*.antt' \) -print0
-        done | LC_ALL=C sort -z | xargs -0 sha256sum
-    } | digest
+    # shellcheck disable=SC2046 # no name of a crate has a blank
+    set -- "$2" $(names_for . "$2" | sed 's|^|crates/|')
+    { lines_for . "$1" && shift &&
+        find "$@" \( -name out -o -name must-fail \) -prune -o -type f \( -name '*.rt' -o -name '*.antt' \) -print0 |
+        LC_ALL=C sort -z | xargs -0 sha256sum; } | digest
 )
 
-# Waits for another build here, and copies what this one reads, so that files may change meanwhile. If a command is not
-# there, $1 and $2 stand around the words that say so.
+# Waits for another build here, and copies what this one reads, so that files may change meanwhile. If a command is
+# missing, the message is $1, the missing command, and $2.
 begin_build() {
     for tool in rt make flock setsid; do
         command -v "$tool" >/dev/null 2>&1 || fail "$1, and the command $tool, which builds it, is not on the PATH$2"
@@ -44,14 +42,15 @@ begin_build() {
     make=''
     trap 'end_build; exit 125' EXIT
     trap 'exit 125' HUP INT TERM
+    [ -e "$here/crates.txt" ] || fail "there is no crates.txt in $here"
     rm -rf "${here:?}/$copy" && mkdir -p "$here/$copy"
     tar -C "$here" --exclude=out --exclude=must-fail -cf - Makefile crates.txt crates tools/build.sh |
-        tar -C "$here/$copy" -xf -
+        tar -C "$here/$copy" -xf - || fail "the sources cannot be copied"
 }
 
 end_build() {
     trap - EXIT HUP INT TERM
-    [ -z "$make" ] || kill -- "-$make" 2>/dev/null || true
+    [ -z "$make" ] || kill -- "-$make" 2>/dev/null || kill "$make" 2>/dev/null || true
     wait
     rm -rf "${here:?}/$copy"
 }
@@ -71,12 +70,15 @@ build() {
     wait "$make" 2>/dev/null || { [ -e "$here/$copy/failed" ] || fail "make: $(cat "$here/$copy/log")"; exit 125; }
 }
 
-# Builds the program in folder $1 and runs it with the words $2, over the crates $3: by default all that this one needs.
+# Builds the program in folder $1 over the crates $3 (all that this one needs), and runs it once with the words $2.
 build_program() {
-    folder=$(cd -- "${1:?DIR is missing}" && pwd) && name=${folder##*/}
+    folder=$(CDPATH='' cd -- "${1:?DIR is missing}" && pwd) || fail "there is no folder $1"
+    name=${folder##*/}
+    case $name in *[!a-z0-9_]*) fail "$name cannot be the name of a crate" ;; esac
     begin_build "$folder is not built" ""
     [ ! -e "$here/$copy/crates/$name" ] || fail "a crate here has the name of $folder"
-    cp -R "$folder" "$here/$copy/crates/$name" && rm -rf "$here/$copy/crates/$name/out"
+    cp -R "$folder" "$here/$copy/crates/$name"
+    rm -rf "$here/$copy/crates/$name/out"
     echo "$name: ${3:-$(names_for . vote_cli | tr '\n' ' ')}" >>"$here/$copy/crates.txt"
     build "$name" "$2"
     mkdir -p "$folder/out" && mv "$built" "$folder/out/$name"
@@ -84,9 +86,8 @@ build_program() {
     say "built $folder/out/$name"
 }
 
-# ---- called by Makefile; what is to be seen goes to file 3, and the rest is kept
-
-# Says that crate $1 begins or has ended, with the time since the build began and the number of crates without a mark.
+# Called by Makefile, as is run_in_room; what is to be seen goes to file 3. Says that crate $1 begins or has ended, with
+# the time since the build began and the number of crates without a mark.
 report() {
     left=0 time=$(date -u -d "@$(($(date +%s) - BEGAN))" +%H:%M:%S)
     for mark in $MARKS; do [ -e "$mark" ] || left=$((left + 1)); done
