@@ -95,7 +95,7 @@ report() {
 }
 
 # Runs the words after $1, a crate, in copies of it and of those below, since only one rt at a time works in a folder.
-# If they fail, this shows the end of what they printed, and ends make, which would wait for other crates.
+# If they fail, this shows the first complaints and the end of what they printed, and ends make, which would wait.
 run_in_room() {
     crate=$1 room=$copy/rooms/$1
     shift
@@ -108,7 +108,7 @@ run_in_room() {
     done
     (cd "$room/crates/$crate" && exec "$@") </dev/null >"$room/log" 2>&1 && return
     log=$(mktemp "${TMPDIR:-/tmp}/committees-log.XXXXXX") && cp "$room/log" "$log"
-    tail -n 40 "$log" >&3
+    { grep -m 5 -e '^note: src/' -e 'error' "$log" || true; tail -n 20 "$log"; } >&3
     say "$crate was not proved and built; the whole output is in $log" 2>&3
     touch "$copy/failed"; kill "$PPID"; exit 1
 }
