@@ -9,35 +9,38 @@ import textwrap
 import unittest
 
 TOP = pathlib.Path(os.path.realpath(__file__)).parent.parent
+# The definitions of a file that a run rests on.
+SHOWN = """\
+-- a profile; its field is not the definition `size`
+pub record Profile : Type 0 where
+  pub size : ℕ
+  pub rows : List ℕ
+
+-- a comment that names unused
+abbrev pub total : Profile → ℕ
+total profile = profile.size + each_row profile.rows
+
+-- named only by the one above
+each_row : List ℕ → ℕ
+each_row [] = 0
+each_row (row ∷ rows) = row + each_row rows
+"""
 TREE = {
     "crates.txt": """
         # NAME: what it stands on
         votes:
         vote_cli: votes
         """,
-    "crates/votes/specs/Count.antt": """
-        -- What is counted
-        -- (a public source).
-        use Rattle.std.specs.Prelude.{◌+◌, ℕ, List}
+    "crates/votes/specs/Count.antt": f"""\
+-- What is counted
+-- (a public source).
+use Rattle.std.specs.Prelude.{{◌+◌, ℕ, List}}
 
-        -- a profile; its field is not the definition `size`
-        pub record Profile : Type 0 where
-          pub size : ℕ
-          pub rows : List ℕ
-
-        -- a comment that names unused
-        abbrev pub total : Profile → ℕ
-        total profile = profile.size + each_row profile.rows
-
-        -- named only by the one above
-        each_row : List ℕ → ℕ
-        each_row [] = 0
-        each_row (row ∷ rows) = row + each_row rows
-
-        -- what is not named
-        abbrev pub unused : ℕ
-        unused = total 1
-        """,
+{SHOWN}
+-- what is not named
+abbrev pub unused : ℕ
+unused = total 1
+""",
     "crates/votes/specs/Size.antt": """
         -- What only has the name of a field.
         abbrev pub size : ℕ
@@ -84,29 +87,16 @@ TABLE = """
     | votes, Count | What is counted (a public source). | `Profile`, `total`, `each_row` |
     | vote_cli, Steps.Run | What a run leaves. | `IsRight` |
     """
-TEXT = """
-    -- ==== votes, Count
+TEXT = f"""\
+-- ==== votes, Count
 
-    -- a profile; its field is not the definition `size`
-    pub record Profile : Type 0 where
-      pub size : ℕ
-      pub rows : List ℕ
+{SHOWN}
+-- ==== vote_cli, Steps.Run
 
-    -- a comment that names unused
-    abbrev pub total : Profile → ℕ
-    total profile = profile.size + each_row profile.rows
+  abbrev pub IsRight : ℕ → Type 0
+  IsRight result = result ≡ sum old + old.size -- total
 
-    -- named only by the one above
-    each_row : List ℕ → ℕ
-    each_row [] = 0
-    each_row (row ∷ rows) = row + each_row rows
-
-    -- ==== vote_cli, Steps.Run
-
-      abbrev pub IsRight : ℕ → Type 0
-      IsRight result = result ≡ sum old + old.size -- total
-
-    """
+"""
 
 
 def plain(text):
