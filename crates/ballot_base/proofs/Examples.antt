@@ -1,5 +1,5 @@
 -- Each definition, computed on a small example.
-use Rattle.std.proofs.Common.{◌≡◌, ℕ, ◌+◌, ◌*◌, ◌^◌, ◌≤◌, ◌==◌, ◌||◌, ◌∙◌, Bool, List, [], ◌∷◌, true, false, refl, sym, ap, inl, inr, lit≤, Some, None, get_or, replicate, sum_by, arith}
+use Rattle.std.proofs.Common.{◌≡◌, ℕ, ◌+◌, ◌*◌, ◌^◌, ◌≤◌, ◌==◌, ◌||◌, ◌∙◌, Bool, List, [], ◌∷◌, true, false, refl, ap, inl, inr, lit≤, Some, None, get_or, replicate, sum_by, arith}
 use Rattle.std.proofs.lemmas.Bool.{cases_eq, ne_eqb}
 use Rattle.ballot_base.specs.Lists.{IsIncreasing, lists_of, increasing_lists, is_committee, is_later, IsLater, AreInOrder, later_than}
 use Rattle.ballot_base.specs.CandSet.{has_member, with_member, without_member, common_members, either_members, other_members, members_upto, includes}
