@@ -24,12 +24,12 @@ use crate::majorant::HitSums;
 use crate::multipliers::{AGAIN, Effort, NODE};
 use crate::pairs::PairSearch;
 use crate::prices::{PriceSearch, Priced};
-use crate::trials::{Moves, Uses};
+use crate::trials::Uses;
 use ballot_base::{CandSet, Clones, Profile, ThieleRule, Worths};
 use std::alloc::Allocator;
 use std::marker::Model;
-use tie_search::Node;
 use tie_search::descent::{Narrowing, Plan};
+use tie_search::{Moves, Node};
 use tie_walk::{Tally, ThieleTally};
 
 /// The aids of a search: clones; columns and prices, if they are worth making; what hits give, for majorants; and which
@@ -83,7 +83,7 @@ impl<'a, A: Allocator + Copy> Search<'a, A> {
             tally,
             aids,
             counts_pairs: false,
-            moves: Moves::new(profile.rows()),
+            moves: Moves::new(round_of(profile.rows())),
         }
     }
 
@@ -341,6 +341,11 @@ impl<'a, A: Allocator + Copy> Narrowing for Search<'a, A> {
         };
         Node { free, ..child }
     }
+}
+
+/// The work of a round over this many rows. A visit passes over blocks of voters, and takes less.
+fn round_of(rows: usize) -> u64 {
+    rows.div_ceil(32) as u64
 }
 
 /// Whether multipliers may be moved at a node. Under `cc` a set takes so little time that moves cost more than they

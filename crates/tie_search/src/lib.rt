@@ -7,8 +7,8 @@
 //! `SearchWinners` lists the winners. It asks a search for each of them, so it goes only where a winner is. A walk over
 //! plain bounds enters a prefix in vain if its bound reaches the highest value and no committee below it does.
 //!
-//! The modules `found` and `node` have the parts of a search: what was found so far, and a set with the candidates that
-//! are free to join it.
+//! The modules `found`, `node` and `moves` have the parts of a search: what was found so far, a set with the candidates
+//! that are free to join it, and where it pays to move multipliers.
 #![tactic(auto)]
 
 mod asking;
@@ -16,11 +16,13 @@ mod best;
 mod branch;
 pub mod descent;
 pub mod found;
+pub mod moves;
 pub mod node;
 pub mod searchable;
 pub mod winners;
 
 pub use found::{MOST_TIED, Tied};
+pub use moves::Moves;
 pub use node::Node;
 pub use searchable::Searchable;
 pub use winners::SearchWinners;

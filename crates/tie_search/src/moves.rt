@@ -1,0 +1,182 @@
+//! Where it pays to move the multipliers of a bound.
+//!
+//! A bound over rows has a multiplier for each row. Any multipliers are right, and some rounds over the rows can move
+//! them so that the bound ends a node. A round costs work. So a search counts what moves achieve and what they cost, by
+//! the number of seats left, and moves where they save work. Nothing is proved of these counts.
+
+use ballot_base::PLACES;
+
+/// What a move achieved is counted in parts of this number; a node that ended is all of them. Means are in such parts
+/// of one as well.
+const PARTS: u64 = 1024;
+
+/// The maximum that a move achieves if candidates only leave: seven tenths.
+const MOST_OF_LEAVING: u64 = PARTS * 7 / 10;
+
+/// Multipliers are first moved after the work of this many rounds over the rows. Shorter searches end sooner without.
+const BEGINNING: u64 = 384;
+
+/// The number of moves, for a number of seats left, before it is judged whether they pay.
+const TRIALS_OF_MOVES: u64 = 4;
+
+/// At one of this many nodes nothing is moved, so that the work below it is seen. Seen at nodes that moves had not
+/// ended, it was too high, and 40 random candidates took fifteen times as long under `cc`.
+const LEFT_ALONE: u32 = 16;
+
+/// If moves do not pay, they are made at one of this many nodes, so that this is judged anew.
+const SAMPLE_OF_MOVES: u32 = 64;
+
+/// A mean is of about this many numbers, the last ones, so that old ones are forgotten.
+const MEMORY: u64 = 50;
+
+/// What moves of multipliers achieve, and what they cost, by the number of seats left. The unit of work is a visit to a
+/// set.
+#[derive(Drop)]
+pub struct Moves {
+    // The work of a round over the rows.
+    round: u64,
+    // All work so far.
+    done: u64,
+    levels: [Level; PLACES],
+}
+
+impl Moves {
+    /// Nothing was moved yet. The work of a round over the rows is that of this many visits.
+    pub fn new(round: u64) -> Moves {
+        Moves {
+            round,
+            done: 0,
+            levels: [Level::NONE; PLACES],
+        }
+    }
+
+    /// Enters a node with `left` seats left. As a search goes depth first, all work since an earlier node with as many
+    /// seats left or fewer was below the earlier node.
+    pub fn enter(&mut self, left: u8) {
+        let done = self.done;
+        for level in self.levels.iter_mut().take(usize::from(left) + 1) {
+            level.close(done);
+        }
+        let has_begun = self.has_begun();
+        if let Some(level) = self.levels.get_mut(usize::from(left)) {
+            level.enter(done, has_begun);
+        }
+    }
+
+    fn has_begun(&self) -> bool {
+        self.done >= self.round.saturating_mul(BEGINNING)
+    }
+
+    /// Counts the work of rounds over the rows, or of a visit if there were none.
+    pub fn work(&mut self, rounds: u32) {
+        let more = if rounds == 0 {
+            1
+        } else {
+            self.round.saturating_mul(u64::from(rounds))
+        };
+        self.done = self.done.saturating_add(more);
+    }
+
+    /// Whether to move multipliers at the node that was entered last, with `left` seats left.
+    pub fn are_due(&self, left: u8) -> bool {
+        self.has_begun()
+            && match self.levels.get(usize::from(left)) {
+                Some(level) => level.is_due(),
+                None => false,
+            }
+    }
+
+    /// Notes a move at the node that was entered last, and counts its rounds as work. `before` and `after` are the
+    /// numbers of free candidates; `after` is `None` if the node ended.
+    pub fn note(&mut self, left: u8, before: u8, after: Option<u8>, rounds: u32) {
+        self.work(rounds);
+        let cost = self.round.saturating_mul(u64::from(rounds));
+        if let Some(level) = self.levels.get_mut(usize::from(left)) {
+            level.success.note(achieved(before, after));
+            level.cost.note(cost.saturating_mul(PARTS));
+        }
+    }
+}
+
+/// What is known of the nodes with a number of seats left.
+#[derive(Clone, Copy)]
+struct Level {
+    nodes: u32,
+    // What moves achieved, and what they cost.
+    success: Mean,
+    cost: Mean,
+    // The work below a node.
+    below: Mean,
+    // All work up to the beginning of the node whose work below is being counted.
+    open: Option<u64>,
+    // Whether nothing is moved at the last node, so that the work below it is seen.
+    is_left_alone: bool,
+}
+
+impl Level {
+    const NONE: Level = Level {
+        nodes: 0,
+        success: Mean::NONE,
+        cost: Mean::NONE,
+        below: Mean::NONE,
+        open: None,
+        is_left_alone: false,
+    };
+
+    /// Ends the count of the work below a node.
+    fn close(&mut self, done: u64) {
+        if let Some(before) = self.open.take() {
+            self.below
+                .note(done.saturating_sub(before).saturating_mul(PARTS));
+        }
+    }
+
+    /// Enters a node. The work below it is counted only if nothing is moved there: a node that moves do not end has
+    /// more work below it than most.
+    fn enter(&mut self, done: u64, has_begun: bool) {
+        self.nodes = self.nodes.wrapping_add(1);
+        self.is_left_alone = self.nodes % LEFT_ALONE == 0;
+        let is_moved = has_begun && self.is_due();
+        self.open = (!is_moved).then_some(done);
+    }
+
+    /// Whether moves save as much work as they cost, or are to be tried.
+    fn is_due(&self) -> bool {
+        if self.is_left_alone {
+            return false;
+        }
+        self.below.count == 0
+            || self.success.count < TRIALS_OF_MOVES
+            || self.success.value.saturating_mul(self.below.value) / PARTS >= self.cost.value
+            || self.nodes % SAMPLE_OF_MOVES == 0
+    }
+}
+
+/// A running mean.
+#[derive(Clone, Copy)]
+struct Mean {
+    // The count of its numbers, up to `MEMORY`.
+    count: u64,
+    value: u64,
+}
+
+impl Mean {
+    const NONE: Mean = Mean { count: 0, value: 0 };
+
+    fn note(&mut self, number: u64) {
+        self.count = MEMORY.min(self.count.saturating_add(1));
+        let others = self.value.saturating_mul(self.count.saturating_sub(1));
+        self.value = others.saturating_add(number) / self.count;
+    }
+}
+
+/// What a move achieved, in parts, by the candidates that were free before and after it.
+fn achieved(before: u8, after: Option<u8>) -> u64 {
+    match after {
+        Some(after) => {
+            let gone = before.saturating_sub(after);
+            MOST_OF_LEAVING * u64::from(gone) / u64::from(before.max(1))
+        }
+        None => PARTS,
+    }
+}
