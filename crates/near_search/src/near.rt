@@ -134,7 +134,7 @@ impl<A: Allocator + Copy> Narrowing for NearSearch<'_, A> {
         members_for(&plan.worths, node, plan.due)
     }
 
-    fn child(&self, _plan: &Plan, node: &Node, next: u8, _least: u128) -> Node {
+    fn child(&self, _plan: &Plan, node: &Node, next: u8) -> Node {
         Node {
             set: node.set.with(next),
             value: 0,

@@ -328,14 +328,14 @@ impl<'a, A: Allocator + Copy> Narrowing for Search<'a, A> {
         self.promising(&plan.worths, &Node { free, ..*node }, least)
     }
 
-    fn child(&self, plan: &Plan, node: &Node, next: u8, least: u128) -> Node {
+    fn child(&self, plan: &Plan, node: &Node, next: u8) -> Node {
         let child = Node {
             set: node.set.with(next),
             value: node.value + plan.worths.of(next),
             free: node.free.without(next),
             left: node.left - 1,
         };
-        let free = match self.promising(&plan.worths, &child, least) {
+        let free = match self.promising(&plan.worths, &child, plan.least) {
             Some(kept) => kept,
             None => CandSet::empty(),
         };

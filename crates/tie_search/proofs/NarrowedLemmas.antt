@@ -51,6 +51,15 @@ module _ (value : List ℕ → ℕ) (m : ℕ) (set free rest : List ℕ) (left l
   pub narrowed-out : IsOutOfReach value m set rest left least → IsOutOfReach value m set free left least
   narrowed-out none = none-left value m set left least free rest narrowed.kept none
 
+-- who can still join a set for a value can include all who can for a higher one
+pub narrowed-later : (value : List ℕ → ℕ) (m : ℕ) (set free : List ℕ) (left least later : ℕ) (rest : List ℕ) → least ≤ later → IsNarrowed value m set free left least rest
+    → IsNarrowed value m set free left later rest
+narrowed-later value m set free left least later rest higher narrowed = record {
+  is_node = narrowed.is_node;
+  among = narrowed.among;
+  kept = λ committee whole reaches. narrowed.kept committee whole (omega (arith, higher, reaches));
+}
+
 -- where those whom a committee adds that reaches the value are worth so much together, members for so much narrow
 module _ (value : List ℕ → ℕ) (m : ℕ) (set free : List ℕ) (left least : ℕ) (worth : ℕ → ℕ) (due : ℕ) (few : m ≤ most_candidates) (is_node : IsNode m set free)
     (pays : (committee : List ℕ) → IsCompletion m set free left committee → least ≤ value committee → due ≤ sum_by worth (common_members free committee)) where

@@ -18,6 +18,6 @@ returns-clause-child g c =
     record {
       set = c.with.ensures;
       left = refl;
-      narrowed = rw c.without.ensures (narrowed-none (closeness e.m e.rows) e.m (with_member node.set c.args.next) (without_member node.free c.args.next) (node.left - 1) c.args._least
+      narrowed = rw c.without.ensures (narrowed-none (closeness e.m e.rows) e.m (with_member node.set c.args.next) (without_member node.free c.args.next) (node.left - 1) c.args._plan.now.least
           (node-with e.m node.set node.free c.args.next c.requires.is_node c.requires.next));
     }

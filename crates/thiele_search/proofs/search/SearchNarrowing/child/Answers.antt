@@ -68,13 +68,13 @@ returns-clause-child g c =
     let node = c.args.node.now in
     let m = tally.election.m in
     let is_node : IsNode m (with_member node.set c.args.next) (without_member node.free c.args.next) = node-with m node.set node.free c.args.next c.requires.is_node c.requires.next in
-    let IsOne : List ℕ → Type 0 = IsNarrowed (tally_value tally) m (with_member node.set c.args.next) (without_member node.free c.args.next) (node.left - 1) c.args.least in
+    let IsOne : List ℕ → Type 0 = IsNarrowed (tally_value tally) m (with_member node.set c.args.next) (without_member node.free c.args.next) (node.left - 1) c.args.plan.now.least in
     record {
       set = c.with.ensures;
       left = refl;
       narrowed = elim c.match-promising.branch [
         | in-Some w ↦ subst IsOne (sym w.free-is) (rw (c.with.ensures, c.without.ensures) at w.in-Some.ensures)
-        | in-None w ↦ subst IsOne (sym w.free-is) (rw w.empty-free.ensures (narrowed-empty (tally_value tally) m (with_member node.set c.args.next) (without_member node.free c.args.next) (node.left - 1) c.args.least is_node
+        | in-None w ↦ subst IsOne (sym w.free-is) (rw w.empty-free.ensures (narrowed-empty (tally_value tally) m (with_member node.set c.args.next) (without_member node.free c.args.next) (node.left - 1) c.args.plan.now.least is_node
             (rw (c.with.ensures, c.without.ensures) at w.in-None.ensures)))
       ];
     }
