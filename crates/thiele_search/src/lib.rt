@@ -14,6 +14,7 @@
 #![tactic(auto)]
 
 mod columns;
+mod dominance;
 mod good;
 pub mod laws;
 mod majorant;

@@ -20,6 +20,7 @@ ghost use Rattle.thiele_search.specs.Steps.Aided.{IsAided, IsValued};
 ghost use Rattle.tie_search.specs.Completions.{IsNode, IsOutOfReach, tally_value};
 
 use crate::columns::Columns;
+use crate::dominance::Dominance;
 use crate::majorant::HitSums;
 use crate::multipliers::{AGAIN, Effort, NODE};
 use crate::pairs::PairSearch;
@@ -32,11 +33,12 @@ use tie_search::descent::{Narrowing, Plan};
 use tie_search::{Moves, Node};
 use tie_walk::{Tally, ThieleTally};
 
-/// The aids of a search: clones; columns and prices, if they are worth making; what hits give, for majorants; and which
-/// tests helped so far.
+/// The aids of a search: clones; dominance, if each hit adds something; columns and prices, if they are worth making;
+/// what hits give, for majorants; and which tests helped so far.
 #[derive(Drop)]
 pub(crate) struct Aids<A: Allocator> {
     pub(crate) clones: Clones,
+    pub(crate) dominance: Option<Dominance>,
     pub(crate) columns: Option<Columns<A>>,
     pub(crate) priced: Option<Priced<A>>,
     pub(crate) sums: Option<HitSums>,
@@ -303,6 +305,16 @@ impl<'a, A: Allocator + Copy> Narrowing for Search<'a, A> {
 
     fn clones(&self) -> &Clones {
         &self.aids.clones
+    }
+
+    fn dominated(&self, node: &Node, tried: u8) -> CandSet {
+        let Some(dominance) = &self.aids.dominance else {
+            return CandSet::empty();
+        };
+        if u16::from(node.set.len()) + u16::from(node.left) > u16::from(dominance.k) {
+            return CandSet::empty();
+        }
+        dominance.followers[usize::from(tried)].minus(self.aids.clones.class(tried))
     }
 
     fn whole_value(&self, node: &Node) -> u128 {

@@ -10,6 +10,7 @@ ghost use Rattle.tie_search.specs.Completions.{tally_value};
 ghost use Rattle.thiele_search.specs.Steps.Aided.{IsAided};
 
 use crate::columns::Columns;
+use crate::dominance::Dominance;
 use crate::majorant::{HitSums, PAIR_UNITS};
 use crate::multipliers::Multipliers;
 use crate::prices::Priced;
@@ -107,6 +108,7 @@ impl<'a, A: Allocator + Copy + Drop> ThieleSearch<'a, A> {
         } = memory;
         let unpriced = Aids {
             clones: Clones::of(profile),
+            dominance: Dominance::of(profile, values.rule(), k),
             columns,
             priced: None,
             sums: HitSums::of(values.rule(), k, PAIR_UNITS),

@@ -11,6 +11,7 @@ use Rattle.thiele_search.specs.declared.majorant.HitSums.{HitSums}
 use Rattle.thiele_search.specs.declared.search.Aids.{Aids}
 use Rattle.thiele_search.specs.Steps.Units.{most_given_to_pairs}
 use Rattle.thiele_search.specs.Steps.Columns.{AreColumnsOf}
+use Rattle.thiele_search.specs.Steps.Dominance.{IsDominance}
 use Rattle.thiele_search.specs.Steps.Paired.{AreSums}
 use Rattle.thiele_search.specs.Steps.Priced.{IsPriced}
 
@@ -44,6 +45,7 @@ pub record IsAided {A : Type 0} (tally : Thiele) (aids : Aids A) : Type 0 where
   pub election : IsElection tally.election
   pub size : tally.k ≤ most_members
   pub clones : AreClones tally.election.m tally.election.rows aids.clones
+  pub dominance : MatchOption aids.dominance ⊤ (IsDominance tally)
   pub columns : KeepsColumns tally aids.columns
   pub priced : IsPriced tally aids.priced
   pub sums : HasSums tally aids.sums
