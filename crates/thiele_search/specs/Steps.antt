@@ -1,6 +1,5 @@
 pub mod Aided
 pub mod Columns
-pub mod Majorants
 pub mod Paired
 pub mod Priced
 pub mod Rows
