@@ -1,5 +1,4 @@
 -- Bounds by pairs of members.
-pub mod MajorantLemmas
 pub mod OverlapLemmas
 pub mod PairLemmas
 pub mod PairNodes

@@ -1,7 +1,6 @@
 pub mod Aided
 pub mod Columns
 pub mod Dominance
-pub mod Majorants
 pub mod Paired
 pub mod Priced
 pub mod Rows

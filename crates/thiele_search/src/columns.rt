@@ -4,10 +4,9 @@
 //! approve the member move on by one hit. The gain of a candidate is the sum, over numbers of hits, of the weight times
 //! the bits that word and column share. Only the candidates that are asked for are counted.
 //!
-//! There are no columns for more than 65,536 voters or more than two voters per row; then gains come from one pass over
-//! the rows. Sums are made in words of 64 bits if all weights are below 2^44, and otherwise in words of 128 bits. The
-//! columns take 520 bytes for 64 voters, once, when they are made.
-ghost use Rattle.std.specs.Prelude.{◌≡◌, ℕ, ◌+◌, ◌-◌, ◌*◌, ◌^◌, ◌<◌, ◌≤◌, ◌==◌, ◌&&◌, true, List, [], ◌∷◌, ◌++◌, length, replicate, slice_index, IfOk, MatchOption, ⊤, if◌then◌else◌};
+//! There are no columns for more than 65,536 voters, more than two voters per row, or weights from 2^44 on; then gains
+//! come from one pass over the rows. The columns take 520 bytes for 64 voters, once, when they are made.
+ghost use Rattle.std.specs.Prelude.{◌≡◌, ℕ, ◌+◌, ◌-◌, ◌*◌, ◌^◌, ◌<◌, ◌≤◌, ◌==◌, ◌&&◌, true, List, [], ◌++◌, length, replicate, slice_index, IfOk, MatchOption, ⊤, if◌then◌else◌};
 ghost use Rattle.std.specs.Int.{bit_at};
 ghost use Rattle.ballot_base.specs.Limits.{most_candidates, most_members};
 ghost use Rattle.ballot_base.specs.Ballots.{hits, voter_count};
@@ -15,7 +14,6 @@ ghost use Rattle.ballot_base.specs.CandSet.{has_member};
 ghost use Rattle.tie_walk.specs.Values.{thiele_of};
 ghost use Rattle.thiele_search.specs.Steps.Columns.{block_voters, most_blocks, total, shared, given, approves_some, IsBlock, AreByHits, AreColumns, AreColumnsOf, AreRising, AreWeights, voters_of, voter_ballot, word_before};
 
-use crate::weights::{HitWeights, Weights};
 use ballot_base::{CandSet, Increments, MOST_MEMBERS, PLACES, Profile, ThieleRule, Worths};
 use std::alloc::{AllocError, Allocator};
 use tie_search::Node;
@@ -29,8 +27,15 @@ const MOST_BLOCKS: usize = 1024;
 /// With more voters per row than this, a pass over the rows takes less time than one over the blocks.
 const ROW_VOTERS: usize = 2;
 
+/// From this weight on there are no columns, and the gains of a block may not fit a word of 64 bits. It takes 23 seats
+/// or more; then columns with words of 128 bits took a fifth longer than passes over the rows.
+const LARGE_WEIGHT: u128 = 1 << 44;
+
 /// For each candidate, at its number, which of 64 voters approve it.
 type Block = [u64; PLACES];
+
+/// What a voter gives for each hit, the first at 0.
+type Weights = [u64; MOST_MEMBERS as usize];
 
 /// Moves the voters who approve a further member on by one hit.
 fn add_hit(words: &mut Block, approving: u64, levels: usize)
@@ -81,28 +86,7 @@ fn covered_by(block: &Block, set: CandSet) -> u64
 }
 
 /// What the voters of a column give: for each number of hits, the weight times the bits that word and column share.
-fn given_by(words: &Block, column: u64, weights: &HitWeights, levels: usize) -> u128
-    requires few { levels ≤ most_members }
-    requires large { (h : ℕ) → slice_index weights.now h ≤ 2 ^ 84 }
-    ensures sum { result
-        ≡ total (λ h. slice_index weights.now h * shared column (slice_index words.now h)) levels }
-    ensures most { result ≤ levels * 2 ^ 90 }
-{
-    match &weights.small {
-        Some(small) => u128::from(given_by_small(words, column, small, levels)),
-        None => given_by_large(words, column, &weights.all, levels),
-    }
-}
-
-fn given_first(column: u64, uncovered: u64, weight: u128) -> u128
-    requires { weight ≤ 2 ^ 84 }
-    ensures sum { result ≡ weight * shared column uncovered }
-    ensures most { result ≤ 2 ^ 90 }
-{
-    weight * u128::from((column & uncovered).count_ones())
-}
-
-fn given_by_small(words: &Block, column: u64, weights: &Weights, levels: usize) -> u64
+fn given_by(words: &Block, column: u64, weights: &Weights, levels: usize) -> u64
     requires few { levels ≤ most_members }
     requires small { (h : ℕ) → slice_index weights.now h < 2 ^ 44 }
     ensures sum { result
@@ -112,25 +96,6 @@ fn given_by_small(words: &Block, column: u64, weights: &Weights, levels: usize) 
     let mut sum = 0;
     for h in 0..levels {
         sum += weights[h] * u64::from((column & words[h]).count_ones());
-    }
-    sum
-}
-
-fn given_by_large(
-    words: &Block,
-    column: u64,
-    weights: &[u128; MOST_MEMBERS as usize],
-    levels: usize,
-) -> u128
-    requires few { levels ≤ most_members }
-    requires large { (h : ℕ) → slice_index weights.now h ≤ 2 ^ 84 }
-    ensures sum { result
-        ≡ total (λ h. slice_index weights.now h * shared column (slice_index words.now h)) levels }
-    ensures most { result ≤ levels * 2 ^ 90 }
-{
-    let mut sum = 0;
-    for h in 0..levels {
-        sum += weights[h] * u128::from((column & words[h]).count_ones());
     }
     sum
 }
@@ -188,8 +153,23 @@ fn blocks_of<A: Allocator + Copy + Drop>(
     Ok(blocks)
 }
 
+/// The weights in words of 64 bits, if no weight is too large.
+fn small_weights(weights: &[u128; MOST_MEMBERS as usize]) -> Option<Weights>
+    ensures { MatchOption result ⊤ (λ small. (j : ℕ) → (slice_index small j ≡ slice_index weights.now j)
+        × (slice_index small j < 2 ^ 44)) }
+{
+    let mut small = [0; MOST_MEMBERS as usize];
+    for j in 0..small.len() {
+        if weights[j] >= LARGE_WEIGHT {
+            return None;
+        }
+        small[j] = weights[j] as u64;
+    }
+    Some(small)
+}
+
 /// The number of the last hit that gives something.
-fn last_level(weights: &[u128; MOST_MEMBERS as usize]) -> usize
+fn last_level(weights: &Weights) -> usize
     ensures most { result ≤ most_members }
     ensures end { (j : ℕ) → result ≤ j → slice_index weights.now j ≡ 0 }
 {
@@ -206,14 +186,15 @@ fn last_level(weights: &[u128; MOST_MEMBERS as usize]) -> usize
 #[derive(Drop)]
 pub(crate) struct Columns<A: Allocator> {
     pub(crate) blocks: Vec<Block, A>,
-    pub(crate) weights: HitWeights,
+    pub(crate) weights: Weights,
     pub(crate) levels: usize,
     ghost few: { length blocks.items ≤ most_blocks },
     ghost sound: { AreWeights weights levels },
 }
 
 impl<A: Allocator + Copy + Drop> Columns<A> {
-    /// The columns of a profile. Returns `None` if there are too many voters, or too many voters per row.
+    /// The columns of a profile. Returns `None` if there are too many voters, too many voters per row, or a large
+    /// weight.
     pub(crate) fn of(
         alloc: A,
         profile: &Profile<A>,
@@ -229,11 +210,13 @@ impl<A: Allocator + Copy + Drop> Columns<A> {
         if voters > MOST_BLOCKS * BLOCK_VOTERS || voters / ROW_VOTERS > profile.rows() {
             return Ok(None);
         }
-        let weights = Increments::of(rule, k).w;
+        let Some(weights) = small_weights(&Increments::of(rule, k).w) else {
+            return Ok(None);
+        };
         Ok(Some(Columns {
             blocks: blocks_of(alloc, profile)?,
-            weights: HitWeights::of(&weights),
             levels: last_level(&weights),
+            weights,
         }))
     }
 }
@@ -272,36 +255,14 @@ impl<A: Allocator> Columns<A> {
         ensures sum { (ballot_at : ℕ → List ℕ) → IsBlock ballot_at block.now
             → (c : ℕ) → has_member node.now.free c ≡ true → slice_index gains.new c
             ≡ slice_index gains.old c + total (λ i. given self.now.weights node.now.set c (ballot_at i)) block_voters }
-        ensures most { (c : ℕ) → slice_index gains.new c ≤ slice_index gains.old c + most_members * 2 ^ 90 }
+        ensures most { (c : ℕ) → slice_index gains.new c ≤ slice_index gains.old c + most_members * 2 ^ 50 }
     {
-        if self.levels == 1 {
-            self.add_first_hits(gains, block, node);
-            return;
-        }
         let levels = self.levels.min(usize::from(node.set.len()) + 1);
         let words = by_hits(block, node.set, levels);
         for candidate in node.free.members() {
             let column = block[usize::from(candidate)];
             let given = given_by(&words, column, &self.weights, levels);
-            gains.set(candidate, gains.of(candidate) + given);
-        }
-    }
-
-    /// Like `add_block`, if only a voter's first hit counts. One word, for the voters without a hit, is enough; with a
-    /// word for each number of hits, random elections took a quarter more time.
-    fn add_first_hits(&self, gains: &mut Worths, block: &Block, node: &Node)
-        requires first { self.now.levels ≡ 1 }
-        requires fits { (c : ℕ) → slice_index gains.old c < 2 ^ 106 }
-        ensures sum { (ballot_at : ℕ → List ℕ) → IsBlock ballot_at block.now
-            → (c : ℕ) → has_member node.now.free c ≡ true → slice_index gains.new c
-            ≡ slice_index gains.old c + total (λ i. given self.now.weights node.now.set c (ballot_at i)) block_voters }
-        ensures most { (c : ℕ) → slice_index gains.new c ≤ slice_index gains.old c + most_members * 2 ^ 90 }
-    {
-        let uncovered = !covered_by(block, node.set);
-        let weight = self.weights.first();
-        for candidate in node.free.members() {
-            let given = given_first(block[usize::from(candidate)], uncovered, weight);
-            gains.set(candidate, gains.of(candidate) + given);
+            gains.set(candidate, gains.of(candidate) + u128::from(given));
         }
     }
 }

@@ -24,6 +24,5 @@ mod prices;
 mod search;
 pub mod thiele;
 mod trials;
-mod weights;
 
 pub use thiele::{SearchMemory, ThieleSearch};

@@ -1,19 +1,19 @@
 -- From a good committee on to the greatest value.
 use Rattle.std.proofs.lemmas.Grind.{common_steps}
-use Rattle.std.proofs.Common.{◌≡◌, ℕ, ◌+◌, ◌-◌, ◌<◌, ◌≤◌, ◌∙◌, true, false, List, [], ◌∷◌, ◌++◌, Option, None, Some, sym, ap, subst, arith, inl, inr, length, map, not, unwrap_or}
+use Rattle.std.proofs.Common.{◌≡◌, ℕ, ◌+◌, ◌-◌, ◌<◌, ◌≤◌, ◌∙◌, true, false, List, [], ◌∷◌, ◌++◌, Option, None, Some, sym, ap, subst, arith, inl, inr, length, map, unwrap_or}
 use Rattle.std.specs.Prelude.{nat_le}
 use Rattle.std.specs.List.{AllByRecursion}
 use Rattle.std.proofs.lemmas.Bool.{cases_Bool, cases_eq, cases_lt, false≢true, leb-true}
 use Rattle.ballot_base.specs.Lists.{IsIncreasing, increasing_lists}
-use Rattle.ballot_base.specs.CandSet.{has_member, with_member, without_member}
-use Rattle.ballot_base.proofs.Committees.{IsChosen, increasing_lists-chosen, increasing_lists-contains, length-increasing}
-use Rattle.ballot_base.proofs.Increasing.{IsIncreasing-lower, IsIncreasing-higher, IsIncreasing-push, IsIncreasing-filter, IsIncreasing-with_member, has_member-below, has_member_tail}
+use Rattle.ballot_base.specs.CandSet.{has_member, with_member}
+use Rattle.ballot_base.proofs.Committees.{IsChosen, increasing_lists-chosen, increasing_lists-contains}
+use Rattle.ballot_base.proofs.Increasing.{IsIncreasing-lower, IsIncreasing-higher, IsIncreasing-push, IsIncreasing-with_member, has_member-below, has_member_tail}
 use Rattle.ballot_base.proofs.ListLemmas.{AllByRecursion-append}
 use Rattle.tie_walk.specs.Ceilings.{IsBound}
 use Rattle.tie_walk.specs.Steps.Walks.{committees_below, committees_after, committees_from, IsPlace, IsFound, those_reaching}
 use Rattle.tie_walk.specs.declared.prefix.Prefix.{Prefix}
 use Rattle.tie_walk.specs.Winners.{best_value}
-use Rattle.tie_walk.proofs.SequenceLemmas.{length-with_member, length-without_member}
+use Rattle.tie_walk.proofs.SequenceLemmas.{length-with_member}
 use Rattle.tie_walk.proofs.WalkLemmas.{below-bounded, from-root}
 use Rattle.tie_walk.proofs.WinnersLemmas.{greatest, greatest-low, greatest-most, greatest-next, greatest-first}
 
@@ -118,9 +118,3 @@ pub one-more-done : (m : ℕ) (set : List ℕ) (best : ℕ) (grown : Option (Lis
     → IsIncreasing 1 m (unwrap_or grown set) × (length (unwrap_or grown set) ≡ length set + 1)
 one-more-done m set best None up room is = absurd (omega (arith, room, all-members 1 m set up (λ n low high. is.1 n low (omega (arith, high)))))
 one-more-done m set best (Some more) up room is = is
-
--- a set without one of its members
-pub one-fewer : (m : ℕ) (set fewer : List ℕ) (n : ℕ) → IsIncreasing 1 m set → has_member set n ≡ true → fewer ≡ without_member set n
-    → IsIncreasing 1 m fewer × (length fewer + 1 ≡ length set) × (length fewer < m)
-one-fewer m set fewer n up inside is =
-    grind (arith, common_steps, length-without_member, IsIncreasing-filter, not, length-increasing)

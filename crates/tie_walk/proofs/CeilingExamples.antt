@@ -1,5 +1,5 @@
 -- Each definition of bounds, computed on a small example.
-use Rattle.std.proofs.Common.{◌≡◌, ℕ, zero, suc, ◌*◌, ◌-◌, ◌≤◌, ◌∙◌, sym, ap, List, [], ◌∷◌, true, false, refl, lit≤, lit<, Some, None, arith, length, length-append, ◌++◌}
+use Rattle.std.proofs.Common.{◌≡◌, ℕ, zero, suc, ◌*◌, ◌-◌, ◌≤◌, ◌∙◌, sym, ap, List, [], ◌∷◌, true, false, refl, lit≤, Some, None, arith, length, length-append, ◌++◌}
 use Rattle.std.specs.List.{AllByRecursion}
 use Rattle.std.proofs.lemmas.List.Elements.{All-from_recursion, All-contains}
 use Rattle.ballot_base.specs.Lists.{lists_of, increasing_lists}
@@ -8,9 +8,8 @@ use Rattle.ballot_base.specs.Ballots.{Row}
 use Rattle.ballot_base.specs.CommonMultiple.{common_multiple}
 use Rattle.ballot_base.specs.Increments.{increments}
 use Rattle.ballot_base.specs.declared.increments.ThieleRule.TheVariants.{Av, Pav}
-use Rattle.tie_walk.specs.Ceilings.{greatest_sum, gain_at, IsSubmodular, IsBound, IsAdded, IsTight, IsExactAtBest, IsShort, IsReach, ceiling, greatest_distance_upto, closeness_upto, Prefix, is_open, is_ahead, IsLive, live_below, live_count}
+use Rattle.tie_walk.specs.Ceilings.{greatest_sum, gain_at, IsSubmodular, IsBound, IsAdded, IsTight, IsExactAtBest, ceiling, greatest_distance_upto, closeness_upto, Prefix, is_open, is_ahead, IsLive, live_below, live_count}
 use Rattle.ballot_base.specs.Worths.{IsThreshold}
-use Rattle.tie_walk.specs.Steps.Tables.{IsReachBySums}
 use Rattle.tie_walk.specs.Values.{thiele_value, satisfaction_value}
 use Rattle.tie_walk.proofs.GreatestSums.{ceiling-whole}
 use Rattle.tie_walk.proofs.WaitLemmas.{tight-exact}
@@ -134,22 +133,6 @@ open_beginnings (suc (suc c)) h = absurd (omega arith)
 live_without_one : IsLive pav_ceiling 3 2 6 None without_one
 unfolding without_one pav_ceiling pav_of_two two_and_one increments common_multiple lists_of
 live_without_one = (tt, lit≤ tt, open_beginnings, refl)
-
--- one candidate more after 2 makes one, and not two
-sizes_short : IsShort length (λ c set left. 3 - c) 3 [] 1 2 2
-sizes_short = (lit< tt, λ added up size. omega (arith, size))
-
-sizes_reach : IsReach (λ c set left. 3 - c) 3 [] 1 2 0 1
-sizes_reach = record { low = lit≤ tt; high = lit≤ tt; reached = λ n low high. omega (arith, high) }
-
--- of 3, 2 and 1, those after 1 have 2
-one_of_three : IsReachBySums (λ n. 4 - n) 1 3 1 2 1
-unfolding lists_of
-one_of_three = record {
-  low = lit≤ tt;
-  high = lit≤ tt;
-  reached = λ n low high. let one : n ≡ 1 = omega (arith, low, high) in rw one (lit≤ tt);
-}
 
 -- ---- bounds that are the value of a completion
 

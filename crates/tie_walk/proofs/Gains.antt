@@ -190,15 +190,17 @@ satisfaction-none n shares [] = refl
 satisfaction-none n shares (row ∷ rows) =
     grind (arith, common_steps, satisfaction-none n shares rows, get_or, hits-none, sum_by-cons)
 
+pub satisfaction-nothing : (e : Election) (shares : List ℕ) → IsElection e → shares ≡ parts (common_multiple e.m) → satisfaction_value e.m e.rows [] ≡ 0
+satisfaction-nothing e shares valid is = sym (satisfaction_value-by_parts e.m e.m shares e.rows [] valid.most valid.ballots is) ∙ satisfaction-none e.m shares e.rows
+
 -- value and gains fit in 128 bits
 pub satisfaction-fits : (e : Election) (shares set : List ℕ) (c left value more : ℕ) → IsElection e → shares ≡ parts (common_multiple e.m) → IsIncreasing 1 c set → c ≤ e.m → left ≤ e.m - c
     → value ≡ satisfaction_value e.m e.rows set → more ≤ left * (2 ^ 122 - 2 ^ 32) → value + more < 2 ^ 128
 satisfaction-fits e shares set zero left value more valid is up within few are most =
     let empty : set ≡ [] = none set up in
-    let nothing : satisfaction_value e.m e.rows [] ≡ 0 = sym (satisfaction_value-by_parts e.m e.m shares e.rows [] valid.most valid.ballots is) ∙ satisfaction-none e.m shares e.rows in
     let size : left ≤ 64 = omega (arith, few, valid.most) in
     let product : left * (2 ^ 122 - 2 ^ 32) ≤ 64 * (2 ^ 122 - 2 ^ 32) = mul-le-mul_right (2 ^ 122 - 2 ^ 32) size in
-    omega (arith, product, most, are, ap (satisfaction_value e.m e.rows) empty, nothing)
+    omega (arith, product, most, are, ap (satisfaction_value e.m e.rows) empty, satisfaction-nothing e shares valid is)
   where
     none : (s : List ℕ) → IsIncreasing 1 0 s → s ≡ []
     none [] h = refl

@@ -9,7 +9,6 @@ use Rattle.std.proofs.lemmas.List.Sums.{sum_by-cons, fold-append}
 use Rattle.ballot_base.specs.Lists.{IsIncreasing, lists_of, increasing_lists}
 use Rattle.ballot_base.proofs.Committees.{IsChosen, increasing_lists-chosen}
 use Rattle.tie_walk.specs.Ceilings.{IsBound, ceiling, gain_at, greatest_sum}
-use Rattle.tie_walk.specs.Steps.Tables.{IsReachBySums}
 use Rattle.tie_walk.proofs.WinnersLemmas.{greatest}
 
 pub lists-short : (n first size : ℕ) → n < size → lists_of n first size ≡ []
@@ -88,32 +87,8 @@ module _ (worth : ℕ → ℕ) where
   best_of-next n first zero = omega (arith, best_of-none n (first + 1), best_of-none (suc n) first)
   best_of-next n first (suc size) = grind (arith, common_steps, cases_lt, best_of-short, best_of-more)
 
-  best_of-later : (steps n first size : ℕ) → best_of n (first + steps) size ≤ best_of (steps + n) first size
-  best_of-later zero n first size = grind (arith, common_steps)
-  best_of-later (suc steps) n first size =
-      grind (arith, common_steps, best_of-later steps n (first + 1) size, best_of-next)
-
-  sum-later : (c n m size : ℕ) → c ≤ n → n ≤ m → greatest_sum worth (n + 1) m size ≤ greatest_sum worth (c + 1) m size
-  sum-later c n m size low high =
-      let first : c + 1 + (n - c) ≡ n + 1 = omega (arith, low) in
-      let count : n - c + (m + 1 - (n + 1)) ≡ m + 1 - (c + 1) = omega (arith, low, high) in
-      omega (
-        arith,
-        best_of-later (n - c) (m + 1 - (n + 1)) (c + 1) size,
-        ap (λ f. best_of (m + 1 - (n + 1)) f size) first,
-        ap (λ k. best_of k (c + 1) size) count,
-      )
-
-  -- a place whose sum is large enough, as those of the places before are
-  pub reaching-found : (c m left least last : ℕ) → c ≤ last → last + left ≤ m → least ≤ greatest_sum worth (last + 1) m left → IsReachBySums worth c m left least last
-  reaching-found c m left least last low high large = record {
-    low = low;
-    high = high;
-    reached = λ n from to. omega (arith, large, sum-later n last m left to (omega (arith, high)));
-  }
-
 module _ (f g : ℕ → ℕ) (first last : ℕ) (same : (n : ℕ) → first ≤ n → n ≤ last → f n ≡ g n) where
-  same_sum : (low : ℕ) (list : List ℕ) → first ≤ low → IsIncreasing low last list → sum_by f list ≡ sum_by g list
+  pub same_sum : (low : ℕ) (list : List ℕ) → first ≤ low → IsIncreasing low last list → sum_by f list ≡ sum_by g list
   same_sum low [] h up = refl
   same_sum low (n ∷ list) h up =
       omega (arith, same n (omega (arith, up.0)) up.1, same_sum (n + 1) list (omega (arith, up.0)) up.2, sum_by-cons f n list, sum_by-cons g n list)

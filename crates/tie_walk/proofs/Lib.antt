@@ -8,7 +8,6 @@ pub mod Examples
 pub mod FoundLemmas
 pub mod Gains
 pub mod GreatestSums
-pub mod Groups
 pub mod LawLemmas
 pub mod LevelLemmas
 pub mod LiveLemmas
@@ -16,7 +15,6 @@ pub mod LivePrefixes
 pub mod OpenLemmas
 pub mod OrderLemmas
 pub mod RangeLemmas
-pub mod Reaches
 pub mod RowSums
 pub mod SequenceExamples
 pub mod SequenceLaws
@@ -25,7 +23,6 @@ pub mod StartLemmas
 pub mod StepLemmas
 pub mod Submodular
 pub mod TableLemmas
-pub mod TableSums
 pub mod Thresholds
 pub mod HitWeights
 pub mod TightLemmas

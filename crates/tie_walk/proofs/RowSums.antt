@@ -1,6 +1,6 @@
 -- Sums over the rows of a profile, of the voters of each times what one of them gives.
 use Rattle.std.proofs.lemmas.Grind.{common_steps}
-use Rattle.std.proofs.Common.{◌≡◌, ℕ, ◌+◌, ◌-◌, ◌*◌, ◌/◌, ◌<◌, ◌≤◌, ◌^◌, ◌==◌, ◌∙◌, List, [], ◌∷◌, Some, not, cond, filter, refl, ap, arith, length, take, get_or, slice_get, sum, sum_by}
+use Rattle.std.proofs.Common.{◌≡◌, ℕ, ◌+◌, ◌*◌, ◌/◌, ◌<◌, ◌≤◌, ◌^◌, ◌==◌, ◌∙◌, List, [], ◌∷◌, Some, not, cond, filter, refl, ap, arith, length, take, get_or, slice_get, sum_by}
 use Rattle.std.proofs.Math.Nat.{mul-le-mul, mul-le-mul_left}
 use Rattle.std.specs.List.{AllByRecursion}
 use Rattle.std.proofs.lemmas.List.Sums.{sum_by-cons, sum_by_more, sum_by_more_le_part, length-filter, count_by-le-length}
@@ -13,9 +13,9 @@ use Rattle.ballot_base.specs.CommonMultiple.{common_multiple}
 use Rattle.ballot_base.specs.Ballots.{Row, Election, IsElection, hits, voter_count}
 use Rattle.ballot_base.proofs.Committees.{length-increasing}
 use Rattle.ballot_base.proofs.LeastMultiples.{common_multiple_small}
-use Rattle.tie_walk.specs.Values.{thiele_value, satisfaction_value}
-use Rattle.tie_walk.specs.Steps.Tables.{prefix_sums, parts}
-use Rattle.tie_walk.proofs.TableLemmas.{prefix_sums-at, parts-at, parts-most}
+use Rattle.tie_walk.specs.Values.{satisfaction_value}
+use Rattle.tie_walk.specs.Steps.Tables.{parts}
+use Rattle.tie_walk.proofs.TableLemmas.{parts-at, parts-most}
 
 -- the candidates of each ballot are 1 to m
 abbrev pub AreBallots : ℕ → List Row → Type 0
@@ -62,20 +62,6 @@ module _ (worth : Row → ℕ) where
       let product : voter_count e.rows * most ≤ most_voters * most = mul-le-mul {m₁ = most} valid.voters (omega arith) in
       omega (arith, so_far, product, rows-most e.m most e.rows valid.ballots each)
 
--- by a table of the sums of increments
-pub thiele_value-by_sums : (m : ℕ) (weights sums : List ℕ) (rows : List Row) (committee : List ℕ) → m ≤ most_candidates → AreBallots m rows → sums ≡ prefix_sums weights
-    → sum_by (λ (r : Row). r.1 * get_or sums (hits r.0 committee) 0) rows ≡ thiele_value weights rows committee
-thiele_value-by_sums m weights sums [] committee most all is = refl
-thiele_value-by_sums m weights sums (row ∷ rows) committee most all is =
-    let here : row.1 * get_or sums (hits row.0 committee) 0 ≡ row.1 * sum (take (hits row.0 committee) weights) =
-    ap (λ s. row.1 * get_or s (hits row.0 committee) 0) is ∙ ap (λ n. row.1 * n) (prefix_sums-at weights (hits row.0 committee) (hits-most m row.0 committee most all.0)) in
-    omega (
-      arith,
-      thiele_value-by_sums m weights sums rows committee most all.1 is,
-      sum_by-cons (λ (r : Row). r.1 * get_or sums (hits r.0 committee) 0) row rows,
-      sum_by-cons (λ (r : Row). r.1 * sum (take (hits r.0 committee) weights)) row rows,
-    )
-
 -- by a table of the parts of a whole
 pub satisfaction_value-by_parts : (m n : ℕ) (shares : List ℕ) (rows : List Row) (committee : List ℕ) → m ≤ most_candidates → AreBallots m rows → shares ≡ parts (common_multiple n)
     → sum_by (λ (r : Row). r.1 * hits r.0 committee * get_or shares (length r.0) 0) rows ≡ satisfaction_value n rows committee
@@ -98,42 +84,6 @@ satisfaction_value-by_parts m n shares ((x ∷ ballot, voters) ∷ rows) committ
     sum_by-cons (λ (r : Row). r.1 * hits r.0 committee * get_or shares (length r.0) 0) row rows in
     omega (arith, product, made, whole, satisfaction_value-by_parts m n shares rows committee most all.1 is)
 
--- ---- what a table of counts stands on
-
-hits-within : (m : ℕ) (ballot committee : List ℕ) → IsIncreasing 1 m ballot → hits ballot committee < m + 1
-hits-within m ballot committee h = omega (arith, length-increasing 1 m ballot h, count_by-le-length (has_member committee) ballot)
-
--- no ballot has more hits, nor more candidates, than there are candidates
-pub all_hits-within : (m : ℕ) (rows : List Row) (committee : List ℕ) → AreBallots m rows → AllByRecursion (λ (r : Row). hits r.0 committee < m + 1) rows
-all_hits-within m [] committee all = _
-all_hits-within m (row ∷ rows) committee all = (hits-within m row.0 committee all.0, all_hits-within m rows committee all.1)
-
-pub all_sizes-within : (m : ℕ) (rows : List Row) → AreBallots m rows → AllByRecursion (λ (r : Row). length r.0 < m + 1) rows
-all_sizes-within m [] all = _
-all_sizes-within m (row ∷ rows) all = (omega (arith, length-increasing 1 m row.0 all.0), all_sizes-within m rows all.1)
-
--- the hits of all voters together
-pub all_hits-most : (e : Election) (committee : List ℕ) → IsElection e → sum_by (λ (r : Row). r.1 * hits r.0 committee) e.rows ≤ most_voters * most_candidates
-all_hits-most e committee valid = all-most (λ (r : Row). hits r.0 committee) e most_candidates valid (λ r h. hits-most e.m r.0 committee valid.most h)
-
 -- no part is more than the whole
 pub parts-bound : (n : ℕ) (shares : List ℕ) (x : ℕ) → n ≤ most_candidates → shares ≡ parts (common_multiple n) → get_or shares x 0 < 2 ^ 90
 parts-bound n shares x few is = omega (arith, ap (λ s. get_or s x 0) is, parts-most (common_multiple n) x, common_multiple_small n few)
-
--- what all voters give for their hits together
-pub all_shares-most : (e : Election) (shares : List ℕ) (committee : List ℕ) → IsElection e → shares ≡ parts (common_multiple e.m)
-    → sum_by (λ (r : Row). r.1 * hits r.0 committee * get_or shares (length r.0) 0) e.rows < 2 ^ 128
-all_shares-most e shares committee valid is =
-    let worth : Row → ℕ = λ (r : Row). hits r.0 committee * get_or shares (length r.0) 0 in
-    let each : (r : Row) → IsIncreasing 1 e.m r.0 → worth r ≤ most_candidates * (2 ^ 90 - 1) = λ r h.
-    let small : get_or shares (length r.0) 0 ≤ 2 ^ 90 - 1 = omega (arith, parts-bound e.m shares (length r.0) valid.most is) in
-    mul-le-mul (hits-most e.m r.0 committee valid.most h) small in
-    omega (arith, products (λ (r : Row). r.1) (λ (r : Row). hits r.0 committee) (λ (r : Row). get_or shares (length r.0) 0) e.rows, all-most worth e (most_candidates * (2 ^ 90 - 1)) valid each)
-  where
-    mul-assoc : (a b c : ℕ) → a * b * c ≡ a * (b * c)
-    mul-assoc a b c = omega arith
-
-    products : (a b c : Row → ℕ) (rows : List Row) → sum_by (λ (r : Row). a r * b r * c r) rows ≡ sum_by (λ (r : Row). a r * (b r * c r)) rows
-    products a b c [] = refl
-    products a b c (row ∷ rows) =
-        omega (arith, sum_by-cons (λ (r : Row). a r * b r * c r) row rows, sum_by-cons (λ (r : Row). a r * (b r * c r)) row rows, products a b c rows, mul-assoc (a row) (b row) (c row))

@@ -39,10 +39,6 @@ increments_sum-most rule k most =
 pub sum-take_more : (w : List ℕ) (x : ℕ) → sum (take (x + 1) w) ≡ sum (take x w) + get_or w x 0
 sum-take_more w x = grind (arith, common_steps, cases_lt, sum_take_more, take, take_all, get_or_past)
 
-pub sums-most : (rule : ThieleRule) (k : ℕ) (sums : List ℕ) (x : ℕ) → k ≤ most_members → sums ≡ prefix_sums (increments rule k) → get_or sums x 0 ≤ 2 ^ 84
-sums-most rule k sums x most is =
-    grind (arith, common_steps, cases_lt, get_or, prefix_sums-at, sum-take-le, increments_sum-most, get_or_past, prefix_sums-length)
-
 -- ---- parts of a whole
 
 pub parts-length : (whole : ℕ) → length (parts whole) ≡ most_candidates + 1
@@ -74,16 +70,3 @@ parts-most whole (suc n) = grind (arith, common_steps, cases_lt, parts-at, div-l
 
 pub weight-le-sum : (w : List ℕ) (i : ℕ) → get_or w i 0 ≤ sum w
 weight-le-sum w i = omega (arith, sum-take_more w i, sum-take-le w (i + 1))
-
--- no increment is greater than the sum of all of them
-pub weights-least : (rule : ThieleRule) (k : ℕ) (w sums : List ℕ) (j : ℕ) → w ≡ increments rule k → sums ≡ prefix_sums (increments rule k) → get_or w j 0 ≤ get_or sums most_candidates 0
-weights-least rule k w sums j w-are sums-are =
-    let all : take most_candidates (increments rule k) ≡ increments rule k = take_all most_candidates (increments rule k) (omega (arith, increments-length rule k)) in
-    omega (
-      arith,
-      ap (λ l. get_or l j 0) w-are,
-      weight-le-sum (increments rule k) j,
-      ap (λ s. get_or s most_candidates 0) sums-are,
-      prefix_sums-at (increments rule k) most_candidates (omega arith),
-      ap sum all,
-    )

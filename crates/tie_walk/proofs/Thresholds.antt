@@ -1,6 +1,6 @@
 -- The greatest sum of so many numbers, by a threshold that just so many reach.
 use Rattle.std.proofs.lemmas.Grind.{common_steps}
-use Rattle.std.proofs.Common.{◌≡◌, ℕ, zero, suc, ◌+◌, ◌-◌, ◌*◌, ◌^◌, ◌<◌, ◌≤◌, ◌==◌, ◌||◌, ◌⊎◌, ◌∙◌, Bool, true, false, cond, not, List, [], ◌∷◌, refl, sym, ap, arith, inl, inr, length, sum_by}
+use Rattle.std.proofs.Common.{◌≡◌, ℕ, zero, suc, ◌+◌, ◌-◌, ◌*◌, ◌^◌, ◌<◌, ◌≤◌, ◌==◌, ◌||◌, ◌∙◌, Bool, true, false, cond, not, List, [], ◌∷◌, refl, sym, ap, arith, inl, inr, length, sum_by}
 use Rattle.std.proofs.Math.Nat.{mul-le-mul_right}
 use Rattle.std.specs.Prelude.{filter, nat_le}
 use Rattle.std.specs.List.{range_with_len}
@@ -111,25 +111,6 @@ module _ (worth : ℕ → ℕ) (t : ℕ) where
   pub sum-is : (c m left : ℕ) (numbers : List ℕ) → numbers ≡ range_with_len (c + 1) (m - c) → IsThreshold worth numbers left t
       → left * t + sum_by (λ n. worth n - t) numbers ≡ greatest_sum worth (c + 1) m left
   sum-is c m left numbers are is = grind (arith, common_steps, sum_by, threshold-sum, sum-of)
-
-  -- One number that is not above the threshold is passed: the others have it for a threshold, and their sum is as great.
-  module _ (m last left spare spare' : ℕ) (inside : last < m) (low : worth (last + 1) ≤ t) (is : IsThreshold worth (range_with_len (last + 1) (m - last)) left t)
-      (many : reaching worth t (range_with_len (last + 1) (m - last)) ≡ spare + left)
-      (next : ((worth (last + 1) ≡ t) × (spare ≡ spare' + 1)) ⊎ ((worth (last + 1) ≡ t → ⊥) × (spare ≡ spare'))) where
-    abbrev pub others : List ℕ
-    others = range_with_len (last + 1 + 1) (m - (last + 1))
-
-    whole : range_with_len (last + 1) (m - last) ≡ (last + 1) ∷ others
-    whole = grind (arith, common_steps)
-
-    pub passed-many : reaching worth t others ≡ spare' + left
-    passed-many = grind (arith, common_steps, whole, more-yes, more-no, cases_lt)
-
-    pub passed-threshold : IsThreshold worth others left t
-    passed-threshold = (omega (arith, is.0, ap (reaching worth (t + 1)) whole, more-no (t + 1) (last + 1) others (omega (arith, low))), omega (arith, passed-many))
-
-    pub passed-sum : greatest_sum worth (last + 1 + 1) m left ≡ greatest_sum worth (last + 1) m left
-    passed-sum = grind (arith, common_steps, sum-of, threshold-sum, passed-threshold, whole, sum_by-cons)
 
 pub sum-most : (worth : ℕ → ℕ) (c m left most : ℕ) → ((n : ℕ) → worth n ≤ most) → greatest_sum worth (c + 1) m left ≤ left * most
 sum-most worth c m left most each = omega (arith, sum-of worth c m left, best_of-most worth most each (m - c) (c + 1) left)

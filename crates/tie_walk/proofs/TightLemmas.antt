@@ -17,7 +17,7 @@ use Rattle.tie_walk.specs.Ceilings.{IsTight, ceiling, gain_at, greatest_sum}
 use Rattle.tie_walk.specs.Steps.Tables.{parts, score}
 use Rattle.tie_walk.specs.Values.{thiele_value, satisfaction_value}
 use Rattle.tie_walk.specs.declared.sequential.Step.TheVariants.{Grow}
-use Rattle.tie_walk.proofs.Gains.{hits-with, hits-none, thiele-partial, satisfaction-more}
+use Rattle.tie_walk.proofs.Gains.{hits-with, hits-none, thiele-partial, satisfaction-more, satisfaction-nothing}
 use Rattle.tie_walk.proofs.GreatestSums.{best_of, best_of-none, best_of-short, best_of-more, greatest_sum-same, ceiling-whole}
 use Rattle.tie_walk.proofs.HitWeights.{one-most}
 use Rattle.tie_walk.proofs.RowSums.{AreBallots}
@@ -124,13 +124,26 @@ approval-tight e k valid small =
 
 -- ---- satisfaction approval voting
 
-pub satisfaction-tight : (e : Election) (k : ℕ) → IsElection e
-    → IsTight (λ set. satisfaction_value e.m e.rows set) (λ c set left. ceiling (satisfaction_value e.m e.rows) e.m c set left) e.m k
-satisfaction-tight e k valid =
-    let shares : List ℕ = parts (common_multiple e.m) in
-    additive-tight (λ set. satisfaction_value e.m e.rows set) e.m k (score shares e.rows)
-    (λ set d x up over high few. omega (
+satisfaction-joined : (e : Election) → IsElection e → (k : ℕ) (set : List ℕ) (d x : ℕ) → IsIncreasing 1 d set → d < x → x ≤ e.m → length set < k
+    → satisfaction_value e.m e.rows (set ++ x ∷ []) ≡ satisfaction_value e.m e.rows set + score (parts (common_multiple e.m)) e.rows x
+satisfaction-joined e valid k set d x up over high few =
+    omega (
       arith,
       ap (satisfaction_value e.m e.rows) (with_member-above 1 d set x up over),
-      satisfaction-more e.m e.m shares e.rows set x valid.most valid.ballots refl (has_member-above 1 d set x up over),
-    ))
+      satisfaction-more e.m e.m (parts (common_multiple e.m)) e.rows set x valid.most valid.ballots refl (has_member-above 1 d set x up over),
+    )
+
+pub satisfaction-tight : (e : Election) (k : ℕ) → IsElection e
+    → IsTight (λ set. satisfaction_value e.m e.rows set) (λ c set left. ceiling (satisfaction_value e.m e.rows) e.m c set left) e.m k
+satisfaction-tight e k valid = additive-tight (λ set. satisfaction_value e.m e.rows set) e.m k (score (parts (common_multiple e.m)) e.rows) (satisfaction-joined e valid k)
+
+-- a committee has what its members have
+pub satisfaction-sum : (e : Election) (set : List ℕ) → IsElection e → IsIncreasing 1 e.m set
+    → satisfaction_value e.m e.rows set ≡ sum_by (score (parts (common_multiple e.m)) e.rows) set
+satisfaction-sum e set valid up =
+    let shares : List ℕ = parts (common_multiple e.m) in
+    omega (
+      arith,
+      additive (λ list. satisfaction_value e.m e.rows list) e.m (length set) (score shares e.rows) (satisfaction-joined e valid (length set)) [] set 0 tt up (omega arith),
+      satisfaction-nothing e shares valid refl,
+    )

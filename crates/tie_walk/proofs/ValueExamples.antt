@@ -7,7 +7,7 @@ use Rattle.ballot_base.specs.Increments.{increments}
 use Rattle.ballot_base.specs.declared.increments.ThieleRule.TheVariants.{Pav, Cc, Geom2}
 use Rattle.tie_walk.specs.Values.{thiele_value, satisfaction_value, distance, greatest_distance, closeness}
 use Rattle.tie_walk.specs.Values.{Thiele, thiele_of}
-use Rattle.tie_walk.specs.Steps.Tables.{prefix_sums, parts, sum_of_worths, IsThiele, score, IsSatisfaction}
+use Rattle.tie_walk.specs.Steps.Tables.{prefix_sums, parts, IsThiele, score, IsSatisfaction}
 
 -- of the candidates 1 to 3, two voters approve 1 and 2, and one voter 3
 two_and_one : List Row
@@ -94,10 +94,6 @@ parts_of_two : parts 2 ≡ 0 ∷ 2 ∷ 1 ∷ replicate (most_candidates - 2) 0
 unfolding parts
 parts_of_two = refl
 
--- 3 of worth 5 at 0, 4 of worth 7 at 1; those at 2 are past the last
-worths_of_two : sum_of_worths (3 ∷ 4 ∷ 9 ∷ []) (5 ∷ 7 ∷ 1 ∷ []) 1 ≡ 43
-worths_of_two = refl
-
 is_thiele : IsThiele (election 2 ([] ∷ [] ∷ []) ((1 ∷ [], 3) ∷ [])) 2 Cc 2 (1 ∷ replicate (most_members - 1) 0) (0 ∷ replicate most_candidates 1)
 unfolding prefix_sums increments
 is_thiele = record {
@@ -122,6 +118,17 @@ unfolding two_and_one
 score_of_two = refl
 
 -- nobody approves a candidate
-is_satisfaction : IsSatisfaction (election 3 ([] ∷ [] ∷ [] ∷ []) (([], 5) ∷ [])) (parts 6) []
+is_satisfaction : IsSatisfaction (election 3 ([] ∷ [] ∷ [] ∷ []) (([], 5) ∷ [])) []
 unfolding common_multiple
-is_satisfaction = record { shares_are = refl; scores_are = λ c. refl }
+is_satisfaction = record {
+  election = record {
+    least = lit≤ tt;
+    most = lit≤ tt;
+    names = refl;
+    ballots = (tt, tt);
+    distinct = λ i j d l h. absurd (omega arith);
+    counts = (lit≤ tt, tt);
+    voters = lit≤ tt;
+  };
+  scores_are = λ c. refl;
+}

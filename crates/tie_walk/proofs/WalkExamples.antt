@@ -3,10 +3,9 @@
 use Rattle.std.specs.Borrow.{Bor}
 use Rattle.std.proofs.Common.{sym, ◌≡◌, ℕ, ◌+◌, ◌*◌, List, [], ◌∷◌, true, false, refl, lit≤, lit<, Some, None, sum}
 use Rattle.ballot_base.specs.Lists.{lists_of}
-use Rattle.tie_walk.specs.Steps.Walks.{committees_below, committees_after, committees_from, IsPlace, IsPast, work_left, IsFound, those_reaching, open_below, open_after, open_from, Progress, IsStride, is_alive, waits_at, waits_after, waits_from, IsWait, IsRaised, IsBegun, IsCounted, IsKnown, IsWalk, IsWinning, aim, aim_at, progress}
+use Rattle.tie_walk.specs.Steps.Walks.{committees_below, committees_after, committees_from, IsPlace, IsPast, work_left, IsFound, those_reaching, open_below, open_after, open_from, Progress, IsStride, is_alive, waits_at, waits_after, waits_from, IsWait, IsRaised, IsBegun, IsCounted, IsWalk, IsWinning, aim, aim_at, progress}
 use Rattle.tie_walk.specs.declared.prefix.Prefix.{Prefix}
 use Rattle.tie_walk.specs.declared.walk.Counts.{Counts}
-use Rattle.tie_walk.specs.declared.walk.Known.{Known}
 use Rattle.tie_walk.specs.declared.walk.Walk.{Walk}
 
 with_one : Prefix
@@ -140,18 +139,10 @@ begun_with_one : IsBegun sum bound_of_three 3 2 5 None first_with_one
 unfolding lists_of bound_of_three with_one one_entered first_with_one
 begun_with_one = record { next = refl; place = (lit≤ tt, (lit≤ tt, lit≤ tt, tt), lit≤ tt); counted = counted_with_one }
 
-no_candidate_upto_one : Known
-no_candidate_upto_one = record { set = []; first = 1; last = 1 }
-
--- a bound of 5 where there is no candidate yet
-known_of_one : IsKnown (λ c set left. 5) 3 2 5 (Some no_candidate_upto_one)
-unfolding no_candidate_upto_one
-known_of_one = record { low = lit≤ tt; high = lit≤ tt; reached = λ n low high. lit≤ tt }
-
 -- a walk of a tally that shows its number of candidates
 module _ (three : Bor ℕ) (is : three.now ≡ 3) where
   first_walk : Walk ℕ
-  first_walk = record { tally = three; m = 3; k = 2; best = 5; place = Some with_one; counts = one_entered; levels = None ∷ [] }
+  first_walk = record { tally = three; m = 3; k = 2; best = 5; place = Some with_one; counts = one_entered }
 
   pairs_of_five : aim first_walk ≡ aim_at three.now 3 2 5
   unfolding first_walk
@@ -161,7 +152,7 @@ module _ (three : Bor ℕ) (is : three.now ≡ 3) where
   unfolding first_walk first_with_one
   first_progress = refl
 
-  walk_of_pairs : IsWalk (λ m. m) (λ m. bound_of_three) first_walk
+  walk_of_pairs : IsWalk (λ m. m) first_walk
   unfolding first_walk with_one
   walk_of_pairs = record {
     m_is = sym is;
@@ -169,7 +160,6 @@ module _ (three : Bor ℕ) (is : three.now ≡ 3) where
     some = lit≤ tt;
     fits = lit≤ tt;
     place_is = (lit≤ tt, (lit≤ tt, lit≤ tt, tt), lit≤ tt);
-    known = (tt, tt);
   }
 
   winning_pairs : IsWinning (λ m. m) (λ m. bound_of_three) None first_walk

@@ -1,6 +1,6 @@
 -- What the committees below a prefix can reach, and which prefixes a walk over the winners has to enter. A prefix
 -- decides on the candidates 1 to c: those of its set are members, the others are not.
-use Rattle.std.specs.Prelude.{◌≡◌, ℕ, zero, suc, ◌+◌, ◌-◌, ◌<◌, ◌≤◌, ◌&&◌, Bool, List, [], ◌∷◌, ◌++◌, Option, IsTrue, length, map, fold, max, sum_by, nat_le, if◌then◌else◌}
+use Rattle.std.specs.Prelude.{◌≡◌, ℕ, zero, suc, ◌+◌, ◌-◌, ◌≤◌, ◌&&◌, Bool, List, [], ◌∷◌, ◌++◌, Option, IsTrue, length, map, fold, max, sum_by, nat_le, if◌then◌else◌}
 use Rattle.std.specs.List.{list_any}
 use Rattle.std.specs.Str.{bytes_eq}
 use Rattle.ballot_base.specs.Lists.{IsIncreasing, increasing_lists, later_than}
@@ -55,17 +55,6 @@ abbrev pub IsExactAtBest : (List ℕ → ℕ) → (ℕ → List ℕ → ℕ → 
 IsExactAtBest value bound m k best = (c : ℕ) (set : List ℕ) (left : ℕ) → c ≤ m → IsIncreasing 1 c set
     → length set + left ≡ k → left ≤ m - c → best ≤ bound c set left
     → (added : List ℕ) × IsAdded m c left added × (best ≤ value (set ++ added))
-
--- The bound of the set is below the best value at c. So no committee of the set and `left` of the candidates after c
--- has that value.
-abbrev pub IsShort : (List ℕ → ℕ) → (ℕ → List ℕ → ℕ → ℕ) → ℕ → List ℕ → ℕ → ℕ → ℕ → Type 0
-IsShort value bound m set left best c = (bound c set left < best) × IsBound value m c set left (bound c set left)
-
--- the bounds of the set reach the best value from c up to `last`
-pub record IsReach (bound : ℕ → List ℕ → ℕ → ℕ) (m : ℕ) (set : List ℕ) (left best c last : ℕ) : Type 0 where
-  pub low : c ≤ last
-  pub high : last + left ≤ m
-  pub reached : (n : ℕ) → c ≤ n → n ≤ last → best ≤ bound n set left
 
 pub record Prefix : Type 0 where
   pub c : ℕ

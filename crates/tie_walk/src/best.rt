@@ -1,8 +1,7 @@
 //! The highest value of a committee, by the same walk that lists the winners.
 //!
 //! The search begins with the value of a good committee (module `good`). It goes on to a committee with a value above
-//! the highest so far, until there is none, or no bound leaves room for one. Each time the walk forgets what it knew of
-//! bounds.
+//! the highest so far, until there is none, or no bound leaves room for one.
 ghost use Rattle.std.specs.Prelude.{◌≡◌, ◌+◌, ◌^◌, ◌<◌, ◌≤◌, [], MatchOption};
 ghost use Rattle.tie_walk.specs.Steps.Walks.{committees_from, those_reaching, IsPlace, IsFound};
 ghost use Rattle.tie_walk.specs.Winners.{best_value};

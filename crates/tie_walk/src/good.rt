@@ -1,4 +1,4 @@
-//! A good committee to begin with: candidates are added one by one, then each member is exchanged for a better one.
+//! A good committee to begin with: the candidates who raise the value most, added one by one.
 ghost use Rattle.std.specs.Prelude.{◌≡◌, ◌+◌, ◌<◌, ◌≤◌, length};
 ghost use Rattle.ballot_base.specs.Lists.{IsIncreasing};
 
@@ -14,7 +14,7 @@ pub(crate) fn good_committee<T: Tally>(tally: &T, k: u8) -> CandSet
 {
     tally
         .good_committee(k)
-        .unwrap_or_else(|| improved(tally, grown_committee(tally, k)))
+        .unwrap_or_else(|| grown_committee(tally, k))
 }
 
 /// A committee of size k: the candidates who raise the value most, added one after another.
@@ -26,24 +26,6 @@ fn grown_committee<T: Tally>(tally: &T, k: u8) -> CandSet
     let mut set = CandSet::empty();
     for _size in 0..k {
         set = with_best(tally, set);
-    }
-    set
-}
-
-/// The committee, with each member exchanged for the best candidate in the same seat, if that raises the value.
-fn improved<T: Tally>(tally: &T, committee: CandSet) -> CandSet
-    requires members { IsIncreasing 1 (T.candidates tally.now) committee }
-    ensures candidates { IsIncreasing 1 (T.candidates tally.now) result }
-    ensures size { length result ≡ length committee }
-{
-    let mut set = committee;
-    for n in 1..tally.m() + 1 {
-        if set.has(n) {
-            let other = with_best(tally, set.without(n));
-            if tally.value(other) > tally.value(set) {
-                set = other;
-            }
-        }
     }
     set
 }

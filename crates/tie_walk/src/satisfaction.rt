@@ -1,13 +1,11 @@
 //! The values of satisfaction approval voting. The bound of a prefix is the value of some committee below it, as under
 //! approval voting (`laws::tight_bounds`).
-ghost use Rattle.std.specs.Prelude.{◌≡◌, ℕ, ◌+◌, ◌-◌, ◌*◌, ◌^◌, ◌<◌, ◌≤◌, ◌==◌, length, filter, sum_by, slice_index};
-ghost use Rattle.ballot_base.specs.Ballots.{hits};
-ghost use Rattle.ballot_base.specs.CommonMultiple.{common_multiple};
+ghost use Rattle.std.specs.Prelude.{◌≡◌, ℕ, ◌^◌, ◌<◌, slice_index};
 ghost use Rattle.tie_walk.specs.Ceilings.{IsTight, ceiling};
 ghost use Rattle.tie_walk.specs.Values.{satisfaction_value};
 ghost use Rattle.tie_walk.specs.Steps.Tables.{parts, score};
 
-use crate::tally::{Amounts, Tally, sum_of_worths};
+use crate::tally::{Tally, greatest_sum};
 use ballot_base::{CandSet, PLACES, Profile, Worths, common_multiple};
 use std::alloc::{Allocator, Global};
 use std::marker::Model;
@@ -17,8 +15,6 @@ use std::marker::Model;
 #[derive(Drop)]
 pub struct SavTally<'a, A: Allocator + Copy = Global> {
     profile: &'a Profile<A>,
-    // What a hit on a ballot of n candidates adds, at n; 0 at 0.
-    shares: [u128; PLACES],
     // What each candidate adds to a committee.
     scores: Worths,
 }
@@ -31,7 +27,7 @@ impl<'a, A: Allocator + Copy> Model for SavTally<'a, A> {
 
     ghost view = { λ t. t.profile.now };
 
-    ghost invariant = { λ t. IsSatisfaction t.profile.now t.shares t.scores };
+    ghost invariant = { λ t. IsSatisfaction t.profile.now t.scores };
 }
 
 impl<'a, A: Allocator + Copy> SavTally<'a, A> {
@@ -42,12 +38,9 @@ impl<'a, A: Allocator + Copy> SavTally<'a, A> {
         ensures tight { let tallies = ⟦<SavTally<'a, A> as Tally>⟧ in (k : ℕ)
             → IsTight (tallies.value_of result) (tallies.bound_of result) (tallies.candidates result) k }
     {
-        let shares = parts(common_multiple(profile.m()));
-        let scores = scores(profile, &shares);
         SavTally {
             profile,
-            shares,
-            scores,
+            scores: scores(profile, &parts(common_multiple(profile.m()))),
         }
     }
 }
@@ -64,28 +57,11 @@ impl<'a, A: Allocator + Copy> Tally for SavTally<'a, A> {
     }
 
     fn value(&self, set: CandSet) -> u128 {
-        sum_of_worths(
-            &hits_by_size(self.profile, set),
-            &self.shares,
-            self.profile.m(),
-        )
+        self.scores.excess(set, 0)
     }
 
     fn bound(&self, c: u8, set: CandSet, left: u8) -> u128 {
-        let amounts = Amounts {
-            each: &self.scores,
-            m: self.profile.m(),
-        };
-        self.value(set) + amounts.greatest_sum(c, left)
-    }
-
-    fn reach(&self, c: u8, set: CandSet, left: u8, best: u128) -> Option<u8> {
-        let least = best.saturating_sub(self.value(set));
-        let amounts = Amounts {
-            each: &self.scores,
-            m: self.profile.m(),
-        };
-        amounts.last_reaching(c, left, least)
+        self.value(set) + greatest_sum(&self.scores, c, self.profile.m(), left)
     }
 }
 
@@ -111,17 +87,4 @@ fn scores<A: Allocator + Copy>(profile: &Profile<A>, shares: &[u128; PLACES]) ->
         totals.add(ballot, u128::from(voters) * share);
     }
     totals
-}
-
-/// For each size of a ballot, the hits of all voters whose ballots have this size.
-fn hits_by_size<A: Allocator + Copy>(profile: &Profile<A>, set: CandSet) -> [u64; PLACES]
-    ensures { (n : ℕ) → slice_index result n
-        ≡ sum_by (λ row. row.1 * hits row.0 set) (filter (λ row. length row.0 == n) profile.now.rows) }
-{
-    let mut counts = [0; PLACES];
-    for (ballot, voters) in profile.ballots() {
-        let hits = u64::from(ballot.common(set).len());
-        counts[usize::from(ballot.len())] += voters * hits;
-    }
-    counts
 }

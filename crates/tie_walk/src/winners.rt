@@ -94,9 +94,8 @@ impl<'a, T: Tally> Winners<'a, T> {
     }
 
     /// The number of bounds that the walk to the winners has asked for so far. It asks for one at each prefix at which
-    /// it has to know whether the bound reaches the highest value. These are its calls of `Tally::bound`, unless the
-    /// tally has a `reach` of its own. What such a `reach` returns for many prefixes at once counts for each of them.
-    /// The walk that found the highest value does not count. No prefix is entered without a bound.
+    /// it has to know whether the bound reaches the highest value. These are its calls of `Tally::bound`. The walk that
+    /// found the highest value does not count. No prefix is entered without a bound.
     pub fn ceilings(&self) -> u128
         ensures count { result ≡ self.now.ceilings }
         ensures entered { self.now.entered ≤ result }

@@ -1,5 +1,5 @@
 -- The aids of a search under a Thiele rule.
-use Rattle.std.specs.Prelude.{◌≡◌, ℕ, ◌^◌, ◌≤◌, List, slice_index, Option, MatchOption, ⊤}
+use Rattle.std.specs.Prelude.{◌≡◌, ℕ, ◌≤◌, List, slice_index, Option, MatchOption, ⊤}
 use Rattle.ballot_base.specs.Ballots.{IsElection}
 use Rattle.ballot_base.specs.Clones.{AreClones}
 use Rattle.ballot_base.specs.Increments.{increments}

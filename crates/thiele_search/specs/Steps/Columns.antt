@@ -68,7 +68,7 @@ word_before words (suc h) = slice_index words h
 -- no weight is too large to add up, and none counts after the first `levels`
 pub record AreWeights (weights : List ℕ) (levels : ℕ) : Type 0 where
   pub few : levels ≤ most_members
-  pub small : (j : ℕ) → slice_index weights j ≤ 2 ^ 84
+  pub small : (j : ℕ) → slice_index weights j < 2 ^ 44
   pub end : (j : ℕ) → levels ≤ j → slice_index weights j ≡ 0
 
 -- each ballot is an increasing list of candidates

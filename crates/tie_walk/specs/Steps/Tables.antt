@@ -6,7 +6,6 @@ use Rattle.ballot_base.specs.Ballots.{Row, Election, IsElection}
 use Rattle.ballot_base.specs.CommonMultiple.{common_multiple}
 use Rattle.ballot_base.specs.Increments.{increments}
 use Rattle.ballot_base.specs.declared.increments.ThieleRule.{ThieleRule}
-use Rattle.tie_walk.specs.Ceilings.{greatest_sum}
 use Rattle.tie_walk.specs.Sequences.{supporters}
 
 -- the sums of the first 0 to `most_candidates` of these
@@ -16,17 +15,6 @@ prefix_sums weights = map (λ x. sum (take x weights)) (range_with_len 0 (most_c
 -- 0, and a whole divided by 1 to `most_candidates`
 unfoldable pub parts : ℕ → List ℕ
 parts whole = 0 ∷ map (λ n. whole / n) (range_with_len 1 most_candidates)
-
--- the sum over 0 to `most` of how many there are at each, times what one of them is worth
-abbrev pub sum_of_worths : List ℕ → List ℕ → ℕ → ℕ
-sum_of_worths counts worths most =
-    sum (map (λ j. slice_index counts j * slice_index worths j) (range_with_len 0 (most + 1)))
-
--- from c up to `last`, the highest sum of `left` of the candidates after each place is at least `least`
-pub record IsReachBySums (worth : ℕ → ℕ) (c m left least last : ℕ) : Type 0 where
-  pub low : c ≤ last
-  pub high : last + left ≤ m
-  pub reached : (n : ℕ) → c ≤ n → n ≤ last → least ≤ greatest_sum worth (n + 1) m left
 
 -- what is true of each tally of a Thiele rule
 pub record IsThiele (e : Election) (m : ℕ) (rule : ThieleRule) (k : ℕ) (weights sums : List ℕ) : Type 0 where
@@ -41,6 +29,6 @@ abbrev pub score : List ℕ → List Row → ℕ → ℕ
 score shares rows c = sum_by (λ (row : Row). row.1 * slice_index shares (length row.0)) (supporters rows c)
 
 -- what is true of each tally of satisfaction approval
-pub record IsSatisfaction (e : Election) (shares scores : List ℕ) : Type 0 where
-  pub shares_are : shares ≡ parts (common_multiple e.m)
-  pub scores_are : (c : ℕ) → slice_index scores c ≡ score shares e.rows c
+pub record IsSatisfaction (e : Election) (scores : List ℕ) : Type 0 where
+  pub election : IsElection e
+  pub scores_are : (c : ℕ) → slice_index scores c ≡ score (parts (common_multiple e.m)) e.rows c

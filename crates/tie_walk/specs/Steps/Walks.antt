@@ -1,13 +1,12 @@
 -- A walk over all committees, in lexicographic order, from prefix to prefix.
 use Rattle.std.specs.Prelude.{◌≡◌, ℕ, zero, suc, ◌+◌, ◌-◌, ◌*◌, ◌^◌, ◌<◌, ◌≤◌, Bool, List, [], ◌∷◌, ◌++◌, Option, None, Some, ⊤, length, map, filter, sum_by, nat_le, MatchOption, option_to_list, if◌then◌else◌}
-use Rattle.std.specs.List.{AllByRecursion, list_any}
+use Rattle.std.specs.List.{list_any}
 use Rattle.ballot_base.specs.Limits.{most_candidates}
 use Rattle.ballot_base.specs.Lists.{IsIncreasing, increasing_lists, later_than}
 use Rattle.ballot_base.specs.CandSet.{with_member}
-use Rattle.tie_walk.specs.Ceilings.{IsReach, is_open, live_count}
+use Rattle.tie_walk.specs.Ceilings.{is_open, live_count}
 use Rattle.tie_walk.specs.declared.prefix.Prefix.{Prefix}
 use Rattle.tie_walk.specs.declared.walk.Counts.{Counts}
-use Rattle.tie_walk.specs.declared.walk.Known.{Known}
 use Rattle.tie_walk.specs.declared.walk.Walk.{Walk}
 
 -- the committees of k of the candidates 1 to m whose members up to c are exactly the set, which has at most k
@@ -150,25 +149,16 @@ pub record IsBegun (value : List ℕ → ℕ) (bound : ℕ → List ℕ → ℕ 
   pub place : IsPlace m k progress.place
   pub counted : IsCounted bound m k best after progress
 
--- what is known of the bounds of a set for committees of k
-abbrev pub IsKnown : (ℕ → List ℕ → ℕ → ℕ) → ℕ → ℕ → ℕ → Option Known → Type 0
-IsKnown bound m k best None = ⊤
-IsKnown bound m k best (Some known) = IsReach bound m known.set (k - length known.set) best known.first known.last
-
-abbrev pub AreKnown : (ℕ → List ℕ → ℕ → ℕ) → ℕ → ℕ → ℕ → List (Option Known) → Type 0
-AreKnown bound m k best levels = AllByRecursion (IsKnown bound m k best) levels
-
 -- what is true of each walk over the committees of k of a tally's candidates
-pub record IsWalk {T : Type 0} (candidates : T → ℕ) (bound : T → ℕ → List ℕ → ℕ → ℕ) (walk : Walk T) : Type 0 where
+pub record IsWalk {T : Type 0} (candidates : T → ℕ) (walk : Walk T) : Type 0 where
   pub m_is : walk.m ≡ candidates walk.tally.now
   pub most : walk.m ≤ most_candidates
   pub some : 1 ≤ walk.k
   pub fits : walk.k ≤ walk.m
   pub place_is : IsPlace walk.m walk.k walk.place
-  pub known : AreKnown (bound walk.tally.now) walk.m walk.k walk.best walk.levels
 
 -- what is true of a walk over the winners after a start
 pub record IsWinning {T : Type 0} (candidates : T → ℕ) (bound : T → ℕ → List ℕ → ℕ → ℕ) (after : Option (List ℕ))
     (walk : Walk T) : Type 0 where
-  pub walk_is : IsWalk candidates bound walk
+  pub walk_is : IsWalk candidates walk
   pub counted : IsCounted (bound walk.tally.now) walk.m walk.k walk.best after (progress walk)

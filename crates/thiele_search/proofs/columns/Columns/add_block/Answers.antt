@@ -18,6 +18,7 @@ loop-candidate-preserved g c =
     let given = c.given_by-given in
     let is_set : (n : ℕ) → get_or c.set.new.self n 0 ≡ cond (n == at) (get_or c.loop-candidate.gains at 0 + given.result) (get_or c.loop-candidate.gains n 0) =
     λ n. c.set.ensures n
+    ∙ ap (λ x. cond (n == c.in-Some.candidate) (c.of.result + x) (get_or c.loop-candidate.gains n 0)) c.from-in-loop-candidate-2.ensures
     ∙ ap (λ x. cond (n == c.in-Some.candidate) (x + given.result) (get_or c.loop-candidate.gains n 0)) c.of.ensures.value
     ∙ ap (λ m. cond (n == m) (get_or c.loop-candidate.gains m 0 + given.result) (get_or c.loop-candidate.gains n 0)) (sym c.from-in-loop-candidate.ensures) in
     record {
@@ -25,7 +26,7 @@ loop-candidate-preserved g c =
       made = λ n. one-added c.loop-candidate.gains c.set.new.self left rest at given.result is up is_set n _
           (λ j. total (λ h. get_or c.args.self.now.weights h 0 * shared (get_or c.args.block.now j 0) (get_or c.by_hits-words.result h 0)) c.min-levels.result)
           given.ensures.sum (c.loop-candidate.invariant.made n);
-      most = λ n. one-most c.loop-candidate.gains c.set.new.self left rest at given.result is up is_set n (get_or c.args.gains.now n 0) (most_members * 2 ^ 90)
+      most = λ n. one-most c.loop-candidate.gains c.set.new.self left rest at given.result is up is_set n (get_or c.args.gains.now n 0) (most_members * 2 ^ 50)
           (omega (arith, given.ensures.most, c.min-levels.ensures, c.args.self.now.sound.few)) (c.loop-candidate.invariant.most n);
     }
 
@@ -45,7 +46,7 @@ returns-clause-sum g c ballot_at block n in_ =
     omega (arith, made, summed, whole, ap (λ l. cond (has_member l n) part 0) c.in-None.ensures.steps.0, ap (λ b. cond b part 0) in_)
 
 -- a gain stays small
-gain-fits : (done : Bool) (before gain part : ℕ) → before < 2 ^ 106 → gain ≤ before + cond done 0 (most_members * 2 ^ 90) → part ≤ most_members * 2 ^ 90 → gain + part < 2 ^ 122
+gain-fits : (done : Bool) (before gain part : ℕ) → before < 2 ^ 106 → gain ≤ before + cond done 0 (most_members * 2 ^ 50) → part ≤ most_members * 2 ^ 50 → gain + part < 2 ^ 122
 gain-fits true before gain part low near more = omega arith
 gain-fits false before gain part low near more = omega arith
 
@@ -54,4 +55,4 @@ set-requires-clause-small g c =
     let at = c.in-Some.candidate in
     let fits = gain-fits (has_member c.loop-candidate.candidate-iterator at) (get_or c.args.gains.now at 0) (get_or c.loop-candidate.gains at 0) c.given_by-given.result
     (c.requires at) (c.loop-candidate.invariant.most at) (omega (arith, c.given_by-given.ensures.most, c.min-levels.ensures, c.args.self.now.sound.few)) in
-    omega (arith, fits, c.of.ensures.value)
+    omega (arith, fits, c.of.ensures.value, c.from-in-loop-candidate-2.ensures)

@@ -1,5 +1,4 @@
 use Rattle.std.proofs.Common.{◌∙◌, ap, arith, get_or}
-use Rattle.tie_walk.proofs.Gains.{weights-small}
 use Rattle.thiele_search.proofs.ColumnLemmas.{voters-length}
 use Rattle.thiele_search.proofs.columns.Columns.of.Goals as goal
 
@@ -8,8 +7,8 @@ invariant_of-result g c = record {
   few = c.in_ok-blocks_of.ensures.few;
   sound = record {
     few = c.last_level.ensures.most;
-    small = λ j. omega (arith, ap (λ l. get_or l j 0) c.of-2.ensures, weights-small c.args.rule c.args.k c.of.result.w j c.requires.size c.of.ensures.weights);
-    end = λ j high. ap (λ l. get_or l j 0) c.of-2.ensures ∙ c.last_level.ensures.end j high;
+    small = λ j. (c.in-Some.ensures j).1;
+    end = c.last_level.ensures.end;
   };
 }
 
@@ -17,5 +16,5 @@ pub returns : goal.returns
 returns g c = record {
   all = omega (arith, voters-length c.args.profile.now.rows, c.in_ok-blocks_of.ensures.all);
   columns = c.in_ok-blocks_of.ensures.columns;
-  weights_are = λ j. ap (λ l. get_or l j 0) c.of-2.ensures ∙ ap (λ l. get_or l j 0) c.of.ensures.weights;
+  weights_are = λ j. (c.in-Some.ensures j).0 ∙ ap (λ l. get_or l j 0) c.of.ensures.weights;
 }

@@ -59,7 +59,6 @@ returns-then-not-enter-clause-walk g c =
       some = w.some;
       fits = w.fits;
       place_is = place-past c.enter.new.self.m c.enter.new.self.k prefix c.past-walk.result here c.past-walk.ensures;
-      known = w.known;
     }
 
 pub returns-then-not-enter-clause-begun : goal.returns-then-not-enter-clause-begun

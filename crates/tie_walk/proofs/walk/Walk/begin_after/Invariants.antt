@@ -11,7 +11,7 @@ invariant-loop-c g l =
     let a = aim l.initial.walk in
     let bound = g.T.Tally.bound_of a.tally in
     record {
-      walk : IsWalk g.T.Tally.candidates g.T.Tally.bound_of l.walk;
+      walk : IsWalk g.T.Tally.candidates l.walk;
       same : aim l.walk ≡ a;
       entered : l.walk.counts.entered ≡ l.c;
       ceilings : l.walk.counts.ceilings ≡ l.c;

@@ -1,4 +1,5 @@
-use Rattle.std.proofs.Common.{sym, arith}
+use Rattle.std.proofs.Common.{◌≡◌, ◌-◌, ap, sym, subst, arith, length}
+use Rattle.tie_walk.specs.Ceilings.{IsBound}
 use Rattle.tie_walk.proofs.OpenLemmas.{reaching-short, reaching-bound, shut-short, shut-low, open-is}
 use Rattle.tie_walk.proofs.walk.Walk.enter.Goals as goal
 
@@ -12,19 +13,31 @@ returns-then-len-self-clause-none g c none =
     reaching-short (g.T.Tally.value_of c.args.self.now.tally.now) c.args.self.now.best c.args.self.now.m c.args.self.now.k c.args.prefix.c c.args.prefix.set
     (omega (arith, c.if-len-self.true, c.len.ensures.count))
 
-pub returns-then-not-reaches-clause-open : goal.returns-then-not-reaches-clause-open
-returns-then-not-reaches-clause-open g c =
+pub returns-then-bound-self-clause-open : goal.returns-then-bound-self-clause-open
+returns-then-bound-self-clause-open g c =
     let p = c.args.prefix in
-    sym (shut-low (g.T.Tally.bound_of c.args.self.now.tally.now) c.args.self.now.m c.args.self.now.k c.args.self.now.best p.c p.set (c.reaches.ensures.short c.if-not-reaches.true).0)
+    let w = c.args.self.now in
+    let bound = g.T.Tally.bound_of w.tally.now in
+    let left : w.k - c.len-2.result ≡ w.k - length p.set = ap (λ n. w.k - n) c.len-2.ensures.count in
+    sym (shut-low bound w.m w.k w.best p.c p.set (omega (arith, c.if-bound-self.true, c.bound.ensures.value, ap (bound p.c p.set) left)))
 
-pub returns-then-not-reaches-clause-none : goal.returns-then-not-reaches-clause-none
-returns-then-not-reaches-clause-none g c none =
+pub returns-then-bound-self-clause-none : goal.returns-then-bound-self-clause-none
+returns-then-bound-self-clause-none g c none =
     let p = c.args.prefix in
-    let short = c.reaches.ensures.short c.if-not-reaches.true in
-    reaching-bound (g.T.Tally.value_of c.args.self.now.tally.now) c.args.self.now.best c.args.self.now.m c.args.self.now.k p.c p.set _ short.1 short.0
+    let w = c.args.self.now in
+    let bound = g.T.Tally.bound_of w.tally.now in
+    let left : w.k - c.len-2.result ≡ w.k - length p.set = ap (λ n. w.k - n) c.len-2.ensures.count in
+    let value = g.T.Tally.value_of w.tally.now in
+    let law : IsBound value w.m p.c p.set (w.k - length p.set) c.bound.result =
+    subst (λ n. IsBound value n p.c p.set (w.k - length p.set) c.bound.result) (sym c.requires.walk.m_is)
+    (subst (λ n. IsBound value (g.T.Tally.candidates w.tally.now) p.c p.set n c.bound.result) left c.bound.ensures.law) in
+    reaching-bound value w.best w.m w.k p.c p.set c.bound.result law c.if-bound-self.true
 
 pub returns-clause-open : goal.returns-clause-open
 returns-clause-open g c =
     let p = c.args.prefix in
-    sym (open-is (g.T.Tally.bound_of c.args.self.now.tally.now) c.args.self.now.m c.args.self.now.k c.args.self.now.best p.c p.set c.requires.place.2
-    (omega (arith, c.if-len-self.false, c.len.ensures.count)) (c.reaches.ensures.reached c.if-not-reaches.false))
+    let w = c.args.self.now in
+    let bound = g.T.Tally.bound_of w.tally.now in
+    let left : w.k - c.len-2.result ≡ w.k - length p.set = ap (λ n. w.k - n) c.len-2.ensures.count in
+    sym (open-is bound w.m w.k w.best p.c p.set c.requires.place.2 (omega (arith, c.if-len-self.false, c.len.ensures.count))
+    (omega (arith, c.if-bound-self.false, c.bound.ensures.value, ap (bound p.c p.set) left)))

@@ -12,7 +12,7 @@ invariant-loop-self g l =
     let from = progress l.fn.self in
     let here = progress l.self in
     record {
-      walk : IsWalk g.T.Tally.candidates g.T.Tally.bound_of l.self;
+      walk : IsWalk g.T.Tally.candidates l.self;
       same : aim l.self ≡ a;
       rest : those_reaching value a.best (committees_from a.m a.k from.place) ≡ those_reaching value a.best (committees_from a.m a.k here.place);
       entered : from.counts.entered ≤ here.counts.entered;

@@ -1,6 +1,6 @@
 use Rattle.std.proofs.Common.{◌≡◌, ℕ, ◌<◌, ◌^◌, length, get_or}
 use Rattle.ballot_base.specs.Limits.{most_members}
-use Rattle.thiele_search.proofs.weights.small_weights.Given as goal
+use Rattle.thiele_search.proofs.columns.small_weights.Given as goal
 
 -- the weights so far are the same, and none is too large
 abbrev pub invariant-loop-j : goal.invariant-loop-j

@@ -1,6 +1,6 @@
 use Rattle.std.proofs.Common.{◌≡◌, ◌*◌, ◌^◌, ◌≤◌, get_or}
 use Rattle.thiele_search.specs.Steps.Columns.{total, shared}
-use Rattle.thiele_search.proofs.columns.given_by_small.Given as goal
+use Rattle.thiele_search.proofs.columns.given_by.Given as goal
 
 -- what the voters with fewer hits give is added
 abbrev pub invariant-loop-h : goal.invariant-loop-h

@@ -1,6 +1,6 @@
 use Rattle.std.proofs.Common.{◌≡◌, ℕ, refl, arith, get_or, replicate}
 use Rattle.tie_walk.proofs.WorthLemmas.{no_total}
-use Rattle.thiele_search.proofs.weights.small_weights.Goals as goal
+use Rattle.thiele_search.proofs.columns.small_weights.Goals as goal
 
 pub loop-j-init : goal.loop-j-init
 loop-j-init c = record {
