@@ -3,8 +3,10 @@
 //! A bound over rows has a multiplier for each row. Any multipliers are right, and some rounds over the rows can move
 //! them so that the bound ends a node. A round costs work. So a search counts what moves achieve and what they cost, by
 //! the number of seats left, and moves where they save work. Nothing is proved of these counts.
+ghost use Rattle.std.specs.Prelude.{⊤};
 
 use ballot_base::PLACES;
+use std::marker::Model;
 
 /// What a move achieved is counted in parts of this number; a node that ended is all of them. Means are in such parts
 /// of one as well.
@@ -30,7 +32,7 @@ const SAMPLE_OF_MOVES: u32 = 64;
 const MEMORY: u64 = 50;
 
 /// What moves of multipliers achieve, and what they cost, by the number of seats left. The unit of work is a visit to a
-/// set.
+/// set. Contracts see nothing of them.
 #[derive(Drop)]
 pub struct Moves {
     // The work of a round over the rows.
@@ -38,6 +40,12 @@ pub struct Moves {
     // All work so far.
     done: u64,
     levels: [Level; PLACES],
+}
+
+impl Model for Moves {
+    ghost Value = { ⊤ };
+
+    ghost view = { λ _. tt };
 }
 
 impl Moves {
