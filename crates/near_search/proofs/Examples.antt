@@ -6,7 +6,6 @@ use Rattle.ballot_base.proofs.RowLemmas.{distinct-with_votes}
 use Rattle.tie_walk.specs.Values.{closeness, distance}
 use Rattle.tie_search.specs.Alike.{AreAlike}
 use Rattle.near_search.specs.Needs.{hits_needed, weighted_needs, weighted_support}
-use Rattle.near_search.specs.Steps.Near.{need_weight}
 use Rattle.near_search.proofs.NearClones.{alike}
 
 -- ---- hits that ballots need under minimax approval voting
@@ -50,11 +49,6 @@ support-three = refl
 
 support-nobody : weighted_support (λ row. length row.0) ((1 ∷ 2 ∷ 3 ∷ [], 1) ∷ (4 ∷ 5 ∷ [], 2) ∷ []) 6 ≡ 0
 support-nobody = refl
-
--- a ballot that needs two of four free candidates, whose share is 256 parts each
-weight-half : need_weight 256 2 ≡ 2 * 512 ^ 3
-unfolding need_weight
-weight-half = refl
 
 -- ---- clones: one voter approves 1 and 2 of three candidates
 

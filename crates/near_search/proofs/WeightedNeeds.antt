@@ -1,6 +1,5 @@
 -- What ballots need, weighted, and the weights of the candidates who can join.
-use Rattle.std.proofs.Common.{◌≡◌, ℕ, ◌+◌, ◌-◌, ◌*◌, ◌<◌, ◌≤◌, ◌∙◌, ◌&&◌, Bool, true, false, cond, List, [], ◌∷◌, ◌++◌, refl, ap, arith, length, sum_by, take, get_or, slice_get, slice_index, Some, ◌^◌}
-use native.Mathlib.Numerals.{unary_clauses}
+use Rattle.std.proofs.Common.{◌≡◌, ℕ, ◌+◌, ◌-◌, ◌*◌, ◌<◌, ◌≤◌, ◌∙◌, ◌&&◌, ◌||◌, ◌==◌, zero, suc, subst, Bool, true, false, cond, List, [], ◌∷◌, ◌++◌, refl, ap, arith, length, sum_by, take, get_or, slice_get, slice_index, Some, ◌^◌}
 use Rattle.std.specs.List.{AllByRecursion}
 use Rattle.std.proofs.Math.Nat.{mul-le-mul_left}
 use Rattle.std.proofs.lemmas.List.Sums.{sum_by-cons, sum_by_more}
@@ -8,12 +7,17 @@ use Rattle.std.proofs.lemmas.Option.{get_or_from_slice_get, slice_get_within}
 use Rattle.ballot_base.specs.CandSet.{has_member, common_members}
 use Rattle.ballot_base.specs.Lists.{IsIncreasing}
 use Rattle.ballot_base.specs.Ballots.{Row, Election, IsElection, hits, voter_count}
-use Rattle.ballot_base.proofs.Increasing.{has_member-filter}
+use Rattle.ballot_base.proofs.Increasing.{has_member-filter, has_member_head}
 use Rattle.tie_walk.specs.Sequences.{supporters}
 use Rattle.tie_walk.specs.Values.{closeness, greatest_distance}
-use Rattle.tie_search.specs.Completions.{IsNode, IsCompletion}
+use Rattle.std.specs.Prelude.{MatchOption, Option}
+use Rattle.ballot_base.specs.Worths.{AreTooLow, AreWanted}
+use Rattle.ballot_base.specs.Limits.{most_candidates}
+use Rattle.tie_search.specs.Completions.{IsNode, IsCompletion, IsOutOfReach}
+use Rattle.tie_search.specs.Steps.Narrowed.{IsNarrowed}
+use Rattle.tie_search.proofs.NarrowedLemmas.{narrowed-members}
 use Rattle.near_search.specs.Needs.{hits_needed, weighted_needs, weighted_support}
-use Rattle.near_search.specs.Steps.Near.{AreWeighted, need_weight}
+use Rattle.near_search.specs.Steps.Near.{AreWeighted}
 use Rattle.tie_search.proofs.CompletionLemmas.{added, added-free, added-increasing, added-size, completion-members, hits-same}
 use Rattle.tie_search.proofs.HitLemmas.{hits-append, hits-turned}
 use Rattle.near_search.proofs.NeedLemmas.{needs-met, value-near}
@@ -79,38 +83,6 @@ module _ (weight : Row → ℕ) where
 
 -- ---- the rows so far
 
-module _ (weight : Row → ℕ) where
-  support-sum : (rows : List Row) (n : ℕ) → weighted_support weight rows n ≡ sum_by (λ (r : Row). cond (has_member r.0 n) (weight r) 0) rows
-  support-sum [] n = refl
-  support-sum (row ∷ rows) n =
-      omega (
-        arith,
-        support-cons weight row rows n,
-        support-sum rows n,
-        times (has_member row.0 n) (weight row),
-        sum_by-cons (λ (r : Row). cond (has_member r.0 n) (weight r) 0) row rows,
-      )
-    where
-      times : (b : Bool) (x : ℕ) → x * cond b 1 0 ≡ cond b x 0
-      times true x = omega arith
-      times false x = omega arith
-
-  -- a row more
-  pub needs-more : (k most : ℕ) (set : List ℕ) (rows : List Row) (i : ℕ) (row : Row) → slice_get rows i ≡ Some row
-      → weighted_needs weight k most set (take (i + 1) rows) ≡ weighted_needs weight k most set (take i rows) + weight row * (hits_needed (length row.0) k most - hits row.0 set)
-  needs-more k most set rows i row found =
-      let here : get_or rows i row ≡ row = get_or_from_slice_get rows i row row found in
-      let within : i < length rows = slice_get_within rows i row found in
-      rw here at (sum_by_more (λ (r : Row). weight r * (hits_needed (length r.0) k most - hits r.0 set)) rows i row within)
-
-  pub support-more : (rows : List Row) (i : ℕ) (row : Row) (n : ℕ) → slice_get rows i ≡ Some row
-      → weighted_support weight (take (i + 1) rows) n ≡ weighted_support weight (take i rows) n + cond (has_member row.0 n) (weight row) 0
-  support-more rows i row n found =
-      let here : get_or rows i row ≡ row = get_or_from_slice_get rows i row row found in
-      let within : i < length rows = slice_get_within rows i row found in
-      let more = rw here at (sum_by_more (λ (r : Row). cond (has_member r.0 n) (weight r) 0) rows i row within) in
-      omega (arith, more, support-sum (take (i + 1) rows) n, support-sum (take i rows) n)
-
 -- there are no more rows than voters
 rows-few : (rows : List Row) → AllByRecursion (λ (row : Row). 0 < row.1) rows → length rows ≤ voter_count rows
 rows-few [] counts = omega arith
@@ -120,45 +92,13 @@ pub turns-few : (e : Election) (i : ℕ) (row : Row) → IsElection e → slice_
 turns-few e i row valid found =
     omega (arith, slice_get_within e.rows i row found, rows-few e.rows valid.counts, valid.voters)
 
--- ---- weights by needs
-
--- how much a row weighs
-pub row_weight : List ℕ → ℕ → ℕ → List ℕ → List ℕ → Row → ℕ
-row_weight shares k most set free row =
-    need_weight (get_or shares (length (common_members row.0 free)) 0) (hits_needed (length row.0) k most - hits row.0 set)
-
-pub row_weight-is : (shares : List ℕ) (k most : ℕ) (set free : List ℕ) (row : Row)
-    → row_weight shares k most set free row ≡ need_weight (get_or shares (length (common_members row.0 free)) 0) (hits_needed (length row.0) k most - hits row.0 set)
-unfolding row_weight
-row_weight-is shares k most set free row = refl
-
--- no row has a weight
-pub weightless-sum : (factor : Row → ℕ) (rows : List Row) → sum_by (λ row. 0 * factor row) rows ≡ 0
-weightless-sum factor [] = refl
-weightless-sum factor (row ∷ rows) = omega (arith, sum_by-cons (λ (r : Row). 0 * factor r) row rows, weightless-sum factor rows)
-
-pub weightless-support : (rows : List Row) → sum_by (λ (row : Row). 0) rows ≡ 0
-weightless-support [] = refl
-weightless-support (row ∷ rows) = omega (arith, sum_by-cons (λ (r : Row). 0) row rows, weightless-support rows)
-
--- nothing, where nothing is needed
-pub weight-none : (share : ℕ) → need_weight share 0 ≡ 0
-unfolding need_weight
-weight-none share = omega arith
-
 -- ---- committees that are near
 
 module _ (weight : Row → ℕ) (m k most : ℕ) (rows : List Row) (set free : List ℕ) (left : ℕ) (committee : List ℕ) (ballots : AllByRecursion (λ (row : Row). IsIncreasing 1 m row.0) rows)
     (is_node : IsNode m set free) (whole : IsCompletion m set free left committee) (size : length set + left ≡ k) (near : greatest_distance rows committee ≤ most) where
-  -- the weights of those who join are no less than the needs
-  pub needs-joined : weighted_needs weight k most set rows ≤ sum_by (weighted_support weight rows) (added m set free left committee is_node whole)
-  needs-joined =
-      let more = added m set free left committee is_node whole in
-      omega (
-        arith,
-        needs-given weight k most set more rows (split rows ((needs-met m k most rows committee ballots whole.candidates (whole.size ∙ size)).0 near)),
-        weighted-hits weight m rows more ballots (added-increasing m set free left committee is_node whole),
-      )
+  -- those who join give each ballot what it needs
+  pub needs-split : AllByRecursion (λ (row : Row). hits_needed (length row.0) k most ≤ hits row.0 set + hits row.0 (added m set free left committee is_node whole)) rows
+  needs-split = split rows ((needs-met m k most rows committee ballots whole.candidates (whole.size ∙ size)).0 near)
     where
       split : (rows : List Row) → AllByRecursion (λ (row : Row). hits_needed (length row.0) k most ≤ hits row.0 committee) rows
           → AllByRecursion (λ (row : Row). hits_needed (length row.0) k most ≤ hits row.0 set + hits row.0 (added m set free left committee is_node whole)) rows
@@ -174,6 +114,16 @@ module _ (weight : Row → ℕ) (m k most : ℕ) (rows : List Row) (set free : L
             ),
             split rows met.1,
           )
+
+  -- the weights of those who join are no less than the needs
+  pub needs-joined : weighted_needs weight k most set rows ≤ sum_by (weighted_support weight rows) (added m set free left committee is_node whole)
+  needs-joined =
+      let more = added m set free left committee is_node whole in
+      omega (
+        arith,
+        needs-given weight k most set more rows needs-split,
+        weighted-hits weight m rows more ballots (added-increasing m set free left committee is_node whole),
+      )
 
   pub needs-bound : (t : ℕ) → weighted_needs weight k most set rows ≤ left * t + sum_by (λ n. weighted_support weight rows n - t) free
   needs-bound t =
@@ -202,26 +152,81 @@ module _ (weight : Row → ℕ) (m k most : ℕ) (rows : List Row) (set free : L
 
 -- ---- what weighted needs say of a set
 
--- fewer are free
-pub weighted-fewer : (rows : List Row) (k most : ℕ) (set free rest : List ℕ) (total : ℕ) (supports : List ℕ) → AreWeighted rows k most set free total supports
-    → ((n : ℕ) → has_member rest n ≡ true → has_member free n ≡ true) → AreWeighted rows k most set rest total supports
-weighted-fewer rows k most set free rest total supports are among = record {
-  weight = are.weight;
-  total_is = are.total_is;
-  supports_are = λ n is. are.supports_are n (among n is);
-}
+-- nothing is needed
+pub weighted-none : (e : Election) (k most : ℕ) (set free supports : List ℕ) → AreWeighted e k most set free 0 supports
+weighted-none e k most set free supports more up within met = omega arith
 
--- the supports of those who join are no less than the total
-pub weighted-paid : (m most : ℕ) (rows : List Row) (set free : List ℕ) (left total : ℕ) (supports : List ℕ) → AllByRecursion (λ (row : Row). IsIncreasing 1 m row.0) rows → IsNode m set free
-    → AreWeighted rows (length set + left) most set free total supports → (committee : List ℕ) → IsCompletion m set free left committee → m - most ≤ closeness m rows committee
-    → total ≤ sum_by (slice_index supports) (common_members free committee)
-weighted-paid m most rows set free left total supports ballots is_node are committee whole reaches =
-    let none : sum_by (λ n. slice_index supports n - 0) (common_members free committee) ≡ sum_by (slice_index supports) (common_members free committee) = simp unary_clauses refl in
+-- fewer are free
+pub weighted-fewer : (e : Election) (k most : ℕ) (set free rest : List ℕ) (total : ℕ) (supports : List ℕ) → AreWeighted e k most set free total supports
+    → ((n : ℕ) → has_member rest n ≡ true → has_member free n ≡ true) → AreWeighted e k most set rest total supports
+weighted-fewer e k most set free rest total supports are among more up within met = are more up (λ n is. among n (within n is)) met
+
+-- a row that was found has what each row has
+row-met : (P : Row → Type 0) (rows : List Row) (i : ℕ) (row : Row) → AllByRecursion P rows → slice_get rows i ≡ Some row → P row
+row-met P [] i row all found = absurd (cc)
+row-met P (r ∷ rows) zero row all found = let same : r ≡ row = cc in subst P same all.0
+row-met P (r ∷ rows) (suc i) row all found = row-met P rows i row all.1 found
+
+-- a weight more for those on a ballot
+support-more : (before after : ℕ → ℕ) (ballot : List ℕ) (weight : ℕ) (xs : List ℕ)
+    → ((n : ℕ) → has_member xs n ≡ true → after n ≡ before n + cond (has_member ballot n) weight 0)
+    → sum_by after xs ≡ sum_by before xs + weight * sum_by (λ n. cond (has_member ballot n) 1 0) xs
+support-more before after ballot weight [] more = omega arith
+support-more before after ballot weight (x ∷ xs) more =
+    let split : (a b c : ℕ) → a * (b + c) ≡ a * b + a * c = λ a b c. omega arith in
     omega (
       arith,
-      are.total_is,
-      needs-joined are.weight m (length set + left) most rows set free left committee ballots is_node whole refl (value-near m rows most committee ballots whole.candidates reaches),
-      sum-threshold (weighted_support are.weight rows) (slice_index supports) 0 (common_members free committee)
-          (λ n is. omega (arith, are.supports_are n (added-free m set free left committee is_node whole n is))),
-      none,
+      more x (has_member_head x xs),
+      times (has_member ballot x),
+      support-more before after ballot weight xs (λ n is. more n (or-true (x == n) (has_member xs n) is)),
+      split weight (cond (has_member ballot x) 1 0) (sum_by (λ n. cond (has_member ballot n) 1 0) xs),
+      ap (λ n. weight * n) (sum_by-cons (λ n. cond (has_member ballot n) 1 0) x xs),
+      sum_by-cons before x xs,
+      sum_by-cons after x xs,
     )
+  where
+    or-true : (p q : Bool) → q ≡ true → (p || q) ≡ true
+    or-true true q h = refl
+    or-true false q h = h
+
+    times : (b : Bool) → weight * cond b 1 0 ≡ cond b weight 0
+    times true = omega arith
+    times false = omega arith
+
+-- a row more, with any weight
+pub weighted-more : (e : Election) (k most : ℕ) (set free : List ℕ) (total sum weight need : ℕ) (supports added : List ℕ) (i : ℕ) (row : Row)
+    → AllByRecursion (λ (r : Row). IsIncreasing 1 e.m r.0) e.rows → slice_get e.rows i ≡ Some row → need ≡ hits_needed (length row.0) k most - hits row.0 set
+    → AreWeighted e k most set free total supports → sum ≡ total + weight * need
+    → ((n : ℕ) → has_member free n ≡ true → slice_index added n ≡ slice_index supports n + cond (has_member row.0 n) weight 0)
+    → AreWeighted e k most set free sum added
+weighted-more e k most set free total sum weight need supports added i row ballots found is are sum_is supported more up within met =
+    let needed : hits_needed (length row.0) k most ≤ hits row.0 set + hits row.0 more =
+    row-met (λ r. hits_needed (length r.0) k most ≤ hits r.0 set + hits r.0 more) e.rows i row met found in
+    let one : need ≤ hits row.0 more = omega (arith, is, needed) in
+    let product : weight * need ≤ weight * hits row.0 more = mul-le-mul_left weight one in
+    omega (
+      arith,
+      sum_is,
+      product,
+      are more up within met,
+      support-more (slice_index supports) (slice_index added) row.0 weight more (λ n in_. supported n (within n in_)),
+      ap (λ h. weight * h) (hits-turned e.m row.0 more (row-met (λ r. IsIncreasing 1 e.m r.0) e.rows i row ballots found) up),
+    )
+
+-- the supports of those who join are no less than the total
+pub weighted-paid : (e : Election) (most : ℕ) (set free : List ℕ) (left total : ℕ) (supports : List ℕ) → AllByRecursion (λ (row : Row). IsIncreasing 1 e.m row.0) e.rows → IsNode e.m set free
+    → AreWeighted e (length set + left) most set free total supports → (committee : List ℕ) → IsCompletion e.m set free left committee → e.m - most ≤ closeness e.m e.rows committee
+    → total ≤ sum_by (slice_index supports) (common_members free committee)
+weighted-paid e most set free left total supports ballots is_node are committee whole reaches =
+    are (added e.m set free left committee is_node whole) (added-increasing e.m set free left committee is_node whole) (added-free e.m set free left committee is_node whole)
+    (needs-split (λ row. 0) e.m (length set + left) most e.rows set free left committee ballots is_node whole refl (value-near e.m e.rows most committee ballots whole.candidates reaches))
+
+-- who can still join by the weighted needs
+pub needs-narrow : (e : Election) (most least : ℕ) (set free : List ℕ) (left total : ℕ) (supports : List ℕ) → e.m ≤ most_candidates → AllByRecursion (λ (row : Row). IsIncreasing 1 e.m row.0) e.rows
+    → e.m - most ≡ least → IsNode e.m set free → AreWeighted e (length set + left) most set free total supports → (answer : Option (List ℕ))
+    → MatchOption answer (AreTooLow (slice_index supports) free left total) (AreWanted (slice_index supports) free left total)
+    → MatchOption answer (IsOutOfReach (closeness e.m e.rows) e.m set free left least) (IsNarrowed (closeness e.m e.rows) e.m set free left least)
+needs-narrow e most least set free left total supports size ballots is is_node weighted answer given =
+    narrowed-members (closeness e.m e.rows) e.m set free left least (slice_index supports) total size is_node
+    (λ committee whole reaches. weighted-paid e most set free left total supports ballots is_node weighted committee whole (omega (arith, is, reaches)))
+    answer given

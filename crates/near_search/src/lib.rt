@@ -1,7 +1,8 @@
 //! A search for winners under minimax approval voting: the committees with the smallest maximum distance to a ballot.
 //!
 //! `MinimaxSearch` finds a committee that is near each ballot, if there is one. `needs` computes the hits that a ballot
-//! needs for that. `near` narrows the sets of `tie_search::descent`, and `good` finds a committee to begin with.
+//! needs for that. `near` narrows the sets of `tie_search::descent`, by `weights` of ballots that are moved if that
+//! pays. `good` finds a committee to begin with.
 //! `tie_search::SearchWinners` asks for one winner after another.
 #![tactic(auto)]
 
@@ -10,5 +11,6 @@ pub mod laws;
 pub mod minimax;
 mod near;
 mod needs;
+mod weights;
 
 pub use minimax::MinimaxSearch;

@@ -1,15 +1,16 @@
 //! Minimax approval voting as values that can be searched.
-ghost use Rattle.std.specs.Prelude.{◌≡◌};
+ghost use Rattle.std.specs.Prelude.{◌≡◌, IfOk};
 ghost use Rattle.ballot_base.specs.Clones.{clones_among};
 ghost use Rattle.tie_walk.specs.Ceilings.{closeness_upto};
 ghost use Rattle.tie_walk.specs.Values.{closeness};
 
 use crate::good::near_committee;
 use crate::near::{NearSearch, Shares};
+use crate::weights::Weights;
 use ballot_base::{CandSet, Clones, Profile};
-use std::alloc::{Allocator, Global};
+use std::alloc::{AllocError, Allocator, Global};
 use std::marker::Model;
-use tie_search::{Node, Searchable, Tied, descent};
+use tie_search::{Moves, Node, Searchable, Tied, descent};
 use tie_walk::{MinimaxTally, Tally};
 
 /// A search among the committees of a profile under minimax approval voting. A committee's value is the number of
@@ -20,6 +21,9 @@ pub struct MinimaxSearch<'a, A: Allocator + Copy = Global> {
     m: u8,
     clones: Clones,
     shares: Shares,
+    weights: Option<Weights<A>>,
+    // Where it pays to move weights, over all questions so far.
+    moves: Moves,
 }
 
 impl<'a, A: Allocator + Copy> Model for MinimaxSearch<'a, A> {
@@ -35,18 +39,39 @@ impl<'a, A: Allocator + Copy> Model for MinimaxSearch<'a, A> {
         × AreClones t.profile.now.m t.profile.now.rows t.clones };
 }
 
-impl<'a, A: Allocator + Copy> MinimaxSearch<'a, A> {
-    /// Prepares a search among the committees of a profile's candidates. It takes no memory.
-    pub fn new(profile: &'a Profile<A>) -> MinimaxSearch<'a, A>
-        ensures { result ≡ profile.now }
+/// The maximum number of rows with weights that are moved. With more different ballots they are left as they are at
+/// first. Any number is right.
+const MOST_ROWS: usize = 8192;
+
+/// The work of a round that moves weights, in visits to a set. Both go over all rows.
+const ROUND: u64 = 1;
+
+impl<'a, A: Allocator + Copy + Drop> MinimaxSearch<'a, A> {
+    /// Prepares a search among the committees of a profile's candidates. It takes at most 131,072 bytes, and a search
+    /// takes no more. A failed allocation leaves nothing.
+    pub fn new(alloc: A, profile: &'a Profile<A>) -> Result<MinimaxSearch<'a, A>, AllocError>
+        ensures { IfOk result (λ search. search ≡ profile.now) }
     {
-        MinimaxSearch {
+        Ok(MinimaxSearch {
             profile,
             m: profile.m(),
             clones: Clones::of(profile),
             shares: Shares::equal(),
-        }
+            weights: weights_for(alloc, profile)?,
+            moves: Moves::new(ROUND),
+        })
     }
+}
+
+fn weights_for<A: Allocator + Copy + Drop>(
+    alloc: A,
+    profile: &Profile<A>,
+) -> Result<Option<Weights<A>>, AllocError> {
+    let rows = profile.rows();
+    if rows > MOST_ROWS {
+        return Ok(None);
+    }
+    Ok(Some(Weights::of(alloc, rows)?))
 }
 
 impl<'a, A: Allocator + Copy> Tally for MinimaxSearch<'a, A> {
@@ -89,6 +114,8 @@ impl<'a, A: Allocator + Copy> Searchable for MinimaxSearch<'a, A> {
             profile: self.profile,
             clones: &self.clones,
             shares: &self.shares,
+            weights: self.weights.as_ref(),
+            moves: &self.moves,
         };
         descent::find(&mut search, *node, least)
     }

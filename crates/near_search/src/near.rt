@@ -7,22 +7,26 @@
 //!
 //! If several seats are left and several candidates are to be tried, all needs are also added up, each with a weight. A
 //! set is given up if the sum exceeds what the best free candidates can give. A candidate leaves if every completion
-//! with it falls short (`laws::weighted_needs`; Glover, Surrogate constraints, 1968). Any weights are right.
-ghost use Rattle.std.specs.Prelude.{◌≡◌, ℕ, ◌+◌, ◌^◌, ◌≤◌, ◌&&◌, length, slice_index, MatchOption, ⊤};
+//! with it falls short (`laws::weighted_needs`; Glover, Surrogate constraints, 1968). Any weights are right. A ballot
+//! weighs by the share that it needs of its free candidates. If that pays, weights are moved from there (module
+//! `weights`).
+ghost use Rattle.std.specs.Prelude.{◌≡◌, ℕ, ◌+◌, ◌-◌, ◌^◌, ◌≤◌, ◌&&◌, length, slice_index, MatchOption, ⊤};
 ghost use Rattle.ballot_base.specs.Clones.{AreClones, clones_among};
 ghost use Rattle.ballot_base.specs.Limits.{most_candidates};
 ghost use Rattle.ballot_base.specs.Lists.{IsIncreasing};
 ghost use Rattle.ballot_base.specs.Worths.{AreTooLow, AreWanted};
 ghost use Rattle.tie_search.specs.Completions.{IsNode};
+ghost use Rattle.tie_search.specs.Steps.Narrowed.{Narrows};
 ghost use Rattle.tie_walk.specs.Values.{closeness};
 ghost use Rattle.near_search.specs.Steps.Near.{AreBallots, AreBallots-prop, AreBranches, AreWeighted, IsHopeless};
-ghost use Rattle.near_search.specs.Steps.Near.{IsNearPlan, need_weight, share_parts};
+ghost use Rattle.near_search.specs.Steps.Near.{IsNearPlan, share_parts};
 
 use crate::needs::still_needed;
+use crate::weights::Weights;
 use ballot_base::{CandSet, Clones, PLACES, Profile, Worths};
 use std::alloc::Allocator;
-use tie_search::Node;
 use tie_search::descent::{Narrowing, Plan};
+use tie_search::{Moves, Node};
 use tie_walk::{MinimaxTally, Tally};
 
 /// With fewer seats left than this, going through the sets takes less time than weighing needs, although weights rule
@@ -58,8 +62,7 @@ impl Shares {
     /// candidates that it needs. Any weights are right. With the square of the need, 64 candidates, 32 seats and 20
     /// voters took seven to twelve times as long.
     fn weight(&self, needed: u8, approved: CandSet) -> u64
-        ensures value { result ≡ need_weight (slice_index self.now.of_one (length approved)) needed }
-        ensures small { result ≤ 2 ^ 62 }
+        ensures { result ≤ 2 ^ 62 }
     {
         let needed = u64::from(needed);
         let share = needed * self.of_one[usize::from(approved.len())];
@@ -67,12 +70,15 @@ impl Shares {
     }
 }
 
-/// What all steps of a search share: the ballots, their clones, and the shares for the weights of ballots.
+/// What all steps of a search share: the ballots, their clones, the shares and the moved weights for the weights of
+/// ballots, and where it pays to move these.
 #[derive(Drop)]
 pub(crate) struct NearSearch<'a, A: Allocator + Copy> {
     pub(crate) profile: &'a Profile<A>,
     pub(crate) clones: &'a Clones,
     pub(crate) shares: &'a Shares,
+    pub(crate) weights: Option<&'a Weights<A>>,
+    pub(crate) moves: &'a Moves,
     ghost size: { profile.now.m ≤ most_candidates },
     ghost ballots: { AreBallots profile.now.m profile.now.rows } by { AreBallots-prop profile.now.m profile.now.rows },
     ghost classes: { AreClones profile.now.m profile.now.rows clones.now },
@@ -80,10 +86,21 @@ pub(crate) struct NearSearch<'a, A: Allocator + Copy> {
 
 /// What all ballots still need, and what each free candidate can give. Each hit counts the weight of its ballot.
 #[derive(Drop)]
-struct WeightedNeeds {
-    total: u128,
+pub(crate) struct WeightedNeeds {
+    pub(crate) total: u128,
     // For each free candidate, the total weight of the ballots that approve it.
-    supports: Worths,
+    pub(crate) supports: Worths,
+}
+
+/// Which weights ballots have at a node.
+#[derive(Clone, Copy)]
+pub(crate) enum Weighing {
+    /// None, since weighing does not pay.
+    Nothing,
+    /// Weights by the share that a ballot needs of its free candidates.
+    ByShare,
+    /// The weights that are moved.
+    Moved,
 }
 
 impl<A: Allocator + Copy> Narrowing for NearSearch<'_, A> {
@@ -117,9 +134,12 @@ impl<A: Allocator + Copy> Narrowing for NearSearch<'_, A> {
             free: eligible,
             ..*node
         };
-        let needs = self.weighted_needs(&narrowed, choices, most);
+        let weighing = self.weighing(node.left, choices);
+        let free = self.moved_if_due(&narrowed, weighing, most)?;
+        let here = Node { free, ..*node };
+        let needs = self.weighted_needs(&here, weighing, most);
         Some(Plan {
-            eligible: members_for(&needs.supports, &narrowed, needs.total)?,
+            eligible: members_for(&needs.supports, &here, needs.total)?,
             choices,
             worths: needs.supports,
             due: needs.total,
@@ -180,35 +200,74 @@ impl<A: Allocator + Copy> NearSearch<'_, A> {
         Some((choices, rest))
     }
 
-    /// What the ballots still need so that none is farther than `most`, at a node whose `choices` are to be tried. If
-    /// weighing does not pay, no ballot has a weight.
-    fn weighted_needs(&self, node: &Node, choices: CandSet, most: u8) -> WeightedNeeds
+    /// Enters a node with `left` seats left, and chooses weights. The `choices` are to be tried.
+    fn weighing(&self, left: u8, choices: CandSet) -> Weighing {
+        self.moves.enter(left);
+        if !is_worth_weighing(left, choices) {
+            return Weighing::Nothing;
+        }
+        if self.weights.is_some() && self.moves.are_due(left) {
+            return Weighing::Moved;
+        }
+        Weighing::ByShare
+    }
+
+    /// Moves the weights if a node has moved ones. Returns the free candidates that can still join, or `None` only if
+    /// no completion of the set is near each ballot.
+    fn moved_if_due(&self, node: &Node, weighing: Weighing, most: u8) -> Option<CandSet>
+        requires is_node { IsNode self.now.profile.now.m node.now.set node.now.free }
+        requires few { node.now.left ≤ most_candidates }
+        ensures { Narrows (closeness self.now.profile.now.m self.now.profile.now.rows) self.now.profile.now.m node.now
+            (self.now.profile.now.m - most) result }
+    {
+        match weighing {
+            Weighing::Moved => self.moved(node, most),
+            Weighing::ByShare | Weighing::Nothing => {
+                self.moves.work(0);
+                Some(node.free)
+            }
+        }
+    }
+
+    /// What the ballots still need so that none is farther than `most`.
+    pub(crate) fn weighted_needs(&self, node: &Node, weighing: Weighing, most: u8) -> WeightedNeeds
         requires few { node.now.left ≤ most_candidates }
         requires set { IsIncreasing 1 self.now.profile.now.m node.now.set }
-        ensures { AreWeighted self.now.profile.now.rows (length node.now.set + node.now.left) most node.now.set
+        ensures { AreWeighted self.now.profile.now (length node.now.set + node.now.left) most node.now.set
             node.now.free result.total result.supports }
     {
         let mut total = 0;
         let mut supports = Worths::none();
-        if !is_worth_weighing(node.left, choices) {
+        if let Weighing::Nothing = weighing {
             return WeightedNeeds { total, supports };
         }
-        for (ballot, _voters) in self.profile.ballots() {
+        for i in 0..self.profile.rows() {
+            let (ballot, _voters) = self.profile.row(i);
             let needed = still_needed(ballot, node.set, node.left, most);
             if needed > 0 {
                 let approved = ballot.common(node.free);
-                let weight = u128::from(self.shares.weight(needed, approved));
+                let weight = u128::from(self.weight(weighing, i, needed, approved));
                 total += weight * u128::from(needed);
                 supports.add(approved, weight);
             }
         }
         WeightedNeeds { total, supports }
     }
+
+    /// The weight of row i, whose ballot needs some of its free candidates.
+    fn weight(&self, weighing: Weighing, i: usize, needed: u8, approved: CandSet) -> u64
+        ensures { result ≤ 2 ^ 62 }
+    {
+        match (weighing, self.weights) {
+            (Weighing::Moved, Some(weights)) => weights.of_row(i),
+            _ => self.shares.weight(needed, approved),
+        }
+    }
 }
 
 /// The free candidates of a node that can join, if all that join must be worth `due` together. Returns `None` only if
 /// no free candidates are worth that.
-fn members_for(worths: &Worths, node: &Node, due: u128) -> Option<CandSet>
+pub(crate) fn members_for(worths: &Worths, node: &Node, due: u128) -> Option<CandSet>
     ensures { MatchOption result (AreTooLow (slice_index worths.now) node.now.free node.now.left due)
         (AreWanted (slice_index worths.now) node.now.free node.now.left due) }
 {

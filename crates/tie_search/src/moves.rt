@@ -3,8 +3,12 @@
 //! A bound over rows has a multiplier for each row. Any multipliers are right, and some rounds over the rows can move
 //! them so that the bound ends a node. A round costs work. So a search counts what moves achieve and what they cost, by
 //! the number of seats left, and moves where they save work. Nothing is proved of these counts.
+ghost use Rattle.std.specs.Prelude.{⊤};
 
 use ballot_base::PLACES;
+use std::array;
+use std::cell::Cell;
+use std::marker::Model;
 
 /// What a move achieved is counted in parts of this number; a node that ended is all of them. Means are in such parts
 /// of one as well.
@@ -30,14 +34,20 @@ const SAMPLE_OF_MOVES: u32 = 64;
 const MEMORY: u64 = 50;
 
 /// What moves of multipliers achieve, and what they cost, by the number of seats left. The unit of work is a visit to a
-/// set.
+/// set. Contracts see nothing of them.
 #[derive(Drop)]
 pub struct Moves {
     // The work of a round over the rows.
     round: u64,
     // All work so far.
-    done: u64,
-    levels: [Level; PLACES],
+    done: Cell<u64>,
+    levels: [Cell<Level>; PLACES],
+}
+
+impl Model for Moves {
+    ghost Value = { ⊤ };
+
+    ghost view = { λ _. tt };
 }
 
 impl Moves {
@@ -45,55 +55,61 @@ impl Moves {
     pub fn new(round: u64) -> Moves {
         Moves {
             round,
-            done: 0,
-            levels: [Level::NONE; PLACES],
+            done: Cell::new(0),
+            levels: array::from_fn(|_| Cell::new(Level::NONE)),
         }
     }
 
     /// Enters a node with `left` seats left. As a search goes depth first, all work since an earlier node with as many
     /// seats left or fewer was below the earlier node.
-    pub fn enter(&mut self, left: u8) {
-        let done = self.done;
-        for level in self.levels.iter_mut().take(usize::from(left) + 1) {
+    pub fn enter(&self, left: u8) {
+        let done = self.done.get();
+        for place in self.levels.iter().take(usize::from(left) + 1) {
+            let mut level = place.get();
             level.close(done);
+            place.set(level);
         }
         let has_begun = self.has_begun();
-        if let Some(level) = self.levels.get_mut(usize::from(left)) {
+        if let Some(place) = self.levels.get(usize::from(left)) {
+            let mut level = place.get();
             level.enter(done, has_begun);
+            place.set(level);
         }
     }
 
     fn has_begun(&self) -> bool {
-        self.done >= self.round.saturating_mul(BEGINNING)
+        self.done.get() >= self.round.saturating_mul(BEGINNING)
     }
 
     /// Counts the work of rounds over the rows, or of a visit if there were none.
-    pub fn work(&mut self, rounds: u32) {
+    pub fn work(&self, rounds: u32) {
         let more = if rounds == 0 {
             1
         } else {
             self.round.saturating_mul(u64::from(rounds))
         };
-        self.done = self.done.saturating_add(more);
+        self.done.set(self.done.get().saturating_add(more));
     }
 
     /// Whether to move multipliers at the node that was entered last, with `left` seats left.
     pub fn are_due(&self, left: u8) -> bool {
         self.has_begun()
             && match self.levels.get(usize::from(left)) {
-                Some(level) => level.is_due(),
+                Some(level) => level.get().is_due(),
                 None => false,
             }
     }
 
     /// Notes a move at the node that was entered last, and counts its rounds as work. `before` and `after` are the
     /// numbers of free candidates; `after` is `None` if the node ended.
-    pub fn note(&mut self, left: u8, before: u8, after: Option<u8>, rounds: u32) {
+    pub fn note(&self, left: u8, before: u8, after: Option<u8>, rounds: u32) {
         self.work(rounds);
         let cost = self.round.saturating_mul(u64::from(rounds));
-        if let Some(level) = self.levels.get_mut(usize::from(left)) {
+        if let Some(place) = self.levels.get(usize::from(left)) {
+            let mut level = place.get();
             level.success.note(achieved(before, after));
             level.cost.note(cost.saturating_mul(PARTS));
+            place.set(level);
         }
     }
 }

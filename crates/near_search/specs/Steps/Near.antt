@@ -1,8 +1,8 @@
 -- Steps of the search for a committee that is near each ballot.
-use Rattle.std.specs.Prelude.{◌≡◌, ℕ, ◌-◌, ◌+◌, ◌*◌, ◌≤◌, true, List, [], ◌∷◌, length, slice_index}
+use Rattle.std.specs.Prelude.{◌≡◌, ℕ, ◌-◌, ◌+◌, ◌≤◌, true, List, [], ◌∷◌, length, slice_index, sum_by}
 use Rattle.std.specs.Coded.{Unit-prop, ×_prop}
 use Rattle.std.specs.List.{AllByRecursion}
-use Rattle.ballot_base.specs.Ballots.{Row, Election}
+use Rattle.ballot_base.specs.Ballots.{Row, Election, hits}
 use Rattle.ballot_base.specs.Lists.{IsIncreasing}
 use Rattle.ballot_base.specs.Steps.Lists.{IsIncreasing-prop}
 use Rattle.ballot_base.specs.CandSet.{has_member}
@@ -11,7 +11,7 @@ use Rattle.tie_search.specs.Completions.{IsOutOfReach}
 use Rattle.tie_search.specs.Steps.Descent.{AreChoices}
 use Rattle.tie_search.specs.Steps.Narrowed.{IsNarrowed}
 use Rattle.tie_search.specs.declared.descent.Plan.{Plan}
-use Rattle.near_search.specs.Needs.{weighted_needs, weighted_support}
+use Rattle.near_search.specs.Needs.{hits_needed}
 
 -- no committee that completes the set is near each ballot
 abbrev pub IsHopeless : Election → ℕ → List ℕ → List ℕ → ℕ → Type 0
@@ -28,19 +28,19 @@ pub record AreBranches (e : Election) (most : ℕ) (set free : List ℕ) (left :
     pub narrowed : AreEligible e most set free left eligible
     pub choices_are : AreChoices (closeness e.m e.rows) e.m set free left (e.m - most) choices
 
--- for some weights of the rows, `total` is their weighted need, and `supports` has the weighted support of each free
--- candidate
-pub record AreWeighted (rows : List Row) (k most : ℕ) (set free : List ℕ) (total : ℕ) (supports : List ℕ) : Type 0
-  where
-    pub weight : Row → ℕ
-    pub total_is : total ≡ weighted_needs weight k most set rows
-    pub supports_are : (n : ℕ) → has_member free n ≡ true → slice_index supports n ≡ weighted_support weight rows n
+-- the total weight of what ballots need, and supports of the free candidates: candidates that give each ballot the hits
+-- that it needs have at least the total as their supports together
+abbrev pub AreWeighted : Election → ℕ → ℕ → List ℕ → List ℕ → ℕ → List ℕ → Type 0
+AreWeighted e k most set free total supports = (more : List ℕ) → IsIncreasing 1 e.m more
+    → ((n : ℕ) → has_member more n ≡ true → has_member free n ≡ true)
+    → AllByRecursion (λ row. hits_needed (length row.0) k most ≤ hits row.0 set + hits row.0 more) e.rows
+    → total ≤ sum_by (slice_index supports) more
 
 -- what a search knows at a set: weighted needs for the value that its completions must reach
 pub record IsNearPlan (e : Election) (set : List ℕ) (left : ℕ) (plan : Plan) : Type 0 where
   pub most : ℕ
   pub least_is : plan.least ≡ e.m - most
-  pub weighted : AreWeighted e.rows (length set + left) most set plan.eligible plan.due plan.worths
+  pub weighted : AreWeighted e (length set + left) most set plan.eligible plan.due plan.worths
 
 -- each ballot is a set of the candidates 1 to m
 abbrev pub AreBallots : ℕ → List Row → Type 0
@@ -53,7 +53,3 @@ AreBallots-prop m (row ∷ rows) = ×_prop (IsIncreasing-prop 1 m row.0) (AreBal
 -- the denominator of shares
 abbrev pub share_parts : ℕ
 share_parts = 1024
-
--- the weight of a ballot: its need, times the cube of its share, which is the need times the share of one candidate
-unfoldable pub need_weight : ℕ → ℕ → ℕ
-need_weight share needed = needed * (needed * share) * (needed * share) * (needed * share)

@@ -1,6 +1,5 @@
-use Rattle.std.proofs.Common.{◌≡◌, ℕ, ◌*◌, ◌^◌, ◌≤◌, ◌∙◌, ap, arith, get_or, length}
+use Rattle.std.proofs.Common.{ℕ, ◌*◌, ◌^◌, ◌≤◌, arith, get_or}
 use Rattle.std.proofs.Math.Nat.{mul-le-mul}
-use Rattle.near_search.specs.Steps.Near.{need_weight}
 use Rattle.near_search.proofs.near.Shares.weight.Goals as goal
 
 -- no weight is too large
@@ -30,14 +29,7 @@ overflow_mul-result-3 c =
     let most = weight-most c.from-needed.result (get_or c.args.self.now.of_one c.from.result 0) (omega (arith, c.from-needed.ensures)) (c.args.self.now.small c.from.result) in
     omega (arith, most)
 
-pub returns-clause-value : goal.returns-clause-value
-unfolding need_weight
-returns-clause-value c =
-    let e : need_weight (get_or c.args.self.now.of_one c.from.result 0) c.from-needed.result ≡ need_weight (get_or c.args.self.now.of_one (length c.args.approved) 0) c.args.needed =
-    ap (λ n. need_weight (get_or c.args.self.now.of_one c.from.result 0) n) c.from-needed.ensures ∙ ap (λ n. need_weight (get_or c.args.self.now.of_one n 0) c.args.needed) (c.from.ensures ∙ c.len.ensures.count) in
-    e
-
-pub returns-clause-small : goal.returns-clause-small
-returns-clause-small c =
+pub returns : goal.returns
+returns c =
     let most = weight-most c.from-needed.result (get_or c.args.self.now.of_one c.from.result 0) (omega (arith, c.from-needed.ensures)) (c.args.self.now.small c.from.result) in
     omega (arith, most)
