@@ -1,6 +1,6 @@
 -- Sums over the voters of a block, bit by bit.
-use Rattle.std.proofs.Common.{◌≡◌, ℕ, zero, suc, ◌+◌, ◌*◌, ◌/◌, ◌%◌, ◌^◌, ◌<◌, ◌≤◌, ◌==◌, ◌∙◌, Bool, true, false, cond, min, nat_lt, ◌&&◌, set, take, drop, replicate, slice_get, Some, List, [], ◌∷◌, ◌++◌, refl, sym, ap, subst, arith, inl, inr, length, sum_by, get_or, add-one, length-append, bit_and, bit_or}
-use Rattle.std.specs.Int.{bit_at}
+use Rattle.std.proofs.Common.{◌≡◌, ℕ, zero, suc, ◌+◌, ◌-◌, ◌*◌, ◌/◌, ◌%◌, ◌^◌, ◌<◌, ◌≤◌, ◌==◌, ◌∙◌, Bool, true, false, cond, min, nat_lt, ◌&&◌, set, take, drop, replicate, slice_get, Some, List, [], ◌∷◌, ◌++◌, refl, sym, ap, subst, arith, inl, inr, length, sum_by, get_or, add-one, length-append, bit_and, bit_or, w64}
+use Rattle.std.specs.Int.{bit_at, bit_not}
 use Rattle.std.specs.Int.RustNames.{count_ones}
 use Rattle.std.proofs.Math.Nat.{mul-le-mul}
 use Rattle.std.proofs.lemmas.Bool.{cases_eq, cases_lt, cases_order, eq-eqb, ne_eqb, lt-ltb, le-ltb}
@@ -8,7 +8,7 @@ use Rattle.std.proofs.lemmas.List.{append-nil, append_assoc, take_more, take-app
 use Rattle.std.proofs.lemmas.Option.{get_or_from_slice_get, slice_get_within}
 use Rattle.std.proofs.lemmas.List.Sums.{sum_by-append, sum_by-cons}
 use Rattle.std.proofs.lemmas.Nat.{and_le_l, and_le_r, mod_below, mod-pow-add, ones_cat}
-use Rattle.std.proofs.lemmas.Nat.Bits.{bit_at-lt, bit_at-zero, bit_at-suc, bit_at_lowest, bit_at_and, bit_at_or}
+use Rattle.std.proofs.lemmas.Nat.Bits.{bit_at-lt, bit_at-zero, bit_at-suc, bit_at_lowest, bit_at_and, bit_at_or, bit_at_not}
 use Rattle.ballot_base.specs.Limits.{most_candidates}
 use Rattle.ballot_base.specs.Lists.{IsIncreasing}
 use Rattle.ballot_base.specs.CandSet.{has_member}
@@ -265,6 +265,34 @@ module _ (ballot_at : ℕ → List ℕ) (block : List ℕ) (holds : IsBlock ball
         | inl below ↦ ap (λ b. cond b (get_or weights x 0) 0) (lt-ltb x levels below)
         | inr above ↦ ap (λ b. cond b (get_or weights x 0) 0) (le-ltb x levels above) ∙ sym (none above)
       ]
+
+-- only those with no hit give, if only the first hit counts
+first-only : (p : Bool) (x : ℕ) (w : List ℕ) → ((j : ℕ) → 1 ≤ j → get_or w j 0 ≡ 0)
+    → get_or w 0 0 * min (cond p 1 0) (1 - cond (x == 0) 0 1) ≡ cond p (get_or w x 0) 0
+first-only false x w end =
+    let none : min 0 (1 - cond {A = ℕ} (x == 0) 0 1) ≡ 0 = omega arith in
+    omega (arith, ap (λ n. get_or w 0 0 * n) none)
+first-only true zero w end = omega arith
+first-only true (suc x) w end =
+    let hit : cond {A = ℕ} (suc x == 0) 0 1 ≡ 1 = ap (λ b. cond {A = ℕ} b 0 1) (ne_eqb (suc x) 0 (λ e. absurd (omega (arith, e)))) in
+    let none : min 1 (1 - cond {A = ℕ} (suc x == 0) 0 1) ≡ 0 = omega (arith, hit) in
+    omega (arith, ap (λ n. get_or w 0 0 * n) none, end (suc x) (omega arith))
+
+pub given-first : (ballot_at : ℕ → List ℕ) (block : List ℕ) → IsBlock ballot_at block → (weights set : List ℕ) (c covered : ℕ) → covered < 2 ^ 64
+    → ((i : ℕ) → i < block_voters → bit_at covered i ≡ cond (hits (ballot_at i) set == 0) 0 1) → ((j : ℕ) → 1 ≤ j → get_or weights j 0 ≡ 0)
+    → get_or weights 0 0 * shared (get_or block c 0) (bit_not w64 covered) ≡ total (λ i. given weights set c (ballot_at i)) block_voters
+given-first ballot_at block holds weights set c covered fits some end =
+    sym (total-times (get_or weights 0 0) common block_voters)
+    ∙ total-same (λ i. get_or weights 0 0 * common i) (λ i. given weights set c (ballot_at i)) block_voters here
+  where
+    common : ℕ → ℕ
+    common i = min (bit_at (get_or block c 0) i) (bit_at (bit_not w64 covered) i)
+
+    here : (i : ℕ) → i < block_voters → get_or weights 0 0 * common i ≡ given weights set c (ballot_at i)
+    here i within =
+        ap (λ n. get_or weights 0 0 * n) (ap (λ n. min n (bit_at (bit_not w64 covered) i)) (holds.approves c i within)
+        ∙ ap (λ n. min (cond (has_member (ballot_at i) c) 1 0) n) (bit_at_not w64 covered i fits within ∙ ap (λ n. 1 - n) (some i within)))
+        ∙ first-only (has_member (ballot_at i) c) (hits (ballot_at i) set) weights end
 
 -- ---- one candidate after another
 

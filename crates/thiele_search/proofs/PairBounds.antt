@@ -1,4 +1,5 @@
 -- Bounds by pairs of members.
+pub mod MajorantLemmas
 pub mod OverlapLemmas
 pub mod PairLemmas
 pub mod PairNodes

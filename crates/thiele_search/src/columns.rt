@@ -100,6 +100,14 @@ fn given_by(words: &Block, column: u64, weights: &Weights, levels: usize) -> u64
     sum
 }
 
+fn given_first(column: u64, uncovered: u64, weight: u64) -> u64
+    requires { weight < 2 ^ 44 }
+    ensures sum { result ≡ weight * shared column uncovered }
+    ensures most { result ≤ 2 ^ 50 }
+{
+    weight * u64::from((column & uncovered).count_ones())
+}
+
 /// Puts a voter at a place of a block: the bit of the place is set for each candidate on the ballot.
 fn add_voter(block: &mut Block, place: u32, ballot: CandSet)
     requires { place < block_voters }
@@ -257,11 +265,33 @@ impl<A: Allocator> Columns<A> {
             ≡ slice_index gains.old c + total (λ i. given self.now.weights node.now.set c (ballot_at i)) block_voters }
         ensures most { (c : ℕ) → slice_index gains.new c ≤ slice_index gains.old c + most_members * 2 ^ 50 }
     {
+        if self.levels == 1 {
+            self.add_first_hits(gains, block, node);
+            return;
+        }
         let levels = self.levels.min(usize::from(node.set.len()) + 1);
         let words = by_hits(block, node.set, levels);
         for candidate in node.free.members() {
             let column = block[usize::from(candidate)];
             let given = given_by(&words, column, &self.weights, levels);
+            gains.set(candidate, gains.of(candidate) + u128::from(given));
+        }
+    }
+
+    /// Like `add_block`, if only a voter's first hit counts. One word, for the voters without a hit, is enough; with a
+    /// word for each number of hits, random elections took a quarter more instructions.
+    fn add_first_hits(&self, gains: &mut Worths, block: &Block, node: &Node)
+        requires first { self.now.levels ≡ 1 }
+        requires fits { (c : ℕ) → slice_index gains.old c < 2 ^ 106 }
+        ensures sum { (ballot_at : ℕ → List ℕ) → IsBlock ballot_at block.now
+            → (c : ℕ) → has_member node.now.free c ≡ true → slice_index gains.new c
+            ≡ slice_index gains.old c + total (λ i. given self.now.weights node.now.set c (ballot_at i)) block_voters }
+        ensures most { (c : ℕ) → slice_index gains.new c ≤ slice_index gains.old c + most_members * 2 ^ 50 }
+    {
+        let uncovered = !covered_by(block, node.set);
+        let weight = self.weights[0];
+        for candidate in node.free.members() {
+            let given = given_first(block[usize::from(candidate)], uncovered, weight);
             gains.set(candidate, gains.of(candidate) + u128::from(given));
         }
     }

@@ -3,13 +3,14 @@
 //! For h hits after the first ones, a voter gives at most `kept + worth * h - overlap * h * h`. Since h * h is the
 //! number of ordered pairs of members that the voter approves, majorants see where members overlap. Any `worth` and
 //! `overlap` are right, as `kept` is made as high as it must be.
-ghost use Rattle.std.specs.Prelude.{◌≡◌, ℕ, ◌+◌, ◌*◌, ◌≤◌, slice_index, MatchOption, ⊤};
+ghost use Rattle.std.specs.Prelude.{◌≡◌, ℕ, ◌+◌, ◌*◌, ◌^◌, ◌≤◌, min, slice_index, MatchOption, ⊤};
 ghost use Rattle.ballot_base.specs.Limits.{most_candidates, most_members};
 ghost use Rattle.ballot_base.specs.Increments.{increments};
 ghost use Rattle.thiele_search.specs.Steps.Paired.{AreSums, IsMajorantOf};
 ghost use Rattle.thiele_search.specs.Steps.Units.{most_given, most_given_to_pairs, most_units};
 
 use ballot_base::{Increments, PLACES, ThieleRule};
+use std::marker::Model;
 
 /// The first hit gives about this many units in sums for majorants: enough that rounding matters little.
 pub(crate) const PAIR_UNITS: u128 = 1 << 20;
@@ -164,4 +165,90 @@ fn bend(step: u64, rise: u64, run: u64) -> u64
     }
     let fall = (step * run).saturating_sub(rise) / (run * (run - 1));
     fall.min(step)
+}
+
+/// A table of majorants has places for fewer hits before than this.
+const PLACES_BEFORE: usize = 8;
+
+/// A table of majorants has places for ballots that approve fewer free candidates than this.
+const PLACES_OPEN: usize = 32;
+
+/// The number of places in a table of majorants.
+const TABLE_PLACES: usize = 256;
+
+/// The majorants of ballots if `left` of `free` candidates complete a set. Each is computed when it is first asked for,
+/// and kept. Contracts see the sums and `left`.
+#[derive(Drop)]
+pub(crate) struct Majorants<'a> {
+    sums: &'a [u64; PLACES],
+    left: u8,
+    free: u8,
+    table: [Option<Majorant>; TABLE_PLACES],
+}
+
+impl<'a> Model for Majorants<'a> {
+    ghost use Rattle.std.specs.Prelude.{ℕ, ◌≤◌, slice_index};
+    ghost use Rattle.thiele_search.specs.Steps.Majorants.{AreMajorants, Majorized};
+    ghost use Rattle.thiele_search.specs.Steps.Units.{most_given_to_pairs};
+
+    ghost Value = { Majorized };
+
+    ghost view = { λ t. record { sums = t.sums.now; left = t.left } };
+
+    ghost invariant = { λ t. (1 ≤ t.free) × ((n : ℕ) → slice_index t.sums.now n ≤ most_given_to_pairs)
+        × AreMajorants t.sums.now t.left t.table };
+}
+
+impl<'a> Majorants<'a> {
+    pub(crate) fn new(sums: &'a [u64; PLACES], left: u8, free: u8) -> Majorants<'a>
+        requires some { 1 ≤ free }
+        requires small { (n : ℕ) → slice_index sums.now n ≤ most_given_to_pairs }
+        ensures sums { result.sums ≡ sums.now }
+        ensures left { result.left ≡ left }
+    {
+        Majorants {
+            sums,
+            left,
+            free,
+            table: [None; TABLE_PLACES],
+        }
+    }
+
+    /// The majorant of a ballot that has `before` hits and approves `approved` free candidates.
+    pub(crate) fn of_ballot(&mut self, before: u8, approved: u8) -> Majorant
+        requires { before + approved ≤ most_candidates }
+        ensures majorant { IsMajorantOf self.old.sums before (min self.old.left approved) result }
+        ensures same { self.new ≡ self.old }
+    {
+        let (row, column) = (usize::from(before), usize::from(approved));
+        if row >= PLACES_BEFORE || column >= PLACES_OPEN {
+            return self.made(before, approved);
+        }
+        let place = PLACES_OPEN * row + column;
+        if let Some(majorant) = self.table[place] {
+            return majorant;
+        }
+        let majorant = self.made(before, approved);
+        self.table[place] = Some(majorant);
+        majorant
+    }
+
+    fn made(&self, before: u8, approved: u8) -> Majorant
+        requires { before + approved ≤ most_candidates }
+        ensures { IsMajorantOf self.now.sums before (min self.now.left approved) result }
+    {
+        let most = self.left.min(approved);
+        let touch = touch_point(approved, most, self.left, self.free);
+        Majorant::at(self.sums, before, most, touch)
+    }
+}
+
+/// The number of hits at which a majorant is exact, up to `most`: the mean if `left` of the free candidates are drawn
+/// at random. The quadratic with the lowest mean bound entered as many sets.
+fn touch_point(approved: u8, most: u8, left: u8, free: u8) -> u8
+    requires some { 1 ≤ free }
+    ensures { result ≤ most }
+{
+    let mean = usize::from(approved) * usize::from(left) / usize::from(free);
+    mean.min(usize::from(most)) as u8
 }

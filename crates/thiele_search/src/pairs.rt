@@ -4,18 +4,18 @@
 //! keep and the worths of the added members, less the overlaps of all pairs of them (`laws::pairs`). Row sums bound
 //! this in turn by a sum over the members (`laws::row_sums`; Gallo, Hammer and Simeone, Quadratic knapsack problems,
 //! 1980). A candidate leaves if every completion with it falls short.
-ghost use Rattle.std.specs.Prelude.{◌≡◌, ℕ, ◌+◌, ◌*◌, ◌^◌, ◌<◌, ◌≤◌, ◌==◌, true, List, length, max, min, slice_index, if◌then◌else◌};
+ghost use Rattle.std.specs.Prelude.{◌≡◌, ℕ, ◌+◌, ◌-◌, ◌*◌, ◌^◌, ◌<◌, ◌≤◌, ◌==◌, true, List, length, max, min, slice_index, if◌then◌else◌};
 ghost use Rattle.ballot_base.specs.CandSet.{has_member};
 ghost use Rattle.ballot_base.specs.Limits.{most_candidates, most_voters, worth_limit};
 ghost use Rattle.ballot_base.specs.Lists.{IsIncreasing};
 ghost use Rattle.tie_walk.specs.Values.{thiele_value};
 ghost use Rattle.tie_search.specs.Completions.{IsNode};
 ghost use Rattle.tie_search.specs.Steps.Narrowed.{Narrows};
-ghost use Rattle.thiele_search.specs.Steps.Paired.{AreNothing, AreSmall, AreSums, AreTotals, IsMajorantOf, IsRowSum, IsSmallMajorant, overlap_at, pair_place, triangle};
+ghost use Rattle.thiele_search.specs.Steps.Paired.{AreNothing, AreSmall, AreSums, AreTotals, IsRowSum, IsSmallMajorant, overlap_at, pair_place, triangle};
 ghost use Rattle.thiele_search.specs.Steps.Rows.{AreBeside, AreRows};
 ghost use Rattle.thiele_search.specs.Steps.Units.{most_given_to_pairs};
 
-use crate::majorant::{HitSums, Majorant};
+use crate::majorant::{HitSums, Majorant, Majorants};
 use ballot_base::{CandSet, MOST_CANDIDATES, Profile, Worths};
 use std::alloc::Allocator;
 use tie_search::Node;
@@ -88,12 +88,18 @@ impl<A: Allocator + Copy> PairSearch<'_, A> {
             raise,
         };
         let due = self
-            .given
-            .units(self.least)
+            .units()
             .saturating_mul(factor)
             .saturating_add(u128::from(left) * u128::from(left) * raise);
         rows.sums()
             .members_for(free, left, due.saturating_sub(factor * totals.kept))
+    }
+
+    fn units(&self) -> u128
+        ensures { (value : ℕ) → self.now.given.now.scale * self.now.least ≤ self.now.given.now.unit * value
+            → result ≤ value }
+    {
+        self.given.units(self.least)
     }
 
     fn add_ballots(&self, totals: &mut Totals, node: &Node)
@@ -107,29 +113,13 @@ impl<A: Allocator + Copy> PairSearch<'_, A> {
             totals.new.overlaps }
         ensures small { AreSmall totals.new.kept totals.new.worths totals.new.overlaps }
     {
+        let mut majorants = Majorants::new(&self.given.sums, node.left, node.free.len());
         for (ballot, voters) in self.profile.ballots() {
             let approved = ballot.common(node.free);
             let before = ballot.common(node.set).len();
-            totals.add(
-                self.majorant(node, before, approved.len()),
-                approved,
-                voters,
-            );
+            let majorant = majorants.of_ballot(before, approved.len());
+            totals.add(majorant, approved, voters);
         }
-    }
-
-    /// The majorant of a ballot that has `before` hits and approves `approved` free candidates of a node. It is exact at
-    /// the mean number of hits if those who complete the set are drawn at random. The quadratic with the lowest mean
-    /// bound entered as many sets.
-    fn majorant(&self, node: &Node, before: u8, approved: u8) -> Majorant
-        requires some { 1 ≤ length node.now.free }
-        requires fits { before + approved ≤ most_candidates }
-        ensures { IsMajorantOf self.now.given.now.sums before (min node.now.left approved) result }
-    {
-        let most = node.left.min(approved);
-        let mean = usize::from(approved) * usize::from(node.left) / usize::from(node.free.len());
-        let touch = mean.min(usize::from(most)) as u8;
-        Majorant::at(&self.given.sums, before, most, touch)
     }
 }
 

@@ -204,7 +204,7 @@ impl<'a, A: Allocator + Copy> Search<'a, A> {
     }
 
     /// Like `eligible`, but by pairs, if they are worth counting.
-    // Not inlined: its tables take 20 KB of stack, which would lie beside the moving of multipliers.
+    // Not inlined: its tables take 28 KB of stack, which would lie beside the moving of multipliers.
     #[inline(never)]
     fn pair_narrowed(&self, node: &Node, least: u128) -> Option<CandSet>
         requires is_node { IsNode self.now.election.m node.now.set node.now.free }

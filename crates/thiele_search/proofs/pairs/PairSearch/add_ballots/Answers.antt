@@ -1,4 +1,4 @@
-use Rattle.std.proofs.Common.{◌≡◌, ℕ, ◌+◌, ◌*◌, ◌^◌, ◌≤◌, ◌∙◌, true, cond, sym, ap, subst, arith, get_or, length, min, take}
+use Rattle.std.proofs.Common.{◌≡◌, ℕ, ◌+◌, ◌*◌, ◌^◌, ◌≤◌, ◌∙◌, true, cond, List, sym, ap, subst, arith, get_or, length, min, take}
 use Rattle.std.proofs.Math.Nat.{mul-le-mul_left}
 use Rattle.std.proofs.lemmas.List.{length_push}
 use Rattle.std.proofs.lemmas.List.Sums.{sum_by-take-le}
@@ -6,6 +6,7 @@ use Rattle.ballot_base.specs.CandSet.{has_member}
 use Rattle.ballot_base.specs.Ballots.{Row, hits, voter_count}
 use Rattle.ballot_base.proofs.Turns.{row_of_turn, all_passed}
 use Rattle.tie_walk.proofs.RowSums.{length-common}
+use Rattle.thiele_search.specs.Steps.Majorants.{Majorized}
 use Rattle.thiele_search.specs.Steps.Paired.{AreTotals, IsMajorantOf, overlap_at}
 use Rattle.tie_search.proofs.CompletionLemmas.{member-high}
 use Rattle.thiele_search.proofs.PairBounds.OverlapLemmas.{portion}
@@ -20,6 +21,8 @@ loop-ballot-init g c =
     let totals = c.args.totals.now in
     let nothing = c.requires.nothing in
     record {
+      sums = c.new-majorants.ensures.sums;
+      left = c.new-majorants.ensures.left;
       totals = λ weights are. totals-none weights self.given.now.scale self.given.now.unit self.profile.now.m self.profile.now.rows c.args.node.now.set c.args.node.now.free c.args.node.now.left totals.kept totals.worths totals.overlaps nothing;
       small_kept = omega (arith, nothing.kept_none);
       small_worths = λ n. omega (arith, nothing.worths_none n);
@@ -27,8 +30,8 @@ loop-ballot-init g c =
       small_overlaps = λ i j low. omega (arith, nothing.overlaps_none i j);
     }
 
-pub majorant-requires-clause-fits : goal.majorant-requires-clause-fits
-majorant-requires-clause-fits g c =
+pub of_ballot-majorant-requires : goal.of_ballot-majorant-requires
+of_ballot-majorant-requires g c =
     let e = c.args.self.now.profile.now in
     let row : Row = (c.in-Some.ballot, c.in-Some.voters) in
     let at = row_of_turn e.rows (c.into_iter-ballot-iterator.ensures.into_iter_gives ∙ c.ballots-ballot-items.ensures.rows) c.loop-ballot.yielded c.loop-ballot.yielded_by row c.in-Some.ensures.steps in
@@ -37,7 +40,7 @@ majorant-requires-clause-fits g c =
       c.len-before.ensures.count,
       ap length c.common.ensures,
       length-common c.in-Some.ballot c.args.node.now.set,
-      c.len.ensures.count,
+      c.len-in-loop-ballot.ensures.count,
       ap length c.common-approved.ensures,
       length-common c.in-Some.ballot c.args.node.now.free,
       hits-both e.m c.in-Some.ballot c.args.node.now.set c.args.node.now.free (row-up e c.ballots-ballot-items.ensures.valid (length c.loop-ballot.yielded) row at) c.ballots-ballot-items.ensures.valid.most c.requires.is_node,
@@ -52,7 +55,7 @@ add-requires g c =
     let inv = c.loop-ballot.invariant in
     record {
       voters = omega (arith, room);
-      majorant = c.majorant.ensures.small;
+      majorant = c.of_ballot-majorant.ensures.majorant.small;
       small = record {
         kept_small = omega (arith, inv.small_kept, room);
         worths_small = λ n. omega (arith, inv.small_worths n, room);
@@ -74,10 +77,12 @@ loop-ballot-preserved g c =
     let inv = c.loop-ballot.invariant in
     let valid = c.ballots-ballot-items.ensures.valid in
     let approved = c.common-approved.result in
-    let majorant = c.majorant.result in
+    let majorant = c.of_ballot-majorant.result in
     let before : c.len-before.result ≡ hits row.0 set = c.len-before.ensures.count ∙ ap length c.common.ensures ∙ length-common row.0 set in
-    let open_ : c.len.result ≡ hits row.0 free = c.len.ensures.count ∙ ap length c.common-approved.ensures ∙ length-common row.0 free in
-    let is : IsMajorantOf self.given.now.sums c.len-before.result (min c.args.node.now.left c.len.result) majorant = c.majorant.ensures in
+    let open_ : c.len-in-loop-ballot.result ≡ hits row.0 free = c.len-in-loop-ballot.ensures.count ∙ ap length c.common-approved.ensures ∙ length-common row.0 free in
+    let is : IsMajorantOf self.given.now.sums c.len-before.result (min c.args.node.now.left c.len-in-loop-ballot.result) majorant =
+    subst (λ n. IsMajorantOf self.given.now.sums c.len-before.result (min n c.len-in-loop-ballot.result) majorant) inv.left
+    (subst (λ (l : List ℕ). IsMajorantOf l c.len-before.result (min c.loop-ballot.majorants.left c.len-in-loop-ballot.result) majorant) inv.sums c.of_ballot-majorant.ensures.majorant) in
     let before_totals = c.loop-ballot.totals in
     let totals = c.add.new.self in
     let worths : (n : ℕ) → has_member free n ≡ true → get_or totals.worths n 0 ≡ get_or before_totals.worths n 0 + cond (has_member row.0 n) (row.1 * majorant.worth) 0 =
@@ -91,9 +96,11 @@ loop-ballot-preserved g c =
     let small_overlap : row.1 * majorant.overlap ≤ row.1 * 2 ^ 26 = mul-le-mul_left row.1 is.small.overlap_small in
     let voters = voters-more e valid i row at in
     record {
+      sums = ap (λ (m : Majorized). m.sums) c.of_ballot-majorant.ensures.same ∙ inv.sums;
+      left = ap (λ (m : Majorized). m.left) c.of_ballot-majorant.ensures.same ∙ inv.left;
       totals = λ weights are. subst (λ n. AreTotals weights self.given.now.scale self.given.now.unit e.m (take n e.rows) set free c.args.node.now.left totals.kept totals.worths totals.overlaps) next
           (subst (λ n. AreTotals weights self.given.now.scale self.given.now.unit e.m (take (i + 1) e.rows) set free c.args.node.now.left n totals.worths totals.overlaps) (sym c.add.ensures.kept)
-          (totals-more e valid i row at weights self.given.now.sums self.given.now.scale self.given.now.unit set free c.args.node.now.left c.len-before.result (min c.args.node.now.left c.len.result) majorant.kept majorant.worth
+          (totals-more e valid i row at weights self.given.now.sums self.given.now.scale self.given.now.unit set free c.args.node.now.left c.len-before.result (min c.args.node.now.left c.len-in-loop-ballot.result) majorant.kept majorant.worth
           majorant.overlap before_totals.kept before_totals.worths totals.worths before_totals.overlaps totals.overlaps c.requires.is_node are before (ap (min c.args.node.now.left) open_) is.bounds
           (inv.totals weights are) worths overlaps));
       small_kept = subst (λ n. totals.kept ≤ voter_count (take n e.rows) * 2 ^ 39) next (omega (arith, c.add.ensures.kept, small_kept, voters, inv.small_kept));

@@ -1,4 +1,4 @@
-use Rattle.std.proofs.Common.{ℕ, ◌*◌, ◌^◌, ◌≤◌, List, length, take, get_or}
+use Rattle.std.proofs.Common.{◌≡◌, ℕ, ◌*◌, ◌^◌, ◌≤◌, List, length, take, get_or}
 use Rattle.ballot_base.specs.Ballots.{voter_count}
 use Rattle.ballot_base.specs.Limits.{most_candidates}
 use Rattle.thiele_search.specs.Steps.Paired.{AreSums, AreTotals, overlap_at}
@@ -7,6 +7,8 @@ use Rattle.thiele_search.proofs.pairs.PairSearch.add_ballots.Given as goal
 -- the totals of the rows so far
 abbrev pub invariant-loop-ballot : goal.invariant-loop-ballot
 invariant-loop-ballot g l = record {
+  sums : l.majorants.sums ≡ l.self.given.now.sums;
+  left : l.majorants.left ≡ l.node.left;
   totals : (weights : List ℕ) → AreSums weights l.self.given.now.scale l.self.given.now.unit l.self.given.now.sums
       → AreTotals weights l.self.given.now.scale l.self.given.now.unit l.self.profile.now.m (take (length l.yielded) l.self.profile.now.rows) l.node.set l.node.free l.node.left l.totals.kept l.totals.worths l.totals.overlaps;
   small_kept : l.totals.kept ≤ voter_count (take (length l.yielded) l.self.profile.now.rows) * 2 ^ 39;
