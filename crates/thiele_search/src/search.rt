@@ -55,6 +55,8 @@ pub(crate) struct Search<'a, A: Allocator + Copy> {
     pub(crate) counts_pairs: bool,
     // Where it pays to move multipliers.
     pub(crate) moves: Moves,
+    // Whether multipliers were moved.
+    pub(crate) has_moved: bool,
 }
 
 impl<'a, A: Allocator + Copy> Model for Search<'a, A> {
@@ -86,6 +88,7 @@ impl<'a, A: Allocator + Copy> Search<'a, A> {
             aids,
             counts_pairs: false,
             moves: Moves::new(round_of(profile.rows())),
+            has_moved: false,
         }
     }
 
@@ -127,8 +130,9 @@ impl<'a, A: Allocator + Copy> Search<'a, A> {
             return None;
         }
         let free = self.priced(node, least)?;
-        // Counting pairs takes about as long as a round over the rows.
-        let rounds = u32::from(self.sees_pairs(node.left));
+        // Counting pairs takes about as long as a round over the rows. While pairs help often, multipliers can wait.
+        let is_work = self.has_moved || !self.aids.uses.pairs.help_often();
+        let rounds = u32::from(is_work && self.sees_pairs(node.left));
         self.moves.work(rounds);
         let free = self.pair_narrowed(&Node { free, ..*node }, least)?;
         self.moved(&Node { free, ..*node }, least, effort)
@@ -153,6 +157,7 @@ impl<'a, A: Allocator + Copy> Search<'a, A> {
             least,
         };
         let moved = search.narrowed(node, effort);
+        self.has_moved = true;
         let after = moved.free.map(|free| free.len());
         self.moves
             .note(node.left, node.free.len(), after, moved.rounds);
