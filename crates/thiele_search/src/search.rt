@@ -55,8 +55,6 @@ pub(crate) struct Search<'a, A: Allocator + Copy> {
     pub(crate) counts_pairs: bool,
     // Where it pays to move multipliers.
     pub(crate) moves: Moves,
-    // Whether multipliers were moved.
-    pub(crate) has_moved: bool,
 }
 
 impl<'a, A: Allocator + Copy> Model for Search<'a, A> {
@@ -88,7 +86,6 @@ impl<'a, A: Allocator + Copy> Search<'a, A> {
             aids,
             counts_pairs: false,
             moves: Moves::new(round_of(profile.rows())),
-            has_moved: false,
         }
     }
 
@@ -126,12 +123,12 @@ impl<'a, A: Allocator + Copy> Search<'a, A> {
         ensures same { self.new ≡ self.old }
         ensures narrowed { Narrows (tally_value self.old) self.old.election.m node.now least result }
     {
-        if !self.covers(node, least) {
+        if !self.may_suffice(node, least) {
             return None;
         }
         let free = self.priced(node, least)?;
         // Counting pairs takes about as long as a round over the rows. While pairs help often, multipliers can wait.
-        let is_work = self.has_moved || !self.aids.uses.pairs.help_often();
+        let is_work = self.moves.has_begun() || !self.aids.uses.pairs.help_often();
         let rounds = u32::from(is_work && self.sees_pairs(node.left));
         self.moves.work(rounds);
         let free = self.pair_narrowed(&Node { free, ..*node }, least)?;
@@ -157,27 +154,10 @@ impl<'a, A: Allocator + Copy> Search<'a, A> {
             least,
         };
         let moved = search.narrowed(node, effort);
-        self.has_moved = true;
         let after = moved.free.map(|free| free.len());
         self.moves
             .note(node.left, node.free.len(), after, moved.rounds);
         moved.free
-    }
-
-    /// Whether the free candidates of a node cover enough voters, if this is worth asking.
-    fn covers(&self, node: &Node, least: u128) -> bool
-        requires is_node { IsNode self.now.election.m node.now.set node.now.free }
-        ensures { result ≡ false
-            → IsOutOfReach (tally_value self.now) self.now.election.m node.now.set node.now.free
-            node.now.left least }
-    {
-        let cover = &self.aids.uses.cover;
-        if !cover.are_due(node.left) {
-            return true;
-        }
-        let suffices = self.may_suffice(node, least);
-        cover.note(!suffices);
-        suffices
     }
 
     /// Like `eligible`, but by the prices of the whole election, if they are worth asking for.
@@ -185,12 +165,7 @@ impl<'a, A: Allocator + Copy> Search<'a, A> {
         requires is_node { IsNode self.now.election.m node.now.set node.now.free }
         ensures { Narrows (tally_value self.now) self.now.election.m node.now least result }
     {
-        // A search that counts no pairs answers a question for one winner.
-        let prices = if self.counts_pairs {
-            &self.aids.uses.prices
-        } else {
-            &self.aids.uses.prices_in_questions
-        };
+        let prices = &self.aids.uses.prices;
         if !prices.are_due(node.left) {
             return Some(node.free);
         }

@@ -77,7 +77,8 @@ impl Moves {
         }
     }
 
-    fn has_begun(&self) -> bool {
+    /// Whether the search is long enough for multipliers to be moved.
+    pub fn has_begun(&self) -> bool {
         self.done.get() >= self.round.saturating_mul(BEGINNING)
     }
 
