@@ -6,7 +6,7 @@ use Rattle.vote_cli.proofs.election.answer_satisfaction.Goals as goal
 pub returns-in_err-write_rule : goal.returns-in_err-write_rule
 returns-in_err-write_rule g c =
     let l = c.args.listing.now in
-    writes_first _ c.write_rule.result _ c.from_residual-in_err-write_rule.result c.in_err-write_rule.was c.from_residual-in_err-write_rule.ensures
+    writes_first _ c.write_rule.result _ c.from_residual.result c.in_err-write_rule.was c.from_residual.ensures
     (scored_parts l.names (record { after = l.after; limit = l.limit }) Satisfaction l.size l.profile.now) c.write_rule.ensures
 
 pub returns-in_err-by_satisfaction : goal.returns-in_err-by_satisfaction
