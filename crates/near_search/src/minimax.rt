@@ -43,8 +43,9 @@ impl<'a, A: Allocator + Copy> Model for MinimaxSearch<'a, A> {
 /// first. Any number is right.
 const MOST_ROWS: usize = 8192;
 
-/// The work of a round that moves weights, in visits to a set. Both go over all rows.
-const ROUND: u64 = 1;
+/// The work of a round that moves weights, in visits to a set. A round goes over all rows twice, and a visit often ends
+/// at one of the first. With 1, 20 random candidates and 10 seats took 37 % more instructions. Any number is right.
+const ROUND: u64 = 2;
 
 impl<'a, A: Allocator + Copy + Drop> MinimaxSearch<'a, A> {
     /// Prepares a search among the committees of a profile's candidates. It takes at most 131,072 bytes, and a search

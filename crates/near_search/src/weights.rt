@@ -31,16 +31,15 @@ const FIRST_WEIGHT: u64 = 1 << 20;
 /// The direction that one hit makes.
 const HIT: i64 = 64;
 
-/// The maximum number of rounds at a node. With 8 and with 20 of them, some elections took twice as long. Any number is
-/// right.
+/// The maximum number of rounds at a node. With 10 and with 20 of them, some elections took three times as long. Any
+/// number is right.
 const MOST_ROUNDS: u16 = 15;
 
 /// The number of rounds between two judgements whether the gap closes fast enough.
 const ROUNDS_BETWEEN: u16 = 3;
 
-/// A step aims at weighted needs that exceed the supports by the total divided by this. With 8, five parties with noise
-/// took ten times as long, and with 128 nothing changed in most elections and some took twice as long. Any number is
-/// right.
+/// A step aims at weighted needs that exceed the supports by the total divided by this. With 8, voters and candidates in
+/// a square took thirty times as long, and with 128, 60 random voters twenty times as long. Any number is right.
 const MARGIN: u128 = 32;
 
 /// Gaps are compared in parts of the total.

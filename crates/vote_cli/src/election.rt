@@ -45,52 +45,62 @@ fn answer_scored<A: Allocator + Copy + Drop, W: Sink>(
 ) -> Result<Outcome, Refusal>
     ensures { WritesText W.contents W.has_failed out.old out.new result (listed_text listing.now (Rule.Scored rule)) }
 {
+    match rule {
+        ScoredRule::Thiele(rule) => answer_thiele(alloc, out, rule, listing),
+        ScoredRule::Satisfaction => answer_satisfaction(out, listing),
+        ScoredRule::Minimax => answer_minimax(alloc, out, listing),
+    }
+}
+
+fn answer_thiele<A: Allocator + Copy + Drop, W: Sink>(
+    alloc: A,
+    out: &mut W,
+    rule: ThieleRule,
+    listing: &Listing<'_, A>,
+) -> Result<Outcome, Refusal>
+    ensures { WritesText W.contents W.has_failed out.old out.new result
+        (listed_text listing.now (Rule.Scored (ScoredRule.Thiele rule))) }
+{
     let memory = search_memory(alloc, rule, listing)?;
-    listing.write_rule(out, Rule::Scored(rule))?;
+    listing.write_rule(out, Rule::Scored(ScoredRule::Thiele(rule)))?;
     write_winners(out, rule, memory, listing)?;
     Ok(Outcome::Answered)
 }
 
-/// The memory for a search, if a search that takes memory finds the winners under the rule.
+/// The memory for a search, if a search finds the winners under the rule.
 #[inline(never)]
 fn search_memory<'a, A: Allocator + Copy + Drop>(
     alloc: A,
-    rule: ScoredRule,
+    rule: ThieleRule,
     listing: &Listing<'a, A>,
 ) -> Result<Option<SearchMemory<'a, A>>, AllocError>
-    ensures { IfOk result (λ memory. MatchOption memory ⊤ (λ taken. (thiele : ThieleRule)
-        → rule ≡ ScoredRule.Thiele thiele → taken ≡ thiele_of listing.now.profile.now thiele listing.now.size)) }
+    ensures { IfOk result (λ memory. MatchOption memory ⊤
+        (λ taken. taken ≡ thiele_of listing.now.profile.now rule listing.now.size)) }
 {
-    match rule {
-        ScoredRule::Thiele(ThieleRule::Av) | ScoredRule::Satisfaction | ScoredRule::Minimax => {
-            Ok(None)
-        }
-        ScoredRule::Thiele(thiele) => Ok(Some(SearchMemory::new(
-            alloc,
-            listing.profile,
-            thiele,
-            listing.size,
-        )?)),
+    if rule == ThieleRule::Av {
+        return Ok(None);
     }
+    Ok(Some(SearchMemory::new(
+        alloc,
+        listing.profile,
+        rule,
+        listing.size,
+    )?))
 }
 
 fn write_winners<A: Allocator + Copy + Drop, W: Sink>(
     out: &mut W,
-    rule: ScoredRule,
+    rule: ThieleRule,
     memory: Option<SearchMemory<'_, A>>,
     listing: &Listing<'_, A>,
 ) -> Result<(), WriteFailed>
-    requires { MatchOption memory ⊤ (λ taken. (thiele : ThieleRule)
-        → rule ≡ ScoredRule.Thiele thiele → taken ≡ thiele_of listing.now.profile.now thiele listing.now.size) }
-    ensures { Sends W.contents W.has_failed out.old out.new (is_ok result) (winners_text listing.now rule) }
+    requires { MatchOption memory ⊤ (λ taken. taken ≡ thiele_of listing.now.profile.now rule listing.now.size) }
+    ensures { Sends W.contents W.has_failed out.old out.new (is_ok result)
+        (winners_text listing.now (ScoredRule.Thiele rule)) }
 {
-    match rule {
-        ScoredRule::Thiele(thiele) => match memory {
-            Some(memory) => by_search(out, thiele, memory, listing),
-            None => by_bounds(out, thiele, listing),
-        },
-        ScoredRule::Satisfaction => by_satisfaction(out, listing),
-        ScoredRule::Minimax => by_distance(out, listing),
+    match memory {
+        Some(memory) => by_search(out, rule, memory, listing),
+        None => by_bounds(out, rule, listing),
     }
 }
 
@@ -131,8 +141,20 @@ fn prepared<A: Allocator + Copy + Drop>(memory: SearchMemory<'_, A>) -> ThieleSe
     ThieleSearch::new(memory)
 }
 
-/// Writes the winners under satisfaction approval voting, whose bounds are exact without a search.
+/// Writes an election under satisfaction approval voting, whose bounds are exact without a search.
 #[inline(never)]
+fn answer_satisfaction<A: Allocator + Copy + Drop, W: Sink>(
+    out: &mut W,
+    listing: &Listing<'_, A>,
+) -> Result<Outcome, Refusal>
+    ensures { WritesText W.contents W.has_failed out.old out.new result
+        (listed_text listing.now (Rule.Scored ScoredRule.Satisfaction)) }
+{
+    listing.write_rule(out, Rule::Scored(ScoredRule::Satisfaction))?;
+    by_satisfaction(out, listing)?;
+    Ok(Outcome::Answered)
+}
+
 fn by_satisfaction<A: Allocator + Copy + Drop, W: Sink>(
     out: &mut W,
     listing: &Listing<'_, A>,
@@ -144,16 +166,31 @@ fn by_satisfaction<A: Allocator + Copy + Drop, W: Sink>(
     listing.write_ranked(out, &tally, ScoredRule::Satisfaction)
 }
 
-/// Writes the winners under minimax approval voting, which a search finds.
+/// Writes an election under minimax approval voting, whose winners a search finds.
 #[inline(never)]
-fn by_distance<A: Allocator + Copy + Drop, W: Sink>(
+fn answer_minimax<A: Allocator + Copy + Drop, W: Sink>(
+    alloc: A,
     out: &mut W,
     listing: &Listing<'_, A>,
+) -> Result<Outcome, Refusal>
+    ensures { WritesText W.contents W.has_failed out.old out.new result
+        (listed_text listing.now (Rule.Scored ScoredRule.Minimax)) }
+{
+    let search = MinimaxSearch::new(alloc, listing.profile)?;
+    listing.write_rule(out, Rule::Scored(ScoredRule::Minimax))?;
+    by_distance(out, search, listing)?;
+    Ok(Outcome::Answered)
+}
+
+fn by_distance<A: Allocator + Copy + Drop, W: Sink>(
+    out: &mut W,
+    search: MinimaxSearch<'_, A>,
+    listing: &Listing<'_, A>,
 ) -> Result<(), WriteFailed>
+    requires { search ≡ listing.now.profile.now }
     ensures { Sends W.contents W.has_failed out.old out.new (is_ok result)
         (winners_text listing.now ScoredRule.Minimax) }
 {
-    let search = MinimaxSearch::new(listing.profile);
     listing.write_searched(out, search, ScoredRule::Minimax)
 }
 

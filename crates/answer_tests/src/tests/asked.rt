@@ -5,11 +5,10 @@ ghost use Rattle.ballot_base.specs.Limits.{most_candidates, most_members};
 ghost use Rattle.tie_walk.specs.Winners.{IsStart};
 
 use super::support::{
-    CountedSearch, Draw, assert_after, assert_of, election_of, plain_best, random_ballots,
-    search_of,
+    CountedSearch, Draw, assert_after, assert_of, election_of, minimax_of, plain_best,
+    random_ballots, search_of,
 };
 use ballot_base::{CandSet, KSets, MOST_CANDIDATES, MOST_MEMBERS, Profile, ThieleRule};
-use near_search::MinimaxSearch;
 use std::alloc::Global;
 use std::cell::Cell;
 use std::process::Abort;
@@ -118,7 +117,7 @@ fn assert_rules(rt: &impl Abort, alloc: Global, profile: &Profile, k: u8)
     for rule in &RULES {
         assert_asked(rt, &search_of(rt, alloc, profile, *rule, k), k);
     }
-    assert_asked(rt, &MinimaxSearch::new(profile), k);
+    assert_asked(rt, &minimax_of(rt, alloc, profile), k);
 }
 
 /// Asserts the same of each size, in an election of m candidates, 40 at most.
@@ -220,5 +219,5 @@ fn party_lists(rt: HostRuntime) {
     for rule in &RULES {
         assert_parties(&rt, rt.alloc(), &profile, *rule);
     }
-    assert_thousand(&rt, &MinimaxSearch::new(&profile), 20, true);
+    assert_thousand(&rt, &minimax_of(&rt, rt.alloc(), &profile), 20, true);
 }

@@ -1,20 +1,19 @@
 //! Winners by search against a walk with plain bounds.
 ghost use Rattle.std.specs.Prelude.{◌≤◌};
 
-use super::support::{Draw, assert_searched, election_of, random_ballots};
+use super::support::{Draw, assert_searched, election_of, minimax_of, random_ballots};
 use ballot_base::Profile;
-use near_search::MinimaxSearch;
 use std::alloc::Global;
 use std::process::Abort;
 use tie_walk::MinimaxTally;
 
 /// Asserts that the search and a walk with plain bounds find the same winners of each size.
-fn assert_all_sizes(rt: &impl Abort, profile: &Profile) {
+fn assert_all_sizes(rt: &impl Abort, alloc: Global, profile: &Profile) {
     for k in 1..profile.m() + 1 {
         assert_searched(
             rt,
             &MinimaxTally::new(profile),
-            &MinimaxSearch::new(profile),
+            &minimax_of(rt, alloc, profile),
             k,
         );
     }
@@ -29,7 +28,7 @@ fn assert_drawn(rt: &impl Abort, alloc: Global, draw: Draw, m: u8, more: u8)
     let count = m + more;
     let seed = u64::from(m) << 8 | u64::from(count);
     let ballots = random_ballots(draw, seed, usize::from(count), 1);
-    assert_all_sizes(rt, &election_of(rt, alloc, m, &ballots));
+    assert_all_sizes(rt, alloc, &election_of(rt, alloc, m, &ballots));
 }
 
 #[test]
@@ -48,7 +47,8 @@ fn the_same_winners(rt: HostRuntime) {
 fn one_ballot_of_few_candidates(rt: HostRuntime) {
     for m in 1..8 {
         for word in 0..9 {
-            assert_all_sizes(&rt, &election_of(&rt, rt.alloc(), m, &[(word, 2)]));
+            let profile = election_of(&rt, rt.alloc(), m, &[(word, 2)]);
+            assert_all_sizes(&rt, rt.alloc(), &profile);
         }
     }
 }

@@ -2,9 +2,8 @@
 //! ceilings too.
 ghost use Rattle.std.specs.Prelude.{◌≤◌};
 
-use super::support::{assert_of, election_of, search_of};
+use super::support::{assert_of, election_of, minimax_of, search_of};
 use ballot_base::{MOST_CANDIDATES, Profile, ThieleRule};
-use near_search::MinimaxSearch;
 use std::alloc::Global;
 use std::process::Abort;
 use tie_search::{SearchWinners, Searchable};
@@ -171,11 +170,18 @@ fn thiele_rules(rt: HostRuntime) {
 }
 
 /// Asserts the smallest maximum distance, and how many committees have it.
-fn assert_minimax(rt: &impl Abort, profile: &Profile, distance: u8, winners: usize)
+fn assert_minimax(
+    rt: &impl Abort,
+    alloc: Global,
+    profile: &Profile,
+    distance: u8,
+    winners: usize,
+)
     requires { SIZE ≤ profile.now.m }
 {
     let best = u128::from(profile.m().saturating_sub(distance));
-    assert_search(rt, MinimaxSearch::new(profile), best, winners);
+    let search = minimax_of(rt, alloc, profile);
+    assert_search(rt, search, best, winners);
 }
 
 /// A draw, the candidates, the smallest maximum distance, and how many committees have it.
@@ -194,6 +200,6 @@ static DISTANCES: [(Draw, u8, u8, usize); 8] = [
 fn minimax(rt: HostRuntime) {
     for (draw, m, distance, winners) in &DISTANCES {
         let profile = drawn_election(&rt, rt.alloc(), *draw, *m);
-        assert_minimax(&rt, &profile, *distance, *winners);
+        assert_minimax(&rt, rt.alloc(), &profile, *distance, *winners);
     }
 }

@@ -6,6 +6,7 @@ ghost use Rattle.tie_walk.specs.Values.{thiele_of};
 ghost use Rattle.tie_walk.specs.Winners.{IsStart};
 
 use ballot_base::{CandSet, Clones, KSets, Profile, ProfileBuilder, ThieleRule};
+use near_search::MinimaxSearch;
 use std::alloc::Global;
 use std::cell::Cell;
 use std::process::Abort;
@@ -138,6 +139,17 @@ pub(super) fn search_of<'a>(
 {
     let memory = SearchMemory::new(alloc, profile, rule, k).expect(rt, "memory");
     ThieleSearch::new(memory)
+}
+
+/// A search under minimax approval voting.
+pub(super) fn minimax_of<'a>(
+    rt: &impl Abort,
+    alloc: Global,
+    profile: &'a Profile,
+) -> MinimaxSearch<'a>
+    ensures { result ≡ profile.now }
+{
+    MinimaxSearch::new(alloc, profile).expect(rt, "memory")
 }
 
 /// The highest value, by a pass over all committees.

@@ -64,10 +64,10 @@ fn growths_of_run(rt: &impl Abort, alloc: Global, words: &str, bytes: &[u8], tex
 const PARTED: &[u8] = b"# DATA TYPE: cat\n# NUMBER ALTERNATIVES: 4\n3: {1,2}\n1: {3,4}\n";
 
 /// Words, an input, what the run leaves, and the fewest growths that it asks for: the room of names and for a line,
-/// each name and each new ballot, sets that choices make, and three for a search.
+/// each name and each new ballot, sets that choices make, and three for a search, or one under minimax.
 type Run<'a> = (&'a str, &'a [u8], &'a [u8], u64);
 
-static RUNS: [Run<'static>; 11] = [
+static RUNS: [Run<'static>; 12] = [
     ("elect --rule av --size 1", THREE, ANSWER, 3),
     (
         "elect --rule pav --size 2",
@@ -80,6 +80,12 @@ static RUNS: [Run<'static>; 11] = [
         THREE,
         b"rule geom3\nsize 2\nscore 9/3\n1,3\n2,3\nend\n",
         6,
+    ),
+    (
+        "elect --rule minimax --size 2",
+        THREE,
+        b"rule minimax\nsize 2\ndistance 2\n1,3\n2,3\nend\n",
+        4,
     ),
     (
         "elect --rule seqpav --size 2",

@@ -1,21 +1,20 @@
-use Rattle.vote_cli.proofs.RunLemmas.{writes_both, writes_first, writes_second}
-use Rattle.vote_cli.proofs.TextLemmas.{scored_parts}
+use Rattle.std.proofs.Common.{subst, sym}
+use Rattle.request_words.specs.declared.request.Rule.TheVariants.{Scored}
+use Rattle.vote_cli.specs.Steps.Listed.{listed_text}
+use Rattle.vote_cli.specs.Steps.Refusals.{WritesText}
 use Rattle.vote_cli.proofs.election.answer_scored.Goals as goal
 
-pub returns-in_err-write_rule : goal.returns-in_err-write_rule
-returns-in_err-write_rule g c =
-    let l = c.args.listing.now in
-    writes_first _ c.write_rule.result _ c.from_residual-in_err-write_rule.result c.in_err-write_rule.was c.from_residual-in_err-write_rule.ensures
-    (scored_parts l.names (record { after = l.after; limit = l.limit }) c.args.rule l.size l.profile.now) c.write_rule.ensures
+pub returns-in-Thiele : goal.returns-in-Thiele
+returns-in-Thiele g c =
+    subst (λ r. WritesText g.W.Sink.contents g.W.Device.has_failed c.args.out.now c.answer_thiele.new.out c.answer_thiele.result (listed_text c.args.listing.now (Scored r)))
+    (sym c.in-Thiele.is) c.answer_thiele.ensures
 
-pub returns-in_err-write_winners : goal.returns-in_err-write_winners
-returns-in_err-write_winners g c =
-    let l = c.args.listing.now in
-    writes_second c.write_rule.new.out c.write_rule.result _ c.write_winners.result _ c.from_residual-in_err-write_winners.result c.in_ok-write_rule.was c.in_err-write_winners.was c.from_residual-in_err-write_winners.ensures
-    (scored_parts l.names (record { after = l.after; limit = l.limit }) c.args.rule l.size l.profile.now) c.write_rule.ensures c.write_winners.ensures
+pub returns-in-Satisfaction : goal.returns-in-Satisfaction
+returns-in-Satisfaction g c =
+    subst (λ r. WritesText g.W.Sink.contents g.W.Device.has_failed c.args.out.now c.answer_satisfaction.new.out c.answer_satisfaction.result (listed_text c.args.listing.now (Scored r)))
+    (sym c.in-Satisfaction.is) c.answer_satisfaction.ensures
 
-pub returns : goal.returns
-returns g c =
-    let l = c.args.listing.now in
-    writes_both c.write_rule.new.out c.write_rule.result c.write_winners.result _ _ c.in_ok-write_rule.was c.in_ok-write_winners.was
-    (scored_parts l.names (record { after = l.after; limit = l.limit }) c.args.rule l.size l.profile.now) c.write_rule.ensures c.write_winners.ensures
+pub returns-in-Minimax : goal.returns-in-Minimax
+returns-in-Minimax g c =
+    subst (λ r. WritesText g.W.Sink.contents g.W.Device.has_failed c.args.out.now c.answer_minimax.new.out c.answer_minimax.result (listed_text c.args.listing.now (Scored r)))
+    (sym c.in-Minimax.is) c.answer_minimax.ensures

@@ -8,5 +8,5 @@ pub returns : goal.returns
 returns g c =
     let l = c.args.listing.now in
     subst (Sends g.W.Sink.contents g.W.Device.has_failed c.args.out.now c.write_searched.new.out (is_ok c.write_searched.result))
-    (minimax_text l.names (record { after = l.after; limit = l.limit }) l.size l.profile.now c.new-search.result c.new-search.ensures)
+    (minimax_text l.names (record { after = l.after; limit = l.limit }) l.size l.profile.now c.args.search c.requires)
     c.write_searched.ensures

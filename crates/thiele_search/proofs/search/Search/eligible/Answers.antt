@@ -19,5 +19,4 @@ returns-clause-narrowed g c =
     let V = tally_value tally in
     let m = tally.election.m in
     further V m node.set node.free node.left c.args.least c.in_ok-free.free c.in_ok-free.ensures c.moved.result
-    (further V m node.set c.in_ok-free.free node.left c.args.least c.in_ok-free-2.free (rw c.self.view_is at c.in_ok-free-2.ensures) c.moved.result
-    (rw c.self.view_is at c.moved.ensures.narrowed))
+    (further V m node.set c.in_ok-free.free node.left c.args.least c.in_ok-free-2.free c.in_ok-free-2.ensures c.moved.result c.moved.ensures.narrowed)
