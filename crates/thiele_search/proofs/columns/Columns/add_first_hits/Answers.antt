@@ -15,7 +15,9 @@ loop-candidate-preserved g c =
     let up = c.loop-candidate.invariant.rises in
     let given = c.given_first-given in
     let is_set : (n : ℕ) → get_or c.set.new.self n 0 ≡ cond (n == at) (get_or c.loop-candidate.gains at 0 + given.result) (get_or c.loop-candidate.gains n 0) =
-    λ n. c.set.ensures n ∙ ap (λ x. cond (n == at) (x + given.result) (get_or c.loop-candidate.gains n 0)) c.of.ensures.value in
+    λ n. c.set.ensures n
+    ∙ ap (λ x. cond (n == at) (c.of.result + x) (get_or c.loop-candidate.gains n 0)) c.from-in-loop-candidate.ensures
+    ∙ ap (λ x. cond (n == at) (x + given.result) (get_or c.loop-candidate.gains n 0)) c.of.ensures.value in
     record {
       rises = (rest-increasing most_candidates left rest at c.in-Some.ensures.steps up).1;
       made = λ n. one-added c.loop-candidate.gains c.set.new.self left rest at given.result c.in-Some.ensures.steps up is_set n _
@@ -31,7 +33,6 @@ returns-clause-sum g c ballot_at block n in_ =
     let part : ℕ = (get_or c.args.self.now.weights 0 0) * shared (get_or c.args.block.now n 0) (bit_not w64 c.covered_by-uncovered.result) in
     let made : get_or c.loop-candidate.gains n 0 + cond (has_member c.loop-candidate.candidate-iterator n) part 0 ≡ get_or c.args.gains.now n 0 + cond (has_member c.args.node.now.free n) part 0 = c.loop-candidate.invariant.made n in
     let whole : part ≡ total (λ i. given weights c.args.node.now.set n (ballot_at i)) block_voters =
-    ap (λ w. w * shared (get_or c.args.block.now n 0) (bit_not w64 c.covered_by-uncovered.result)) c.first-weight.ensures
-    ∙ given-first ballot_at c.args.block.now block weights c.args.node.now.set n c.covered_by-uncovered.result c.covered_by-uncovered.type_inv (c.covered_by-uncovered.ensures ballot_at block)
+    given-first ballot_at c.args.block.now block weights c.args.node.now.set n c.covered_by-uncovered.result c.covered_by-uncovered.type_inv (c.covered_by-uncovered.ensures ballot_at block)
     (λ j high. c.args.self.now.sound.end j (omega (arith, high, c.requires.first))) in
     omega (arith, made, whole, ap (λ l. cond (has_member l n) part 0) c.in-None.ensures.steps.0, ap (λ b. cond b part 0) in_)
