@@ -1,5 +1,5 @@
 -- The definitions of the search for a committee that is near each ballot, worked out by hand.
-use Rattle.std.proofs.Common.{◌≡◌, ◌*◌, ◌^◌, ℕ, zero, suc, List, [], ◌∷◌, refl, length, lit≤, arith}
+use Rattle.std.proofs.Common.{◌≡◌, ℕ, zero, suc, List, [], ◌∷◌, refl, length, lit≤, arith}
 use Rattle.ballot_base.specs.Ballots.{IsElection, Row, election, hits, with_votes}
 use Rattle.ballot_base.specs.Clones.{AreClones, clones_among}
 use Rattle.ballot_base.proofs.RowLemmas.{distinct-with_votes}

@@ -127,9 +127,8 @@ impl<'a, A: Allocator + Copy> Search<'a, A> {
             return None;
         }
         let free = self.priced(node, least)?;
-        // Counting pairs takes about as long as a round over the rows. While pairs help often, multipliers can wait.
-        let is_work = self.moves.has_begun() || !self.aids.uses.pairs.help_often();
-        let rounds = u32::from(is_work && self.sees_pairs(node.left));
+        // Counting pairs takes about as long as a round over the rows.
+        let rounds = u32::from(self.sees_pairs(node.left));
         self.moves.work(rounds);
         let free = self.pair_narrowed(&Node { free, ..*node }, least)?;
         self.moved(&Node { free, ..*node }, least, effort)

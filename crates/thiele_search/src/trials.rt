@@ -33,11 +33,6 @@ const TRIALS_FOR_HELP: u32 = 4;
 /// The maximum number of times that pairs are counted without help.
 const MOST_TRIALS: u32 = 256;
 
-/// Pairs help often if they give up two of this many sets. Then they are not yet work that moving multipliers may save.
-/// If they always were, 40 random candidates, 20 seats and 500 voters took up to half as many instructions again under
-/// `pav`; if they never were, five parties with noise took half as long again.
-const OFTEN: u32 = 5;
-
 /// If pairs do not help, they are counted for one of this many sets, so that their use is judged anew. Left out for
 /// good, elections of 64 random candidates under `geom3` and `geom4` took two to four times as long.
 const SAMPLE_OF_PAIRS: u32 = 256;
@@ -96,8 +91,6 @@ impl PriceTrials {
 #[derive(Drop)]
 pub(crate) struct PairTrials {
     sets: Cell<u32>,
-    counted: Cell<u32>,
-    given_up: Cell<u32>,
     trials: Cell<u32>,
 }
 
@@ -105,8 +98,6 @@ impl PairTrials {
     fn none() -> PairTrials {
         PairTrials {
             sets: Cell::new(0),
-            counted: Cell::new(0),
-            given_up: Cell::new(0),
             trials: Cell::new(TRIALS_OF_PAIRS),
         }
     }
@@ -118,19 +109,12 @@ impl PairTrials {
 
     pub(crate) fn note(&self, given_up: bool) {
         add_to(&self.sets, 1);
-        add_to(&self.counted, 1);
-        add_to(&self.given_up, u32::from(given_up));
         let trials = self.trials.get();
         self.trials.set(if given_up {
             MOST_TRIALS.min(trials.saturating_add(TRIALS_FOR_HELP))
         } else {
             trials.saturating_sub(1)
         });
-    }
-
-    /// Whether pairs gave up two of five sets for which they were counted, or more.
-    pub(crate) fn help_often(&self) -> bool {
-        self.given_up.get().saturating_mul(OFTEN) / 2 >= self.counted.get()
     }
 
     /// Whether the search is long enough for pairs, and they help often enough.

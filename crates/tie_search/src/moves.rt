@@ -78,7 +78,7 @@ impl Moves {
     }
 
     /// Whether the search is long enough for multipliers to be moved.
-    pub fn has_begun(&self) -> bool {
+    fn has_begun(&self) -> bool {
         self.done.get() >= self.round.saturating_mul(BEGINNING)
     }
 

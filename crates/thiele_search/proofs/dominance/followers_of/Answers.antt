@@ -41,7 +41,7 @@ pub loop-ballot-preserved-then-not-has : goal.loop-ballot-preserved-then-not-has
 loop-ballot-preserved-then-not-has g c d is =
     let ballot = c.in-Some.ballot in
     let still = and_parts (not (has_member ballot d)) (has_member c.loop-ballot.followers d)
-        (sym (has_member-filter (λ n. not (has_member ballot n)) c.loop-ballot.followers d) ∙ ap (λ l. has_member l d) (sym c.minus-followers.ensures) ∙ is) in
+    (sym (has_member-filter (λ n. not (has_member ballot n)) c.loop-ballot.followers d) ∙ ap (λ l. has_member l d) (sym c.minus-followers.ensures) ∙ is) in
     subst (λ n. is_follower (take n c.args.profile.now.rows) c.args.c d ≡ true) (sym (length_push c.loop-ballot.yielded (ballot, c.in-Some._voters)))
     (turn g (goal.at.loop-ballot-preserved-then-not-has g c).In-Some d still.1 (by-ballot (has_member ballot c.args.c) (has_member ballot d) still.0))
 

@@ -4,8 +4,6 @@ use Rattle.ballot_base.specs.Ballots.{Election}
 use Rattle.ballot_base.specs.Limits.{most_candidates}
 use Rattle.ballot_base.specs.Worths.{AreTooLow, AreWanted}
 use Rattle.tie_walk.specs.Values.{closeness}
-use Rattle.tie_search.specs.Completions.{IsOutOfReach}
-use Rattle.tie_search.specs.Steps.Narrowed.{IsNarrowed}
 use Rattle.tie_search.specs.declared.node.Node.{Node}
 use Rattle.tie_search.proofs.NarrowedLemmas.{narrowed-more, narrowed-none, narrowed-out}
 use Rattle.near_search.specs.Steps.Near.{AreBallots, AreEligible, AreWeighted, IsHopeless}

@@ -1,4 +1,4 @@
-use Rattle.std.proofs.Common.{◌≡◌, ℕ, ◌+◌, ◌*◌, ◌^◌, ◌≤◌, ◌∙◌, Some, cond, ap, arith, length, slice_get, slice_index}
+use Rattle.std.proofs.Common.{ℕ, ◌+◌, ◌*◌, ◌^◌, ◌≤◌, ◌∙◌, cond, ap, arith, length, slice_index}
 use Rattle.std.proofs.Math.Nat.{mul-le-mul}
 use Rattle.ballot_base.specs.CandSet.{has_member}
 use Rattle.ballot_base.specs.Ballots.{Row}
@@ -7,7 +7,7 @@ use Rattle.ballot_base.proofs.Increasing.{IsIncreasing-higher}
 use Rattle.tie_walk.proofs.Distances.{ballot-found}
 use Rattle.tie_search.proofs.HitLemmas.{free-common}
 use Rattle.tie_search.proofs.SearchLemmas.{part-most}
-use Rattle.near_search.proofs.WeightedNeeds.{turns-few, weighted-more, weighted-none}
+use Rattle.near_search.proofs.WeightedNeeds.{turns-few, weighted-more}
 use Rattle.near_search.proofs.near.NearSearch.weighted_needs.Goals as goal
 use Rattle.near_search.proofs.near.NearSearch.weighted_needs.Goals.{then-needed-gt0, else-needed-gt0}
 

@@ -1,4 +1,4 @@
-use Rattle.std.proofs.Common.{◌+◌, ◌-◌, ◌≤◌, ◌≡◌, None, Some, ℕ, List, refl, arith, length}
+use Rattle.std.proofs.Common.{◌+◌, ◌-◌, ◌≡◌, None, Some, ℕ, List, refl, arith, length}
 use Rattle.ballot_base.specs.Ballots.{Election}
 use Rattle.ballot_base.proofs.Committees.{length-increasing}
 use Rattle.tie_walk.specs.Values.{closeness}

@@ -1,10 +1,9 @@
-use Rattle.std.proofs.Common.{◌≡◌, ℕ, ◌+◌, ◌≤◌, ◌&&◌, ◌∙◌, Bool, true, false, not, List, [], refl, sym, ap, arith, inl, inr, get_or, length}
+use Rattle.std.proofs.Common.{◌≡◌, ℕ, ◌≤◌, ◌∙◌, Bool, true, false, not, List, [], refl, sym, ap, arith, inl, inr, get_or}
 use Rattle.std.specs.List.{range_with_len}
 use Rattle.std.proofs.lemmas.Bool.{and_from, and_parts, cases_Bool}
 use Rattle.std.proofs.lemmas.List.{get_or_default}
 use Rattle.ballot_base.specs.CandSet.{has_member, other_members}
 use Rattle.ballot_base.specs.Clones.{are_clones, clones_among}
-use Rattle.ballot_base.specs.Lists.{IsIncreasing}
 use Rattle.ballot_base.specs.Ballots.{Row}
 use Rattle.ballot_base.proofs.Increasing.{has_member-filter}
 use Rattle.tie_walk.proofs.StepLemmas.{has_member-range}
@@ -53,7 +52,7 @@ returns g c n is committee whole here out =
     get_or_default c.in-Some.dominance.followers c.from-4.result c.index-dominance-from.result [] (omega (arith, c.from-4.ensures, aids.election.most, high))
     ∙ ap (λ i. get_or c.in-Some.dominance.followers i []) c.from-4.ensures in
     let parts : (not (has_member c.class.result n) ≡ true) × (has_member followers n ≡ true) = and_parts (not (has_member c.class.result n)) (has_member followers n)
-        (sym (has_member-filter (λ x. not (has_member c.class.result x)) followers n) ∙ ap (λ l. has_member l n) (sym (c.minus.ensures ∙ ap (λ s. other_members s c.class.result) index)) ∙ is) in
+    (sym (has_member-filter (λ x. not (has_member c.class.result x)) followers n) ∙ ap (λ l. has_member l n) (sym (c.minus.ensures ∙ ap (λ s. other_members s c.class.result) index)) ∙ is) in
     let class : c.class.result ≡ clones_among m tally.election.rows tried = c.class.ensures ∙ aids.clones tried low high in
     value-rises tally aids.election dominance.adds committee tried n whole.candidates
     (omega (arith, whole.size, dominance.k_is, c.if-from.false, c.from.ensures, c.from-2.ensures, c.from-3.ensures, c.len.ensures.count))
