@@ -123,7 +123,7 @@ impl<'a, A: Allocator + Copy> Search<'a, A> {
         ensures same { self.new ≡ self.old }
         ensures narrowed { Narrows (tally_value self.old) self.old.election.m node.now least result }
     {
-        if !self.may_suffice(node, least) {
+        if !self.covers(node, least) {
             return None;
         }
         let free = self.priced(node, least)?;
@@ -157,6 +157,22 @@ impl<'a, A: Allocator + Copy> Search<'a, A> {
         self.moves
             .note(node.left, node.free.len(), after, moved.rounds);
         moved.free
+    }
+
+    /// Whether the free candidates of a node cover enough voters, if this is worth asking.
+    fn covers(&self, node: &Node, least: u128) -> bool
+        requires is_node { IsNode self.now.election.m node.now.set node.now.free }
+        ensures { result ≡ false
+            → IsOutOfReach (tally_value self.now) self.now.election.m node.now.set node.now.free
+            node.now.left least }
+    {
+        let cover = &self.aids.uses.cover;
+        if !cover.are_due(node.left) {
+            return true;
+        }
+        let suffices = self.may_suffice(node, least);
+        cover.note(!suffices);
+        suffices
     }
 
     /// Like `eligible`, but by the prices of the whole election, if they are worth asking for.

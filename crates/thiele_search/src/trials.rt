@@ -1,23 +1,23 @@
 //! Which tests of a set are worth making.
 //!
-//! Prices of the whole election and pairs may give up a set. Which of them help depends on the ballots: prices shorten
-//! an election among neighbours, and seldom a random one. So a search counts how often each gave up a set. Either may be
-//! left out, so nothing is proved of these counts.
+//! Three tests may give up a set: how many voters its free candidates cover, prices of the whole election, and pairs.
+//! Which of them help depends on the ballots: prices shorten an election among neighbours, and seldom a random one. So a
+//! search counts how often each test gave up a set. Any test may be left out, so nothing is proved of these counts.
 
 use std::cell::Cell;
 
-/// With more seats left than this, prices are always asked: whole branches depend on them. Without prices, elections
-/// among neighbours took up to 180 times as long.
+/// With more seats left than this, the quick tests are always made: whole branches depend on them. Without prices,
+/// elections among neighbours took up to 180 times as long.
 const FEW_SEATS: u8 = 5;
 
-/// The number of times that prices are asked before their use is judged.
+/// The number of times that a quick test is made before its use is judged.
 const TRIALS: u32 = 256;
 
-/// Prices are worth asking if they give up one of this many sets. If they were always asked, random elections took up
-/// to a fifth more instructions under `cc`.
+/// A quick test is worth making if it gives up one of this many sets. If prices were always asked, random elections took
+/// up to a fifth more instructions under `cc`, and if cover was, those of few different ballots a third more.
 const LEAST_HELP: u32 = 4;
 
-/// If prices are not worth asking, they are asked for one of this many sets, so that their use is judged anew.
+/// A quick test that is not worth making is made for one of this many sets, so that its use is judged anew.
 const SAMPLE: u32 = 16;
 
 /// The number of sets after which a search begins to count pairs.
@@ -40,54 +40,56 @@ const SAMPLE_OF_PAIRS: u32 = 256;
 /// What is known of the use of each test.
 #[derive(Drop)]
 pub(crate) struct Uses {
-    pub(crate) prices: PriceTrials,
+    pub(crate) cover: Trials,
+    pub(crate) prices: Trials,
     pub(crate) pairs: PairTrials,
 }
 
 impl Uses {
     pub(crate) fn none() -> Uses {
         Uses {
-            prices: PriceTrials::none(),
+            cover: Trials::none(),
+            prices: Trials::none(),
             pairs: PairTrials::none(),
         }
     }
 }
 
-/// At how many sets prices could be asked and were asked, and how many sets they gave up.
+/// How often a quick test was asked for and made, and how often it gave up a set.
 #[derive(Drop)]
-pub(crate) struct PriceTrials {
-    sets: Cell<u32>,
+pub(crate) struct Trials {
     asked: Cell<u32>,
+    made: Cell<u32>,
     given_up: Cell<u32>,
 }
 
-impl PriceTrials {
-    fn none() -> PriceTrials {
-        PriceTrials {
-            sets: Cell::new(0),
+impl Trials {
+    fn none() -> Trials {
+        Trials {
             asked: Cell::new(0),
+            made: Cell::new(0),
             given_up: Cell::new(0),
         }
     }
 
     pub(crate) fn are_due(&self, left: u8) -> bool {
-        let sets = self.sets.get();
-        self.sets.set(sets.wrapping_add(1));
         let asked = self.asked.get();
+        self.asked.set(asked.wrapping_add(1));
+        let made = self.made.get();
         left > FEW_SEATS
-            || asked < TRIALS
-            || self.given_up.get().saturating_mul(LEAST_HELP) >= asked
-            || sets % SAMPLE == 0
+            || made < TRIALS
+            || self.given_up.get().saturating_mul(LEAST_HELP) >= made
+            || asked % SAMPLE == 0
     }
 
     pub(crate) fn note(&self, given_up: bool) {
-        add_to(&self.asked, 1);
+        add_to(&self.made, 1);
         add_to(&self.given_up, u32::from(given_up));
     }
 }
 
 /// How many sets were searched, and how often pairs are counted before they have to help again. They cost much more
-/// than prices, so they are soon left out, and come back as soon as they help.
+/// than a quick test, so they are soon left out, and come back as soon as they help.
 #[derive(Drop)]
 pub(crate) struct PairTrials {
     sets: Cell<u32>,

@@ -81,7 +81,9 @@ impl<'a, A: Allocator + Copy> ThieleTally<'a, A> {
         for (ballot, voters) in self.profile.ballots() {
             let hits = ballot.common(set).len();
             let given = u128::from(voters) * Step::Grow.weight(&self.weights, hits);
-            gains.add(ballot.common(others), given);
+            if given > 0 {
+                gains.add(ballot.common(others), given);
+            }
         }
         gains
     }

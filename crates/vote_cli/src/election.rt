@@ -80,12 +80,7 @@ fn search_memory<'a, A: Allocator + Copy + Drop>(
     if rule == ThieleRule::Av {
         return Ok(None);
     }
-    Ok(Some(SearchMemory::new(
-        alloc,
-        listing.profile,
-        rule,
-        listing.size,
-    )?))
+    Ok(Some(SearchMemory::new(alloc, listing.profile, rule, listing.size)?))
 }
 
 fn write_winners<A: Allocator + Copy + Drop, W: Sink>(

@@ -170,13 +170,7 @@ fn thiele_rules(rt: HostRuntime) {
 }
 
 /// Asserts the smallest maximum distance, and how many committees have it.
-fn assert_minimax(
-    rt: &impl Abort,
-    alloc: Global,
-    profile: &Profile,
-    distance: u8,
-    winners: usize,
-)
+fn assert_minimax(rt: &impl Abort, alloc: Global, profile: &Profile, distance: u8, winners: usize)
     requires { SIZE ≤ profile.now.m }
 {
     let best = u128::from(profile.m().saturating_sub(distance));

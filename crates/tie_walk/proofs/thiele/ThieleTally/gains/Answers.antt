@@ -59,6 +59,28 @@ add-requires g c =
       );
     }
 
+pub loop-ballot-preserved-then-given-gt0 : goal.loop-ballot-preserved-then-given-gt0
+loop-ballot-preserved-then-given-gt0 g c n =
+    let t : Thiele = c.args.self.now in
+    let e : Election = t.election in
+    let w : List ℕ = increments t.rule t.k in
+    let row : Row = (c.in-Some.ballot, c.in-Some.voters) in
+    let at = row_of_turn e.rows (c.into_iter-ballot-iterator.ensures.into_iter_gives ∙ c.ballots-ballot-items.ensures.rows ∙ ap (λ (x : Thiele). x.election.rows) c.self.view_is) c.loop-ballot.yielded c.loop-ballot.yielded_by row c.in-Some.ensures.steps in
+    let weights : c.self.inside.weights ≡ w = c.self.invariant.weights_are ∙ ap (λ (x : Thiele). increments x.rule x.k) c.self.view_is in
+    let same : c.len-hits.result ≡ hits row.0 c.args.set = c.len-hits.ensures.count ∙ ap length c.common.ensures ∙ length-common row.0 c.args.set in
+    let product : c.from.result * c.weight.result ≡ row.1 * weight w (hits row.0 c.args.set + 1) =
+    ap (λ n. n * c.weight.result) c.from.ensures
+    ∙ ap (λ x. row.1 * x) (c.weight.ensures ∙ ap (λ l. weight l (c.len-hits.result + 1)) weights ∙ ap (λ h. weight w (h + 1)) same) in
+    let passed = length c.loop-ballot.yielded in
+    wanted-step (has_member c.args.others n) (has_member row.0 n) (has_member c.common-then-given-gt0.result n)
+    (partial Grow w c.args.set n (take passed e.rows)) (row.1 * weight w (hits row.0 c.args.set + 1)) (partial Grow w c.args.set n (take (passed + 1) e.rows))
+    (get_or c.loop-ballot.gains n 0) (get_or c.add.new.self n 0)
+    (ap (λ s. has_member s n) c.common-then-given-gt0.ensures ∙ has_member-filter (has_member c.args.others) row.0 n)
+    (c.loop-ballot.invariant n)
+    (c.add.ensures n ∙ ap (λ x. get_or c.loop-ballot.gains n 0 + cond (has_member c.common-then-given-gt0.result n) x 0) product)
+    (partial-more Grow w c.args.set e.rows passed n row at)
+    ∙ ap (λ k. cond (has_member c.args.others n) (partial Grow w c.args.set n (take k e.rows)) 0) (sym (length_push c.loop-ballot.yielded row))
+
 pub loop-ballot-preserved : goal.loop-ballot-preserved
 loop-ballot-preserved g c n =
     let t : Thiele = c.args.self.now in
@@ -72,13 +94,10 @@ loop-ballot-preserved g c n =
     ap (λ n. n * c.weight.result) c.from.ensures
     ∙ ap (λ x. row.1 * x) (c.weight.ensures ∙ ap (λ l. weight l (c.len-hits.result + 1)) weights ∙ ap (λ h. weight w (h + 1)) same) in
     let passed = length c.loop-ballot.yielded in
-    wanted-step (has_member c.args.others n) (has_member row.0 n) (has_member c.common-in-loop-ballot.result n)
-    (partial Grow w c.args.set n (take passed e.rows)) (row.1 * weight w (hits row.0 c.args.set + 1)) (partial Grow w c.args.set n (take (passed + 1) e.rows))
-    (get_or c.loop-ballot.gains n 0) (get_or c.add.new.self n 0)
-    (ap (λ s. has_member s n) c.common-in-loop-ballot.ensures ∙ has_member-filter (has_member c.args.others) row.0 n)
-    (c.loop-ballot.invariant n)
-    (c.add.ensures n ∙ ap (λ x. get_or c.loop-ballot.gains n 0 + cond (has_member c.common-in-loop-ballot.result n) x 0) product)
-    (partial-more Grow w c.args.set e.rows passed n row at)
+    let none : row.1 * weight w (hits row.0 c.args.set + 1) ≡ 0 = omega (arith, product, c.if-given-gt0.false) in
+    let still : partial Grow w c.args.set n (take passed e.rows) ≡ partial Grow w c.args.set n (take (passed + 1) e.rows) =
+    omega (arith, partial-more Grow w c.args.set e.rows passed n row at, not_wanted (has_member row.0 n) (row.1 * weight w (hits row.0 c.args.set + 1)) none) in
+    c.loop-ballot.invariant n ∙ ap (λ k. cond (has_member c.args.others n) k 0) still
     ∙ ap (λ k. cond (has_member c.args.others n) (partial Grow w c.args.set n (take k e.rows)) 0) (sym (length_push c.loop-ballot.yielded row))
 
 pub returns-clause-gains : goal.returns-clause-gains
