@@ -5,11 +5,12 @@ ghost use Rattle.tie_walk.specs.Ceilings.{closeness_upto};
 ghost use Rattle.tie_walk.specs.Values.{closeness};
 
 use crate::good::near_committee;
-use crate::near::{NearSearch, Shares};
-use crate::weights::Weights;
+use crate::near::NearSearch;
+use crate::weights::{FIRST_WEIGHT, Shares};
 use ballot_base::{CandSet, Clones, Profile};
 use std::alloc::{AllocError, Allocator, Global};
 use std::marker::Model;
+use tie_search::multipliers::Multipliers;
 use tie_search::{Moves, Node, Searchable, Tied, descent};
 use tie_walk::{MinimaxTally, Tally};
 
@@ -21,7 +22,7 @@ pub struct MinimaxSearch<'a, A: Allocator + Copy = Global> {
     m: u8,
     clones: Clones,
     shares: Shares,
-    weights: Option<Weights<A>>,
+    weights: Option<Multipliers<A>>,
     // Where it pays to move weights, over all questions so far.
     moves: Moves,
 }
@@ -48,7 +49,7 @@ const MOST_ROWS: usize = 8192;
 const ROUND: u64 = 2;
 
 impl<'a, A: Allocator + Copy + Drop> MinimaxSearch<'a, A> {
-    /// Prepares a search among the committees of a profile's candidates. It takes at most 131,072 bytes, and a search
+    /// Prepares a search among the committees of a profile's candidates. It takes at most 196,608 bytes, and a search
     /// takes no more. A failed allocation leaves nothing.
     pub fn new(alloc: A, profile: &'a Profile<A>) -> Result<MinimaxSearch<'a, A>, AllocError>
         ensures { IfOk result (λ search. search ≡ profile.now) }
@@ -67,12 +68,12 @@ impl<'a, A: Allocator + Copy + Drop> MinimaxSearch<'a, A> {
 fn weights_for<A: Allocator + Copy + Drop>(
     alloc: A,
     profile: &Profile<A>,
-) -> Result<Option<Weights<A>>, AllocError> {
+) -> Result<Option<Multipliers<A>>, AllocError> {
     let rows = profile.rows();
     if rows > MOST_ROWS {
         return Ok(None);
     }
-    Ok(Some(Weights::of(alloc, rows)?))
+    Ok(Some(Multipliers::of(alloc, rows, FIRST_WEIGHT)?))
 }
 
 impl<'a, A: Allocator + Copy> Tally for MinimaxSearch<'a, A> {

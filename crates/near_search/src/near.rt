@@ -5,27 +5,22 @@
 //! hits than there are seats left, or than it has free candidates. If a ballot needs a hit from each seat left, all
 //! candidates that are not on it leave. One of the free candidates on the ballot that can spare the fewest must join.
 //!
-//! If several seats are left and several candidates are to be tried, all needs are also added up, each with a weight. A
-//! set is given up if the sum exceeds what the best free candidates can give. A candidate leaves if every completion
-//! with it falls short (`laws::weighted_needs`; Glover, Surrogate constraints, 1968). Any weights are right. A ballot
-//! weighs by the share that it needs of its free candidates. If that pays, weights are moved from there (module
-//! `weights`).
-ghost use Rattle.std.specs.Prelude.{◌≡◌, ℕ, ◌+◌, ◌-◌, ◌^◌, ◌≤◌, ◌&&◌, length, slice_index, MatchOption, ⊤};
+//! If several seats are left and several candidates are to be tried, all needs are also added up, each with a weight
+//! (module `weights`).
+ghost use Rattle.std.specs.Prelude.{◌≡◌, ℕ, ◌-◌, ◌≤◌, length, slice_index, MatchOption, ⊤};
 ghost use Rattle.ballot_base.specs.Clones.{AreClones, clones_among};
 ghost use Rattle.ballot_base.specs.Limits.{most_candidates};
-ghost use Rattle.ballot_base.specs.Lists.{IsIncreasing};
 ghost use Rattle.ballot_base.specs.Worths.{AreTooLow, AreWanted};
 ghost use Rattle.tie_search.specs.Completions.{IsNode};
-ghost use Rattle.tie_search.specs.Steps.Narrowed.{Narrows};
 ghost use Rattle.tie_walk.specs.Values.{closeness};
-ghost use Rattle.near_search.specs.Steps.Near.{AreBallots, AreBallots-prop, AreBranches, AreWeighted, IsHopeless};
-ghost use Rattle.near_search.specs.Steps.Near.{IsNearPlan, share_parts};
+ghost use Rattle.near_search.specs.Steps.Near.{AreBallots, AreBallots-prop, AreBranches, IsHopeless, IsNearPlan};
 
 use crate::needs::still_needed;
-use crate::weights::Weights;
-use ballot_base::{CandSet, Clones, PLACES, Profile, Worths};
+use crate::weights::{NeedSearch, Shares, Weighing};
+use ballot_base::{CandSet, Clones, Profile, Worths};
 use std::alloc::Allocator;
 use tie_search::descent::{Narrowing, Plan};
+use tie_search::multipliers::Multipliers;
 use tie_search::{Moves, Node};
 use tie_walk::{MinimaxTally, Tally};
 
@@ -38,38 +33,6 @@ const FEWEST_SEATS: u8 = 4;
 /// right.
 const FEWEST_CHOICES: u8 = 3;
 
-/// The denominator of shares.
-const SHARE_PARTS: u64 = 1024;
-
-/// For each number of candidates, the share of one of them, in parts of `SHARE_PARTS`. Any shares would be right. A
-/// look-up takes less time than a division for each ballot.
-#[derive(Drop)]
-pub(crate) struct Shares {
-    of_one: [u64; PLACES],
-    ghost small: { (n : ℕ) → slice_index of_one n ≤ share_parts },
-}
-
-impl Shares {
-    pub(crate) fn equal() -> Shares {
-        let mut of_one = [SHARE_PARTS; PLACES];
-        for n in 1..PLACES {
-            of_one[n] = SHARE_PARTS / n as u64;
-        }
-        Shares { of_one }
-    }
-
-    /// The weight of a ballot that needs some of its free candidates: the need, times the cube of the share of these
-    /// candidates that it needs. Any weights are right. With the square of the need, 64 candidates, 32 seats and 20
-    /// voters took seven to twelve times as long.
-    fn weight(&self, needed: u8, approved: CandSet) -> u64
-        ensures { result ≤ 2 ^ 62 }
-    {
-        let needed = u64::from(needed);
-        let share = needed * self.of_one[usize::from(approved.len())];
-        needed * share * share * share
-    }
-}
-
 /// What all steps of a search share: the ballots, their clones, the shares and the moved weights for the weights of
 /// ballots, and where it pays to move these.
 #[derive(Drop)]
@@ -77,30 +40,11 @@ pub(crate) struct NearSearch<'a, A: Allocator + Copy> {
     pub(crate) profile: &'a Profile<A>,
     pub(crate) clones: &'a Clones,
     pub(crate) shares: &'a Shares,
-    pub(crate) weights: Option<&'a Weights<A>>,
+    pub(crate) weights: Option<&'a Multipliers<A>>,
     pub(crate) moves: &'a Moves,
     ghost size: { profile.now.m ≤ most_candidates },
     ghost ballots: { AreBallots profile.now.m profile.now.rows } by { AreBallots-prop profile.now.m profile.now.rows },
     ghost classes: { AreClones profile.now.m profile.now.rows clones.now },
-}
-
-/// What all ballots still need, and what each free candidate can give. Each hit counts the weight of its ballot.
-#[derive(Drop)]
-pub(crate) struct WeightedNeeds {
-    pub(crate) total: u128,
-    // For each free candidate, the total weight of the ballots that approve it.
-    pub(crate) supports: Worths,
-}
-
-/// Which weights ballots have at a node.
-#[derive(Clone, Copy)]
-pub(crate) enum Weighing {
-    /// None, since weighing does not pay.
-    Nothing,
-    /// Weights by the share that a ballot needs of its free candidates.
-    ByShare,
-    /// The weights that are moved.
-    Moved,
 }
 
 impl<A: Allocator + Copy> Narrowing for NearSearch<'_, A> {
@@ -134,15 +78,19 @@ impl<A: Allocator + Copy> Narrowing for NearSearch<'_, A> {
             free: eligible,
             ..*node
         };
-        let weighing = self.weighing(node.left, choices);
-        let free = self.moved_if_due(&narrowed, weighing, most)?;
+        let search = NeedSearch {
+            profile: self.profile,
+            weighing: self.weighing(node.left, choices),
+            most,
+        };
+        let free = search.moved(&narrowed, self.moves)?;
         let here = Node { free, ..*node };
-        let needs = self.weighted_needs(&here, weighing, most);
+        let needs = search.needs(&here);
         Some(Plan {
-            eligible: members_for(&needs.supports, &here, needs.total)?,
+            eligible: members_for(&needs.worths, &here, needs.due)?,
             choices,
-            worths: needs.supports,
-            due: needs.total,
+            worths: needs.worths,
+            due: needs.due,
             least,
         })
     }
@@ -164,7 +112,7 @@ impl<A: Allocator + Copy> Narrowing for NearSearch<'_, A> {
     }
 }
 
-impl<A: Allocator + Copy> NearSearch<'_, A> {
+impl<'a, A: Allocator + Copy> NearSearch<'a, A> {
     /// Two sets: branching candidates, at least one of which must join so that no ballot is farther than `most`; and
     /// the candidates that are still eligible. Returns `None` if some ballot needs more hits than it can have.
     fn choices(&self, node: &Node, most: u8) -> Option<(CandSet, CandSet)>
@@ -201,73 +149,21 @@ impl<A: Allocator + Copy> NearSearch<'_, A> {
     }
 
     /// Enters a node with `left` seats left, and chooses weights. The `choices` are to be tried.
-    fn weighing(&self, left: u8, choices: CandSet) -> Weighing {
+    fn weighing(&self, left: u8, choices: CandSet) -> Weighing<'a, A> {
         self.moves.enter(left);
-        if !is_worth_weighing(left, choices) {
+        if left < FEWEST_SEATS || choices.len() < FEWEST_CHOICES {
             return Weighing::Nothing;
         }
-        if self.weights.is_some() && self.moves.are_due(left) {
-            return Weighing::Moved;
-        }
-        Weighing::ByShare
-    }
-
-    /// Moves the weights if a node has moved ones. Returns the free candidates that can still join, or `None` only if
-    /// no completion of the set is near each ballot.
-    fn moved_if_due(&self, node: &Node, weighing: Weighing, most: u8) -> Option<CandSet>
-        requires is_node { IsNode self.now.profile.now.m node.now.set node.now.free }
-        requires few { node.now.left ≤ most_candidates }
-        ensures { Narrows (closeness self.now.profile.now.m self.now.profile.now.rows) self.now.profile.now.m node.now
-            (self.now.profile.now.m - most) result }
-    {
-        match weighing {
-            Weighing::Moved => self.moved(node, most),
-            Weighing::ByShare | Weighing::Nothing => {
-                self.moves.work(0);
-                Some(node.free)
-            }
-        }
-    }
-
-    /// What the ballots still need so that none is farther than `most`.
-    pub(crate) fn weighted_needs(&self, node: &Node, weighing: Weighing, most: u8) -> WeightedNeeds
-        requires few { node.now.left ≤ most_candidates }
-        requires set { IsIncreasing 1 self.now.profile.now.m node.now.set }
-        ensures { AreWeighted self.now.profile.now (length node.now.set + node.now.left) most node.now.set
-            node.now.free result.total result.supports }
-    {
-        let mut total = 0;
-        let mut supports = Worths::none();
-        if let Weighing::Nothing = weighing {
-            return WeightedNeeds { total, supports };
-        }
-        for i in 0..self.profile.rows() {
-            let (ballot, _voters) = self.profile.row(i);
-            let needed = still_needed(ballot, node.set, node.left, most);
-            if needed > 0 {
-                let approved = ballot.common(node.free);
-                let weight = u128::from(self.weight(weighing, i, needed, approved));
-                total += weight * u128::from(needed);
-                supports.add(approved, weight);
-            }
-        }
-        WeightedNeeds { total, supports }
-    }
-
-    /// The weight of row i, whose ballot needs some of its free candidates.
-    fn weight(&self, weighing: Weighing, i: usize, needed: u8, approved: CandSet) -> u64
-        ensures { result ≤ 2 ^ 62 }
-    {
-        match (weighing, self.weights) {
-            (Weighing::Moved, Some(weights)) => weights.of_row(i),
-            _ => self.shares.weight(needed, approved),
+        match self.weights {
+            Some(weights) if self.moves.are_due(left) => Weighing::Moved(weights),
+            _ => Weighing::ByShare(self.shares),
         }
     }
 }
 
 /// The free candidates of a node that can join, if all that join must be worth `due` together. Returns `None` only if
 /// no free candidates are worth that.
-pub(crate) fn members_for(worths: &Worths, node: &Node, due: u128) -> Option<CandSet>
+fn members_for(worths: &Worths, node: &Node, due: u128) -> Option<CandSet>
     ensures { MatchOption result (AreTooLow (slice_index worths.now) node.now.free node.now.left due)
         (AreWanted (slice_index worths.now) node.now.free node.now.left due) }
 {
@@ -275,10 +171,6 @@ pub(crate) fn members_for(worths: &Worths, node: &Node, due: u128) -> Option<Can
         return Some(node.free);
     }
     worths.members_for(node.free, node.left, due)
-}
-
-fn is_worth_weighing(left: u8, choices: CandSet) -> bool {
-    left >= FEWEST_SEATS && choices.len() >= FEWEST_CHOICES
 }
 
 /// Whether a ballot can spare fewer free candidates than the tightest before, or equally few and needs more hits. Both

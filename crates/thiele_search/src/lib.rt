@@ -3,7 +3,7 @@
 //! `ThieleSearch` finds a committee of at least a given value, which consists of a set and some of the free candidates.
 //! One search also lists all tied committees, if they are few. `tie_search::descent` goes from set to set, and `search`
 //! narrows each set. Three bounds serve it: gains, which `columns` counts for 64 voters at once; `prices`, made of
-//! `multipliers`; and `pairs` of candidates, made of `majorant`s. `tie_search::SearchWinners` asks for one winner after
+//! `tie_search::multipliers`; and `pairs` of candidates, made of `majorant`s. `tie_search::SearchWinners` asks for one winner after
 //! another.
 //!
 //! A `SearchMemory` holds all memory that such a search takes. So a caller can take it before anything is written, and
@@ -18,7 +18,6 @@ mod dominance;
 mod good;
 pub mod laws;
 mod majorant;
-mod multipliers;
 mod pairs;
 mod prices;
 mod search;

@@ -5,34 +5,66 @@
 //! allows: what the hits give, less the multiplier for each further hit. Summed over the voters, no completion of the
 //! set is worth more than what all keep and the prices of the candidates that join (`laws::prices`; Fisher, The
 //! Lagrangian relaxation method for solving integer programming problems, 1981).
-ghost use Rattle.std.specs.Prelude.{◌≡◌, ℕ, ◌*◌, ◌^◌, ◌≤◌, List, [], slice_index, MatchOption, ⊤};
+//!
+//! The multipliers are moved (`tie_search::multipliers`). With prices of the whole election only, five parties with
+//! noise, 64 candidates and 10 seats took 8 s and not 0.8 s under `pav`.
+ghost use Rattle.std.specs.Prelude.{◌≡◌, ℕ, ◌+◌, ◌*◌, ◌≤◌, List, [], slice_index, MatchOption, ⊤};
 ghost use Rattle.ballot_base.specs.Limits.{most_candidates, most_members};
-ghost use Rattle.tie_walk.specs.Values.{thiele_value};
+ghost use Rattle.ballot_base.specs.Increments.{increments};
 ghost use Rattle.tie_search.specs.Completions.{IsNode};
-ghost use Rattle.tie_search.specs.Steps.Narrowed.{Narrows};
 ghost use Rattle.thiele_search.specs.Steps.Paired.{AreSums, AreTotals};
-ghost use Rattle.thiele_search.specs.Steps.Units.{most_priced};
+ghost use Rattle.thiele_search.specs.Steps.Units.{most_given, most_priced};
 ghost use Rattle.thiele_search.specs.Steps.Priced.{ArePrices};
 
 use crate::majorant::HitSums;
-use crate::multipliers::{Multipliers, ROOT};
 use ballot_base::{CandSet, Profile, Worths};
 use std::alloc::Allocator;
 use tie_search::Node;
+use tie_search::multipliers::{Constraint, Effort, Gap, Multipliers, RowBound, WHOLE, narrowed};
 use tie_walk::{Tally, ThieleTally};
 
 /// The first hit gives about this many units: enough that rounding matters little.
 const UNITS: u128 = 1 << 40;
+
+/// Multipliers of a whole search go on moving only if the gap is at most the value divided by this. Ballots that were
+/// drawn independently leave more, whatever the multipliers; small elections of these took 0.02 s longer.
+const LARGE_GAP: u128 = 64;
+
+/// For a node.
+pub(crate) const NODE: Effort = Effort {
+    rounds: 15,
+    pace: 410,
+    least_pace: 20,
+    patience: 4,
+    large_gap: None,
+};
+
+/// For the same node after a candidate was tried and left.
+pub(crate) const AGAIN: Effort = Effort { rounds: 4, ..NODE };
+
+/// For a whole search, once, if committees of this value in units are looked for.
+fn root(units: u128) -> Effort {
+    Effort {
+        rounds: 600,
+        pace: WHOLE,
+        least_pace: 1,
+        patience: 20,
+        large_gap: Some(units / LARGE_GAP),
+    }
+}
 
 /// What a search looks for by prices: the ballots, what hits give, a multiplier for each row, and the value that a
 /// committee has to reach.
 #[derive(Drop)]
 pub(crate) struct PriceSearch<'a, A: Allocator + Copy> {
     pub(crate) profile: &'a Profile<A>,
+    pub(crate) tally: &'a ThieleTally<'a, A>,
     pub(crate) given: &'a HitSums,
     pub(crate) multipliers: &'a Multipliers<A>,
     pub(crate) least: u128,
     ghost size: { profile.now.m ≤ most_candidates },
+    ghost ballots: { profile.now ≡ tally.now.election },
+    ghost sums: { AreSums (increments tally.now.rule tally.now.k) given.now.scale given.now.unit given.now.sums },
 }
 
 /// What all voters keep at a node, and the price of each free candidate, in units.
@@ -43,8 +75,7 @@ pub(crate) struct Prices {
 }
 
 impl<A: Allocator + Copy> PriceSearch<'_, A> {
-    /// The prices at a node, by the present multipliers. A multiplier outside the range that the node allows is first
-    /// moved to an end of the range.
+    /// The prices at a node, by the present multipliers.
     pub(crate) fn prices(&self, node: &Node) -> Prices
         requires is_node { IsNode self.now.profile.now.m node.now.set node.now.free }
         ensures totals { (weights : List ℕ)
@@ -61,7 +92,7 @@ impl<A: Allocator + Copy> PriceSearch<'_, A> {
             let approved = ballot.common(node.free);
             let before = ballot.common(node.set).len();
             let most = node.left.min(approved.len());
-            let multiplier = self.multipliers.within(i, self.given, before, most);
+            let multiplier = self.multiplier(i, before, most);
             let count = u128::from(voters);
             kept += count * u128::from(self.given.kept(before, most, multiplier));
             worths.add(approved, count * u128::from(multiplier));
@@ -69,26 +100,72 @@ impl<A: Allocator + Copy> PriceSearch<'_, A> {
         Prices { kept, worths }
     }
 
-    /// The free candidates of a node that can still join, by its prices. Returns `None` only if no completion of its
-    /// set reaches the value.
-    pub(crate) fn affordable(&self, prices: &Prices, node: &Node) -> Option<CandSet>
-        requires is_node { IsNode self.now.profile.now.m node.now.set node.now.free }
-        ensures { (weights : List ℕ)
-            → AreTotals weights self.now.given.now.scale self.now.given.now.unit self.now.profile.now.m
-            self.now.profile.now.rows node.now.set node.now.free node.now.left prices.now.kept prices.now.worths []
-            → Narrows (thiele_value weights self.now.profile.now.rows) self.now.profile.now.m node.now self.now.least
-            result }
+    /// The multiplier of row i, which has `before` hits and can have up to `most` more. It is first moved between what
+    /// the first further hit gives and what the hit after the last would give.
+    fn multiplier(&self, i: usize, before: u8, most: u8) -> u64
+        requires fits { before + most ≤ most_candidates }
+        ensures { result ≤ most_given }
     {
-        let due = self.units().saturating_sub(prices.kept);
-        prices.worths.members_for(node.free, node.left, due)
+        let last = self.given.increment(before + most);
+        self.multipliers
+            .within(i, last, self.given.increment(before))
     }
 
-    /// The value that a committee has to reach, in units.
-    pub(crate) fn units(&self) -> u128
-        ensures { (value : ℕ) → self.now.given.now.scale * self.now.least ≤ self.now.given.now.unit * value
-            → result ≤ value }
-    {
-        self.given.units(self.least)
+    /// Begins between the increments of the last hit of a good committee and of the next one.
+    fn begin(&self, good: CandSet) {
+        for i in 0..self.profile.rows() {
+            let (ballot, _voters) = self.profile.row(i);
+            let hits = ballot.common(good).len();
+            let next = self.given.increment(hits);
+            let last = match hits.checked_sub(1) {
+                Some(before) => self.given.increment(before),
+                None => next,
+            };
+            self.multipliers.begin(i, next / 2 + last / 2);
+        }
+    }
+}
+
+impl<A: Allocator + Copy> RowBound for PriceSearch<'_, A> {
+    ghost use Rattle.tie_search.specs.Completions.{tally_value};
+
+    ghost candidates = { λ search. search.profile.now.m };
+
+    ghost value_of = { λ search set. tally_value search.tally.now set };
+
+    ghost least = { λ search. search.least };
+
+    fn constraint(&self, node: &Node) -> Constraint {
+        let Prices { kept, worths } = self.prices(node);
+        Constraint {
+            paid: kept,
+            due: self.given.units(self.least),
+            worths,
+        }
+    }
+
+    fn gap(&self, constraint: &Constraint, best: CandSet) -> Gap {
+        let excess = constraint.excess(best);
+        Gap {
+            size: excess,
+            way: excess.saturating_add(1),
+        }
+    }
+
+    fn aim(&self, node: &Node, best: CandSet) -> u128 {
+        let mut square: u128 = 0;
+        for i in 0..self.profile.rows() {
+            let (ballot, voters) = self.profile.row(i);
+            let before = ballot.common(node.set).len();
+            let most = node.left.min(ballot.common(node.free).len());
+            let hits = ballot.common(best).len();
+            let multiplier = self.multiplier(i, before, most);
+            let wanted = self.given.wanted(before, most, multiplier, hits);
+            let lacking = i64::from(wanted).saturating_sub(i64::from(hits));
+            let size = self.multipliers.aim(i, lacking);
+            square = square.saturating_add(size.saturating_mul(u128::from(voters)));
+        }
+        square
     }
 }
 
@@ -123,7 +200,6 @@ impl<A: Allocator + Copy> Priced<A> {
     {
         let multipliers = memory?;
         let given = HitSums::of(values.rule(), k, UNITS)?;
-        multipliers.begin(profile, &given, good);
         let candidates = CandSet::all(profile.m());
         let all = Node {
             set: CandSet::empty(),
@@ -133,18 +209,20 @@ impl<A: Allocator + Copy> Priced<A> {
         };
         let search = PriceSearch {
             profile,
+            tally: values,
             given: &given,
             multipliers: &multipliers,
             least: values.value(candidates.common(good)).saturating_add(1),
         };
-        let moved = search.narrowed(&all, ROOT);
+        search.begin(good);
+        let moved = narrowed(&search, &multipliers, &all, root(given.units(search.least)));
         let whole = search.prices(&all);
         Some(Priced {
             k,
             given,
             multipliers,
             whole,
-            dearest: moved.dearest,
+            dearest: moved.best,
             show_best: moved.free.is_none(),
         })
     }
@@ -156,27 +234,5 @@ impl HitSums {
         ensures { (units : ℕ) → self.now.scale * value ≤ self.now.unit * units → result ≤ units }
     {
         value.saturating_mul(self.scale).div_ceil(self.unit)
-    }
-}
-
-impl Prices {
-    /// The `left` free candidates with the highest prices.
-    pub(crate) fn dearest(&self, free: CandSet, left: u8) -> CandSet {
-        let lowest = self.worths.nth_greatest(free, left);
-        let mut dearest = self.worths.at_least(free, lowest);
-        let dearer = self.worths.at_least(free, lowest.saturating_add(1));
-        for candidate in dearest.minus(dearer).members() {
-            if dearest.len() > left {
-                dearest = dearest.without(candidate);
-            }
-        }
-        dearest
-    }
-
-    /// A bound that no completion exceeds, if these candidates have the highest prices.
-    pub(crate) fn bound(&self, dearest: CandSet) -> u128
-        requires { (n : ℕ) → slice_index self.now.worths n ≤ most_priced }
-    {
-        self.kept.saturating_add(self.worths.excess(dearest, 0))
     }
 }

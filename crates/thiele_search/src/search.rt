@@ -22,14 +22,14 @@ ghost use Rattle.tie_search.specs.Completions.{IsNode, IsOutOfReach, tally_value
 use crate::columns::Columns;
 use crate::dominance::Dominance;
 use crate::majorant::HitSums;
-use crate::multipliers::{AGAIN, Effort, NODE};
 use crate::pairs::PairSearch;
-use crate::prices::{PriceSearch, Priced};
+use crate::prices::{AGAIN, NODE, PriceSearch, Priced};
 use crate::trials::Uses;
 use ballot_base::{CandSet, Clones, Profile, ThieleRule, Worths};
 use std::alloc::Allocator;
 use std::marker::Model;
 use tie_search::descent::{Narrowing, Plan};
+use tie_search::multipliers::{self, Effort};
 use tie_search::{Moves, Node};
 use tie_walk::{Tally, ThieleTally};
 
@@ -148,14 +148,13 @@ impl<'a, A: Allocator + Copy> Search<'a, A> {
         }
         let search = PriceSearch {
             profile: self.profile,
+            tally: self.tally,
             given: &priced.given,
             multipliers: &priced.multipliers,
             least,
         };
-        let moved = search.narrowed(node, effort);
-        let after = moved.free.map(|free| free.len());
-        self.moves
-            .note(node.left, node.free.len(), after, moved.rounds);
+        let moved = multipliers::narrowed(&search, &priced.multipliers, node, effort);
+        self.moves.note(node, &moved);
         moved.free
     }
 

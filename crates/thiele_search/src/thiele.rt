@@ -12,13 +12,13 @@ ghost use Rattle.thiele_search.specs.Steps.Aided.{IsAided};
 use crate::columns::Columns;
 use crate::dominance::Dominance;
 use crate::majorant::{HitSums, PAIR_UNITS};
-use crate::multipliers::Multipliers;
 use crate::prices::Priced;
 use crate::search::{Aids, Search};
 use crate::trials::Uses;
 use ballot_base::{CandSet, Clones, Profile, ThieleRule};
 use std::alloc::{AllocError, Allocator, Global};
 use std::marker::Model;
+use tie_search::multipliers::Multipliers;
 use tie_search::{Node, Searchable, Tied, descent};
 use tie_walk::{Tally, ThieleTally};
 
@@ -227,7 +227,7 @@ fn multipliers_for<A: Allocator + Copy + Drop>(
     if rows > MOST_ROWS {
         return Ok(None);
     }
-    Ok(Some(Multipliers::of(alloc, rows)?))
+    Ok(Some(Multipliers::of(alloc, rows, 0)?))
 }
 
 /// A committee of `k` that grows by the highest gains and is made better by exchanges.

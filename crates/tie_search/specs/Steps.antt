@@ -1,4 +1,5 @@
 pub mod Branches
+pub mod Constraints
 pub mod Descent
 pub mod Found
 pub mod Narrowed

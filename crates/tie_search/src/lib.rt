@@ -17,6 +17,7 @@ mod branch;
 pub mod descent;
 pub mod found;
 pub mod moves;
+pub mod multipliers;
 pub mod node;
 pub mod searchable;
 pub mod winners;

@@ -5,7 +5,9 @@
 //! the number of seats left, and moves where they save work. Nothing is proved of these counts.
 ghost use Rattle.std.specs.Prelude.{⊤};
 
-use ballot_base::PLACES;
+use crate::multipliers::Moved;
+use crate::node::Node;
+use ballot_base::{CandSet, PLACES};
 use std::array;
 use std::cell::Cell;
 use std::marker::Model;
@@ -101,14 +103,13 @@ impl Moves {
             }
     }
 
-    /// Notes a move at the node that was entered last, and counts its rounds as work. `before` and `after` are the
-    /// numbers of free candidates; `after` is `None` if the node ended.
-    pub fn note(&self, left: u8, before: u8, after: Option<u8>, rounds: u32) {
-        self.work(rounds);
-        let cost = self.round.saturating_mul(u64::from(rounds));
-        if let Some(place) = self.levels.get(usize::from(left)) {
+    /// Notes a move at the node that was entered last, and counts its rounds as work.
+    pub fn note(&self, node: &Node, moved: &Moved) {
+        self.work(moved.rounds);
+        let cost = self.round.saturating_mul(u64::from(moved.rounds));
+        if let Some(place) = self.levels.get(usize::from(node.left)) {
             let mut level = place.get();
-            level.success.note(achieved(before, after));
+            level.success.note(achieved(node.free, moved.free));
             level.cost.note(cost.saturating_mul(PARTS));
             place.set(level);
         }
@@ -187,12 +188,13 @@ impl Mean {
     }
 }
 
-/// What a move achieved, in parts, by the candidates that were free before and after it.
-fn achieved(before: u8, after: Option<u8>) -> u64 {
+/// What a move achieved, in parts, by the candidates that were free before and after it. `after` is `None` if the node
+/// ended.
+fn achieved(before: CandSet, after: Option<CandSet>) -> u64 {
     match after {
         Some(after) => {
-            let gone = before.saturating_sub(after);
-            MOST_OF_LEAVING * u64::from(gone) / u64::from(before.max(1))
+            let gone = before.len().saturating_sub(after.len());
+            MOST_OF_LEAVING * u64::from(gone) / u64::from(before.len().max(1))
         }
         None => PARTS,
     }

@@ -1,22 +1,11 @@
 use Rattle.std.proofs.Common.{◌+◌, ◌-◌, ◌≡◌, None, Some, ℕ, List, refl, arith, length}
 use Rattle.ballot_base.specs.Ballots.{Election}
-use Rattle.ballot_base.proofs.Committees.{length-increasing}
 use Rattle.tie_walk.specs.Values.{closeness}
 use Rattle.tie_search.specs.Steps.Narrowed.{IsNarrowed}
 use Rattle.tie_search.proofs.NarrowedLemmas.{narrowed-more, narrowed-out}
 use Rattle.near_search.specs.Steps.Near.{AreBranches, AreEligible}
 use Rattle.near_search.proofs.WeightedNeeds.{needs-narrow, weighted-fewer}
 use Rattle.near_search.proofs.near.NearSearchNarrowing.plan.Goals as goal
-
-pub moved_if_due-requires-clause-few : goal.moved_if_due-requires-clause-few
-moved_if_due-requires-clause-few g c =
-    let e = c.args.self.now.profile.now in
-    omega (arith, c.in_ok-choices.ensures.enough, length-increasing 1 e.m c.args.node.now.free c.requires.is_node.free_within, c.args.self.now.size)
-
-pub weighted_needs-needs-requires-clause-few : goal.weighted_needs-needs-requires-clause-few
-weighted_needs-needs-requires-clause-few g c =
-    let e = c.args.self.now.profile.now in
-    omega (arith, c.in_ok-choices.ensures.enough, length-increasing 1 e.m c.args.node.now.free c.requires.is_node.free_within, c.args.self.now.size)
 
 -- who can still join by the needs of each ballot, and by weights that are moved
 both : (e : Election) (most least : ℕ) (set free choices eligible kept : List ℕ) (left : ℕ) → e.m - most ≡ least → AreBranches e most set free left choices eligible
@@ -30,12 +19,12 @@ returns-in_err-members_for-clause-plan g c =
     let node = c.args.node.now in
     let most : ℕ = c.m-m.result - c.args.least in
     let is : e.m - most ≡ c.args.least = omega (arith, c.m-m.ensures.value, c.from.ensures, c.if-least-from.false) in
-    let needs = c.weighted_needs-needs.result in
+    let needs = c.needs-needs.result in
     let free = c.in_ok-free.free in
     let narrowed = both e most c.args.least node.set node.free c.in_ok-choices.choices c.in_ok-choices.eligible free node.left is c.in_ok-choices.ensures c.in_ok-free.ensures in
     rw c.from_residual-in_err-members_for.ensures
     (narrowed-out (closeness e.m e.rows) e.m node.set node.free free node.left c.args.least narrowed
-    (needs-narrow e most c.args.least node.set free node.left needs.total needs.supports c.args.self.now.size c.args.self.now.ballots is narrowed.is_node c.weighted_needs-needs.ensures None
+    (needs-narrow e most c.args.least node.set free node.left needs.due needs.worths c.args.self.now.size c.args.self.now.ballots is narrowed.is_node c.needs-needs.ensures.weighted None
     c.in_err-members_for.ensures))
 
 pub returns-clause-plan : goal.returns-clause-plan
@@ -44,19 +33,19 @@ returns-clause-plan g c =
     let node = c.args.node.now in
     let most : ℕ = c.m-m.result - c.args.least in
     let is : e.m - most ≡ c.args.least = omega (arith, c.m-m.ensures.value, c.from.ensures, c.if-least-from.false) in
-    let needs = c.weighted_needs-needs.result in
+    let needs = c.needs-needs.result in
     let free = c.in_ok-free.free in
     let kept = c.in_ok-members_for.field-0 in
     let narrowed = both e most c.args.least node.set node.free c.in_ok-choices.choices c.in_ok-choices.eligible free node.left is c.in_ok-choices.ensures c.in_ok-free.ensures in
     let fewer : IsNarrowed (closeness e.m e.rows) e.m node.set free node.left c.args.least kept =
-    needs-narrow e most c.args.least node.set free node.left needs.total needs.supports c.args.self.now.size c.args.self.now.ballots is narrowed.is_node c.weighted_needs-needs.ensures (Some kept)
+    needs-narrow e most c.args.least node.set free node.left needs.due needs.worths c.args.self.now.size c.args.self.now.ballots is narrowed.is_node c.needs-needs.ensures.weighted (Some kept)
     c.in_ok-members_for.ensures in (
       narrowed-more (closeness e.m e.rows) e.m node.set node.free free node.left c.args.least narrowed kept fewer,
       rw is at c.in_ok-choices.ensures.choices_are,
       record {
         most = most;
         least_is = omega (arith, is);
-        weighted = weighted-fewer e (length node.set + node.left) most node.set free kept needs.total needs.supports c.weighted_needs-needs.ensures fewer.among;
+        weighted = weighted-fewer e (length node.set + node.left) most node.set free kept needs.due needs.worths c.needs-needs.ensures.weighted fewer.among;
       },
       refl,
     )

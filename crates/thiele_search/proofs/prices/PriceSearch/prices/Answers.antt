@@ -28,8 +28,8 @@ fits g c =
       hits-both e.m c.row-ballot.result.0 c.args.node.now.set c.args.node.now.free (row-up e c.rows-i-end.ensures.valid c.loop-i.i c.row-ballot.result c.row-ballot.ensures) c.rows-i-end.ensures.valid.most c.requires.is_node,
     )
 
-pub within-multiplier-requires : goal.within-multiplier-requires
-within-multiplier-requires g c = record { fits = fits g (goal.at.within-multiplier-requires g c).After-min-most }
+pub multiplier-multiplier-requires : goal.multiplier-multiplier-requires
+multiplier-multiplier-requires g c = record { fits = fits g (goal.at.multiplier-multiplier-requires g c).After-min-most }
 
 pub kept-requires-clause-fits : goal.kept-requires-clause-fits
 kept-requires-clause-fits g c = fits g (goal.at.kept-requires-clause-fits g c).After-min-most
@@ -55,7 +55,7 @@ loop-i-preserved g c =
     let inv = c.loop-i.invariant in
     let valid = c.rows-i-end.ensures.valid in
     let approved = c.common-approved.result in
-    let multiplier = c.within-multiplier.result in
+    let multiplier = c.multiplier-multiplier.result in
     let kept = c.kept.result in
     let after = (goal.at.loop-i-preserved g c).After-min-most in
     let most : c.min-most.result ≡ min c.args.node.now.left (hits row.0 free) = c.min-most.ensures ∙ ap (min c.args.node.now.left) (open-is g after) in
@@ -68,7 +68,7 @@ loop-i-preserved g c =
     ∙ ap (λ x. get_or c.loop-i.worths n 0 + cond (has_member approved n) x 0) price
     ∙ ap (λ b. get_or c.loop-i.worths n 0 + cond b (row.1 * multiplier) 0) (ap (λ l. has_member l n) c.common-approved.ensures ∙ free-common row.0 free n in_) in
     let small_kept : row.1 * kept ≤ row.1 * 2 ^ 46 = mul-le-mul_left row.1 c.kept.ensures.small in
-    let small_worth : row.1 * multiplier ≤ row.1 * 2 ^ 46 = mul-le-mul_left row.1 c.within-multiplier.ensures in
+    let small_worth : row.1 * multiplier ≤ row.1 * 2 ^ 46 = mul-le-mul_left row.1 c.multiplier-multiplier.ensures in
     let voters = voters-more e valid i row at in
     record {
       totals = λ weights are. subst (λ n. AreTotals weights given.scale given.unit e.m (take (i + 1) e.rows) set free c.args.node.now.left (c.loop-i.kept + n) c.add.new.self []) (sym keeps)

@@ -1,10 +1,13 @@
-use Rattle.ballot_base.specs.Increments.{increments}
-use Rattle.thiele_search.specs.Steps.Priced.{ArePrices}
+use Rattle.std.proofs.Common.{subst}
+use Rattle.ballot_base.specs.Ballots.{Election}
+use Rattle.tie_walk.specs.Values.{Thiele}
+use Rattle.tie_search.specs.Completions.{tally_value}
+use Rattle.tie_search.specs.Steps.Narrowed.{Narrows}
 use Rattle.thiele_search.proofs.search.Search.moved.Goals as goal
 
 pub returns-clause-narrowed : goal.returns-clause-narrowed
 returns-clause-narrowed g c =
-    let tally = c.args.self.now in
-    let aids = rw c.self.view_is at c.self.invariant.1 in
-    let are : ArePrices tally c.in-Some.priced = rw c.in-Some.is at aids.priced in
-    rw (c.self.invariant.0, c.self.view_is) at (c.narrowed-moved.ensures (increments tally.rule tally.k) are.sums)
+    let node = c.args.node.now in
+    let free = c.narrowed-moved.result.free in
+    subst (λ (tally : Thiele). Narrows (tally_value tally) tally.election.m node c.args.least free) c.self.view_is
+    (subst (λ (e : Election). Narrows (tally_value c.self.inside.tally.now) e.m node c.args.least free) c.self.invariant.0 c.narrowed-moved.ensures)

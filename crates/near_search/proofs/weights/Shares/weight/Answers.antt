@@ -1,6 +1,6 @@
 use Rattle.std.proofs.Common.{ℕ, ◌*◌, ◌^◌, ◌≤◌, arith, get_or}
 use Rattle.std.proofs.Math.Nat.{mul-le-mul}
-use Rattle.near_search.proofs.near.Shares.weight.Goals as goal
+use Rattle.near_search.proofs.weights.Shares.weight.Goals as goal
 
 -- no weight is too large
 weight-most : (n s : ℕ) → n ≤ 255 → s ≤ 1024 → n * (n * s) * (n * s) * (n * s) ≤ 2 ^ 62

@@ -8,8 +8,8 @@ use Rattle.tie_walk.proofs.Distances.{ballot-found}
 use Rattle.tie_search.proofs.HitLemmas.{free-common}
 use Rattle.tie_search.proofs.SearchLemmas.{part-most}
 use Rattle.near_search.proofs.WeightedNeeds.{turns-few, weighted-more}
-use Rattle.near_search.proofs.near.NearSearch.weighted_needs.Goals as goal
-use Rattle.near_search.proofs.near.NearSearch.weighted_needs.Goals.{then-needed-gt0, else-needed-gt0}
+use Rattle.near_search.proofs.weights.NeedSearch.needs.Goals as goal
+use Rattle.near_search.proofs.weights.NeedSearch.needs.Goals.{then-needed-gt0, else-needed-gt0}
 
 pub still_needed-needed-requires : goal.still_needed-needed-requires
 still_needed-needed-requires g c =
@@ -18,7 +18,6 @@ still_needed-needed-requires g c =
     record {
       ballot = IsIncreasing-higher 1 e.m most_candidates c.row-ballot.result.0 search.size (ballot-found e.m e.rows c.loop-i.i c.row-ballot.result search.ballots c.row-ballot.ensures);
       set = IsIncreasing-higher 1 e.m most_candidates c.args.node.now.set search.size c.requires.set;
-      few = c.requires.few;
     }
 
 -- what a ballot adds to the whole
@@ -27,8 +26,8 @@ product-most weight needed small few =
     let most : weight * needed ≤ 2 ^ 62 * 255 = mul-le-mul small few in
     omega (arith, most)
 
-pub overflow_add-total : goal.overflow_add-total
-overflow_add-total g c =
+pub overflow_add-due : goal.overflow_add-due
+overflow_add-due g c =
     let inv = c.loop-i.invariant in
     let turn = turns-few c.args.self.now.profile.now c.loop-i.i c.row-ballot.result c.rows-i-end.ensures.valid c.row-ballot.ensures in
     let needed : c.from.result ≤ 255 = omega (arith, c.from.ensures) in
@@ -46,7 +45,7 @@ loop-i-preserved g c =
     let search = c.args.self.now in
     let e = search.profile.now in
     let k = length c.args.node.now.set + c.args.node.now.left in
-    let most = c.args.most in
+    let most = search.most in
     let set = c.args.node.now.set in
     let free = c.args.node.now.free in
     let row : Row = c.row-ballot.result in
@@ -57,18 +56,18 @@ loop-i-preserved g c =
           let slight : w.from-weight.result ≤ 2 ^ 62 = omega (arith, w.from-weight.ensures, w.weight.ensures) in
           let added = product-most w.from-weight.result w.from.result slight few in
           record {
-            weighted = rw (w.total-is, w.supports-is)
-                (weighted-more e k most set free c.loop-i.total (c.loop-i.total + w.from-weight.result * w.from.result) w.from-weight.result w.from.result c.loop-i.supports w.add.new.self c.loop-i.i row
+            weighted = rw (w.due-is, w.worths-is)
+                (weighted-more e k most set free c.loop-i.due (c.loop-i.due + w.from-weight.result * w.from.result) w.from-weight.result w.from.result c.loop-i.worths w.add.new.self c.loop-i.i row
                 search.ballots c.row-ballot.ensures (omega (arith, w.from.ensures, c.still_needed-needed.ensures)) inv.weighted (omega arith)
                 (λ n is. w.add.ensures n
-                ∙ ap (λ l. slice_index c.loop-i.supports n + cond (has_member l n) w.from-weight.result 0) w.common-approved.ensures
-                ∙ ap (λ b. slice_index c.loop-i.supports n + cond b w.from-weight.result 0) (free-common row.0 free n is)));
-            small_total = omega (arith, w.total-is, added, inv.small_total);
-            small = λ n. rw w.supports-is (omega (arith, slight, inv.small n, w.add.ensures n, part-most (has_member w.common-approved.result n) w.from-weight.result));
+                ∙ ap (λ l. slice_index c.loop-i.worths n + cond (has_member l n) w.from-weight.result 0) w.common-approved.ensures
+                ∙ ap (λ b. slice_index c.loop-i.worths n + cond b w.from-weight.result 0) (free-common row.0 free n is)));
+            small_total = omega (arith, w.due-is, added, inv.small_total);
+            small = λ n. rw w.worths-is (omega (arith, slight, inv.small n, w.add.ensures n, part-most (has_member w.common-approved.result n) w.from-weight.result));
           }
       | else-needed-gt0 w ↦ record {
-        weighted = rw (w.total-is, w.supports-is) inv.weighted;
-        small_total = omega (arith, w.total-is, inv.small_total);
-        small = λ n. rw w.supports-is (omega (arith, inv.small n));
+        weighted = rw (w.due-is, w.worths-is) inv.weighted;
+        small_total = omega (arith, w.due-is, inv.small_total);
+        small = λ n. rw w.worths-is (omega (arith, inv.small n));
       }
     ]

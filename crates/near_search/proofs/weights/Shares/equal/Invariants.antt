@@ -1,7 +1,7 @@
 use Rattle.std.proofs.Common.{◌≡◌, ◌+◌, ℕ, ◌≤◌, length, slice_index}
 use Rattle.ballot_base.specs.Limits.{most_candidates}
 use Rattle.near_search.specs.Steps.Near.{share_parts}
-use Rattle.near_search.proofs.near.Shares.equal.Given as goal
+use Rattle.near_search.proofs.weights.Shares.equal.Given as goal
 
 abbrev pub invariant-loop-n : goal.invariant-loop-n
 invariant-loop-n l = record {

@@ -1,7 +1,7 @@
 use Rattle.ballot_base.specs.Limits.{most_candidates}
 use Rattle.ballot_base.proofs.Increasing.{IsIncreasing-higher}
 use Rattle.tie_walk.proofs.Distances.{ballot-found}
-use Rattle.near_search.proofs.near.NearSearch.step_towards.Goals as goal
+use Rattle.near_search.proofs.weights.NeedSearchRowBound.aim.Goals as goal
 
 pub still_needed-needed-requires-clause-ballot : goal.still_needed-needed-requires-clause-ballot
 still_needed-needed-requires-clause-ballot g c =
@@ -11,4 +11,4 @@ still_needed-needed-requires-clause-ballot g c =
 
 pub still_needed-needed-requires-clause-set : goal.still_needed-needed-requires-clause-set
 still_needed-needed-requires-clause-set g c =
-    IsIncreasing-higher 1 c.args.self.now.profile.now.m most_candidates c.args.node.now.set c.args.self.now.size c.requires.set
+    IsIncreasing-higher 1 c.args.self.now.profile.now.m most_candidates c.args.node.now.set c.args.self.now.size c.requires.is_node.set_within

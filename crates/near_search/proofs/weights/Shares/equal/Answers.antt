@@ -2,7 +2,7 @@ use Rattle.std.proofs.Common.{ℕ, ◌≤◌, ◌/◌, ◌<◌, List, refl, ap, 
 use Rattle.std.proofs.Math.Nat.{div-le_self}
 use Rattle.std.proofs.lemmas.Bool.{cases_eq}
 use Rattle.ballot_base.proofs.Sums.{replicate-most}
-use Rattle.near_search.proofs.near.Shares.equal.Goals as goal
+use Rattle.near_search.proofs.weights.Shares.equal.Goals as goal
 
 one-more : (shares : List ℕ) (j n most : ℕ) → j < length shares → ((i : ℕ) → get_or shares i 0 ≤ most) → n ≤ most → (i : ℕ) → get_or (set shares j n) i 0 ≤ most
 one-more shares j n most inside few low i = elim (cases_eq i j) [
