@@ -40,10 +40,6 @@ impl<'a, A: Allocator + Copy> Model for MinimaxSearch<'a, A> {
         × AreClones t.profile.now.m t.profile.now.rows t.clones };
 }
 
-/// The maximum number of rows with weights that are moved. With more different ballots they are left as they are at
-/// first. Any number is right.
-const MOST_ROWS: usize = 8192;
-
 /// The work of a round that moves weights, in visits to a set. A round goes over all rows twice, and a visit often ends
 /// at one of the first. With 1, 20 random candidates and 10 seats took 37 % more instructions. Any number is right.
 const ROUND: u64 = 2;
@@ -59,21 +55,10 @@ impl<'a, A: Allocator + Copy + Drop> MinimaxSearch<'a, A> {
             m: profile.m(),
             clones: Clones::of(profile),
             shares: Shares::equal(),
-            weights: weights_for(alloc, profile)?,
+            weights: Multipliers::of(alloc, profile.rows(), FIRST_WEIGHT)?,
             moves: Moves::new(ROUND),
         })
     }
-}
-
-fn weights_for<A: Allocator + Copy + Drop>(
-    alloc: A,
-    profile: &Profile<A>,
-) -> Result<Option<Multipliers<A>>, AllocError> {
-    let rows = profile.rows();
-    if rows > MOST_ROWS {
-        return Ok(None);
-    }
-    Ok(Some(Multipliers::of(alloc, rows, FIRST_WEIGHT)?))
 }
 
 impl<'a, A: Allocator + Copy> Tally for MinimaxSearch<'a, A> {
@@ -112,14 +97,14 @@ impl<'a, A: Allocator + Copy> Searchable for MinimaxSearch<'a, A> {
     }
 
     fn find(&self, node: &Node, least: u128) -> Option<CandSet> {
-        let mut search = NearSearch {
+        let search = NearSearch {
             profile: self.profile,
             clones: &self.clones,
             shares: &self.shares,
             weights: self.weights.as_ref(),
             moves: &self.moves,
         };
-        descent::find(&mut search, *node, least)
+        descent::find(&search, *node, least)
     }
 
     // Thousands of committees tie under this rule. Listing them took up to four times the instructions until the first

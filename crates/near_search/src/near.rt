@@ -67,7 +67,7 @@ impl<A: Allocator + Copy> Narrowing for NearSearch<'_, A> {
         MinimaxTally::new(self.profile).value(node.set)
     }
 
-    fn plan(&mut self, node: &Node, least: u128) -> Option<Plan> {
+    fn plan(&self, node: &Node, least: u128) -> Option<Plan> {
         let m = self.profile.m();
         if least > u128::from(m) {
             return None;
@@ -95,7 +95,7 @@ impl<A: Allocator + Copy> Narrowing for NearSearch<'_, A> {
         })
     }
 
-    fn narrowed(&mut self, plan: &Plan, node: &Node, least: u128) -> Option<CandSet> {
+    fn narrowed(&self, plan: &Plan, node: &Node, least: u128) -> Option<CandSet> {
         if least > u128::from(self.profile.m()) {
             return None;
         }

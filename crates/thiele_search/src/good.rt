@@ -14,8 +14,11 @@ use tie_walk::Tally;
 const MOST_PASSES: u8 = 64;
 
 impl<A: Allocator + Copy> Search<'_, A> {
-    /// A committee of `k` that grows by one candidate with the highest gain after another.
-    pub(crate) fn greedy(&self, k: u8) -> CandSet {
+    /// A committee of `k` that grows by one candidate with the highest gain after another, and is made better by
+    /// exchanges.
+    pub(crate) fn grown(&self, k: u8) -> CandSet
+        ensures { IsIncreasing 1 self.now.election.m result }
+    {
         let all = CandSet::all(self.tally.m());
         let mut committee = CandSet::empty();
         for _joined in 0..k {
@@ -26,7 +29,7 @@ impl<A: Allocator + Copy> Search<'_, A> {
             };
             committee = committee.with(next);
         }
-        committee
+        self.exchanged(committee)
     }
 
     /// Exchanges members of a committee until no exchange makes it better.

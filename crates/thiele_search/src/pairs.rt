@@ -88,18 +88,12 @@ impl<A: Allocator + Copy> PairSearch<'_, A> {
             raise,
         };
         let due = self
-            .units()
+            .given
+            .units(self.least)
             .saturating_mul(factor)
             .saturating_add(u128::from(left) * u128::from(left) * raise);
         rows.sums()
             .members_for(free, left, due.saturating_sub(factor * totals.kept))
-    }
-
-    fn units(&self) -> u128
-        ensures { (value : ℕ) → self.now.given.now.scale * self.now.least ≤ self.now.given.now.unit * value
-            → result ≤ value }
-    {
-        self.given.units(self.least)
     }
 
     fn add_ballots(&self, totals: &mut Totals, node: &Node)

@@ -24,7 +24,7 @@ use crate::dominance::Dominance;
 use crate::majorant::HitSums;
 use crate::pairs::PairSearch;
 use crate::prices::{AGAIN, NODE, PriceSearch, Priced};
-use crate::trials::Uses;
+use crate::trials::{FEW_SEATS, Uses};
 use ballot_base::{CandSet, Clones, Profile, ThieleRule, Worths};
 use std::alloc::Allocator;
 use std::marker::Model;
@@ -118,10 +118,9 @@ impl<'a, A: Allocator + Copy> Search<'a, A> {
 
     /// The free candidates of a node that can still join. Returns `None` only if no completion of its set reaches the
     /// value.
-    fn eligible(&mut self, node: &Node, least: u128, effort: Effort) -> Option<CandSet>
-        requires is_node { IsNode self.old.election.m node.now.set node.now.free }
-        ensures same { self.new ≡ self.old }
-        ensures narrowed { Narrows (tally_value self.old) self.old.election.m node.now least result }
+    fn eligible(&self, node: &Node, least: u128, effort: Effort) -> Option<CandSet>
+        requires is_node { IsNode self.now.election.m node.now.set node.now.free }
+        ensures { Narrows (tally_value self.now) self.now.election.m node.now least result }
     {
         if !self.covers(node, least) {
             return None;
@@ -135,10 +134,9 @@ impl<'a, A: Allocator + Copy> Search<'a, A> {
     }
 
     /// Like `eligible`, but by prices whose multipliers are moved, if that is worth its work.
-    fn moved(&mut self, node: &Node, least: u128, effort: Effort) -> Option<CandSet>
-        requires is_node { IsNode self.old.election.m node.now.set node.now.free }
-        ensures same { self.new ≡ self.old }
-        ensures narrowed { Narrows (tally_value self.old) self.old.election.m node.now least result }
+    fn moved(&self, node: &Node, least: u128, effort: Effort) -> Option<CandSet>
+        requires is_node { IsNode self.now.election.m node.now.set node.now.free }
+        ensures { Narrows (tally_value self.now) self.now.election.m node.now least result }
     {
         let Some(priced) = &self.aids.priced else {
             return Some(node.free);
@@ -158,33 +156,52 @@ impl<'a, A: Allocator + Copy> Search<'a, A> {
         moved.free
     }
 
-    /// Whether the free candidates of a node cover enough voters, if this is worth asking.
+    /// Whether the free candidates of a node cover enough voters, if this is worth asking. Under rules other than `cc`,
+    /// which counts only a voter's first hit, the answer would seldom be no, and is yes.
     fn covers(&self, node: &Node, least: u128) -> bool
         requires is_node { IsNode self.now.election.m node.now.set node.now.free }
         ensures { result ≡ false
             → IsOutOfReach (tally_value self.now) self.now.election.m node.now.set node.now.free
             node.now.left least }
     {
-        let cover = &self.aids.uses.cover;
-        if !cover.are_due(node.left) {
-            return true;
+        match self.tally.rule() {
+            ThieleRule::Cc => {
+                let cover = &self.aids.uses.cover;
+                if node.left <= FEW_SEATS && !cover.are_due() {
+                    cover.pass();
+                    return true;
+                }
+                let suffices = self.most_covered(node.set.union(node.free)) >= least;
+                cover.note(!suffices);
+                suffices
+            }
+            _ => true,
         }
-        let suffices = self.may_suffice(node, least);
-        cover.note(!suffices);
-        suffices
     }
 
-    /// Like `eligible`, but by the prices of the whole election, if they are worth asking for.
+    /// Like `eligible`, but by the prices of the whole election, if they are kept and worth asking for.
     fn priced(&self, node: &Node, least: u128) -> Option<CandSet>
         requires is_node { IsNode self.now.election.m node.now.set node.now.free }
         ensures { Narrows (tally_value self.now) self.now.election.m node.now least result }
     {
-        let prices = &self.aids.uses.prices;
-        if !prices.are_due(node.left) {
+        let Some(priced) = &self.aids.priced else {
+            return Some(node.free);
+        };
+        let uses = &self.aids.uses.prices;
+        if node.left <= FEW_SEATS && !uses.are_due() {
+            uses.pass();
             return Some(node.free);
         }
-        let affordable = self.affordable(node, least);
-        prices.note(affordable.is_none());
+        if u16::from(node.set.len()) + u16::from(node.left) != u16::from(priced.k) {
+            return Some(node.free);
+        }
+        let prices = &priced.whole;
+        let paid = prices
+            .kept
+            .saturating_add(prices.worths.excess(node.set, 0));
+        let due = priced.given.units(least).saturating_sub(paid);
+        let affordable = prices.worths.members_for(node.free, node.left, due);
+        uses.note(affordable.is_none());
         affordable
     }
 
@@ -232,19 +249,6 @@ impl<'a, A: Allocator + Copy> Search<'a, A> {
         }
     }
 
-    /// Whether all free candidates together could lift the set to the value. Under rules other than `cc`, which counts
-    /// only a voter's first hit, the answer would seldom be no, and is yes.
-    pub(crate) fn may_suffice(&self, node: &Node, least: u128) -> bool
-        requires is_node { IsNode self.now.election.m node.now.set node.now.free }
-        ensures { result ≡ false
-            → IsOutOfReach (tally_value self.now) self.now.election.m node.now.set node.now.free node.now.left least }
-    {
-        match self.tally.rule() {
-            ThieleRule::Cc => self.most_covered(node.set.union(node.free)) >= least,
-            _ => true,
-        }
-    }
-
     /// An upper bound on the value of the set under `cc`: the number of voters who approve a member.
     fn most_covered(&self, set: CandSet) -> u128
         requires rule { self.now.rule ≡ ThieleRule.Cc }
@@ -255,25 +259,6 @@ impl<'a, A: Allocator + Copy> Search<'a, A> {
             Some(columns) => columns.covered(set) as u128,
             None => self.tally.value(set),
         }
-    }
-
-    /// Like `eligible`, but by the prices of the whole election, if they are kept.
-    pub(crate) fn affordable(&self, node: &Node, least: u128) -> Option<CandSet>
-        requires is_node { IsNode self.now.election.m node.now.set node.now.free }
-        ensures { Narrows (tally_value self.now) self.now.election.m node.now least result }
-    {
-        let Some(priced) = &self.aids.priced else {
-            return Some(node.free);
-        };
-        if u16::from(node.set.len()) + u16::from(node.left) != u16::from(priced.k) {
-            return Some(node.free);
-        }
-        let prices = &priced.whole;
-        let paid = prices
-            .kept
-            .saturating_add(prices.worths.excess(node.set, 0));
-        let due = priced.given.units(least).saturating_sub(paid);
-        prices.worths.members_for(node.free, node.left, due)
     }
 }
 
@@ -315,7 +300,7 @@ impl<'a, A: Allocator + Copy> Narrowing for Search<'a, A> {
         node.value
     }
 
-    fn plan(&mut self, node: &Node, least: u128) -> Option<Plan> {
+    fn plan(&self, node: &Node, least: u128) -> Option<Plan> {
         self.moves.enter(node.left);
         let free = self.eligible(node, least, NODE)?;
         let gains = self.gains_at(&Node { free, ..*node });
@@ -329,7 +314,7 @@ impl<'a, A: Allocator + Copy> Narrowing for Search<'a, A> {
         })
     }
 
-    fn narrowed(&mut self, plan: &Plan, node: &Node, least: u128) -> Option<CandSet> {
+    fn narrowed(&self, plan: &Plan, node: &Node, least: u128) -> Option<CandSet> {
         let free = self.eligible(node, least, AGAIN)?;
         self.promising(&plan.worths, &Node { free, ..*node }, least)
     }

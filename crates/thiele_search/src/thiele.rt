@@ -65,7 +65,7 @@ impl<'a, A: Allocator + Copy + Drop> SearchMemory<'a, A> {
             values: ThieleTally::new(profile, rule, k),
             k,
             columns: Columns::of(alloc, profile, rule, k)?,
-            multipliers: multipliers_for(alloc, profile)?,
+            multipliers: Multipliers::of(alloc, profile.rows(), 0)?,
         })
     }
 }
@@ -114,7 +114,7 @@ impl<'a, A: Allocator + Copy + Drop> ThieleSearch<'a, A> {
             sums: HitSums::of(values.rule(), k, PAIR_UNITS),
             uses: Uses::none(),
         };
-        let grown = grown_committee(profile, &values, &unpriced, k);
+        let grown = Search::of(profile, &values, &unpriced).grown(k);
         let aids = Aids {
             priced: Priced::of(multipliers, profile, &values, k, grown),
             ..unpriced
@@ -201,7 +201,7 @@ impl<'a, A: Allocator + Copy> Searchable for ThieleSearch<'a, A> {
     fn find(&self, node: &Node, least: u128) -> Option<CandSet> {
         // One winner after another is asked for, and most of these searches end after a few sets. With pairs, some
         // party lists took six times as long.
-        descent::find(&mut self.search(false), *node, least)
+        descent::find(&self.search(false), *node, least)
     }
 
     fn tied(&self, k: u8) -> Option<Tied> {
@@ -209,40 +209,10 @@ impl<'a, A: Allocator + Copy> Searchable for ThieleSearch<'a, A> {
             return None;
         }
         // All winners took two to three times as long when each was searched for.
-        let mut search = self.search(true);
+        let search = self.search(true);
         let all = search.node(CandSet::empty(), CandSet::all(self.m()), k);
-        Some(descent::list_tied(&mut search, all, self.good_value(k)))
+        Some(descent::list_tied(&search, all, self.good_value(k)))
     }
-}
-
-/// The maximum number of rows with multipliers. With more different ballots there are no prices, and a search uses only
-/// gains and pairs. (With 10,000 of them, prices brought nothing within a minute.)
-const MOST_ROWS: usize = 8192;
-
-fn multipliers_for<A: Allocator + Copy + Drop>(
-    alloc: A,
-    profile: &Profile<A>,
-) -> Result<Option<Multipliers<A>>, AllocError> {
-    let rows = profile.rows();
-    if rows > MOST_ROWS {
-        return Ok(None);
-    }
-    Ok(Some(Multipliers::of(alloc, rows, 0)?))
-}
-
-/// A committee of `k` that grows by the highest gains and is made better by exchanges.
-fn grown_committee<A: Allocator + Copy>(
-    profile: &Profile<A>,
-    values: &ThieleTally<A>,
-    aids: &Aids<A>,
-    k: u8,
-) -> CandSet
-    requires ballots { profile.now ≡ values.now.election }
-    requires aids { IsAided values.now aids.now }
-    ensures { IsIncreasing 1 values.now.election.m result }
-{
-    let search = Search::of(profile, values, aids);
-    search.exchanged(search.greedy(k))
 }
 
 /// `grown`, or a better committee, by exchanges from the candidates with the highest prices.

@@ -8,109 +8,91 @@ use std::cell::Cell;
 
 /// With more seats left than this, the quick tests are always made: whole branches depend on them. Without prices,
 /// elections among neighbours took up to 180 times as long.
-const FEW_SEATS: u8 = 5;
+pub(crate) const FEW_SEATS: u8 = 5;
 
-/// The number of times that a quick test is made before its use is judged.
-const TRIALS: u32 = 256;
-
-/// A quick test is worth making if it gives up one of this many sets. If prices were always asked, random elections took
-/// up to a fifth more instructions under `cc`, and if cover was, those of few different ballots a third more.
-const LEAST_HELP: u32 = 4;
-
-/// A quick test that is not worth making is made for one of this many sets, so that its use is judged anew.
-const SAMPLE: u32 = 16;
-
-/// The number of sets after which a search begins to count pairs.
-const SETS_BEFORE_PAIRS: u32 = 3072;
-
-/// The number of times that pairs are counted before they have to help.
-const TRIALS_OF_PAIRS: u32 = 48;
-
-/// How many more times pairs are counted for each set that they gave up. Random ballots give up one set in three, and
-/// voters who approve who is near one in fourteen.
+/// How many more times a test is made for each set that it gave up. Of random ballots, pairs give up one set in three,
+/// and of voters who approve who is near one in fourteen.
 const TRIALS_FOR_HELP: u32 = 4;
 
-/// The maximum number of times that pairs are counted without help.
+/// The maximum number of times that a test is made without help.
 const MOST_TRIALS: u32 = 256;
 
-/// If pairs do not help, they are counted for one of this many sets, so that their use is judged anew. Left out for
-/// good, elections of 64 random candidates under `geom3` and `geom4` took two to four times as long.
-const SAMPLE_OF_PAIRS: u32 = 256;
+/// How often a test is made.
+#[derive(Clone, Copy)]
+struct Limits {
+    /// The number of sets after which the test is made.
+    begin: u32,
+    /// The number of times that the test is made before it has to help.
+    trials: u32,
+    /// If the test does not help, it is made for one of this many sets, so that its use is judged anew.
+    sample: u32,
+}
+
+/// If prices were always asked, random elections took up to a fifth more instructions under `cc`, and if cover was,
+/// those of few different ballots a third more.
+const QUICK: Limits = Limits {
+    begin: 0,
+    trials: 256,
+    sample: 16,
+};
+
+/// Counting pairs costs much more than a quick test, so it is soon left out. Left out for good, elections of 64 random
+/// candidates under `geom3` and `geom4` took two to four times as long.
+const PAIRS: Limits = Limits {
+    begin: 3072,
+    trials: 48,
+    sample: 256,
+};
 
 /// What is known of the use of each test.
 #[derive(Drop)]
 pub(crate) struct Uses {
     pub(crate) cover: Trials,
     pub(crate) prices: Trials,
-    pub(crate) pairs: PairTrials,
+    pub(crate) pairs: Trials,
 }
 
 impl Uses {
     pub(crate) fn none() -> Uses {
         Uses {
-            cover: Trials::none(),
-            prices: Trials::none(),
-            pairs: PairTrials::none(),
+            cover: Trials::none(QUICK),
+            prices: Trials::none(QUICK),
+            pairs: Trials::none(PAIRS),
         }
     }
 }
 
-/// How often a quick test was asked for and made, and how often it gave up a set.
+/// How many sets were searched, and how often a test is made before it has to help again.
 #[derive(Drop)]
 pub(crate) struct Trials {
-    asked: Cell<u32>,
-    made: Cell<u32>,
-    given_up: Cell<u32>,
-}
-
-impl Trials {
-    fn none() -> Trials {
-        Trials {
-            asked: Cell::new(0),
-            made: Cell::new(0),
-            given_up: Cell::new(0),
-        }
-    }
-
-    pub(crate) fn are_due(&self, left: u8) -> bool {
-        let asked = self.asked.get();
-        self.asked.set(asked.wrapping_add(1));
-        let made = self.made.get();
-        left > FEW_SEATS
-            || made < TRIALS
-            || self.given_up.get().saturating_mul(LEAST_HELP) >= made
-            || asked % SAMPLE == 0
-    }
-
-    pub(crate) fn note(&self, given_up: bool) {
-        add_to(&self.made, 1);
-        add_to(&self.given_up, u32::from(given_up));
-    }
-}
-
-/// How many sets were searched, and how often pairs are counted before they have to help again. They cost much more
-/// than a quick test, so they are soon left out, and come back as soon as they help.
-#[derive(Drop)]
-pub(crate) struct PairTrials {
+    limits: Limits,
     sets: Cell<u32>,
     trials: Cell<u32>,
 }
 
-impl PairTrials {
-    fn none() -> PairTrials {
-        PairTrials {
+impl Trials {
+    fn none(limits: Limits) -> Trials {
+        Trials {
+            limits,
             sets: Cell::new(0),
-            trials: Cell::new(TRIALS_OF_PAIRS),
+            trials: Cell::new(limits.trials),
         }
     }
 
-    /// Notes that a set was passed without pairs.
+    /// Whether the search is long enough for the test, and the test helps often enough.
+    pub(crate) fn are_due(&self) -> bool {
+        let sets = self.sets.get();
+        sets >= self.limits.begin
+            && (self.trials.get() > 0 || sets % self.limits.sample.max(1) == 0)
+    }
+
+    /// Notes that a set was passed without the test.
     pub(crate) fn pass(&self) {
-        add_to(&self.sets, 1);
+        self.sets.set(self.sets.get().saturating_add(1));
     }
 
     pub(crate) fn note(&self, given_up: bool) {
-        add_to(&self.sets, 1);
+        self.pass();
         let trials = self.trials.get();
         self.trials.set(if given_up {
             MOST_TRIALS.min(trials.saturating_add(TRIALS_FOR_HELP))
@@ -118,14 +100,4 @@ impl PairTrials {
             trials.saturating_sub(1)
         });
     }
-
-    /// Whether the search is long enough for pairs, and they help often enough.
-    pub(crate) fn are_due(&self) -> bool {
-        let sets = self.sets.get();
-        sets >= SETS_BEFORE_PAIRS && (self.trials.get() > 0 || sets % SAMPLE_OF_PAIRS == 0)
-    }
-}
-
-fn add_to(count: &Cell<u32>, more: u32) {
-    count.set(count.get().saturating_add(more));
 }

@@ -16,6 +16,10 @@ use ballot_base::{CandSet, Worths};
 use std::alloc::{AllocError, Allocator};
 use std::cell::Cell;
 
+/// The maximum number of rows with multipliers: with more different ballots, moving them brought nothing within a
+/// minute.
+const MOST_ROWS: usize = 8192;
+
 /// The pace of a step that closes the whole gap.
 pub const WHOLE: u64 = 1024;
 
@@ -196,11 +200,15 @@ pub struct Multipliers<A: Allocator> {
 }
 
 impl<A: Allocator + Copy + Drop> Multipliers<A> {
-    /// Takes memory for this many rows: 24 bytes each. All begin with this multiplier.
-    pub fn of(alloc: A, rows: usize, first: u64) -> Result<Multipliers<A>, AllocError> {
-        Ok(Multipliers {
+    /// Takes memory for this many rows: 24 bytes each. All begin with this multiplier. Returns `None` if there are more
+    /// than `MOST_ROWS`.
+    pub fn of(alloc: A, rows: usize, first: u64) -> Result<Option<Multipliers<A>>, AllocError> {
+        if rows > MOST_ROWS {
+            return Ok(None);
+        }
+        Ok(Some(Multipliers {
             rows: vec![in alloc; Cell::new(Multiplier::at(first)); rows]?,
-        })
+        }))
     }
 }
 

@@ -6,8 +6,8 @@ use Rattle.near_search.specs.Steps.Near.{AreWeighted}
 use Rattle.near_search.proofs.WeightedNeeds.{weighted-fewer, weighted-paid}
 use Rattle.near_search.proofs.near.NearSearchNarrowing.narrowed.Goals as goal
 
-pub returns-clause-narrowed : goal.returns-clause-narrowed
-returns-clause-narrowed g c =
+pub returns : goal.returns
+returns g c =
     let e = c.args.self.now.profile.now in
     let node = c.args.node.now in
     let plan = c.args.plan.now in

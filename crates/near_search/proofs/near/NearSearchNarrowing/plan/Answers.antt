@@ -13,8 +13,8 @@ both : (e : Election) (most least : ℕ) (set free choices eligible kept : List 
 both e most least set free choices eligible kept left is branches more =
     rw is at (narrowed-more (closeness e.m e.rows) e.m set free eligible left (e.m - most) branches.narrowed kept more)
 
-pub returns-in_err-members_for-clause-plan : goal.returns-in_err-members_for-clause-plan
-returns-in_err-members_for-clause-plan g c =
+pub returns-in_err-members_for : goal.returns-in_err-members_for
+returns-in_err-members_for g c =
     let e = c.args.self.now.profile.now in
     let node = c.args.node.now in
     let most : ℕ = c.m-m.result - c.args.least in
@@ -27,8 +27,8 @@ returns-in_err-members_for-clause-plan g c =
     (needs-narrow e most c.args.least node.set free node.left needs.due needs.worths c.args.self.now.size c.args.self.now.ballots is narrowed.is_node c.needs-needs.ensures.weighted None
     c.in_err-members_for.ensures))
 
-pub returns-clause-plan : goal.returns-clause-plan
-returns-clause-plan g c =
+pub returns : goal.returns
+returns g c =
     let e = c.args.self.now.profile.now in
     let node = c.args.node.now in
     let most : ℕ = c.m-m.result - c.args.least in

@@ -12,11 +12,11 @@ further : (value : List ℕ → ℕ) (m : ℕ) (set free : List ℕ) (left least
 further value m set free left least rest narrowed None out = narrowed-out value m set free rest left least narrowed out
 further value m set free left least rest narrowed (Some fewer) more = narrowed-more value m set free rest left least narrowed fewer more
 
-pub returns-clause-narrowed : goal.returns-clause-narrowed
-returns-clause-narrowed g c =
+pub returns : goal.returns
+returns g c =
     let tally = c.args.self.now in
     let node = c.args.node.now in
     let V = tally_value tally in
     let m = tally.election.m in
     further V m node.set node.free node.left c.args.least c.in_ok-free.free c.in_ok-free.ensures c.moved.result
-    (further V m node.set c.in_ok-free.free node.left c.args.least c.in_ok-free-2.free c.in_ok-free-2.ensures c.moved.result c.moved.ensures.narrowed)
+    (further V m node.set c.in_ok-free.free node.left c.args.least c.in_ok-free-2.free c.in_ok-free-2.ensures c.moved.result c.moved.ensures)

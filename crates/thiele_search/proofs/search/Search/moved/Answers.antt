@@ -5,8 +5,8 @@ use Rattle.tie_search.specs.Completions.{tally_value}
 use Rattle.tie_search.specs.Steps.Narrowed.{Narrows}
 use Rattle.thiele_search.proofs.search.Search.moved.Goals as goal
 
-pub returns-clause-narrowed : goal.returns-clause-narrowed
-returns-clause-narrowed g c =
+pub returns : goal.returns
+returns g c =
     let node = c.args.node.now in
     let free = c.narrowed-moved.result.free in
     subst (λ (tally : Thiele). Narrows (tally_value tally) tally.election.m node c.args.least free) c.self.view_is

@@ -1,8 +1,8 @@
 use Rattle.std.proofs.Common.{◌≤◌, arith}
 use Rattle.ballot_base.proofs.Increasing.{IsIncreasing-with_member}
 use Rattle.thiele_search.proofs.BesideLemmas.{beside-candidates}
-use Rattle.thiele_search.proofs.search.Search.greedy.Goals as goal
-use Rattle.thiele_search.proofs.search.Search.greedy.Goals.{In-Some}
+use Rattle.thiele_search.proofs.search.Search.grown.Goals as goal
+use Rattle.thiele_search.proofs.search.Search.grown.Goals.{In-Some}
 
 next-among : (g : _) (c : In-Some g) → (1 ≤ c.in-Some.next) × (c.in-Some.next ≤ c.args.self.now.election.m)
 next-among g c =

@@ -6,7 +6,7 @@ use Rattle.tie_search.proofs.NarrowedLemmas.{narrowed-members}
 use Rattle.thiele_search.specs.Steps.Priced.{ArePrices}
 use Rattle.thiele_search.proofs.PairBounds.PairLemmas.{sum-less}
 use Rattle.thiele_search.proofs.PriceBounds.{all-completed, all-members}
-use Rattle.thiele_search.proofs.search.Search.affordable.Goals as goal
+use Rattle.thiele_search.proofs.search.Search.priced.Goals as goal
 
 pub returns : goal.returns
 returns g c =
@@ -31,4 +31,4 @@ returns g c =
       sum-less worth (λ n. get_or priced.whole.worths n 0 - 0) node.set (λ n here. omega arith),
       c.excess.ensures.sum,
     ))
-    c.members_for.result c.members_for.ensures
+    c.members_for-affordable.result c.members_for-affordable.ensures
