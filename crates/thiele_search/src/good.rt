@@ -5,7 +5,7 @@ ghost use Rattle.std.specs.Prelude.{◌≤◌};
 ghost use Rattle.ballot_base.specs.Limits.{most_candidates};
 ghost use Rattle.ballot_base.specs.Lists.{IsIncreasing};
 
-use crate::search::Search;
+use crate::thiele::ThieleSearch;
 use ballot_base::CandSet;
 use std::alloc::Allocator;
 use tie_walk::Tally;
@@ -13,13 +13,13 @@ use tie_walk::Tally;
 /// The maximum number of passes over the members of a committee. Any limit is right, and few passes are needed.
 const MOST_PASSES: u8 = 64;
 
-impl<A: Allocator + Copy> Search<'_, A> {
+impl<A: Allocator + Copy> ThieleSearch<'_, A> {
     /// A committee of `k` that grows by one candidate with the highest gain after another, and is made better by
     /// exchanges.
     pub(crate) fn grown(&self, k: u8) -> CandSet
         ensures { IsIncreasing 1 self.now.election.m result }
     {
-        let all = CandSet::all(self.tally.m());
+        let all = CandSet::all(self.values.m());
         let mut committee = CandSet::empty();
         for _joined in 0..k {
             let others = all.minus(committee);
@@ -36,7 +36,7 @@ impl<A: Allocator + Copy> Search<'_, A> {
     pub(crate) fn exchanged(&self, committee: CandSet) -> CandSet
         ensures { IsIncreasing 1 self.now.election.m result }
     {
-        let mut best = CandSet::all(self.tally.m()).common(committee);
+        let mut best = CandSet::all(self.values.m()).common(committee);
         for _pass in 0..MOST_PASSES {
             let better = self.exchanged_once(best);
             if better == best {
@@ -64,7 +64,7 @@ impl<A: Allocator + Copy> Search<'_, A> {
         requires member { member ≤ most_candidates }
         ensures { IsIncreasing 1 self.now.election.m result }
     {
-        let all = CandSet::all(self.tally.m());
+        let all = CandSet::all(self.values.m());
         let rest = committee.without(member);
         let others = all.minus(rest);
         let gains = self.gains_at(&self.node(rest, others, 1));

@@ -24,14 +24,14 @@ use crate::dominance::Dominance;
 use crate::majorant::HitSums;
 use crate::pairs::PairSearch;
 use crate::prices::{AGAIN, NODE, PriceSearch, Priced};
+use crate::thiele::ThieleSearch;
 use crate::trials::{FEW_SEATS, Uses};
 use ballot_base::{CandSet, Clones, Profile, ThieleRule, Worths};
 use std::alloc::Allocator;
-use std::marker::Model;
+use tie_search::Node;
 use tie_search::descent::{Narrowing, Plan};
 use tie_search::multipliers::{self, Effort};
-use tie_search::{Moves, Node};
-use tie_walk::{Tally, ThieleTally};
+use tie_walk::Tally;
 
 /// The aids of a search: clones; dominance, if each hit adds something; columns and prices, if they are worth making;
 /// what hits give, for majorants; and which tests helped so far.
@@ -45,50 +45,7 @@ pub(crate) struct Aids<A: Allocator> {
     pub(crate) uses: Uses,
 }
 
-/// A search for committees under a Thiele rule. Contracts see the election, the rule and `k`.
-#[derive(Drop)]
-pub(crate) struct Search<'a, A: Allocator + Copy> {
-    pub(crate) profile: &'a Profile<A>,
-    pub(crate) tally: &'a ThieleTally<'a, A>,
-    pub(crate) aids: &'a Aids<A>,
-    // Whether pairs are counted. A search of few sets ends sooner without them.
-    pub(crate) counts_pairs: bool,
-    // Where it pays to move multipliers.
-    pub(crate) moves: Moves,
-}
-
-impl<'a, A: Allocator + Copy> Model for Search<'a, A> {
-    ghost use Rattle.std.specs.Prelude.{◌≡◌};
-    ghost use Rattle.tie_walk.specs.Values.{Thiele};
-    ghost use Rattle.thiele_search.specs.Steps.Aided.{IsAided};
-
-    ghost Value = { Thiele };
-
-    ghost view = { λ t. t.tally.now };
-
-    ghost invariant = { λ t. (t.profile.now ≡ t.tally.now.election) × IsAided t.tally.now t.aids.now };
-}
-
-impl<'a, A: Allocator + Copy> Search<'a, A> {
-    /// A search that counts no pairs.
-    pub(crate) fn of(
-        profile: &'a Profile<A>,
-        tally: &'a ThieleTally<'a, A>,
-        aids: &'a Aids<A>,
-    ) -> Search<'a, A>
-        requires ballots { profile.now ≡ tally.now.election }
-        requires aids { IsAided tally.now aids.now }
-        ensures { result ≡ tally.now }
-    {
-        Search {
-            profile,
-            tally,
-            aids,
-            counts_pairs: false,
-            moves: Moves::new(round_of(profile.rows())),
-        }
-    }
-
+impl<'a, A: Allocator + Copy> ThieleSearch<'a, A> {
     pub(crate) fn node(&self, set: CandSet, free: CandSet, left: u8) -> Node
         requires candidates { IsIncreasing 1 self.now.election.m set }
         ensures set { result.set ≡ set }
@@ -98,7 +55,7 @@ impl<'a, A: Allocator + Copy> Search<'a, A> {
     {
         Node {
             set,
-            value: self.tally.value(set),
+            value: self.values.value(set),
             free,
             left,
         }
@@ -141,12 +98,12 @@ impl<'a, A: Allocator + Copy> Search<'a, A> {
         let Some(priced) = &self.aids.priced else {
             return Some(node.free);
         };
-        if !may_move(self.tally.rule()) || !self.moves.are_due(node.left) {
+        if !may_move(self.values.rule()) || !self.moves.are_due(node.left) {
             return Some(node.free);
         }
         let search = PriceSearch {
             profile: self.profile,
-            tally: self.tally,
+            tally: &self.values,
             given: &priced.given,
             multipliers: &priced.multipliers,
             least,
@@ -164,7 +121,7 @@ impl<'a, A: Allocator + Copy> Search<'a, A> {
             → IsOutOfReach (tally_value self.now) self.now.election.m node.now.set node.now.free
             node.now.left least }
     {
-        match self.tally.rule() {
+        match self.values.rule() {
             ThieleRule::Cc => {
                 let cover = &self.aids.uses.cover;
                 if node.left <= FEW_SEATS && !cover.are_due() {
@@ -209,8 +166,8 @@ impl<'a, A: Allocator + Copy> Search<'a, A> {
     fn sees_pairs(&self, left: u8) -> bool
         ensures { IsTrue result → 2 ≤ left }
     {
-        self.counts_pairs
-            && left >= fewest_seats(self.tally.rule())
+        self.counts_pairs.get()
+            && left >= fewest_seats(self.values.rule())
             && self.aids.uses.pairs.are_due()
     }
 
@@ -245,7 +202,7 @@ impl<'a, A: Allocator + Copy> Search<'a, A> {
     {
         match &self.aids.columns {
             Some(columns) => columns.gains_of(node),
-            None => self.tally.gains(node.set, node.free),
+            None => self.values.gains(node.set, node.free),
         }
     }
 
@@ -257,12 +214,12 @@ impl<'a, A: Allocator + Copy> Search<'a, A> {
     {
         match &self.aids.columns {
             Some(columns) => columns.covered(set) as u128,
-            None => self.tally.value(set),
+            None => self.values.value(set),
         }
     }
 }
 
-impl<'a, A: Allocator + Copy> Narrowing for Search<'a, A> {
+impl<'a, A: Allocator + Copy> Narrowing for ThieleSearch<'a, A> {
     ghost use Rattle.std.specs.Prelude.{◌≡◌, ℕ, true, slice_index};
     ghost use Rattle.ballot_base.specs.CandSet.{has_member};
     ghost use Rattle.ballot_base.specs.Clones.{clones_among};
@@ -335,7 +292,7 @@ impl<'a, A: Allocator + Copy> Narrowing for Search<'a, A> {
 }
 
 /// The work of a round over this many rows. A visit passes over blocks of voters, and takes less.
-fn round_of(rows: usize) -> u64 {
+pub(crate) fn round_of(rows: usize) -> u64 {
     rows.div_ceil(32) as u64
 }
 

@@ -13,13 +13,14 @@ use crate::columns::Columns;
 use crate::dominance::Dominance;
 use crate::majorant::{HitSums, PAIR_UNITS};
 use crate::prices::Priced;
-use crate::search::{Aids, Search};
+use crate::search::{Aids, round_of};
 use crate::trials::Uses;
 use ballot_base::{CandSet, Clones, Profile, ThieleRule};
 use std::alloc::{AllocError, Allocator, Global};
+use std::cell::Cell;
 use std::marker::Model;
 use tie_search::multipliers::Multipliers;
-use tie_search::{Node, Searchable, Tied, descent};
+use tie_search::{Moves, Node, Searchable, Tied, descent};
 use tie_walk::{Tally, ThieleTally};
 
 /// All memory for a search among the committees of `k` under a Thiele rule, and the columns in it. Contracts see the
@@ -74,11 +75,15 @@ impl<'a, A: Allocator + Copy + Drop> SearchMemory<'a, A> {
 /// rule's increments. Contracts see the election, the rule and `k`.
 #[derive(Drop)]
 pub struct ThieleSearch<'a, A: Allocator + Copy = Global> {
-    profile: &'a Profile<A>,
-    values: ThieleTally<'a, A>,
-    aids: Aids<A>,
+    pub(crate) profile: &'a Profile<A>,
+    pub(crate) values: ThieleTally<'a, A>,
+    pub(crate) aids: Aids<A>,
     // A committee to begin with.
     good: CandSet,
+    // Whether pairs are counted. A search of few sets ends sooner without them.
+    pub(crate) counts_pairs: Cell<bool>,
+    // Where it pays to move multipliers, over all questions so far.
+    pub(crate) moves: Moves,
 }
 
 impl<'a, A: Allocator + Copy> Model for ThieleSearch<'a, A> {
@@ -106,26 +111,30 @@ impl<'a, A: Allocator + Copy + Drop> ThieleSearch<'a, A> {
             columns,
             multipliers,
         } = memory;
-        let unpriced = Aids {
-            clones: Clones::of(profile),
-            dominance: Dominance::of(profile, values.rule(), k),
-            columns,
-            priced: None,
-            sums: HitSums::of(values.rule(), k, PAIR_UNITS),
-            uses: Uses::none(),
-        };
-        let grown = Search::of(profile, &values, &unpriced).grown(k);
-        let aids = Aids {
-            priced: Priced::of(multipliers, profile, &values, k, grown),
-            ..unpriced
-        };
-        let good = good_committee(profile, &values, &aids, grown);
-        ThieleSearch {
+        let search = ThieleSearch {
             profile,
+            aids: Aids {
+                clones: Clones::of(profile),
+                dominance: Dominance::of(profile, values.rule(), k),
+                columns,
+                priced: None,
+                sums: HitSums::of(values.rule(), k, PAIR_UNITS),
+                uses: Uses::none(),
+            },
             values,
-            aids,
-            good,
-        }
+            good: CandSet::empty(),
+            counts_pairs: Cell::new(false),
+            moves: Moves::new(round_of(profile.rows())),
+        };
+        let grown = search.grown(k);
+        let priced = Priced::of(multipliers, profile, &search.values, k, grown);
+        let aids = search.aids;
+        let search = ThieleSearch {
+            aids: Aids { priced, ..aids },
+            ..search
+        };
+        let good = search.better(grown);
+        ThieleSearch { good, ..search }
     }
 }
 
@@ -153,12 +162,18 @@ impl<'a, A: Allocator + Copy> ThieleSearch<'a, A> {
         }
     }
 
-    fn search(&self, counts_pairs: bool) -> Search<'_, A>
-        ensures { result ≡ self.now }
+    /// `grown`, or a better committee, by exchanges from the candidates with the highest prices.
+    fn better(&self, grown: CandSet) -> CandSet
+        requires { IsIncreasing 1 self.now.election.m grown }
     {
-        Search {
-            counts_pairs,
-            ..Search::of(self.profile, &self.values, &self.aids)
+        let Some(priced) = &self.aids.priced else {
+            return grown;
+        };
+        let other = self.exchanged(priced.dearest);
+        if other.len() == priced.k && self.value(other) > self.value(grown) {
+            other
+        } else {
+            grown
         }
     }
 }
@@ -201,7 +216,8 @@ impl<'a, A: Allocator + Copy> Searchable for ThieleSearch<'a, A> {
     fn find(&self, node: &Node, least: u128) -> Option<CandSet> {
         // One winner after another is asked for, and most of these searches end after a few sets. With pairs, some
         // party lists took six times as long.
-        descent::find(&self.search(false), *node, least)
+        self.counts_pairs.set(false);
+        descent::find(self, *node, least)
     }
 
     fn tied(&self, k: u8) -> Option<Tied> {
@@ -209,30 +225,8 @@ impl<'a, A: Allocator + Copy> Searchable for ThieleSearch<'a, A> {
             return None;
         }
         // All winners took two to three times as long when each was searched for.
-        let search = self.search(true);
-        let all = search.node(CandSet::empty(), CandSet::all(self.m()), k);
-        Some(descent::list_tied(&search, all, self.good_value(k)))
-    }
-}
-
-/// `grown`, or a better committee, by exchanges from the candidates with the highest prices.
-fn good_committee<A: Allocator + Copy>(
-    profile: &Profile<A>,
-    values: &ThieleTally<A>,
-    aids: &Aids<A>,
-    grown: CandSet,
-) -> CandSet
-    requires ballots { profile.now ≡ values.now.election }
-    requires aids { IsAided values.now aids.now }
-    requires grown { IsIncreasing 1 values.now.election.m grown }
-{
-    let Some(priced) = &aids.priced else {
-        return grown;
-    };
-    let other = Search::of(profile, values, aids).exchanged(priced.dearest);
-    if other.len() == priced.k && values.value(other) > values.value(grown) {
-        other
-    } else {
-        grown
+        let all = self.node(CandSet::empty(), CandSet::all(self.m()), k);
+        self.counts_pairs.set(true);
+        Some(descent::list_tied(self, all, self.good_value(k)))
     }
 }

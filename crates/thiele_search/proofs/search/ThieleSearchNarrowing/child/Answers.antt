@@ -1,0 +1,83 @@
+use Rattle.std.proofs.Common.{◌≡◌, ℕ, ◌+◌, ◌-◌, ◌≤◌, true, List, refl, subst, sym, arith, get_or}
+use Rattle.ballot_base.specs.CandSet.{has_member, with_member, without_member}
+use Rattle.ballot_base.specs.Increments.{increments}
+use Rattle.tie_walk.specs.Ceilings.{gain_at}
+use Rattle.tie_walk.proofs.Submodular.{thiele_rule-submodular}
+use Rattle.tie_search.specs.Completions.{IsNode, tally_value}
+use Rattle.tie_search.specs.Steps.Narrowed.{IsNarrowed}
+use Rattle.tie_search.proofs.CompletionLemmas.{member-high, member-low, node-with, thiele-same, without-is}
+use Rattle.tie_search.proofs.NarrowedLemmas.{narrowed-empty}
+use Rattle.thiele_search.proofs.GainLemmas.{gain-falls, gain-same, valued-more, valued-small}
+use Rattle.thiele_search.specs.Steps.Aided.{IsValued}
+use Rattle.thiele_search.proofs.search.ThieleSearchNarrowing.child.Goals as goal
+use Rattle.thiele_search.proofs.search.ThieleSearchNarrowing.child.Goals.{After-of, in-None, in-Some}
+
+pub with-requires-clause-low : goal.with-requires-clause-low
+with-requires-clause-low g c = member-low 1 c.args.self.now.election.m c.args.node.now.free c.args.next c.requires.is_node.free_within c.requires.next
+
+pub with-requires-clause-high : goal.with-requires-clause-high
+with-requires-clause-high g c =
+    omega (
+      arith,
+      c.requires.valued.election.most,
+      member-high 1 c.args.self.now.election.m c.args.node.now.free c.args.next c.requires.is_node.free_within c.requires.next,
+    )
+
+pub of-requires : goal.of-requires
+of-requires g c =
+    omega (
+      arith,
+      c.requires.valued.election.most,
+      member-high 1 c.args.self.now.election.m c.args.node.now.free c.args.next c.requires.is_node.free_within c.requires.next,
+    )
+
+-- the value after the candidate has joined
+joined : (g : _) (c : After-of g) → IsValued c.args.self.now (with_member c.args.node.now.set c.args.next) (c.args.node.now.value + c.of.result)
+joined g c =
+    let node = c.args.node.now in
+    valued-more c.args.self.now node.set node.free c.args.plan.now.worths node.value c.args.next c.of.result c.requires.valued c.requires.is_node c.requires.next (λ n is. c.requires.plan n (c.requires.among n is)) c.of.ensures.value
+
+pub overflow_add-child : goal.overflow_add-child
+overflow_add-child g c =
+    omega (
+      arith,
+      valued-small c.args.self.now (with_member c.args.node.now.set c.args.next) (c.args.node.now.value + c.of.result) (joined g (goal.at.overflow_add-child g c).After-of),
+    )
+
+pub promising-requires-clause-is_node : goal.promising-requires-clause-is_node
+promising-requires-clause-is_node g c =
+    rw (c.with.ensures, c.without.ensures) (node-with c.args.self.now.election.m c.args.node.now.set c.args.node.now.free c.args.next c.requires.is_node c.requires.next)
+
+pub promising-requires-clause-valued : goal.promising-requires-clause-valued
+promising-requires-clause-valued g c = rw c.with.ensures (joined g (goal.at.promising-requires-clause-valued g c).After-of)
+
+pub promising-requires-clause-gains : goal.promising-requires-clause-gains
+promising-requires-clause-gains g c n is =
+    let tally = c.args.self.now in
+    let node = c.args.node.now in
+    let here : has_member node.free n ≡ true = without-is node.free c.args.next n (rw c.without.ensures at is) in
+    let before : gain_at (tally_value tally) node.set n ≤ get_or c.args.plan.now.worths n 0 =
+    gain-same tally node.set node.free c.args.plan.now.worths c.requires.valued.election c.requires.is_node (λ x in_. c.requires.plan x (c.requires.among x in_)) n here in
+    let falls : gain_at (tally_value tally) (with_member node.set c.args.next) n ≤ gain_at (tally_value tally) node.set n =
+    gain-falls (tally_value tally) (thiele_rule-submodular tally.rule tally.k tally.election.rows c.requires.valued.size) (thiele-same (increments tally.rule tally.k) tally.election.rows) node.set c.args.next n in
+    rw c.with.ensures (omega (arith, before, falls))
+
+pub returns-clause-child : goal.returns-clause-child
+returns-clause-child g c =
+    let tally = c.args.self.now in
+    let node = c.args.node.now in
+    let m = tally.election.m in
+    let is_node : IsNode m (with_member node.set c.args.next) (without_member node.free c.args.next) = node-with m node.set node.free c.args.next c.requires.is_node c.requires.next in
+    let IsOne : List ℕ → Type 0 = IsNarrowed (tally_value tally) m (with_member node.set c.args.next) (without_member node.free c.args.next) (node.left - 1) c.args.plan.now.least in
+    record {
+      set = c.with.ensures;
+      left = refl;
+      narrowed = elim c.match-promising.branch [
+        | in-Some w ↦ subst IsOne (sym w.free-is) (rw (c.with.ensures, c.without.ensures) at w.in-Some.ensures)
+        | in-None w ↦ subst IsOne (sym w.free-is) (rw w.empty-free.ensures (narrowed-empty (tally_value tally) m (with_member node.set c.args.next) (without_member node.free c.args.next) (node.left - 1) c.args.plan.now.least is_node
+            (rw (c.with.ensures, c.without.ensures) at w.in-None.ensures)))
+      ];
+    }
+
+pub returns-clause-valued : goal.returns-clause-valued
+returns-clause-valued g c = rw c.with.ensures (joined g (goal.at.returns-clause-valued g c).After-of)

@@ -1,0 +1,8 @@
+use Rattle.thiele_search.proofs.GainLemmas.{gain-same}
+use Rattle.thiele_search.proofs.search.ThieleSearchNarrowing.narrowed.Goals as goal
+
+pub promising-requires-clause-gains : goal.promising-requires-clause-gains
+promising-requires-clause-gains g c =
+    let t = c.args.self.now in
+    gain-same t c.args.node.now.set c.in_ok-free.free c.args.plan.now.worths c.requires.valued.election c.in_ok-free.ensures.is_node
+    (λ n is. c.requires.plan n (c.requires.among n (c.in_ok-free.ensures.among n is)))
