@@ -9,7 +9,7 @@ use Rattle.tie_walk.specs.Winners.{best_value, winners}
 use Rattle.tie_search.specs.Alike.{AreClasses, Becomes, done, step}
 use Rattle.tie_search.specs.Completions.{IsNode, IsCompletion, IsReaching, IsOutOfReach}
 use Rattle.tie_search.specs.Asked.{Asked, IsNextAsked, beginnings, begins_some}
-use Rattle.tie_search.specs.Steps.Branches.{AreSized, AreStacked, IsBranch, branches_after, completes, first_branches, is_new, new_beginnings, winners_of}
+use Rattle.tie_search.specs.Steps.Branches.{AreStacked, IsBranch, branches_after, completes, entries, first_branches, left_by, longer_beginnings, to_enter, winners_of}
 use Rattle.tie_search.specs.declared.branch.Branch.{Branch}
 use Rattle.tie_search.specs.Tied.{AreBest, AreDistinct, AreTied, IsAmong, IsBest}
 
@@ -217,12 +217,12 @@ two_and_three : completes from_one (2 ∷ 3 ∷ []) ≡ false
 unfolding from_one
 two_and_three = refl
 
-none_has_one : winners_of sum 3 2 (from_one ∷ []) ≡ []
+none_has_one : winners_of sum 3 2 from_one ≡ []
 unfolding from_one lists_of
 none_has_one = refl
 
-one_without_one : winners_of sum 3 2 (without_one ∷ from_one ∷ []) ≡ (2 ∷ 3 ∷ []) ∷ []
-unfolding from_one without_one lists_of
+one_without_one : left_by sum 3 2 (without_one ∷ from_one ∷ []) ≡ (2 ∷ 3 ∷ []) ∷ []
+unfolding from_one without_one left_by lists_of
 one_without_one = refl
 
 from_one-is : IsBranch 3 2 from_one
@@ -235,14 +235,20 @@ from_one-is = record {
   size = lit≤ tt;
 }
 
--- the set of 1 goes on from the empty set, before all who are free there
-one_stacked : AreStacked 3 (without_one ∷ from_one ∷ [])
-unfolding from_one without_one
-one_stacked = ((record { next = 1; tail = []; begins = refl; later = (lit≤ tt, lit≤ tt, (lit≤ tt, lit≤ tt, tt)) }, tt), (tt, tt))
+without_one-is : IsBranch 3 2 without_one
+unfolding without_one
+without_one-is = record {
+  last = 1;
+  within = lit≤ tt;
+  set_upto = tt;
+  free_after = (lit≤ tt, lit≤ tt, (lit≤ tt, lit≤ tt, tt));
+  size = lit≤ tt;
+}
 
-one_sized : AreSized 0 (without_one ∷ from_one ∷ [])
+-- the set of 1 has one member more than the empty set
+one_stacked : AreStacked 3 2 0 (without_one ∷ from_one ∷ [])
 unfolding from_one without_one
-one_sized = (refl, (refl, tt))
+one_stacked = (without_one-is, refl, (from_one-is, refl, tt))
 
 all_first : first_branches 3 None ≡ record { set = []; free = 1 ∷ 2 ∷ 3 ∷ [] } ∷ []
 all_first = refl
@@ -275,10 +281,12 @@ two_begins = refl
 three_begins_none : begins_some ((2 ∷ 3 ∷ []) ∷ []) (3 ∷ []) ≡ false
 three_begins_none = refl
 
-two_is_not_new : is_new ((2 ∷ []) ∷ []) ((2 ∷ 3 ∷ []) ∷ []) (2 ∷ []) ≡ false
-two_is_not_new = refl
-
--- of these the set of 2 is not new
-one_is_new : new_beginnings 3 2 ((2 ∷ []) ∷ []) (winners sum 3 2) ≡ 1
+-- only the second is longer than 1
+one_is_longer : longer_beginnings 3 2 1 (winners sum 3 2) ≡ 1
 unfolding lists_of
-one_is_new = refl
+one_is_longer = refl
+
+-- both are still to be entered if nothing was, and none below the set of 1
+two_to_enter : to_enter sum 3 2 (without_one ∷ from_one ∷ []) ≡ 2
+unfolding from_one without_one to_enter entries lists_of
+two_to_enter = refl

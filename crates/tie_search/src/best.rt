@@ -58,9 +58,9 @@ impl<S: Searchable> Best<S> {
     /// The set of a branch that is a whole committee, if it has the highest value.
     pub(crate) fn whole(&self, branch: &Branch) -> Option<CandSet>
         requires knows { KnowsBest S.value_of S.class_of S.candidates self.now }
-        requires branch { IsBranch self.now.m self.now.k branch.now }
+        requires branch { IsBranch (S.candidates self.now.search) self.now.k branch.now }
         requires whole { length branch.now.set ≡ self.now.k }
-        ensures { IsAnswer (S.value_of self.now.search) self.now.m self.now.k branch.now result }
+        ensures { IsAnswer (S.value_of self.now.search) (S.candidates self.now.search) self.now.k branch.now result }
     {
         if self.search.value(branch.set) < self.value {
             return None;
@@ -72,10 +72,11 @@ impl<S: Searchable> Best<S> {
     /// place of members. Returns `None` only if no committee with the highest value completes the branch.
     pub(crate) fn listed(&self, branch: &Branch) -> Option<CandSet>
         requires knows { KnowsBest S.value_of S.class_of S.candidates self.now }
-        requires branch { IsBranch self.now.m self.now.k branch.now }
+        requires branch { IsBranch (S.candidates self.now.search) self.now.k branch.now }
         requires all { self.now.tied.are_all ≡ true }
-        ensures { MatchOption result (IsBarren (S.value_of self.now.search) self.now.m self.now.k branch.now)
-            (IsBest (S.value_of self.now.search) self.now.m self.now.k) }
+        ensures { MatchOption result
+            (IsBarren (S.value_of self.now.search) (S.candidates self.now.search) self.now.k branch.now)
+            (IsBest (S.value_of self.now.search) (S.candidates self.now.search) self.now.k) }
     {
         let clones = self.search.clones();
         for i in 0..self.tied.len {
@@ -92,8 +93,9 @@ impl<S: Searchable> Best<S> {
     /// a fifth longer.)
     pub(crate) fn shown(&self, found: CandSet, branch: &Branch) -> Option<CandSet>
         requires knows { KnowsBest S.value_of S.class_of S.candidates self.now }
-        requires branch { IsBranch self.now.m self.now.k branch.now }
-        ensures { MatchOption result ⊤ (IsWinnerOf (S.value_of self.now.search) self.now.m self.now.k branch.now) }
+        requires branch { IsBranch (S.candidates self.now.search) self.now.k branch.now }
+        ensures { MatchOption result ⊤
+            (IsWinnerOf (S.value_of self.now.search) (S.candidates self.now.search) self.now.k branch.now) }
     {
         let alike = branch.exchanged(self.search.clones(), found);
         if self.wins(alike, branch) {
@@ -105,9 +107,9 @@ impl<S: Searchable> Best<S> {
 
     fn wins(&self, committee: CandSet, branch: &Branch) -> bool
         requires knows { KnowsBest S.value_of S.class_of S.candidates self.now }
-        requires branch { IsBranch self.now.m self.now.k branch.now }
+        requires branch { IsBranch (S.candidates self.now.search) self.now.k branch.now }
         ensures { result ≡ true
-            → IsWinnerOf (S.value_of self.now.search) self.now.m self.now.k branch.now committee }
+            → IsWinnerOf (S.value_of self.now.search) (S.candidates self.now.search) self.now.k branch.now committee }
     {
         if committee.len() != self.k || !branch.is_completed_by(committee) {
             return false;
@@ -118,8 +120,8 @@ impl<S: Searchable> Best<S> {
     /// Searches for a committee with the highest value that completes the branch.
     pub(crate) fn find(&self, branch: &Branch) -> Option<CandSet>
         requires knows { KnowsBest S.value_of S.class_of S.candidates self.now }
-        requires branch { IsBranch self.now.m self.now.k branch.now }
-        ensures { IsAnswer (S.value_of self.now.search) self.now.m self.now.k branch.now result }
+        requires branch { IsBranch (S.candidates self.now.search) self.now.k branch.now }
+        ensures { IsAnswer (S.value_of self.now.search) (S.candidates self.now.search) self.now.k branch.now result }
     {
         let node = Node {
             set: branch.set,
