@@ -9,9 +9,10 @@ use Rattle.ballot_base.specs.Clones.{are_clones, clones_among}
 use Rattle.ballot_base.proofs.CloneLemmas.{clones_among-are}
 use Rattle.ballot_base.proofs.Increasing.{IsIncreasing-filter, IsIncreasing-with_member, has_member-filter, has_member-with_member, same_increasing}
 use Rattle.tie_walk.proofs.Gains.{bit, hits-with}
+use Rattle.tie_walk.proofs.SequenceLemmas.{length-with_member}
 use Rattle.tie_search.specs.Alike.{AreAlike, HasClasses}
 use Rattle.tie_search.specs.Completions.{IsCompletion, IsNode, IsOutOfReach}
-use Rattle.tie_search.proofs.CompletionLemmas.{completion-with, filter-most, member-high, member-low, member-without, with-longer, without-is}
+use Rattle.tie_search.proofs.CompletionLemmas.{completion-with, filter-most, member-high, member-low, member-without, without-is}
 use Rattle.tie_search.proofs.SearchLemmas.{AreLeft, struck-out}
 
 -- ---- a member in the place of another
@@ -58,8 +59,8 @@ module _ (m : ℕ) (committee : List ℕ) (c d : ℕ) (up : IsIncreasing 1 m com
   exchanged-size low high =
       omega (
         arith,
-        with-longer m less c less-up low high less-out,
-        with-longer m less d less-up (member-low 1 m committee d up here) (member-high 1 m committee d up here) (gone committee d),
+        length-with_member less c less-out,
+        length-with_member less d (gone committee d),
         ap length (back m committee d up here),
       )
 

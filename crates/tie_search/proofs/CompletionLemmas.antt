@@ -13,6 +13,7 @@ pub use Rattle.ballot_base.proofs.Passed.{member-high}
 use Rattle.ballot_base.proofs.Passed.{filter-member}
 use Rattle.tie_walk.specs.Values.{thiele_value}
 use Rattle.tie_walk.proofs.LawLemmas.{IsIncreasing-range}
+use Rattle.tie_walk.proofs.SequenceLemmas.{length-with_member}
 use Rattle.tie_search.specs.Completions.{IsNode, IsCompletion}
 
 -- ---- members
@@ -64,32 +65,6 @@ without-shorter (x ∷ set) n h = elim (cases_eq x n) [
       omega (arith, ap length in_, without-shorter set n more)
 ]
 
--- a new member makes it longer by one
-pub with-longer : (m : ℕ) (set : List ℕ) (n : ℕ) → IsIncreasing 1 m set → 1 ≤ n → n ≤ m → has_member set n ≡ false → length (with_member set n) ≡ length set + 1
-with-longer m set n up low high new =
-    let both : length (filter (λ x. x == n) (with_member set n)) + length (filter (λ x. not (x == n)) (with_member set n)) ≡ length (with_member set n) =
-    length-filter_both (λ x. x == n) (λ x. not (x == n)) (λ x. refl) (with_member set n) in
-    let up' : IsIncreasing 1 m (with_member set n) = IsIncreasing-with_member 1 m set n low high up in
-    let one : filter (λ x. x == n) (with_member set n) ≡ n ∷ [] =
-    same_increasing 1 m (filter (λ x. x == n) (with_member set n)) (n ∷ []) (IsIncreasing-filter (λ x. x == n) 1 m (with_member set n) up') (low, high, tt)
-    (λ x. has_member-filter (λ y. y == n) (with_member set n) x ∙ one-is x) in
-    let rest : filter (λ x. not (x == n)) (with_member set n) ≡ set =
-    same_increasing 1 m (filter (λ x. not (x == n)) (with_member set n)) set (IsIncreasing-filter (λ x. not (x == n)) 1 m (with_member set n) up') up
-    (λ x. has_member-filter (λ y. not (y == n)) (with_member set n) x ∙ rest-is x) in
-    omega (arith, both, ap length one, ap length rest)
-  where
-    one-is : (x : ℕ) → ((x == n) && has_member (with_member set n) x) ≡ has_member (n ∷ []) x
-    one-is x = elim (cases_eq x n) [
-      | inl same ↦ ap (λ b. b && has_member (with_member set n) x) (eq-eqb x n same) ∙ with-is set n x same ∙ sym (ap (λ b. b || false) (eq-eqb n x (sym same)))
-      | inr other ↦ ap (λ b. b && has_member (with_member set n) x) (ne_eqb x n other) ∙ sym (ap (λ b. b || false) (ne_eqb n x (λ e. other (sym e))))
-    ]
-
-    rest-is : (x : ℕ) → (not (x == n) && has_member (with_member set n) x) ≡ has_member set x
-    rest-is x = elim (cases_eq x n) [
-      | inl same ↦ ap (λ b. not b && has_member (with_member set n) x) (eq-eqb x n same) ∙ sym new ∙ ap (has_member set) (sym same)
-      | inr other ↦ ap (λ b. not b && has_member (with_member set n) x) (ne_eqb x n other) ∙ with-stays set n x other
-    ]
-
 pub or-more : (p q r : Bool) → (q ≡ true → r ≡ true) → (p || q) ≡ true → (p || r) ≡ true
 or-more true q r h is = refl
 or-more false q r h is = h is
@@ -112,7 +87,7 @@ node-with m set free n is_node here = record {
 
 module _ (m : ℕ) (set free : List ℕ) (left n : ℕ) (is_node : IsNode m set free) (here : has_member free n ≡ true) where
   longer : length (with_member set n) ≡ length set + 1
-  longer = with-longer m set n is_node.set_within (member-low 1 m free n is_node.free_within here) (member-high 1 m free n is_node.free_within here) (is_node.apart n here)
+  longer = length-with_member set n (is_node.apart n here)
 
   -- a committee without the candidate
   pub completion-without : (committee : List ℕ) → IsCompletion m set free left committee → has_member committee n ≡ false → IsCompletion m set (without_member free n) left committee

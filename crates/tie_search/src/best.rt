@@ -142,25 +142,12 @@ fn best_committee<S: Searchable>(search: &S, k: u8) -> CandSet
     ensures best { S.value_of search.now result ≡ best_value (S.value_of search.now) (S.candidates search.now) k }
 {
     let most = search.bound(0, CandSet::empty(), k);
-    let mut best = first_committee(search, k);
+    // The committee that the tally suggests; failing that, the first.
+    let mut best = search.good_committee(k).unwrap_or(CandSet::all(k));
     while let Some(better) = better_than(search, best, k, most) {
         best = better;
     }
     best
-}
-
-/// A committee of size `k` to begin with: the one that the tally suggests; failing that, the first.
-fn first_committee<S: Searchable>(search: &S, k: u8) -> CandSet
-    requires some { 1 ≤ k }
-    requires most { k ≤ most_candidates }
-    requires fits { k ≤ S.candidates search.now }
-    ensures candidates { IsIncreasing 1 (S.candidates search.now) result }
-    ensures size { length result ≡ k }
-{
-    match search.good_committee(k) {
-        Some(committee) => committee,
-        None => CandSet::all(k),
-    }
 }
 
 /// A committee of size `k` with a higher value, if there is one. No committee of this size is worth more than `most`.

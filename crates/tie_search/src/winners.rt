@@ -58,17 +58,14 @@ impl<S: Searchable> SearchWinners<S> {
         ensures questions { result.questions ≡ 0 }
     {
         let best = Best::of(search, k);
-        match after {
-            Some(start) => SearchWinners {
-                asking: Asking::of(best.tied.first(), later_branches(start, best.m)),
-                best,
-                after: Some(start),
-            },
-            None => SearchWinners {
-                asking: Asking::of(best.tied.first(), all_branches(best.m)),
-                best,
-                after: None,
-            },
+        let branches = match after {
+            Some(start) => later_branches(start, best.m),
+            None => all_branches(best.m),
+        };
+        SearchWinners {
+            asking: Asking::of(best.tied.first(), branches),
+            best,
+            after,
         }
     }
 
