@@ -62,10 +62,7 @@ impl<S: Searchable> Best<S> {
         requires whole { length branch.now.set ≡ self.now.k }
         ensures { IsAnswer (S.value_of self.now.search) (S.candidates self.now.search) self.now.k branch.now result }
     {
-        if self.search.value(branch.set) < self.value {
-            return None;
-        }
-        Some(branch.set)
+        (self.search.value(branch.set) >= self.value).then_some(branch.set)
     }
 
     /// A committee of the list, which must have all. It may become one that completes the branch if clones take the
