@@ -19,6 +19,14 @@ use Rattle.tie_search.proofs.CloneLemmas.{clones-left, minus-is}
 use Rattle.tie_search.proofs.CompletionLemmas.{added, added-free, added-size, completion-back, completion-few, completion-members, completion-self, completion-whole, completion-with, completion-without, member-high, member-low, or-more}
 use Rattle.tie_search.proofs.ReachLemmas.{increasing-append}
 
+-- the branch after a candidate has joined its set
+abbrev pub joined : Branch → ℕ → List ℕ → Branch
+joined branch next rest = record { set = with_member branch.set next; free = rest }
+
+-- the branch after candidates have left
+abbrev pub passed : Branch → List ℕ → Branch
+passed branch rest = record { set = branch.set; free = rest }
+
 pub branch-node : (m k : ℕ) (branch : Branch) → IsBranch m k branch → IsNode m branch.set branch.free
 branch-node m k branch is = record {
   set_within = IsIncreasing-higher 1 is.last m branch.set is.within is.set_upto;
@@ -35,7 +43,7 @@ completes-from m branch left committee whole =
 
 -- it does so as well if more are free
 completes-wider : (branch : Branch) (free committee : List ℕ) → ((n : ℕ) → has_member free n ≡ true → has_member branch.free n ≡ true)
-    → completes (record { set = branch.set; free = free }) committee ≡ true → completes branch committee ≡ true
+    → completes (passed branch free) committee ≡ true → completes branch committee ≡ true
 completes-wider branch free committee among whole =
     let either = either_members branch.set branch.free in
     let parts = and_parts (includes committee branch.set) (includes (either_members branch.set free) committee) whole in
@@ -154,13 +162,6 @@ module _ (value : List ℕ → ℕ) (m k : ℕ) (branch : Branch) (is : IsBranch
 -- ---- the first free candidate
 
 module _ (value : List ℕ → ℕ) (m k : ℕ) (branch : Branch) (is : IsBranch m k branch) (short : length branch.set < k) (next : ℕ) (rest : List ℕ) (first : branch.free ≡ next ∷ rest) where
-  -- the branches with the candidate and without it
-  abbrev pub with' : Branch
-  with' = record { set = with_member branch.set next; free = rest }
-
-  abbrev pub without : Branch
-  without = record { set = branch.set; free = rest }
-
   pub free-up : IsIncreasing (is.last + 1) m (next ∷ rest)
   free-up = subst (IsIncreasing (is.last + 1) m) first is.free_after
 
@@ -170,7 +171,7 @@ module _ (value : List ℕ → ℕ) (m k : ℕ) (branch : Branch) (is : IsBranch
   pub grown-size : length (with_member branch.set next) ≡ length branch.set + 1
   grown-size = omega (arith, ap length grown-is, length-append branch.set (next ∷ []))
 
-  pub with-branch : IsBranch m k with'
+  pub with-branch : IsBranch m k (joined branch next rest)
   with-branch = record {
     last = next;
     within = free-up.1;
@@ -179,7 +180,7 @@ module _ (value : List ℕ → ℕ) (m k : ℕ) (branch : Branch) (is : IsBranch
     size = omega (arith, short, grown-size);
   }
 
-  pub without-branch : IsBranch m k without
+  pub without-branch : IsBranch m k (passed branch rest)
   without-branch = record {
     last = is.last;
     within = is.within;
@@ -200,7 +201,7 @@ module _ (value : List ℕ → ℕ) (m k : ℕ) (branch : Branch) (is : IsBranch
   left : ℕ
   left = k - length branch.set
 
-  -- the free candidates without the first
+  -- the free candidates (passed branch rest) the first
   struck : without_member branch.free next ≡ rest
   struck = rw (first, eq-eqb next next refl) (by (next + 1) rest (omega arith) free-up.2)
     where
@@ -208,55 +209,52 @@ module _ (value : List ℕ → ℕ) (m k : ℕ) (branch : Branch) (is : IsBranch
       by low [] less up = refl
       by low (x ∷ xs) less up = rw (ne_eqb x next (λ e. omega (arith, e, less, up.0))) (ap (λ l. x ∷ l) (by (x + 1) xs (omega (arith, less, up.0)) up.2))
 
-  -- who completes the branch completes the one with the candidate or the one without
-  pub split-same : (committee : List ℕ) → IsBest value m k committee → completes branch committee ≡ (completes with' committee || completes without committee)
+  -- who completes the branch completes the one with the candidate or the one (passed branch rest)
+  pub split-same : (committee : List ℕ) → IsBest value m k committee → completes branch committee ≡ (completes (joined branch next rest) committee || completes (passed branch rest) committee)
   unfolding left
   split-same committee best =
-      both_ways (completes branch committee) (completes with' committee || completes without committee) down
-      (λ some. up (completes with' committee) refl some)
+      both_ways (completes branch committee) (completes (joined branch next rest) committee || completes (passed branch rest) committee) down
+      (λ some. up (completes (joined branch next rest) committee) refl some)
     where
-      down : completes branch committee ≡ true → (completes with' committee || completes without committee) ≡ true
+      down : completes branch committee ≡ true → (completes (joined branch next rest) committee || completes (passed branch rest) committee) ≡ true
       down whole =
           let done = completion-from value m k branch is left committee (omega (arith, short)) (record { best = best; whole = whole }) in
           elim (cases_Bool (has_member committee next)) [
             | inl in_ ↦
-                or_left (completes with' committee) (completes without committee)
-                (completes-from m with' (left - 1) committee (subst (λ l. IsCompletion m with'.set l (left - 1) committee) struck
+                or_left (completes (joined branch next rest) committee) (completes (passed branch rest) committee)
+                (completes-from m (joined branch next rest) (left - 1) committee (subst (λ l. IsCompletion m (with_member branch.set next) l (left - 1) committee) struck
                 (completion-with m branch.set branch.free left next node here committee (omega (arith, short)) done in_)))
             | inr out ↦
-                or_right (completes with' committee) (completes without committee)
-                (completes-from m without left committee (subst (λ l. IsCompletion m branch.set l left committee) struck
+                or_right (completes (joined branch next rest) committee) (completes (passed branch rest) committee)
+                (completes-from m (passed branch rest) left committee (subst (λ l. IsCompletion m branch.set l left committee) struck
                 (completion-without m branch.set branch.free left next node here committee done out)))
           ]
 
-      up : (b : Bool) → completes with' committee ≡ b → (b || completes without committee) ≡ true → completes branch committee ≡ true
+      up : (b : Bool) → completes (joined branch next rest) committee ≡ b → (b || completes (passed branch rest) committee) ≡ true → completes branch committee ≡ true
       up true with-it some =
           completes-from m branch left committee
           (completion-back m branch.set branch.free left next node here rest committee (omega (arith, short)) free-rest
-          (completion-from value m k with' with-branch (left - 1) committee (omega (arith, short, grown-size)) (record { best = best; whole = with-it })))
+          (completion-from value m k (joined branch next rest) with-branch (left - 1) committee (omega (arith, short, grown-size)) (record { best = best; whole = with-it })))
       up false out some = completes-wider branch rest committee free-rest some
 
-  -- a winner with the candidate goes on with it, and one without it goes on with a greater one
-  pub with-begins : (committee : List ℕ) → IsWinnerOf value m k with' committee → (more : List ℕ) × (committee ≡ with'.set ++ more) × (committee ≡ branch.set ++ next ∷ more)
+  -- a winner with the candidate goes on with it, and one (passed branch rest) it goes on with a greater one
+  pub with-begins : (committee : List ℕ) → IsWinnerOf value m k (joined branch next rest) committee → (more : List ℕ) × (committee ≡ (with_member branch.set next) ++ more) × (committee ≡ branch.set ++ next ∷ more)
   with-begins committee wins =
-      let all = added-later value m k with' with-branch committee wins in
+      let all = added-later value m k (joined branch next rest) with-branch committee wins in
       (all.0, all.1, all.1 ∙ (ap (λ l. l ++ all.0) grown-is ∙ append_assoc branch.set (next ∷ []) all.0))
 
-  pub without-begins : (committee : List ℕ) → IsWinnerOf value m k without committee → (n : ℕ) × (more : List ℕ) × (committee ≡ branch.set ++ n ∷ more) × (next < n)
+  pub without-begins : (committee : List ℕ) → IsWinnerOf value m k (passed branch rest) committee → (n : ℕ) × (more : List ℕ) × (committee ≡ branch.set ++ n ∷ more) × (next < n)
   without-begins committee wins =
-      let all = goes-on value m k without without-branch committee short wins in
+      let all = goes-on value m k (passed branch rest) without-branch committee short wins in
       (all.0, all.1, all.2, let low : next + 1 ≤ all.0 = member-low (next + 1) m rest all.0 free-up.2 all.3 in omega (arith, low))
 
   -- ---- who leaves with a candidate
 
-  module _ (classes : List (List ℕ)) (alike : AreAlike value m (λ c. slice_index_or classes c [])) (none : IsBarren value m k with') where
+  module _ (classes : List (List ℕ)) (alike : AreAlike value m (λ c. slice_index_or classes c [])) (none : IsBarren value m k (joined branch next rest)) where
     clones : List ℕ
     clones = slice_index_or classes next []
 
-    abbrev pub left-over : Branch
-    left-over = record { set = branch.set; free = other_members rest (slice_index_or classes next []) }
-
-    pub left-branch : IsBranch m k left-over
+    pub left-branch : IsBranch m k (passed branch (other_members rest (slice_index_or classes next [])))
     left-branch =
         let less = without-branch in
         record {
@@ -267,24 +265,24 @@ module _ (value : List ℕ → ℕ) (m k : ℕ) (branch : Branch) (is : IsBranch
           size = less.size;
         }
 
-    -- where no winner has the candidate, its clones are in none that completes the branch without
-    pub left-completes : (committee : List ℕ) → IsBest value m k committee → completes branch committee ≡ completes left-over committee
+    -- where no winner has the candidate, its clones are in none that completes the branch (passed branch rest)
+    pub left-completes : (committee : List ℕ) → IsBest value m k committee → completes branch committee ≡ completes (passed branch (other_members rest (slice_index_or classes next []))) committee
     unfolding left clones
     left-completes committee best =
-        both_ways (completes branch committee) (completes left-over committee) down
-        (completes-wider branch left-over.free committee (λ n in_. free-rest n (minus-is rest clones n in_)))
+        both_ways (completes branch committee) (completes (passed branch (other_members rest (slice_index_or classes next []))) committee) down
+        (completes-wider branch (other_members rest clones) committee (λ n in_. free-rest n (minus-is rest clones n in_)))
       where
         none-with : IsOutOfReach value m (with_member branch.set next) (without_member branch.free next) (left - 1) (best_value value m k)
         none-with other whole = elim (cases_lt (value other) (best_value value m k)) [
           | inl under ↦ under
           | inr reaches ↦
-              absurd (none other (winner-from value m k with' with-branch (left - 1) other (omega (arith, short, grown-size))
-              (subst (λ l. IsCompletion m with'.set l (left - 1) other) struck whole) (omega (arith, reaches))))
+              absurd (none other (winner-from value m k (joined branch next rest) with-branch (left - 1) other (omega (arith, short, grown-size))
+              (subst (λ l. IsCompletion m (with_member branch.set next) l (left - 1) other) struck whole) (omega (arith, reaches))))
         ]
 
-        down : completes branch committee ≡ true → completes left-over committee ≡ true
+        down : completes branch committee ≡ true → completes (passed branch (other_members rest (slice_index_or classes next []))) committee ≡ true
         down whole =
-            completes-from m left-over left committee
+            completes-from m (passed branch (other_members rest (slice_index_or classes next []))) left committee
             (subst (λ l. IsCompletion m branch.set (other_members l clones) left committee) struck
             (clones-left value m branch.set left (best_value value m k) branch.free branch.free clones next (omega (arith, short)) node here
             (λ other d up has out class. alike other next d up (omega (arith, free-up.0)) free-up.1 class has out)

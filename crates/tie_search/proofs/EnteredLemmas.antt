@@ -18,7 +18,7 @@ use Rattle.ballot_base.proofs.Sums.{sum-most}
 use Rattle.tie_search.specs.Asked.{beginnings, begins_some}
 use Rattle.tie_search.specs.Steps.Branches.{IsBarren, IsBranch, IsStep, IsWinnerOf, entries, longer_beginnings, winners_of}
 use Rattle.tie_search.specs.declared.branch.Branch.{Branch}
-use Rattle.tie_search.proofs.BranchLemmas.{branch-node, grown-size, with', with-begins, with-branch, without, without-begins}
+use Rattle.tie_search.proofs.BranchLemmas.{branch-node, grown-size, joined, passed, with-begins, with-branch, without-begins}
 use Rattle.tie_search.proofs.ReachLemmas.{any-found, any-true}
 use Rattle.tie_search.proofs.StackLemmas.{found-step, inside-from, joined-winners, no-winners, none-kept, one-kept, one-winner, same-step, two-step, wins-from}
 
@@ -28,13 +28,13 @@ begins-from : (committees : List (List ℕ)) (front committee : List ℕ) → Co
 begins-from committees front committee inside is =
     any-true (λ c. bytes_eq (take (length front) c) front) committees committee inside ((bytes_eq-Decides (take (length front) committee) front).1 is)
 
-pub begins-found : (committees : List (List ℕ)) (front : List ℕ) → begins_some committees front ≡ true → (committee : List ℕ) × Contains committees committee × (take (length front) committee ≡ front)
+begins-found : (committees : List (List ℕ)) (front : List ℕ) → begins_some committees front ≡ true → (committee : List ℕ) × Contains committees committee × (take (length front) committee ≡ front)
 begins-found committees front some =
     let at = any-found (λ c. bytes_eq (take (length front) c) front) committees some in
     (at.0, at.1, (bytes_eq-Decides (take (length front) at.0) front).0 at.2)
 
 -- two that go on in different ways begin with no list that is so long
-pub same-next : (set more rest front : List ℕ) (n y : ℕ) → length set < length front → take (length front) (set ++ n ∷ more) ≡ front → take (length front) (set ++ y ∷ rest) ≡ front → n ≡ y
+same-next : (set more rest front : List ℕ) (n y : ℕ) → length set < length front → take (length front) (set ++ n ∷ more) ≡ front → take (length front) (set ++ y ∷ rest) ≡ front → n ≡ y
 same-next set more rest [] n y long one other = absurd (omega (arith, long))
 same-next [] more rest (x ∷ front) n y long one other = ap (λ l. get_or l 0 0) (one ∙ sym other)
 same-next (z ∷ set) more rest (x ∷ front) n y long one other =
@@ -117,14 +117,22 @@ module _ (m k : ℕ) where
             (λ x c. only x (chosen-from_contains 1 m (size + 1) x c).1)),
       )
 
-  pub longer-both : (size : ℕ) (xs ys : List (List ℕ)) → ((front : List ℕ) → size < length front → begins_some xs front ≡ true → begins_some ys front ≡ true → ⊥)
-      → longer_beginnings m k size (xs ++ ys) ≡ longer_beginnings m k size xs + longer_beginnings m k size ys
-  longer-both size xs ys apart =
+  -- no list that is longer than a set begins two committees that go on from the set in different ways
+  pub longer-apart : (set : List ℕ) (n : ℕ) (xs ys : List (List ℕ)) → ((x : List ℕ) → Contains xs x → (more : List ℕ) × (x ≡ set ++ n ∷ more))
+      → ((y : List ℕ) → Contains ys y → (z : ℕ) × (more : List ℕ) × (y ≡ set ++ z ∷ more) × (n < z))
+      → longer_beginnings m k (length set) (xs ++ ys) ≡ longer_beginnings m k (length set) xs + longer_beginnings m k (length set) ys
+  longer-apart set n xs ys one other =
       sum-parts (λ s. length (filter (begins_some (xs ++ ys)) (increasing_lists 1 m s))) (λ s. length (filter (begins_some xs) (increasing_lists 1 m s))) (λ s. length (filter (begins_some ys) (increasing_lists 1 m s)))
-      (size + 1) (k - size)
+      (length set + 1) (k - length set)
       (λ s low. both-kept (begins_some (xs ++ ys)) (begins_some xs) (begins_some ys) (increasing_lists 1 m s)
-      (λ x. list_any-append (λ c. bytes_eq (take (length x) c) x) xs ys)
-      (λ x c. apart x (omega (arith, low, (chosen-from_contains 1 m s x c).1))))
+      (λ front. list_any-append (λ c. bytes_eq (take (length front) c) front) xs ys)
+      (λ front c begin begins.
+      let x = begins-found xs front begin in
+      let y = begins-found ys front begins in
+      let from-x = one x.0 x.1 in
+      let from-y = other y.0 y.1 in
+      let same = same-next set from-x.0 from-y.1 front n from-y.0 (omega (arith, low, (chosen-from_contains 1 m s front c).1)) (rw from-x.1 at x.2) (rw from-y.2 at y.2) in
+      omega (arith, same, from-y.3)))
 
   longer-none : (size : ℕ) → longer_beginnings m k size [] ≡ 0
   longer-none size =
@@ -164,20 +172,10 @@ module _ (value : List ℕ → ℕ) (m k : ℕ) (branches : List Branch) (branch
   -- a candidate joins
   module _ (is : IsBranch m k branch) (short : length branch.set < k) (next : ℕ) (rest : List ℕ) (first : branch.free ≡ next ∷ rest) where
     abbrev one : Branch
-    one = with' value m k branch is short next rest first
+    one = joined branch next rest
 
     abbrev other : Branch
-    other = without value m k branch is short next rest first
-
-    pub joined-apart : (front : List ℕ) → length branch.set < length front → begins_some (winners_of value m k one) front ≡ true → begins_some (winners_of value m k other) front ≡ true → ⊥
-    joined-apart front long begin begins =
-        let x = begins-found (winners_of value m k one) front begin in
-        let y = begins-found (winners_of value m k other) front begins in
-        let with-it = with-begins value m k branch is short next rest first x.0 (wins-from value m k one x.0 x.1) in
-        let without-it = without-begins value m k branch is short next rest first y.0 (wins-from value m k other y.0 y.1) in
-        let same = same-next branch.set with-it.0 without-it.1 front next without-it.0 long
-        (subst (λ l. take (length front) l ≡ front) with-it.2 x.2) (subst (λ l. take (length front) l ≡ front) without-it.2 y.2) in
-        omega (arith, same, without-it.3)
+    other = passed branch rest
 
     pub joined-step : (committee : List ℕ) → IsWinnerOf value m k one committee → IsStep value m k (branches ++ branch ∷ []) entered [] ((branches ++ other ∷ []) ++ one ∷ []) (entered + 1)
     unfolding entries
@@ -189,7 +187,9 @@ module _ (value : List ℕ → ℕ) (m k : ℕ) (branches : List Branch) (branch
         (omega (
           arith,
           ap (longer_beginnings m k (length branch.set)) are,
-          longer-both m k (length branch.set) (winners_of value m k one) (winners_of value m k other) joined-apart,
+          longer-apart m k branch.set next (winners_of value m k one) (winners_of value m k other)
+              (λ x c. let all = with-begins value m k branch is short next rest first x (wins-from value m k one x c) in (all.0, all.2))
+              (λ x c. without-begins value m k branch is short next rest first x (wins-from value m k other x c)),
           longer-one m k (length branch.set) (winners_of value m k one) one.set short up size (begins committee wins)
               (λ front long some. let x = begins-found (winners_of value m k one) front some in
               sym x.2 ∙ (ap (λ n. take n x.0) (long ∙ sym size) ∙ start x.0 (wins-from value m k one x.0 x.1))),

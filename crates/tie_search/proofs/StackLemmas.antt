@@ -20,7 +20,7 @@ use Rattle.tie_walk.proofs.WinnersLemmas.{same_filter}
 use Rattle.tie_search.specs.Tied.{IsBest}
 use Rattle.tie_search.specs.Steps.Branches.{AreStacked, IsBarren, IsBranch, IsStep, IsWinnerOf, completes, entries, left_by, to_enter, winners_of}
 use Rattle.tie_search.specs.declared.branch.Branch.{Branch}
-use Rattle.tie_search.proofs.BranchLemmas.{split-same, whole-is, with', with-begins, without, without-begins}
+use Rattle.tie_search.proofs.BranchLemmas.{joined, passed, split-same, whole-is, with-begins, without-begins}
 use Rattle.tie_search.proofs.CompletionLemmas.{member-high, member-low}
 
 -- ---- what tests keep of lists in order
@@ -133,9 +133,9 @@ module _ (value : List ℕ → ℕ) (m k : ℕ) where
 
   -- the winners with the first free candidate come before those without
   pub joined-winners : (branch : Branch) (is : IsBranch m k branch) (short : length branch.set < k) (next : ℕ) (rest : List ℕ) (first : branch.free ≡ next ∷ rest)
-      → winners_of value m k branch ≡ winners_of value m k (with' value m k branch is short next rest first) ++ winners_of value m k (without value m k branch is short next rest first)
+      → winners_of value m k branch ≡ winners_of value m k (joined branch next rest) ++ winners_of value m k (passed branch rest)
   joined-winners branch is short next rest first =
-      parts-kept (completes branch) (completes (with' value m k branch is short next rest first)) (completes (without value m k branch is short next rest first)) (winners value m k) (winners-order value m k)
+      parts-kept (completes branch) (completes (joined branch next rest)) (completes (passed branch rest)) (winners value m k) (winners-order value m k)
       (λ committee c. split-same value m k branch is short next rest first committee (winner-best committee c))
       (λ x y c d with-it without-it.
       let one = with-begins value m k branch is short next rest first x (record { best = winner-best x c; whole = with-it }) in

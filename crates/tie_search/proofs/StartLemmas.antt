@@ -1,5 +1,5 @@
 -- The branches after a start, and the winners that complete them.
-use Rattle.std.proofs.Common.{◌≡◌, ℕ, zero, suc, ◌+◌, ◌-◌, ◌<◌, ◌≤◌, ◌∙◌, Bool, List, [], ◌∷◌, ◌++◌, Option, None, Some, refl, sym, ap, subst, arith, inl, inr, length, length-append, append-nil, append_assoc, filter, take, Contains}
+use Rattle.std.proofs.Common.{◌≡◌, ℕ, zero, suc, ◌+◌, ◌-◌, ◌<◌, ◌≤◌, ◌∙◌, Bool, List, [], ◌∷◌, ◌++◌, Option, None, Some, refl, sym, ap, subst, arith, inl, inr, length, length-append, append-nil, append_assoc, filter, Contains}
 use Rattle.std.specs.List.{range_with_len}
 use Rattle.std.proofs.lemmas.Bool.{cases_eq, false≢true}
 use Rattle.std.proofs.lemmas.List.Elements.{Contains-append_cases, filter-append}
@@ -9,14 +9,14 @@ use Rattle.ballot_base.proofs.Increasing.{IsIncreasing-lower}
 use Rattle.ballot_base.proofs.Later.{is_later-earlier}
 use Rattle.tie_walk.specs.Winners.{IsStart, winners}
 use Rattle.tie_walk.proofs.LawLemmas.{IsIncreasing-range}
-use Rattle.tie_search.specs.Asked.{beginnings, begins_some}
+use Rattle.tie_search.specs.Asked.{beginnings}
 use Rattle.tie_search.specs.Tied.{IsBest}
 use Rattle.tie_search.specs.Steps.Branches.{AreStacked, IsBegun, IsBranch, branches_after, entries, first_branches, left_by, longer_beginnings, to_enter, winners_of}
 use Rattle.tie_search.specs.declared.asking.Asking.{Asking}
 use Rattle.tie_search.specs.declared.branch.Branch.{Branch}
-use Rattle.tie_search.proofs.BranchLemmas.{added-later, goes-on, grown-is, whole-is, with', with-begins, with-branch, without, without-begins, without-branch}
+use Rattle.tie_search.proofs.BranchLemmas.{added-later, goes-on, grown-is, joined, passed, whole-is, with-begins, with-branch, without-begins, without-branch}
 use Rattle.tie_search.proofs.CompletionLemmas.{member-low}
-use Rattle.tie_search.proofs.EnteredLemmas.{begins-found, longer-all, longer-both, longer-less, same-next}
+use Rattle.tie_search.proofs.EnteredLemmas.{longer-all, longer-apart, longer-less}
 use Rattle.tie_search.proofs.StackLemmas.{all-kept, all-winners, greater-later, joined-winners, none-kept, not-later, wins-from}
 
 pub front-under : (first last : ℕ) (front rest : List ℕ) (n : ℕ) → IsIncreasing first last (front ++ n ∷ rest) → IsIncreasing first (n - 1) front × (first ≤ n) × (n ≤ last)
@@ -115,10 +115,10 @@ module _ (m : ℕ) where
           short = omega (arith, size, length-append front (n ∷ rest))
 
           one : Branch
-          one = with' value m k branch is short first (range_with_len (first + 1) count) refl
+          one = joined branch first (range_with_len (first + 1) count)
 
           other : Branch
-          other = without value m k branch is short first (range_with_len (first + 1) count) refl
+          other = passed branch (range_with_len (first + 1) count)
 
           later : ℕ → List ℕ → Bool
           later n list = is_later list (front ++ n ∷ rest)
@@ -185,15 +185,12 @@ module _ (m : ℕ) where
             after-most (front ++ n ∷ []) rest up' size',
             ap (λ s. longer_beginnings m k s left) (length-append front (n ∷ [])),
             longer-less m k (length front) left short,
-            longer-both m k (length front) left (winners_of value m k (above front n)) (λ list long begin begins.
-                let x = begins-found left list begin in
-                let y = begins-found (winners_of value m k (above front n)) list begins in
-                let one = after-begins (front ++ n ∷ []) rest up' size' x.0 x.1 in
-                let other = goes-on value m k (above front n) (above-branch front rest n up size) y.0 short (wins-from value m k (above front n) y.0 y.1) in
-                let next = same-next front one.0 other.1 list n other.0 long
-                (subst (λ l. take (length list) l ≡ list) (one.1 ∙ append_assoc front (n ∷ []) one.0) x.2) (subst (λ l. take (length list) l ≡ list) other.2 y.2) in
-                let low : n + 1 ≤ other.0 = member-low (n + 1) m (range_with_len (n + 1) (m - n)) other.0 (IsIncreasing-range (n + 1) (m - n) m (omega (arith, (front-under 1 m front rest n up).2))) other.3 in
-                omega (arith, next, low)),
+            longer-apart m k front n left (winners_of value m k (above front n))
+                (λ x c. let all = after-begins (front ++ n ∷ []) rest up' size' x c in (all.0, all.1 ∙ append_assoc front (n ∷ []) all.0))
+                (λ y c.
+                let all = goes-on value m k (above front n) (above-branch front rest n up size) y short (wins-from value m k (above front n) y c) in
+                let low : n + 1 ≤ all.0 = member-low (n + 1) m (range_with_len (n + 1) (m - n)) all.0 (IsIncreasing-range (n + 1) (m - n) m (omega (arith, (front-under 1 m front rest n up).2))) all.3 in
+                (all.0, all.1, all.2, omega (arith, low))),
           )
 
 -- nothing was asked yet

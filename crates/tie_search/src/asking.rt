@@ -10,9 +10,8 @@
 ghost use Rattle.std.specs.Prelude.{◌≡◌, ◌+◌, ◌^◌, ◌<◌, ◌≤◌, ◌∷◌, ◌++◌, [], None, true, false, MatchOption, ⊤, length, option_to_list};
 ghost use Rattle.ballot_base.specs.Limits.{most_candidates};
 ghost use Rattle.ballot_base.specs.Lists.{IsIncreasing};
-ghost use Rattle.tie_walk.specs.Winners.{IsStart};
 ghost use Rattle.tie_search.specs.Tied.{IsBest};
-ghost use Rattle.tie_search.specs.Steps.Branches.{IsAnswer, IsAsking, IsBarren, IsBegun, IsBranch, IsOnTheWay, IsStep, IsWinnerOf};
+ghost use Rattle.tie_search.specs.Steps.Branches.{IsAnswer, IsAsking, IsBarren, IsBranch, IsOnTheWay, IsStep, IsWinnerOf};
 ghost use Rattle.tie_search.specs.Steps.Branches.{KnowsBest, branches_after, first_branches, to_enter};
 
 use crate::best::Best;
@@ -30,20 +29,6 @@ pub(crate) struct Asking {
 }
 
 impl Asking {
-    /// The winners that complete the branches are still to come. One winner was found.
-    pub(crate) fn of(found: CandSet, branches: ArrayVec<Branch, PLACES>) -> Asking
-        ensures found { result.questions.found ≡ found }
-        ensures branches { result.branches.items ≡ branches.items }
-        ensures entered { result.entered ≡ 0 }
-        ensures questions { result.questions.asked ≡ 0 }
-    {
-        Asking {
-            questions: Questions { found, asked: 0 },
-            branches,
-            entered: 0,
-        }
-    }
-
     /// The first of the winners still to come.
     pub(crate) fn next<S: Searchable>(&mut self, best: &Best<S>) -> Option<CandSet>
         requires knows { KnowsBest S.value_of S.class_of S.candidates best.now }
@@ -128,7 +113,7 @@ impl Asking {
 #[derive(Drop)]
 pub(crate) struct Questions {
     // The committee with the highest value that was found last.
-    found: CandSet,
+    pub(crate) found: CandSet,
     // The number of searches for a winner.
     pub(crate) asked: u128,
 }

@@ -8,7 +8,7 @@ ghost use Rattle.ballot_base.specs.Lists.{later_than};
 ghost use Rattle.tie_walk.specs.Winners.{IsStart, best_value, winners};
 ghost use Rattle.tie_search.specs.Asked.{Asked, IsNextAsked, beginnings};
 
-use crate::asking::{Asking, all_branches, later_branches};
+use crate::asking::{Asking, Questions, all_branches, later_branches};
 use crate::best::Best;
 use crate::searchable::Searchable;
 use ballot_base::CandSet;
@@ -63,7 +63,14 @@ impl<S: Searchable> SearchWinners<S> {
             None => all_branches(best.m),
         };
         SearchWinners {
-            asking: Asking::of(best.tied.first(), branches),
+            asking: Asking {
+                questions: Questions {
+                    found: best.tied.first(),
+                    asked: 0,
+                },
+                branches,
+                entered: 0,
+            },
             best,
             after,
         }

@@ -3,7 +3,7 @@ use Rattle.std.specs.Prelude.{slice_index_or}
 use Rattle.ballot_base.specs.CandSet.{other_members, with_member}
 use Rattle.tie_search.specs.Alike.{AreAlike}
 use Rattle.tie_search.specs.Steps.Branches.{IsBarren, IsWinnerOf}
-use Rattle.tie_search.proofs.BranchLemmas.{few-barren, grown-size, left-branch, left-completes, left-over, with', with-branch, without, without-branch}
+use Rattle.tie_search.proofs.BranchLemmas.{few-barren, grown-size, joined, left-branch, left-completes, passed, with-branch, without-branch}
 use Rattle.tie_search.proofs.CloneLemmas.{alike-table, minus-most}
 use Rattle.tie_search.proofs.EnteredLemmas.{joined-step, left-step}
 use Rattle.tie_search.proofs.StackLemmas.{same-winners, stack-push}
@@ -40,7 +40,7 @@ returns-then-reaches-clause-way g c =
     let next = c.in-Some.parts.0 in
     let rest = c.in-Some.parts.1 in
     rw c.with.ensures record {
-      stacked = rw c.push.ensures.items (stack-push value m best.k 0 items (record { set = branch.set; free = rest }) way.stacked
+      stacked = rw c.push.ensures.items (stack-push value m best.k 0 items (passed branch rest) way.stacked
           (without-branch value m best.k branch way.branch_is c.requires.short next rest c.in-Some.ensures) (omega (arith, way.size_is)));
       branch_is = with-branch value m best.k branch way.branch_is c.requires.short next rest c.in-Some.ensures;
       size_is = omega (
@@ -48,7 +48,7 @@ returns-then-reaches-clause-way g c =
         grown-size value m best.k branch way.branch_is c.requires.short next rest c.in-Some.ensures,
         way.size_is,
         ap length c.push.ensures.items,
-        length-append items (record { set = branch.set; free = rest } ∷ []),
+        length-append items (passed branch rest ∷ []),
       );
       reached = rw c.with.ensures at (c.reaches.ensures.yes c.if-reaches.true);
     }
@@ -70,7 +70,7 @@ module _ (g : Over) (c : After-minus g) where
   over : c.minus.result ≡ other_members c.in-Some.parts.1 (slice_index_or c.clones.result.now c.in-Some.parts.0 [])
   over = c.minus.ensures ∙ ap (other_members c.in-Some.parts.1) c.class-clones.ensures
 
-  none : IsBarren (g.S.Tally.value_of c.args.best.now.search) (g.S.Tally.candidates c.args.best.now.search) c.args.best.now.k (record { set = with_member c.args.branch.set c.in-Some.parts.0; free = c.in-Some.parts.1 })
+  none : IsBarren (g.S.Tally.value_of c.args.best.now.search) (g.S.Tally.candidates c.args.best.now.search) c.args.best.now.k (joined c.args.branch c.in-Some.parts.0 c.in-Some.parts.1)
   none = rw c.with.ensures at (c.reaches.ensures.no c.if-reaches.false)
 
 pub returns-clause-way : goal.returns-clause-way
@@ -102,7 +102,7 @@ returns-clause-step g c =
     let is = c.requires.way.branch_is in
     let next = c.in-Some.parts.0 in
     let rest = c.in-Some.parts.1 in
-    let other = left-over value m best.k branch is c.requires.short next rest c.in-Some.ensures c.clones.result.now (alike g c) (none g c) in
+    let other = passed branch (other_members rest (slice_index_or c.clones.result.now next [])) in
     rw (over g c)
     (left-step value m best.k c.args.self.now.branches.items branch c.args.self.now.entered other (λ i. branch.set)
     (same-winners value m best.k branch other (left-completes value m best.k branch is c.requires.short next rest c.in-Some.ensures c.clones.result.now (alike g c) (none g c))))
