@@ -1,7 +1,7 @@
 -- One branch: the committees that complete it, and who leaves with a candidate.
 use Rattle.std.proofs.Common.{◌≡◌, ℕ, ◌+◌, ◌-◌, ◌<◌, ◌≤◌, ◌==◌, ◌||◌, ◌∙◌, Bool, true, false, append_assoc, not, List, [], ◌∷◌, ◌++◌, Option, None, Some, refl, sym, ap, subst, arith, inl, inr, length, length-append, filter}
 use Rattle.std.specs.Cmp.{both_ways}
-use Rattle.std.proofs.lemmas.Bool.{and_from, and_parts, or_cases, or_left, or_right, cases_Bool, cases_lt, eq-eqb, ne_eqb}
+use Rattle.std.proofs.lemmas.Bool.{and_from, and_parts, or_left, or_right, cases_Bool, cases_lt, eq-eqb, ne_eqb}
 use Rattle.std.specs.Prelude.{MatchOption, slice_index_or}
 use Rattle.ballot_base.specs.Lists.{IsIncreasing}
 use Rattle.ballot_base.specs.CandSet.{either_members, has_member, includes, other_members, with_member, without_member}

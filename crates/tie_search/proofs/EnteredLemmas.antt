@@ -1,5 +1,5 @@
 -- How many sets are entered on the ways down to winners.
-use Rattle.std.proofs.Common.{◌≡◌, ℕ, zero, suc, ◌+◌, ◌*◌, ◌^◌, ◌-◌, ◌<◌, ◌≤◌, ◌||◌, ◌∙◌, Bool, true, false, List, [], ◌∷◌, ◌++◌, refl, sym, ap, subst, arith, get_or, drop, inl, inr, length, length-append, filter, map, take, Contains}
+use Rattle.std.proofs.Common.{◌≡◌, ℕ, zero, suc, ◌+◌, ◌*◌, ◌^◌, ◌-◌, ◌<◌, ◌≤◌, ◌||◌, ◌∙◌, Bool, true, false, List, [], ◌∷◌, ◌++◌, refl, sym, ap, subst, arith, get_or, drop, length, length-append, filter, map, take, Contains}
 use Rattle.std.specs.Prelude.{sum_by}
 use Rattle.std.specs.List.{range_with_len}
 use Rattle.std.specs.Str.{bytes_eq}
@@ -11,7 +11,6 @@ use Rattle.std.proofs.lemmas.List.Sums.{count_by-le-length, length-filter, sum_b
 use Rattle.std.proofs.lemmas.Slice.Eq.{bytes_eq-Decides}
 use Rattle.std.proofs.Math.Seq.{take-append_seam}
 use Rattle.ballot_base.specs.Lists.{IsIncreasing, increasing_lists, lists_of}
-use Rattle.ballot_base.specs.CandSet.{with_member}
 use Rattle.ballot_base.proofs.Committees.{chosen-from_contains, increasing_lists-contains, increasing_lists-order}
 use Rattle.ballot_base.proofs.ListLemmas.{Contains-later}
 use Rattle.ballot_base.proofs.Sums.{sum-most}

@@ -1,12 +1,12 @@
 -- The winners that branches leave, and their order.
-use Rattle.std.proofs.Common.{◌≡◌, ℕ, zero, suc, ◌+◌, ◌<◌, ◌≤◌, ◌||◌, ◌∙◌, Bool, true, false, List, [], ◌∷◌, ◌++◌, refl, sym, ap, subst, arith, get_or, inl, inr, length, length-append, append-nil, append_assoc, filter, Contains, Less}
+use Rattle.std.proofs.Common.{◌≡◌, ℕ, zero, suc, ◌+◌, ◌<◌, ◌≤◌, ◌||◌, ◌∙◌, Bool, true, false, List, [], ◌∷◌, ◌++◌, refl, sym, ap, subst, arith, get_or, inl, inr, length, append-nil, append_assoc, filter, Contains, Less}
 use Rattle.std.specs.List.{range_with_len}
 use Rattle.std.specs.Ordering.{nat_cmp, ordering_then}
 use Rattle.std.specs.Cmp.Lexicographic.{slice_cmp}
 use Rattle.std.proofs.lemmas.Bool.{cases_Bool, false≢true, lt-ltb}
 use Rattle.std.proofs.lemmas.List.Elements.{Contains-get_or, recursion_from_All}
 use Rattle.std.proofs.lemmas.List.Sums.{sum_by-append}
-use Rattle.ballot_base.specs.Lists.{IsIncreasing, IsLater, AreInOrder, is_later}
+use Rattle.ballot_base.specs.Lists.{IsLater, AreInOrder}
 use Rattle.ballot_base.specs.CandSet.{either_members, has_member}
 use Rattle.ballot_base.proofs.FirstMember.{slice_cmp_same}
 use Rattle.ballot_base.proofs.Included.{all-from}
@@ -14,7 +14,7 @@ use Rattle.ballot_base.proofs.Increasing.{has_member-either}
 use Rattle.ballot_base.proofs.Later.{IsLater-from_parts, filter-all, is_later-earlier, is_later-self}
 use Rattle.ballot_base.proofs.ListLemmas.{Contains-later}
 use Rattle.tie_walk.specs.Winners.{winners}
-use Rattle.tie_walk.proofs.LawLemmas.{Contains-filter, Contains-from_filter, IsIncreasing-range, passes-from_filter, winner-from_is, winner-is, winners-order}
+use Rattle.tie_walk.proofs.LawLemmas.{Contains-filter, Contains-from_filter, passes-from_filter, winner-from_is, winner-is, winners-order}
 use Rattle.tie_walk.proofs.StepLemmas.{has_member-range}
 use Rattle.tie_walk.proofs.WinnersLemmas.{same_filter}
 use Rattle.tie_search.specs.Tied.{IsBest}

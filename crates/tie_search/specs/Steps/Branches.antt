@@ -1,6 +1,6 @@
 -- Branches: sets that committees may begin with, and the candidates that may still join them. A stack has the branches
 -- that the winners still to come complete.
-use Rattle.std.specs.Prelude.{◌≡◌, ℕ, ◌+◌, ◌-◌, ◌≤◌, ◌&&◌, Bool, true, false, List, [], ◌∷◌, ◌++◌, Option, None, Some, ⊤, length, filter, sum_by, MatchOption}
+use Rattle.std.specs.Prelude.{◌≡◌, ℕ, ◌+◌, ◌-◌, ◌≤◌, ◌&&◌, Bool, true, List, [], ◌∷◌, ◌++◌, Option, None, Some, ⊤, length, filter, sum_by, MatchOption}
 use Rattle.std.specs.List.{range_with_len}
 use Rattle.ballot_base.specs.CandSet.{either_members, includes}
 use Rattle.ballot_base.specs.Lists.{IsIncreasing, increasing_lists, later_than}

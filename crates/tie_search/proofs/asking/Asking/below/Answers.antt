@@ -1,8 +1,8 @@
-use Rattle.std.proofs.Common.{◌≡◌, ◌+◌, ◌<◌, ◌≤◌, ◌++◌, ◌∷◌, [], ap, arith, subst, sym, ◌∙◌, length, length-append}
+use Rattle.std.proofs.Common.{◌≡◌, ◌+◌, ◌<◌, ◌≤◌, ◌∷◌, [], ap, arith, sym, ◌∙◌, length, length-append}
 use Rattle.std.specs.Prelude.{slice_index_or}
-use Rattle.ballot_base.specs.CandSet.{other_members, with_member}
+use Rattle.ballot_base.specs.CandSet.{other_members}
 use Rattle.tie_search.specs.Alike.{AreAlike}
-use Rattle.tie_search.specs.Steps.Branches.{IsBarren, IsWinnerOf}
+use Rattle.tie_search.specs.Steps.Branches.{IsBarren}
 use Rattle.tie_search.proofs.BranchLemmas.{few-barren, grown-size, joined, left-branch, left-completes, passed, with-branch, without-branch}
 use Rattle.tie_search.proofs.CloneLemmas.{alike-table, minus-most}
 use Rattle.tie_search.proofs.EnteredLemmas.{joined-step, left-step}

@@ -1,10 +1,7 @@
-use Rattle.std.proofs.Common.{◌≡◌, ℕ, List, Option, None, Some, ap, arith, refl, ◌∙◌}
+use Rattle.std.proofs.Common.{◌≡◌, None, Some, ap, refl, ◌∙◌}
 use Rattle.arrayvec.specs.ArrayVec.{ArrayVec}
-use Rattle.tie_walk.specs.Winners.{IsStart}
-use Rattle.tie_search.specs.Tied.{IsAmong}
-use Rattle.tie_search.specs.Steps.Branches.{IsBegun, KnowsBest, first_branches}
+use Rattle.tie_search.specs.Steps.Branches.{IsBegun, first_branches}
 use Rattle.tie_search.specs.declared.asking.Asking.{Asking}
-use Rattle.tie_search.specs.declared.best.Best.{Best}
 use Rattle.tie_search.specs.declared.branch.Branch.{Branch}
 use Rattle.tie_search.proofs.StartLemmas.{begun-from}
 use Rattle.tie_search.proofs.winners.SearchWinners.new.Given.{Over}
