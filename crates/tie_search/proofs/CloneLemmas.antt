@@ -2,12 +2,14 @@
 use Rattle.std.proofs.Common.{◌≡◌, ℕ, ◌+◌, ◌-◌, ◌≤◌, ◌==◌, ◌&&◌, ◌||◌, ◌∙◌, Bool, true, false, not, List, [], refl, sym, ap, subst, arith, inl, inr, length}
 use Rattle.std.specs.Prelude.{slice_index_or}
 use Rattle.std.proofs.lemmas.Bool.{cases_Bool, cases_eq, eq-eqb, ne_eqb, or_right}
+use Rattle.std.proofs.Math.Bool.{and-false}
 use Rattle.ballot_base.specs.Lists.{IsIncreasing}
 use Rattle.ballot_base.specs.CandSet.{has_member, other_members, with_member, without_member}
 use Rattle.ballot_base.specs.Ballots.{Row, hits}
 use Rattle.ballot_base.specs.Clones.{are_clones, clones_among}
 use Rattle.ballot_base.proofs.CloneLemmas.{clones_among-are}
 use Rattle.ballot_base.proofs.Increasing.{IsIncreasing-filter, IsIncreasing-with_member, has_member-filter, has_member-with_member, same_increasing}
+use Rattle.ballot_base.proofs.Passed.{filter-member}
 use Rattle.tie_walk.proofs.Gains.{bit, hits-with}
 use Rattle.tie_walk.proofs.SequenceLemmas.{length-with_member}
 use Rattle.tie_search.specs.Alike.{AreAlike, HasClasses}
@@ -49,10 +51,6 @@ module _ (m : ℕ) (committee : List ℕ) (c d : ℕ) (up : IsIncreasing 1 m com
 
   pub less-out : has_member less c ≡ false
   less-out = member-without committee d c ∙ ap (λ b. not (c == d) && b) out ∙ and-false (not (c == d))
-    where
-      and-false : (b : Bool) → (b && false) ≡ false
-      and-false true = refl
-      and-false false = refl
 
   -- it is as large
   pub exchanged-size : 1 ≤ c → c ≤ m → length (exchanged committee c d) ≡ length committee
@@ -99,11 +97,7 @@ hits-exchanged m ballot committee c d rises up low high here out same =
 -- ---- the search
 
 pub minus-is : (free clones : List ℕ) (x : ℕ) → has_member (other_members free clones) x ≡ true → has_member free x ≡ true
-minus-is free clones x is = both (not (has_member clones x)) (has_member free x) (sym (has_member-filter (λ y. not (has_member clones y)) free x) ∙ is)
-  where
-    both : (p q : Bool) → (p && q) ≡ true → q ≡ true
-    both true q h = h
-    both false q h = absurd cc
+minus-is free clones x is = filter-member (λ y. not (has_member clones y)) free x is
 
 pub minus-most : (free clones : List ℕ) → length (other_members free clones) ≤ length free
 minus-most free clones = filter-most (λ x. not (has_member clones x)) free

@@ -1,6 +1,7 @@
 -- Committees that complete a set, as its members grow and its free candidates are struck out.
 use Rattle.std.proofs.Common.{◌≡◌, ℕ, ◌+◌, ◌-◌, ◌*◌, ◌<◌, ◌≤◌, ◌==◌, ◌&&◌, ◌||◌, ◌∙◌, Bool, true, false, cond, not, List, [], ◌∷◌, ◌++◌, refl, sym, ap, arith, inl, inr, length, filter, sum, take}
-use Rattle.std.proofs.lemmas.Bool.{cases_eq, eq-eqb, ne_eqb, cases_lt, or_right}
+use Rattle.std.proofs.Math.Bool.{or-false}
+use Rattle.std.proofs.lemmas.Bool.{and_parts, cases_eq, eq-eqb, ne_eqb, cases_lt, or_right}
 use Rattle.std.proofs.lemmas.List.Filters.{length-filter_both}
 use Rattle.std.proofs.lemmas.List.Folds.{list_any-append}
 use Rattle.std.proofs.lemmas.List.Sums.{sum_by-cons}
@@ -29,9 +30,7 @@ pub member-without : (set : List ℕ) (n x : ℕ) → has_member (without_member
 member-without set n x = has_member-filter (λ y. not (y == n)) set x
 
 pub and-true : (p q : Bool) → (p && q) ≡ true → (p ≡ true) × (q ≡ true)
-and-true true true h = (refl, refl)
-and-true true false h = absurd cc
-and-true false q h = absurd cc
+and-true p q h = and_parts p q h
 
 without-other : (n x : ℕ) → not (x == n) ≡ true → x ≡ n → ⊥
 without-other n x h same = let e : not (x == n) ≡ false = ap not (eq-eqb x n same) in cc
@@ -201,10 +200,6 @@ module _ (m : ℕ) (set free : List ℕ) (left : ℕ) (committee : List ℕ) (is
       empty : (xs : List ℕ) → length xs ≡ 0 → xs ≡ []
       empty [] h = refl
       empty (x ∷ xs) h = absurd (omega (arith, h))
-
-      or-false : (b : Bool) → (b || false) ≡ b
-      or-false true = refl
-      or-false false = refl
 
 -- a set completes itself
 pub completion-self : (m : ℕ) (set free : List ℕ) → IsNode m set free → IsCompletion m set free 0 set

@@ -115,6 +115,15 @@ none_is_left_out committees len among tied =
 abbrev one_and_two : List (List ℕ)
 one_and_two = (1 ∷ []) ∷ (2 ∷ []) ∷ []
 
+-- two candidates have two committees of one
+of_two : (P : List ℕ → Type 0) → P (1 ∷ []) → P (2 ∷ []) → (committee : List ℕ) → IsBest (λ set. 0) 2 1 committee → P committee
+of_two P one two [] best = absurd (omega (arith, best.size))
+of_two P one two (zero ∷ []) best = absurd (omega (arith, best.candidates.0))
+of_two P one two (suc zero ∷ []) best = one
+of_two P one two (suc (suc zero) ∷ []) best = two
+of_two P one two (suc (suc (suc x)) ∷ []) best = absurd (omega (arith, best.candidates.1))
+of_two P one two (x ∷ y ∷ committee) best = absurd (omega (arith, best.size))
+
 -- where all values are the same, both committees of one tie
 two_tie : AreTied (λ set. 0) alone 2 1 (record { committees = one_and_two; len = 2; are_all = true })
 unfolding lists_of
@@ -123,7 +132,7 @@ two_tie = record {
     some = lit≤ tt;
     few = lit≤ tt;
     each = λ committee among. listed committee among.0 among.1 among.2;
-    all = λ yes committee best. (committee, is_listed committee best, done);
+    all = λ yes committee best. (committee, of_two (IsAmong one_and_two 2) (0, lit< tt, refl) (1, lit< tt, refl) committee best, done);
   };
   full = λ no. absurd cc;
   more = λ no. absurd cc;
@@ -140,14 +149,6 @@ two_tie = record {
     listed committee zero inside is = subst (IsBest (λ set. 0) 2 1) is one
     listed committee (suc zero) inside is = subst (IsBest (λ set. 0) 2 1) is two
     listed committee (suc (suc i)) inside is = absurd (omega (arith, inside))
-
-    is_listed : (committee : List ℕ) → IsBest (λ set. 0) 2 1 committee → IsAmong one_and_two 2 committee
-    is_listed [] best = absurd (omega (arith, best.size))
-    is_listed (zero ∷ []) best = absurd (omega (arith, best.candidates.0))
-    is_listed (suc zero ∷ []) best = (0, lit< tt, refl)
-    is_listed (suc (suc zero) ∷ []) best = (1, lit< tt, refl)
-    is_listed (suc (suc (suc x)) ∷ []) best = absurd (omega (arith, best.candidates.1))
-    is_listed (x ∷ y ∷ committee) best = absurd (omega (arith, best.size))
 
     apart : (i j : ℕ) → i < j → j < 2 → slice_index_or one_and_two i [] ≡ slice_index_or one_and_two j [] → ⊥
     apart i zero before inside same = omega (arith, before)
@@ -182,7 +183,7 @@ one_has_all = record {
     some = lit≤ tt;
     few = lit≤ tt;
     each = λ committee among. listed committee among.0 among.1 among.2;
-    all = λ yes committee best. (1 ∷ [], (0, lit< tt, refl), becomes committee best);
+    all = λ yes committee best. (1 ∷ [], (0, lit< tt, refl), of_two (Becomes 2 both (1 ∷ [])) done two_becomes_one committee best);
   };
   full = λ no. absurd cc;
   more = λ no. absurd cc;
@@ -192,14 +193,6 @@ one_has_all = record {
     listed : (committee : List ℕ) (i : ℕ) → i < 1 → slice_index_or ((1 ∷ []) ∷ []) i [] ≡ committee → IsBest (λ set. 0) 2 1 committee
     listed committee zero inside is = subst (IsBest (λ set. 0) 2 1) is record { candidates = (lit≤ tt, lit≤ tt, tt); size = refl; best = refl }
     listed committee (suc i) inside is = absurd (omega (arith, inside))
-
-    becomes : (committee : List ℕ) → IsBest (λ set. 0) 2 1 committee → Becomes 2 both (1 ∷ []) committee
-    becomes [] best = absurd (omega (arith, best.size))
-    becomes (zero ∷ []) best = absurd (omega (arith, best.candidates.0))
-    becomes (suc zero ∷ []) best = done
-    becomes (suc (suc zero) ∷ []) best = two_becomes_one
-    becomes (suc (suc (suc x)) ∷ []) best = absurd (omega (arith, best.candidates.1))
-    becomes (x ∷ y ∷ committee) best = absurd (omega (arith, best.size))
 
 -- ---- branches: of two of the candidates 1 to 3, the committee of 2 and 3 wins
 

@@ -2,6 +2,7 @@
 use Rattle.std.proofs.Common.{◌≡◌, ℕ, ◌+◌, ◌≤◌, ◌==◌, ◌&&◌, ◌||◌, ◌∙◌, Bool, true, false, cond, List, [], ◌∷◌, ◌++◌, refl, sym, ap, arith, length, filter, sum_by}
 use Rattle.std.proofs.lemmas.List.Folds.{list_any-append}
 use Rattle.std.proofs.lemmas.List.Sums.{sum_by-cons, length-filter}
+use Rattle.std.proofs.Math.Bool.{and_comm}
 use Rattle.ballot_base.specs.CandSet.{has_member, common_members}
 use Rattle.ballot_base.specs.Lists.{IsIncreasing}
 use Rattle.ballot_base.specs.Ballots.{hits}
@@ -48,14 +49,8 @@ hits-turned m ballot committee up rises =
     let same : filter (has_member committee) ballot ≡ filter (has_member ballot) committee =
     same_increasing 1 m (filter (has_member committee) ballot) (filter (has_member ballot) committee) (IsIncreasing-filter (has_member committee) 1 m ballot up)
     (IsIncreasing-filter (has_member ballot) 1 m committee rises)
-    (λ n. has_member-filter (has_member committee) ballot n ∙ swap (has_member committee n) (has_member ballot n) ∙ sym (has_member-filter (has_member ballot) committee n)) in
+    (λ n. has_member-filter (has_member committee) ballot n ∙ and_comm (has_member committee n) (has_member ballot n) ∙ sym (has_member-filter (has_member ballot) committee n)) in
     sym (length-filter (has_member committee) ballot) ∙ ap length same ∙ length-filter (has_member ballot) committee
-  where
-    swap : (p q : Bool) → (p && q) ≡ (q && p)
-    swap true true = refl
-    swap true false = refl
-    swap false true = refl
-    swap false false = refl
 
 -- who is free and on the ballot
 pub free-common : (ballot free : List ℕ) (n : ℕ) → has_member free n ≡ true → has_member (common_members ballot free) n ≡ has_member ballot n
