@@ -1,4 +1,5 @@
 -- Committees that complete a set, as its members grow and its free candidates are struck out.
+use Rattle.std.proofs.lemmas.Grind.{common_steps}
 use Rattle.std.proofs.Common.{◌≡◌, ℕ, ◌+◌, ◌-◌, ◌*◌, ◌<◌, ◌≤◌, ◌==◌, ◌&&◌, ◌||◌, ◌∙◌, Bool, true, false, cond, not, List, [], ◌∷◌, ◌++◌, refl, sym, ap, arith, inl, inr, length, filter, sum, take}
 use Rattle.std.proofs.Math.Bool.{or-false}
 use Rattle.std.proofs.lemmas.Bool.{and_parts, cases_eq, eq-eqb, ne_eqb, cases_lt, or_right}
@@ -146,11 +147,6 @@ module _ (m : ℕ) (set free : List ℕ) (left : ℕ) (committee : List ℕ) (is
   pub added-free : (n : ℕ) → has_member added n ≡ true → has_member free n ≡ true
   added-free = filter-member (has_member committee) free
 
-  both-is : (p q r : Bool) → (p ≡ true → q ≡ true) → (q ≡ true → (p || r) ≡ true) → q ≡ (p || (q && r))
-  both-is true q r h k = h refl
-  both-is false true r h k = sym (k refl)
-  both-is false false r h k = refl
-
   inside-is : (p q : Bool) → (p ≡ true → q ≡ true) → (p && q) ≡ p
   inside-is true q h = h refl
   inside-is false q h = refl
@@ -164,9 +160,7 @@ module _ (m : ℕ) (set free : List ℕ) (left : ℕ) (committee : List ℕ) (is
 
   pub completion-members : (n : ℕ) → has_member committee n ≡ has_member (set ++ added) n
   completion-members n =
-      both-is (has_member set n) (has_member committee n) (has_member free n) (whole.whole n) (whole.within n)
-      ∙ ap (λ b. has_member set n || b) (sym (has_member-filter (has_member committee) free n))
-      ∙ sym (list_any-append (λ y. y == n) set added)
+      grind (arith, common_steps, list_any-append (λ y. y == n) set added, has_member-filter (has_member committee) free n, whole.whole n, whole.within n)
 
   -- the set and those who were added are the whole
   pub completion-inside : filter (has_member set) committee ≡ set

@@ -1,4 +1,5 @@
 -- How many sets are entered on the ways down to winners.
+use Rattle.std.proofs.lemmas.Grind.{common_steps}
 use Rattle.std.proofs.Common.{◌≡◌, ℕ, zero, suc, ◌+◌, ◌*◌, ◌^◌, ◌-◌, ◌<◌, ◌≤◌, ◌||◌, ◌∙◌, Bool, true, false, List, [], ◌∷◌, ◌++◌, refl, sym, ap, subst, arith, get_or, drop, length, length-append, filter, map, take, Contains}
 use Rattle.std.specs.Prelude.{sum_by}
 use Rattle.std.specs.List.{range_with_len}
@@ -56,14 +57,8 @@ sum-parts f g h a (suc n) same =
 both-kept : (p q r : List ℕ → Bool) (xs : List (List ℕ)) → ((x : List ℕ) → p x ≡ (q x || r x)) → ((x : List ℕ) → Contains xs x → q x ≡ true → r x ≡ true → ⊥)
     → length (filter p xs) ≡ length (filter q xs) + length (filter r xs)
 both-kept p q r [] same apart = refl
-both-kept p q r (x ∷ xs) same apart = by (q x) refl (r x) refl (both-kept p q r xs same (λ y c. apart y (Contains-later x y xs c)))
-  where
-    by : (b : Bool) → q x ≡ b → (c : Bool) → r x ≡ c → length (filter p xs) ≡ length (filter q xs) + length (filter r xs)
-        → length (filter p (x ∷ xs)) ≡ length (filter q (x ∷ xs)) + length (filter r (x ∷ xs))
-    by true e true f rest = absurd (apart x (0, omega arith, refl) e f)
-    by true e false f rest = rw (same x, e, f) (omega (arith, rest))
-    by false e true f rest = rw (same x, e, f) (omega (arith, rest))
-    by false e false f rest = rw (same x, e, f) rest
+both-kept p q r (x ∷ xs) same apart =
+    grind (arith, common_steps, both-kept p q r xs same (λ y c. apart y (Contains-later x y xs c)), same x, apart x (0, omega arith, refl))
 
 -- there are not too many lists
 lists-most : (count first size : ℕ) → length (lists_of count first size) ≤ 2 ^ count
@@ -135,10 +130,10 @@ module _ (m k : ℕ) where
 
   longer-none : (size : ℕ) → longer_beginnings m k size [] ≡ 0
   longer-none size =
-      let none = sum-parts (λ s. length (filter (begins_some []) (increasing_lists 1 m s))) (λ s. 0) (λ s. 0) (size + 1) (k - size)
-      (λ s low. ap (λ (l : List (List ℕ)). length l) (none-kept (begins_some []) (increasing_lists 1 m s) (λ x c some. cc))) in
-      let zeros : sum_by (λ s. 0) (range_with_len (size + 1) (k - size)) ≤ length (range_with_len (size + 1) (k - size)) * 0 = sum-most (λ s. 0) 0 (range_with_len (size + 1) (k - size)) (λ s. omega arith) in
-      omega (arith, none, zeros)
+      let range = range_with_len (size + 1) (k - size) in
+      let most : longer_beginnings m k size [] ≤ length range * 0 =
+      sum-most (λ s. length (filter (begins_some []) (increasing_lists 1 m s))) 0 range (λ s. omega (arith, ap (λ (l : List (List ℕ)). length l) (none-kept (begins_some []) (increasing_lists 1 m s) (λ x c some. cc)))) in
+      omega (arith, most)
 
   longer-last : (committees : List (List ℕ)) → longer_beginnings m k k committees ≡ 0
   longer-last committees = let e : k - k ≡ 0 = omega arith in
