@@ -1,4 +1,5 @@
 -- A candidate who was tried takes the place of a clone.
+use Rattle.std.proofs.lemmas.Grind.{common_steps}
 use Rattle.std.proofs.Common.{◌≡◌, ℕ, ◌+◌, ◌-◌, ◌≤◌, ◌==◌, ◌&&◌, ◌||◌, ◌∙◌, Bool, true, false, not, List, [], refl, sym, ap, subst, arith, inl, inr, length}
 use Rattle.std.specs.Prelude.{slice_index_or}
 use Rattle.std.proofs.lemmas.Bool.{cases_Bool, cases_eq, eq-eqb, ne_eqb, or_right}
@@ -30,13 +31,7 @@ pub back : (m : ℕ) (set : List ℕ) (n : ℕ) → IsIncreasing 1 m set → has
 back m set n up here =
     same_increasing 1 m (with_member (without_member set n) n) set
     (IsIncreasing-with_member 1 m (without_member set n) n (member-low 1 m set n up here) (member-high 1 m set n up here) (IsIncreasing-filter (λ x. not (x == n)) 1 m set up)) up
-    (λ x. has_member-with_member (without_member set n) n x ∙ ap (λ b. (n == x) || b) (member-without set n x) ∙ each x)
-  where
-    each : (x : ℕ) → ((n == x) || (not (x == n) && has_member set x)) ≡ has_member set x
-    each x = elim (cases_eq x n) [
-      | inl same ↦ ap (λ b. b || (not (x == n) && has_member set x)) (eq-eqb n x (sym same)) ∙ sym (ap (has_member set) same ∙ here)
-      | inr other ↦ ap (λ b. b || (not (x == n) && has_member set x)) (ne_eqb n x (λ e. other (sym e))) ∙ ap (λ b. not b && has_member set x) (ne_eqb x n other)
-    ]
+    (λ x. grind (arith, common_steps, has_member-with_member (without_member set n) n x, member-without set n x, eq-eqb x n, ne_eqb x n, eq-eqb n x, ne_eqb n x, cases_eq x n))
 
 -- a committee with c in the place of d
 abbrev pub exchanged : List ℕ → ℕ → ℕ → List ℕ

@@ -147,17 +147,6 @@ module _ (m : ℕ) (set free : List ℕ) (left : ℕ) (committee : List ℕ) (is
   pub added-free : (n : ℕ) → has_member added n ≡ true → has_member free n ≡ true
   added-free = filter-member (has_member committee) free
 
-  inside-is : (p q : Bool) → (p ≡ true → q ≡ true) → (p && q) ≡ p
-  inside-is true q h = h refl
-  inside-is false q h = refl
-
-  outside-is : (p q r : Bool) → (q ≡ true → (p || r) ≡ true) → (r ≡ true → p ≡ false) → (not p && q) ≡ (q && r)
-  outside-is true true true k h = let e : true ≡ false = h refl in cc
-  outside-is true true false k h = refl
-  outside-is true false r k h = refl
-  outside-is false true r k h = sym (k refl)
-  outside-is false false r k h = refl
-
   pub completion-members : (n : ℕ) → has_member committee n ≡ has_member (set ++ added) n
   completion-members n =
       grind (arith, common_steps, list_any-append (λ y. y == n) set added, has_member-filter (has_member committee) free n, whole.whole n, whole.within n)
@@ -166,14 +155,12 @@ module _ (m : ℕ) (set free : List ℕ) (left : ℕ) (committee : List ℕ) (is
   pub completion-inside : filter (has_member set) committee ≡ set
   completion-inside =
       same_increasing 1 m (filter (has_member set) committee) set (IsIncreasing-filter (has_member set) 1 m committee whole.candidates) is_node.set_within
-      (λ n. has_member-filter (has_member set) committee n ∙ inside-is (has_member set n) (has_member committee n) (whole.whole n))
+      (λ n. grind (arith, common_steps, has_member-filter (has_member set) committee n, whole.whole n))
 
   pub completion-outside : filter (λ x. not (has_member set x)) committee ≡ added
   completion-outside =
       same_increasing 1 m (filter (λ x. not (has_member set x)) committee) added (IsIncreasing-filter (λ x. not (has_member set x)) 1 m committee whole.candidates) added-increasing
-      (λ n. has_member-filter (λ x. not (has_member set x)) committee n
-      ∙ outside-is (has_member set n) (has_member committee n) (has_member free n) (whole.within n) (is_node.apart n)
-      ∙ sym (has_member-filter (has_member committee) free n))
+      (λ n. grind (arith, common_steps, has_member-filter (λ x. not (has_member set x)) committee n, whole.within n, is_node.apart n, has_member-filter (has_member committee) free n))
 
   pub added-size : length added ≡ left
   added-size =
@@ -208,14 +195,7 @@ completion-self m set free is_node = record {
 
 pub hits-same : (ballot xs ys : List ℕ) → ((n : ℕ) → has_member xs n ≡ has_member ys n) → hits ballot xs ≡ hits ballot ys
 hits-same [] xs ys same = refl
-hits-same (n ∷ ballot) xs ys same =
-    omega (
-      arith,
-      ap {B = ℕ} (λ b. cond b 1 0) (same n),
-      hits-same ballot xs ys same,
-      sum_by-cons (λ y. cond (has_member xs y) 1 0) n ballot,
-      sum_by-cons (λ y. cond (has_member ys y) 1 0) n ballot,
-    )
+hits-same (n ∷ ballot) xs ys same = grind (arith, common_steps, same n, hits-same ballot xs ys same, sum_by-cons)
 
 pub thiele-same : (w : List ℕ) (rows : List Row) (xs ys : List ℕ) → ((n : ℕ) → has_member xs n ≡ has_member ys n) → thiele_value w rows xs ≡ thiele_value w rows ys
 thiele-same w [] xs ys same = refl

@@ -44,15 +44,7 @@ same-next (z ∷ set) more rest (x ∷ front) n y long one other =
 
 sum-parts : (f g h : ℕ → ℕ) (a n : ℕ) → ((s : ℕ) → a ≤ s → f s ≡ g s + h s) → sum_by f (range_with_len a n) ≡ sum_by g (range_with_len a n) + sum_by h (range_with_len a n)
 sum-parts f g h a zero same = refl
-sum-parts f g h a (suc n) same =
-    omega (
-      arith,
-      sum_by-cons f a (range_with_len (a + 1) n),
-      sum_by-cons g a (range_with_len (a + 1) n),
-      sum_by-cons h a (range_with_len (a + 1) n),
-      same a (omega arith),
-      sum-parts f g h (a + 1) n (λ s low. same s (omega (arith, low))),
-    )
+sum-parts f g h a (suc n) same = grind (arith, common_steps, sum_by-cons, same a (omega arith), sum-parts f g h (a + 1) n (λ s low. same s (omega (arith, low))))
 
 both-kept : (p q r : List ℕ → Bool) (xs : List (List ℕ)) → ((x : List ℕ) → p x ≡ (q x || r x)) → ((x : List ℕ) → Contains xs x → q x ≡ true → r x ≡ true → ⊥)
     → length (filter p xs) ≡ length (filter q xs) + length (filter r xs)

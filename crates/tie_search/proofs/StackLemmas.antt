@@ -1,4 +1,5 @@
 -- The winners that branches leave, and their order.
+use Rattle.std.proofs.lemmas.Grind.{common_steps}
 use Rattle.std.proofs.Common.{◌≡◌, ℕ, zero, suc, ◌+◌, ◌<◌, ◌≤◌, ◌||◌, ◌∙◌, Bool, true, false, List, [], ◌∷◌, ◌++◌, refl, sym, ap, subst, arith, get_or, inl, inr, length, append-nil, append_assoc, filter, Contains, Less}
 use Rattle.std.specs.List.{range_with_len}
 use Rattle.std.specs.Ordering.{nat_cmp, ordering_then}
@@ -40,10 +41,7 @@ same-kept p q xs same = same_filter p q xs (recursion_from_All (λ x. p x ≡ q 
 
 pub none-kept : (p : List ℕ → Bool) (xs : List (List ℕ)) → ((x : List ℕ) → Contains xs x → p x ≡ true → ⊥) → filter p xs ≡ []
 none-kept p [] none = refl
-none-kept p (x ∷ xs) none = elim (cases_Bool (p x)) [
-  | inl holds ↦ absurd (none x (0, omega arith, refl) holds)
-  | inr fails ↦ rw fails (none-kept p xs (λ y c. none y (Contains-later x y xs c)))
-]
+none-kept p (x ∷ xs) none = grind (arith, common_steps, none x (0, omega arith, refl), none-kept p xs (λ y c. none y (Contains-later x y xs c)))
 
 pub one-kept : (p : List ℕ → Bool) (one : List ℕ) (xs : List (List ℕ)) → AreInOrder xs → Contains xs one → p one ≡ true → ((x : List ℕ) → Contains xs x → p x ≡ true → x ≡ one)
     → filter p xs ≡ one ∷ []
