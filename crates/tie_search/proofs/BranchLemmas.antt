@@ -284,7 +284,6 @@ module _ (value : List ℕ → ℕ) (m k : ℕ) (branch : Branch) (is : IsBranch
         down whole =
             completes-from m (passed branch (other_members rest (slice_index_or classes next []))) left committee
             (subst (λ l. IsCompletion m branch.set (other_members l clones) left committee) struck
-            (clones-left value m branch.set left (best_value value m k) branch.free branch.free clones next (omega (arith, short)) node here
+            (clones-left value m branch.set left (best_value value m k) branch.free clones next (omega (arith, short)) node here
             (λ other d up has out class. alike other next d up (omega (arith, free-up.0)) free-up.1 class has out)
-            (λ other other-whole reaches. other-whole)
             none-with committee (completion-from value m k branch is left committee (omega (arith, short)) (record { best = best; whole = whole })) (omega (arith, best.best))))

@@ -94,26 +94,16 @@ module _ (m : ℕ) (set free : List ℕ) (left n : ℕ) (is_node : IsNode m set 
   completion-without committee whole out = record {
     candidates = whole.candidates;
     whole = whole.whole;
-    within = λ x is. (member-without-or x (λ same. absurd (let e : true ≡ false = sym is ∙ ap (has_member committee) same ∙ out in cc))) ∙ whole.within x is;
+    within = λ x is. grind (arith, common_steps, member-without free n x, whole.within x is, out, eq-eqb x n, cases_eq x n);
     size = whole.size;
   }
-    where
-      member-without-or : (x : ℕ) → (x ≡ n → ⊥) → (has_member set x || has_member (without_member free n) x) ≡ (has_member set x || has_member free x)
-      member-without-or x other = ap (λ b. has_member set x || b) (member-without free n x ∙ ap (λ b. not b && has_member free x) (ne_eqb x n other))
 
   -- a committee with it
   pub completion-with : (committee : List ℕ) → 1 ≤ left → IsCompletion m set free left committee → has_member committee n ≡ true → IsCompletion m (with_member set n) (without_member free n) (left - 1) committee
   completion-with committee some whole in_ = record {
     candidates = whole.candidates;
-    whole = λ x is. elim (cases_eq x n) [
-      | inl same ↦ ap (has_member committee) same ∙ in_
-      | inr other ↦ whole.whole x (sym (with-stays set n x other) ∙ is)
-    ];
-    within = λ x is. elim (cases_eq x n) [
-      | inl same ↦ ap (λ b. b || has_member (without_member free n) x) (with-is set n x same)
-      | inr other ↦ ap (λ b. b || has_member (without_member free n) x) (with-stays set n x other)
-          ∙ ap (λ b. has_member set x || b) (member-without free n x ∙ ap (λ b. not b && has_member free x) (ne_eqb x n other)) ∙ whole.within x is
-    ];
+    whole = λ x is. grind (arith, common_steps, has_member-with_member set n x, whole.whole x, is, in_, cases_eq x n, ne_eqb n x);
+    within = λ x is. grind (arith, common_steps, has_member-with_member set n x, member-without free n x, whole.within x is, cases_eq x n, eq-eqb n x, ne_eqb x n);
     size = omega (arith, whole.size, longer, some);
   }
 
@@ -122,15 +112,8 @@ module _ (m : ℕ) (set free : List ℕ) (left n : ℕ) (is_node : IsNode m set 
       → IsCompletion m (with_member set n) rest (left - 1) committee → IsCompletion m set free left committee
   completion-back rest committee some among below = record {
     candidates = below.candidates;
-    whole = λ x is. elim (cases_eq x n) [
-      | inl same ↦ below.whole x (with-is set n x same)
-      | inr other ↦ below.whole x (with-stays set n x other ∙ is)
-    ];
-    within = λ x is. elim (cases_eq x n) [
-      | inl same ↦ or_right (has_member set x) (has_member free x) (ap (has_member free) same ∙ here)
-      | inr other ↦ or-more (has_member set x) (has_member rest x) (has_member free x) (among x)
-          (sym (ap (λ b. b || has_member rest x) (with-stays set n x other)) ∙ below.within x is)
-    ];
+    whole = λ x is. grind (arith, common_steps, has_member-with_member set n x, below.whole x, is);
+    within = λ x is. grind (arith, common_steps, has_member-with_member set n x, below.within x is, among x, here, cases_eq x n, ne_eqb n x);
     size = omega (arith, below.size, longer, some);
   }
 
