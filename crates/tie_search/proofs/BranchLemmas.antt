@@ -1,4 +1,5 @@
 -- One branch: the committees that complete it, and who leaves with a candidate.
+use Rattle.std.proofs.lemmas.Grind.{common_steps}
 use Rattle.std.proofs.Common.{◌≡◌, ℕ, ◌+◌, ◌-◌, ◌<◌, ◌≤◌, ◌==◌, ◌||◌, ◌∙◌, Bool, true, false, append_assoc, not, List, [], ◌∷◌, ◌++◌, Option, None, Some, refl, sym, ap, subst, arith, inl, inr, length, length-append, filter}
 use Rattle.std.specs.Cmp.{both_ways}
 use Rattle.std.proofs.lemmas.Bool.{and_from, and_parts, or_left, or_right, cases_Bool, cases_lt, eq-eqb, ne_eqb}
@@ -207,7 +208,7 @@ module _ (value : List ℕ → ℕ) (m k : ℕ) (branch : Branch) (is : IsBranch
     where
       by : (low : ℕ) (xs : List ℕ) → next < low → IsIncreasing low m xs → filter (λ x. not (x == next)) xs ≡ xs
       by low [] less up = refl
-      by low (x ∷ xs) less up = rw (ne_eqb x next (λ e. omega (arith, e, less, up.0))) (ap (λ l. x ∷ l) (by (x + 1) xs (omega (arith, less, up.0)) up.2))
+      by low (x ∷ xs) less up = grind (arith, common_steps, ne_eqb x next, by (x + 1) xs (omega (arith, less, up.0)) up.2, less, up.0)
 
   -- who completes the branch completes the one with the candidate or the one (passed branch rest)
   pub split-same : (committee : List ℕ) → IsBest value m k committee → completes branch committee ≡ (completes (joined branch next rest) committee || completes (passed branch rest) committee)

@@ -1,8 +1,8 @@
 -- A candidate who was tried takes the place of a clone.
 use Rattle.std.proofs.lemmas.Grind.{common_steps}
-use Rattle.std.proofs.Common.{◌≡◌, ℕ, ◌+◌, ◌-◌, ◌≤◌, ◌==◌, ◌&&◌, ◌||◌, ◌∙◌, Bool, true, false, not, List, [], refl, sym, ap, subst, arith, inl, inr, length}
+use Rattle.std.proofs.Common.{◌≡◌, ℕ, ◌+◌, ◌-◌, ◌≤◌, ◌==◌, ◌&&◌, ◌||◌, ◌∙◌, true, false, not, List, [], refl, sym, ap, subst, arith, inl, inr, length}
 use Rattle.std.specs.Prelude.{slice_index_or}
-use Rattle.std.proofs.lemmas.Bool.{cases_Bool, cases_eq, eq-eqb, ne_eqb, or_right}
+use Rattle.std.proofs.lemmas.Bool.{cases_Bool, cases_eq, eq-eqb, ne_eqb}
 use Rattle.std.proofs.Math.Bool.{and-false}
 use Rattle.ballot_base.specs.Lists.{IsIncreasing}
 use Rattle.ballot_base.specs.CandSet.{has_member, other_members, with_member, without_member}
@@ -15,7 +15,7 @@ use Rattle.tie_walk.proofs.Gains.{bit, hits-with}
 use Rattle.tie_walk.proofs.SequenceLemmas.{length-with_member}
 use Rattle.tie_search.specs.Alike.{AreAlike, HasClasses}
 use Rattle.tie_search.specs.Completions.{IsCompletion, IsNode, IsOutOfReach}
-use Rattle.tie_search.proofs.CompletionLemmas.{completion-with, filter-most, member-high, member-low, member-without, without-is}
+use Rattle.tie_search.proofs.CompletionLemmas.{completion-with, filter-most, member-high, member-low, member-without}
 
 -- ---- a member in the place of another
 

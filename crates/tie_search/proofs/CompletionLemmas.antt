@@ -1,8 +1,8 @@
 -- Committees that complete a set, as its members grow and its free candidates are struck out.
 use Rattle.std.proofs.lemmas.Grind.{common_steps}
-use Rattle.std.proofs.Common.{◌≡◌, ℕ, ◌+◌, ◌-◌, ◌*◌, ◌<◌, ◌≤◌, ◌==◌, ◌&&◌, ◌||◌, ◌∙◌, Bool, true, false, cond, not, List, [], ◌∷◌, ◌++◌, refl, sym, ap, arith, inl, inr, length, filter, sum, take}
+use Rattle.std.proofs.Common.{◌≡◌, ℕ, ◌+◌, ◌-◌, ◌*◌, ◌<◌, ◌≤◌, ◌==◌, ◌&&◌, ◌||◌, ◌∙◌, Bool, true, false, not, List, [], ◌∷◌, ◌++◌, refl, sym, ap, arith, inl, inr, length, filter, sum, take}
 use Rattle.std.proofs.Math.Bool.{or-false}
-use Rattle.std.proofs.lemmas.Bool.{and_parts, cases_eq, eq-eqb, ne_eqb, cases_lt, or_right}
+use Rattle.std.proofs.lemmas.Bool.{and_parts, cases_eq, eq-eqb, ne_eqb, cases_lt}
 use Rattle.std.proofs.lemmas.List.Filters.{length-filter_both}
 use Rattle.std.proofs.lemmas.List.Folds.{list_any-append}
 use Rattle.std.proofs.lemmas.List.Sums.{sum_by-cons}
@@ -46,24 +46,13 @@ without-not set n x h = without-other n x (and-true (not (x == n)) (has_member s
 with-stays : (set : List ℕ) (n x : ℕ) → (x ≡ n → ⊥) → has_member (with_member set n) x ≡ has_member set x
 with-stays set n x other = has_member-with_member set n x ∙ ap (λ b. b || has_member set x) (ne_eqb n x (λ e. other (sym e)))
 
-with-is : (set : List ℕ) (n x : ℕ) → x ≡ n → has_member (with_member set n) x ≡ true
-with-is set n x same = has_member-with_member set n x ∙ ap (λ b. b || has_member set x) (eq-eqb n x (sym same))
-
 pub filter-most : (p : ℕ → Bool) (xs : List ℕ) → length (filter p xs) ≤ length xs
 filter-most p xs = omega (arith, length-filter_both p (λ x. not (p x)) (λ x. refl) xs)
 
 -- a member less is shorter
 pub without-shorter : (set : List ℕ) (n : ℕ) → has_member set n ≡ true → length (without_member set n) < length set
 without-shorter [] n h = absurd cc
-without-shorter (x ∷ set) n h = elim (cases_eq x n) [
-  | inl same ↦
-      let out : without_member (x ∷ set) n ≡ without_member set n = simp (eq-eqb x n same) in
-      omega (arith, ap length out, filter-most (λ y. not (y == n)) set)
-  | inr other ↦
-      let in_ : without_member (x ∷ set) n ≡ x ∷ without_member set n = simp (ne_eqb x n other) in
-      let more : has_member set n ≡ true = ap (λ b. b || has_member set n) (sym (ne_eqb x n other)) ∙ h in
-      omega (arith, ap length in_, without-shorter set n more)
-]
+without-shorter (x ∷ set) n h = grind (arith, common_steps, without-shorter set n, filter-most (λ y. not (y == n)) set, h, cases_eq x n, eq-eqb x n, ne_eqb x n)
 
 pub or-more : (p q r : Bool) → (q ≡ true → r ≡ true) → (p || q) ≡ true → (p || r) ≡ true
 or-more true q r h is = refl

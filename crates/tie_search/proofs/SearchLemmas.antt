@@ -1,15 +1,13 @@
 -- The value of a set with one more member, and what a node that was searched leaves.
-use Rattle.std.proofs.lemmas.Grind.{common_steps}
-use Rattle.std.proofs.Common.{◌≡◌, ℕ, ◌-◌, ◌≤◌, ◌==◌, ◌||◌, ◌∙◌, Bool, true, false, cond, List, [], ◌∷◌, ◌++◌, refl, sym, ap, arith, inl, inr}
+use Rattle.std.proofs.Common.{◌≡◌, ℕ, ◌≤◌, ◌==◌, ◌||◌, ◌∙◌, Bool, true, false, cond, List, [], ◌∷◌, ◌++◌, sym, ap, arith, inl, inr}
 use Rattle.std.proofs.lemmas.Bool.{cases_lt}
 use Rattle.std.proofs.Math.Bool.{or-false, or_comm}
 use Rattle.std.proofs.lemmas.List.Folds.{list_any-append}
-use Rattle.ballot_base.specs.CandSet.{has_member, with_member, without_member}
+use Rattle.ballot_base.specs.CandSet.{has_member, with_member}
 use Rattle.ballot_base.proofs.Increasing.{has_member-with_member}
 pub use Rattle.ballot_base.proofs.Sums.{length-among, rest-increasing, sum-among, sum-most, sum-threshold}
 use Rattle.tie_walk.specs.Ceilings.{IsSubmodular}
-use Rattle.tie_search.specs.Completions.{IsNode, IsCompletion, IsOutOfReach}
-use Rattle.tie_search.proofs.CompletionLemmas.{completion-with, completion-without}
+use Rattle.tie_search.specs.Completions.{IsCompletion, IsOutOfReach}
 
 -- ---- values see only the members
 

@@ -1,6 +1,6 @@
 -- The winners that branches leave, and their order.
 use Rattle.std.proofs.lemmas.Grind.{common_steps}
-use Rattle.std.proofs.Common.{◌≡◌, ℕ, zero, suc, ◌+◌, ◌<◌, ◌≤◌, ◌||◌, ◌∙◌, Bool, true, false, List, [], ◌∷◌, ◌++◌, refl, sym, ap, subst, arith, get_or, inl, inr, length, append-nil, append_assoc, filter, Contains, Less}
+use Rattle.std.proofs.Common.{◌≡◌, ℕ, zero, suc, ◌+◌, ◌<◌, ◌≤◌, ◌||◌, ◌∙◌, Bool, true, List, [], ◌∷◌, ◌++◌, refl, sym, ap, subst, arith, get_or, inl, inr, length, append-nil, append_assoc, filter, Contains, Less}
 use Rattle.std.specs.List.{range_with_len}
 use Rattle.std.specs.Ordering.{nat_cmp, ordering_then}
 use Rattle.std.specs.Cmp.Lexicographic.{slice_cmp}
@@ -62,20 +62,13 @@ pub parts-kept : (p q r : List ℕ → Bool) (xs : List (List ℕ)) → AreInOrd
     → ((x y : List ℕ) → Contains xs x → Contains xs y → q x ≡ true → r y ≡ true → IsLater y x) → filter p xs ≡ filter q xs ++ filter r xs
 parts-kept p q r [] order same before = refl
 parts-kept p q r (x ∷ xs) order same before =
-    by (q x) refl (r x) refl
-    (parts-kept p q r xs (rest-order x xs order) (λ y c. same y (Contains-later x y xs c)) (λ y z c d. before y z (Contains-later x y xs c) (Contains-later x z xs d)))
-  where
-    first : Contains (x ∷ xs) x
-    first = (0, omega arith, refl)
-
-    by : (b : Bool) → q x ≡ b → (c : Bool) → r x ≡ c → filter p xs ≡ filter q xs ++ filter r xs → filter p (x ∷ xs) ≡ filter q (x ∷ xs) ++ filter r (x ∷ xs)
-    by true e true f rest = absurd (not-later x x refl (before x x first first e f))
-    by true e false f rest = rw (same x first, e, f) (ap (λ l. x ∷ l) rest)
-    by false e true f rest =
-        let none : filter q xs ≡ [] = none-kept q xs (λ y c holds.
-        false≢true (sym (is_later-earlier y x (later-in x y xs order c)) ∙ before y x (Contains-later x y xs c) first holds f)) in
-        rw (same x first, e, f) (ap (λ l. x ∷ l) (rest ∙ ap (λ l. l ++ filter r xs) none) ∙ sym (ap (λ l. l ++ x ∷ filter r xs) none))
-    by false e false f rest = rw (same x first, e, f) rest
+    let first : Contains (x ∷ xs) x = (0, omega arith, refl) in
+    let rest : filter p xs ≡ filter q xs ++ filter r xs =
+    parts-kept p q r xs (rest-order x xs order) (λ y c. same y (Contains-later x y xs c)) (λ y z c d. before y z (Contains-later x y xs c) (Contains-later x z xs d)) in
+    let apart : q x ≡ true → r x ≡ true → ⊥ = λ e f. not-later x x refl (before x x first first e f) in
+    let none : r x ≡ true → filter q xs ≡ [] = λ f. none-kept q xs (λ y c holds.
+    false≢true (sym (is_later-earlier y x (later-in x y xs order c)) ∙ before y x (Contains-later x y xs c) first holds f)) in
+    grind (arith, common_steps, same x first, rest, apart, none)
 
 -- a list that goes on with a greater number is later
 pub greater-later : (front more rest : List ℕ) (n y : ℕ) → n < y → length (front ++ y ∷ more) ≡ length (front ++ n ∷ rest) → IsLater (front ++ y ∷ more) (front ++ n ∷ rest)
