@@ -1,4 +1,5 @@
 -- Exchanges of clones: how many members of a class a committee has, and which branches it completes.
+use Rattle.std.proofs.lemmas.Grind.{common_steps}
 use Rattle.std.proofs.Common.{◌≡◌, ℕ, ◌+◌, ◌≤◌, ◌==◌, ◌&&◌, ◌∙◌, true, List, [], ◌∷◌, ◌++◌, refl, sym, ap, arith}
 use Rattle.std.specs.List.{AllByRecursion, range_with_len}
 use Rattle.std.proofs.lemmas.Bool.{and_parts}
@@ -7,7 +8,7 @@ use Rattle.ballot_base.specs.Lists.{IsIncreasing}
 use Rattle.ballot_base.specs.CandSet.{either_members, has_member, includes, with_member, without_member}
 use Rattle.ballot_base.specs.Ballots.{Row, hits}
 use Rattle.ballot_base.specs.Clones.{are_clones, clones_among}
-use Rattle.ballot_base.proofs.CloneLemmas.{clones-same, clones_among-are, is_both}
+use Rattle.ballot_base.proofs.CloneLemmas.{clones-same, clones_among-are}
 use Rattle.ballot_base.proofs.Committees.{IsIncreasing-range}
 use Rattle.ballot_base.proofs.Included.{all-at}
 use Rattle.ballot_base.proofs.Increasing.{IsIncreasing-filter, has_member-either, has_member-filter}
@@ -35,8 +36,7 @@ clones-rise m rows c = IsIncreasing-filter (are_clones rows c) 1 m (range_with_l
 -- two clones are clones of the same candidates
 clones-alike : (rows : List Row) (e c d : ℕ) → AllByRecursion (λ (row : Row). has_member row.0 c ≡ has_member row.0 d) rows → are_clones rows e c ≡ are_clones rows e d
 clones-alike [] e c d same = refl
-clones-alike (row ∷ rows) e c d same =
-    ap (λ b. is_both (has_member row.0 e) b && are_clones rows e c) same.0 ∙ ap (λ b. is_both (has_member row.0 e) (has_member row.0 d) && b) (clones-alike rows e c d same.1)
+clones-alike (row ∷ rows) e c d same = grind (arith, common_steps, same.0, clones-alike rows e c d same.1)
 
 pub clones-classes : (m : ℕ) (rows : List Row) → AreClasses m (clones_among m rows)
 clones-classes m rows e c d first last low high is =

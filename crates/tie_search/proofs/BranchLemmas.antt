@@ -1,23 +1,32 @@
 -- One branch: the committees that complete it, and who leaves with a candidate.
-use Rattle.std.proofs.Common.{◌≡◌, ℕ, ◌+◌, ◌-◌, ◌<◌, ◌≤◌, ◌==◌, ◌&&◌, ◌||◌, ◌∙◌, Bool, true, false, not, List, [], ◌∷◌, ◌++◌, refl, sym, ap, subst, arith, inl, inr, ◌⊎◌, length, length-append}
+use Rattle.std.proofs.lemmas.Grind.{common_steps}
+use Rattle.std.proofs.Common.{◌≡◌, ℕ, ◌+◌, ◌-◌, ◌<◌, ◌≤◌, ◌==◌, ◌||◌, ◌∙◌, Bool, true, false, append_assoc, not, List, [], ◌∷◌, ◌++◌, Option, None, Some, refl, sym, ap, subst, arith, inl, inr, length, length-append, filter}
 use Rattle.std.specs.Cmp.{both_ways}
-use Rattle.std.proofs.lemmas.Bool.{and_from, and_parts, or_cases, or_left, or_right, cases_Bool, cases_eq, cases_lt, eq-eqb, false≢true, ne_eqb}
-use Rattle.std.specs.Prelude.{slice_index_or}
+use Rattle.std.proofs.lemmas.Bool.{and_from, and_parts, or_left, or_right, cases_Bool, cases_lt, eq-eqb, ne_eqb}
+use Rattle.std.specs.Prelude.{MatchOption, slice_index_or}
 use Rattle.ballot_base.specs.Lists.{IsIncreasing}
 use Rattle.ballot_base.specs.CandSet.{either_members, has_member, includes, other_members, with_member, without_member}
-use Rattle.ballot_base.proofs.Committees.{increasing_lists-contains}
+use Rattle.ballot_base.proofs.Committees.{increasing_lists-contains, length-increasing}
 use Rattle.ballot_base.proofs.Included.{all-at, all-from}
-use Rattle.ballot_base.proofs.Increasing.{IsIncreasing-either, IsIncreasing-filter, IsIncreasing-higher, IsIncreasing-lower, has_member-above, has_member-below, has_member-either, has_member-filter, has_member-with_member, has_member_head, same_increasing, with_member-above}
+use Rattle.ballot_base.proofs.Increasing.{IsIncreasing-either, IsIncreasing-filter, IsIncreasing-higher, IsIncreasing-lower, IsIncreasing-push, has_member-above, has_member-either, has_member_head, same_increasing, with_member-above}
 use Rattle.tie_walk.specs.Winners.{best_value}
 use Rattle.tie_walk.proofs.LawLemmas.{no_greater_value}
 use Rattle.tie_search.specs.Alike.{AreAlike}
-use Rattle.tie_search.specs.Completions.{IsCompletion, IsNode, IsOutOfReach}
+use Rattle.tie_search.specs.Completions.{IsCompletion, IsNode, IsOutOfReach, IsReaching}
 use Rattle.tie_search.specs.Tied.{IsBest}
-use Rattle.tie_search.specs.Steps.Branches.{ComesBefore, IsBarren, IsBranch, completes}
+use Rattle.tie_search.specs.Steps.Branches.{IsAnswer, IsBarren, IsBranch, IsWinnerOf, completes}
 use Rattle.tie_search.specs.declared.branch.Branch.{Branch}
-use Rattle.tie_search.proofs.CloneLemmas.{clones-left}
-use Rattle.tie_search.proofs.CompletionLemmas.{completion-back, member-high, member-low, without-is}
+use Rattle.tie_search.proofs.CloneLemmas.{clones-left, minus-is}
+use Rattle.tie_search.proofs.CompletionLemmas.{added, added-free, added-size, completion-back, completion-few, completion-members, completion-self, completion-whole, completion-with, completion-without, member-high, member-low, or-more}
 use Rattle.tie_search.proofs.ReachLemmas.{increasing-append}
+
+-- the branch after a candidate has joined its set
+abbrev pub joined : Branch → ℕ → List ℕ → Branch
+joined branch next rest = record { set = with_member branch.set next; free = rest }
+
+-- the branch after candidates have left
+abbrev pub passed : Branch → List ℕ → Branch
+passed branch rest = record { set = branch.set; free = rest }
 
 pub branch-node : (m k : ℕ) (branch : Branch) → IsBranch m k branch → IsNode m branch.set branch.free
 branch-node m k branch is = record {
@@ -26,23 +35,23 @@ branch-node m k branch is = record {
   apart = λ n here. has_member-above 1 is.last branch.set n is.set_upto (let low : is.last + 1 ≤ n = member-low (is.last + 1) m branch.free n is.free_after here in omega arith);
 }
 
--- a committee of k completes it exactly if it completes its set
-pub completion-from : (m k : ℕ) (branch : Branch) (committee : List ℕ) → IsBranch m k branch → IsIncreasing 1 m committee → length committee ≡ k → completes branch committee ≡ true
-    → IsCompletion m branch.set branch.free (k - length branch.set) committee
-completion-from m k branch committee is up size whole =
-    let parts = and_parts (includes committee branch.set) (includes (either_members branch.set branch.free) committee) whole in
-    record {
-      candidates = up;
-      whole = λ n here. all-at (has_member committee) branch.set n parts.0 here;
-      within = λ n here. sym (has_member-either branch.set branch.free n) ∙ all-at (has_member (either_members branch.set branch.free)) committee n parts.1 here;
-      size = omega (arith, size, is.size);
-    }
-
+-- what completes the set completes the branch
 pub completes-from : (m : ℕ) (branch : Branch) (left : ℕ) (committee : List ℕ) → IsCompletion m branch.set branch.free left committee → completes branch committee ≡ true
 completes-from m branch left committee whole =
     and_from (includes committee branch.set) (includes (either_members branch.set branch.free) committee)
     (all-from (has_member committee) branch.set (λ n here. whole.whole n here))
     (all-from (has_member (either_members branch.set branch.free)) committee (λ n here. has_member-either branch.set branch.free n ∙ whole.within n here))
+
+-- it does so as well if more are free
+completes-wider : (branch : Branch) (free committee : List ℕ) → ((n : ℕ) → has_member free n ≡ true → has_member branch.free n ≡ true)
+    → completes (passed branch free) committee ≡ true → completes branch committee ≡ true
+completes-wider branch free committee among whole =
+    let either = either_members branch.set branch.free in
+    let parts = and_parts (includes committee branch.set) (includes (either_members branch.set free) committee) whole in
+    and_from (includes committee branch.set) (includes either committee) parts.0
+    (all-from (has_member either) committee (λ n here. has_member-either branch.set branch.free n
+    ∙ or-more (has_member branch.set n) (has_member free n) (has_member branch.free n) (among n)
+    (sym (has_member-either branch.set free n) ∙ all-at (has_member (either_members branch.set free)) committee n parts.1 here)))
 
 -- no member is past the candidates
 pub completes-up : (m k : ℕ) (branch : Branch) (committee : List ℕ) (last : ℕ) → IsBranch m k branch → IsIncreasing 1 last committee → completes branch committee ≡ true → IsIncreasing 1 m committee
@@ -63,25 +72,116 @@ completes-up m k branch committee last is up whole = narrower 1 committee up (λ
     narrower low [] up high = tt
     narrower low (x ∷ xs) up high = (up.0, high x (has_member_head x xs), narrower (x + 1) xs up.2 (λ n here. high n (or_right (x == n) (has_member xs n) here)))
 
+-- a committee of at least the highest value has it
+pub best-from : (value : List ℕ → ℕ) (m k : ℕ) (committee : List ℕ) → IsIncreasing 1 m committee → length committee ≡ k → best_value value m k ≤ value committee → IsBest value m k committee
+best-from value m k committee up size reaches = record {
+  candidates = up;
+  size = size;
+  best = omega (arith, reaches, no_greater_value value m k committee (increasing_lists-contains 1 m k committee (up, size)));
+}
+
+module _ (value : List ℕ → ℕ) (m k : ℕ) (branch : Branch) (is : IsBranch m k branch) where
+  -- a winner completes the branch exactly if it completes its set
+  pub completion-from : (left : ℕ) (committee : List ℕ) → length branch.set + left ≡ k → IsWinnerOf value m k branch committee → IsCompletion m branch.set branch.free left committee
+  completion-from left committee size wins =
+      let either = either_members branch.set branch.free in
+      let parts = and_parts (includes committee branch.set) (includes either committee) wins.whole in
+      record {
+        candidates = wins.best.candidates;
+        whole = λ n here. all-at (has_member committee) branch.set n parts.0 here;
+        within = λ n here. sym (has_member-either branch.set branch.free n) ∙ all-at (has_member either) committee n parts.1 here;
+        size = omega (arith, size, wins.best.size);
+      }
+
+  pub winner-from : (left : ℕ) (committee : List ℕ) → length branch.set + left ≡ k → IsCompletion m branch.set branch.free left committee → best_value value m k ≤ value committee
+      → IsWinnerOf value m k branch committee
+  winner-from left committee size whole reaches = record {
+    best = best-from value m k committee whole.candidates (omega (arith, size, whole.size)) reaches;
+    whole = completes-from m branch left committee whole;
+  }
+
+  abbrev pub room : ℕ
+  room = k - length branch.set
+
+  room-is : length branch.set + room ≡ k
+  room-is = omega (arith, is.size)
+
+  -- so what a search finds is a winner
+  pub found-answer : (answer : Option (List ℕ))
+      → MatchOption answer (IsOutOfReach value m branch.set branch.free room (best_value value m k)) (IsReaching value m branch.set branch.free room (best_value value m k))
+      → IsAnswer value m k branch answer
+  found-answer None none = λ committee wins. let under : value committee < best_value value m k = none committee (completion-from room committee room-is wins) in omega (arith, under, wins.best.best)
+  found-answer (Some committee) found = winner-from room committee room-is found.completes found.reaches
+
+  -- a winner is the set and free candidates after its members
+  pub added-later : (committee : List ℕ) → IsWinnerOf value m k branch committee
+      → (more : List ℕ) × (committee ≡ branch.set ++ more) × (length more ≡ room) × ((n : ℕ) → has_member more n ≡ true → has_member branch.free n ≡ true)
+  added-later committee wins =
+      let node = branch-node m k branch is in
+      let done = completion-from room committee room-is wins in
+      let more = added m branch.set branch.free room committee node done in
+      let rises : IsIncreasing (is.last + 1) m more = IsIncreasing-filter (has_member committee) (is.last + 1) m branch.free is.free_after in (
+        more,
+        same_increasing 1 m committee (branch.set ++ more) wins.best.candidates (increasing-append 1 is.last m branch.set more (omega arith) is.within is.set_upto rises)
+            (completion-members m branch.set branch.free room committee node done),
+        added-size m branch.set branch.free room committee node done,
+        added-free m branch.set branch.free room committee node done,
+      )
+
+  -- with the first of those candidates, if there is one
+  pub goes-on : (committee : List ℕ) → length branch.set < k → IsWinnerOf value m k branch committee
+      → (n : ℕ) × (more : List ℕ) × (committee ≡ branch.set ++ n ∷ more) × (has_member branch.free n ≡ true)
+  goes-on committee short wins = let all = added-later committee wins in by all.0 all.1 all.2 all.3
+    where
+      by : (more : List ℕ) → committee ≡ branch.set ++ more → length more ≡ room → ((n : ℕ) → has_member more n ≡ true → has_member branch.free n ≡ true)
+          → (n : ℕ) × (more : List ℕ) × (committee ≡ branch.set ++ n ∷ more) × (has_member branch.free n ≡ true)
+      by [] made many free = absurd (omega (arith, many, short))
+      by (n ∷ more) made many free = (n, more, made, free n (has_member_head n more))
+
+  -- a set of k that a winner completes is the winner
+  pub whole-is : (committee : List ℕ) → length branch.set ≡ k → IsWinnerOf value m k branch committee → committee ≡ branch.set
+  whole-is committee long wins =
+      completion-whole m branch.set branch.free 0 committee (branch-node m k branch is) (completion-from 0 committee (omega (arith, long)) wins) refl
+
+  -- it is one if it is worth enough
+  pub whole-winner : length branch.set ≡ k → best_value value m k ≤ value branch.set → IsWinnerOf value m k branch branch.set
+  whole-winner long reaches = winner-from 0 branch.set (omega (arith, long)) (completion-self m branch.set branch.free (branch-node m k branch is)) reaches
+
+  pub whole-barren : length branch.set ≡ k → value branch.set < best_value value m k → IsBarren value m k branch
+  whole-barren long under committee wins = omega (arith, under, ap value (whole-is committee long wins), wins.best.best)
+
+  -- too few are free
+  pub few-barren : length branch.set + length branch.free < k → IsBarren value m k branch
+  few-barren few committee wins =
+      let enough = completion-few m branch.set branch.free room committee (branch-node m k branch is) (completion-from room committee room-is wins) in
+      omega (arith, enough, few)
+
+  -- no more candidates are free than there are
+  pub free-most : length branch.free ≤ m
+  free-most = omega (arith, length-increasing (is.last + 1) m branch.free is.free_after, is.within)
+
 -- ---- the first free candidate
 
-module _ (m k : ℕ) (branch : Branch) (is : IsBranch m k branch) (next : ℕ) (rest : List ℕ) (first : branch.free ≡ next ∷ rest) where
-  free-up : IsIncreasing (is.last + 1) m (next ∷ rest)
+module _ (value : List ℕ → ℕ) (m k : ℕ) (branch : Branch) (is : IsBranch m k branch) (short : length branch.set < k) (next : ℕ) (rest : List ℕ) (first : branch.free ≡ next ∷ rest) where
+  pub free-up : IsIncreasing (is.last + 1) m (next ∷ rest)
   free-up = subst (IsIncreasing (is.last + 1) m) first is.free_after
 
   pub grown-is : with_member branch.set next ≡ branch.set ++ next ∷ []
   grown-is = with_member-above 1 is.last branch.set next is.set_upto (omega (arith, free-up.0))
 
-  pub with-branch : length branch.set < k → IsBranch m k (record { set = with_member branch.set next; free = rest })
-  with-branch short = record {
+  pub grown-size : length (with_member branch.set next) ≡ length branch.set + 1
+  grown-size = omega (arith, ap length grown-is, length-append branch.set (next ∷ []))
+
+  pub with-branch : IsBranch m k (joined branch next rest)
+  with-branch = record {
     last = next;
     within = free-up.1;
-    set_upto = subst (IsIncreasing 1 next) (sym grown-is) (increasing-append 1 is.last next branch.set (next ∷ []) (omega arith) (omega (arith, free-up.0)) is.set_upto (free-up.0, omega arith, tt));
+    set_upto = rw grown-is (IsIncreasing-push 1 is.last branch.set next is.set_upto (omega (arith, free-up.0)) (omega (arith, free-up.0)));
     free_after = free-up.2;
-    size = omega (arith, short, ap length grown-is, length-append branch.set (next ∷ []));
+    size = omega (arith, short, grown-size);
   }
 
-  pub without-branch : IsBranch m k (record { set = branch.set; free = rest })
+  pub without-branch : IsBranch m k (passed branch rest)
   without-branch = record {
     last = is.last;
     within = is.within;
@@ -90,153 +190,101 @@ module _ (m k : ℕ) (branch : Branch) (is : IsBranch m k branch) (next : ℕ) (
     size = is.size;
   }
 
-  pub with-before : ComesBefore m (with_member branch.set next) (record { set = branch.set; free = rest })
-  with-before = record { next = next; tail = []; begins = grown-is; later = free-up.2 }
+  free-rest : (n : ℕ) → has_member rest n ≡ true → has_member branch.free n ≡ true
+  free-rest n here = ap (λ l. has_member l n) first ∙ or_right (next == n) (has_member rest n) here
 
-  pub next-low : 1 ≤ next
-  next-low = omega (arith, free-up.0)
+  here : has_member branch.free next ≡ true
+  here = ap (λ l. has_member l next) first ∙ has_member_head next rest
 
-  pub next-high : next ≤ m
-  next-high = free-up.1
+  node : IsNode m branch.set branch.free
+  node = branch-node m k branch is
 
-  free-is : (x : ℕ) → has_member branch.free x ≡ ((next == x) || has_member rest x)
-  free-is x = ap (λ l. has_member l x) first
+  left : ℕ
+  left = k - length branch.set
 
-  -- the free candidates without the first
-  pub first-without : without_member branch.free next ≡ rest
-  first-without =
-      same_increasing 1 m (without_member branch.free next) rest (IsIncreasing-filter (λ x. not (x == next)) 1 m branch.free (IsIncreasing-lower 1 (is.last + 1) m branch.free (omega arith) is.free_after))
-      (IsIncreasing-lower 1 (next + 1) m rest (omega arith) free-up.2)
-      (λ x. has_member-filter (λ y. not (y == next)) branch.free x ∙ ap (λ b. not (x == next) && b) (free-is x) ∙ each x)
+  -- the free candidates (passed branch rest) the first
+  struck : without_member branch.free next ≡ rest
+  struck = rw (first, eq-eqb next next refl) (by (next + 1) rest (omega arith) free-up.2)
     where
-      each : (x : ℕ) → (not (x == next) && ((next == x) || has_member rest x)) ≡ has_member rest x
-      each x = elim (cases_eq x next) [
-        | inl same ↦ ap (λ b. not b && ((next == x) || has_member rest x)) (eq-eqb x next same) ∙ sym (ap (has_member rest) same ∙ has_member-below (next + 1) m rest next free-up.2 (omega arith))
-        | inr other ↦ ap (λ b. not b && ((next == x) || has_member rest x)) (ne_eqb x next other) ∙ ap (λ b. b || has_member rest x) (ne_eqb next x (λ e. other (sym e)))
-      ]
+      by : (low : ℕ) (xs : List ℕ) → next < low → IsIncreasing low m xs → filter (λ x. not (x == next)) xs ≡ xs
+      by low [] less up = refl
+      by low (x ∷ xs) less up = grind (arith, common_steps, ne_eqb x next, by (x + 1) xs (omega (arith, less, up.0)) up.2, less, up.0)
 
-  -- the members of the grown set
-  with-is : (x : ℕ) → has_member (with_member branch.set next) x ≡ ((next == x) || has_member branch.set x)
-  with-is x = has_member-with_member branch.set next x
-
-  -- who completes the branch completes the one with the candidate or the one without
-  pub split-same : (committee : List ℕ) → completes branch committee
-      ≡ (completes (record { set = branch.set; free = rest }) committee || completes (record { set = with_member branch.set next; free = rest }) committee)
-  split-same committee = both_ways (completes branch committee)
-      (completes without committee || completes with' committee) down (λ some. up (or_cases (completes without committee) (completes with' committee) some))
+  -- who completes the branch completes the one with the candidate or the one (passed branch rest)
+  pub split-same : (committee : List ℕ) → IsBest value m k committee → completes branch committee ≡ (completes (joined branch next rest) committee || completes (passed branch rest) committee)
+  unfolding left
+  split-same committee best =
+      both_ways (completes branch committee) (completes (joined branch next rest) committee || completes (passed branch rest) committee) down
+      (λ some. up (completes (joined branch next rest) committee) refl some)
     where
-      without : Branch
-      without = record { set = branch.set; free = rest }
+      down : completes branch committee ≡ true → (completes (joined branch next rest) committee || completes (passed branch rest) committee) ≡ true
+      down whole =
+          let done = completion-from value m k branch is left committee (omega (arith, short)) (record { best = best; whole = whole }) in
+          elim (cases_Bool (has_member committee next)) [
+            | inl in_ ↦
+                or_left (completes (joined branch next rest) committee) (completes (passed branch rest) committee)
+                (completes-from m (joined branch next rest) (left - 1) committee (subst (λ l. IsCompletion m (with_member branch.set next) l (left - 1) committee) struck
+                (completion-with m branch.set branch.free left next node here committee (omega (arith, short)) done in_)))
+            | inr out ↦
+                or_right (completes (joined branch next rest) committee) (completes (passed branch rest) committee)
+                (completes-from m (passed branch rest) left committee (subst (λ l. IsCompletion m branch.set l left committee) struck
+                (completion-without m branch.set branch.free left next node here committee done out)))
+          ]
 
-      with' : Branch
-      with' = record { set = with_member branch.set next; free = rest }
+      up : (b : Bool) → completes (joined branch next rest) committee ≡ b → (b || completes (passed branch rest) committee) ≡ true → completes branch committee ≡ true
+      up true with-it some =
+          completes-from m branch left committee
+          (completion-back m branch.set branch.free left next node here rest committee (omega (arith, short)) free-rest
+          (completion-from value m k (joined branch next rest) with-branch (left - 1) committee (omega (arith, short, grown-size)) (record { best = best; whole = with-it })))
+      up false out some = completes-wider branch rest committee free-rest some
 
-      parts : (b : Branch) → completes b committee ≡ true
-          → ((x : ℕ) → has_member b.set x ≡ true → has_member committee x ≡ true) × ((x : ℕ) → has_member committee x ≡ true → (has_member b.set x || has_member b.free x) ≡ true)
-      parts b is =
-          let both = and_parts (includes committee b.set) (includes (either_members b.set b.free) committee) is in (
-            λ x here. all-at (has_member committee) b.set x both.0 here,
-            λ x here. sym (has_member-either b.set b.free x) ∙ all-at (has_member (either_members b.set b.free)) committee x both.1 here,
-          )
+  -- a winner with the candidate goes on with it, and one (passed branch rest) it goes on with a greater one
+  pub with-begins : (committee : List ℕ) → IsWinnerOf value m k (joined branch next rest) committee → (more : List ℕ) × (committee ≡ (with_member branch.set next) ++ more) × (committee ≡ branch.set ++ next ∷ more)
+  with-begins committee wins =
+      let all = added-later value m k (joined branch next rest) with-branch committee wins in
+      (all.0, all.1, all.1 ∙ (ap (λ l. l ++ all.0) grown-is ∙ append_assoc branch.set (next ∷ []) all.0))
 
-      whole : (b : Branch) → ((x : ℕ) → has_member b.set x ≡ true → has_member committee x ≡ true) → ((x : ℕ) → has_member committee x ≡ true → (has_member b.set x || has_member b.free x) ≡ true)
-          → completes b committee ≡ true
-      whole b has among =
-          and_from (includes committee b.set) (includes (either_members b.set b.free) committee) (all-from (has_member committee) b.set has)
-          (all-from (has_member (either_members b.set b.free)) committee (λ x here. has_member-either b.set b.free x ∙ among x here))
+  pub without-begins : (committee : List ℕ) → IsWinnerOf value m k (passed branch rest) committee → (n : ℕ) × (more : List ℕ) × (committee ≡ branch.set ++ n ∷ more) × (next < n)
+  without-begins committee wins =
+      let all = goes-on value m k (passed branch rest) without-branch committee short wins in
+      (all.0, all.1, all.2, let low : next + 1 ≤ all.0 = member-low (next + 1) m rest all.0 free-up.2 all.3 in omega (arith, low))
 
-      moved : (s n r : Bool) → (s || (n || r)) ≡ true → ((n || s) || r) ≡ true
-      moved true true r h = refl
-      moved true false r h = refl
-      moved false true r h = refl
-      moved false false r h = h
+  -- ---- who leaves with a candidate
 
-      kept : (s n r : Bool) → n ≡ false → (s || (n || r)) ≡ true → (s || r) ≡ true
-      kept s true r e h = absurd cc
-      kept s false r e h = h
-
-      back : (s n r : Bool) → ((n || s) || r) ≡ true → (s || (n || r)) ≡ true
-      back true n r h = refl
-      back false true r h = refl
-      back false false r h = h
-
-      wider : (s n r : Bool) → (s || r) ≡ true → (s || (n || r)) ≡ true
-      wider true n r h = refl
-      wider false true r h = refl
-      wider false false r h = h
-
-      down : completes branch committee ≡ true → (completes without committee || completes with' committee) ≡ true
-      down is = elim (cases_Bool (has_member committee next)) [
-        | inl in_ ↦
-            or_right (completes without committee) (completes with' committee)
-            (whole with'
-            (λ x here. elim (cases_eq next x) [
-              | inl same ↦ ap (has_member committee) (sym same) ∙ in_
-              | inr other ↦ (parts branch is).0 x (sym (with-is x ∙ ap (λ b. b || has_member branch.set x) (ne_eqb next x other)) ∙ here)
-            ])
-            (λ x here. ap (λ b. b || has_member rest x) (with-is x)
-            ∙ moved (has_member branch.set x) (next == x) (has_member rest x) (sym (ap (λ b. has_member branch.set x || b) (free-is x)) ∙ (parts branch is).1 x here)))
-        | inr out ↦
-            or_left (completes without committee) (completes with' committee)
-            (whole without (parts branch is).0
-            (λ x here. kept (has_member branch.set x) (next == x) (has_member rest x)
-            (ne_eqb next x (λ same. false≢true (sym out ∙ ap (has_member committee) same ∙ here)))
-            (sym (ap (λ b. has_member branch.set x || b) (free-is x)) ∙ (parts branch is).1 x here)))
-      ]
-
-      up : (completes without committee ≡ true) ⊎ (completes with' committee ≡ true) → completes branch committee ≡ true
-      up (inl is) =
-          whole branch (parts without is).0
-          (λ x here. ap (λ b. has_member branch.set x || b) (free-is x) ∙ wider (has_member branch.set x) (next == x) (has_member rest x) ((parts without is).1 x here))
-      up (inr is) =
-          whole branch
-          (λ x here. (parts with' is).0 x (with-is x ∙ or_right (next == x) (has_member branch.set x) here))
-          (λ x here. ap (λ b. has_member branch.set x || b) (free-is x)
-          ∙ back (has_member branch.set x) (next == x) (has_member rest x) (sym (ap (λ b. b || has_member rest x) (with-is x)) ∙ (parts with' is).1 x here))
-
--- ---- who leaves with a candidate
-
--- where no winner completes the branch with the candidate, its clones are in none that completes the branch without
-pub left-out : (value : List ℕ → ℕ) (m k : ℕ) (branch : Branch) (is : IsBranch m k branch) (next : ℕ) (rest : List ℕ) (first : branch.free ≡ next ∷ rest) (classes : List (List ℕ))
-    → length branch.set < k → AreAlike value m (λ c. slice_index_or classes c [])
-    → IsBarren value m k (record { set = with_member branch.set next; free = rest })
-    → (committee : List ℕ) → IsBest value m k committee → completes branch committee ≡ true
-    → completes (record { set = branch.set; free = other_members rest (slice_index_or classes next []) }) committee ≡ true
-left-out value m k branch is next rest first classes short alike none committee best whole =
-    completes-from m (record { set = branch.set; free = other_members rest clones }) left committee
-    (subst (λ l. IsCompletion m branch.set (other_members l clones) left committee) struck
-    (clones-left value m branch.set left (best_value value m k) branch.free branch.free clones next (omega (arith, short)) node here
-    (λ other d up has out class. alike other next d up (next-low m k branch is next rest first) (next-high m k branch is next rest first) class has out)
-    (λ other other-whole reaches. other-whole)
-    none-with committee (completion-from m k branch committee is best.candidates best.size whole) (omega (arith, best.best))))
-  where
+  module _ (classes : List (List ℕ)) (alike : AreAlike value m (λ c. slice_index_or classes c [])) (none : IsBarren value m k (joined branch next rest)) where
     clones : List ℕ
     clones = slice_index_or classes next []
 
-    left : ℕ
-    left = k - length branch.set
+    pub left-branch : IsBranch m k (passed branch (other_members rest (slice_index_or classes next [])))
+    left-branch =
+        let less = without-branch in
+        record {
+          last = less.last;
+          within = less.within;
+          set_upto = less.set_upto;
+          free_after = IsIncreasing-filter (λ x. not (has_member (slice_index_or classes next []) x)) (less.last + 1) m rest less.free_after;
+          size = less.size;
+        }
 
-    node : IsNode m branch.set branch.free
-    node = branch-node m k branch is
+    -- where no winner has the candidate, its clones are in none that completes the branch (passed branch rest)
+    pub left-completes : (committee : List ℕ) → IsBest value m k committee → completes branch committee ≡ completes (passed branch (other_members rest (slice_index_or classes next []))) committee
+    unfolding left clones
+    left-completes committee best =
+        both_ways (completes branch committee) (completes (passed branch (other_members rest (slice_index_or classes next []))) committee) down
+        (completes-wider branch (other_members rest clones) committee (λ n in_. free-rest n (minus-is rest clones n in_)))
+      where
+        none-with : IsOutOfReach value m (with_member branch.set next) (without_member branch.free next) (left - 1) (best_value value m k)
+        none-with other whole = elim (cases_lt (value other) (best_value value m k)) [
+          | inl under ↦ under
+          | inr reaches ↦
+              absurd (none other (winner-from value m k (joined branch next rest) with-branch (left - 1) other (omega (arith, short, grown-size))
+              (subst (λ l. IsCompletion m (with_member branch.set next) l (left - 1) other) struck whole) (omega (arith, reaches))))
+        ]
 
-    here : has_member branch.free next ≡ true
-    here = ap (λ l. has_member l next) first ∙ has_member_head next rest
-
-    struck : without_member branch.free next ≡ rest
-    struck = first-without m k branch is next rest first
-
-    none-with : IsOutOfReach value m (with_member branch.set next) (without_member branch.free next) (left - 1) (best_value value m k)
-    none-with other other-whole = elim (cases_lt (value other) (best_value value m k)) [
-      | inl under ↦ under
-      | inr reaches ↦
-          let back = completion-back m branch.set branch.free left next node here (without_member branch.free next) other (omega (arith, short))
-          (λ x in_. without-is branch.free next x in_) other-whole in
-          let size : length other ≡ k = omega (arith, back.size, is.size, short) in
-          let is_best : IsBest value m k other = record {
-            candidates = back.candidates;
-            size = size;
-            best = omega (arith, reaches, no_greater_value value m k other (increasing_lists-contains 1 m k other (back.candidates, size)));
-          } in
-          absurd (false≢true (sym (none other is_best) ∙ completes-from m (record { set = with_member branch.set next; free = rest }) (left - 1) other
-          (subst (λ l. IsCompletion m (with_member branch.set next) l (left - 1) other) struck other-whole)))
-    ]
+        down : completes branch committee ≡ true → completes (passed branch (other_members rest (slice_index_or classes next []))) committee ≡ true
+        down whole =
+            completes-from m (passed branch (other_members rest (slice_index_or classes next []))) left committee
+            (subst (λ l. IsCompletion m branch.set (other_members l clones) left committee) struck
+            (clones-left value m branch.set left (best_value value m k) branch.free clones next (omega (arith, short)) node here
+            (λ other d up has out class. alike other next d up (omega (arith, free-up.0)) free-up.1 class has out)
+            none-with committee (completion-from value m k branch is left committee (omega (arith, short)) (record { best = best; whole = whole })) (omega (arith, best.best))))

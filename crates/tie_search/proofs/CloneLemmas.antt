@@ -1,18 +1,21 @@
 -- A candidate who was tried takes the place of a clone.
-use Rattle.std.proofs.Common.{◌≡◌, ℕ, ◌+◌, ◌-◌, ◌≤◌, ◌==◌, ◌&&◌, ◌||◌, ◌∙◌, Bool, true, false, not, List, [], refl, sym, ap, subst, arith, inl, inr, length}
+use Rattle.std.proofs.lemmas.Grind.{common_steps}
+use Rattle.std.proofs.Common.{◌≡◌, ℕ, ◌+◌, ◌-◌, ◌≤◌, ◌==◌, ◌&&◌, ◌||◌, ◌∙◌, true, false, not, List, [], refl, sym, ap, subst, arith, inl, inr, length}
 use Rattle.std.specs.Prelude.{slice_index_or}
-use Rattle.std.proofs.lemmas.Bool.{cases_Bool, cases_eq, eq-eqb, ne_eqb, or_right}
+use Rattle.std.proofs.lemmas.Bool.{cases_Bool, cases_eq, eq-eqb, ne_eqb}
+use Rattle.std.proofs.Math.Bool.{and-false}
 use Rattle.ballot_base.specs.Lists.{IsIncreasing}
 use Rattle.ballot_base.specs.CandSet.{has_member, other_members, with_member, without_member}
 use Rattle.ballot_base.specs.Ballots.{Row, hits}
 use Rattle.ballot_base.specs.Clones.{are_clones, clones_among}
 use Rattle.ballot_base.proofs.CloneLemmas.{clones_among-are}
 use Rattle.ballot_base.proofs.Increasing.{IsIncreasing-filter, IsIncreasing-with_member, has_member-filter, has_member-with_member, same_increasing}
+use Rattle.ballot_base.proofs.Passed.{filter-member}
 use Rattle.tie_walk.proofs.Gains.{bit, hits-with}
+use Rattle.tie_walk.proofs.SequenceLemmas.{length-with_member}
 use Rattle.tie_search.specs.Alike.{AreAlike, HasClasses}
 use Rattle.tie_search.specs.Completions.{IsCompletion, IsNode, IsOutOfReach}
-use Rattle.tie_search.proofs.CompletionLemmas.{completion-with, filter-most, member-high, member-low, member-without, with-longer, without-is}
-use Rattle.tie_search.proofs.SearchLemmas.{AreLeft, struck-out}
+use Rattle.tie_search.proofs.CompletionLemmas.{completion-with, filter-most, member-high, member-low, member-without}
 
 -- ---- a member in the place of another
 
@@ -27,13 +30,7 @@ pub back : (m : ℕ) (set : List ℕ) (n : ℕ) → IsIncreasing 1 m set → has
 back m set n up here =
     same_increasing 1 m (with_member (without_member set n) n) set
     (IsIncreasing-with_member 1 m (without_member set n) n (member-low 1 m set n up here) (member-high 1 m set n up here) (IsIncreasing-filter (λ x. not (x == n)) 1 m set up)) up
-    (λ x. has_member-with_member (without_member set n) n x ∙ ap (λ b. (n == x) || b) (member-without set n x) ∙ each x)
-  where
-    each : (x : ℕ) → ((n == x) || (not (x == n) && has_member set x)) ≡ has_member set x
-    each x = elim (cases_eq x n) [
-      | inl same ↦ ap (λ b. b || (not (x == n) && has_member set x)) (eq-eqb n x (sym same)) ∙ sym (ap (has_member set) same ∙ here)
-      | inr other ↦ ap (λ b. b || (not (x == n) && has_member set x)) (ne_eqb n x (λ e. other (sym e))) ∙ ap (λ b. not b && has_member set x) (ne_eqb x n other)
-    ]
+    (λ x. grind (arith, common_steps, has_member-with_member (without_member set n) n x, member-without set n x, eq-eqb x n, ne_eqb x n, eq-eqb n x, ne_eqb n x, cases_eq x n))
 
 -- a committee with c in the place of d
 abbrev pub exchanged : List ℕ → ℕ → ℕ → List ℕ
@@ -48,18 +45,14 @@ module _ (m : ℕ) (committee : List ℕ) (c d : ℕ) (up : IsIncreasing 1 m com
 
   pub less-out : has_member less c ≡ false
   less-out = member-without committee d c ∙ ap (λ b. not (c == d) && b) out ∙ and-false (not (c == d))
-    where
-      and-false : (b : Bool) → (b && false) ≡ false
-      and-false true = refl
-      and-false false = refl
 
   -- it is as large
   pub exchanged-size : 1 ≤ c → c ≤ m → length (exchanged committee c d) ≡ length committee
   exchanged-size low high =
       omega (
         arith,
-        with-longer m less c less-up low high less-out,
-        with-longer m less d less-up (member-low 1 m committee d up here) (member-high 1 m committee d up here) (gone committee d),
+        length-with_member less c less-out,
+        length-with_member less d (gone committee d),
         ap length (back m committee d up here),
       )
 
@@ -68,11 +61,8 @@ module _ (m : ℕ) (committee : List ℕ) (c d : ℕ) (up : IsIncreasing 1 m com
       → IsCompletion m set free left (exchanged committee c d)
   completion-exchanged set free left is_node is_free not_in whole = record {
     candidates = IsIncreasing-with_member 1 m less c low high less-up;
-    whole = λ x is. has_member-with_member less c x ∙ or_right (c == x) (has_member less x) (stays x (whole.whole x is) (λ same. let e : true ≡ false = sym is ∙ ap (has_member set) same ∙ not_in in cc));
-    within = λ x is. elim (cases_eq x c) [
-      | inl same ↦ or_right (has_member set x) (has_member free x) (ap (has_member free) same ∙ is_free)
-      | inr other ↦ whole.within x (without-is committee d x (sym (has_member-with_member less c x ∙ ap (λ b. b || has_member less x) (ne_eqb c x (λ e. other (sym e)))) ∙ is))
-    ];
+    whole = λ x is. grind (arith, common_steps, has_member-with_member less c x, member-without committee d x, whole.whole x is, is, not_in, cases_eq x d, ne_eqb x d);
+    within = λ x is. grind (arith, common_steps, has_member-with_member less c x, member-without committee d x, whole.within x, is, is_free, cases_eq x c, ne_eqb c x);
     size = exchanged-size low high ∙ whole.size;
   }
     where
@@ -81,9 +71,6 @@ module _ (m : ℕ) (committee : List ℕ) (c d : ℕ) (up : IsIncreasing 1 m com
 
       high : c ≤ m
       high = member-high 1 m free c is_node.free_within is_free
-
-      stays : (x : ℕ) → has_member committee x ≡ true → (x ≡ d → ⊥) → has_member less x ≡ true
-      stays x is other = member-without committee d x ∙ ap (λ b. not b && has_member committee x) (ne_eqb x d other) ∙ is
 
 -- a ballot that has both candidates or neither has as many members of the exchanged committee
 pub hits-exchanged : (m : ℕ) (ballot committee : List ℕ) (c d : ℕ) → IsIncreasing 1 m ballot → IsIncreasing 1 m committee → 1 ≤ c → c ≤ m → has_member committee d ≡ true → has_member committee c ≡ false
@@ -98,11 +85,7 @@ hits-exchanged m ballot committee c d rises up low high here out same =
 -- ---- the search
 
 pub minus-is : (free clones : List ℕ) (x : ℕ) → has_member (other_members free clones) x ≡ true → has_member free x ≡ true
-minus-is free clones x is = both (not (has_member clones x)) (has_member free x) (sym (has_member-filter (λ y. not (has_member clones y)) free x) ∙ is)
-  where
-    both : (p q : Bool) → (p && q) ≡ true → q ≡ true
-    both true q h = h
-    both false q h = absurd cc
+minus-is free clones x is = filter-member (λ y. not (has_member clones y)) free x is
 
 pub minus-most : (free clones : List ℕ) → length (other_members free clones) ≤ length free
 minus-most free clones = filter-most (λ x. not (has_member clones x)) free
@@ -111,46 +94,32 @@ minus-most free clones = filter-most (λ x. not (has_member clones x)) free
 pub class-are : (m : ℕ) (rows : List Row) (c : ℕ) (clones : List ℕ) → clones ≡ clones_among m rows c → (d : ℕ) → has_member clones d ≡ true → are_clones rows c d ≡ true
 class-are m rows c clones is d h = clones_among-are m rows c d (sym (ap (λ l. has_member l d) is) ∙ h)
 
--- A candidate was tried and is struck out, with others in whose place it would be worth the same: a committee with one
--- of them reaches the value only if the one with the candidate in its place does.
-pub clones-left : (value : List ℕ → ℕ) (m : ℕ) (set : List ℕ) (left least : ℕ) (free rest clones : List ℕ) (c : ℕ) → 1 ≤ left → IsNode m set rest → has_member rest c ≡ true
+-- Where no completion with a candidate reaches the value, none has one of those in whose place the candidate would be
+-- worth the same.
+pub clones-left : (value : List ℕ → ℕ) (m : ℕ) (set : List ℕ) (left least : ℕ) (free clones : List ℕ) (c : ℕ) → 1 ≤ left → IsNode m set free → has_member free c ≡ true
     → ((committee : List ℕ) (d : ℕ) → IsIncreasing 1 m committee → has_member committee d ≡ true → has_member committee c ≡ false → has_member clones d ≡ true → value (exchanged committee c d) ≡ value committee)
-    → AreLeft value m set left least free rest
-    → IsOutOfReach value m (with_member set c) (without_member rest c) (left - 1) least
-    → AreLeft value m set left least free (other_members (without_member rest c) clones)
-clones-left value m set left least free rest clones c some is_node here same left_ none committee whole reaches = record {
-  candidates = now.candidates;
-  whole = now.whole;
-  within = λ x is. go x (has_member set x) refl (has_member clones x) refl is;
-  size = now.size;
+    → IsOutOfReach value m (with_member set c) (without_member free c) (left - 1) least
+    → (committee : List ℕ) → IsCompletion m set free left committee → least ≤ value committee → IsCompletion m set (other_members (without_member free c) clones) left committee
+clones-left value m set left least free clones c some is_node here same none committee whole reaches = record {
+  candidates = whole.candidates;
+  whole = whole.whole;
+  within = λ x is. grind (arith, common_steps, has_member-filter (λ y. not (has_member clones y)) (without_member free c) x, member-without free c x, whole.within x is, is, out, no-clone x, cases_eq x c, eq-eqb x c);
+  size = whole.size;
 }
   where
-    before : IsCompletion m set rest left committee
-    before = left_ committee whole reaches
-
-    now : IsCompletion m set (without_member rest c) left committee
-    now = struck-out value m set left least free rest c some is_node here left_ none committee whole reaches
-
     out : has_member committee c ≡ false
     out = elim (cases_Bool (has_member committee c)) [
-      | inl is ↦ absurd (let e : false ≡ true = sym (ap (λ b. b || has_member (without_member rest c) c) (is_node.apart c here) ∙ gone rest c) ∙ now.within c is in cc)
+      | inl is ↦ absurd (omega (arith, reaches, none committee (completion-with m set free left c is_node here committee some whole is)))
       | inr is ↦ is
     ]
 
     -- no clone is in it but those of the set
     no-clone : (x : ℕ) → has_member set x ≡ false → has_member clones x ≡ true → has_member committee x ≡ true → ⊥
     no-clone x not_in clone is =
-        let swap = completion-exchanged m committee c x now.candidates is out set rest left is_node here not_in before in
+        let swap = completion-exchanged m committee c x whole.candidates is out set free left is_node here not_in whole in
         let with_c : has_member (exchanged committee c x) c ≡ true = has_member-with_member (without_member committee x) c c ∙ ap (λ b. b || has_member (without_member committee x) c) (itself c) in
-        let fewer = none (exchanged committee c x) (completion-with m set rest left c is_node here (exchanged committee c x) some swap with_c) in
-        omega (arith, fewer, reaches, same committee x now.candidates is out clone)
-
-    go : (x : ℕ) (b : Bool) → has_member set x ≡ b → (k : Bool) → has_member clones x ≡ k → has_member committee x ≡ true → (has_member set x || has_member (other_members (without_member rest c) clones) x) ≡ true
-    go x true in_ k clone is = ap (λ b. b || has_member (other_members (without_member rest c) clones) x) in_
-    go x false not_in true clone is = absurd (no-clone x not_in clone is)
-    go x false not_in false clone is =
-        ap (λ b. has_member set x || b) (has_member-filter (λ y. not (has_member clones y)) (without_member rest c) x ∙ ap (λ b. not b && has_member (without_member rest c) x) clone)
-        ∙ now.within x is
+        let fewer = none (exchanged committee c x) (completion-with m set free left c is_node here (exchanged committee c x) some swap with_c) in
+        omega (arith, fewer, reaches, same committee x whole.candidates is out clone)
 
 -- the table has the classes
 pub alike-table : (value : List ℕ → ℕ) (m : ℕ) (class : ℕ → List ℕ) (table : List (List ℕ)) → HasClasses m class table → AreAlike value m class → AreAlike value m (λ c. slice_index_or table c [])

@@ -1,6 +1,8 @@
 -- Committees that complete a set, as its members grow and its free candidates are struck out.
-use Rattle.std.proofs.Common.{◌≡◌, ℕ, ◌+◌, ◌-◌, ◌*◌, ◌<◌, ◌≤◌, ◌==◌, ◌&&◌, ◌||◌, ◌∙◌, Bool, true, false, cond, not, List, [], ◌∷◌, ◌++◌, refl, sym, ap, arith, inl, inr, length, filter, sum, take}
-use Rattle.std.proofs.lemmas.Bool.{cases_eq, eq-eqb, ne_eqb, cases_lt, or_right}
+use Rattle.std.proofs.lemmas.Grind.{common_steps}
+use Rattle.std.proofs.Common.{◌≡◌, ℕ, ◌+◌, ◌-◌, ◌*◌, ◌<◌, ◌≤◌, ◌==◌, ◌&&◌, ◌||◌, ◌∙◌, Bool, true, false, not, List, [], ◌∷◌, ◌++◌, refl, sym, ap, arith, inl, inr, length, filter, sum, take}
+use Rattle.std.proofs.Math.Bool.{or-false}
+use Rattle.std.proofs.lemmas.Bool.{and_parts, cases_eq, eq-eqb, ne_eqb, cases_lt}
 use Rattle.std.proofs.lemmas.List.Filters.{length-filter_both}
 use Rattle.std.proofs.lemmas.List.Folds.{list_any-append}
 use Rattle.std.proofs.lemmas.List.Sums.{sum_by-cons}
@@ -13,6 +15,7 @@ pub use Rattle.ballot_base.proofs.Passed.{member-high}
 use Rattle.ballot_base.proofs.Passed.{filter-member}
 use Rattle.tie_walk.specs.Values.{thiele_value}
 use Rattle.tie_walk.proofs.LawLemmas.{IsIncreasing-range}
+use Rattle.tie_walk.proofs.SequenceLemmas.{length-with_member}
 use Rattle.tie_search.specs.Completions.{IsNode, IsCompletion}
 
 -- ---- members
@@ -28,9 +31,7 @@ pub member-without : (set : List ℕ) (n x : ℕ) → has_member (without_member
 member-without set n x = has_member-filter (λ y. not (y == n)) set x
 
 pub and-true : (p q : Bool) → (p && q) ≡ true → (p ≡ true) × (q ≡ true)
-and-true true true h = (refl, refl)
-and-true true false h = absurd cc
-and-true false q h = absurd cc
+and-true p q h = and_parts p q h
 
 without-other : (n x : ℕ) → not (x == n) ≡ true → x ≡ n → ⊥
 without-other n x h same = let e : not (x == n) ≡ false = ap not (eq-eqb x n same) in cc
@@ -45,50 +46,13 @@ without-not set n x h = without-other n x (and-true (not (x == n)) (has_member s
 with-stays : (set : List ℕ) (n x : ℕ) → (x ≡ n → ⊥) → has_member (with_member set n) x ≡ has_member set x
 with-stays set n x other = has_member-with_member set n x ∙ ap (λ b. b || has_member set x) (ne_eqb n x (λ e. other (sym e)))
 
-with-is : (set : List ℕ) (n x : ℕ) → x ≡ n → has_member (with_member set n) x ≡ true
-with-is set n x same = has_member-with_member set n x ∙ ap (λ b. b || has_member set x) (eq-eqb n x (sym same))
-
 pub filter-most : (p : ℕ → Bool) (xs : List ℕ) → length (filter p xs) ≤ length xs
 filter-most p xs = omega (arith, length-filter_both p (λ x. not (p x)) (λ x. refl) xs)
 
 -- a member less is shorter
 pub without-shorter : (set : List ℕ) (n : ℕ) → has_member set n ≡ true → length (without_member set n) < length set
 without-shorter [] n h = absurd cc
-without-shorter (x ∷ set) n h = elim (cases_eq x n) [
-  | inl same ↦
-      let out : without_member (x ∷ set) n ≡ without_member set n = simp (eq-eqb x n same) in
-      omega (arith, ap length out, filter-most (λ y. not (y == n)) set)
-  | inr other ↦
-      let in_ : without_member (x ∷ set) n ≡ x ∷ without_member set n = simp (ne_eqb x n other) in
-      let more : has_member set n ≡ true = ap (λ b. b || has_member set n) (sym (ne_eqb x n other)) ∙ h in
-      omega (arith, ap length in_, without-shorter set n more)
-]
-
--- a new member makes it longer by one
-pub with-longer : (m : ℕ) (set : List ℕ) (n : ℕ) → IsIncreasing 1 m set → 1 ≤ n → n ≤ m → has_member set n ≡ false → length (with_member set n) ≡ length set + 1
-with-longer m set n up low high new =
-    let both : length (filter (λ x. x == n) (with_member set n)) + length (filter (λ x. not (x == n)) (with_member set n)) ≡ length (with_member set n) =
-    length-filter_both (λ x. x == n) (λ x. not (x == n)) (λ x. refl) (with_member set n) in
-    let up' : IsIncreasing 1 m (with_member set n) = IsIncreasing-with_member 1 m set n low high up in
-    let one : filter (λ x. x == n) (with_member set n) ≡ n ∷ [] =
-    same_increasing 1 m (filter (λ x. x == n) (with_member set n)) (n ∷ []) (IsIncreasing-filter (λ x. x == n) 1 m (with_member set n) up') (low, high, tt)
-    (λ x. has_member-filter (λ y. y == n) (with_member set n) x ∙ one-is x) in
-    let rest : filter (λ x. not (x == n)) (with_member set n) ≡ set =
-    same_increasing 1 m (filter (λ x. not (x == n)) (with_member set n)) set (IsIncreasing-filter (λ x. not (x == n)) 1 m (with_member set n) up') up
-    (λ x. has_member-filter (λ y. not (y == n)) (with_member set n) x ∙ rest-is x) in
-    omega (arith, both, ap length one, ap length rest)
-  where
-    one-is : (x : ℕ) → ((x == n) && has_member (with_member set n) x) ≡ has_member (n ∷ []) x
-    one-is x = elim (cases_eq x n) [
-      | inl same ↦ ap (λ b. b && has_member (with_member set n) x) (eq-eqb x n same) ∙ with-is set n x same ∙ sym (ap (λ b. b || false) (eq-eqb n x (sym same)))
-      | inr other ↦ ap (λ b. b && has_member (with_member set n) x) (ne_eqb x n other) ∙ sym (ap (λ b. b || false) (ne_eqb n x (λ e. other (sym e))))
-    ]
-
-    rest-is : (x : ℕ) → (not (x == n) && has_member (with_member set n) x) ≡ has_member set x
-    rest-is x = elim (cases_eq x n) [
-      | inl same ↦ ap (λ b. not b && has_member (with_member set n) x) (eq-eqb x n same) ∙ sym new ∙ ap (has_member set) (sym same)
-      | inr other ↦ ap (λ b. not b && has_member (with_member set n) x) (ne_eqb x n other) ∙ with-stays set n x other
-    ]
+without-shorter (x ∷ set) n h = grind (arith, common_steps, without-shorter set n, filter-most (λ y. not (y == n)) set, h, cases_eq x n, eq-eqb x n, ne_eqb x n)
 
 pub or-more : (p q r : Bool) → (q ≡ true → r ≡ true) → (p || q) ≡ true → (p || r) ≡ true
 or-more true q r h is = refl
@@ -112,33 +76,23 @@ node-with m set free n is_node here = record {
 
 module _ (m : ℕ) (set free : List ℕ) (left n : ℕ) (is_node : IsNode m set free) (here : has_member free n ≡ true) where
   longer : length (with_member set n) ≡ length set + 1
-  longer = with-longer m set n is_node.set_within (member-low 1 m free n is_node.free_within here) (member-high 1 m free n is_node.free_within here) (is_node.apart n here)
+  longer = length-with_member set n (is_node.apart n here)
 
   -- a committee without the candidate
   pub completion-without : (committee : List ℕ) → IsCompletion m set free left committee → has_member committee n ≡ false → IsCompletion m set (without_member free n) left committee
   completion-without committee whole out = record {
     candidates = whole.candidates;
     whole = whole.whole;
-    within = λ x is. (member-without-or x (λ same. absurd (let e : true ≡ false = sym is ∙ ap (has_member committee) same ∙ out in cc))) ∙ whole.within x is;
+    within = λ x is. grind (arith, common_steps, member-without free n x, whole.within x is, out, eq-eqb x n, cases_eq x n);
     size = whole.size;
   }
-    where
-      member-without-or : (x : ℕ) → (x ≡ n → ⊥) → (has_member set x || has_member (without_member free n) x) ≡ (has_member set x || has_member free x)
-      member-without-or x other = ap (λ b. has_member set x || b) (member-without free n x ∙ ap (λ b. not b && has_member free x) (ne_eqb x n other))
 
   -- a committee with it
   pub completion-with : (committee : List ℕ) → 1 ≤ left → IsCompletion m set free left committee → has_member committee n ≡ true → IsCompletion m (with_member set n) (without_member free n) (left - 1) committee
   completion-with committee some whole in_ = record {
     candidates = whole.candidates;
-    whole = λ x is. elim (cases_eq x n) [
-      | inl same ↦ ap (has_member committee) same ∙ in_
-      | inr other ↦ whole.whole x (sym (with-stays set n x other) ∙ is)
-    ];
-    within = λ x is. elim (cases_eq x n) [
-      | inl same ↦ ap (λ b. b || has_member (without_member free n) x) (with-is set n x same)
-      | inr other ↦ ap (λ b. b || has_member (without_member free n) x) (with-stays set n x other)
-          ∙ ap (λ b. has_member set x || b) (member-without free n x ∙ ap (λ b. not b && has_member free x) (ne_eqb x n other)) ∙ whole.within x is
-    ];
+    whole = λ x is. grind (arith, common_steps, has_member-with_member set n x, whole.whole x, is, in_, cases_eq x n, ne_eqb n x);
+    within = λ x is. grind (arith, common_steps, has_member-with_member set n x, member-without free n x, whole.within x is, cases_eq x n, eq-eqb n x, ne_eqb x n);
     size = omega (arith, whole.size, longer, some);
   }
 
@@ -147,15 +101,8 @@ module _ (m : ℕ) (set free : List ℕ) (left n : ℕ) (is_node : IsNode m set 
       → IsCompletion m (with_member set n) rest (left - 1) committee → IsCompletion m set free left committee
   completion-back rest committee some among below = record {
     candidates = below.candidates;
-    whole = λ x is. elim (cases_eq x n) [
-      | inl same ↦ below.whole x (with-is set n x same)
-      | inr other ↦ below.whole x (with-stays set n x other ∙ is)
-    ];
-    within = λ x is. elim (cases_eq x n) [
-      | inl same ↦ or_right (has_member set x) (has_member free x) (ap (has_member free) same ∙ here)
-      | inr other ↦ or-more (has_member set x) (has_member rest x) (has_member free x) (among x)
-          (sym (ap (λ b. b || has_member rest x) (with-stays set n x other)) ∙ below.within x is)
-    ];
+    whole = λ x is. grind (arith, common_steps, has_member-with_member set n x, below.whole x, is);
+    within = λ x is. grind (arith, common_steps, has_member-with_member set n x, below.within x is, among x, here, cases_eq x n, ne_eqb n x);
     size = omega (arith, below.size, longer, some);
   }
 
@@ -172,40 +119,20 @@ module _ (m : ℕ) (set free : List ℕ) (left : ℕ) (committee : List ℕ) (is
   pub added-free : (n : ℕ) → has_member added n ≡ true → has_member free n ≡ true
   added-free = filter-member (has_member committee) free
 
-  both-is : (p q r : Bool) → (p ≡ true → q ≡ true) → (q ≡ true → (p || r) ≡ true) → q ≡ (p || (q && r))
-  both-is true q r h k = h refl
-  both-is false true r h k = sym (k refl)
-  both-is false false r h k = refl
-
-  inside-is : (p q : Bool) → (p ≡ true → q ≡ true) → (p && q) ≡ p
-  inside-is true q h = h refl
-  inside-is false q h = refl
-
-  outside-is : (p q r : Bool) → (q ≡ true → (p || r) ≡ true) → (r ≡ true → p ≡ false) → (not p && q) ≡ (q && r)
-  outside-is true true true k h = let e : true ≡ false = h refl in cc
-  outside-is true true false k h = refl
-  outside-is true false r k h = refl
-  outside-is false true r k h = sym (k refl)
-  outside-is false false r k h = refl
-
   pub completion-members : (n : ℕ) → has_member committee n ≡ has_member (set ++ added) n
   completion-members n =
-      both-is (has_member set n) (has_member committee n) (has_member free n) (whole.whole n) (whole.within n)
-      ∙ ap (λ b. has_member set n || b) (sym (has_member-filter (has_member committee) free n))
-      ∙ sym (list_any-append (λ y. y == n) set added)
+      grind (arith, common_steps, list_any-append (λ y. y == n) set added, has_member-filter (has_member committee) free n, whole.whole n, whole.within n)
 
   -- the set and those who were added are the whole
   pub completion-inside : filter (has_member set) committee ≡ set
   completion-inside =
       same_increasing 1 m (filter (has_member set) committee) set (IsIncreasing-filter (has_member set) 1 m committee whole.candidates) is_node.set_within
-      (λ n. has_member-filter (has_member set) committee n ∙ inside-is (has_member set n) (has_member committee n) (whole.whole n))
+      (λ n. grind (arith, common_steps, has_member-filter (has_member set) committee n, whole.whole n))
 
   pub completion-outside : filter (λ x. not (has_member set x)) committee ≡ added
   completion-outside =
       same_increasing 1 m (filter (λ x. not (has_member set x)) committee) added (IsIncreasing-filter (λ x. not (has_member set x)) 1 m committee whole.candidates) added-increasing
-      (λ n. has_member-filter (λ x. not (has_member set x)) committee n
-      ∙ outside-is (has_member set n) (has_member committee n) (has_member free n) (whole.within n) (is_node.apart n)
-      ∙ sym (has_member-filter (has_member committee) free n))
+      (λ n. grind (arith, common_steps, has_member-filter (λ x. not (has_member set x)) committee n, whole.within n, is_node.apart n, has_member-filter (has_member committee) free n))
 
   pub added-size : length added ≡ left
   added-size =
@@ -227,10 +154,6 @@ module _ (m : ℕ) (set free : List ℕ) (left : ℕ) (committee : List ℕ) (is
       empty [] h = refl
       empty (x ∷ xs) h = absurd (omega (arith, h))
 
-      or-false : (b : Bool) → (b || false) ≡ b
-      or-false true = refl
-      or-false false = refl
-
 -- a set completes itself
 pub completion-self : (m : ℕ) (set free : List ℕ) → IsNode m set free → IsCompletion m set free 0 set
 completion-self m set free is_node = record {
@@ -244,14 +167,7 @@ completion-self m set free is_node = record {
 
 pub hits-same : (ballot xs ys : List ℕ) → ((n : ℕ) → has_member xs n ≡ has_member ys n) → hits ballot xs ≡ hits ballot ys
 hits-same [] xs ys same = refl
-hits-same (n ∷ ballot) xs ys same =
-    omega (
-      arith,
-      ap {B = ℕ} (λ b. cond b 1 0) (same n),
-      hits-same ballot xs ys same,
-      sum_by-cons (λ y. cond (has_member xs y) 1 0) n ballot,
-      sum_by-cons (λ y. cond (has_member ys y) 1 0) n ballot,
-    )
+hits-same (n ∷ ballot) xs ys same = grind (arith, common_steps, same n, hits-same ballot xs ys same, sum_by-cons)
 
 pub thiele-same : (w : List ℕ) (rows : List Row) (xs ys : List ℕ) → ((n : ℕ) → has_member xs n ≡ has_member ys n) → thiele_value w rows xs ≡ thiele_value w rows ys
 thiele-same w [] xs ys same = refl

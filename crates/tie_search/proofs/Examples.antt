@@ -9,7 +9,7 @@ use Rattle.tie_walk.specs.Winners.{best_value, winners}
 use Rattle.tie_search.specs.Alike.{AreClasses, Becomes, done, step}
 use Rattle.tie_search.specs.Completions.{IsNode, IsCompletion, IsReaching, IsOutOfReach}
 use Rattle.tie_search.specs.Asked.{Asked, IsNextAsked, beginnings, begins_some}
-use Rattle.tie_search.specs.Steps.Branches.{AreSized, AreStacked, IsBranch, branches_after, completes, first_branches, is_new, new_beginnings, winners_of}
+use Rattle.tie_search.specs.Steps.Branches.{AreStacked, IsBranch, branches_after, completes, entries, first_branches, left_by, longer_beginnings, to_enter, winners_of}
 use Rattle.tie_search.specs.declared.branch.Branch.{Branch}
 use Rattle.tie_search.specs.Tied.{AreBest, AreDistinct, AreTied, IsAmong, IsBest}
 
@@ -115,6 +115,15 @@ none_is_left_out committees len among tied =
 abbrev one_and_two : List (List ℕ)
 one_and_two = (1 ∷ []) ∷ (2 ∷ []) ∷ []
 
+-- two candidates have two committees of one
+of_two : (P : List ℕ → Type 0) → P (1 ∷ []) → P (2 ∷ []) → (committee : List ℕ) → IsBest (λ set. 0) 2 1 committee → P committee
+of_two P one two [] best = absurd (omega (arith, best.size))
+of_two P one two (zero ∷ []) best = absurd (omega (arith, best.candidates.0))
+of_two P one two (suc zero ∷ []) best = one
+of_two P one two (suc (suc zero) ∷ []) best = two
+of_two P one two (suc (suc (suc x)) ∷ []) best = absurd (omega (arith, best.candidates.1))
+of_two P one two (x ∷ y ∷ committee) best = absurd (omega (arith, best.size))
+
 -- where all values are the same, both committees of one tie
 two_tie : AreTied (λ set. 0) alone 2 1 (record { committees = one_and_two; len = 2; are_all = true })
 unfolding lists_of
@@ -123,7 +132,7 @@ two_tie = record {
     some = lit≤ tt;
     few = lit≤ tt;
     each = λ committee among. listed committee among.0 among.1 among.2;
-    all = λ yes committee best. (committee, is_listed committee best, done);
+    all = λ yes committee best. (committee, of_two (IsAmong one_and_two 2) (0, lit< tt, refl) (1, lit< tt, refl) committee best, done);
   };
   full = λ no. absurd cc;
   more = λ no. absurd cc;
@@ -140,14 +149,6 @@ two_tie = record {
     listed committee zero inside is = subst (IsBest (λ set. 0) 2 1) is one
     listed committee (suc zero) inside is = subst (IsBest (λ set. 0) 2 1) is two
     listed committee (suc (suc i)) inside is = absurd (omega (arith, inside))
-
-    is_listed : (committee : List ℕ) → IsBest (λ set. 0) 2 1 committee → IsAmong one_and_two 2 committee
-    is_listed [] best = absurd (omega (arith, best.size))
-    is_listed (zero ∷ []) best = absurd (omega (arith, best.candidates.0))
-    is_listed (suc zero ∷ []) best = (0, lit< tt, refl)
-    is_listed (suc (suc zero) ∷ []) best = (1, lit< tt, refl)
-    is_listed (suc (suc (suc x)) ∷ []) best = absurd (omega (arith, best.candidates.1))
-    is_listed (x ∷ y ∷ committee) best = absurd (omega (arith, best.size))
 
     apart : (i j : ℕ) → i < j → j < 2 → slice_index_or one_and_two i [] ≡ slice_index_or one_and_two j [] → ⊥
     apart i zero before inside same = omega (arith, before)
@@ -182,7 +183,7 @@ one_has_all = record {
     some = lit≤ tt;
     few = lit≤ tt;
     each = λ committee among. listed committee among.0 among.1 among.2;
-    all = λ yes committee best. (1 ∷ [], (0, lit< tt, refl), becomes committee best);
+    all = λ yes committee best. (1 ∷ [], (0, lit< tt, refl), of_two (Becomes 2 both (1 ∷ [])) done two_becomes_one committee best);
   };
   full = λ no. absurd cc;
   more = λ no. absurd cc;
@@ -192,14 +193,6 @@ one_has_all = record {
     listed : (committee : List ℕ) (i : ℕ) → i < 1 → slice_index_or ((1 ∷ []) ∷ []) i [] ≡ committee → IsBest (λ set. 0) 2 1 committee
     listed committee zero inside is = subst (IsBest (λ set. 0) 2 1) is record { candidates = (lit≤ tt, lit≤ tt, tt); size = refl; best = refl }
     listed committee (suc i) inside is = absurd (omega (arith, inside))
-
-    becomes : (committee : List ℕ) → IsBest (λ set. 0) 2 1 committee → Becomes 2 both (1 ∷ []) committee
-    becomes [] best = absurd (omega (arith, best.size))
-    becomes (zero ∷ []) best = absurd (omega (arith, best.candidates.0))
-    becomes (suc zero ∷ []) best = done
-    becomes (suc (suc zero) ∷ []) best = two_becomes_one
-    becomes (suc (suc (suc x)) ∷ []) best = absurd (omega (arith, best.candidates.1))
-    becomes (x ∷ y ∷ committee) best = absurd (omega (arith, best.size))
 
 -- ---- branches: of two of the candidates 1 to 3, the committee of 2 and 3 wins
 
@@ -217,12 +210,12 @@ two_and_three : completes from_one (2 ∷ 3 ∷ []) ≡ false
 unfolding from_one
 two_and_three = refl
 
-none_has_one : winners_of sum 3 2 (from_one ∷ []) ≡ []
+none_has_one : winners_of sum 3 2 from_one ≡ []
 unfolding from_one lists_of
 none_has_one = refl
 
-one_without_one : winners_of sum 3 2 (without_one ∷ from_one ∷ []) ≡ (2 ∷ 3 ∷ []) ∷ []
-unfolding from_one without_one lists_of
+one_without_one : left_by sum 3 2 (without_one ∷ from_one ∷ []) ≡ (2 ∷ 3 ∷ []) ∷ []
+unfolding from_one without_one left_by lists_of
 one_without_one = refl
 
 from_one-is : IsBranch 3 2 from_one
@@ -235,14 +228,20 @@ from_one-is = record {
   size = lit≤ tt;
 }
 
--- the set of 1 goes on from the empty set, before all who are free there
-one_stacked : AreStacked 3 (without_one ∷ from_one ∷ [])
-unfolding from_one without_one
-one_stacked = ((record { next = 1; tail = []; begins = refl; later = (lit≤ tt, lit≤ tt, (lit≤ tt, lit≤ tt, tt)) }, tt), (tt, tt))
+without_one-is : IsBranch 3 2 without_one
+unfolding without_one
+without_one-is = record {
+  last = 1;
+  within = lit≤ tt;
+  set_upto = tt;
+  free_after = (lit≤ tt, lit≤ tt, (lit≤ tt, lit≤ tt, tt));
+  size = lit≤ tt;
+}
 
-one_sized : AreSized 0 (without_one ∷ from_one ∷ [])
+-- the set of 1 has one member more than the empty set
+one_stacked : AreStacked 3 2 0 (without_one ∷ from_one ∷ [])
 unfolding from_one without_one
-one_sized = (refl, (refl, tt))
+one_stacked = (without_one-is, refl, (from_one-is, refl, tt))
 
 all_first : first_branches 3 None ≡ record { set = []; free = 1 ∷ 2 ∷ 3 ∷ [] } ∷ []
 all_first = refl
@@ -275,10 +274,12 @@ two_begins = refl
 three_begins_none : begins_some ((2 ∷ 3 ∷ []) ∷ []) (3 ∷ []) ≡ false
 three_begins_none = refl
 
-two_is_not_new : is_new ((2 ∷ []) ∷ []) ((2 ∷ 3 ∷ []) ∷ []) (2 ∷ []) ≡ false
-two_is_not_new = refl
-
--- of these the set of 2 is not new
-one_is_new : new_beginnings 3 2 ((2 ∷ []) ∷ []) (winners sum 3 2) ≡ 1
+-- only the second is longer than 1
+one_is_longer : longer_beginnings 3 2 1 (winners sum 3 2) ≡ 1
 unfolding lists_of
-one_is_new = refl
+one_is_longer = refl
+
+-- both are still to be entered if nothing was, and none below the set of 1
+two_to_enter : to_enter sum 3 2 (without_one ∷ from_one ∷ []) ≡ 2
+unfolding from_one without_one to_enter entries lists_of
+two_to_enter = refl

@@ -1,7 +1,9 @@
 -- Hits of a ballot among the members of sets.
-use Rattle.std.proofs.Common.{◌≡◌, ℕ, ◌+◌, ◌≤◌, ◌==◌, ◌&&◌, ◌||◌, ◌∙◌, Bool, true, false, cond, List, [], ◌∷◌, ◌++◌, refl, sym, ap, arith, length, filter, sum_by}
+use Rattle.std.proofs.lemmas.Grind.{common_steps}
+use Rattle.std.proofs.Common.{◌≡◌, ℕ, ◌+◌, ◌≤◌, ◌&&◌, ◌∙◌, true, false, cond, List, [], ◌∷◌, ◌++◌, refl, sym, ap, arith, length, filter, sum_by}
 use Rattle.std.proofs.lemmas.List.Folds.{list_any-append}
 use Rattle.std.proofs.lemmas.List.Sums.{sum_by-cons, length-filter}
+use Rattle.std.proofs.Math.Bool.{and_comm}
 use Rattle.ballot_base.specs.CandSet.{has_member, common_members}
 use Rattle.ballot_base.specs.Lists.{IsIncreasing}
 use Rattle.ballot_base.specs.Ballots.{hits}
@@ -9,38 +11,11 @@ use Rattle.ballot_base.proofs.Increasing.{IsIncreasing-filter, has_member-filter
 
 pub hits-append : (ballot xs ys : List ℕ) → ((n : ℕ) → has_member ys n ≡ true → has_member xs n ≡ false) → hits ballot (xs ++ ys) ≡ hits ballot xs + hits ballot ys
 hits-append [] xs ys apart = refl
-hits-append (n ∷ ballot) xs ys apart =
-    omega (
-      arith,
-      ap {B = ℕ} (λ b. cond b 1 0) (list_any-append (λ y. y == n) xs ys),
-      bits (has_member xs n) (has_member ys n) (apart n),
-      hits-append ballot xs ys apart,
-      sum_by-cons (λ y. cond (has_member (xs ++ ys) y) 1 0) n ballot,
-      sum_by-cons (λ y. cond (has_member xs y) 1 0) n ballot,
-      sum_by-cons (λ y. cond (has_member ys y) 1 0) n ballot,
-    )
-  where
-    bits : (p q : Bool) → (q ≡ true → p ≡ false) → cond (p || q) 1 0 ≡ cond p 1 0 + cond q 1 0
-    bits true true apart = absurd (let e : true ≡ false = apart refl in cc)
-    bits true false apart = refl
-    bits false true apart = refl
-    bits false false apart = refl
+hits-append (n ∷ ballot) xs ys apart = grind (arith, common_steps, list_any-append, apart n, hits-append ballot xs ys apart, sum_by-cons)
 
 pub hits-more : (ballot xs ys : List ℕ) → ((n : ℕ) → has_member xs n ≡ true → has_member ys n ≡ true) → hits ballot xs ≤ hits ballot ys
 hits-more [] xs ys more = omega arith
-hits-more (n ∷ ballot) xs ys more =
-    omega (
-      arith,
-      bits (has_member xs n) (has_member ys n) (more n),
-      hits-more ballot xs ys more,
-      sum_by-cons (λ y. cond (has_member xs y) 1 0) n ballot,
-      sum_by-cons (λ y. cond (has_member ys y) 1 0) n ballot,
-    )
-  where
-    bits : (p q : Bool) → (p ≡ true → q ≡ true) → cond p 1 0 ≤ cond q 1 0
-    bits true true more = omega arith
-    bits true false more = absurd (let e : false ≡ true = more refl in cc)
-    bits false q more = omega arith
+hits-more (n ∷ ballot) xs ys more = grind (arith, common_steps, more n, hits-more ballot xs ys more, sum_by-cons)
 
 -- a ballot's members of a committee are the committee's members of the ballot
 pub hits-turned : (m : ℕ) (ballot committee : List ℕ) → IsIncreasing 1 m ballot → IsIncreasing 1 m committee → hits ballot committee ≡ sum_by (λ n. cond (has_member ballot n) 1 0) committee
@@ -48,14 +23,8 @@ hits-turned m ballot committee up rises =
     let same : filter (has_member committee) ballot ≡ filter (has_member ballot) committee =
     same_increasing 1 m (filter (has_member committee) ballot) (filter (has_member ballot) committee) (IsIncreasing-filter (has_member committee) 1 m ballot up)
     (IsIncreasing-filter (has_member ballot) 1 m committee rises)
-    (λ n. has_member-filter (has_member committee) ballot n ∙ swap (has_member committee n) (has_member ballot n) ∙ sym (has_member-filter (has_member ballot) committee n)) in
+    (λ n. has_member-filter (has_member committee) ballot n ∙ and_comm (has_member committee n) (has_member ballot n) ∙ sym (has_member-filter (has_member ballot) committee n)) in
     sym (length-filter (has_member committee) ballot) ∙ ap length same ∙ length-filter (has_member ballot) committee
-  where
-    swap : (p q : Bool) → (p && q) ≡ (q && p)
-    swap true true = refl
-    swap true false = refl
-    swap false true = refl
-    swap false false = refl
 
 -- who is free and on the ballot
 pub free-common : (ballot free : List ℕ) (n : ℕ) → has_member free n ≡ true → has_member (common_members ballot free) n ≡ has_member ballot n

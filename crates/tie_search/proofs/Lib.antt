@@ -1,5 +1,4 @@
 pub mod AlikeLemmas
-pub mod AskingLemmas
 pub mod BranchLemmas
 pub mod CloneLemmas
 pub mod CompletionLemmas

@@ -1,14 +1,13 @@
 -- The value of a set with one more member, and what a node that was searched leaves.
-use Rattle.std.proofs.Common.{◌≡◌, ℕ, ◌-◌, ◌≤◌, ◌==◌, ◌||◌, ◌∙◌, Bool, true, false, cond, List, [], ◌∷◌, ◌++◌, refl, sym, ap, arith, inl, inr}
+use Rattle.std.proofs.Common.{◌≡◌, ℕ, ◌≤◌, ◌==◌, ◌||◌, ◌∙◌, Bool, true, false, cond, List, [], ◌∷◌, ◌++◌, sym, ap, arith, inl, inr}
 use Rattle.std.proofs.lemmas.Bool.{cases_lt}
 use Rattle.std.proofs.Math.Bool.{or-false, or_comm}
 use Rattle.std.proofs.lemmas.List.Folds.{list_any-append}
-use Rattle.ballot_base.specs.CandSet.{has_member, with_member, without_member}
+use Rattle.ballot_base.specs.CandSet.{has_member, with_member}
 use Rattle.ballot_base.proofs.Increasing.{has_member-with_member}
 pub use Rattle.ballot_base.proofs.Sums.{length-among, rest-increasing, sum-among, sum-most, sum-threshold}
 use Rattle.tie_walk.specs.Ceilings.{IsSubmodular}
-use Rattle.tie_search.specs.Completions.{IsNode, IsCompletion, IsOutOfReach}
-use Rattle.tie_search.proofs.CompletionLemmas.{completion-with, completion-without}
+use Rattle.tie_search.specs.Completions.{IsCompletion, IsOutOfReach}
 
 -- ---- values see only the members
 
@@ -29,17 +28,6 @@ module _ (value : List ℕ → ℕ) (m : ℕ) (set : List ℕ) (left least : ℕ
     | inl under ↦ under
     | inr reaches ↦ none committee (are committee whole (omega arith))
   ]
-
-  -- a candidate was tried and is struck out
-  pub struck-out : (free rest : List ℕ) (n : ℕ) → 1 ≤ left → IsNode m set rest → has_member rest n ≡ true → AreLeft free rest
-      → IsOutOfReach value m (with_member set n) (without_member rest n) (left - 1) least → AreLeft free (without_member rest n)
-  struck-out free rest n some is_node here are none committee whole reaches =
-      let now : IsCompletion m set rest left committee = are committee whole reaches in
-      by (has_member committee n) refl now
-    where
-      by : (b : Bool) → has_member committee n ≡ b → IsCompletion m set rest left committee → IsCompletion m set (without_member rest n) left committee
-      by true in_ now = absurd (omega (arith, reaches, none committee (completion-with m set rest left n is_node here committee some now in_)))
-      by false out now = completion-without m set rest left n is_node here committee now out
 
 pub part-most : (b : Bool) (n : ℕ) → cond b n 0 ≤ n
 part-most true n = omega arith

@@ -1,28 +1,23 @@
 -- The branches after a start, and the winners that complete them.
-use Rattle.std.proofs.Common.{◌≡◌, ℕ, suc, ◌+◌, ◌-◌, ◌≤◌, ◌==◌, ◌||◌, ◌∙◌, true, false, List, [], ◌∷◌, ◌++◌, Some, refl, sym, ap, subst, arith, get_or, inl, inr, length, length-append, append-nil, append_assoc}
-use Rattle.std.specs.List.{AllByRecursion, range_with_len}
-use Rattle.std.proofs.lemmas.Bool.{and_from, and_parts, or_cases, or_left, or_right, cases_Bool, cases_eq, cases_lt, false≢true, ne_eqb}
-use Rattle.std.proofs.lemmas.List.Elements.{Contains-get_or, recursion_from_All}
-use Rattle.std.proofs.lemmas.List.Folds.{list_any-append}
-use Rattle.ballot_base.specs.Lists.{IsIncreasing, is_later, later_than}
-use Rattle.ballot_base.specs.CandSet.{either_members, has_member, includes}
-use Rattle.ballot_base.proofs.Included.{all-at, all-from}
-use Rattle.ballot_base.proofs.Increasing.{IsIncreasing-lower, has_member-above, has_member-below, has_member-either, has_member_head}
-use Rattle.ballot_base.proofs.Later.{is_later-earlier, is_later-self}
-use Rattle.tie_walk.specs.Winners.{winners}
-use Rattle.tie_walk.proofs.LawLemmas.{IsIncreasing-range, winner-is}
-use Rattle.tie_walk.proofs.StepLemmas.{has_member-range}
-use Rattle.tie_walk.proofs.WinnersLemmas.{same_filter}
-use Rattle.tie_search.specs.Steps.Branches.{AreSized, AreStacked, ComesBefore, IsBranch, branches_after, completes, completes_some, winners_of}
+use Rattle.std.proofs.Common.{◌≡◌, ℕ, zero, suc, ◌+◌, ◌-◌, ◌<◌, ◌≤◌, ◌∙◌, Bool, List, [], ◌∷◌, ◌++◌, Option, None, Some, refl, sym, ap, subst, arith, inl, inr, length, length-append, append-nil, append_assoc, filter, Contains}
+use Rattle.std.specs.List.{range_with_len}
+use Rattle.std.proofs.lemmas.Bool.{cases_eq, false≢true}
+use Rattle.std.proofs.lemmas.List.Elements.{Contains-append_cases, filter-append}
+use Rattle.std.proofs.lemmas.List.Sums.{sum_by-cons}
+use Rattle.ballot_base.specs.Lists.{IsIncreasing, IsLater, is_later, later_than}
+use Rattle.ballot_base.proofs.Increasing.{IsIncreasing-lower}
+use Rattle.ballot_base.proofs.Later.{is_later-earlier}
+use Rattle.tie_walk.specs.Winners.{IsStart, winners}
+use Rattle.tie_walk.proofs.LawLemmas.{IsIncreasing-range}
+use Rattle.tie_search.specs.Asked.{beginnings}
+use Rattle.tie_search.specs.Tied.{IsBest}
+use Rattle.tie_search.specs.Steps.Branches.{AreStacked, IsBegun, IsBranch, branches_after, entries, first_branches, left_by, longer_beginnings, to_enter, winners_of}
+use Rattle.tie_search.specs.declared.asking.Asking.{Asking}
 use Rattle.tie_search.specs.declared.branch.Branch.{Branch}
-use Rattle.tie_search.proofs.CompletionLemmas.{member-high, member-low}
-use Rattle.tie_search.proofs.StackLemmas.{greater-later}
-
--- ---- the branches after a start
-
-tail-up : (first last : ℕ) (front rest : List ℕ) → IsIncreasing first last (front ++ rest) → IsIncreasing first last rest
-tail-up first last [] rest up = up
-tail-up first last (x ∷ front) rest up = IsIncreasing-lower first (x + 1) last rest (omega (arith, up.0)) (tail-up (x + 1) last front rest up.2)
+use Rattle.tie_search.proofs.BranchLemmas.{added-later, goes-on, grown-is, joined, passed, whole-is, with-begins, with-branch, without-begins, without-branch}
+use Rattle.tie_search.proofs.CompletionLemmas.{member-low}
+use Rattle.tie_search.proofs.EnteredLemmas.{longer-all, longer-apart, longer-less}
+use Rattle.tie_search.proofs.StackLemmas.{all-kept, all-winners, greater-later, joined-winners, none-kept, not-later, wins-from}
 
 pub front-under : (first last : ℕ) (front rest : List ℕ) (n : ℕ) → IsIncreasing first last (front ++ n ∷ rest) → IsIncreasing first (n - 1) front × (first ≤ n) × (n ≤ last)
 front-under first last [] rest n up = (tt, up.0, up.1)
@@ -30,34 +25,16 @@ front-under first last (x ∷ front) rest n up =
     let more = front-under (x + 1) last front rest n up.2 in
     ((up.0, omega (arith, more.1), more.0), omega (arith, more.1, up.0), more.2)
 
+all-branch : (m k : ℕ) → IsBranch m k (record { set = []; free = range_with_len 1 m })
+all-branch m k = record {
+  last = 0;
+  within = omega arith;
+  set_upto = tt;
+  free_after = IsIncreasing-range 1 m m (omega arith);
+  size = omega arith;
+}
+
 module _ (m : ℕ) where
-  pub after-each : (k : ℕ) (front rest : List ℕ) → IsIncreasing 1 m (front ++ rest) → length (front ++ rest) ≡ k → AllByRecursion (IsBranch m k) (branches_after m front rest)
-  unfolding branches_after
-  after-each k front [] up size = tt
-  after-each k front (n ∷ rest) up size =
-      let under = front-under 1 m front rest n up in
-      let same = append_assoc front (n ∷ []) rest in (
-        record {
-          last = n - 1;
-          within = omega (arith, under.2);
-          set_upto = under.0;
-          free_after = IsIncreasing-lower (n - 1 + 1) (n + 1) m (range_with_len (n + 1) (m - n)) (omega arith) (IsIncreasing-range (n + 1) (m - n) m (omega (arith, under.2)));
-          size = omega (arith, size, length-append front (n ∷ rest));
-        },
-        after-each k (front ++ n ∷ []) rest (subst (IsIncreasing 1 m) (sym same) up) (ap length same ∙ size),
-      )
-
-  pub after-length : (front rest : List ℕ) → length (branches_after m front rest) ≡ length rest
-  unfolding branches_after
-  after-length front [] = refl
-  after-length front (n ∷ rest) = ap suc (after-length (front ++ n ∷ []) rest)
-
-  pub after-sized : (front rest : List ℕ) → AreSized (length front) (branches_after m front rest)
-  unfolding branches_after
-  after-sized front [] = tt
-  after-sized front (n ∷ rest) =
-      (refl, subst (λ size. AreSized size (branches_after m (front ++ n ∷ []) rest)) (length-append front (n ∷ [])) (after-sized (front ++ n ∷ []) rest))
-
   -- one more branch, as the start goes on
   pub after-next : (front rest : List ℕ) (n : ℕ) (before : List Branch) (all : List Branch) → before ++ branches_after m front (n ∷ rest) ≡ all
       → (before ++ record { set = front; free = range_with_len (n + 1) (m - n) } ∷ []) ++ branches_after m (front ++ n ∷ []) rest ≡ all
@@ -69,136 +46,184 @@ module _ (m : ℕ) where
   unfolding branches_after
   after-none front before all is = sym (append-nil before) ∙ is
 
-  -- their sets go on from the first
-  after-begin : (front rest : List ℕ) → AllByRecursion (λ (other : Branch). (more : List ℕ) × (other.set ≡ front ++ more)) (branches_after m front rest)
+  after-length : (front rest : List ℕ) → length (branches_after m front rest) ≡ length rest
   unfolding branches_after
-  after-begin front [] = tt
-  after-begin front (n ∷ rest) = (([], sym (append-nil front)), on (branches_after m (front ++ n ∷ []) rest) (after-begin (front ++ n ∷ []) rest))
-    where
-      on : (bs : List Branch) → AllByRecursion (λ (other : Branch). (more : List ℕ) × (other.set ≡ (front ++ n ∷ []) ++ more)) bs
-          → AllByRecursion (λ (other : Branch). (more : List ℕ) × (other.set ≡ front ++ more)) bs
-      on [] all = tt
-      on (b ∷ bs) all = ((n ∷ all.0.0, all.0.1 ∙ append_assoc front (n ∷ []) all.0.0), on bs all.1)
+  after-length front [] = refl
+  after-length front (n ∷ rest) = ap suc (after-length (front ++ n ∷ []) rest)
 
-  pub after-stacked : (front rest : List ℕ) → IsIncreasing 1 m (front ++ rest) → AreStacked m (branches_after m front rest)
-  unfolding branches_after
-  after-stacked front [] up = tt
-  after-stacked front (n ∷ rest) up = (
-    on (branches_after m (front ++ n ∷ []) rest) (after-begin (front ++ n ∷ []) rest),
-    after-stacked (front ++ n ∷ []) rest (subst (IsIncreasing 1 m) (sym (append_assoc front (n ∷ []) rest)) up),
-  )
-    where
-      on : (bs : List Branch) → AllByRecursion (λ (other : Branch). (more : List ℕ) × (other.set ≡ (front ++ n ∷ []) ++ more)) bs
-          → AllByRecursion (λ (other : Branch). ComesBefore m other.set (record { set = front; free = range_with_len (n + 1) (m - n) })) bs
-      on [] all = tt
-      on (b ∷ bs) all = (
+  -- the committees that begin with `front` and go on with candidates after `n`
+  abbrev above : List ℕ → ℕ → Branch
+  above front n = record { set = front; free = range_with_len (n + 1) (m - n) }
+
+  module _ (k : ℕ) where
+    above-branch : (front rest : List ℕ) (n : ℕ) → IsIncreasing 1 m (front ++ n ∷ rest) → length (front ++ n ∷ rest) ≡ k → IsBranch m k (above front n)
+    above-branch front rest n up size =
+        let under = front-under 1 m front rest n up in
         record {
-          next = n;
-          tail = all.0.0;
-          begins = all.0.1 ∙ append_assoc front (n ∷ []) all.0.0;
-          later = IsIncreasing-range (n + 1) (m - n) m (omega (arith, (front-under 1 m front rest n up).2));
-        },
-        on bs all.1,
-      )
+          last = n - 1;
+          within = omega (arith, under.2);
+          set_upto = under.0;
+          free_after = IsIncreasing-lower (n - 1 + 1) (n + 1) m (range_with_len (n + 1) (m - n)) (omega arith) (IsIncreasing-range (n + 1) (m - n) m (omega (arith, under.2)));
+          size = omega (arith, size, length-append front (n ∷ rest));
+        }
 
-  -- a committee with a member that is left out completes none of them
-  after-without : (committee : List ℕ) (y : ℕ) → has_member committee y ≡ true → (front rest : List ℕ) → has_member front y ≡ false → IsIncreasing (y + 1) m rest
-      → completes_some (branches_after m front rest) committee ≡ false
-  unfolding branches_after
-  after-without committee y here front [] out up = refl
-  after-without committee y here front (n ∷ rest) out up =
-      ap (λ b. b || completes_some (branches_after m (front ++ n ∷ []) rest) committee) none
-      ∙ after-without committee y here (front ++ n ∷ []) rest
-      (list_any-append (λ x. x == y) front (n ∷ []) ∙ (ap (λ b. b || ((n == y) || false)) out ∙ (ap (λ b. b || false) (ne_eqb n y (λ e. omega (arith, e, up.0))))))
-      (IsIncreasing-lower (y + 1) (n + 1) m rest (omega (arith, up.0)) up.2)
-    where
-      either : List ℕ
-      either = either_members front (range_with_len (n + 1) (m - n))
+    after-stacked : (front rest : List ℕ) → IsIncreasing 1 m (front ++ rest) → length (front ++ rest) ≡ k → AreStacked m k (length front) (branches_after m front rest)
+    unfolding branches_after
+    after-stacked front [] up size = tt
+    after-stacked front (n ∷ rest) up size =
+        let same = append_assoc front (n ∷ []) rest in (
+          above-branch front rest n up size,
+          refl,
+          subst (λ s. AreStacked m k s (branches_after m (front ++ n ∷ []) rest)) (length-append front (n ∷ []))
+              (after-stacked (front ++ n ∷ []) rest (subst (IsIncreasing 1 m) (sym same) up) (ap length same ∙ size)),
+        )
 
-      not-in : has_member either y ≡ false
-      not-in = has_member-either front (range_with_len (n + 1) (m - n)) y
-          ∙ (ap (λ b. b || has_member (range_with_len (n + 1) (m - n)) y) out
-          ∙ has_member-below (n + 1) m (range_with_len (n + 1) (m - n)) y (IsIncreasing-range (n + 1) (m - n) m (omega (arith, up.1))) (omega (arith, up.0)))
-
-      none : completes (record { set = front; free = range_with_len (n + 1) (m - n) }) committee ≡ false
-      none = elim (cases_Bool (completes (record { set = front; free = range_with_len (n + 1) (m - n) }) committee)) [
-        | inl whole ↦ absurd (false≢true (sym not-in ∙ all-at (has_member either) committee y (and_parts (includes committee front) (includes either committee) whole).1 here))
-        | inr fails ↦ fails
+    module _ (value : List ℕ → ℕ) where
+      -- Of the winners that begin with `front` and go on with candidates from `first` on, they leave those later than the
+      -- start.
+      after-left : (count first : ℕ) (front rest : List ℕ) → first + count ≡ m + 1 → IsIncreasing first m rest → length (front ++ rest) ≡ k
+          → IsBranch m k (record { set = front; free = range_with_len first count })
+          → left_by value m k (branches_after m front rest) ≡ filter (λ list. is_later list (front ++ rest)) (winners_of value m k (record { set = front; free = range_with_len first count }))
+      unfolding branches_after left_by
+      after-left count first front [] reach up size is =
+          let branch : Branch = record { set = front; free = range_with_len first count } in
+          sym (none-kept (λ list. is_later list (front ++ [])) (winners_of value m k branch)
+          (λ x c later. not-later x (front ++ []) (whole-is value m k branch is x (omega (arith, size, length-append front [])) (wins-from value m k branch x c) ∙ sym (append-nil front)) later))
+      after-left zero first front (n ∷ rest) reach up size is = absurd (omega (arith, reach, up.0, up.1))
+      after-left (suc count) first front (n ∷ rest) reach up size is = elim (cases_eq first n) [
+        | inl same ↦
+            subst here same
+            (at-first (after-left count (first + 1) (front ++ first ∷ []) rest (omega (arith, reach)) (IsIncreasing-lower (first + 1) (n + 1) m rest (omega (arith, up.0, same)) up.2)
+            (omega (arith, size, ap length (append_assoc front (first ∷ []) rest), length-append front (first ∷ rest), length-append front (n ∷ rest)))
+            (subst (λ set. IsBranch m k (record { set = set; free = range_with_len (first + 1) count })) (grown-is value m k branch is short first others refl) (with-branch value m k branch is short first others refl))))
+        | inr other-first ↦
+            after-left count (first + 1) front (n ∷ rest) (omega (arith, reach)) (omega (arith, other-first, up.0), up.1, up.2) size (without-branch value m k branch is short first others refl)
+            ∙ sym (parts n ∙ ap (λ l. l ++ filter (later n) (winners_of value m k other)) (none-kept (later n) (winners_of value m k one) (λ x c holds.
+            let begins = with-begins value m k branch is short first others refl x (wins-from value m k one x c) in
+            false≢true (sym (is_later-earlier (front ++ n ∷ rest) x (subst (IsLater (front ++ n ∷ rest)) (sym begins.2)
+            (greater-later front rest begins.0 first n (omega (arith, other-first, up.0))
+            (size ∙ sym (wins-from value m k one x c).best.size ∙ ap length begins.2)))) ∙ holds))))
       ]
+        where
+          others : List ℕ
+          others = range_with_len (first + 1) count
 
-  -- a committee that begins as far completes one of them exactly if it is later
-  after-later : (front rest more : List ℕ) → IsIncreasing 1 m (front ++ rest) → IsIncreasing 1 m (front ++ more) → length more ≡ length rest
-      → completes_some (branches_after m front rest) (front ++ more) ≡ is_later (front ++ more) (front ++ rest)
-  unfolding branches_after
-  after-later front [] [] up up' size = sym (is_later-self (front ++ []))
-  after-later front [] (y ∷ more) up up' size = absurd (omega (arith, size))
-  after-later front (n ∷ rest) [] up up' size = absurd (omega (arith, size))
-  after-later front (n ∷ rest) (y ∷ more) up up' size = elim (cases_lt n y) [
-    | inl greater ↦
-        or_left (completes first committee) (completes_some others committee)
-        (and_from (includes committee front) (includes (either_members front first.free) committee)
-        (all-from (has_member committee) front (λ x in_. list_any-append (λ z. z == x) front (y ∷ more) ∙ or_left (has_member front x) (has_member (y ∷ more) x) in_))
-        (all-from (has_member (either_members front first.free)) committee (λ x in_. has_member-either front first.free x
-        ∙ elim (or_cases (has_member front x) (has_member (y ∷ more) x) (sym (list_any-append (λ z. z == x) front (y ∷ more)) ∙ in_)) [
-          | inl before ↦ or_left (has_member front x) (has_member first.free x) before
-          | inr behind ↦
-              or_right (has_member front x) (has_member first.free x)
-              (has_member-range (n + 1) (m - n) x (let low : y ≤ x = member-low y m (y ∷ more) x rises behind in omega (arith, low, greater))
-              (let high : x ≤ m = member-high y m (y ∷ more) x rises behind in omega (arith, high, (front-under 1 m front rest n up).2)))
-        ])))
-        ∙ sym (greater-later front more rest n y greater same-size)
-    | inr no-greater ↦ elim (cases_eq y n) [
-      | inl same ↦
-          ap (λ b. b || completes_some others committee) (without-next same)
-          ∙ (subst (λ l. completes_some others l ≡ is_later l (front ++ n ∷ rest)) (append_assoc front (n ∷ []) more ∙ ap (λ x. front ++ x ∷ more) (sym same))
-          (subst (λ l. completes_some others ((front ++ n ∷ []) ++ more) ≡ is_later ((front ++ n ∷ []) ++ more) l) (append_assoc front (n ∷ []) rest)
-          (after-later (front ++ n ∷ []) rest more (subst (IsIncreasing 1 m) (sym (append_assoc front (n ∷ []) rest)) up)
-          (subst (IsIncreasing 1 m) (sym (append_assoc front (n ∷ []) more ∙ ap (λ x. front ++ x ∷ more) (sym same))) up') (omega (arith, size)))))
-      | inr other ↦
-          after-without committee y here front (n ∷ rest) (has_member-above 1 (y - 1) front y under.0 (omega (arith, under.1)))
-          (let rest-up = tail-up 1 m front (n ∷ rest) up in (omega (arith, no-greater, other), rest-up.1, rest-up.2))
-          ∙ sym (is_later-earlier (front ++ n ∷ rest) committee (greater-later front rest more y n (omega (arith, no-greater, other)) (sym same-size)))
-    ]
-  ]
-    where
-      committee : List ℕ
-      committee = front ++ y ∷ more
+          branch : Branch
+          branch = record { set = front; free = range_with_len first (suc count) }
 
-      first : Branch
-      first = record { set = front; free = range_with_len (n + 1) (m - n) }
+          short : length front < k
+          short = omega (arith, size, length-append front (n ∷ rest))
 
-      others : List Branch
-      others = branches_after m (front ++ n ∷ []) rest
+          one : Branch
+          one = joined branch first (range_with_len (first + 1) count)
 
-      under : IsIncreasing 1 (y - 1) front × (1 ≤ y) × (y ≤ m)
-      under = front-under 1 m front more y up'
+          other : Branch
+          other = passed branch (range_with_len (first + 1) count)
 
-      rises : IsIncreasing y m (y ∷ more)
-      rises = let tail = tail-up 1 m front (y ∷ more) up' in (omega arith, tail.1, tail.2)
+          later : ℕ → List ℕ → Bool
+          later n list = is_later list (front ++ n ∷ rest)
 
-      same-size : length (front ++ y ∷ more) ≡ length (front ++ n ∷ rest)
-      same-size = omega (arith, size, length-append front (y ∷ more), length-append front (n ∷ rest))
+          parts : (n : ℕ) → filter (later n) (winners_of value m k branch) ≡ filter (later n) (winners_of value m k one) ++ filter (later n) (winners_of value m k other)
+          parts n = ap (filter (later n)) (joined-winners value m k branch is short first others refl) ∙ filter-append (later n) (winners_of value m k one) (winners_of value m k other)
 
-      here : has_member committee y ≡ true
-      here = list_any-append (λ z. z == y) front (y ∷ more) ∙ or_right (has_member front y) (has_member (y ∷ more) y) (has_member_head y more)
+          here : ℕ → Type 0
+          here n = left_by value m k (branches_after m front (n ∷ rest)) ≡ filter (λ list. is_later list (front ++ n ∷ rest)) (winners_of value m k branch)
 
-      -- the next candidate of the start is in it
-      without-next : y ≡ n → completes first committee ≡ false
-      without-next same = elim (cases_Bool (completes first committee)) [
-        | inl whole ↦
-            absurd (false≢true (sym (has_member-either front first.free y
-            ∙ (ap (λ b. b || has_member first.free y) (has_member-above 1 (y - 1) front y under.0 (omega (arith, under.1)))
-            ∙ has_member-below (n + 1) m first.free y (IsIncreasing-range (n + 1) (m - n) m (omega (arith, (front-under 1 m front rest n up).2))) (omega (arith, same))))
-            ∙ all-at (has_member (either_members front first.free)) committee y (and_parts (includes committee front) (includes (either_members front first.free) committee) whole).1 here))
-        | inr fails ↦ fails
-      ]
+          all : filter (later first) (winners_of value m k other) ≡ winners_of value m k other
+          all = all-kept (later first) (winners_of value m k other) (λ x c.
+              let wins = wins-from value m k other x c in
+              let begins = without-begins value m k branch is short first others refl x wins in
+              subst (λ l. IsLater l (front ++ first ∷ rest)) (sym begins.2)
+              (greater-later front begins.1 rest first begins.0 begins.3
+              (omega (arith, ap length begins.2, wins.best.size, size, length-append front (first ∷ rest), length-append front (n ∷ rest)))))
 
-  -- so they leave the winners later than the start
-  pub after-left : (value : List ℕ → ℕ) (k : ℕ) (start : List ℕ) → IsIncreasing 1 m start → length start ≡ k
-      → winners_of value m k (branches_after m [] start) ≡ later_than (Some start) (winners value m k)
-  after-left value k start up size =
-      same_filter (completes_some (branches_after m [] start)) (λ list. is_later list start) (winners value m k)
-      (recursion_from_All (λ set. completes_some (branches_after m [] start) set ≡ is_later set start) (winners value m k)
-      (λ i d inside.
-      let is = winner-is value m k (get_or (winners value m k) i d) (Contains-get_or (winners value m k) i d inside) in
-      after-later [] start (get_or (winners value m k) i d) up is.0 (is.1 ∙ sym size)))
+          -- the start goes on with the first of the candidates
+          at-first : left_by value m k (branches_after m (front ++ first ∷ []) rest)
+              ≡ filter (λ list. is_later list ((front ++ first ∷ []) ++ rest)) (winners_of value m k (record { set = front ++ first ∷ []; free = others })) → here first
+          at-first rest-left =
+              let below : left_by value m k (branches_after m (front ++ first ∷ []) rest) ≡ filter (later first) (winners_of value m k one) =
+              rest-left
+              ∙ ap (λ start. filter (λ list. is_later list start) (winners_of value m k (record { set = front ++ first ∷ []; free = others }))) (append_assoc front (first ∷ []) rest)
+              ∙ ap (λ set. filter (later first) (winners_of value m k (record { set = set; free = others }))) (sym (grown-is value m k branch is short first others refl)) in
+              let count-is : m - first ≡ count = omega (arith, reach) in
+              ap (λ l. l ++ winners_of value m k (above front first)) below
+              ∙ ap (λ c. filter (later first) (winners_of value m k one) ++ winners_of value m k (record { set = front; free = range_with_len (first + 1) c })) count-is
+              ∙ ap (λ l. filter (later first) (winners_of value m k one) ++ l) (sym all)
+              ∙ sym (parts first)
+
+      -- the committees that they leave begin with `front`
+      after-begins : (front rest : List ℕ) → IsIncreasing 1 m (front ++ rest) → length (front ++ rest) ≡ k → (committee : List ℕ)
+          → Contains (left_by value m k (branches_after m front rest)) committee → (more : List ℕ) × (committee ≡ front ++ more)
+      unfolding branches_after left_by
+      after-begins front [] up size committee c = absurd (omega (arith, c.1))
+      after-begins front (n ∷ rest) up size committee c =
+          elim (Contains-append_cases (left_by value m k (branches_after m (front ++ n ∷ []) rest)) (winners_of value m k (above front n)) committee c) [
+            | inl there ↦
+                let same = append_assoc front (n ∷ []) rest in
+                let all = after-begins (front ++ n ∷ []) rest (subst (IsIncreasing 1 m) (sym same) up) (ap length same ∙ size) committee there in
+                (n ∷ all.0, all.1 ∙ append_assoc front (n ∷ []) all.0)
+            | inr here ↦
+                let all = added-later value m k (above front n) (above-branch front rest n up size) committee (wins-from value m k (above front n) committee here) in
+                (all.0, all.1)
+          ]
+
+      -- and each set that is to be entered begins one of them
+      after-most : (front rest : List ℕ) → IsIncreasing 1 m (front ++ rest) → length (front ++ rest) ≡ k
+          → to_enter value m k (branches_after m front rest) ≤ longer_beginnings m k (length front) (left_by value m k (branches_after m front rest))
+      unfolding branches_after left_by to_enter entries
+      after-most front [] up size = omega arith
+      after-most front (n ∷ rest) up size =
+          let same = append_assoc front (n ∷ []) rest in
+          let up' = subst (IsIncreasing 1 m) (sym same) up in
+          let size' = ap length same ∙ size in
+          let short : length front < k = omega (arith, size, length-append front (n ∷ rest)) in
+          let branches = branches_after m (front ++ n ∷ []) rest in
+          let left = left_by value m k branches in
+          omega (
+            arith,
+            sum_by-cons (entries value m k) (above front n) branches,
+            after-most (front ++ n ∷ []) rest up' size',
+            ap (λ s. longer_beginnings m k s left) (length-append front (n ∷ [])),
+            longer-less m k (length front) left short,
+            longer-apart m k front n left (winners_of value m k (above front n))
+                (λ x c. let all = after-begins (front ++ n ∷ []) rest up' size' x c in (all.0, all.1 ∙ append_assoc front (n ∷ []) all.0))
+                (λ y c.
+                let all = goes-on value m k (above front n) (above-branch front rest n up size) y short (wins-from value m k (above front n) y c) in
+                let low : n + 1 ≤ all.0 = member-low (n + 1) m (range_with_len (n + 1) (m - n)) all.0 (IsIncreasing-range (n + 1) (m - n) m (omega (arith, (front-under 1 m front rest n up).2))) all.3 in
+                (all.0, all.1, all.2, omega (arith, low))),
+          )
+
+-- nothing was asked yet
+pub begun-from : (value : List ℕ → ℕ) (m k : ℕ) (after : Option (List ℕ)) (asking : Asking) → 1 ≤ k → IsStart m k after → asking.branches.items ≡ first_branches m after → asking.entered ≡ 0
+    → asking.questions.asked ≡ 0 → IsBest value m k asking.questions.found → IsBegun value m k after asking
+unfolding left_by to_enter entries
+begun-from value m k None asking some start are entered asked found = record {
+  asking_is = record { found_is = found; stacked = rw are (all-branch m k, refl, tt); few = omega (arith, some, ap (λ (bs : List Branch). length bs) are) };
+  counted = record { most = omega (arith, count); all = λ none. count };
+  left = rw are (all-winners value m k);
+  entered = entered;
+  questions = asked;
+}
+  where
+    count : asking.entered + to_enter value m k asking.branches.items ≡ beginnings m k (winners value m k)
+    count =
+        let all : Branch = record { set = []; free = range_with_len 1 m } in
+        let entry : entries value m k all ≡ beginnings m k (winners value m k) = ap (λ l. longer_beginnings m k 0 l) (all-winners value m k) ∙ longer-all m k (winners value m k) in
+        omega (arith, entered, entry, ap (to_enter value m k) are)
+begun-from value m k (Some set) asking some start are entered asked found = record {
+  asking_is = record {
+    found_is = found;
+    stacked = rw are (after-stacked m k [] set start.0 start.1);
+    few = omega (arith, ap (λ (bs : List Branch). length bs) are, after-length m [] set, start.1);
+  };
+  counted = record {
+    most = omega (arith, entered, ap (to_enter value m k) are, after-most m k value [] set start.0 start.1, ap (longer_beginnings m k 0) left, longer-all m k (later_than (Some set) (winners value m k)));
+    all = λ none. absurd cc;
+  };
+  left = ap (left_by value m k) are ∙ left;
+  entered = entered;
+  questions = asked;
+}
+  where
+    left : left_by value m k (branches_after m [] set) ≡ later_than (Some set) (winners value m k)
+    left = after-left m k value m 1 [] set (omega arith) start.0 start.1 (all-branch m k) ∙ ap (filter (λ list. is_later list set)) (all-winners value m k)

@@ -7,13 +7,12 @@
 //!
 //! The clones can leave as well: in a winner with one of them, the candidate could take its place
 //! (`proofs/BranchLemmas.antt`).
-ghost use Rattle.std.specs.Prelude.{◌≡◌, ◌+◌, ◌^◌, ◌<◌, ◌≤◌, ◌∷◌, ◌++◌, [], None, Some, true, false, length, option_to_list};
-ghost use Rattle.std.specs.List.{AllByRecursion};
+ghost use Rattle.std.specs.Prelude.{◌≡◌, ◌+◌, ◌^◌, ◌<◌, ◌≤◌, ◌∷◌, ◌++◌, [], None, true, false, length, option_to_list};
 ghost use Rattle.ballot_base.specs.Limits.{most_candidates};
 ghost use Rattle.ballot_base.specs.Lists.{IsIncreasing};
-ghost use Rattle.tie_walk.specs.Winners.{IsStart};
-ghost use Rattle.tie_search.specs.Steps.Branches.{AreStacked, IsAnswer, IsAsking, IsBarren, IsBegun, IsBranch, IsOnTheWay, IsWinnerOf};
-ghost use Rattle.tie_search.specs.Steps.Branches.{AreSized, KnowsBest, branches_after, first_branches, kept, left_by, to_enter};
+ghost use Rattle.tie_search.specs.Tied.{IsBest};
+ghost use Rattle.tie_search.specs.Steps.Branches.{IsAnswer, IsAsking, IsBarren, IsBranch, IsOnTheWay, IsStep, IsWinnerOf};
+ghost use Rattle.tie_search.specs.Steps.Branches.{KnowsBest, branches_after, first_branches, to_enter};
 
 use crate::best::Best;
 use crate::branch::Branch;
@@ -23,114 +22,69 @@ use ballot_base::{CandSet, PLACES};
 
 /// The committees with the highest value that are still to come.
 #[derive(Drop)]
-pub(crate) struct Asking<S: Searchable> {
-    pub(crate) best: Best<S>,
-    // The committee with the highest value that was found last.
-    found: CandSet,
+pub(crate) struct Asking {
+    pub(crate) questions: Questions,
     pub(crate) branches: ArrayVec<Branch, PLACES>,
     pub(crate) entered: u128,
-    pub(crate) questions: u128,
 }
 
-impl<S: Searchable> Asking<S> {
-    /// All winners are still to come.
-    pub(crate) fn all(best: Best<S>) -> Asking<S>
-        requires { KnowsBest S.value_of S.class_of S.candidates best }
-        ensures begun { IsBegun S.value_of S.class_of S.candidates best None result }
-    {
-        let branches = all_branches(best.m);
-        Asking::of(best, branches)
-    }
-
-    /// All winners later than the start are still to come.
-    pub(crate) fn after(best: Best<S>, start: CandSet) -> Asking<S>
-        requires knows { KnowsBest S.value_of S.class_of S.candidates best }
-        requires start { IsStart best.m best.k (Some start) }
-        ensures begun { IsBegun S.value_of S.class_of S.candidates best (Some start) result }
-    {
-        let branches = later_branches(start, best.m);
-        Asking::of(best, branches)
-    }
-
-    fn of(best: Best<S>, branches: ArrayVec<Branch, PLACES>) -> Asking<S>
-        requires knows { KnowsBest S.value_of S.class_of S.candidates best }
-        requires each { AllByRecursion (IsBranch best.m best.k) branches.items }
-        requires stacked { AreStacked best.m branches.items }
-        requires sized { AreSized 0 branches.items }
-        requires few { length branches.items ≤ best.k }
-        ensures asking { IsAsking S.value_of S.class_of S.candidates result }
-        ensures best { result.best ≡ best }
-        ensures branches { result.branches.items ≡ branches.items }
-        ensures entered { result.entered ≡ 0 }
-        ensures questions { result.questions ≡ 0 }
-    {
-        Asking {
-            found: best.tied.first(),
-            best,
-            branches,
-            entered: 0,
-            questions: 0,
-        }
-    }
-
+impl Asking {
     /// The first of the winners still to come.
-    pub(crate) fn next(&mut self) -> Option<CandSet>
-        requires asking { IsAsking S.value_of S.class_of S.candidates self.old }
-        requires fits { self.old.entered + to_enter S.value_of self.old.best self.old.branches.items < 2 ^ 127 }
-        ensures asking { IsAsking S.value_of S.class_of S.candidates self.new }
-        ensures best { self.new.best ≡ self.old.best }
-        ensures first { left_by S.value_of self.old.best self.old.branches.items
-            ≡ option_to_list result ++ left_by S.value_of self.old.best self.new.branches.items }
+    pub(crate) fn next<S: Searchable>(&mut self, best: &Best<S>) -> Option<CandSet>
+        requires knows { KnowsBest S.value_of S.class_of S.candidates best.now }
+        requires asking { IsAsking (S.value_of best.now.search) (S.candidates best.now.search) best.now.k self.old }
+        requires fits { self.old.entered + to_enter (S.value_of best.now.search) (S.candidates best.now.search)
+            best.now.k self.old.branches.items < 2 ^ 127 }
+        ensures asking { IsAsking (S.value_of best.now.search) (S.candidates best.now.search) best.now.k self.new }
+        ensures step { IsStep (S.value_of best.now.search) (S.candidates best.now.search) best.now.k
+            self.old.branches.items self.old.entered (option_to_list result) self.new.branches.items self.new.entered }
         ensures end { result ≡ None → self.new.branches.items ≡ [] }
-        ensures entered { self.old.entered ≤ self.new.entered }
-        ensures counted { self.new.entered + to_enter S.value_of self.old.best self.new.branches.items
-            ≡ self.old.entered + to_enter S.value_of self.old.best self.old.branches.items }
-        ensures asked { self.new.questions ≤ self.old.questions + self.old.best.m + length self.old.branches.items }
+        ensures asked { self.new.questions.asked
+            ≤ self.old.questions.asked + S.candidates best.now.search + length self.old.branches.items }
     {
         while let Some(branch) = self.branches.pop() {
-            if self.reaches(&branch) {
-                return Some(self.first_of(branch));
+            if self.questions.reaches(best, &branch) {
+                return Some(self.first_of(best, branch));
             }
         }
         None
     }
 
     /// The first winner that completes a branch. The winner that was found last must complete it.
-    fn first_of(&mut self, branch: Branch) -> CandSet
-        requires way { IsOnTheWay S.value_of S.class_of S.candidates self.old branch }
-        requires fits { self.old.entered
-            + to_enter S.value_of self.old.best (self.old.branches.items ++ branch ∷ []) < 2 ^ 127 }
-        ensures asking { IsAsking S.value_of S.class_of S.candidates self.new }
-        ensures best { self.new.best ≡ self.old.best }
-        ensures first { left_by S.value_of self.old.best (self.old.branches.items ++ branch ∷ [])
-            ≡ result ∷ left_by S.value_of self.old.best self.new.branches.items }
-        ensures entered { self.old.entered ≤ self.new.entered }
-        ensures counted { self.new.entered + to_enter S.value_of self.old.best self.new.branches.items
-            ≡ self.old.entered + to_enter S.value_of self.old.best (self.old.branches.items ++ branch ∷ []) }
-        ensures asked { self.new.questions ≤ self.old.questions + length branch.free }
+    fn first_of<S: Searchable>(&mut self, best: &Best<S>, branch: Branch) -> CandSet
+        requires knows { KnowsBest S.value_of S.class_of S.candidates best.now }
+        requires way { IsOnTheWay (S.value_of best.now.search) (S.candidates best.now.search) best.now.k self.old
+            branch }
+        requires fits { self.old.entered + to_enter (S.value_of best.now.search) (S.candidates best.now.search)
+            best.now.k (self.old.branches.items ++ branch ∷ []) < 2 ^ 127 }
+        ensures asking { IsAsking (S.value_of best.now.search) (S.candidates best.now.search) best.now.k self.new }
+        ensures step { IsStep (S.value_of best.now.search) (S.candidates best.now.search) best.now.k
+            (self.old.branches.items ++ branch ∷ []) self.old.entered (result ∷ [])
+            self.new.branches.items self.new.entered }
+        ensures asked { self.new.questions.asked ≤ self.old.questions.asked + length branch.free }
     {
         let mut branch = branch;
-        while branch.set.len() < self.best.k {
-            branch = self.below(branch);
+        while branch.set.len() < best.k {
+            branch = self.below(best, branch);
         }
         branch.set
     }
 
     /// One step down, to a branch that the same first winner completes.
-    fn below(&mut self, branch: Branch) -> Branch
-        requires way { IsOnTheWay S.value_of S.class_of S.candidates self.old branch }
-        requires short { length branch.set < self.old.best.k }
-        requires fits { self.old.entered
-            + to_enter S.value_of self.old.best (self.old.branches.items ++ branch ∷ []) < 2 ^ 127 }
-        ensures way { IsOnTheWay S.value_of S.class_of S.candidates self.new result }
-        ensures best { self.new.best ≡ self.old.best }
-        ensures left { left_by S.value_of self.old.best (self.new.branches.items ++ result ∷ [])
-            ≡ left_by S.value_of self.old.best (self.old.branches.items ++ branch ∷ []) }
-        ensures entered { self.old.entered ≤ self.new.entered }
-        ensures counted { self.new.entered + to_enter S.value_of self.old.best (self.new.branches.items ++ result ∷ [])
-            ≡ self.old.entered + to_enter S.value_of self.old.best (self.old.branches.items ++ branch ∷ []) }
+    fn below<S: Searchable>(&mut self, best: &Best<S>, branch: Branch) -> Branch
+        requires knows { KnowsBest S.value_of S.class_of S.candidates best.now }
+        requires way { IsOnTheWay (S.value_of best.now.search) (S.candidates best.now.search) best.now.k self.old
+            branch }
+        requires short { length branch.set < best.now.k }
+        requires fits { self.old.entered < 2 ^ 127 }
+        ensures way { IsOnTheWay (S.value_of best.now.search) (S.candidates best.now.search) best.now.k self.new
+            result }
+        ensures step { IsStep (S.value_of best.now.search) (S.candidates best.now.search) best.now.k
+            (self.old.branches.items ++ branch ∷ []) self.old.entered []
+            (self.new.branches.items ++ result ∷ []) self.new.entered }
         ensures fewer { length result.free < length branch.free }
-        ensures asked { self.new.questions + length result.free ≤ self.old.questions + length branch.free }
+        ensures asked { self.new.questions.asked + length result.free
+            ≤ self.old.questions.asked + length branch.free }
     {
         let Branch { set, free } = branch;
         let Some(parts) = free.split_first() else {
@@ -141,44 +95,43 @@ impl<S: Searchable> Asking<S> {
             set: set.with(next),
             free: others,
         };
-        if self.reaches(&with) {
-            self.enter(Branch { set, free: others });
+        if self.questions.reaches(best, &with) {
+            // No other step counts sets.
+            self.branches.push(Branch { set, free: others });
+            self.entered += 1;
             return with;
         }
-        let clones = self.best.search.clones().class(next);
+        let clones = best.search.clones().class(next);
         Branch {
             set,
             free: others.minus(clones),
         }
     }
+}
 
-    /// Leaves the branch without a candidate on the stack, and counts the set with it. No other step counts sets.
-    fn enter(&mut self, without: Branch)
-        requires room { length self.old.branches.items < most_candidates }
-        requires fits { self.old.entered < 2 ^ 127 }
-        ensures best { self.new.best ≡ self.old.best }
-        ensures found { self.new.found ≡ self.old.found }
-        ensures branches { self.new.branches.items ≡ self.old.branches.items ++ without ∷ [] }
-        ensures entered { self.new.entered ≡ self.old.entered + 1 }
-        ensures questions { self.new.questions ≡ self.old.questions }
-    {
-        self.branches.push(without);
-        self.entered += 1;
-    }
+/// What was asked for winners.
+#[derive(Drop)]
+pub(crate) struct Questions {
+    // The committee with the highest value that was found last.
+    pub(crate) found: CandSet,
+    // The number of searches for a winner.
+    pub(crate) asked: u128,
+}
 
+impl Questions {
     /// Whether a winner completes the branch. If one does, it becomes `found`.
-    fn reaches(&mut self, branch: &Branch) -> bool
-        requires asking { IsAsking S.value_of S.class_of S.candidates self.old }
-        requires branch { IsBranch self.old.best.m self.old.best.k branch.now }
-        ensures yes { result ≡ true → IsWinnerOf (S.value_of self.old.best.search) self.old.best.m self.old.best.k
+    fn reaches<S: Searchable>(&mut self, best: &Best<S>, branch: &Branch) -> bool
+        requires knows { KnowsBest S.value_of S.class_of S.candidates best.now }
+        requires branch { IsBranch (S.candidates best.now.search) best.now.k branch.now }
+        requires found { IsBest (S.value_of best.now.search) (S.candidates best.now.search) best.now.k self.old.found }
+        ensures yes { result ≡ true → IsWinnerOf (S.value_of best.now.search) (S.candidates best.now.search) best.now.k
             branch.now self.new.found }
         ensures no { result ≡ false
-            → IsBarren (S.value_of self.old.best.search) self.old.best.m self.old.best.k branch.now }
+            → IsBarren (S.value_of best.now.search) (S.candidates best.now.search) best.now.k branch.now }
         ensures found { result ≡ false → self.new.found ≡ self.old.found }
-        ensures kept { kept self.new ≡ kept self.old }
-        ensures asked { self.new.questions ≤ self.old.questions + 1 }
+        ensures asked { self.new.asked ≤ self.old.asked + 1 }
     {
-        let Some(winner) = self.winner_of(branch) else {
+        let Some(winner) = self.winner_of(best, branch) else {
             return false;
         };
         self.found = winner;
@@ -186,52 +139,45 @@ impl<S: Searchable> Asking<S> {
     }
 
     /// A winner that completes the branch. A search looks for it only if nothing cheaper decides.
-    fn winner_of(&mut self, branch: &Branch) -> Option<CandSet>
-        requires asking { IsAsking S.value_of S.class_of S.candidates self.old }
-        requires branch { IsBranch self.old.best.m self.old.best.k branch.now }
-        ensures answer { IsAnswer (S.value_of self.old.best.search) self.old.best.m self.old.best.k branch.now result }
+    fn winner_of<S: Searchable>(&mut self, best: &Best<S>, branch: &Branch) -> Option<CandSet>
+        requires knows { KnowsBest S.value_of S.class_of S.candidates best.now }
+        requires branch { IsBranch (S.candidates best.now.search) best.now.k branch.now }
+        requires found { IsBest (S.value_of best.now.search) (S.candidates best.now.search) best.now.k self.old.found }
+        ensures answer { IsAnswer (S.value_of best.now.search) (S.candidates best.now.search) best.now.k branch.now
+            result }
         ensures found { self.new.found ≡ self.old.found }
-        ensures kept { kept self.new ≡ kept self.old }
-        ensures asked { self.new.questions ≤ self.old.questions + 1 }
+        ensures asked { self.new.asked ≤ self.old.asked + 1 }
     {
-        if branch.set.len() + branch.free.len() < self.best.k {
+        if branch.set.len() + branch.free.len() < best.k {
             return None;
         }
         if branch.is_completed_by(self.found) {
             return Some(self.found);
         }
-        let like = if self.best.tied.are_all {
-            self.best.listed(branch)?
+        let like = if best.tied.are_all {
+            best.listed(branch)?
         } else {
             self.found
         };
         if branch.is_completed_by(like) {
             return Some(like);
         }
-        if branch.set.len() == self.best.k {
-            return self.best.whole(branch);
+        if branch.set.len() == best.k {
+            return best.whole(branch);
         }
-        match self.best.shown(like, branch) {
+        match best.shown(like, branch) {
             Some(winner) => Some(winner),
-            None => self.ask(branch),
+            None => {
+                // No other step searches.
+                self.asked = self.asked.saturating_add(1);
+                best.find(branch)
+            }
         }
-    }
-
-    /// Searches for a winner that completes the branch. No other step searches.
-    fn ask(&mut self, branch: &Branch) -> Option<CandSet>
-        requires knows { KnowsBest S.value_of S.class_of S.candidates self.old.best }
-        requires branch { IsBranch self.old.best.m self.old.best.k branch.now }
-        ensures answer { IsAnswer (S.value_of self.old.best.search) self.old.best.m self.old.best.k branch.now result }
-        ensures found { self.new.found ≡ self.old.found }
-        ensures kept { kept self.new ≡ kept self.old }
-        ensures asked { self.new.questions ≤ self.old.questions + 1 }
-    {
-        self.questions = self.questions.saturating_add(1);
-        self.best.find(branch)
     }
 }
 
-fn all_branches(m: u8) -> ArrayVec<Branch, PLACES>
+/// The branch that all committees complete.
+pub(crate) fn all_branches(m: u8) -> ArrayVec<Branch, PLACES>
     requires { m ≤ most_candidates }
     ensures { result.items ≡ first_branches m None }
 {
@@ -244,7 +190,7 @@ fn all_branches(m: u8) -> ArrayVec<Branch, PLACES>
 }
 
 /// The branches that exactly the committees later than the start complete.
-fn later_branches(start: CandSet, m: u8) -> ArrayVec<Branch, PLACES>
+pub(crate) fn later_branches(start: CandSet, m: u8) -> ArrayVec<Branch, PLACES>
     requires most { m ≤ most_candidates }
     requires candidates { IsIncreasing 1 m start }
     ensures { result.items ≡ branches_after m [] start }

@@ -58,24 +58,22 @@ impl<S: Searchable> Best<S> {
     /// The set of a branch that is a whole committee, if it has the highest value.
     pub(crate) fn whole(&self, branch: &Branch) -> Option<CandSet>
         requires knows { KnowsBest S.value_of S.class_of S.candidates self.now }
-        requires branch { IsBranch self.now.m self.now.k branch.now }
+        requires branch { IsBranch (S.candidates self.now.search) self.now.k branch.now }
         requires whole { length branch.now.set ≡ self.now.k }
-        ensures { IsAnswer (S.value_of self.now.search) self.now.m self.now.k branch.now result }
+        ensures { IsAnswer (S.value_of self.now.search) (S.candidates self.now.search) self.now.k branch.now result }
     {
-        if self.search.value(branch.set) < self.value {
-            return None;
-        }
-        Some(branch.set)
+        (self.search.value(branch.set) >= self.value).then_some(branch.set)
     }
 
     /// A committee of the list, which must have all. It may become one that completes the branch if clones take the
     /// place of members. Returns `None` only if no committee with the highest value completes the branch.
     pub(crate) fn listed(&self, branch: &Branch) -> Option<CandSet>
         requires knows { KnowsBest S.value_of S.class_of S.candidates self.now }
-        requires branch { IsBranch self.now.m self.now.k branch.now }
+        requires branch { IsBranch (S.candidates self.now.search) self.now.k branch.now }
         requires all { self.now.tied.are_all ≡ true }
-        ensures { MatchOption result (IsBarren (S.value_of self.now.search) self.now.m self.now.k branch.now)
-            (IsBest (S.value_of self.now.search) self.now.m self.now.k) }
+        ensures { MatchOption result
+            (IsBarren (S.value_of self.now.search) (S.candidates self.now.search) self.now.k branch.now)
+            (IsBest (S.value_of self.now.search) (S.candidates self.now.search) self.now.k) }
     {
         let clones = self.search.clones();
         for i in 0..self.tied.len {
@@ -92,8 +90,9 @@ impl<S: Searchable> Best<S> {
     /// a fifth longer.)
     pub(crate) fn shown(&self, found: CandSet, branch: &Branch) -> Option<CandSet>
         requires knows { KnowsBest S.value_of S.class_of S.candidates self.now }
-        requires branch { IsBranch self.now.m self.now.k branch.now }
-        ensures { MatchOption result ⊤ (IsWinnerOf (S.value_of self.now.search) self.now.m self.now.k branch.now) }
+        requires branch { IsBranch (S.candidates self.now.search) self.now.k branch.now }
+        ensures { MatchOption result ⊤
+            (IsWinnerOf (S.value_of self.now.search) (S.candidates self.now.search) self.now.k branch.now) }
     {
         let alike = branch.exchanged(self.search.clones(), found);
         if self.wins(alike, branch) {
@@ -105,9 +104,9 @@ impl<S: Searchable> Best<S> {
 
     fn wins(&self, committee: CandSet, branch: &Branch) -> bool
         requires knows { KnowsBest S.value_of S.class_of S.candidates self.now }
-        requires branch { IsBranch self.now.m self.now.k branch.now }
+        requires branch { IsBranch (S.candidates self.now.search) self.now.k branch.now }
         ensures { result ≡ true
-            → IsWinnerOf (S.value_of self.now.search) self.now.m self.now.k branch.now committee }
+            → IsWinnerOf (S.value_of self.now.search) (S.candidates self.now.search) self.now.k branch.now committee }
     {
         if committee.len() != self.k || !branch.is_completed_by(committee) {
             return false;
@@ -118,8 +117,8 @@ impl<S: Searchable> Best<S> {
     /// Searches for a committee with the highest value that completes the branch.
     pub(crate) fn find(&self, branch: &Branch) -> Option<CandSet>
         requires knows { KnowsBest S.value_of S.class_of S.candidates self.now }
-        requires branch { IsBranch self.now.m self.now.k branch.now }
-        ensures { IsAnswer (S.value_of self.now.search) self.now.m self.now.k branch.now result }
+        requires branch { IsBranch (S.candidates self.now.search) self.now.k branch.now }
+        ensures { IsAnswer (S.value_of self.now.search) (S.candidates self.now.search) self.now.k branch.now result }
     {
         let node = Node {
             set: branch.set,
@@ -140,25 +139,12 @@ fn best_committee<S: Searchable>(search: &S, k: u8) -> CandSet
     ensures best { S.value_of search.now result ≡ best_value (S.value_of search.now) (S.candidates search.now) k }
 {
     let most = search.bound(0, CandSet::empty(), k);
-    let mut best = first_committee(search, k);
+    // The committee that the tally suggests; failing that, the first.
+    let mut best = search.good_committee(k).unwrap_or(CandSet::all(k));
     while let Some(better) = better_than(search, best, k, most) {
         best = better;
     }
     best
-}
-
-/// A committee of size `k` to begin with: the one that the tally suggests; failing that, the first.
-fn first_committee<S: Searchable>(search: &S, k: u8) -> CandSet
-    requires some { 1 ≤ k }
-    requires most { k ≤ most_candidates }
-    requires fits { k ≤ S.candidates search.now }
-    ensures candidates { IsIncreasing 1 (S.candidates search.now) result }
-    ensures size { length result ≡ k }
-{
-    match search.good_committee(k) {
-        Some(committee) => committee,
-        None => CandSet::all(k),
-    }
 }
 
 /// A committee of size `k` with a higher value, if there is one. No committee of this size is worth more than `most`.

@@ -8,7 +8,7 @@ ghost use Rattle.ballot_base.specs.Lists.{later_than};
 ghost use Rattle.tie_walk.specs.Winners.{IsStart, best_value, winners};
 ghost use Rattle.tie_search.specs.Asked.{Asked, IsNextAsked, beginnings};
 
-use crate::asking::Asking;
+use crate::asking::{Asking, Questions, all_branches, later_branches};
 use crate::best::Best;
 use crate::searchable::Searchable;
 use ballot_base::CandSet;
@@ -19,26 +19,27 @@ use std::marker::Model;
 /// (Lackner and Skowron, Multi-Winner Voting with Approval Preferences)
 #[derive(Drop)]
 pub struct SearchWinners<S: Searchable> {
-    asking: Asking<S>,
+    best: Best<S>,
+    asking: Asking,
     after: Option<CandSet>,
 }
 
 impl<S: Searchable> Model for SearchWinners<S> {
     ghost use Rattle.tie_search.specs.Asked.{Asked};
-    ghost use Rattle.tie_search.specs.Steps.Branches.{IsCounted, left_by};
+    ghost use Rattle.tie_search.specs.Steps.Branches.{IsListing, left_by};
 
     ghost Value = { Asked S };
 
     ghost view = { λ w. record {
-      search = w.asking.best.search;
-      k = w.asking.best.k;
+      search = w.best.search;
+      k = w.best.k;
       after = w.after;
-      left = left_by S.value_of w.asking.best w.asking.branches.items;
+      left = left_by (S.value_of w.best.search) (S.candidates w.best.search) w.best.k w.asking.branches.items;
       entered = w.asking.entered;
-      questions = w.asking.questions;
+      questions = w.asking.questions.asked;
     } };
 
-    ghost invariant = { λ w. IsCounted S.value_of S.class_of S.candidates w.after w.asking };
+    ghost invariant = { λ w. IsListing S.value_of S.class_of S.candidates w.best w.after w.asking };
 }
 
 impl<S: Searchable> SearchWinners<S> {
@@ -57,15 +58,21 @@ impl<S: Searchable> SearchWinners<S> {
         ensures questions { result.questions ≡ 0 }
     {
         let best = Best::of(search, k);
-        match after {
-            Some(start) => SearchWinners {
-                asking: Asking::after(best, start),
-                after: Some(start),
+        let branches = match after {
+            Some(start) => later_branches(start, best.m),
+            None => all_branches(best.m),
+        };
+        SearchWinners {
+            asking: Asking {
+                questions: Questions {
+                    found: best.tied.first(),
+                    asked: 0,
+                },
+                branches,
+                entered: 0,
             },
-            None => SearchWinners {
-                asking: Asking::all(best),
-                after: None,
-            },
+            best,
+            after,
         }
     }
 
@@ -73,7 +80,7 @@ impl<S: Searchable> SearchWinners<S> {
     pub fn best(&self) -> u128
         ensures { result ≡ best_value (S.value_of self.now.search) (S.candidates self.now.search) self.now.k }
     {
-        self.asking.best.value
+        self.best.value
     }
 
     /// The number of sets that were entered so far on the ways down to winners. A set counts when a candidate joins it.
@@ -91,7 +98,7 @@ impl<S: Searchable> SearchWinners<S> {
     pub fn questions(&self) -> u128
         ensures { result ≡ self.now.questions }
     {
-        self.asking.questions
+        self.asking.questions.asked
     }
 }
 
@@ -104,6 +111,6 @@ impl<S: Searchable + Drop> Iterator for SearchWinners<S> {
     ghost remaining = { item_count (λ (a : Asked S). a.left) };
 
     fn next(&mut self) -> Option<CandSet> {
-        self.asking.next()
+        self.asking.next(&self.best)
     }
 }

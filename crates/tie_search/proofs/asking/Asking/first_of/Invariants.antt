@@ -1,18 +1,16 @@
-use Rattle.std.proofs.Common.{◌≡◌, ◌+◌, ◌≤◌, ◌∷◌, ◌++◌, [], length}
-use Rattle.tie_search.specs.Steps.Branches.{IsOnTheWay, left_by, to_enter}
+use Rattle.std.proofs.Common.{◌+◌, ◌≤◌, ◌∷◌, ◌++◌, [], length}
+use Rattle.tie_search.specs.Steps.Branches.{IsOnTheWay, IsStep}
 use Rattle.tie_search.proofs.asking.Asking.first_of.Given as goal
 
 abbrev pub invariant-loop-self : goal.invariant-loop-self
-invariant-loop-self g l = record {
-  way : IsOnTheWay g.S.Tally.value_of g.S.Searchable.class_of g.S.Tally.candidates l.self l.branch;
-  best : l.self.best ≡ l.fn.self.best;
-  left : left_by g.S.Tally.value_of l.fn.self.best (l.self.branches.items ++ l.branch ∷ [])
-      ≡ left_by g.S.Tally.value_of l.fn.self.best (l.fn.self.branches.items ++ l.fn.branch ∷ []);
-  entered : l.fn.self.entered ≤ l.self.entered;
-  counted : l.self.entered + to_enter g.S.Tally.value_of l.fn.self.best (l.self.branches.items ++ l.branch ∷ [])
-      ≡ l.fn.self.entered + to_enter g.S.Tally.value_of l.fn.self.best (l.fn.self.branches.items ++ l.fn.branch ∷ []);
-  asked : l.self.questions + length l.branch.free ≤ l.fn.self.questions + length l.fn.branch.free;
-}
+invariant-loop-self g l =
+    let value = g.S.Tally.value_of l.best.search in
+    let m = g.S.Tally.candidates l.best.search in
+    record {
+      way : IsOnTheWay value m l.best.k l.self l.branch;
+      step : IsStep value m l.best.k (l.fn.self.branches.items ++ l.fn.branch ∷ []) l.fn.self.entered [] (l.self.branches.items ++ l.branch ∷ []) l.self.entered;
+      asked : l.self.questions.asked + length l.branch.free ≤ l.fn.self.questions.asked + length l.fn.branch.free;
+    }
 
 abbrev pub decreases-loop-self : goal.decreases-loop-self
 decreases-loop-self g l = length l.branch.free

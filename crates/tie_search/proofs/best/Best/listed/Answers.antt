@@ -1,10 +1,8 @@
 use Rattle.std.proofs.Common.{rules, ◌≡◌, ℕ, List, [], true, false, sym, ap, subst, arith, inl, inr, get_or, length, ◌∙◌}
-use Rattle.std.proofs.lemmas.Bool.{cases_Bool, cases_eq}
+use Rattle.std.proofs.lemmas.Bool.{cases_eq}
 use Rattle.std.proofs.lemmas.List.{get_or_default}
 use Rattle.ballot_base.specs.Lists.{IsIncreasing}
 use Rattle.tie_search.specs.Alike.{Becomes}
-use Rattle.tie_search.specs.Tied.{IsBest}
-use Rattle.tie_search.specs.Steps.Branches.{IsBranch, completes}
 use Rattle.tie_search.proofs.best.Best.listed.Goals as goal
 
 pub loop-i-preserved : goal.loop-i-preserved
@@ -17,22 +15,17 @@ loop-i-preserved g c = record {
         let long : length best.tied.committees ≡ 256 = search rules in
         let at : get_or best.tied.committees c.loop-i.i [] ≡ committee =
         get_or_default best.tied.committees c.loop-i.i [] c.index-self-i.result (omega (arith, c.loop-i-test.true, c.requires.knows.listed.few, long)) in
-        let branch : IsBranch m best.k c.args.branch.now = subst (λ n. IsBranch n best.k c.args.branch.now) c.requires.knows.size c.requires.branch in
         let rises : IsIncreasing 1 m committee = (c.requires.knows.listed.each committee (c.loop-i.i, c.loop-i-test.true, at)).candidates in
         let here : Becomes m (g.S.Searchable.class_of best.search) committee other = subst (λ l. Becomes m (g.S.Searchable.class_of best.search) l other) (ap (λ n. get_or best.tied.committees n []) same ∙ at) becomes in
-        let suits : c.suits.result ≡ true = c.suits.ensures m best.k (g.S.Searchable.class_of best.search) other branch c.clones-clones.ensures.table c.clones-clones.ensures.rise c.clones-clones.ensures.classes rises here whole in
+        let suits : c.suits.result ≡ true = c.suits.ensures m best.k (g.S.Searchable.class_of best.search) other c.requires.branch c.clones-clones.ensures.table c.clones-clones.ensures.rise c.clones-clones.ensures.classes rises here whole in
         absurd (let e : true ≡ false = sym suits ∙ c.if-suits.false in cc)
     | inr other' ↦ c.loop-i.invariant.none j (omega (arith, low, other')) other becomes whole
   ];
 }
 
 pub returns : goal.returns
-returns g c committee best = elim (cases_Bool (completes c.args.branch.now committee)) [
-  | inl whole ↦
-      let self = c.args.self.now in
-      let is : IsBest (g.S.Tally.value_of self.search) (g.S.Tally.candidates self.search) self.k committee = subst (λ n. IsBest (g.S.Tally.value_of self.search) n self.k committee) c.requires.knows.size best in
-      let like = c.requires.knows.listed.all c.requires.all committee is in
-      let becomes = subst (λ l. Becomes (g.S.Tally.candidates self.search) (g.S.Searchable.class_of self.search) l committee) (sym like.1.2) like.2 in
-      absurd (c.loop-i.invariant.none like.1.0 (omega (arith, like.1.1, c.loop-i-test.false)) committee becomes whole)
-  | inr out ↦ out
-]
+returns g c committee wins =
+    let self = c.args.self.now in
+    let like = c.requires.knows.listed.all c.requires.all committee wins.best in
+    let becomes = subst (λ l. Becomes (g.S.Tally.candidates self.search) (g.S.Searchable.class_of self.search) l committee) (sym like.1.2) like.2 in
+    c.loop-i.invariant.none like.1.0 (omega (arith, like.1.1, c.loop-i-test.false)) committee becomes wins.whole

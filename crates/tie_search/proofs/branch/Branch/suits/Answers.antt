@@ -1,5 +1,6 @@
-use Rattle.std.proofs.Common.{◌≡◌, ◌≤◌, ◌==◌, ◌||◌, ◌∙◌, inl, inr, true, sym, ap, arith, subst, length}
-use Rattle.std.proofs.lemmas.Bool.{or_cases, or_right}
+use Rattle.std.proofs.lemmas.Grind.{common_steps}
+use Rattle.std.proofs.Common.{◌≡◌, ◌≤◌, ◌==◌, ◌∙◌, true, sym, ap, arith, subst, length}
+use Rattle.std.proofs.lemmas.Bool.{or_right}
 use Rattle.ballot_base.specs.Ballots.{hits}
 use Rattle.ballot_base.specs.CandSet.{either_members, has_member}
 use Rattle.ballot_base.specs.Limits.{most_candidates}
@@ -57,12 +58,18 @@ loop-member-init c =
     let set = c.args.self.now.set in
     rw all record {
       rises = c.members-member-items.ensures.valid;
-      among = λ n here. has_member-either committee set n
-          ∙ elim (or_cases (has_member c.minus-outside.result n) (has_member c.minus-missing.result n)
-          (sym (ap (λ l. has_member l n) c.union-2.ensures ∙ has_member-either c.minus-outside.result c.minus-missing.result n) ∙ here)) [
-            | inl outside ↦ ap (λ b. b || has_member set n) (minus-is committee c.union.result n (ap (λ l. has_member l n) (sym c.minus-outside.ensures) ∙ outside))
-            | inr missing ↦ or_right (has_member committee n) (has_member set n) (minus-is set committee n (ap (λ l. has_member l n) (sym c.minus-missing.ensures) ∙ missing))
-          ];
+      among = λ n here. grind (
+        arith,
+        common_steps,
+        has_member-either committee set n,
+        has_member-either c.minus-outside.result c.minus-missing.result n,
+        here,
+        c.union-2.ensures,
+        c.minus-outside.ensures,
+        c.minus-missing.ensures,
+        minus-is committee c.union.result n,
+        minus-is set committee n,
+      );
     }
 
 pub loop-member-preserved : goal.loop-member-preserved
