@@ -11,8 +11,8 @@ use ballot_base::CandSet;
 pub fn hits_needed(size: u8, k: u8, most: u8) -> u8
     ensures { result ≡ hits_needed size k most }
 {
-    let apart = (u16::from(size) + u16::from(k)).saturating_sub(u16::from(most));
-    apart.div_ceil(2) as u8
+    let apart = (u32::from(size) + u32::from(k)).saturating_sub(u32::from(most));
+    ((apart + 1) / 2) as u8
 }
 
 /// The number of hits that the ballot still needs, if `left` candidates are still to join the set. Counting a distance
